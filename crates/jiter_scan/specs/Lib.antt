@@ -1,0 +1,4 @@
+pub mod Kind
+pub mod Position
+pub mod Mode
+pub mod Scanned

@@ -1,0 +1,12 @@
+//! What the readers of JSON stand on: the kinds of fault with their texts and places, numbers, and
+//! whether a cut document is read.
+#![tactic(auto)]
+
+pub mod errors;
+pub mod partial_mode;
+
+pub use errors::{JsonError, JsonErrorType, JsonResult, LinePosition};
+pub use partial_mode::PartialMode;
+
+#[cfg(test)]
+mod tests;
