@@ -2,3 +2,9 @@ pub mod Kind
 pub mod Position
 pub mod Mode
 pub mod Scanned
+pub mod Stands
+pub mod Word
+pub mod Digits
+pub mod Number
+pub mod NumberReading
+pub mod Scan

@@ -1,0 +1,151 @@
+-- Reading a number from the left, a byte at a time.
+use Rattle.std.specs.Prelude.{ℕ, ◌+◌, ◌==◌, ◌||◌, Bool, if◌then◌else◌, List, codes, slice_get, slice_range, Option, Some, None, nat_le, length}
+use Rattle.jiter_scan.specs.Kind.{Kind, eof_value, expected_value, invalid_number, number_out_of_range}
+use Rattle.jiter_scan.specs.Scanned.{Scanned, taken, failed}
+use Rattle.jiter_scan.specs.Word.{Extent, word_at}
+use Rattle.jiter_scan.specs.Digits.{is_digit, digit_run}
+use Rattle.jiter_scan.specs.Number.{Number, number_value, digit_limit}
+
+-- and what follows behind it
+abbrev pub extent_then : Extent → (ℕ → Extent) → Extent
+extent_then (taken u e) next = next e
+extent_then (failed k j) next = failed k j
+
+-- one digit or more, at the place i of the byte
+abbrev pub digits_from : List ℕ → ℕ → Option ℕ → Extent
+digits_from t i None = failed eof_value i
+digits_from t i (Some c) = if is_digit c then taken tt (i + digit_run t i) else failed invalid_number i
+
+-- behind a leading zero no digit may stand
+abbrev pub zero_ended : ℕ → Option ℕ → Extent
+zero_ended j None = taken tt j
+zero_ended j (Some c) = if is_digit c then failed invalid_number j else taken tt j
+
+-- so many digits from i, unless they are too many
+abbrev pub within_limit : ℕ → ℕ → Extent
+within_limit i n = if nat_le n digit_limit then taken tt (i + n) else failed number_out_of_range (i + (digit_limit + 1))
+
+-- the integer part
+abbrev pub whole_from : List ℕ → ℕ → Option ℕ → Extent
+whole_from t i None = failed eof_value i
+whole_from t i (Some c) =
+    if c == 48 then zero_ended (i + 1) (slice_get t (i + 1))
+    else (if is_digit c then within_limit i (digit_run t i) else failed invalid_number i)
+
+abbrev pub whole_at : List ℕ → ℕ → Extent
+whole_at t i = whole_from t i (slice_get t i)
+
+-- a fraction, or none
+abbrev pub fraction_from : List ℕ → ℕ → Option ℕ → Extent
+fraction_from t i None = taken tt i
+fraction_from t i (Some c) = if c == 46 then digits_from t (i + 1) (slice_get t (i + 1)) else taken tt i
+
+-- the sign of an exponent, or none, and its digits
+abbrev pub power_from : List ℕ → ℕ → Option ℕ → Extent
+power_from t i None = failed eof_value i
+power_from t i (Some c) = if (c == 43) || (c == 45) then digits_from t (i + 1) (slice_get t (i + 1)) else digits_from t i (Some c)
+
+-- an exponent, or none
+abbrev pub exponent_from : List ℕ → ℕ → Option ℕ → Extent
+exponent_from t i None = taken tt i
+exponent_from t i (Some c) = if (c == 101) || (c == 69) then power_from t (i + 1) (slice_get t (i + 1)) else taken tt i
+
+abbrev pub fraction_at : List ℕ → ℕ → Extent
+fraction_at t i = fraction_from t i (slice_get t i)
+
+abbrev pub exponent_at : List ℕ → ℕ → Extent
+exponent_at t i = exponent_from t i (slice_get t i)
+
+-- a decimal number behind its minus
+abbrev pub decimal_at : List ℕ → ℕ → Extent
+decimal_at t i = extent_then (whole_at t i) (λ j. extent_then (fraction_at t j) (λ k. exponent_at t k))
+
+-- behind a minus
+abbrev pub signed_from : Bool → List ℕ → ℕ → Option ℕ → Extent
+signed_from names t i None = failed eof_value i
+signed_from names t i (Some c) =
+    if c == 73 then (if names then word_at t (codes "Infinity") i else failed invalid_number i)
+    else decimal_at t i
+
+-- a name, if names are allowed
+abbrev pub name_at : Bool → List ℕ → List ℕ → ℕ → Extent
+name_at names t w i = if names then word_at t w i else failed expected_value i
+
+abbrev pub extent_from : Bool → List ℕ → ℕ → Option ℕ → Extent
+extent_from names t i None = failed eof_value i
+extent_from names t i (Some c) =
+    if c == 45 then signed_from names t (i + 1) (slice_get t (i + 1))
+    else (if c == 78 then name_at names t (codes "NaN") i
+    else (if c == 73 then name_at names t (codes "Infinity") i
+    else decimal_at t i))
+
+-- where the number at i ends
+abbrev pub number_extent : Bool → List ℕ → ℕ → Extent
+number_extent names t i = extent_from names t i (slice_get t i)
+
+abbrev pub valued : List ℕ → ℕ → Extent → Scanned Number
+valued t i (taken u e) = taken (number_value (slice_range t i e)) e
+valued t i (failed k j) = failed k j
+
+-- The number at i: the longest run of its parts.
+unfoldable pub number_at : Bool → List ℕ → ℕ → Scanned Number
+number_at names t i = valued t i (number_extent names t i)
+
+-- an integer's value and end, a byte that makes it a float, or a fault
+pub data Integer : Type 0 where
+  whole : Number → ℕ → Integer
+  float_seen : ℕ → Integer
+  wrong : Kind → ℕ → Integer
+
+abbrev pub is_float_sign : ℕ → Bool
+is_float_sign c = (c == 46) || (c == 101) || (c == 69)
+
+abbrev pub integer_ended : List ℕ → ℕ → ℕ → Option ℕ → Integer
+integer_ended t i e None = whole (number_value (slice_range t i e)) e
+integer_ended t i e (Some c) = if is_float_sign c then float_seen e else whole (number_value (slice_range t i e)) e
+
+-- behind the integer part of a number that begins at i
+abbrev pub integer_behind : List ℕ → ℕ → Extent → Integer
+integer_behind t i (taken u e) = integer_ended t i e (slice_get t e)
+integer_behind t i (failed k j) = wrong k j
+
+abbrev pub integer_signed : List ℕ → ℕ → Option ℕ → Integer
+integer_signed t i None = wrong eof_value (i + 1)
+integer_signed t i (Some c) = if c == 73 then float_seen (i + 1) else integer_behind t i (whole_at t (i + 1))
+
+abbrev pub integer_from : List ℕ → ℕ → Option ℕ → Integer
+integer_from t i None = wrong eof_value i
+integer_from t i (Some c) =
+    if c == 45 then integer_signed t i (slice_get t (i + 1))
+    else (if (c == 78) || (c == 73) then float_seen i
+    else integer_behind t i (whole_at t i))
+
+-- The integer at i: sign and integer part, and whether a float shows behind them.
+unfoldable pub int_at : List ℕ → ℕ → Integer
+int_at t i = integer_from t i (slice_get t i)
+
+-- a first byte of a number; a name's too
+abbrev pub begins_number : ℕ → Bool
+begins_number c = is_digit c || (c == 45) || (c == 78) || (c == 73)
+
+-- the number alone: what follows it is a fault
+abbrev pub alone : List ℕ → Scanned Number → Scanned Number
+alone t (taken n e) = if length t == e then taken n e else failed invalid_number e
+alone t (failed k j) = failed k j
+
+abbrev pub integer_alone : Integer → Scanned Number
+integer_alone (whole n e) = taken n e
+integer_alone (float_seen j) = failed invalid_number j
+integer_alone (wrong k j) = failed k j
+
+abbrev pub if_number : Option ℕ → Scanned Number → Scanned Number
+if_number None x = failed invalid_number 0
+if_number (Some c) x = if begins_number c then x else failed invalid_number 0
+
+-- What `NumberAny::from_bytes` answers.
+abbrev pub number_alone : Bool → List ℕ → Scanned Number
+number_alone names t = if_number (slice_get t 0) (alone t (number_at names t 0))
+
+-- What `NumberInt::from_bytes` answers.
+abbrev pub int_alone : List ℕ → Scanned Number
+int_alone t = if_number (slice_get t 0) (alone t (integer_alone (int_at t 0)))
