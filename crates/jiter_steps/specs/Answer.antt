@@ -1,0 +1,99 @@
+-- The readings that the calls answer with: of a whole document, of a cut one, of the end alone, and of nodes.
+use Rattle.std.specs.Prelude.{ℕ, ◌+◌, Bool, false, if◌then◌else◌, List, [], ◌∷◌}
+use Rattle.std.specs.Str.{chars}
+use Rattle.jiter_scan.specs.Kind.{Kind, is_forgiven}
+use Rattle.jiter_scan.specs.Scanned.{Scanned, taken, failed}
+use Rattle.jiter_scan.specs.NumberReading.{number_at}
+use Rattle.jiter_scan.specs.Mode.{allows_trailing_strings, is_active}
+use Rattle.jiter_scan.specs.declared.partial_mode.PartialMode.{PartialMode}
+use Rattle.jiter_steps.specs.Literal.{literal_at, literal_tree}
+use Rattle.jiter_steps.specs.StringReading.{Form, whole, kept, raw, string_at, pieces_from}
+use Rattle.jiter_steps.specs.Tree.{Text, Tree, items_of, members_of}
+use Rattle.jiter_steps.specs.Tree as tree
+use Rattle.jiter_steps.specs.Node.{Key, Node, Nodes, no_nodes, node, NodeMembers, no_members, member, number_tree}
+use Rattle.jiter_steps.specs.Node as grammar
+use Rattle.jiter_steps.specs.Read.{Rules, Reading, front_answer, whole_answer, value_at}
+
+-- what was read, seen so, with the place that it ends at
+abbrev pub seen_as : {A B : Type 0} → (A → ℕ → B) → Scanned A → Scanned B
+seen_as f (taken a e) = taken (f a e) e
+seen_as f (failed k j) = failed k j
+
+abbrev pub nothing_forgiven : Kind → Bool
+nothing_forgiven k = false
+
+-- values as trees; strings in this form, keys always whole
+abbrev pub trees : (Kind → Bool) → Form → Bool → Rules Text Tree
+trees forgives form names = record {
+  forgives = forgives;
+  literal = λ t l i. seen_as (λ u e. literal_tree l) (literal_at t l i);
+  number = λ t i. seen_as (λ n e. number_tree n) (number_at names t i);
+  text = λ t i. seen_as (λ s e. tree.string s) (string_at form t i);
+  key = λ t i. string_at whole t i;
+  array = λ b e items. tree.array (items_of items);
+  object = λ b e members. tree.object (members_of members);
+}
+
+-- ends alone: strings and keys between their quotes, no value made
+abbrev pub ends : Bool → Rules (Unit {0}) (Unit {0})
+ends names = record {
+  forgives = nothing_forgiven;
+  literal = λ t l i. literal_at t l i;
+  number = λ t i. seen_as (λ n e. tt) (number_at names t i);
+  text = λ t i. seen_as (λ s e. tt) (string_at raw t i);
+  key = λ t i. seen_as (λ s e. tt) (string_at raw t i);
+  array = λ b e items. tt;
+  object = λ b e members. tt;
+}
+
+abbrev pub nodes_of : List Node → Nodes
+nodes_of [] = no_nodes
+nodes_of (n ∷ ns) = node n (nodes_of ns)
+
+abbrev pub node_members_of : List (Key × Node) → NodeMembers
+node_members_of [] = no_members
+node_members_of (m ∷ ms) = member m.0 m.1 (node_members_of ms)
+
+abbrev pub key_of : List ℕ → ℕ → Text → ℕ → Key
+key_of t i s e = record { pieces = pieces_from t (i + 1) (chars s.bytes); begin = i; end = e }
+
+-- the derivation itself
+abbrev pub nodes : Bool → Rules Key Node
+nodes names = record {
+  forgives = nothing_forgiven;
+  literal = λ t l i. seen_as (λ u e. grammar.literal l i e) (literal_at t l i);
+  number = λ t i. seen_as (λ n e. grammar.number i e) (number_at names t i);
+  text = λ t i. seen_as (λ s e. grammar.string (pieces_from t (i + 1) (chars s.bytes)) i e) (string_at whole t i);
+  key = λ t i. seen_as (key_of t i) (string_at whole t i);
+  array = λ b e items. grammar.array b e (nodes_of items);
+  object = λ b e members. grammar.object b e (node_members_of members);
+}
+
+-- With partial reading off: the value, or the first fault.
+abbrev pub whole_trees : Bool → Rules Text Tree
+whole_trees names = trees nothing_forgiven whole names
+
+abbrev pub answer : Bool → List ℕ → Reading Tree
+answer names t = whole_answer (whole_trees names) t
+
+abbrev pub value_form : PartialMode → Form
+value_form mode = if allows_trailing_strings mode then kept else whole
+
+-- In a partial mode six kinds are forgiven inside a container, and what follows the value is not looked at.
+abbrev pub partial_trees : Bool → PartialMode → Rules Text Tree
+partial_trees names mode = trees is_forgiven (value_form mode) names
+
+abbrev pub partial_answer : Bool → PartialMode → List ℕ → Reading Tree
+partial_answer names mode t = front_answer (partial_trees names mode) t
+
+-- What a parse in this mode answers.
+abbrev pub answer_in : Bool → PartialMode → List ℕ → Reading Tree
+answer_in names mode t = if is_active mode then partial_answer names mode t else answer names t
+
+-- The value at a place that is a blank's or a value's first byte, with nothing round it yet.
+abbrev pub read_at : Bool → List ℕ → ℕ → Reading Tree
+read_at names t i = value_at (whole_trees names) t 200 i
+
+-- Where the value at a place ends; its UTF-8 is not tested.
+abbrev pub skip_at : Bool → List ℕ → ℕ → Reading (Unit {0})
+skip_at names t i = value_at (ends names) t 200 i

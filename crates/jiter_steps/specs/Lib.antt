@@ -1,0 +1,11 @@
+pub mod Tree
+pub mod Blank
+pub mod Literal
+pub mod Step
+pub mod Escape
+pub mod Piece
+pub mod StringReading
+pub mod Read
+pub mod Node
+pub mod Cut
+pub mod Answer

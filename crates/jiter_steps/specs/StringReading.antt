@@ -1,0 +1,174 @@
+-- Reading a string from the left (RFC 8259, 7 and 8.1): what stands at each place, these joined up to the end, and what each form makes of it.
+use Rattle.std.specs.Prelude.{ℕ, zero, suc, ◌+◌, ◌-◌, ◌==◌, ◌||◌, Bool, true, false, if◌then◌else◌, List, [], ◌∷◌, ◌++◌, length, take, drop, slice_get, slice_index, slice_range, Option, Some, None, nat_lt}
+use Rattle.std.specs.Char.{encode_utf8}
+use Rattle.std.specs.Str.Lossy.{utf8_valid_len, utf8_error_len}
+use Rattle.jiter_scan.specs.Scanned.{Scanned, taken, failed}
+use Rattle.jiter_steps.specs.Piece.{Piece}
+use Rattle.jiter_steps.specs.Tree.{Text}
+use Rattle.jiter_scan.specs.Kind.{Kind, eof_string, invalid_escape, invalid_code_point, control_character, lone_surrogate, end_of_hex_escape}
+use Rattle.jiter_steps.specs.Escape.{short_escape, is_hex, unit_of, is_high, is_low, pair_of}
+
+-- how a string ends: by its quote, by the end of input before a piece or within an escape, or by a fault
+pub data Stop : Type 0 where
+  closed : ℕ → Stop
+  unclosed : Stop
+  cut : Stop
+  wrong : Kind → ℕ → Stop
+
+-- what stands at a place of a string: decoded bytes, whether they were escaped, and their end; or how the string ends
+pub data Found : Type 0 where
+  part : List ℕ → Bool → ℕ → Found
+  over : Stop → Found
+
+-- the first of the four bytes at i that is no hex digit
+abbrev pub bad_digit : List ℕ → ℕ → Option ℕ
+bad_digit t i =
+    if is_hex (slice_index t i) then (if is_hex (slice_index t (i + 1)) then (if is_hex (slice_index t (i + 2)) then (if is_hex (slice_index t (i + 3)) then None
+    else Some (i + 3)) else Some (i + 2)) else Some (i + 1)) else Some i
+
+abbrev pub unit_at : List ℕ → ℕ → ℕ
+unit_at t i = unit_of (slice_index t i) (slice_index t (i + 1)) (slice_index t (i + 2)) (slice_index t (i + 3))
+
+-- four hex digits: their number, the first byte that is none, or fewer bytes than four
+pub data HexDigits : Type 0 where
+  number : ℕ → HexDigits
+  bad : ℕ → HexDigits
+  few : HexDigits
+
+abbrev pub hex_digits_or : Option ℕ → ℕ → HexDigits
+hex_digits_or None u = number u
+hex_digits_or (Some i) u = bad i
+
+abbrev pub hex_digits_at : List ℕ → ℕ → HexDigits
+hex_digits_at t i = if nat_lt (length t) (i + 4) then few else hex_digits_or (bad_digit t i) (unit_at t i)
+
+abbrev pub behind : (ℕ → Found) → HexDigits → Found
+behind next (number u) = next u
+behind next (bad i) = over (wrong invalid_escape i)
+behind next few = over cut
+
+-- the digits at i, and what follows for their end and their number
+abbrev pub unit_then : List ℕ → ℕ → (ℕ → ℕ → Found) → Found
+unit_then t i next = behind (next (i + 4)) (hex_digits_at t i)
+
+-- the second number of a pair, which ends at j
+abbrev pub paired : ℕ → ℕ → ℕ → Found
+paired high j low = if is_low low then part (encode_utf8 (pair_of high low)) true j else over (wrong lone_surrogate (j - 1))
+
+-- behind the digits of a high surrogate, and behind the backslash there
+abbrev pub second_u : List ℕ → ℕ → ℕ → Option ℕ → Found
+second_u t high i None = over cut
+second_u t high i (Some b) = if b == 117 then unit_then t (i + 1) (paired high) else over (wrong end_of_hex_escape i)
+
+abbrev pub second : List ℕ → ℕ → ℕ → Option ℕ → Found
+second t high i None = over cut
+second t high i (Some b) = if b == 92 then second_u t high (i + 1) (slice_get t (i + 1)) else over (wrong end_of_hex_escape i)
+
+-- an escape's number, which ends at j
+abbrev pub single : ℕ → ℕ → Found
+single j u = if is_low u then over (wrong lone_surrogate (j - 1)) else part (encode_utf8 u) true j
+
+abbrev pub numbered : List ℕ → ℕ → ℕ → Found
+numbered t j u = if is_high u then second t u j (slice_get t j) else single j u
+
+abbrev pub short : ℕ → Option ℕ → Found
+short i None = over (wrong invalid_escape i)
+short i (Some c) = part (encode_utf8 c) true (i + 1)
+
+-- behind a backslash
+abbrev pub escaped : List ℕ → ℕ → Option ℕ → Found
+escaped t i None = over cut
+escaped t i (Some b) = if b == 117 then unit_then t (i + 1) (numbered t) else short i (short_escape b)
+
+abbrev pub plain : ℕ → ℕ → Found
+plain i b = if nat_lt b 32 then over (wrong control_character i) else part (b ∷ []) false (i + 1)
+
+abbrev pub unquoted : List ℕ → ℕ → ℕ → Found
+unquoted t i b = if b == 92 then escaped t (i + 1) (slice_get t (i + 1)) else plain i b
+
+abbrev pub found : List ℕ → ℕ → Option ℕ → Found
+found t i None = over unclosed
+found t i (Some b) = if b == 34 then over (closed (i + 1)) else unquoted t i b
+
+unfoldable pub found_at : List ℕ → ℕ → Found
+found_at t i = found t i (slice_get t i)
+
+-- where the piece at i of the character c ends
+abbrev pub end_of : ℕ → ℕ → Found → ℕ
+end_of i c (part bytes true j) = j
+end_of i c (part bytes false j) = i + length (encode_utf8 c)
+end_of i c (over s) = i
+
+-- the pieces from i on that stand for these characters
+abbrev pub pieces_from : List ℕ → ℕ → List ℕ → List Piece
+pieces_from t i [] = []
+pieces_from t i (c ∷ cs) = record { character = c; end = end_of i c (found_at t i) } ∷ pieces_from t (end_of i c (found_at t i)) cs
+
+-- the decoded bytes up to where a string ends, and whether a backslash was read
+pub record Body : Type 0 where
+  pub bytes : List ℕ
+  pub owned : Bool
+  pub stop : Stop
+
+abbrev pub is_cut : Stop → Bool
+is_cut (closed e) = false
+is_cut unclosed = false
+is_cut cut = true
+is_cut (wrong k i) = false
+
+abbrev pub before : List ℕ → Bool → Body → Body
+before bytes owned b = record { bytes = bytes ++ b.bytes; owned = owned || b.owned; stop = b.stop }
+
+abbrev pub joined : (ℕ → Body) → Found → Body
+joined rest (part bytes owned j) = before bytes owned (rest j)
+joined rest (over s) = record { bytes = []; owned = is_cut s; stop = s }
+
+-- The number bounds the turns; the text's length is always enough.
+unfoldable pub body_within : ℕ → List ℕ → ℕ → Body
+body_within zero t i = record { bytes = []; owned = false; stop = unclosed }
+body_within (suc n) t i = joined (body_within n t) (found_at t i)
+
+unfoldable pub body_at : List ℕ → ℕ → Body
+body_at t i = body_within (length t) t i
+
+-- the text; where the input ends, as much of it as there is; the bytes between the quotes; these where the input ends
+pub data Form : Type 0 where
+  whole : Form
+  kept : Form
+  raw : Form
+  raw_kept : Form
+
+-- the decoded bytes, which begin at i, have to be UTF-8
+abbrev pub checked : ℕ → Bool → List ℕ → ℕ → Scanned Text
+checked i owned bytes e = if utf8_valid_len bytes == length bytes then taken (record { owned = owned; bytes = bytes }) e else failed invalid_code_point (i + utf8_valid_len bytes)
+
+-- the same without an unfinished character at the end
+abbrev pub shortened : ℕ → Bool → List ℕ → ℕ → Option ℕ → Scanned Text
+shortened i owned bytes e None = taken (record { owned = owned; bytes = take (utf8_valid_len bytes) bytes }) e
+shortened i owned bytes e (Some n) = failed invalid_code_point (i + utf8_valid_len bytes)
+
+abbrev pub as_kept : ℕ → Bool → List ℕ → ℕ → Scanned Text
+as_kept i owned bytes e = shortened i owned bytes e (utf8_error_len (drop (utf8_valid_len bytes) bytes))
+
+abbrev pub between : List ℕ → ℕ → ℕ → Text
+between t i j = record { owned = false; bytes = slice_range t i j }
+
+-- the string whose content begins at i
+abbrev pub ended : Form → List ℕ → ℕ → List ℕ → Bool → Stop → Scanned Text
+ended form t i bytes owned (wrong k j) = failed k j
+ended whole t i bytes owned (closed e) = checked i owned bytes e
+ended kept t i bytes owned (closed e) = as_kept i owned bytes e
+ended raw t i bytes owned (closed e) = taken (between t i (e - 1)) e
+ended raw_kept t i bytes owned (closed e) = taken (between t i (e - 1)) e
+ended kept t i bytes owned unclosed = as_kept i owned bytes (length t)
+ended kept t i bytes owned cut = as_kept i owned bytes (length t)
+ended raw_kept t i bytes owned unclosed = taken (between t i (length t)) (length t)
+ended form t i bytes owned unclosed = failed eof_string (length t)
+ended form t i bytes owned cut = failed eof_string (length t)
+
+unfoldable pub content_at : Form → List ℕ → ℕ → Scanned Text
+content_at form t i = ended form t i (body_at t i).bytes (body_at t i).owned (body_at t i).stop
+
+-- the string whose opening quote is at i
+abbrev pub string_at : Form → List ℕ → ℕ → Scanned Text
+string_at form t i = content_at form t (i + 1)
