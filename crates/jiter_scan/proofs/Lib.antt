@@ -1,0 +1,5 @@
+pub mod Standing
+pub mod Scanning
+pub mod Choices
+pub mod Runs
+pub mod WordLaws
