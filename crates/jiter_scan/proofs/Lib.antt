@@ -3,3 +3,4 @@ pub mod Scanning
 pub mod Choices
 pub mod Runs
 pub mod WordLaws
+pub mod NumberBounds
