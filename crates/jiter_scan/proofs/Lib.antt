@@ -4,3 +4,4 @@ pub mod Choices
 pub mod Runs
 pub mod WordLaws
 pub mod NumberBounds
+pub mod NumberSound
