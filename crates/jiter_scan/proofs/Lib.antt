@@ -5,3 +5,4 @@ pub mod Runs
 pub mod WordLaws
 pub mod NumberBounds
 pub mod NumberSound
+pub mod NumberComplete
