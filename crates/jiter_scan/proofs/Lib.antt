@@ -6,3 +6,4 @@ pub mod Runs
 pub mod Scanning
 pub mod Standing
 pub mod WordLaws
+pub mod Words
