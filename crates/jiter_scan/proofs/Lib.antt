@@ -6,3 +6,5 @@ pub mod WordLaws
 pub mod NumberBounds
 pub mod NumberSound
 pub mod NumberComplete
+pub mod NumberBytes
+pub mod NumberLaws

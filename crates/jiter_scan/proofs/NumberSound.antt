@@ -1,5 +1,5 @@
 -- What is read as a number is a number's text.
-use Rattle.std.proofs.Common.{◌≡◌, ◌⊎◌, inl, inr, ℕ, ◌+◌, ◌<◌, ◌≤◌, Bool, true, false, ◌||◌, List, [], ◌∷◌, ◌++◌, length, refl, sym, ap, ◌∙◌, subst, arith}
+use Rattle.std.proofs.Common.{◌≡◌, ◌⊎◌, inl, inr, ℕ, ◌+◌, ◌≤◌, Bool, true, false, ◌||◌, List, [], ◌∷◌, ◌++◌, length, refl, sym, ap, ◌∙◌, subst, arith}
 use Rattle.std.specs.Prelude.{slice_get, slice_range, Option, Some, None, ◌==◌, if◌then◌else◌, nat_le, codes}
 use Rattle.std.proofs.lemmas.Bool.{eqb-true, eqb-false, leb-true, or_cases}
 use Rattle.jiter_scan.specs.Digits.{is_digit, digit_run}
@@ -82,7 +82,7 @@ module _ (t : List ℕ) where
   exponent_from-sound i e u (Some c) s h =
       if_gives ((c == 101) || (c == 69)) (power_from t (i + 1) (slice_get t (i + 1))) (taken tt i) (taken u e) h
       (λ p r. let x = power_from-sound (i + 1) e u (slice_get t (i + 1)) refl r in
-          (c ∷ (x.0 ++ x.1), (s, x.4), inr (record { letter = c; sign = x.0; digits = x.1; is = refl; is_letter = letter-sound c p; is_sign = x.2; are_digits = x.3 })))
+      (c ∷ (x.0 ++ x.1), (s, x.4), inr (record { letter = c; sign = x.0; digits = x.1; is = refl; is_letter = letter-sound c p; is_sign = x.2; are_digits = x.3 })))
       (λ p r. ([], (same_taken tt u i e r).1, inl refl))
 
   -- a decimal number, behind its minus
@@ -117,8 +117,8 @@ module _ (t : List ℕ) where
   signed_from-sound names i e u (Some c) m s h =
       if_gives (c == 73) (if names then word_at t (codes "Infinity") (i + 1) else failed invalid_number (i + 1)) (decimal_at t (i + 1)) (taken u e) h
       (λ p r. if_gives names (word_at t (codes "Infinity") (i + 1)) (failed invalid_number (i + 1)) (taken u e) r
-          (λ n q. inr (n, inr (inr (sym (slice-stands t i e (codes "-Infinity") (m, word_at-sound t (codes "Infinity") (i + 1) e u q))))))
-          (λ n q. absurd (failed-taken invalid_number (i + 1) u e q)))
+      (λ n q. inr (n, inr (inr (sym (slice-stands t i e (codes "-Infinity") (m, word_at-sound t (codes "Infinity") (i + 1) e u q))))))
+      (λ n q. absurd (failed-taken invalid_number (i + 1) u e q)))
       (λ p r. inl (decimal_at-sound i (i + 1) e u (45 ∷ []) (m, refl) (inr refl) r))
 
   pub extent_from-sound : (names : Bool) (i e : ℕ) (u : Unit {0}) (o : Option ℕ) → slice_get t i ≡ o → extent_from names t i o ≡ taken u e → IsNumberText names (slice_range t i e)
@@ -127,10 +127,10 @@ module _ (t : List ℕ) where
       if_gives (c == 45) (signed_from names t (i + 1) (slice_get t (i + 1))) (if c == 78 then name_at names t (codes "NaN") i else (if c == 73 then name_at names t (codes "Infinity") i else decimal_at t i)) (taken u e) h
       (λ p r. signed_from-sound names i e u (slice_get t (i + 1)) (s ∙ ap Some (eqb-true c 45 p)) refl r)
       (λ p r. if_gives (c == 78) (name_at names t (codes "NaN") i) (if c == 73 then name_at names t (codes "Infinity") i else decimal_at t i) (taken u e) r
-          (λ n q. let x = name_at-sound names (codes "NaN") i e u q in inr (x.0, inl (sym (slice-stands t i e (codes "NaN") x.1))))
-          (λ n q. if_gives (c == 73) (name_at names t (codes "Infinity") i) (decimal_at t i) (taken u e) q
-              (λ f g. let x = name_at-sound names (codes "Infinity") i e u g in inr (x.0, inr (inl (sym (slice-stands t i e (codes "Infinity") x.1)))))
-              (λ f g. inl (decimal_at-sound i i e u [] refl (inl refl) g))))
+      (λ n q. let x = name_at-sound names (codes "NaN") i e u q in inr (x.0, inl (sym (slice-stands t i e (codes "NaN") x.1))))
+      (λ n q. if_gives (c == 73) (name_at names t (codes "Infinity") i) (decimal_at t i) (taken u e) q
+      (λ f g. let x = name_at-sound names (codes "Infinity") i e u g in inr (x.0, inr (inl (sym (slice-stands t i e (codes "Infinity") x.1)))))
+      (λ f g. inl (decimal_at-sound i i e u [] refl (inl refl) g))))
 
   valued-sound : (names : Bool) (i : ℕ) (n : Number) (e : ℕ) (x : Extent) → number_extent names t i ≡ x → valued t i x ≡ taken n e → IsNumberText names (slice_range t i e) × (n ≡ number_value (slice_range t i e))
   valued-sound names i n e (taken u f) s h =
