@@ -32,12 +32,14 @@ module _ (t : List ℕ) where
       let r = digit_run-sound t (digit_run t (i + 1)) (i + 1) refl in
       (r.0, (s, subst (λ k. Stands t (i + 1) k r.0) (omega arith) r.1), (d, r.2))
 
+  -- one digit or more
   pub digits_from-sound : (i e : ℕ) (u : Unit {0}) (o : Option ℕ) → slice_get t i ≡ o → digits_from t i o ≡ taken u e → (w : List ℕ) × Stands t i e w × IsDigits w
   digits_from-sound i e u None s h = absurd (failed-taken eof_value i u e h)
   digits_from-sound i e u (Some c) s h =
       if_gives (is_digit c) (taken tt (i + digit_run t i)) (failed invalid_number i) (taken u e) h
       (λ d r. let x = run-sound i e c s d (same_taken tt u (i + digit_run t i) e r).1 in (c ∷ x.0, x.1, x.2)) (λ d r. absurd (failed-taken invalid_number i u e r))
 
+  -- the integer part
   pub whole_from-sound : (i e : ℕ) (u : Unit {0}) (o : Option ℕ) → slice_get t i ≡ o → whole_from t i o ≡ taken u e → (w : List ℕ) × Stands t i e w × IsWhole w × (length w ≤ digit_limit)
   whole_from-sound i e u None s h = absurd (failed-taken eof_value i u e h)
   whole_from-sound i e u (Some c) s h =
@@ -51,6 +53,7 @@ module _ (t : List ℕ) where
             let n = stands-length t i e (c ∷ x.0) x.1 in
             (c ∷ x.0, x.1, (x.2, inr (eqb-false c 48 z)), omega (arith, l.0, l.1))
 
+  -- the fraction
   pub fraction_from-sound : (i e : ℕ) (u : Unit {0}) (o : Option ℕ) → slice_get t i ≡ o → fraction_from t i o ≡ taken u e → (w : List ℕ) × Stands t i e w × IsFraction w
   fraction_from-sound i e u None s h = ([], (same_taken tt u i e h).1, tt)
   fraction_from-sound i e u (Some c) s h =
@@ -64,6 +67,7 @@ module _ (t : List ℕ) where
     by (inl p) = inr (inl (ap (λ x. x ∷ []) (eqb-true c 43 p)))
     by (inr p) = inr (inr (ap (λ x. x ∷ []) (eqb-true c 45 p)))
 
+  -- the sign and the digits of an exponent
   pub power_from-sound : (i e : ℕ) (u : Unit {0}) (o : Option ℕ) → slice_get t i ≡ o → power_from t i o ≡ taken u e → (sign : List ℕ) × (digits : List ℕ) × IsSign sign × IsDigits digits × Stands t i e (sign ++ digits)
   power_from-sound i e u None s h = absurd (failed-taken eof_value i u e h)
   power_from-sound i e u (Some c) s h =
@@ -77,6 +81,7 @@ module _ (t : List ℕ) where
     by (inl p) = inl (eqb-true c 101 p)
     by (inr p) = inr (eqb-true c 69 p)
 
+  -- the exponent
   pub exponent_from-sound : (i e : ℕ) (u : Unit {0}) (o : Option ℕ) → slice_get t i ≡ o → exponent_from t i o ≡ taken u e → (w : List ℕ) × Stands t i e w × IsExponent w
   exponent_from-sound i e u None s h = ([], (same_taken tt u i e h).1, inl refl)
   exponent_from-sound i e u (Some c) s h =
@@ -121,6 +126,7 @@ module _ (t : List ℕ) where
       (λ n q. absurd (failed-taken invalid_number (i + 1) u e q)))
       (λ p r. inl (decimal_at-sound i (i + 1) e u (45 ∷ []) (m, refl) (inr refl) r))
 
+  -- all of a number
   pub extent_from-sound : (names : Bool) (i e : ℕ) (u : Unit {0}) (o : Option ℕ) → slice_get t i ≡ o → extent_from names t i o ≡ taken u e → IsNumberText names (slice_range t i e)
   extent_from-sound names i e u None s h = absurd (failed-taken eof_value i u e h)
   extent_from-sound names i e u (Some c) s h =
