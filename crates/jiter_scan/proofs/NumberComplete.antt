@@ -23,7 +23,7 @@ continues_number c = is_digit c || (c == 46) || (c == 101) || (c == 69)
 abbrev pub EndsNumber : Option ℕ → Type 0
 EndsNumber o = IfSome o (λ c. continues_number c ≡ false)
 
--- the end, or neither a digit nor a point
+-- neither a digit nor a point
 abbrev NoPoint : ℕ → Type 0
 NoPoint c = (is_digit c ≡ false) × ((c == 46) ≡ false)
 
