@@ -7,3 +7,5 @@ pub mod Scanning
 pub mod Standing
 pub mod WordLaws
 pub mod Words
+pub mod NumberBytes
+pub mod NumberLaws
