@@ -174,3 +174,145 @@ module _ {K A : Type 0} (r : Rules K A) (t : List ℕ) where
     pub members_at_is : (room b : ℕ) (members : List (K × A)) (i : ℕ) → i < length t
         → members_at r (value_at r t room) t b (length t) members i ≡ key_read r (members_at r (value_at r t room) t b (length t)) (value_at r t room) t b members i (r.key t i)
     members_at_is room b = inner-members_at_is (value_at r t room) (value_at-within room) b
+
+  -- A value, by its first byte.
+  pub value-literal : (room i : ℕ) (l : Literal) (m : Scanned A) → start_of (slice_index t i) ≡ start.Literal l → r.literal t l i ≡ m → value_at r t room i ≡ scanned i m
+  value-literal room i l m e w = value_at_is room i ∙ ap (value_with r (inner_at room) t i) e ∙ ap (scanned i) w
+
+  pub value-number : (room i : ℕ) (m : Scanned A) → start_of (slice_index t i) ≡ start.Number → r.number t i ≡ m → value_at r t room i ≡ scanned i m
+  value-number room i m e w = value_at_is room i ∙ ap (value_with r (inner_at room) t i) e ∙ ap (scanned i) w
+
+  pub value-text : (room i : ℕ) (m : Scanned A) → start_of (slice_index t i) ≡ start.String → r.text t i ≡ m → value_at r t room i ≡ scanned i m
+  value-text room i m e w = value_at_is room i ∙ ap (value_with r (inner_at room) t i) e ∙ ap (scanned i) w
+
+  pub value-nothing : (room i : ℕ) → start_of (slice_index t i) ≡ start.Nothing → value_at r t room i ≡ fault expected_value i i
+  value-nothing room i e = value_at_is room i ∙ ap (value_with r (inner_at room) t i) e
+
+  pub value-array : (room i : ℕ) (s : Step) → start_of (slice_index t i) ≡ start.Array → step t array_opened (i + 1) ≡ s
+      → value_at r t room i ≡ stepped r (items_at r (inner_at room) t i (length t) []) (λ e. r.array i e []) s
+  value-array room i s e w = value_at_is room i ∙ ap (value_with r (inner_at room) t i) e ∙ ap (stepped r (items_at r (inner_at room) t i (length t) []) (λ e. r.array i e [])) w
+
+  pub value-array-closed : (room i e : ℕ) → start_of (slice_index t i) ≡ start.Array → step t array_opened (i + 1) ≡ closed e → value_at r t room i ≡ done (r.array i e []) e
+  value-array-closed room i e is w = value-array room i (closed e) is w
+
+  pub value-array-stuck : (room i : ℕ) (k : Kind) (j : ℕ) → start_of (slice_index t i) ≡ start.Array → step t array_opened (i + 1) ≡ stuck k j → value_at r t room i ≡ stopped r (λ e. r.array i e []) k j j
+  value-array-stuck room i k j is w = value-array room i (stuck k j) is w
+
+  -- with room, whatever it is
+  pub value-array-more : (room i j : ℕ) → start_of (slice_index t i) ≡ start.Array → step t array_opened (i + 1) ≡ more j → value_at r t room i ≡ items_at r (inner_at room) t i (length t) [] j
+  value-array-more room i j is w = value-array room i (more j) is w
+
+  pub value-array-items : (room i j : ℕ) → 0 < room → start_of (slice_index t i) ≡ start.Array → step t array_opened (i + 1) ≡ more j
+      → value_at r t room i ≡ items_at r (value_at r t (room - 1)) t i (length t) [] j
+  value-array-items zero i j z is w = let no : ⊥ = omega arith in absurd no
+  value-array-items (suc room) i j z is w = let same : room ≡ suc room - 1 = omega arith in value-array (suc room) i (more j) is w ∙ ap (λ n. items_at r (value_at r t n) t i (length t) [] j) same
+
+  pub value-object : (room i : ℕ) (s : Step) → start_of (slice_index t i) ≡ start.Object → step t object_opened (i + 1) ≡ s
+      → value_at r t room i ≡ stepped r (members_at r (inner_at room) t i (length t) []) (λ e. r.object i e []) s
+  value-object room i s e w = value_at_is room i ∙ ap (value_with r (inner_at room) t i) e ∙ ap (stepped r (members_at r (inner_at room) t i (length t) []) (λ e. r.object i e [])) w
+
+  pub value-object-closed : (room i e : ℕ) → start_of (slice_index t i) ≡ start.Object → step t object_opened (i + 1) ≡ closed e → value_at r t room i ≡ done (r.object i e []) e
+  value-object-closed room i e is w = value-object room i (closed e) is w
+
+  pub value-object-stuck : (room i : ℕ) (k : Kind) (j : ℕ) → start_of (slice_index t i) ≡ start.Object → step t object_opened (i + 1) ≡ stuck k j → value_at r t room i ≡ stopped r (λ e. r.object i e []) k j j
+  value-object-stuck room i k j is w = value-object room i (stuck k j) is w
+
+  -- with room, whatever it is
+  pub value-object-more : (room i j : ℕ) → start_of (slice_index t i) ≡ start.Object → step t object_opened (i + 1) ≡ more j → value_at r t room i ≡ members_at r (inner_at room) t i (length t) [] j
+  value-object-more room i j is w = value-object room i (more j) is w
+
+  pub value-object-members : (room i j : ℕ) → 0 < room → start_of (slice_index t i) ≡ start.Object → step t object_opened (i + 1) ≡ more j
+      → value_at r t room i ≡ members_at r (value_at r t (room - 1)) t i (length t) [] j
+  value-object-members zero i j z is w = let no : ⊥ = omega arith in absurd no
+  value-object-members (suc room) i j z is w = let same : room ≡ suc room - 1 = omega arith in value-object (suc room) i (more j) is w ∙ ap (λ n. members_at r (value_at r t n) t i (length t) [] j) same
+
+  -- where the first item or key of a container begins
+  pub array-begins : (i j : ℕ) → i < length t → step t array_opened (i + 1) ≡ more j → (i < j) × (j < length t)
+  array-begins i j h w = let p : Ahead t (i + 1) (more j) = subst (Ahead t (i + 1)) w (array_opened-ahead t (i + 1) (omega arith)) in (omega (arith, p.0), p.1)
+
+  pub object-begins : (i j : ℕ) → i < length t → step t object_opened (i + 1) ≡ more j → (i < j) × (j < length t)
+  object-begins i j h w = let p : Ahead t (i + 1) (more j) = subst (Ahead t (i + 1)) w (object_opened-ahead t (i + 1) (omega arith)) in (omega (arith, p.0), p.1)
+
+  module _ (good : Advances r t) where
+    -- The turns of an array or an object, whatever reads the values inside.
+    module _ (inner : ℕ → Reading A) (all : AllWithin t inner) (b : ℕ) where
+      pub inner-item : (i e : ℕ) (items : List A) (a : A) (s : Step) → i < length t → inner i ≡ done a e → step t (array_continued t) e ≡ s
+          → items_at r inner t b (length t) items i ≡ stepped r (items_at r inner t b (length t) (items ++ a ∷ [])) (λ e. r.array b e (items ++ a ∷ [])) s
+      inner-item i e items a s h v w =
+          let next = items_at r inner t b (length t) in
+          inner-items_at_is good inner all b items i h ∙ ap (item_read r next t b items) v ∙ ap (stepped r (next (items ++ a ∷ [])) (λ e. r.array b e (items ++ a ∷ []))) w
+
+      pub inner-item-fault : (i x stop : ℕ) (items : List A) (k : Kind) → i < length t → inner i ≡ fault k x stop
+          → items_at r inner t b (length t) items i ≡ stopped r (λ e. r.array b e items) k x stop
+      inner-item-fault i x stop items k h v = inner-items_at_is good inner all b items i h ∙ ap (item_read r (items_at r inner t b (length t)) t b items) v
+
+      pub inner-key-fault : (i j : ℕ) (members : List (K × A)) (k : Kind) → i < length t → r.key t i ≡ failed k j
+          → members_at r inner t b (length t) members i ≡ stopped r (λ e. r.object b e members) k j i
+      inner-key-fault i j members k h v = inner-members_at_is good inner all b members i h ∙ ap (key_read r (members_at r inner t b (length t)) inner t b members i) v
+
+      pub inner-key : (i e : ℕ) (members : List (K × A)) (key : K) (s : Step) → i < length t → r.key t i ≡ taken key e → key_ended t e ≡ s
+          → members_at r inner t b (length t) members i ≡ stepped r (λ j. member_read r (members_at r inner t b (length t)) t b members key (inner j)) (λ e. r.object b e members) s
+      inner-key i e members key s h v w =
+          let next = members_at r inner t b (length t) in
+          inner-members_at_is good inner all b members i h ∙ ap (key_read r next inner t b members i) v ∙ ap (stepped r (λ j. member_read r next t b members key (inner j)) (λ e. r.object b e members)) w
+
+      pub inner-colon-fault : (i e j : ℕ) (members : List (K × A)) (key : K) (k : Kind) → i < length t → r.key t i ≡ taken key e → key_ended t e ≡ stuck k j
+          → members_at r inner t b (length t) members i ≡ stopped r (λ e. r.object b e members) k j j
+      inner-colon-fault i e j members key k h v w = inner-key i e members key (stuck k j) h v w
+
+      pub inner-member-fault : (i e j x stop : ℕ) (members : List (K × A)) (key : K) (k : Kind) → i < length t → r.key t i ≡ taken key e → key_ended t e ≡ more j → inner j ≡ fault k x stop
+          → members_at r inner t b (length t) members i ≡ stopped r (λ e. r.object b e members) k x stop
+      inner-member-fault i e j x stop members key k h v w u =
+          inner-key i e members key (more j) h v w ∙ ap (member_read r (members_at r inner t b (length t)) t b members key) u
+
+      pub inner-member : (i e j d : ℕ) (members : List (K × A)) (key : K) (a : A) (s : Step) → i < length t → r.key t i ≡ taken key e → key_ended t e ≡ more j → inner j ≡ done a d
+          → step t (object_continued t) d ≡ s
+          → members_at r inner t b (length t) members i ≡ stepped r (members_at r inner t b (length t) (members ++ (key, a) ∷ [])) (λ e. r.object b e (members ++ (key, a) ∷ [])) s
+      inner-member i e j d members key a s h v w u q =
+          let next = members_at r inner t b (length t) in
+          inner-key i e members key (more j) h v w ∙ ap (member_read r next t b members key) u ∙ ap (stepped r (next (members ++ (key, a) ∷ [])) (λ e. r.object b e (members ++ (key, a) ∷ []))) q
+
+    -- Without room the first item is the limit's fault, and so is the first member's value.
+    pub value-array-limit : (room i j : ℕ) → i < length t → room ≡ 0 → start_of (slice_index t i) ≡ start.Array → step t array_opened (i + 1) ≡ more j
+        → value_at r t room i ≡ stopped r (λ e. r.array i e []) recursion_limit j j
+    value-array-limit room i j h z is w = value-array-more room i j is w ∙ inner-item-fault (inner_at room) (inner_at-within good room) i j j j [] recursion_limit (array-begins i j h w).1 (inner_at-zero room j z)
+
+    pub value-object-limit : (room i j e m : ℕ) (key : K) → i < length t → room ≡ 0 → start_of (slice_index t i) ≡ start.Object → step t object_opened (i + 1) ≡ more j → r.key t j ≡ taken key e → key_ended t e ≡ more m
+        → value_at r t room i ≡ stopped r (λ e. r.object i e []) recursion_limit m m
+    value-object-limit room i j e m key h z is w v u =
+        value-object-more room i j is w ∙ inner-member-fault (inner_at room) (inner_at-within good room) i j e m m m [] key recursion_limit (object-begins i j h w).1 v u (inner_at-zero room m z)
+
+    -- its key and its colon are read all the same
+    pub value-object-key-fault : (room i j x : ℕ) (k : Kind) → i < length t → start_of (slice_index t i) ≡ start.Object → step t object_opened (i + 1) ≡ more j → r.key t j ≡ failed k x
+        → value_at r t room i ≡ stopped r (λ e. r.object i e []) k x j
+    value-object-key-fault room i j x k h is w v = value-object-more room i j is w ∙ inner-key-fault (inner_at room) (inner_at-within good room) i j x [] k (object-begins i j h w).1 v
+
+    pub value-object-colon-fault : (room i j e m : ℕ) (key : K) (k : Kind) → i < length t → start_of (slice_index t i) ≡ start.Object → step t object_opened (i + 1) ≡ more j → r.key t j ≡ taken key e → key_ended t e ≡ stuck k m
+        → value_at r t room i ≡ stopped r (λ e. r.object i e []) k m m
+    value-object-colon-fault room i j e m key k h is w v u = value-object-more room i j is w ∙ inner-colon-fault (inner_at room) (inner_at-within good room) i j e m [] key k (object-begins i j h w).1 v u
+
+    -- One turn, with room inside.
+    pub items-item : (room b i e : ℕ) (items : List A) (a : A) (s : Step) → i < length t → value_at r t room i ≡ done a e → step t (array_continued t) e ≡ s
+        → items_at r (value_at r t room) t b (length t) items i ≡ stepped r (items_at r (value_at r t room) t b (length t) (items ++ a ∷ [])) (λ e. r.array b e (items ++ a ∷ [])) s
+    items-item room b = inner-item (value_at r t room) (value_at-within good room) b
+
+    pub items-fault : (room b i x stop : ℕ) (items : List A) (k : Kind) → i < length t → value_at r t room i ≡ fault k x stop
+        → items_at r (value_at r t room) t b (length t) items i ≡ stopped r (λ e. r.array b e items) k x stop
+    items-fault room b = inner-item-fault (value_at r t room) (value_at-within good room) b
+
+    pub members-key-fault : (room b i j : ℕ) (members : List (K × A)) (k : Kind) → i < length t → r.key t i ≡ failed k j
+        → members_at r (value_at r t room) t b (length t) members i ≡ stopped r (λ e. r.object b e members) k j i
+    members-key-fault room b = inner-key-fault (value_at r t room) (value_at-within good room) b
+
+    pub members-colon-fault : (room b i e j : ℕ) (members : List (K × A)) (key : K) (k : Kind) → i < length t → r.key t i ≡ taken key e → key_ended t e ≡ stuck k j
+        → members_at r (value_at r t room) t b (length t) members i ≡ stopped r (λ e. r.object b e members) k j j
+    members-colon-fault room b = inner-colon-fault (value_at r t room) (value_at-within good room) b
+
+    pub members-value-fault : (room b i e j x stop : ℕ) (members : List (K × A)) (key : K) (k : Kind) → i < length t → r.key t i ≡ taken key e → key_ended t e ≡ more j → value_at r t room j ≡ fault k x stop
+        → members_at r (value_at r t room) t b (length t) members i ≡ stopped r (λ e. r.object b e members) k x stop
+    members-value-fault room b = inner-member-fault (value_at r t room) (value_at-within good room) b
+
+    pub members-member : (room b i e j d : ℕ) (members : List (K × A)) (key : K) (a : A) (s : Step) → i < length t → r.key t i ≡ taken key e → key_ended t e ≡ more j → value_at r t room j ≡ done a d
+        → step t (object_continued t) d ≡ s
+        → members_at r (value_at r t room) t b (length t) members i ≡ stepped r (members_at r (value_at r t room) t b (length t) (members ++ (key, a) ∷ [])) (λ e. r.object b e (members ++ (key, a) ∷ [])) s
+    members-member room b = inner-member (value_at r t room) (value_at-within good room) b
