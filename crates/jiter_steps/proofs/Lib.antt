@@ -1,1 +1,4 @@
 pub mod Blanks
+pub mod Ahead
+pub mod Values
+pub mod EndKinds
