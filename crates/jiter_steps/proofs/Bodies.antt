@@ -1,8 +1,8 @@
 -- A body, a part at a time.
 use Rattle.std.proofs.Common.{◌≡◌, ℕ, zero, suc, ◌+◌, ◌<◌, ◌≤◌, ◌||◌, Bool, true, false, List, ◌++◌, length, refl, sym, ap, ◌∙◌, subst, arith, append_assoc, length-append}
 use Rattle.std.proofs.lemmas.Option.{slice_get_past, slice_get_within}
-use Rattle.jiter_steps.specs.StringReading.{unclosed, Found, part, over, found, found_at, Body, before, joined, body_within, body_at}
-use Rattle.jiter_steps.proofs.PlacesExplained.{Explains, explained}
+use Rattle.jiter_steps.specs.StringReading.{Stop, closed, unclosed, cut, wrong, Found, part, over, found, found_at, Body, before, joined, body_within, body_at}
+use Rattle.jiter_steps.proofs.PlacesExplained.{IsPlaceKind, Explains, explained}
 
 pub before-before : (a b : List ℕ) (o p : Bool) (r : Body) → before a o (before b p r) ≡ before (a ++ b) (o || p) r
 before-before a b true p r = ap (λ l. record { bytes = l; owned = true; stop = r.stop }) (sym (append_assoc a b r.bytes))
@@ -57,3 +57,35 @@ module _ (t : List ℕ) where
   -- a text is no longer than its source
   pub body_at-long : (i : ℕ) → i ≤ length t → i + length (body_at t i).bytes ≤ length t
   body_at-long i h = long (length t) i (omega arith) h
+
+-- where a string stops that is read from i on: behind i, or at a fault of a place
+abbrev pub StopWithin : List ℕ → ℕ → Stop → Type 0
+StopWithin t i (closed e) = (i < e) × (e ≤ length t)
+StopWithin t i unclosed = Unit {0}
+StopWithin t i cut = Unit {0}
+StopWithin t i (wrong k j) = (i ≤ j) × (j < length t) × IsPlaceKind k
+
+stop-later : (t : List ℕ) (i j : ℕ) → i < j → (s : Stop) → StopWithin t j s → StopWithin t i s
+stop-later t i j l (closed e) h = (omega (arith, h.0), h.1)
+stop-later t i j l unclosed h = tt
+stop-later t i j l cut h = tt
+stop-later t i j l (wrong k x) h = (omega (arith, h.0), h.1, h.2)
+
+stop-over : (t : List ℕ) (i : ℕ) (s : Stop) → Explains t i (over s) → StopWithin t i s
+stop-over t i (closed e) h = let inside = slice_get_within t i 34 h.0 in (omega (arith, h.1), omega (arith, h.1))
+stop-over t i unclosed h = tt
+stop-over t i cut h = tt
+stop-over t i (wrong k j) h = h
+
+module _ (t : List ℕ) where
+  within-joined : (n i : ℕ) → length t ≤ suc n + i → ((j : ℕ) → length t ≤ n + j → StopWithin t j (body_at t j).stop)
+      → (f : Found) → Explains t i f → StopWithin t i (joined (body_at t) f).stop
+  within-joined n i p go (part bs o j) h = let a = part-ahead t i j bs o h in stop-later t i j a.0 (body_at t j).stop (go j (omega arith))
+  within-joined n i p go (over s) h = stop-over t i s h
+
+  within : (n i : ℕ) → length t ≤ n + i → StopWithin t i (body_at t i).stop
+  within zero i p = subst (λ (b : Body). StopWithin t i b.stop) (sym (body_at-found t i (over unclosed) (found-end t i (omega arith)))) tt
+  within (suc n) i p = subst (λ (b : Body). StopWithin t i b.stop) (sym (body_at-is t i)) (within-joined n i p (λ j x. within n j x) (found_at t i) (explained t i))
+
+  pub body_at-within : (i : ℕ) → StopWithin t i (body_at t i).stop
+  body_at-within i = within (length t) i (omega arith)

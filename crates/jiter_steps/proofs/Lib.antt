@@ -9,3 +9,4 @@ pub mod Tails
 pub mod StringCut
 pub mod StringForms
 pub mod StringMarks
+pub mod StringLaws

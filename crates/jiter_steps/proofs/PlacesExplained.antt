@@ -1,12 +1,12 @@
 -- What is found at a place, in the grammar's words.
-use Rattle.std.proofs.Common.{◌≡◌, ◌≢◌, inl, inr, ℕ, ◌+◌, ◌-◌, ◌*◌, ◌<◌, ◌≤◌, true, false, List, [], ◌∷◌, ◌++◌, length, refl, sym, ap, ◌∙◌, subst, arith}
+use Rattle.std.proofs.Common.{◌≡◌, ◌≢◌, ◌⊎◌, inl, inr, ℕ, ◌+◌, ◌-◌, ◌*◌, ◌<◌, ◌≤◌, true, false, List, [], ◌∷◌, ◌++◌, length, refl, sym, ap, ◌∙◌, subst, arith}
 use Rattle.std.specs.Prelude.{slice_get, slice_index, Option, Some, None, if◌then◌else◌, ◌==◌, nat_lt}
 use Rattle.std.specs.Char.{IsScalar, encode_utf8, digit_value}
 use Rattle.std.proofs.lemmas.Bool.{eqb-true, eqb-false, ltb-true, ltb-false}
 use Rattle.std.proofs.lemmas.Bool.Decides.{nat_tests}
 use Rattle.std.proofs.lemmas.Option.{slice_get_within}
 use Rattle.std.proofs.lemmas.Str.{length-encode, len_utf8_bounds, len_utf8_ascii}
-use Rattle.jiter_scan.specs.Kind.{invalid_escape, lone_surrogate, end_of_hex_escape, control_character}
+use Rattle.jiter_scan.specs.Kind.{Kind, invalid_escape, lone_surrogate, end_of_hex_escape, control_character}
 use Rattle.jiter_steps.specs.Escape.{short_escape, is_hex, unit_of, is_high, is_low, pair_of}
 use Rattle.jiter_scan.specs.Stands.{Stands}
 use Rattle.jiter_steps.specs.Piece.{IsUnit, IsEscape}
@@ -34,13 +34,17 @@ pub record EscapeAt (t : List ℕ) (i : ℕ) (bs : List ℕ) (j : ℕ) : Type 0 
   pub wide : i + length bs ≤ j
   pub within : j ≤ length t
 
+-- the kinds of fault that a place of a string can have
+abbrev pub IsPlaceKind : Kind → Type 0
+IsPlaceKind k = (k ≡ invalid_escape) ⊎ ((k ≡ lone_surrogate) ⊎ ((k ≡ end_of_hex_escape) ⊎ (k ≡ control_character)))
+
 abbrev pub Explains : List ℕ → ℕ → Found → Type 0
 Explains t i (part bs false j) = ByteAt t i bs j
 Explains t i (part bs true j) = EscapeAt t i bs j
 Explains t i (over (closed e)) = (slice_get t i ≡ Some 34) × (e ≡ i + 1)
 Explains t i (over unclosed) = slice_get t i ≡ None
 Explains t i (over cut) = slice_get t i ≡ Some 92
-Explains t i (over (wrong k j)) = (i ≤ j) × (j < length t)
+Explains t i (over (wrong k j)) = (i ≤ j) × (j < length t) × IsPlaceKind k
 
 pub record HexAt (t : List ℕ) (i : ℕ) : Type 0 where
   pub within : i + 4 ≤ length t
@@ -144,7 +148,7 @@ module _ (t : List ℕ) (o : ℕ) (slash : slice_get t o ≡ Some 92) where
         wide = at-most-four (pair_of high low) o (i + 1 + 4) (omega arith);
         within = omega (arith, y.within);
       })
-      (λ no. (omega arith, omega (arith, y.within)))
+      (λ no. (omega arith, omega (arith, y.within), inr (inl refl)))
 
   second_u-explained : (high i : ℕ) → i ≡ o + 7 → slice_get t (o + 1) ≡ Some 117 → slice_get t (o + 6) ≡ Some 92 → is_high high ≡ true → HexAt t (o + 2) → unit_at t (o + 2) ≡ high
       → (x : Option ℕ) → slice_get t i ≡ x → Explains t o (second_u t high i x)
@@ -152,8 +156,8 @@ module _ (t : List ℕ) (o : ℕ) (slash : slice_get t o ≡ Some 92) where
   second_u-explained high i at u s2 hi hx me (Some b) e =
       let inside = slice_get_within t i b e in
       if_case (Explains t o) (b == 117) (unit_then t (i + 1) (paired high)) (over (wrong end_of_hex_escape i))
-      (λ q. hex_digits_at-case (Explains t o) t (i + 1) (paired high (i + 1 + 4)) slash (λ k lo up. (omega arith, up)) (λ y. paired-explained high i at u s2 (e ∙ ap Some (eqb-true b 117 q)) hi hx me y))
-      (λ q. (omega arith, inside))
+      (λ q. hex_digits_at-case (Explains t o) t (i + 1) (paired high (i + 1 + 4)) slash (λ k lo up. (omega arith, up, inl refl)) (λ y. paired-explained high i at u s2 (e ∙ ap Some (eqb-true b 117 q)) hi hx me y))
+      (λ q. (omega arith, inside, inr (inr (inl refl))))
 
   second-explained : (high i : ℕ) → i ≡ o + 6 → slice_get t (o + 1) ≡ Some 117 → is_high high ≡ true → HexAt t (o + 2) → unit_at t (o + 2) ≡ high
       → (x : Option ℕ) → slice_get t i ≡ x → Explains t o (second t high i x)
@@ -162,12 +166,12 @@ module _ (t : List ℕ) (o : ℕ) (slash : slice_get t o ≡ Some 92) where
       let inside = slice_get_within t i b e in
       if_case (Explains t o) (b == 92) (second_u t high (i + 1) (slice_get t (i + 1))) (over (wrong end_of_hex_escape i))
       (λ q. second_u-explained high (i + 1) (omega arith) u (subst (λ k. slice_get t k ≡ Some 92) at (e ∙ ap Some (eqb-true b 92 q))) hi hx me (slice_get t (i + 1)) refl)
-      (λ q. (omega arith, inside))
+      (λ q. (omega arith, inside, inr (inr (inl refl))))
 
   single-explained : (j : ℕ) → j ≡ o + 6 → slice_get t (o + 1) ≡ Some 117 → HexAt t (o + 2) → (u : ℕ) → unit_at t (o + 2) ≡ u → is_high u ≡ false → Explains t o (single j u)
   single-explained j at uu hx u me hi =
       if_case (Explains t o) (is_low u) (over (wrong lone_surrogate (j - 1))) (part (encode_utf8 u) true j)
-      (λ lo. (omega arith, omega (arith, hx.within)))
+      (λ lo. (omega arith, omega (arith, hx.within), inr (inl refl)))
       (λ lo.
       let small = unit_of-bound (slice_index t (o + 2)) (slice_index t (o + 2 + 1)) (slice_index t (o + 2 + 2)) (slice_index t (o + 2 + 3)) hx.digits.0 hx.digits.1 hx.digits.2 hx.digits.3 in
       let scalar = scalar-unit u (subst (λ x. x < 65536) me small) hi lo in
@@ -189,7 +193,7 @@ module _ (t : List ℕ) (o : ℕ) (slash : slice_get t o ≡ Some 92) where
       if_case (Explains t o) (is_high u) (second t u j (slice_get t j)) (single j u) (λ hi. second-explained u j at uu hi hx me (slice_get t j) refl) (λ hi. single-explained j at uu hx u me hi)
 
   short-explained : (i b : ℕ) → i ≡ o + 1 → slice_get t i ≡ Some b → (x : Option ℕ) → short_escape b ≡ x → Explains t o (short i x)
-  short-explained i b at e None me = (omega arith, slice_get_within t i b e)
+  short-explained i b at e None me = (omega arith, slice_get_within t i b e, inl refl)
   short-explained i b at e (Some c) me =
       let inside = slice_get_within t i b e in record {
         character = c;
@@ -209,7 +213,7 @@ module _ (t : List ℕ) (o : ℕ) (slash : slice_get t o ≡ Some 92) where
   escaped-explained i at (Some b) e =
       let next : i + 1 ≡ o + 2 = omega arith in
       if_case (Explains t o) (b == 117) (unit_then t (i + 1) (numbered t)) (short i (short_escape b))
-      (λ q. hex_digits_at-case (Explains t o) t (i + 1) (numbered t (i + 1 + 4)) slash (λ k lo up. (omega arith, up))
+      (λ q. hex_digits_at-case (Explains t o) t (i + 1) (numbered t (i + 1 + 4)) slash (λ k lo up. (omega arith, up, inl refl))
       (λ y. numbered-explained (i + 1 + 4) (omega arith) (subst (λ k. slice_get t k ≡ Some 117) at (e ∙ ap Some (eqb-true b 117 q))) (subst (HexAt t) next y) (unit_at t (i + 1)) (ap (unit_at t) (sym next))))
       (λ q. short-explained i b at e (short_escape b) refl)
 
@@ -221,5 +225,5 @@ explained t i = by (slice_get t i) refl where
   by (Some b) e =
       if_case (Explains t i) (b == 34) (over (closed (i + 1))) (unquoted t i b) (λ q. (e ∙ ap Some (eqb-true b 34 q), refl)) (λ q.
       if_case (Explains t i) (b == 92) (escaped t (i + 1) (slice_get t (i + 1))) (plain i b) (λ s. escaped-explained t i (e ∙ ap Some (eqb-true b 92 s)) (i + 1) refl (slice_get t (i + 1)) refl) (λ s.
-      if_case (Explains t i) (nat_lt b 32) (over (wrong control_character i)) (part (b ∷ []) false (i + 1)) (λ c. (omega arith, slice_get_within t i b e))
+      if_case (Explains t i) (nat_lt b 32) (over (wrong control_character i)) (part (b ∷ []) false (i + 1)) (λ c. (omega arith, slice_get_within t i b e, inr (inr (inr refl))))
       (λ c. record { byte = b; here = e; is = refl; printed = ltb-false b 32 c; no_quote = eqb-false b 34 q; no_backslash = eqb-false b 92 s; ends = refl })))

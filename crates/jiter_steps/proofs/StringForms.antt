@@ -7,7 +7,7 @@ use Rattle.std.proofs.lemmas.Str.{utf8_valid_len-IsUtf8}
 use Rattle.std.proofs.lemmas.Bool.{eqb-true}
 use Rattle.std.proofs.lemmas.List.{take_all, drop_all}
 use Rattle.jiter_scan.specs.Kind.{Kind, invalid_code_point}
-use Rattle.jiter_scan.specs.Scanned.{taken, failed}
+use Rattle.jiter_scan.specs.Scanned.{Scanned, taken, failed}
 use Rattle.jiter_steps.specs.Tree.{Text}
 use Rattle.jiter_steps.specs.StringReading.{Stop, closed, unclosed, cut, wrong, body_at, whole, kept, raw, checked, shortened, as_kept, between, ended, content_at}
 
@@ -48,9 +48,11 @@ module _ (t : List ℕ) (i : ℕ) where
   whole-raw bs o (closed f) x e ne h = by _ refl where
     by : (b : Bool) → (utf8_valid_len bs == length bs) ≡ b → ended raw t i bs o (closed f) ≡ failed x e
     by true is =
-        let no : taken (record { owned = o; bytes = bs }) f ≡ failed x e = sym (ap (λ (b : Bool). if b then taken (record { owned = o; bytes = bs }) f else failed invalid_code_point (i + utf8_valid_len bs)) is) ∙ h in absurd (cc)
+        let text : Text = record { owned = o; bytes = bs } in
+        let no : taken text f ≡ failed x e = sym (ap (λ (b : Bool). if b then taken (record { owned = o; bytes = bs }) f else failed invalid_code_point (i + utf8_valid_len bs)) is) ∙ h in absurd (cc)
     by false is =
-        let no : failed invalid_code_point (i + utf8_valid_len bs) ≡ failed x e = sym (ap (λ (b : Bool). if b then taken (record { owned = o; bytes = bs }) f else failed invalid_code_point (i + utf8_valid_len bs)) is) ∙ h in
+        let other : Scanned Text = failed x e in
+        let no : failed invalid_code_point (i + utf8_valid_len bs) ≡ other = sym (ap (λ (b : Bool). if b then taken (record { owned = o; bytes = bs }) f else failed invalid_code_point (i + utf8_valid_len bs)) is) ∙ h in
         let kind : invalid_code_point ≡ x = cc in absurd (ne (sym kind))
 
   -- a fault other than that of UTF-8 is one of raw reading too

@@ -1,8 +1,11 @@
 -- A text is owned exactly where a backslash was read.
-use Rattle.std.proofs.Common.{◌≡◌, ◌≢◌, inl, inr, ℕ, zero, suc, ◌+◌, ◌<◌, ◌≤◌, true, false, List, length, get_or, sym, ◌∙◌, subst, arith}
-use Rattle.std.specs.Prelude.{slice_get, Some, None}
-use Rattle.std.proofs.lemmas.Bool.{cases_eq, true≢false}
-use Rattle.std.proofs.lemmas.Option.{slice_get-get_or, slice_get_within}
+use Rattle.std.proofs.Common.{◌≡◌, ◌≢◌, inl, inr, ℕ, zero, suc, ◌+◌, ◌-◌, ◌<◌, ◌≤◌, ◌==◌, Bool, true, false, List, length, drop, get_or, refl, sym, ap, ◌∙◌, subst, arith}
+use Rattle.std.specs.Prelude.{slice_get, slice_range, Some, None}
+use Rattle.std.proofs.lemmas.Bool.{cases_eq, true≢false, ne_eqb}
+use Rattle.std.proofs.lemmas.Option.{slice_get-get_or, slice_get_within, get_or_from_slice_get}
+use Rattle.std.proofs.lemmas.List.{length-take, length-drop, get_or-take, get_or-drop}
+use Rattle.std.proofs.lemmas.List.Folds.{list_any_at, list_any_none}
+use Rattle.jiter_steps.specs.Node.{has_backslash}
 use Rattle.jiter_steps.specs.StringReading.{Stop, closed, unclosed, cut, wrong, Found, part, over, found_at, Body, joined, body_at}
 use Rattle.jiter_steps.proofs.PlacesExplained.{Explains, explained}
 use Rattle.jiter_steps.proofs.Bodies.{body_at-is, found-end, part-ahead, body_at-found}
@@ -18,7 +21,7 @@ some_one : {a b : ℕ} → Some a ≡ Some b → a ≡ b
 some_one h = cc
 
 module _ (t : List ℕ) where
-  abbrev Tells : ℕ → ℕ → Body → Type 0
+  abbrev pub Tells : ℕ → ℕ → Body → Type 0
   Tells i e b = (b.owned ≡ true → (x : ℕ) × (i ≤ x) × (x < e) × (slice_get t x ≡ Some 92)) × (b.owned ≡ false → (x : ℕ) → i ≤ x → x < e → slice_get t x ≢ Some 92)
 
   outside : (x : ℕ) → slice_get t x ≡ None → x < length t → ⊥
@@ -65,3 +68,37 @@ module _ (t : List ℕ) where
   -- the mark of a text that ends at e
   pub owned-tells : (i e : ℕ) → i ≤ length t → EndOf t (body_at t i).stop e → Tells i e (body_at t i)
   owned-tells i e h s = (tells (length t) i e (omega arith) h s).0
+
+module _ (t : List ℕ) (i e : ℕ) (within : e ≤ length t) where
+  long : length (slice_range t i e) ≡ e - i
+  long = omega (arith, length-take (e - i) (drop i t), length-drop i t)
+
+  there : (k d : ℕ) → k < e - i → get_or (slice_range t i e) k d ≡ get_or t (i + k) d
+  there k d h = get_or-take (e - i) (drop i t) k d h ∙ get_or-drop i t k d
+
+  some-backslash : (x : ℕ) → i ≤ x → x < e → slice_get t x ≡ Some 92 → has_backslash t i e ≡ true
+  some-backslash x l m h =
+      let at : i + (x - i) ≡ x = omega arith in
+      let byte : get_or (slice_range t i e) (x - i) 0 ≡ 92 = there (x - i) 0 (omega arith) ∙ ap (λ n. get_or t n 0) at ∙ get_or_from_slice_get t x 92 0 h in
+      list_any_at (λ c. c == 92) (slice_range t i e) (x - i) 0 (omega (arith, long)) (ap (λ c. c == 92) byte)
+
+  none-backslash : ((x : ℕ) → i ≤ x → x < e → slice_get t x ≢ Some 92) → has_backslash t i e ≡ false
+  none-backslash h = list_any_none (λ c. c == 92) (slice_range t i e) (λ k d l.
+      let small : k < e - i = omega (arith, long) in
+      ne_eqb (get_or (slice_range t i e) k d) 92 (λ q. h (i + k) (omega arith) (omega arith) (slice_get-get_or t (i + k) d (omega arith) ∙ ap Some (sym (there k d small) ∙ q))))
+
+-- the mark of a string that begins at i and ends at e
+pub mark-is : (t : List ℕ) (i e : ℕ) → slice_get t i ≡ Some 34 → e ≤ length t → EndOf t (body_at t (i + 1)).stop e → (body_at t (i + 1)).owned ≡ has_backslash t i e
+mark-is t i e q within s = by _ refl where
+  inside : i < length t
+  inside = slice_get_within t i 34 q
+
+  marks : Tells t (i + 1) e (body_at t (i + 1))
+  marks = owned-tells t (i + 1) e (omega (arith, inside)) s
+
+  by : (b : Bool) → (body_at t (i + 1)).owned ≡ b → (body_at t (i + 1)).owned ≡ has_backslash t i e
+  by true o = let x = marks.0 o in o ∙ sym (some-backslash t i e within x.0 (omega (arith, x.1)) x.2 x.3)
+  by false o = o ∙ sym (none-backslash t i e within (λ x l m h. elim (cases_eq x i) [
+    | inl here ↦ let no : 34 ≡ 92 = some_one (sym q ∙ subst (λ y. slice_get t y ≡ Some 92) here h) in absurd (omega arith)
+    | inr other ↦ marks.1 o x (omega arith) m h
+  ]))

@@ -160,7 +160,7 @@ module _ (t : List ℕ) where
   characters-from (c ∷ cs) i = ap (λ l. c ∷ l) (characters-from cs (end_of i c (found_at t i)))
 
   -- ---- the law
-  closed-text : (i : ℕ) (bs : List ℕ) (o : Bool) (s : Stop) (x : Text) (e : ℕ) → ended whole t i bs o s ≡ taken x e → (x ≡ record { owned = o; bytes = bs }) × (s ≡ closed e) × ((utf8_valid_len bs == length bs) ≡ true)
+  pub closed-text : (i : ℕ) (bs : List ℕ) (o : Bool) (s : Stop) (x : Text) (e : ℕ) → ended whole t i bs o s ≡ taken x e → (x ≡ record { owned = o; bytes = bs }) × (s ≡ closed e) × ((utf8_valid_len bs == length bs) ≡ true)
   closed-text i bs o (wrong k j) x e h = absurd (cc)
   closed-text i bs o unclosed x e h = absurd (cc)
   closed-text i bs o cut x e h = absurd (cc)
