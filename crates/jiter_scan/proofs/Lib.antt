@@ -1,2 +1,3 @@
 pub mod Words
 pub mod DigitRuns
+pub mod NumberTexts

@@ -1,12 +1,12 @@
 //! Numbers: integers that 64 signed bits hold, and the text of all others (RFC 8259, 6).
-ghost use Rattle.std.specs.Prelude.{◌≡◌, ◌+◌, ◌<◌, ◌≤◌, IfOk, IfErr, length, slice_get, slice_index, slice_range, true};
+ghost use Rattle.std.specs.Prelude.{◌≡◌, ◌+◌, ◌<◌, ◌≤◌, IfOk, IfErr, length, slice_get, slice_index, slice_range, Some, true};
 ghost use Rattle.std.specs.List.{AllPass};
 ghost use Rattle.std.specs.Str.{IsAscii};
 ghost use Rattle.jiter_scan.specs.Scanned.{Scans, Ends, Answers, TellsOfBytes, taken};
 ghost use Rattle.jiter_scan.specs.Word.{word_at};
 ghost use Rattle.jiter_scan.specs.Digits.{is_digit, digit_run};
 ghost use Rattle.jiter_scan.specs.Number.{is_float_byte, positive_value, negative_value, number_value};
-ghost use Rattle.jiter_scan.specs.NumberReading.{digits_from, whole_at, fraction_at, exponent_at, power_from, decimal_at, is_float_sign, valued, number_at, int_at, integer_behind, begins_number, number_alone, int_alone};
+ghost use Rattle.jiter_scan.specs.NumberReading.{extent_then, digits_from, zero_ended, within_limit, whole_at, fraction_at, exponent_at, power_from, decimal_at, is_float_sign, valued, number_at, int_at, integer_behind, begins_number, number_alone, int_alone};
 ghost use Rattle.jiter_scan.specs.NumberView.{int_view, number_view, ScansInteger, magnitude_of, IsMinusTo};
 
 use crate::errors::{JsonError, JsonErrorType, JsonResult};
@@ -105,4 +105,226 @@ fn digits_end(bytes: &[u8], from: usize) -> JsonResult<usize>
             }
         }
     }
+}
+
+// The zero at `at`, behind which no digit may stand.
+fn zero_read(bytes: &[u8], at: usize) -> JsonResult<(u64, usize)>
+    requires { slice_get bytes.now at ≡ Some 48 }
+    ensures value { Scans (λ _. tt) result (zero_ended (at + 1) (slice_get bytes.now (at + 1))) }
+    ensures place { IfOk result (λ x. (at < x.1) × (x.1 ≤ length bytes.now)) }
+    ensures magnitude { IfOk result
+        (λ x. x.0 ≡ magnitude_of (slice_range bytes.now at x.1)) }
+    ensures memory { IfErr result TellsOfBytes }
+    ensures index { IfErr result (λ e. e.index ≤ length bytes.now) }
+{
+    match byte_at(bytes, at + 1) {
+        None => Ok((0, at + 1)),
+        Some(byte) => {
+            if is_digit(byte) {
+                Err(fault(JsonErrorType::InvalidNumber, at + 1))
+            } else {
+                Ok((0, at + 1))
+            }
+        }
+    }
+}
+
+// The digits at `at`, unless they are too many.
+fn limited_read(bytes: &[u8], at: usize) -> JsonResult<(u64, usize)>
+    requires within { at ≤ length bytes.now }
+    requires some { 0 < digit_run bytes.now at }
+    ensures value { Scans (λ _. tt) result (within_limit at (digit_run bytes.now at)) }
+    ensures place { IfOk result (λ x. (at < x.1) × (x.1 ≤ length bytes.now)) }
+    ensures magnitude { IfOk result
+        (λ x. x.0 ≡ magnitude_of (slice_range bytes.now at x.1)) }
+    ensures memory { IfErr result TellsOfBytes }
+    ensures index { IfErr result (λ e. e.index ≤ length bytes.now) }
+{
+    let (magnitude, end) = digits_read(bytes, at);
+    if end - at <= DIGIT_LIMIT {
+        Ok((magnitude, end))
+    } else {
+        Err(fault(
+            JsonErrorType::NumberOutOfRange,
+            at + (DIGIT_LIMIT + 1),
+        ))
+    }
+}
+
+// The integer part: its magnitude, or the greatest `u64`, and the place behind it.
+fn whole_read(bytes: &[u8], at: usize) -> JsonResult<(u64, usize)>
+    requires { at ≤ length bytes.now }
+    ensures value { Scans (λ _. tt) result (whole_at bytes.now at) }
+    ensures place { IfOk result (λ x. (at < x.1) × (x.1 ≤ length bytes.now)) }
+    ensures magnitude { IfOk result
+        (λ x. x.0 ≡ magnitude_of (slice_range bytes.now at x.1)) }
+    ensures memory { IfErr result TellsOfBytes }
+    ensures index { IfErr result (λ e. e.index ≤ length bytes.now) }
+{
+    match byte_at(bytes, at) {
+        None => Err(fault(JsonErrorType::EofWhileParsingValue, at)),
+        Some(byte) => {
+            if byte == b'0' {
+                zero_read(bytes, at)
+            } else if is_digit(byte) {
+                limited_read(bytes, at)
+            } else {
+                Err(fault(JsonErrorType::InvalidNumber, at))
+            }
+        }
+    }
+}
+
+// Behind a fraction, or where none stands.
+fn fraction_end(bytes: &[u8], at: usize) -> JsonResult<usize>
+    requires { at ≤ length bytes.now }
+    ensures value { Ends result (fraction_at bytes.now at) }
+    ensures place { IfOk result (λ e. (at ≤ e) × (e ≤ length bytes.now)) }
+    ensures memory { IfErr result TellsOfBytes }
+    ensures index { IfErr result (λ e. e.index ≤ length bytes.now) }
+{
+    match byte_at(bytes, at) {
+        None => Ok(at),
+        Some(byte) => {
+            if byte == b'.' {
+                digits_end(bytes, at + 1)
+            } else {
+                Ok(at)
+            }
+        }
+    }
+}
+
+// The sign of an exponent, or none, and its digits: the place behind them.
+fn power_end(bytes: &[u8], at: usize) -> JsonResult<usize>
+    requires { at ≤ length bytes.now }
+    ensures value { Ends result (power_from bytes.now at (slice_get bytes.now at)) }
+    ensures place { IfOk result (λ e. (at ≤ e) × (e ≤ length bytes.now)) }
+    ensures memory { IfErr result TellsOfBytes }
+    ensures index { IfErr result (λ e. e.index ≤ length bytes.now) }
+{
+    match byte_at(bytes, at) {
+        None => Err(fault(JsonErrorType::EofWhileParsingValue, at)),
+        Some(byte) => {
+            if byte == b'+' || byte == b'-' {
+                digits_end(bytes, at + 1)
+            } else {
+                digits_end(bytes, at)
+            }
+        }
+    }
+}
+
+// Behind an exponent, or where none stands.
+fn exponent_end(bytes: &[u8], at: usize) -> JsonResult<usize>
+    requires { at ≤ length bytes.now }
+    ensures value { Ends result (exponent_at bytes.now at) }
+    ensures place { IfOk result (λ e. (at ≤ e) × (e ≤ length bytes.now)) }
+    ensures memory { IfErr result TellsOfBytes }
+    ensures index { IfErr result (λ e. e.index ≤ length bytes.now) }
+{
+    match byte_at(bytes, at) {
+        None => Ok(at),
+        Some(byte) => {
+            if byte == b'e' || byte == b'E' {
+                power_end(bytes, at + 1)
+            } else {
+                Ok(at)
+            }
+        }
+    }
+}
+
+// ASCII bytes as a text.
+fn ascii_text(bytes: &[u8]) -> &str
+    requires { IsAscii bytes.now }
+    ensures { result.now ≡ bytes.now }
+{
+    match std::str::from_utf8(bytes) {
+        Ok(text) => text,
+        Err(_) => unreachable!(),
+    }
+}
+
+// The integer of that magnitude, or its text.
+fn positive<'j>(text: &'j [u8], magnitude: u64) -> NumberInt<'j>
+    requires { IsAscii text.now }
+    ensures { int_view result ≡ positive_value text.now magnitude }
+{
+    if magnitude < INT_LIMIT {
+        NumberInt::Int(magnitude as i64)
+    } else {
+        NumberInt::BigInt(ascii_text(text))
+    }
+}
+
+// The negative of that magnitude, or its text.
+fn negative<'j>(text: &'j [u8], magnitude: u64) -> NumberInt<'j>
+    requires { IsAscii text.now }
+    ensures { int_view result ≡ negative_value text.now magnitude }
+{
+    if magnitude == 0 {
+        NumberInt::Int(0)
+    } else if magnitude <= INT_LIMIT {
+        NumberInt::Int(-1 - (magnitude - 1) as i64)
+    } else {
+        NumberInt::BigInt(ascii_text(text))
+    }
+}
+
+// The integer from `from` to before `end`, whose digits begin at `at`.
+fn integer_of<'j>(
+    bytes: &'j [u8],
+    from: usize,
+    at: usize,
+    end: usize,
+    magnitude: u64,
+) -> NumberInt<'j>
+    requires minus { IsMinusTo bytes.now from at }
+    requires whole { whole_at bytes.now at ≡ taken tt end }
+    requires place { (at < end) × (end ≤ length bytes.now) }
+    requires magnitude { magnitude ≡ magnitude_of (slice_range bytes.now at end) }
+    ensures { int_view result ≡ number_value (slice_range bytes.now from end) }
+{
+    let text = &bytes[from..end];
+    if from == at {
+        positive(text, magnitude)
+    } else {
+        negative(text, magnitude)
+    }
+}
+
+// Behind a fraction, if one stands at `at`, and an exponent, if one follows.
+fn tail_end(bytes: &[u8], at: usize) -> JsonResult<usize>
+    requires { at ≤ length bytes.now }
+    ensures value { Ends result (extent_then (fraction_at bytes.now at) (exponent_at bytes.now)) }
+    ensures place { IfOk result (λ e. (at ≤ e) × (e ≤ length bytes.now)) }
+    ensures memory { IfErr result TellsOfBytes }
+    ensures index { IfErr result (λ e. e.index ≤ length bytes.now) }
+{
+    let end = fraction_end(bytes, at)?;
+    exponent_end(bytes, end)
+}
+
+// The decimal number that begins at `from`, its minus apart at `at`.
+fn decimal_read<'j>(
+    bytes: &'j [u8],
+    from: usize,
+    at: usize,
+) -> JsonResult<(NumberAny<'j>, usize)>
+    requires within { at ≤ length bytes.now }
+    requires minus { IsMinusTo bytes.now from at }
+    ensures value { Scans number_view result (valued bytes.now from (decimal_at bytes.now at)) }
+    ensures place { IfOk result (λ x. (at < x.1) × (x.1 ≤ length bytes.now)) }
+    ensures memory { IfErr result TellsOfBytes }
+    ensures index { IfErr result (λ e. e.index ≤ length bytes.now) }
+{
+    let (magnitude, whole_end) = whole_read(bytes, at)?;
+    let end = tail_end(bytes, whole_end)?;
+    let number = if end == whole_end {
+        NumberAny::Int(integer_of(bytes, from, at, end, magnitude))
+    } else {
+        NumberAny::Float(ascii_text(&bytes[from..end]))
+    };
+    Ok((number, end))
 }
