@@ -1,3 +1,4 @@
-pub mod Words
 pub mod DigitRuns
+pub mod NumberStarts
 pub mod NumberTexts
+pub mod Words

@@ -10,11 +10,12 @@ use Rattle.std.proofs.lemmas.Bool.{eq-eqb, ne_eqb, cases_eq, cases_lt}
 use Rattle.std.proofs.lemmas.Bool.Decides.{nat_tests}
 use Rattle.jiter_scan.specs.Kind.{Kind, invalid_number}
 use Rattle.jiter_scan.specs.Scanned.{taken, failed}
-use Rattle.jiter_scan.specs.Word.{Extent}
+use Rattle.jiter_scan.specs.Word.{Extent, word_at}
 use Rattle.jiter_scan.specs.Digits.{is_digit, digit_run, decimal_of}
 use Rattle.jiter_scan.specs.Number.{Number, float, big, integer, is_float_byte, is_integral, number_value, positive_value, negative_value, integral_value, minus_of, digit_limit}
-use Rattle.jiter_scan.specs.NumberReading.{extent_then, digits_from, zero_ended, within_limit, whole_from, whole_at, fraction_from, fraction_at, power_from, exponent_from, exponent_at}
+use Rattle.jiter_scan.specs.NumberReading.{extent_then, digits_from, zero_ended, within_limit, whole_from, whole_at, fraction_from, fraction_at, power_from, exponent_from, exponent_at, decimal_at}
 use Rattle.jiter_scan.specs.NumberView.{magnitude_of, IsMinusTo}
+use Rattle.jiter_scan.proofs.Words.{word_at-bytes}
 use Rattle.jiter_scan.proofs.DigitRuns.{digit_run-digit, digit_run-digits}
 
 -- every byte from i to before j is below 80 hex
@@ -166,17 +167,18 @@ digits_from-digits t i e h = from_byte (slice_get t i) refl h
 
 -- A part that may be missing: ASCII bytes, of which the first, if there is one, is a float's.
 pub record IsPart (t : List ℕ) (i e : ℕ) : Type 0 where
+  pub ahead : i ≤ e
   pub low : AsciiTo t i e
   pub first : i < e → is_float_byte (get_or t i 0) ≡ true
 
 no_part : (t : List ℕ) (i e : ℕ) → i ≡ e → IsPart t i e
-no_part t i e same = record { low = λ k low high. absurd (omega arith); first = λ h. absurd (omega arith) }
+no_part t i e same = record { ahead = omega arith; low = λ k low high. absurd (omega arith); first = λ h. absurd (omega arith) }
 
 -- a byte, and ASCII behind it
-part_from : (t : List ℕ) (i e c : ℕ) → slice_get t i ≡ Some c → c < 128 → is_float_byte c ≡ true → AsciiTo t (i + 1) e → IsPart t i e
-part_from t i e c at small is rest =
+part_from : (t : List ℕ) (i e c : ℕ) → slice_get t i ≡ Some c → c < 128 → is_float_byte c ≡ true → i < e → AsciiTo t (i + 1) e → IsPart t i e
+part_from t i e c at small is ahead rest =
     let here = get_or_from_slice_get t i c 0 at in
-    record { low = AsciiTo-join t i (i + 1) e (AsciiTo-one t i (omega arith)) rest; first = λ h. ap is_float_byte here ∙ is }
+    record { ahead = omega arith; low = AsciiTo-join t i (i + 1) e (AsciiTo-one t i (omega arith)) rest; first = λ h. ap is_float_byte here ∙ is }
 
 pub fraction_at-part : (t : List ℕ) (i e : ℕ) → fraction_at t i ≡ taken tt e → IsPart t i e
 fraction_at-part t i e h = from_byte (slice_get t i) refl h
@@ -187,22 +189,23 @@ fraction_at-part t i e h = from_byte (slice_get t i) refl h
         elim (cases_eq c 46) [
           | inl z ↦
               let digits = digits_from-digits t (i + 1) e (sym (is_true (c == 46) _ _ (eq-eqb c 46 z)) ∙ h) in
-              part_from t i e 46 (at ∙ ap (λ b. Some b) z) (omega arith) refl (DigitsTo-low t (i + 1) e digits.1)
+              part_from t i e 46 (at ∙ ap (λ b. Some b) z) (omega arith) refl (omega arith) (DigitsTo-low t (i + 1) e digits.1)
           | inr n ↦ no_part t i e (same_end i e (sym (is_false (c == 46) _ _ (ne_eqb c 46 n)) ∙ h))
         ]
 
 -- a sign or none, and digits
-power_from-low : (t : List ℕ) (i e : ℕ) → power_from t i (slice_get t i) ≡ taken tt e → AsciiTo t i e
+power_from-low : (t : List ℕ) (i e : ℕ) → power_from t i (slice_get t i) ≡ taken tt e → (i < e) × AsciiTo t i e
 power_from-low t i e h = from_byte (slice_get t i) refl h
   where
-    by_sign : (c : ℕ) (b : Bool) → slice_get t i ≡ Some c → ((c == 43) || (c == 45)) ≡ b → cond b (digits_from t (i + 1) (slice_get t (i + 1))) (digits_from t i (Some c)) ≡ taken tt e → AsciiTo t i e
-    by_sign c false at s h = DigitsTo-low t i e (digits_from-digits t i e (ap (digits_from t i) at ∙ h)).1
+    by_sign : (c : ℕ) (b : Bool) → slice_get t i ≡ Some c → ((c == 43) || (c == 45)) ≡ b → cond b (digits_from t (i + 1) (slice_get t (i + 1))) (digits_from t i (Some c)) ≡ taken tt e → (i < e) × AsciiTo t i e
+    by_sign c false at s h = let digits = digits_from-digits t i e (ap (digits_from t i) at ∙ h) in (digits.0, DigitsTo-low t i e digits.1)
     by_sign c true at s h =
         let small : c < 128 = sign_low c s in
         let here = get_or_from_slice_get t i c 0 at in
-        AsciiTo-join t i (i + 1) e (AsciiTo-one t i (omega arith)) (DigitsTo-low t (i + 1) e (digits_from-digits t (i + 1) e h).1)
+        let digits = digits_from-digits t (i + 1) e h in
+        (omega arith, AsciiTo-join t i (i + 1) e (AsciiTo-one t i (omega arith)) (DigitsTo-low t (i + 1) e digits.1))
 
-    from_byte : (o : Option ℕ) → slice_get t i ≡ o → power_from t i o ≡ taken tt e → AsciiTo t i e
+    from_byte : (o : Option ℕ) → slice_get t i ≡ o → power_from t i o ≡ taken tt e → (i < e) × AsciiTo t i e
     from_byte None at h = absurd (cc)
     from_byte (Some c) at h = by_sign c ((c == 43) || (c == 45)) at refl h
 
@@ -211,11 +214,31 @@ exponent_at-part t i e h = from_byte (slice_get t i) refl h
   where
     by_letter : (c : ℕ) (b : Bool) → slice_get t i ≡ Some c → ((c == 101) || (c == 69)) ≡ b → cond b (power_from t (i + 1) (slice_get t (i + 1))) (ends i) ≡ ends e → IsPart t i e
     by_letter c false at s h = no_part t i e (same_end i e h)
-    by_letter c true at s h = part_from t i e c at (letter_low c s) (letter_float c s) (power_from-low t (i + 1) e h)
+    by_letter c true at s h = let power = power_from-low t (i + 1) e h in part_from t i e c at (letter_low c s) (letter_float c s) (omega arith) power.1
 
     from_byte : (o : Option ℕ) → slice_get t i ≡ o → exponent_from t i o ≡ taken tt e → IsPart t i e
     from_byte None at h = no_part t i e (same_end i e h)
     from_byte (Some c) at h = by_letter c ((c == 101) || (c == 69)) at refl h
+
+-- a fraction or none, and an exponent or none
+pub tail-part : (t : List ℕ) (i e : ℕ) → extent_then (fraction_at t i) (exponent_at t) ≡ taken tt e → IsPart t i e
+tail-part t i e h =
+    let steps = then_taken (fraction_at t i) (exponent_at t) e h in
+    let j : ℕ = steps.0 in
+    let fraction = fraction_at-part t i j steps.1 in
+    let exponent = exponent_at-part t j e steps.2 in
+    record {
+      ahead = omega arith;
+      low = AsciiTo-join t i j e fraction.low exponent.low;
+      first = λ some. elim (cases_lt i j) [
+        | inl whole ↦ fraction.first whole
+        | inr none ↦ let same : j ≡ i = omega arith in ap (λ k. is_float_byte (get_or t k 0)) (sym same) ∙ exponent.first (omega arith)
+      ];
+    }
+
+-- a decimal number behind its integer part
+pub decimal_at-whole : (t : List ℕ) (i j : ℕ) → whole_at t i ≡ taken tt j → decimal_at t i ≡ extent_then (fraction_at t j) (exponent_at t)
+decimal_at-whole t i j h = ap (λ x. extent_then x (λ k. extent_then (fraction_at t k) (exponent_at t))) h
 
 -- ---- the value of a text
 
@@ -280,7 +303,55 @@ number_value-minus t i e at low high h =
     ap number_value parts ∙ minus_value w (DigitsTo-range t (i + 1) e (omega arith) high h) ∙ sym (negative_value-min (45 ∷ w) (decimal_of w))
     ∙ ap (λ (v : List ℕ). negative_value v (magnitude_of w)) (sym parts)
 
+pub IsMinusTo-le : (t : List ℕ) (i j : ℕ) → IsMinusTo t i j → i ≤ j
+IsMinusTo-le t i j (inl none) = omega arith
+IsMinusTo-le t i j (inr (same, at)) = omega arith
+
 -- a minus, or none, is ASCII
 pub IsMinusTo-low : (t : List ℕ) (i j : ℕ) → IsMinusTo t i j → AsciiTo t i j
 IsMinusTo-low t i j (inl none) k low high = absurd (omega arith)
 IsMinusTo-low t i j (inr (same, at)) k low high = let here : i ≡ k = omega arith in let minus = get_or_from_slice_get t i 45 0 at in subst (λ (m : ℕ). get_or t m 0 < 128) here (omega arith)
+
+-- the integer at i, whose digits begin at j
+pub integer_value-positive : (t : List ℕ) (i j e m : ℕ) → i ≡ j → whole_at t j ≡ taken tt e → e ≤ length t → m ≡ magnitude_of (slice_range t j e)
+    → positive_value (slice_range t i e) m ≡ number_value (slice_range t i e)
+integer_value-positive t i j e m same h high value =
+    let digits = whole_at-digits t j e h in
+    let from : DigitsTo t i e = subst (λ (k : ℕ). DigitsTo t k e) (sym same) digits.1 in
+    ap (positive_value (slice_range t i e)) (value ∙ ap (λ k. magnitude_of (slice_range t k e)) (sym same))
+    ∙ sym (number_value-digits t i e (omega arith) high from)
+
+pub integer_value-negative : (t : List ℕ) (i j e m : ℕ) → IsMinusTo t i j → i ≢ j → whole_at t j ≡ taken tt e → e ≤ length t → m ≡ magnitude_of (slice_range t j e)
+    → negative_value (slice_range t i e) m ≡ number_value (slice_range t i e)
+integer_value-negative t i j e m (inl none) other h high value = absurd (omega arith)
+integer_value-negative t i j e m (inr (same, at)) other h high value =
+    let digits = whole_at-digits t j e h in
+    let from : DigitsTo t (i + 1) e = subst (λ (k : ℕ). DigitsTo t k e) same digits.1 in
+    ap (negative_value (slice_range t i e)) (value ∙ ap (λ k. magnitude_of (slice_range t k e)) same)
+    ∙ sym (number_value-minus t i e at (omega arith) high from)
+
+-- a text with a float's byte at j
+pub number_value-part : (t : List ℕ) (i j e : ℕ) → i ≤ j → j < e → e ≤ length t → is_float_byte (get_or t j 0) ≡ true → number_value (slice_range t i e) ≡ float (slice_range t i e)
+number_value-part t i j e low inside high is =
+    let long = length-slice_range t i e (omega arith) high in
+    let place : i + (j - i) ≡ j = omega arith in
+    number_value-float (slice_range t i e) (j - i) (omega arith) (ap is_float_byte (get_or-slice_range t i e (j - i) (omega arith) ∙ ap (λ k. get_or t k 0) place) ∙ is)
+
+-- the text of an integer is ASCII
+pub IsAscii-integer : (t : List ℕ) (i j e : ℕ) → IsMinusTo t i j → whole_at t j ≡ taken tt e → IsAscii (slice_range t i e)
+IsAscii-integer t i j e minus h = IsAscii-slice_range t i e (AsciiTo-join t i j e (IsMinusTo-low t i j minus) (DigitsTo-low t j e (whole_at-digits t j e h).1))
+
+-- and so is that of a decimal number
+pub IsAscii-decimal : (t : List ℕ) (i j k e : ℕ) → IsMinusTo t i j → whole_at t j ≡ taken tt k → IsPart t k e → IsAscii (slice_range t i e)
+IsAscii-decimal t i j k e minus h part =
+    IsAscii-slice_range t i e (AsciiTo-join t i j e (IsMinusTo-low t i j minus) (AsciiTo-join t j k e (DigitsTo-low t j k (whole_at-digits t j k h).1) part.low))
+
+-- the text of a name is ASCII
+pub IsAscii-name : (t w : List ℕ) (i j e : ℕ) → IsMinusTo t i j → word_at t w j ≡ taken tt e → e ≡ j + length w → IsAscii w → IsAscii (slice_range t i e)
+IsAscii-name t w i j e minus h long ascii =
+    let low : AsciiTo t j e = λ k above below.
+      let place : j + (k - j) ≡ k = omega arith in
+      let same : get_or t k 0 ≡ get_or w (k - j) 0 = ap (λ m. get_or t m 0) (sym place) ∙ word_at-bytes t w j e h (k - j) (omega arith) in
+      let small = ascii (k - j) in
+      omega arith in
+    IsAscii-slice_range t i e (AsciiTo-join t i j e (IsMinusTo-low t i j minus) low)

@@ -1,5 +1,5 @@
 -- The numbers of the code, as values, and what a function of the code says of a number that it read.
-use Rattle.std.specs.Prelude.{◌≡◌, ◌⊎◌, ◌+◌, ◌-◌, ◌^◌, ℕ, min, List, Result, Ok, Err, slice_get, Some}
+use Rattle.std.specs.Prelude.{◌≡◌, ◌⊎◌, ◌+◌, ◌-◌, ◌^◌, ◌<◌, ◌≤◌, ℕ, min, List, Result, Ok, Err, slice_get, Some}
 use Rattle.jiter_scan.specs.Kind.{kind_of}
 use Rattle.jiter_scan.specs.Digits.{decimal_of}
 use Rattle.jiter_scan.specs.Number.{Number, integer, big, float}
@@ -27,6 +27,11 @@ abbrev pub ScansInteger : Result Integer JsonError → reading.Integer → Type 
 ScansInteger (Ok (found.Whole n e)) s = s ≡ reading.whole (int_view n) e
 ScansInteger (Ok (found.FloatSeen j)) s = s ≡ reading.float_seen j
 ScansInteger (Err e) s = s ≡ reading.wrong (kind_of e.error_type) e.index
+
+-- an integer ends behind i, a float shows at i or behind it, and neither past the length
+abbrev pub EndsWithin : ℕ → ℕ → Integer → Type 0
+EndsWithin i len (found.Whole n e) = (i < e) × (e ≤ len)
+EndsWithin i len (found.FloatSeen j) = (i ≤ j) × (j < len)
 
 -- the value of decimal digits, or the greatest number of 64 bits where that is less
 abbrev pub magnitude_of : List ℕ → ℕ
