@@ -6,6 +6,9 @@ pub mod Runs
 pub mod Scanning
 pub mod Standing
 pub mod WordLaws
+pub mod DigitRuns
+pub mod NumberStarts
+pub mod NumberTexts
 pub mod Words
 pub mod NumberBytes
 pub mod NumberLaws
