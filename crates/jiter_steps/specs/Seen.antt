@@ -1,0 +1,16 @@
+-- What a contract sees of the code's texts.
+use Rattle.std.specs.Prelude.{Bool, true, false}
+use Rattle.std.specs.declared.alloc.Global.{Global}
+use Rattle.std.specs.declared.borrow.CowStr.{CowStr}
+use Rattle.std.specs.declared.borrow.CowStr.TheVariants as text
+use Rattle.std.specs.Cow.{cow_str_bytes}
+use Rattle.jiter_steps.specs.Tree.{Text}
+
+-- whether a text lies in memory of its own
+abbrev pub is_owned : CowStr Global → Bool
+is_owned (text.Borrowed s) = false
+is_owned (text.Owned s) = true
+
+-- a text's bytes, and whether they lie in memory of their own
+abbrev pub text_seen : CowStr Global → Text
+text_seen c = record { owned = is_owned c; bytes = cow_str_bytes c }
