@@ -2,7 +2,7 @@
 ghost use Rattle.std.specs.Prelude.{◌≡◌, ◌≢◌, ◌⊎◌, ◌+◌, ◌^◌, ◌<◌, ◌≤◌, ◌++◌, List, ◌∷◌, [], length, true, false, Some, None, Err, slice_get, slice_range, IfOk, IfSome, IfErr};
 ghost use Rattle.std.specs.Char.{digit_value, encode_utf8};
 ghost use Rattle.jiter_scan.specs.Scan.{is_stop, scan_stop};
-ghost use Rattle.jiter_scan.specs.declared.errors.JsonErrorType.TheVariants.{OutOfMemory};
+ghost use Rattle.jiter_scan.specs.declared.errors.JsonErrorType.TheVariants.{EofWhileParsingString, OutOfMemory};
 ghost use Rattle.jiter_steps.specs.Escape.{short_escape, is_hex, is_high, is_low};
 ghost use Rattle.jiter_steps.specs.StringReading.{hex_digits_at, found_at, unit_then, escaped, numbered, second, second_u, paired, body_at, before, checked, content_at, whole, string_at};
 ghost use Rattle.jiter_steps.specs.Strings.{digits_seen, IfNumber, found_seen, stop_seen, IfFault, IfMemory, GivesText, WantsMemory};
@@ -265,6 +265,17 @@ fn refused(kind: JsonErrorType, index: usize, stop: usize) -> Refusal
     Refusal::Fault(Fault { kind, index, stop })
 }
 
+// The input ends inside the string.
+fn cut_short(bytes: &[u8], at: usize) -> Refusal
+    ensures { result ≡ refusal.Fault (record {
+        kind = EofWhileParsingString;
+        index = length bytes.now;
+        stop = at
+    }) }
+{
+    refused(JsonErrorType::EofWhileParsingString, bytes.len(), at)
+}
+
 // The text of a string with no backslash, whose closing quote is at `to`.
 #[tactic(auto, using(crate::proofs::DecodeSteps::checked_text))]
 fn borrowed<'j>(bytes: &'j [u8], at: usize, to: usize) -> Result<(CowStr<'j>, usize), Refusal>
@@ -329,9 +340,8 @@ fn decoded<'j>(
         Err(AllocError) => Err(Refusal::Memory(at)),
         Ok(Ending::Closed(end)) => owned(alloc, tape.as_slice(), at, end),
         Ok(Ending::Wrong(kind, index)) => Err(refused(kind, index, at)),
-        Ok(Ending::Unclosed | Ending::Cut) => {
-            Err(refused(JsonErrorType::EofWhileParsingString, bytes.len(), at))
-        }
+        Ok(Ending::Unclosed) => Err(cut_short(bytes, at)),
+        Ok(Ending::Cut) => Err(cut_short(bytes, at)),
     }
 }
 
@@ -358,7 +368,7 @@ pub fn string_at<'j>(
 {
     let to = plain_end(bytes, at + 1);
     match byte_at(bytes, to) {
-        None => Err(refused(JsonErrorType::EofWhileParsingString, bytes.len(), at)),
+        None => Err(cut_short(bytes, at)),
         Some(b'"') => borrowed(bytes, at, to),
         Some(b'\\') => decoded(alloc, tape, bytes, at, to),
         Some(_) => {
