@@ -14,3 +14,5 @@ pub mod StringCut
 pub mod StringForms
 pub mod StringMarks
 pub mod StringLaws
+pub mod PlainRuns
+pub mod StringAnswers
