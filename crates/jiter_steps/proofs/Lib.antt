@@ -2,3 +2,5 @@ pub mod Blanks
 pub mod Ahead
 pub mod Values
 pub mod EndKinds
+pub mod Firsts
+pub mod Fused
