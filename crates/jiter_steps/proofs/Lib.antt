@@ -4,3 +4,4 @@ pub mod Values
 pub mod EndKinds
 pub mod Firsts
 pub mod Fused
+pub mod Answered
