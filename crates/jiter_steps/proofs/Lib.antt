@@ -5,3 +5,15 @@ pub mod EndKinds
 pub mod Firsts
 pub mod Fused
 pub mod Answered
+pub mod StringStand
+pub mod Utf8Shape
+pub mod PlacesExplained
+pub mod Bodies
+pub mod StringComplete
+pub mod StringSound
+pub mod DecodeSteps
+pub mod Tails
+pub mod StringCut
+pub mod StringForms
+pub mod StringMarks
+pub mod StringLaws
