@@ -17,3 +17,4 @@ pub mod StringCut
 pub mod StringForms
 pub mod StringMarks
 pub mod StringLaws
+pub mod Instances
