@@ -2,6 +2,9 @@ pub mod Blanks
 pub mod Ahead
 pub mod Values
 pub mod EndKinds
+pub mod Firsts
+pub mod Fused
+pub mod Answered
 pub mod StringStand
 pub mod Utf8Shape
 pub mod PlacesExplained
@@ -16,3 +19,4 @@ pub mod StringMarks
 pub mod StringLaws
 pub mod PlainRuns
 pub mod StringAnswers
+pub mod Instances
