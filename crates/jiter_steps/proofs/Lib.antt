@@ -1,3 +1,4 @@
 pub mod Blanks
 pub mod ScalarLaws
 pub mod Nodes
+pub mod RowSteps
