@@ -2,3 +2,4 @@ pub mod Blanks
 pub mod ScalarLaws
 pub mod Nodes
 pub mod RowSteps
+pub mod Sound
