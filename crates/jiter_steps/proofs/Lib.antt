@@ -3,3 +3,4 @@ pub mod ScalarLaws
 pub mod Nodes
 pub mod RowSteps
 pub mod Sound
+pub mod Mapped
