@@ -7,3 +7,4 @@ pub mod Nodes
 pub mod RowSteps
 pub mod Sound
 pub mod Mapped
+pub mod Complete
