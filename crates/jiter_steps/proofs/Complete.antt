@@ -25,7 +25,7 @@ use Rattle.jiter_steps.specs.declared.parse.Start.TheVariants as start
 use Rattle.jiter_steps.proofs.RowSteps.{array_opened-closed, array_opened-more, array_continued-closed, array_continued-more, object_opened-closed, object_opened-more, object_continued-closed, object_continued-more, key_ended-more}
 use Rattle.jiter_steps.proofs.ScalarLaws.{ScalarLaws, continues_number, EndsNumber}
 use Rattle.jiter_steps.proofs.Sound.{nodes_before, before-none, before-push, members_before, members-none, members-push}
-use Rattle.jiter_steps.proofs.Values.{Advances, inner_at, value_at_is, items_at_is, members_at_is}
+use Rattle.jiter_steps.proofs.Values.{Advances, value-literal, value-number, value-text, value-array-closed, value-array-items, value-object-closed, value-object-members, items-item, members-member}
 
 -- what kind of value a node is
 abbrev pub start_is : Node → Start
@@ -147,26 +147,6 @@ module _ (names : Bool) (t : List ℕ) (laws : ScalarLaws names t) where
   key-ended : (k : Key) (n : Node) → SpellsKey t k (begin n) → Spells names t n → key_ended t k.end ≡ more (begin n)
   key-ended k n h s = let first = begins-value n s in key_ended-more t k.end h.colon (begin n) first.byte h.behind h.blanks first.here first.no_blank
 
-  -- the equations of reading
-  value-scanned : (room i : ℕ) (s : Start) → start_of (slice_index t i) ≡ s → (x : Reading Node) → value_with (nodes names) (inner_at (nodes names) t room) t i s ≡ x → value_at (nodes names) t room i ≡ x
-  value-scanned room i s e x h = value_at_is (nodes names) t room i ∙ ap (value_with (nodes names) (inner_at (nodes names) t room) t i) e ∙ h
-
-  value-items : (room i j : ℕ) → 0 < room → start_of (slice_index t i) ≡ start.Array → step t array_opened (i + 1) ≡ more j
-      → value_at (nodes names) t room i ≡ items_at (nodes names) (value_at (nodes names) t (room - 1)) t i (length t) [] j
-  value-items zero i j z e w = let no : ⊥ = omega arith in absurd no
-  value-items (suc room) i j z e w =
-      let same : room ≡ suc room - 1 = omega arith in
-      value-scanned (suc room) i start.Array e _ (ap (stepped (nodes names) (items_at (nodes names) (inner_at (nodes names) t (suc room)) t i (length t) []) (λ f. grammar.array i f (nodes_of []))) w)
-      ∙ ap (λ n. items_at (nodes names) (value_at (nodes names) t n) t i (length t) [] j) same
-
-  value-members : (room i j : ℕ) → 0 < room → start_of (slice_index t i) ≡ start.Object → step t object_opened (i + 1) ≡ more j
-      → value_at (nodes names) t room i ≡ members_at (nodes names) (value_at (nodes names) t (room - 1)) t i (length t) [] j
-  value-members zero i j z e w = let no : ⊥ = omega arith in absurd no
-  value-members (suc room) i j z e w =
-      let same : room ≡ suc room - 1 = omega arith in
-      value-scanned (suc room) i start.Object e _ (ap (stepped (nodes names) (members_at (nodes names) (inner_at (nodes names) t (suc room)) t i (length t) []) (λ f. grammar.object i f (node_members_of []))) w)
-      ∙ ap (λ n. members_at (nodes names) (value_at (nodes names) t n) t i (length t) [] j) same
-
   -- the items, the members behind those so far
   abbrev Items : ℕ → ℕ → List Node → ℕ → Reading Node
   Items room b so_far i = items_at (nodes names) (value_at (nodes names) t room) t b (length t) so_far i
@@ -183,8 +163,7 @@ module _ (names : Bool) (t : List ℕ) (laws : ScalarLaws names t) where
 
   one-item : (room b : ℕ) (so_far : List Node) (n : Node) → Spells names t n → value_at (nodes names) t room (begin n) ≡ done n (end n)
       → Items room b so_far (begin n) ≡ BehindItem room b (so_far ++ n ∷ []) (step t (array_continued t) (end n))
-  one-item room b so_far n s v =
-      items_at_is (nodes names) t nodes-advance room b so_far (begin n) (begin-within n s) ∙ ap (item_read (nodes names) (Items room b) t b so_far) v
+  one-item room b so_far n s v = items-item (nodes names) t nodes-advance room b (begin n) (end n) so_far n _ (begin-within n s) v refl
 
   key-taken : (k : Key) (j : ℕ) → SpellsKey t k j → seen_as (key_of t k.begin) (string_at whole t k.begin) ≡ taken k k.end
   key-taken k j h =
@@ -194,32 +173,25 @@ module _ (names : Bool) (t : List ℕ) (laws : ScalarLaws names t) where
   one-member : (room b : ℕ) (so_far : List (Key × Node)) (k : Key) (n : Node) → SpellsKey t k (begin n) → Spells names t n → value_at (nodes names) t room (begin n) ≡ done n (end n)
       → Members room b so_far k.begin ≡ BehindMember room b (so_far ++ (k, n) ∷ []) (step t (object_continued t) (end n))
   one-member room b so_far k n h s v =
-      members_at_is (nodes names) t nodes-advance room b so_far k.begin (slice_get_within t k.begin 34 h.string.opens)
-      ∙ ap (key_read (nodes names) (Members room b) (value_at (nodes names) t room) t b so_far k.begin) (key-taken k (begin n) h)
-      ∙ ap (stepped (nodes names) (λ j. member_read (nodes names) (Members room b) t b so_far k (value_at (nodes names) t room j)) (λ f. grammar.object b f (node_members_of so_far))) (key-ended k n h s)
-      ∙ ap (member_read (nodes names) (Members room b) t b so_far k) v
+      members-member (nodes names) t nodes-advance room b k.begin k.end (begin n) (end n) so_far k n _ (slice_get_within t k.begin 34 h.string.opens) (key-taken k (begin n) h) (key-ended k n h s) v refl
 
   mutual
     pub value_at-complete : (n : Node) (room : ℕ) → Spells names t n → nesting n ≤ room → EndsNumber t (end n) → value_at (nodes names) t room (begin n) ≡ done n (end n)
     value_at-complete (grammar.literal l b e) room h d q =
-        value-scanned room b (start.Literal l) (starts (grammar.literal l b e) h) _ (ap (λ x. scanned b (seen_as (λ u f. grammar.literal l b f) x)) (laws.literal-complete l b e h))
+        value-literal (nodes names) t room b l (taken (grammar.literal l b e) e) (starts (grammar.literal l b e) h) (ap (seen_as (λ u f. grammar.literal l b f)) (laws.literal-complete l b e h))
     value_at-complete (grammar.number b e) room h d q =
-        value-scanned room b start.Number (starts (grammar.number b e) h) _ (ap (λ x. scanned b (seen_as (λ n f. grammar.number b f) x)) (laws.number-complete b e h.ordered h.within h.text q))
+        value-number (nodes names) t room b (taken (grammar.number b e) e) (starts (grammar.number b e) h) (ap (seen_as (λ n f. grammar.number b f)) (laws.number-complete b e h.ordered h.within h.text q))
     value_at-complete (grammar.string ps b e) room h d q =
-        value-scanned room b start.String (starts (grammar.string ps b e) h) _
-        (ap (λ x. scanned b (seen_as (λ s f. grammar.string (pieces_from t (b + 1) (chars s.bytes)) b f) x)) (laws.string-complete b e ps h) ∙ ap (λ x. done (grammar.string x b e) e) (laws.pieces-again b e ps h))
-    value_at-complete (grammar.array b e no_nodes) room h d q =
-        value-scanned room b start.Array (starts (grammar.array b e no_nodes) h) _
-        (ap (stepped (nodes names) (items_at (nodes names) (inner_at (nodes names) t room) t b (length t) []) (λ f. grammar.array b f (nodes_of []))) (array_opened-closed t (b + 1) e h.1))
+        value-text (nodes names) t room b (taken (grammar.string ps b e) e) (starts (grammar.string ps b e) h)
+        (ap (seen_as (λ s f. grammar.string (pieces_from t (b + 1) (chars s.bytes)) b f)) (laws.string-complete b e ps h) ∙ ap (λ x. taken (grammar.string x b e) e) (laws.pieces-again b e ps h))
+    value_at-complete (grammar.array b e no_nodes) room h d q = value-array-closed (nodes names) t room b e (starts (grammar.array b e no_nodes) h) (array_opened-closed t (b + 1) e h.1)
     value_at-complete (grammar.array b e (node n ns)) room h d q =
-        value-items room b (begin n) (omega arith) (starts (grammar.array b e (node n ns)) h) (opened (b + 1) n h.1.0 h.1.1)
+        value-array-items (nodes names) t room b (begin n) (omega arith) (starts (grammar.array b e (node n ns)) h) (opened (b + 1) n h.1.0 h.1.1)
         ∙ one-item (room - 1) b [] n h.1.1 (value_at-complete n (room - 1) h.1.1 (omega arith) (items-end ns (end n) e h.1.2))
         ∙ items-complete ns (room - 1) b (end n) e (n ∷ []) h.1.2 (omega arith)
-    value_at-complete (grammar.object b e no_members) room h d q =
-        value-scanned room b start.Object (starts (grammar.object b e no_members) h) _
-        (ap (stepped (nodes names) (members_at (nodes names) (inner_at (nodes names) t room) t b (length t) []) (λ f. grammar.object b f (node_members_of []))) (object_opened-closed t (b + 1) e h.1))
+    value_at-complete (grammar.object b e no_members) room h d q = value-object-closed (nodes names) t room b e (starts (grammar.object b e no_members) h) (object_opened-closed t (b + 1) e h.1)
     value_at-complete (grammar.object b e (member k n ms)) room h d q =
-        value-members room b k.begin (omega arith) (starts (grammar.object b e (member k n ms)) h) (object_opened-more t (b + 1) k.begin h.1.0 h.1.1.string.opens)
+        value-object-members (nodes names) t room b k.begin (omega arith) (starts (grammar.object b e (member k n ms)) h) (object_opened-more t (b + 1) k.begin h.1.0 h.1.1.string.opens)
         ∙ one-member (room - 1) b [] k n h.1.1 h.1.2 (value_at-complete n (room - 1) h.1.2 (omega arith) (members-end ms (end n) e h.1.3))
         ∙ members-complete ms (room - 1) b (end n) e ((k, n) ∷ []) h.1.3 (omega arith)
 
