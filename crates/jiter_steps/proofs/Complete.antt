@@ -1,12 +1,11 @@
 -- What is spelled so is read.
-use Rattle.std.proofs.Common.{◌≡◌, ◌≢◌, ℕ, zero, suc, ◌+◌, ◌-◌, ◌<◌, ◌≤◌, ◌⊎◌, inl, inr, Bool, true, false, List, [], ◌∷◌, ◌++◌, length, drop, take, refl, sym, ap, ◌∙◌, subst, arith, ◌==◌, IfSome}
-use Rattle.std.specs.Prelude.{slice_get, slice_index, slice_range, Option, Some, None}
+use Rattle.std.proofs.Common.{◌≡◌, ◌≢◌, ℕ, suc, ◌+◌, ◌-◌, ◌<◌, ◌≤◌, ◌⊎◌, inl, inr, Bool, true, false, List, [], ◌∷◌, ◌++◌, length, drop, take, refl, sym, ap, ◌∙◌, subst, arith, ◌==◌, IfSome}
+use Rattle.std.specs.Prelude.{slice_get, slice_index, slice_range, Some}
 use Rattle.std.specs.Str.{chars}
 use Rattle.std.proofs.lemmas.List.{drop_more}
 use Rattle.std.proofs.lemmas.Option.{slice_get_within, slice_get-get_or, slice_get_past, get_or_from_slice_get}
 use Rattle.std.proofs.lemmas.Bool.{cases_eq}
 use Rattle.std.proofs.lemmas.Bool.Decides.{nat_tests}
-use Rattle.jiter_scan.specs.Kind.{recursion_limit}
 use Rattle.jiter_scan.specs.Number.{IsNumberText}
 use Rattle.jiter_scan.specs.NumberReading.{begins_number, number_at}
 use Rattle.jiter_scan.specs.Scanned.{Scanned, taken, failed}
@@ -16,8 +15,8 @@ use Rattle.jiter_steps.specs.Blank.{is_blank, IsBlankByte, IsBlank}
 use Rattle.jiter_steps.specs.Literal.{start_of, literal_at}
 use Rattle.jiter_steps.specs.Node as grammar
 use Rattle.jiter_steps.specs.Node.{Key, Node, Nodes, no_nodes, node, NodeMembers, no_members, member, begin, end, StandsBehind, SpellsNumber, SpellsKey, Spells, SpellsItems, SpellsMoreItems, SpellsMembers, SpellsMoreMembers, nesting, nesting_of, nesting_of_members}
-use Rattle.jiter_steps.specs.Read.{Reading, done, fault, scanned, stepped, items_at, item_read, members_at, member_read, key_read, value_with, value_at}
-use Rattle.jiter_steps.specs.Step.{Step, more, closed, step, array_opened, array_continued, object_opened, object_continued, key_ended}
+use Rattle.jiter_steps.specs.Read.{Reading, done, stepped, items_at, members_at, value_at}
+use Rattle.jiter_steps.specs.Step.{Step, more, step, array_opened, array_continued, object_continued, key_ended}
 use Rattle.jiter_steps.specs.StringReading.{whole, string_at, pieces_from}
 use Rattle.jiter_steps.specs.declared.parse.Literal.TheVariants as literal
 use Rattle.jiter_steps.specs.declared.parse.Start.{Start}

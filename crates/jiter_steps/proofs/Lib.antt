@@ -8,3 +8,4 @@ pub mod RowSteps
 pub mod Sound
 pub mod Mapped
 pub mod Complete
+pub mod Documents

@@ -1,9 +1,9 @@
 -- Blanks and steps of the grammar, against those of reading.
 use Rattle.std.proofs.Common.{◌≡◌, ◌≢◌, ℕ, zero, suc, ◌+◌, ◌-◌, ◌<◌, ◌≤◌, ◌⊎◌, inl, inr, Bool, true, false, List, length, get_or, refl, sym, ap, ◌∙◌, subst, arith}
-use Rattle.std.specs.Prelude.{slice_index, slice_get, Some}
-use Rattle.std.proofs.lemmas.Option.{slice_get_within, get_or_from_slice_get}
+use Rattle.std.specs.Prelude.{slice_index, slice_get, Some, None}
+use Rattle.std.proofs.lemmas.Option.{slice_get_within, get_or_from_slice_get, slice_get-get_or}
 use Rattle.std.proofs.lemmas.Bool.Decides.{nat_tests}
-use Rattle.std.proofs.lemmas.Bool.{cases_eq}
+use Rattle.std.proofs.lemmas.Bool.{cases_eq, cases_lt}
 use Rattle.jiter_steps.specs.Blank.{is_blank, past_blanks}
 use Rattle.jiter_steps.specs.Blank.{IsBlankByte, IsBlank}
 use Rattle.jiter_steps.proofs.Blanks.{past_blanks-blank, past_blanks-other, past_blanks-end}
@@ -51,3 +51,11 @@ module _ (t : List ℕ) where
   -- what is passed is blank
   pub passed-blank : (i : ℕ) → i ≤ length t → IsBlank t i (past_blanks t i)
   passed-blank i h = passed (length t - i) i (omega arith)
+
+  at_length-cases : (j : ℕ) → j ≤ length t → slice_get t j ≡ None → (j < length t) ⊎ (length t ≤ j) → j ≡ length t
+  at_length-cases j le none (inl lt) = let here = slice_get-get_or t j 0 lt in let clash = sym none ∙ here in cc
+  at_length-cases j le none (inr ge) = omega arith
+
+  -- where no byte is, the text ends
+  pub at_length : (j : ℕ) → j ≤ length t → slice_get t j ≡ None → j ≡ length t
+  at_length j le none = at_length-cases j le none (cases_lt j (length t))

@@ -1,6 +1,6 @@
 -- What is read is spelled so.
 use Rattle.std.proofs.Common.{◌≡◌, ℕ, zero, suc, ◌+◌, ◌<◌, ◌≤◌, Bool, List, [], ◌∷◌, ◌++◌, length, refl, sym, ap, ◌∙◌, subst, arith}
-use Rattle.std.specs.Prelude.{slice_get, slice_index, slice_range, Some}
+use Rattle.std.specs.Prelude.{slice_get, slice_index, Some}
 use Rattle.std.specs.Str.{chars}
 use Rattle.std.proofs.lemmas.Option.{slice_get-get_or, slice_get_within}
 use Rattle.std.proofs.lemmas.Bool.Decides.{nat_tests}
@@ -196,7 +196,7 @@ module _ (names : Bool) (t : List ℕ) (laws : ScalarLaws names t) where
   next-member room b i j e p ms k n so begins key is h = record {
     goes_on = λ l m rest f at lkey s r. subst (λ x. SpellsMembers names t (b + 1) x f) (sym (members-push ms k n (member l m rest)))
         (so.goes_on k n (member l m rest) f begins (subst (SpellsKey t k) (sym is.begins) key) is.spelled
-            (subst (λ x. SpellsMoreMembers names t x (member l m rest) f) (sym is.ends) (h.0, h.1, subst (IsBlank t h.0) (sym at) h.2.blanks, lkey, s, r)));
+        (subst (λ x. SpellsMoreMembers names t x (member l m rest) f) (sym is.ends) (h.0, h.1, subst (IsBlank t h.0) (sym at) h.2.blanks, lkey, s, r)));
     limit = members_nesting-push ms k n room so.limit is.limit;
   }
 
