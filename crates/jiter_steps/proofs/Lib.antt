@@ -20,3 +20,10 @@ pub mod StringLaws
 pub mod PlainRuns
 pub mod StringAnswers
 pub mod Instances
+pub mod ScalarLaws
+pub mod Nodes
+pub mod RowSteps
+pub mod Sound
+pub mod Mapped
+pub mod Complete
+pub mod Documents
