@@ -9,3 +9,4 @@ pub mod Read
 pub mod Node
 pub mod Cut
 pub mod Answer
+pub mod Extends
