@@ -11,3 +11,4 @@ mod Depth
 mod PartialAnswers
 mod CutAnywhere
 mod Skips
+mod Growing

@@ -15,11 +15,11 @@ use Rattle.jiter_steps.proofs.Rows.Trees.{borrowed, owned, listed, paired, text,
 use Rattle.jiter_steps.specs.Read.{done, fault, value_at, items_at, members_at, front_answer, whole_answer}
 use Rattle.jiter_steps.specs.Answer.{answer}
 
-a_person : answer true (10 ∷ (codes "{\"name\": \"John Doe\", \"age\": 43, \"phones\": [\"+44 1234567\", \"+44 2345678\"]}")) ≡ done (paired ((borrowed (codes "name"), text (codes "John Doe")) ∷ (borrowed (codes "age"), tree.int (pos 43)) ∷ (borrowed (codes "phones"), listed ((text (codes "+44 1234567")) ∷ (text (codes "+44 2345678")) ∷ [])) ∷ [])) 74
+a_person : answer true (10 ∷ (codes "{\"name\": \"John Doe\", \"age\": 43, \"phones\": [\"+44 1234567\", \"+44 2345678\"]}")) ≡ done (paired ((borrowed (codes "name"), text (codes "John Doe")) ∷ (borrowed (codes "age"), tree.int (pos 43)) ∷ (borrowed (codes "phones"), listed (text (codes "+44 1234567") ∷ text (codes "+44 2345678") ∷ [])) ∷ [])) 74
 unfolding whole_answer front_answer value_at items_at members_at past_blanks number_at word_at digit_run number_value content_at body_at body_within found_at utf8_valid_len utf8_error_len is_utf8 chars encode_utf8
 a_person = refl
 
-a_person_over_lines : answer true (10 ∷ (codes "{" ++ (10 ∷ (codes "    \"name\": \"John Doe\"," ++ (10 ∷ (codes "    \"age\": 43," ++ (10 ∷ (codes "    \"phones\": [" ++ (10 ∷ (codes "        \"+44 1234567\"," ++ (10 ∷ (codes "        \"+44 2345678\"" ++ (10 ∷ (codes "    ]" ++ (10 ∷ (codes "}")))))))))))))))) ≡ done (paired ((borrowed (codes "name"), text (codes "John Doe")) ∷ (borrowed (codes "age"), tree.int (pos 43)) ∷ (borrowed (codes "phones"), listed ((text (codes "+44 1234567")) ∷ (text (codes "+44 2345678")) ∷ [])) ∷ [])) 110
+a_person_over_lines : answer true (10 ∷ (codes "{" ++ (10 ∷ (codes "    \"name\": \"John Doe\"," ++ (10 ∷ (codes "    \"age\": 43," ++ (10 ∷ (codes "    \"phones\": [" ++ (10 ∷ (codes "        \"+44 1234567\"," ++ (10 ∷ (codes "        \"+44 2345678\"" ++ (10 ∷ (codes "    ]" ++ (10 ∷ (codes "}")))))))))))))))) ≡ done (paired ((borrowed (codes "name"), text (codes "John Doe")) ∷ (borrowed (codes "age"), tree.int (pos 43)) ∷ (borrowed (codes "phones"), listed (text (codes "+44 1234567") ∷ text (codes "+44 2345678") ∷ [])) ∷ [])) 110
 unfolding whole_answer front_answer value_at items_at members_at past_blanks number_at word_at digit_run number_value content_at body_at body_within found_at utf8_valid_len utf8_error_len is_utf8 chars encode_utf8
 a_person_over_lines = refl
 
@@ -33,7 +33,7 @@ two_blanks : answer false (codes "  ") ≡ fault eof_value 2 2
 unfolding whole_answer front_answer value_at items_at members_at past_blanks number_at word_at digit_run number_value content_at body_at body_within found_at utf8_valid_len utf8_error_len is_utf8 chars encode_utf8
 two_blanks = refl
 
-literals : answer false (codes " [true, [null, []], false]") ≡ done (listed ((tree.boolean true) ∷ (listed (tree.null ∷ (listed []) ∷ [])) ∷ (tree.boolean false) ∷ [])) 26
+literals : answer false (codes " [true, [null, []], false]") ≡ done (listed (tree.boolean true ∷ listed (tree.null ∷ listed [] ∷ []) ∷ tree.boolean false ∷ [])) 26
 unfolding whole_answer front_answer value_at items_at members_at past_blanks number_at word_at digit_run number_value content_at body_at body_within found_at utf8_valid_len utf8_error_len is_utf8 chars encode_utf8
 literals = refl
 
@@ -131,7 +131,7 @@ a_wrong_closer_within = refl
 
 -- numbers
 
-numbers : answer false (codes "[1.50, -0, 123456789012345678901234567890]") ≡ done (listed ((tree.float (borrowed (codes "1.50"))) ∷ (tree.int (pos 0)) ∷ (tree.big (borrowed (codes "123456789012345678901234567890"))) ∷ [])) 42
+numbers : answer false (codes "[1.50, -0, 123456789012345678901234567890]") ≡ done (listed (tree.float (borrowed (codes "1.50")) ∷ tree.int (pos 0) ∷ tree.big (borrowed (codes "123456789012345678901234567890")) ∷ [])) 42
 unfolding whole_answer front_answer value_at items_at members_at past_blanks number_at word_at digit_run number_value content_at body_at body_within found_at utf8_valid_len utf8_error_len is_utf8 chars encode_utf8
 numbers = refl
 
@@ -139,7 +139,7 @@ numbers_in_an_object : answer false (codes "  { \"int\": 1, \"bigint\": 12345678
 unfolding whole_answer front_answer value_at items_at members_at past_blanks number_at word_at digit_run number_value content_at body_at body_within found_at utf8_valid_len utf8_error_len is_utf8 chars encode_utf8
 numbers_in_an_object = refl
 
-the_ends_of_64_bits : answer false (codes "[9223372036854775807,-9223372036854775808,9223372036854775808]") ≡ done (listed ((tree.int (pos 9223372036854775807)) ∷ (tree.int (negsuc 9223372036854775807)) ∷ (tree.big (borrowed (codes "9223372036854775808"))) ∷ [])) 62
+the_ends_of_64_bits : answer false (codes "[9223372036854775807,-9223372036854775808,9223372036854775808]") ≡ done (listed (tree.int (pos 9223372036854775807) ∷ tree.int (negsuc 9223372036854775807) ∷ tree.big (borrowed (codes "9223372036854775808")) ∷ [])) 62
 unfolding whole_answer front_answer value_at items_at members_at past_blanks number_at word_at digit_run number_value content_at body_at body_within found_at utf8_valid_len utf8_error_len is_utf8 chars encode_utf8
 the_ends_of_64_bits = refl
 
@@ -183,7 +183,7 @@ a_wrong_name : answer true (codes "[Infinit]") ≡ fault expected_ident 8 1
 unfolding whole_answer front_answer value_at items_at members_at past_blanks number_at word_at digit_run number_value content_at body_at body_within found_at utf8_valid_len utf8_error_len is_utf8 chars encode_utf8
 a_wrong_name = refl
 
-texts_literals_and_names : answer true (codes "[\"string\", \"\\u00a3\", true, false, null, NaN, Infinity, -Infinity]") ≡ done (listed ((text (codes "string")) ∷ (own_text (194 ∷ 163 ∷ [])) ∷ (tree.boolean true) ∷ (tree.boolean false) ∷ tree.null ∷ (tree.float (borrowed (codes "NaN"))) ∷ (tree.float (borrowed (codes "Infinity"))) ∷ (tree.float (borrowed (codes "-Infinity"))) ∷ [])) 65
+texts_literals_and_names : answer true (codes "[\"string\", \"\\u00a3\", true, false, null, NaN, Infinity, -Infinity]") ≡ done (listed (text (codes "string") ∷ own_text (194 ∷ 163 ∷ []) ∷ tree.boolean true ∷ tree.boolean false ∷ tree.null ∷ tree.float (borrowed (codes "NaN")) ∷ tree.float (borrowed (codes "Infinity")) ∷ tree.float (borrowed (codes "-Infinity")) ∷ [])) 65
 unfolding whole_answer front_answer value_at items_at members_at past_blanks number_at word_at digit_run number_value content_at body_at body_within found_at utf8_valid_len utf8_error_len is_utf8 chars encode_utf8
 texts_literals_and_names = refl
 
@@ -283,7 +283,7 @@ fifteen_letters_and_a_line_feed = refl
 
 -- objects
 
-an_escape_within : answer false (codes "{\"a\": [1, 2.50, \"\\n\"]}") ≡ done (paired ((borrowed (codes "a"), listed ((tree.int (pos 1)) ∷ (tree.float (borrowed (codes "2.50"))) ∷ (own_text (10 ∷ [])) ∷ [])) ∷ [])) 22
+an_escape_within : answer false (codes "{\"a\": [1, 2.50, \"\\n\"]}") ≡ done (paired ((borrowed (codes "a"), listed (tree.int (pos 1) ∷ tree.float (borrowed (codes "2.50")) ∷ own_text (10 ∷ []) ∷ [])) ∷ [])) 22
 unfolding whole_answer front_answer value_at items_at members_at past_blanks number_at word_at digit_run number_value content_at body_at body_within found_at utf8_valid_len utf8_error_len is_utf8 chars encode_utf8
 an_escape_within = refl
 
@@ -292,7 +292,7 @@ a_repeated_key : answer false (codes "{\"a\":1,\"\\u0061\":2}") ≡ done (paired
 unfolding whole_answer front_answer value_at items_at members_at past_blanks number_at word_at digit_run number_value content_at body_at body_within found_at utf8_valid_len utf8_error_len is_utf8 chars encode_utf8
 a_repeated_key = refl
 
-nested_containers : answer false (codes "[[1,[2,3]],{\"a\":[4,{\"b\":5}],\"c\":[]},6]") ≡ done (listed ((listed ((tree.int (pos 1)) ∷ (listed ((tree.int (pos 2)) ∷ (tree.int (pos 3)) ∷ [])) ∷ [])) ∷ (paired ((borrowed (codes "a"), listed ((tree.int (pos 4)) ∷ (paired ((borrowed (codes "b"), tree.int (pos 5)) ∷ [])) ∷ [])) ∷ (borrowed (codes "c"), listed []) ∷ [])) ∷ (tree.int (pos 6)) ∷ [])) 38
+nested_containers : answer false (codes "[[1,[2,3]],{\"a\":[4,{\"b\":5}],\"c\":[]},6]") ≡ done (listed (listed (tree.int (pos 1) ∷ listed (tree.int (pos 2) ∷ tree.int (pos 3) ∷ []) ∷ []) ∷ paired ((borrowed (codes "a"), listed (tree.int (pos 4) ∷ paired ((borrowed (codes "b"), tree.int (pos 5)) ∷ []) ∷ [])) ∷ (borrowed (codes "c"), listed []) ∷ []) ∷ tree.int (pos 6) ∷ [])) 38
 unfolding whole_answer front_answer value_at items_at members_at past_blanks number_at word_at digit_run number_value content_at body_at body_within found_at utf8_valid_len utf8_error_len is_utf8 chars encode_utf8
 nested_containers = refl
 

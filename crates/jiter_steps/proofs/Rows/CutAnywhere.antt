@@ -41,11 +41,11 @@ it_is_read_as_its_node : whole_answer (nodes false) source ≡ done document 21
 unfolding whole_answer front_answer value_at items_at members_at past_blanks number_at word_at digit_run number_value content_at body_at body_within found_at utf8_valid_len utf8_error_len is_utf8 chars encode_utf8
 it_is_read_as_its_node = refl
 
-its_value : value_of source document ≡ listed ((tree.int (pos 12)) ∷ (text (97 ∷ 195 ∷ 169 ∷ [])) ∷ (paired ((borrowed (codes "k"), tree.boolean true) ∷ [])) ∷ [])
+its_value : value_of source document ≡ listed (tree.int (pos 12) ∷ text (97 ∷ 195 ∷ 169 ∷ []) ∷ paired ((borrowed (codes "k"), tree.boolean true) ∷ []) ∷ [])
 unfolding number_value content_at body_at body_within found_at utf8_valid_len utf8_error_len is_utf8 chars encode_utf8
 its_value = refl
 
-it_is_read_whole : answer false source ≡ done (listed ((tree.int (pos 12)) ∷ (text (97 ∷ 195 ∷ 169 ∷ [])) ∷ (paired ((borrowed (codes "k"), tree.boolean true) ∷ [])) ∷ [])) 21
+it_is_read_whole : answer false source ≡ done (listed (tree.int (pos 12) ∷ text (97 ∷ 195 ∷ 169 ∷ []) ∷ paired ((borrowed (codes "k"), tree.boolean true) ∷ []) ∷ [])) 21
 unfolding whole_answer front_answer value_at items_at members_at past_blanks number_at word_at digit_run number_value content_at body_at body_within found_at utf8_valid_len utf8_error_len is_utf8 chars encode_utf8
 it_is_read_whole = refl
 
@@ -95,19 +95,19 @@ one_read_whole = refl
 
 -- before byte 2
 
-two_cut_kept : cut false source document 2 On ≡ Some (listed ((tree.int (pos 1)) ∷ []))
+two_cut_kept : cut false source document 2 On ≡ Some (listed (tree.int (pos 1) ∷ []))
 unfolding is_number_text number_value encode_utf8
 two_cut_kept = refl
 
-two_read_kept : partial_answer false On (take 2 source) ≡ done (listed ((tree.int (pos 1)) ∷ [])) 2
+two_read_kept : partial_answer false On (take 2 source) ≡ done (listed (tree.int (pos 1) ∷ [])) 2
 unfolding whole_answer front_answer value_at items_at members_at past_blanks number_at word_at digit_run number_value content_at body_at body_within found_at utf8_valid_len utf8_error_len is_utf8 chars encode_utf8
 two_read_kept = refl
 
-two_cut_with_strings : cut false source document 2 TrailingStrings ≡ Some (listed ((tree.int (pos 1)) ∷ []))
+two_cut_with_strings : cut false source document 2 TrailingStrings ≡ Some (listed (tree.int (pos 1) ∷ []))
 unfolding is_number_text number_value encode_utf8
 two_cut_with_strings = refl
 
-two_read_with_strings : partial_answer false TrailingStrings (take 2 source) ≡ done (listed ((tree.int (pos 1)) ∷ [])) 2
+two_read_with_strings : partial_answer false TrailingStrings (take 2 source) ≡ done (listed (tree.int (pos 1) ∷ [])) 2
 unfolding whole_answer front_answer value_at items_at members_at past_blanks number_at word_at digit_run number_value content_at body_at body_within found_at utf8_valid_len utf8_error_len is_utf8 chars encode_utf8
 two_read_with_strings = refl
 
@@ -117,19 +117,19 @@ two_read_whole = refl
 
 -- before byte 3
 
-three_cut_kept : cut false source document 3 On ≡ Some (listed ((tree.int (pos 12)) ∷ []))
+three_cut_kept : cut false source document 3 On ≡ Some (listed (tree.int (pos 12) ∷ []))
 unfolding is_number_text number_value encode_utf8
 three_cut_kept = refl
 
-three_read_kept : partial_answer false On (take 3 source) ≡ done (listed ((tree.int (pos 12)) ∷ [])) 3
+three_read_kept : partial_answer false On (take 3 source) ≡ done (listed (tree.int (pos 12) ∷ [])) 3
 unfolding whole_answer front_answer value_at items_at members_at past_blanks number_at word_at digit_run number_value content_at body_at body_within found_at utf8_valid_len utf8_error_len is_utf8 chars encode_utf8
 three_read_kept = refl
 
-three_cut_with_strings : cut false source document 3 TrailingStrings ≡ Some (listed ((tree.int (pos 12)) ∷ []))
+three_cut_with_strings : cut false source document 3 TrailingStrings ≡ Some (listed (tree.int (pos 12) ∷ []))
 unfolding is_number_text number_value encode_utf8
 three_cut_with_strings = refl
 
-three_read_with_strings : partial_answer false TrailingStrings (take 3 source) ≡ done (listed ((tree.int (pos 12)) ∷ [])) 3
+three_read_with_strings : partial_answer false TrailingStrings (take 3 source) ≡ done (listed (tree.int (pos 12) ∷ [])) 3
 unfolding whole_answer front_answer value_at items_at members_at past_blanks number_at word_at digit_run number_value content_at body_at body_within found_at utf8_valid_len utf8_error_len is_utf8 chars encode_utf8
 three_read_with_strings = refl
 
@@ -139,19 +139,19 @@ three_read_whole = refl
 
 -- before byte 4
 
-four_cut_kept : cut false source document 4 On ≡ Some (listed ((tree.int (pos 12)) ∷ []))
+four_cut_kept : cut false source document 4 On ≡ Some (listed (tree.int (pos 12) ∷ []))
 unfolding is_number_text number_value encode_utf8
 four_cut_kept = refl
 
-four_read_kept : partial_answer false On (take 4 source) ≡ done (listed ((tree.int (pos 12)) ∷ [])) 4
+four_read_kept : partial_answer false On (take 4 source) ≡ done (listed (tree.int (pos 12) ∷ [])) 4
 unfolding whole_answer front_answer value_at items_at members_at past_blanks number_at word_at digit_run number_value content_at body_at body_within found_at utf8_valid_len utf8_error_len is_utf8 chars encode_utf8
 four_read_kept = refl
 
-four_cut_with_strings : cut false source document 4 TrailingStrings ≡ Some (listed ((tree.int (pos 12)) ∷ []))
+four_cut_with_strings : cut false source document 4 TrailingStrings ≡ Some (listed (tree.int (pos 12) ∷ []))
 unfolding is_number_text number_value encode_utf8
 four_cut_with_strings = refl
 
-four_read_with_strings : partial_answer false TrailingStrings (take 4 source) ≡ done (listed ((tree.int (pos 12)) ∷ [])) 4
+four_read_with_strings : partial_answer false TrailingStrings (take 4 source) ≡ done (listed (tree.int (pos 12) ∷ [])) 4
 unfolding whole_answer front_answer value_at items_at members_at past_blanks number_at word_at digit_run number_value content_at body_at body_within found_at utf8_valid_len utf8_error_len is_utf8 chars encode_utf8
 four_read_with_strings = refl
 
@@ -161,19 +161,19 @@ four_read_whole = refl
 
 -- before byte 5
 
-five_cut_kept : cut false source document 5 On ≡ Some (listed ((tree.int (pos 12)) ∷ []))
+five_cut_kept : cut false source document 5 On ≡ Some (listed (tree.int (pos 12) ∷ []))
 unfolding is_number_text number_value encode_utf8
 five_cut_kept = refl
 
-five_read_kept : partial_answer false On (take 5 source) ≡ done (listed ((tree.int (pos 12)) ∷ [])) 4
+five_read_kept : partial_answer false On (take 5 source) ≡ done (listed (tree.int (pos 12) ∷ [])) 4
 unfolding whole_answer front_answer value_at items_at members_at past_blanks number_at word_at digit_run number_value content_at body_at body_within found_at utf8_valid_len utf8_error_len is_utf8 chars encode_utf8
 five_read_kept = refl
 
-five_cut_with_strings : cut false source document 5 TrailingStrings ≡ Some (listed ((tree.int (pos 12)) ∷ (text []) ∷ []))
+five_cut_with_strings : cut false source document 5 TrailingStrings ≡ Some (listed (tree.int (pos 12) ∷ text [] ∷ []))
 unfolding is_number_text number_value encode_utf8
 five_cut_with_strings = refl
 
-five_read_with_strings : partial_answer false TrailingStrings (take 5 source) ≡ done (listed ((tree.int (pos 12)) ∷ (text []) ∷ [])) 5
+five_read_with_strings : partial_answer false TrailingStrings (take 5 source) ≡ done (listed (tree.int (pos 12) ∷ text [] ∷ [])) 5
 unfolding whole_answer front_answer value_at items_at members_at past_blanks number_at word_at digit_run number_value content_at body_at body_within found_at utf8_valid_len utf8_error_len is_utf8 chars encode_utf8
 five_read_with_strings = refl
 
@@ -183,19 +183,19 @@ five_read_whole = refl
 
 -- before byte 6
 
-six_cut_kept : cut false source document 6 On ≡ Some (listed ((tree.int (pos 12)) ∷ []))
+six_cut_kept : cut false source document 6 On ≡ Some (listed (tree.int (pos 12) ∷ []))
 unfolding is_number_text number_value encode_utf8
 six_cut_kept = refl
 
-six_read_kept : partial_answer false On (take 6 source) ≡ done (listed ((tree.int (pos 12)) ∷ [])) 4
+six_read_kept : partial_answer false On (take 6 source) ≡ done (listed (tree.int (pos 12) ∷ [])) 4
 unfolding whole_answer front_answer value_at items_at members_at past_blanks number_at word_at digit_run number_value content_at body_at body_within found_at utf8_valid_len utf8_error_len is_utf8 chars encode_utf8
 six_read_kept = refl
 
-six_cut_with_strings : cut false source document 6 TrailingStrings ≡ Some (listed ((tree.int (pos 12)) ∷ (text (codes "a")) ∷ []))
+six_cut_with_strings : cut false source document 6 TrailingStrings ≡ Some (listed (tree.int (pos 12) ∷ text (codes "a") ∷ []))
 unfolding is_number_text number_value encode_utf8
 six_cut_with_strings = refl
 
-six_read_with_strings : partial_answer false TrailingStrings (take 6 source) ≡ done (listed ((tree.int (pos 12)) ∷ (text (codes "a")) ∷ [])) 6
+six_read_with_strings : partial_answer false TrailingStrings (take 6 source) ≡ done (listed (tree.int (pos 12) ∷ text (codes "a") ∷ [])) 6
 unfolding whole_answer front_answer value_at items_at members_at past_blanks number_at word_at digit_run number_value content_at body_at body_within found_at utf8_valid_len utf8_error_len is_utf8 chars encode_utf8
 six_read_with_strings = refl
 
@@ -205,19 +205,19 @@ six_read_whole = refl
 
 -- before byte 7
 
-seven_cut_kept : cut false source document 7 On ≡ Some (listed ((tree.int (pos 12)) ∷ []))
+seven_cut_kept : cut false source document 7 On ≡ Some (listed (tree.int (pos 12) ∷ []))
 unfolding is_number_text number_value encode_utf8
 seven_cut_kept = refl
 
-seven_read_kept : partial_answer false On (take 7 source) ≡ done (listed ((tree.int (pos 12)) ∷ [])) 4
+seven_read_kept : partial_answer false On (take 7 source) ≡ done (listed (tree.int (pos 12) ∷ [])) 4
 unfolding whole_answer front_answer value_at items_at members_at past_blanks number_at word_at digit_run number_value content_at body_at body_within found_at utf8_valid_len utf8_error_len is_utf8 chars encode_utf8
 seven_read_kept = refl
 
-seven_cut_with_strings : cut false source document 7 TrailingStrings ≡ Some (listed ((tree.int (pos 12)) ∷ (text (codes "a")) ∷ []))
+seven_cut_with_strings : cut false source document 7 TrailingStrings ≡ Some (listed (tree.int (pos 12) ∷ text (codes "a") ∷ []))
 unfolding is_number_text number_value encode_utf8
 seven_cut_with_strings = refl
 
-seven_read_with_strings : partial_answer false TrailingStrings (take 7 source) ≡ done (listed ((tree.int (pos 12)) ∷ (text (codes "a")) ∷ [])) 7
+seven_read_with_strings : partial_answer false TrailingStrings (take 7 source) ≡ done (listed (tree.int (pos 12) ∷ text (codes "a") ∷ [])) 7
 unfolding whole_answer front_answer value_at items_at members_at past_blanks number_at word_at digit_run number_value content_at body_at body_within found_at utf8_valid_len utf8_error_len is_utf8 chars encode_utf8
 seven_read_with_strings = refl
 
@@ -227,19 +227,19 @@ seven_read_whole = refl
 
 -- before byte 8
 
-eight_cut_kept : cut false source document 8 On ≡ Some (listed ((tree.int (pos 12)) ∷ []))
+eight_cut_kept : cut false source document 8 On ≡ Some (listed (tree.int (pos 12) ∷ []))
 unfolding is_number_text number_value encode_utf8
 eight_cut_kept = refl
 
-eight_read_kept : partial_answer false On (take 8 source) ≡ done (listed ((tree.int (pos 12)) ∷ [])) 4
+eight_read_kept : partial_answer false On (take 8 source) ≡ done (listed (tree.int (pos 12) ∷ [])) 4
 unfolding whole_answer front_answer value_at items_at members_at past_blanks number_at word_at digit_run number_value content_at body_at body_within found_at utf8_valid_len utf8_error_len is_utf8 chars encode_utf8
 eight_read_kept = refl
 
-eight_cut_with_strings : cut false source document 8 TrailingStrings ≡ Some (listed ((tree.int (pos 12)) ∷ (text (97 ∷ 195 ∷ 169 ∷ [])) ∷ []))
+eight_cut_with_strings : cut false source document 8 TrailingStrings ≡ Some (listed (tree.int (pos 12) ∷ text (97 ∷ 195 ∷ 169 ∷ []) ∷ []))
 unfolding is_number_text number_value encode_utf8
 eight_cut_with_strings = refl
 
-eight_read_with_strings : partial_answer false TrailingStrings (take 8 source) ≡ done (listed ((tree.int (pos 12)) ∷ (text (97 ∷ 195 ∷ 169 ∷ [])) ∷ [])) 8
+eight_read_with_strings : partial_answer false TrailingStrings (take 8 source) ≡ done (listed (tree.int (pos 12) ∷ text (97 ∷ 195 ∷ 169 ∷ []) ∷ [])) 8
 unfolding whole_answer front_answer value_at items_at members_at past_blanks number_at word_at digit_run number_value content_at body_at body_within found_at utf8_valid_len utf8_error_len is_utf8 chars encode_utf8
 eight_read_with_strings = refl
 
@@ -249,19 +249,19 @@ eight_read_whole = refl
 
 -- before byte 9
 
-nine_cut_kept : cut false source document 9 On ≡ Some (listed ((tree.int (pos 12)) ∷ (text (97 ∷ 195 ∷ 169 ∷ [])) ∷ []))
+nine_cut_kept : cut false source document 9 On ≡ Some (listed (tree.int (pos 12) ∷ text (97 ∷ 195 ∷ 169 ∷ []) ∷ []))
 unfolding is_number_text number_value encode_utf8
 nine_cut_kept = refl
 
-nine_read_kept : partial_answer false On (take 9 source) ≡ done (listed ((tree.int (pos 12)) ∷ (text (97 ∷ 195 ∷ 169 ∷ [])) ∷ [])) 9
+nine_read_kept : partial_answer false On (take 9 source) ≡ done (listed (tree.int (pos 12) ∷ text (97 ∷ 195 ∷ 169 ∷ []) ∷ [])) 9
 unfolding whole_answer front_answer value_at items_at members_at past_blanks number_at word_at digit_run number_value content_at body_at body_within found_at utf8_valid_len utf8_error_len is_utf8 chars encode_utf8
 nine_read_kept = refl
 
-nine_cut_with_strings : cut false source document 9 TrailingStrings ≡ Some (listed ((tree.int (pos 12)) ∷ (text (97 ∷ 195 ∷ 169 ∷ [])) ∷ []))
+nine_cut_with_strings : cut false source document 9 TrailingStrings ≡ Some (listed (tree.int (pos 12) ∷ text (97 ∷ 195 ∷ 169 ∷ []) ∷ []))
 unfolding is_number_text number_value encode_utf8
 nine_cut_with_strings = refl
 
-nine_read_with_strings : partial_answer false TrailingStrings (take 9 source) ≡ done (listed ((tree.int (pos 12)) ∷ (text (97 ∷ 195 ∷ 169 ∷ [])) ∷ [])) 9
+nine_read_with_strings : partial_answer false TrailingStrings (take 9 source) ≡ done (listed (tree.int (pos 12) ∷ text (97 ∷ 195 ∷ 169 ∷ []) ∷ [])) 9
 unfolding whole_answer front_answer value_at items_at members_at past_blanks number_at word_at digit_run number_value content_at body_at body_within found_at utf8_valid_len utf8_error_len is_utf8 chars encode_utf8
 nine_read_with_strings = refl
 
@@ -271,19 +271,19 @@ nine_read_whole = refl
 
 -- before byte 10
 
-ten_cut_kept : cut false source document 10 On ≡ Some (listed ((tree.int (pos 12)) ∷ (text (97 ∷ 195 ∷ 169 ∷ [])) ∷ []))
+ten_cut_kept : cut false source document 10 On ≡ Some (listed (tree.int (pos 12) ∷ text (97 ∷ 195 ∷ 169 ∷ []) ∷ []))
 unfolding is_number_text number_value encode_utf8
 ten_cut_kept = refl
 
-ten_read_kept : partial_answer false On (take 10 source) ≡ done (listed ((tree.int (pos 12)) ∷ (text (97 ∷ 195 ∷ 169 ∷ [])) ∷ [])) 10
+ten_read_kept : partial_answer false On (take 10 source) ≡ done (listed (tree.int (pos 12) ∷ text (97 ∷ 195 ∷ 169 ∷ []) ∷ [])) 10
 unfolding whole_answer front_answer value_at items_at members_at past_blanks number_at word_at digit_run number_value content_at body_at body_within found_at utf8_valid_len utf8_error_len is_utf8 chars encode_utf8
 ten_read_kept = refl
 
-ten_cut_with_strings : cut false source document 10 TrailingStrings ≡ Some (listed ((tree.int (pos 12)) ∷ (text (97 ∷ 195 ∷ 169 ∷ [])) ∷ []))
+ten_cut_with_strings : cut false source document 10 TrailingStrings ≡ Some (listed (tree.int (pos 12) ∷ text (97 ∷ 195 ∷ 169 ∷ []) ∷ []))
 unfolding is_number_text number_value encode_utf8
 ten_cut_with_strings = refl
 
-ten_read_with_strings : partial_answer false TrailingStrings (take 10 source) ≡ done (listed ((tree.int (pos 12)) ∷ (text (97 ∷ 195 ∷ 169 ∷ [])) ∷ [])) 10
+ten_read_with_strings : partial_answer false TrailingStrings (take 10 source) ≡ done (listed (tree.int (pos 12) ∷ text (97 ∷ 195 ∷ 169 ∷ []) ∷ [])) 10
 unfolding whole_answer front_answer value_at items_at members_at past_blanks number_at word_at digit_run number_value content_at body_at body_within found_at utf8_valid_len utf8_error_len is_utf8 chars encode_utf8
 ten_read_with_strings = refl
 
@@ -293,19 +293,19 @@ ten_read_whole = refl
 
 -- before byte 11
 
-eleven_cut_kept : cut false source document 11 On ≡ Some (listed ((tree.int (pos 12)) ∷ (text (97 ∷ 195 ∷ 169 ∷ [])) ∷ (paired []) ∷ []))
+eleven_cut_kept : cut false source document 11 On ≡ Some (listed (tree.int (pos 12) ∷ text (97 ∷ 195 ∷ 169 ∷ []) ∷ paired [] ∷ []))
 unfolding is_number_text number_value encode_utf8
 eleven_cut_kept = refl
 
-eleven_read_kept : partial_answer false On (take 11 source) ≡ done (listed ((tree.int (pos 12)) ∷ (text (97 ∷ 195 ∷ 169 ∷ [])) ∷ (paired []) ∷ [])) 11
+eleven_read_kept : partial_answer false On (take 11 source) ≡ done (listed (tree.int (pos 12) ∷ text (97 ∷ 195 ∷ 169 ∷ []) ∷ paired [] ∷ [])) 11
 unfolding whole_answer front_answer value_at items_at members_at past_blanks number_at word_at digit_run number_value content_at body_at body_within found_at utf8_valid_len utf8_error_len is_utf8 chars encode_utf8
 eleven_read_kept = refl
 
-eleven_cut_with_strings : cut false source document 11 TrailingStrings ≡ Some (listed ((tree.int (pos 12)) ∷ (text (97 ∷ 195 ∷ 169 ∷ [])) ∷ (paired []) ∷ []))
+eleven_cut_with_strings : cut false source document 11 TrailingStrings ≡ Some (listed (tree.int (pos 12) ∷ text (97 ∷ 195 ∷ 169 ∷ []) ∷ paired [] ∷ []))
 unfolding is_number_text number_value encode_utf8
 eleven_cut_with_strings = refl
 
-eleven_read_with_strings : partial_answer false TrailingStrings (take 11 source) ≡ done (listed ((tree.int (pos 12)) ∷ (text (97 ∷ 195 ∷ 169 ∷ [])) ∷ (paired []) ∷ [])) 11
+eleven_read_with_strings : partial_answer false TrailingStrings (take 11 source) ≡ done (listed (tree.int (pos 12) ∷ text (97 ∷ 195 ∷ 169 ∷ []) ∷ paired [] ∷ [])) 11
 unfolding whole_answer front_answer value_at items_at members_at past_blanks number_at word_at digit_run number_value content_at body_at body_within found_at utf8_valid_len utf8_error_len is_utf8 chars encode_utf8
 eleven_read_with_strings = refl
 
@@ -315,19 +315,19 @@ eleven_read_whole = refl
 
 -- before byte 12
 
-twelve_cut_kept : cut false source document 12 On ≡ Some (listed ((tree.int (pos 12)) ∷ (text (97 ∷ 195 ∷ 169 ∷ [])) ∷ (paired []) ∷ []))
+twelve_cut_kept : cut false source document 12 On ≡ Some (listed (tree.int (pos 12) ∷ text (97 ∷ 195 ∷ 169 ∷ []) ∷ paired [] ∷ []))
 unfolding is_number_text number_value encode_utf8
 twelve_cut_kept = refl
 
-twelve_read_kept : partial_answer false On (take 12 source) ≡ done (listed ((tree.int (pos 12)) ∷ (text (97 ∷ 195 ∷ 169 ∷ [])) ∷ (paired []) ∷ [])) 11
+twelve_read_kept : partial_answer false On (take 12 source) ≡ done (listed (tree.int (pos 12) ∷ text (97 ∷ 195 ∷ 169 ∷ []) ∷ paired [] ∷ [])) 11
 unfolding whole_answer front_answer value_at items_at members_at past_blanks number_at word_at digit_run number_value content_at body_at body_within found_at utf8_valid_len utf8_error_len is_utf8 chars encode_utf8
 twelve_read_kept = refl
 
-twelve_cut_with_strings : cut false source document 12 TrailingStrings ≡ Some (listed ((tree.int (pos 12)) ∷ (text (97 ∷ 195 ∷ 169 ∷ [])) ∷ (paired []) ∷ []))
+twelve_cut_with_strings : cut false source document 12 TrailingStrings ≡ Some (listed (tree.int (pos 12) ∷ text (97 ∷ 195 ∷ 169 ∷ []) ∷ paired [] ∷ []))
 unfolding is_number_text number_value encode_utf8
 twelve_cut_with_strings = refl
 
-twelve_read_with_strings : partial_answer false TrailingStrings (take 12 source) ≡ done (listed ((tree.int (pos 12)) ∷ (text (97 ∷ 195 ∷ 169 ∷ [])) ∷ (paired []) ∷ [])) 11
+twelve_read_with_strings : partial_answer false TrailingStrings (take 12 source) ≡ done (listed (tree.int (pos 12) ∷ text (97 ∷ 195 ∷ 169 ∷ []) ∷ paired [] ∷ [])) 11
 unfolding whole_answer front_answer value_at items_at members_at past_blanks number_at word_at digit_run number_value content_at body_at body_within found_at utf8_valid_len utf8_error_len is_utf8 chars encode_utf8
 twelve_read_with_strings = refl
 
@@ -337,19 +337,19 @@ twelve_read_whole = refl
 
 -- before byte 13
 
-thirteen_cut_kept : cut false source document 13 On ≡ Some (listed ((tree.int (pos 12)) ∷ (text (97 ∷ 195 ∷ 169 ∷ [])) ∷ (paired []) ∷ []))
+thirteen_cut_kept : cut false source document 13 On ≡ Some (listed (tree.int (pos 12) ∷ text (97 ∷ 195 ∷ 169 ∷ []) ∷ paired [] ∷ []))
 unfolding is_number_text number_value encode_utf8
 thirteen_cut_kept = refl
 
-thirteen_read_kept : partial_answer false On (take 13 source) ≡ done (listed ((tree.int (pos 12)) ∷ (text (97 ∷ 195 ∷ 169 ∷ [])) ∷ (paired []) ∷ [])) 11
+thirteen_read_kept : partial_answer false On (take 13 source) ≡ done (listed (tree.int (pos 12) ∷ text (97 ∷ 195 ∷ 169 ∷ []) ∷ paired [] ∷ [])) 11
 unfolding whole_answer front_answer value_at items_at members_at past_blanks number_at word_at digit_run number_value content_at body_at body_within found_at utf8_valid_len utf8_error_len is_utf8 chars encode_utf8
 thirteen_read_kept = refl
 
-thirteen_cut_with_strings : cut false source document 13 TrailingStrings ≡ Some (listed ((tree.int (pos 12)) ∷ (text (97 ∷ 195 ∷ 169 ∷ [])) ∷ (paired []) ∷ []))
+thirteen_cut_with_strings : cut false source document 13 TrailingStrings ≡ Some (listed (tree.int (pos 12) ∷ text (97 ∷ 195 ∷ 169 ∷ []) ∷ paired [] ∷ []))
 unfolding is_number_text number_value encode_utf8
 thirteen_cut_with_strings = refl
 
-thirteen_read_with_strings : partial_answer false TrailingStrings (take 13 source) ≡ done (listed ((tree.int (pos 12)) ∷ (text (97 ∷ 195 ∷ 169 ∷ [])) ∷ (paired []) ∷ [])) 11
+thirteen_read_with_strings : partial_answer false TrailingStrings (take 13 source) ≡ done (listed (tree.int (pos 12) ∷ text (97 ∷ 195 ∷ 169 ∷ []) ∷ paired [] ∷ [])) 11
 unfolding whole_answer front_answer value_at items_at members_at past_blanks number_at word_at digit_run number_value content_at body_at body_within found_at utf8_valid_len utf8_error_len is_utf8 chars encode_utf8
 thirteen_read_with_strings = refl
 
@@ -359,19 +359,19 @@ thirteen_read_whole = refl
 
 -- before byte 14
 
-fourteen_cut_kept : cut false source document 14 On ≡ Some (listed ((tree.int (pos 12)) ∷ (text (97 ∷ 195 ∷ 169 ∷ [])) ∷ (paired []) ∷ []))
+fourteen_cut_kept : cut false source document 14 On ≡ Some (listed (tree.int (pos 12) ∷ text (97 ∷ 195 ∷ 169 ∷ []) ∷ paired [] ∷ []))
 unfolding is_number_text number_value encode_utf8
 fourteen_cut_kept = refl
 
-fourteen_read_kept : partial_answer false On (take 14 source) ≡ done (listed ((tree.int (pos 12)) ∷ (text (97 ∷ 195 ∷ 169 ∷ [])) ∷ (paired []) ∷ [])) 14
+fourteen_read_kept : partial_answer false On (take 14 source) ≡ done (listed (tree.int (pos 12) ∷ text (97 ∷ 195 ∷ 169 ∷ []) ∷ paired [] ∷ [])) 14
 unfolding whole_answer front_answer value_at items_at members_at past_blanks number_at word_at digit_run number_value content_at body_at body_within found_at utf8_valid_len utf8_error_len is_utf8 chars encode_utf8
 fourteen_read_kept = refl
 
-fourteen_cut_with_strings : cut false source document 14 TrailingStrings ≡ Some (listed ((tree.int (pos 12)) ∷ (text (97 ∷ 195 ∷ 169 ∷ [])) ∷ (paired []) ∷ []))
+fourteen_cut_with_strings : cut false source document 14 TrailingStrings ≡ Some (listed (tree.int (pos 12) ∷ text (97 ∷ 195 ∷ 169 ∷ []) ∷ paired [] ∷ []))
 unfolding is_number_text number_value encode_utf8
 fourteen_cut_with_strings = refl
 
-fourteen_read_with_strings : partial_answer false TrailingStrings (take 14 source) ≡ done (listed ((tree.int (pos 12)) ∷ (text (97 ∷ 195 ∷ 169 ∷ [])) ∷ (paired []) ∷ [])) 14
+fourteen_read_with_strings : partial_answer false TrailingStrings (take 14 source) ≡ done (listed (tree.int (pos 12) ∷ text (97 ∷ 195 ∷ 169 ∷ []) ∷ paired [] ∷ [])) 14
 unfolding whole_answer front_answer value_at items_at members_at past_blanks number_at word_at digit_run number_value content_at body_at body_within found_at utf8_valid_len utf8_error_len is_utf8 chars encode_utf8
 fourteen_read_with_strings = refl
 
@@ -381,19 +381,19 @@ fourteen_read_whole = refl
 
 -- before byte 15
 
-fifteen_cut_kept : cut false source document 15 On ≡ Some (listed ((tree.int (pos 12)) ∷ (text (97 ∷ 195 ∷ 169 ∷ [])) ∷ (paired []) ∷ []))
+fifteen_cut_kept : cut false source document 15 On ≡ Some (listed (tree.int (pos 12) ∷ text (97 ∷ 195 ∷ 169 ∷ []) ∷ paired [] ∷ []))
 unfolding is_number_text number_value encode_utf8
 fifteen_cut_kept = refl
 
-fifteen_read_kept : partial_answer false On (take 15 source) ≡ done (listed ((tree.int (pos 12)) ∷ (text (97 ∷ 195 ∷ 169 ∷ [])) ∷ (paired []) ∷ [])) 15
+fifteen_read_kept : partial_answer false On (take 15 source) ≡ done (listed (tree.int (pos 12) ∷ text (97 ∷ 195 ∷ 169 ∷ []) ∷ paired [] ∷ [])) 15
 unfolding whole_answer front_answer value_at items_at members_at past_blanks number_at word_at digit_run number_value content_at body_at body_within found_at utf8_valid_len utf8_error_len is_utf8 chars encode_utf8
 fifteen_read_kept = refl
 
-fifteen_cut_with_strings : cut false source document 15 TrailingStrings ≡ Some (listed ((tree.int (pos 12)) ∷ (text (97 ∷ 195 ∷ 169 ∷ [])) ∷ (paired []) ∷ []))
+fifteen_cut_with_strings : cut false source document 15 TrailingStrings ≡ Some (listed (tree.int (pos 12) ∷ text (97 ∷ 195 ∷ 169 ∷ []) ∷ paired [] ∷ []))
 unfolding is_number_text number_value encode_utf8
 fifteen_cut_with_strings = refl
 
-fifteen_read_with_strings : partial_answer false TrailingStrings (take 15 source) ≡ done (listed ((tree.int (pos 12)) ∷ (text (97 ∷ 195 ∷ 169 ∷ [])) ∷ (paired []) ∷ [])) 15
+fifteen_read_with_strings : partial_answer false TrailingStrings (take 15 source) ≡ done (listed (tree.int (pos 12) ∷ text (97 ∷ 195 ∷ 169 ∷ []) ∷ paired [] ∷ [])) 15
 unfolding whole_answer front_answer value_at items_at members_at past_blanks number_at word_at digit_run number_value content_at body_at body_within found_at utf8_valid_len utf8_error_len is_utf8 chars encode_utf8
 fifteen_read_with_strings = refl
 
@@ -403,19 +403,19 @@ fifteen_read_whole = refl
 
 -- before byte 16
 
-sixteen_cut_kept : cut false source document 16 On ≡ Some (listed ((tree.int (pos 12)) ∷ (text (97 ∷ 195 ∷ 169 ∷ [])) ∷ (paired []) ∷ []))
+sixteen_cut_kept : cut false source document 16 On ≡ Some (listed (tree.int (pos 12) ∷ text (97 ∷ 195 ∷ 169 ∷ []) ∷ paired [] ∷ []))
 unfolding is_number_text number_value encode_utf8
 sixteen_cut_kept = refl
 
-sixteen_read_kept : partial_answer false On (take 16 source) ≡ done (listed ((tree.int (pos 12)) ∷ (text (97 ∷ 195 ∷ 169 ∷ [])) ∷ (paired []) ∷ [])) 15
+sixteen_read_kept : partial_answer false On (take 16 source) ≡ done (listed (tree.int (pos 12) ∷ text (97 ∷ 195 ∷ 169 ∷ []) ∷ paired [] ∷ [])) 15
 unfolding whole_answer front_answer value_at items_at members_at past_blanks number_at word_at digit_run number_value content_at body_at body_within found_at utf8_valid_len utf8_error_len is_utf8 chars encode_utf8
 sixteen_read_kept = refl
 
-sixteen_cut_with_strings : cut false source document 16 TrailingStrings ≡ Some (listed ((tree.int (pos 12)) ∷ (text (97 ∷ 195 ∷ 169 ∷ [])) ∷ (paired []) ∷ []))
+sixteen_cut_with_strings : cut false source document 16 TrailingStrings ≡ Some (listed (tree.int (pos 12) ∷ text (97 ∷ 195 ∷ 169 ∷ []) ∷ paired [] ∷ []))
 unfolding is_number_text number_value encode_utf8
 sixteen_cut_with_strings = refl
 
-sixteen_read_with_strings : partial_answer false TrailingStrings (take 16 source) ≡ done (listed ((tree.int (pos 12)) ∷ (text (97 ∷ 195 ∷ 169 ∷ [])) ∷ (paired []) ∷ [])) 15
+sixteen_read_with_strings : partial_answer false TrailingStrings (take 16 source) ≡ done (listed (tree.int (pos 12) ∷ text (97 ∷ 195 ∷ 169 ∷ []) ∷ paired [] ∷ [])) 15
 unfolding whole_answer front_answer value_at items_at members_at past_blanks number_at word_at digit_run number_value content_at body_at body_within found_at utf8_valid_len utf8_error_len is_utf8 chars encode_utf8
 sixteen_read_with_strings = refl
 
@@ -425,19 +425,19 @@ sixteen_read_whole = refl
 
 -- before byte 17
 
-seventeen_cut_kept : cut false source document 17 On ≡ Some (listed ((tree.int (pos 12)) ∷ (text (97 ∷ 195 ∷ 169 ∷ [])) ∷ (paired []) ∷ []))
+seventeen_cut_kept : cut false source document 17 On ≡ Some (listed (tree.int (pos 12) ∷ text (97 ∷ 195 ∷ 169 ∷ []) ∷ paired [] ∷ []))
 unfolding is_number_text number_value encode_utf8
 seventeen_cut_kept = refl
 
-seventeen_read_kept : partial_answer false On (take 17 source) ≡ done (listed ((tree.int (pos 12)) ∷ (text (97 ∷ 195 ∷ 169 ∷ [])) ∷ (paired []) ∷ [])) 15
+seventeen_read_kept : partial_answer false On (take 17 source) ≡ done (listed (tree.int (pos 12) ∷ text (97 ∷ 195 ∷ 169 ∷ []) ∷ paired [] ∷ [])) 15
 unfolding whole_answer front_answer value_at items_at members_at past_blanks number_at word_at digit_run number_value content_at body_at body_within found_at utf8_valid_len utf8_error_len is_utf8 chars encode_utf8
 seventeen_read_kept = refl
 
-seventeen_cut_with_strings : cut false source document 17 TrailingStrings ≡ Some (listed ((tree.int (pos 12)) ∷ (text (97 ∷ 195 ∷ 169 ∷ [])) ∷ (paired []) ∷ []))
+seventeen_cut_with_strings : cut false source document 17 TrailingStrings ≡ Some (listed (tree.int (pos 12) ∷ text (97 ∷ 195 ∷ 169 ∷ []) ∷ paired [] ∷ []))
 unfolding is_number_text number_value encode_utf8
 seventeen_cut_with_strings = refl
 
-seventeen_read_with_strings : partial_answer false TrailingStrings (take 17 source) ≡ done (listed ((tree.int (pos 12)) ∷ (text (97 ∷ 195 ∷ 169 ∷ [])) ∷ (paired []) ∷ [])) 15
+seventeen_read_with_strings : partial_answer false TrailingStrings (take 17 source) ≡ done (listed (tree.int (pos 12) ∷ text (97 ∷ 195 ∷ 169 ∷ []) ∷ paired [] ∷ [])) 15
 unfolding whole_answer front_answer value_at items_at members_at past_blanks number_at word_at digit_run number_value content_at body_at body_within found_at utf8_valid_len utf8_error_len is_utf8 chars encode_utf8
 seventeen_read_with_strings = refl
 
@@ -447,19 +447,19 @@ seventeen_read_whole = refl
 
 -- before byte 18
 
-eighteen_cut_kept : cut false source document 18 On ≡ Some (listed ((tree.int (pos 12)) ∷ (text (97 ∷ 195 ∷ 169 ∷ [])) ∷ (paired []) ∷ []))
+eighteen_cut_kept : cut false source document 18 On ≡ Some (listed (tree.int (pos 12) ∷ text (97 ∷ 195 ∷ 169 ∷ []) ∷ paired [] ∷ []))
 unfolding is_number_text number_value encode_utf8
 eighteen_cut_kept = refl
 
-eighteen_read_kept : partial_answer false On (take 18 source) ≡ done (listed ((tree.int (pos 12)) ∷ (text (97 ∷ 195 ∷ 169 ∷ [])) ∷ (paired []) ∷ [])) 15
+eighteen_read_kept : partial_answer false On (take 18 source) ≡ done (listed (tree.int (pos 12) ∷ text (97 ∷ 195 ∷ 169 ∷ []) ∷ paired [] ∷ [])) 15
 unfolding whole_answer front_answer value_at items_at members_at past_blanks number_at word_at digit_run number_value content_at body_at body_within found_at utf8_valid_len utf8_error_len is_utf8 chars encode_utf8
 eighteen_read_kept = refl
 
-eighteen_cut_with_strings : cut false source document 18 TrailingStrings ≡ Some (listed ((tree.int (pos 12)) ∷ (text (97 ∷ 195 ∷ 169 ∷ [])) ∷ (paired []) ∷ []))
+eighteen_cut_with_strings : cut false source document 18 TrailingStrings ≡ Some (listed (tree.int (pos 12) ∷ text (97 ∷ 195 ∷ 169 ∷ []) ∷ paired [] ∷ []))
 unfolding is_number_text number_value encode_utf8
 eighteen_cut_with_strings = refl
 
-eighteen_read_with_strings : partial_answer false TrailingStrings (take 18 source) ≡ done (listed ((tree.int (pos 12)) ∷ (text (97 ∷ 195 ∷ 169 ∷ [])) ∷ (paired []) ∷ [])) 15
+eighteen_read_with_strings : partial_answer false TrailingStrings (take 18 source) ≡ done (listed (tree.int (pos 12) ∷ text (97 ∷ 195 ∷ 169 ∷ []) ∷ paired [] ∷ [])) 15
 unfolding whole_answer front_answer value_at items_at members_at past_blanks number_at word_at digit_run number_value content_at body_at body_within found_at utf8_valid_len utf8_error_len is_utf8 chars encode_utf8
 eighteen_read_with_strings = refl
 
@@ -469,19 +469,19 @@ eighteen_read_whole = refl
 
 -- before byte 19
 
-nineteen_cut_kept : cut false source document 19 On ≡ Some (listed ((tree.int (pos 12)) ∷ (text (97 ∷ 195 ∷ 169 ∷ [])) ∷ (paired ((borrowed (codes "k"), tree.boolean true) ∷ [])) ∷ []))
+nineteen_cut_kept : cut false source document 19 On ≡ Some (listed (tree.int (pos 12) ∷ text (97 ∷ 195 ∷ 169 ∷ []) ∷ paired ((borrowed (codes "k"), tree.boolean true) ∷ []) ∷ []))
 unfolding is_number_text number_value encode_utf8
 nineteen_cut_kept = refl
 
-nineteen_read_kept : partial_answer false On (take 19 source) ≡ done (listed ((tree.int (pos 12)) ∷ (text (97 ∷ 195 ∷ 169 ∷ [])) ∷ (paired ((borrowed (codes "k"), tree.boolean true) ∷ [])) ∷ [])) 19
+nineteen_read_kept : partial_answer false On (take 19 source) ≡ done (listed (tree.int (pos 12) ∷ text (97 ∷ 195 ∷ 169 ∷ []) ∷ paired ((borrowed (codes "k"), tree.boolean true) ∷ []) ∷ [])) 19
 unfolding whole_answer front_answer value_at items_at members_at past_blanks number_at word_at digit_run number_value content_at body_at body_within found_at utf8_valid_len utf8_error_len is_utf8 chars encode_utf8
 nineteen_read_kept = refl
 
-nineteen_cut_with_strings : cut false source document 19 TrailingStrings ≡ Some (listed ((tree.int (pos 12)) ∷ (text (97 ∷ 195 ∷ 169 ∷ [])) ∷ (paired ((borrowed (codes "k"), tree.boolean true) ∷ [])) ∷ []))
+nineteen_cut_with_strings : cut false source document 19 TrailingStrings ≡ Some (listed (tree.int (pos 12) ∷ text (97 ∷ 195 ∷ 169 ∷ []) ∷ paired ((borrowed (codes "k"), tree.boolean true) ∷ []) ∷ []))
 unfolding is_number_text number_value encode_utf8
 nineteen_cut_with_strings = refl
 
-nineteen_read_with_strings : partial_answer false TrailingStrings (take 19 source) ≡ done (listed ((tree.int (pos 12)) ∷ (text (97 ∷ 195 ∷ 169 ∷ [])) ∷ (paired ((borrowed (codes "k"), tree.boolean true) ∷ [])) ∷ [])) 19
+nineteen_read_with_strings : partial_answer false TrailingStrings (take 19 source) ≡ done (listed (tree.int (pos 12) ∷ text (97 ∷ 195 ∷ 169 ∷ []) ∷ paired ((borrowed (codes "k"), tree.boolean true) ∷ []) ∷ [])) 19
 unfolding whole_answer front_answer value_at items_at members_at past_blanks number_at word_at digit_run number_value content_at body_at body_within found_at utf8_valid_len utf8_error_len is_utf8 chars encode_utf8
 nineteen_read_with_strings = refl
 
@@ -491,19 +491,19 @@ nineteen_read_whole = refl
 
 -- before byte 20
 
-twenty_cut_kept : cut false source document 20 On ≡ Some (listed ((tree.int (pos 12)) ∷ (text (97 ∷ 195 ∷ 169 ∷ [])) ∷ (paired ((borrowed (codes "k"), tree.boolean true) ∷ [])) ∷ []))
+twenty_cut_kept : cut false source document 20 On ≡ Some (listed (tree.int (pos 12) ∷ text (97 ∷ 195 ∷ 169 ∷ []) ∷ paired ((borrowed (codes "k"), tree.boolean true) ∷ []) ∷ []))
 unfolding is_number_text number_value encode_utf8
 twenty_cut_kept = refl
 
-twenty_read_kept : partial_answer false On (take 20 source) ≡ done (listed ((tree.int (pos 12)) ∷ (text (97 ∷ 195 ∷ 169 ∷ [])) ∷ (paired ((borrowed (codes "k"), tree.boolean true) ∷ [])) ∷ [])) 20
+twenty_read_kept : partial_answer false On (take 20 source) ≡ done (listed (tree.int (pos 12) ∷ text (97 ∷ 195 ∷ 169 ∷ []) ∷ paired ((borrowed (codes "k"), tree.boolean true) ∷ []) ∷ [])) 20
 unfolding whole_answer front_answer value_at items_at members_at past_blanks number_at word_at digit_run number_value content_at body_at body_within found_at utf8_valid_len utf8_error_len is_utf8 chars encode_utf8
 twenty_read_kept = refl
 
-twenty_cut_with_strings : cut false source document 20 TrailingStrings ≡ Some (listed ((tree.int (pos 12)) ∷ (text (97 ∷ 195 ∷ 169 ∷ [])) ∷ (paired ((borrowed (codes "k"), tree.boolean true) ∷ [])) ∷ []))
+twenty_cut_with_strings : cut false source document 20 TrailingStrings ≡ Some (listed (tree.int (pos 12) ∷ text (97 ∷ 195 ∷ 169 ∷ []) ∷ paired ((borrowed (codes "k"), tree.boolean true) ∷ []) ∷ []))
 unfolding is_number_text number_value encode_utf8
 twenty_cut_with_strings = refl
 
-twenty_read_with_strings : partial_answer false TrailingStrings (take 20 source) ≡ done (listed ((tree.int (pos 12)) ∷ (text (97 ∷ 195 ∷ 169 ∷ [])) ∷ (paired ((borrowed (codes "k"), tree.boolean true) ∷ [])) ∷ [])) 20
+twenty_read_with_strings : partial_answer false TrailingStrings (take 20 source) ≡ done (listed (tree.int (pos 12) ∷ text (97 ∷ 195 ∷ 169 ∷ []) ∷ paired ((borrowed (codes "k"), tree.boolean true) ∷ []) ∷ [])) 20
 unfolding whole_answer front_answer value_at items_at members_at past_blanks number_at word_at digit_run number_value content_at body_at body_within found_at utf8_valid_len utf8_error_len is_utf8 chars encode_utf8
 twenty_read_with_strings = refl
 
@@ -513,18 +513,18 @@ twenty_read_whole = refl
 
 -- all of it
 
-all_cut_kept : cut false source document 21 On ≡ Some (listed ((tree.int (pos 12)) ∷ (text (97 ∷ 195 ∷ 169 ∷ [])) ∷ (paired ((borrowed (codes "k"), tree.boolean true) ∷ [])) ∷ []))
+all_cut_kept : cut false source document 21 On ≡ Some (listed (tree.int (pos 12) ∷ text (97 ∷ 195 ∷ 169 ∷ []) ∷ paired ((borrowed (codes "k"), tree.boolean true) ∷ []) ∷ []))
 unfolding is_number_text number_value encode_utf8
 all_cut_kept = refl
 
-all_read_kept : partial_answer false On (take 21 source) ≡ done (listed ((tree.int (pos 12)) ∷ (text (97 ∷ 195 ∷ 169 ∷ [])) ∷ (paired ((borrowed (codes "k"), tree.boolean true) ∷ [])) ∷ [])) 21
+all_read_kept : partial_answer false On (take 21 source) ≡ done (listed (tree.int (pos 12) ∷ text (97 ∷ 195 ∷ 169 ∷ []) ∷ paired ((borrowed (codes "k"), tree.boolean true) ∷ []) ∷ [])) 21
 unfolding whole_answer front_answer value_at items_at members_at past_blanks number_at word_at digit_run number_value content_at body_at body_within found_at utf8_valid_len utf8_error_len is_utf8 chars encode_utf8
 all_read_kept = refl
 
-all_cut_with_strings : cut false source document 21 TrailingStrings ≡ Some (listed ((tree.int (pos 12)) ∷ (text (97 ∷ 195 ∷ 169 ∷ [])) ∷ (paired ((borrowed (codes "k"), tree.boolean true) ∷ [])) ∷ []))
+all_cut_with_strings : cut false source document 21 TrailingStrings ≡ Some (listed (tree.int (pos 12) ∷ text (97 ∷ 195 ∷ 169 ∷ []) ∷ paired ((borrowed (codes "k"), tree.boolean true) ∷ []) ∷ []))
 unfolding is_number_text number_value encode_utf8
 all_cut_with_strings = refl
 
-all_read_with_strings : partial_answer false TrailingStrings (take 21 source) ≡ done (listed ((tree.int (pos 12)) ∷ (text (97 ∷ 195 ∷ 169 ∷ [])) ∷ (paired ((borrowed (codes "k"), tree.boolean true) ∷ [])) ∷ [])) 21
+all_read_with_strings : partial_answer false TrailingStrings (take 21 source) ≡ done (listed (tree.int (pos 12) ∷ text (97 ∷ 195 ∷ 169 ∷ []) ∷ paired ((borrowed (codes "k"), tree.boolean true) ∷ []) ∷ [])) 21
 unfolding whole_answer front_answer value_at items_at members_at past_blanks number_at word_at digit_run number_value content_at body_at body_within found_at utf8_valid_len utf8_error_len is_utf8 chars encode_utf8
 all_read_with_strings = refl

@@ -50,11 +50,11 @@ an_open_string_with_strings : partial_answer false TrailingStrings (codes "\"a")
 unfolding whole_answer front_answer value_at items_at members_at past_blanks number_at word_at digit_run number_value content_at body_at body_within found_at utf8_valid_len utf8_error_len is_utf8 chars encode_utf8
 an_open_string_with_strings = refl
 
-a_word_behind : partial_answer false On (codes "[1, 2] extra") ≡ done (listed ((tree.int (pos 1)) ∷ (tree.int (pos 2)) ∷ [])) 6
+a_word_behind : partial_answer false On (codes "[1, 2] extra") ≡ done (listed (tree.int (pos 1) ∷ tree.int (pos 2) ∷ [])) 6
 unfolding whole_answer front_answer value_at items_at members_at past_blanks number_at word_at digit_run number_value content_at body_at body_within found_at utf8_valid_len utf8_error_len is_utf8 chars encode_utf8
 a_word_behind = refl
 
-a_word_behind_with_strings : partial_answer false TrailingStrings (codes "[1, 2] extra") ≡ done (listed ((tree.int (pos 1)) ∷ (tree.int (pos 2)) ∷ [])) 6
+a_word_behind_with_strings : partial_answer false TrailingStrings (codes "[1, 2] extra") ≡ done (listed (tree.int (pos 1) ∷ tree.int (pos 2) ∷ [])) 6
 unfolding whole_answer front_answer value_at items_at members_at past_blanks number_at word_at digit_run number_value content_at body_at body_within found_at utf8_valid_len utf8_error_len is_utf8 chars encode_utf8
 a_word_behind_with_strings = refl
 
@@ -118,19 +118,19 @@ no_comma_in_an_object : partial_answer false On (codes "{\"a\":1 \"b\"}") ≡ do
 unfolding whole_answer front_answer value_at items_at members_at past_blanks number_at word_at digit_run number_value content_at body_at body_within found_at utf8_valid_len utf8_error_len is_utf8 chars encode_utf8
 no_comma_in_an_object = refl
 
-a_wrong_closer_within : partial_answer false On (codes "[{\"a\":[1}, 2]") ≡ done (listed ((paired ((borrowed (codes "a"), listed ((tree.int (pos 1)) ∷ [])) ∷ [])) ∷ (tree.int (pos 2)) ∷ [])) 13
+a_wrong_closer_within : partial_answer false On (codes "[{\"a\":[1}, 2]") ≡ done (listed (paired ((borrowed (codes "a"), listed (tree.int (pos 1) ∷ [])) ∷ []) ∷ tree.int (pos 2) ∷ [])) 13
 unfolding whole_answer front_answer value_at items_at members_at past_blanks number_at word_at digit_run number_value content_at body_at body_within found_at utf8_valid_len utf8_error_len is_utf8 chars encode_utf8
 a_wrong_closer_within = refl
 
-a_missing_bracket_within : partial_answer false On (codes "[{\"a\":[1},{\"b\":2}]") ≡ done (listed ((paired ((borrowed (codes "a"), listed ((tree.int (pos 1)) ∷ [])) ∷ [])) ∷ (paired ((borrowed (codes "b"), tree.int (pos 2)) ∷ [])) ∷ [])) 18
+a_missing_bracket_within : partial_answer false On (codes "[{\"a\":[1},{\"b\":2}]") ≡ done (listed (paired ((borrowed (codes "a"), listed (tree.int (pos 1) ∷ [])) ∷ []) ∷ paired ((borrowed (codes "b"), tree.int (pos 2)) ∷ []) ∷ [])) 18
 unfolding whole_answer front_answer value_at items_at members_at past_blanks number_at word_at digit_run number_value content_at body_at body_within found_at utf8_valid_len utf8_error_len is_utf8 chars encode_utf8
 a_missing_bracket_within = refl
 
-a_missing_bracket_within_an_object : partial_answer false On (codes "{\"a\":{\"b\":[1},\"c\":2}") ≡ done (paired ((borrowed (codes "a"), paired ((borrowed (codes "b"), listed ((tree.int (pos 1)) ∷ [])) ∷ [])) ∷ (borrowed (codes "c"), tree.int (pos 2)) ∷ [])) 20
+a_missing_bracket_within_an_object : partial_answer false On (codes "{\"a\":{\"b\":[1},\"c\":2}") ≡ done (paired ((borrowed (codes "a"), paired ((borrowed (codes "b"), listed (tree.int (pos 1) ∷ [])) ∷ [])) ∷ (borrowed (codes "c"), tree.int (pos 2)) ∷ [])) 20
 unfolding whole_answer front_answer value_at items_at members_at past_blanks number_at word_at digit_run number_value content_at body_at body_within found_at utf8_valid_len utf8_error_len is_utf8 chars encode_utf8
 a_missing_bracket_within_an_object = refl
 
-a_missing_brace_within : partial_answer false On (codes "[{\"a\":1],2]") ≡ done (listed ((paired ((borrowed (codes "a"), tree.int (pos 1)) ∷ [])) ∷ [])) 8
+a_missing_brace_within : partial_answer false On (codes "[{\"a\":1],2]") ≡ done (listed (paired ((borrowed (codes "a"), tree.int (pos 1)) ∷ []) ∷ [])) 8
 unfolding whole_answer front_answer value_at items_at members_at past_blanks number_at word_at digit_run number_value content_at body_at body_within found_at utf8_valid_len utf8_error_len is_utf8 chars encode_utf8
 a_missing_brace_within = refl
 
@@ -148,7 +148,7 @@ a_cut_name : partial_answer true On (codes "[-Inf") ≡ done (listed []) 1
 unfolding whole_answer front_answer value_at items_at members_at past_blanks number_at word_at digit_run number_value content_at body_at body_within found_at utf8_valid_len utf8_error_len is_utf8 chars encode_utf8
 a_cut_name = refl
 
-a_number_and_the_end : partial_answer false On (codes "[12") ≡ done (listed ((tree.int (pos 12)) ∷ [])) 3
+a_number_and_the_end : partial_answer false On (codes "[12") ≡ done (listed (tree.int (pos 12) ∷ [])) 3
 unfolding whole_answer front_answer value_at items_at members_at past_blanks number_at word_at digit_run number_value content_at body_at body_within found_at utf8_valid_len utf8_error_len is_utf8 chars encode_utf8
 a_number_and_the_end = refl
 
@@ -156,7 +156,7 @@ a_point_and_the_end : partial_answer false On (codes "[12.") ≡ done (listed []
 unfolding whole_answer front_answer value_at items_at members_at past_blanks number_at word_at digit_run number_value content_at body_at body_within found_at utf8_valid_len utf8_error_len is_utf8 chars encode_utf8
 a_point_and_the_end = refl
 
-a_fraction_and_the_end : partial_answer false On (codes "[12.5") ≡ done (listed ((tree.float (borrowed (codes "12.5"))) ∷ [])) 5
+a_fraction_and_the_end : partial_answer false On (codes "[12.5") ≡ done (listed (tree.float (borrowed (codes "12.5")) ∷ [])) 5
 unfolding whole_answer front_answer value_at items_at members_at past_blanks number_at word_at digit_run number_value content_at body_at body_within found_at utf8_valid_len utf8_error_len is_utf8 chars encode_utf8
 a_fraction_and_the_end = refl
 
@@ -164,7 +164,7 @@ a_power_and_the_end : partial_answer false On (codes "[1e") ≡ done (listed [])
 unfolding whole_answer front_answer value_at items_at members_at past_blanks number_at word_at digit_run number_value content_at body_at body_within found_at utf8_valid_len utf8_error_len is_utf8 chars encode_utf8
 a_power_and_the_end = refl
 
-a_power_with_a_digit_and_the_end : partial_answer false On (codes "[1e5") ≡ done (listed ((tree.float (borrowed (codes "1e5"))) ∷ [])) 4
+a_power_with_a_digit_and_the_end : partial_answer false On (codes "[1e5") ≡ done (listed (tree.float (borrowed (codes "1e5")) ∷ [])) 4
 unfolding whole_answer front_answer value_at items_at members_at past_blanks number_at word_at digit_run number_value content_at body_at body_within found_at utf8_valid_len utf8_error_len is_utf8 chars encode_utf8
 a_power_with_a_digit_and_the_end = refl
 
@@ -172,11 +172,11 @@ a_minus_and_the_end : partial_answer false On (codes "[-") ≡ done (listed []) 
 unfolding whole_answer front_answer value_at items_at members_at past_blanks number_at word_at digit_run number_value content_at body_at body_within found_at utf8_valid_len utf8_error_len is_utf8 chars encode_utf8
 a_minus_and_the_end = refl
 
-a_comma_and_the_end : partial_answer false On (codes "[1,") ≡ done (listed ((tree.int (pos 1)) ∷ [])) 3
+a_comma_and_the_end : partial_answer false On (codes "[1,") ≡ done (listed (tree.int (pos 1) ∷ [])) 3
 unfolding whole_answer front_answer value_at items_at members_at past_blanks number_at word_at digit_run number_value content_at body_at body_within found_at utf8_valid_len utf8_error_len is_utf8 chars encode_utf8
 a_comma_and_the_end = refl
 
-two_levels : partial_answer false On (codes "[[1,2],[3,") ≡ done (listed ((listed ((tree.int (pos 1)) ∷ (tree.int (pos 2)) ∷ [])) ∷ (listed ((tree.int (pos 3)) ∷ [])) ∷ [])) 10
+two_levels : partial_answer false On (codes "[[1,2],[3,") ≡ done (listed (listed (tree.int (pos 1) ∷ tree.int (pos 2) ∷ []) ∷ listed (tree.int (pos 3) ∷ []) ∷ [])) 10
 unfolding whole_answer front_answer value_at items_at members_at past_blanks number_at word_at digit_run number_value content_at body_at body_within found_at utf8_valid_len utf8_error_len is_utf8 chars encode_utf8
 two_levels = refl
 
@@ -186,7 +186,7 @@ a_brace_and_the_end : partial_answer false On (codes "{") ≡ done (paired []) 1
 unfolding whole_answer front_answer value_at items_at members_at past_blanks number_at word_at digit_run number_value content_at body_at body_within found_at utf8_valid_len utf8_error_len is_utf8 chars encode_utf8
 a_brace_and_the_end = refl
 
-an_open_key : partial_answer false On (codes "[{\"a") ≡ done (listed ((paired []) ∷ [])) 2
+an_open_key : partial_answer false On (codes "[{\"a") ≡ done (listed (paired [] ∷ [])) 2
 unfolding whole_answer front_answer value_at items_at members_at past_blanks number_at word_at digit_run number_value content_at body_at body_within found_at utf8_valid_len utf8_error_len is_utf8 chars encode_utf8
 an_open_key = refl
 
@@ -216,19 +216,19 @@ an_open_second_key = refl
 
 -- cut strings
 
-deep_in : partial_answer false On (codes "{\"a\": [1, {\"b\": \"x") ≡ done (paired ((borrowed (codes "a"), listed ((tree.int (pos 1)) ∷ (paired []) ∷ [])) ∷ [])) 16
+deep_in : partial_answer false On (codes "{\"a\": [1, {\"b\": \"x") ≡ done (paired ((borrowed (codes "a"), listed (tree.int (pos 1) ∷ paired [] ∷ [])) ∷ [])) 16
 unfolding whole_answer front_answer value_at items_at members_at past_blanks number_at word_at digit_run number_value content_at body_at body_within found_at utf8_valid_len utf8_error_len is_utf8 chars encode_utf8
 deep_in = refl
 
-deep_in_with_strings : partial_answer false TrailingStrings (codes "{\"a\": [1, {\"b\": \"x") ≡ done (paired ((borrowed (codes "a"), listed ((tree.int (pos 1)) ∷ (paired ((borrowed (codes "b"), text (codes "x")) ∷ [])) ∷ [])) ∷ [])) 18
+deep_in_with_strings : partial_answer false TrailingStrings (codes "{\"a\": [1, {\"b\": \"x") ≡ done (paired ((borrowed (codes "a"), listed (tree.int (pos 1) ∷ paired ((borrowed (codes "b"), text (codes "x")) ∷ []) ∷ [])) ∷ [])) 18
 unfolding whole_answer front_answer value_at items_at members_at past_blanks number_at word_at digit_run number_value content_at body_at body_within found_at utf8_valid_len utf8_error_len is_utf8 chars encode_utf8
 deep_in_with_strings = refl
 
-a_second_text : partial_answer false On (codes "{\"k\":[\"x\",\"y") ≡ done (paired ((borrowed (codes "k"), listed ((text (codes "x")) ∷ [])) ∷ [])) 10
+a_second_text : partial_answer false On (codes "{\"k\":[\"x\",\"y") ≡ done (paired ((borrowed (codes "k"), listed (text (codes "x") ∷ [])) ∷ [])) 10
 unfolding whole_answer front_answer value_at items_at members_at past_blanks number_at word_at digit_run number_value content_at body_at body_within found_at utf8_valid_len utf8_error_len is_utf8 chars encode_utf8
 a_second_text = refl
 
-a_second_text_with_strings : partial_answer false TrailingStrings (codes "{\"k\":[\"x\",\"y") ≡ done (paired ((borrowed (codes "k"), listed ((text (codes "x")) ∷ (text (codes "y")) ∷ [])) ∷ [])) 12
+a_second_text_with_strings : partial_answer false TrailingStrings (codes "{\"k\":[\"x\",\"y") ≡ done (paired ((borrowed (codes "k"), listed (text (codes "x") ∷ text (codes "y") ∷ [])) ∷ [])) 12
 unfolding whole_answer front_answer value_at items_at members_at past_blanks number_at word_at digit_run number_value content_at body_at body_within found_at utf8_valid_len utf8_error_len is_utf8 chars encode_utf8
 a_second_text_with_strings = refl
 
@@ -236,7 +236,7 @@ a_quote_and_the_end : partial_answer false On (codes "[\"") ≡ done (listed [])
 unfolding whole_answer front_answer value_at items_at members_at past_blanks number_at word_at digit_run number_value content_at body_at body_within found_at utf8_valid_len utf8_error_len is_utf8 chars encode_utf8
 a_quote_and_the_end = refl
 
-a_quote_and_the_end_with_strings : partial_answer false TrailingStrings (codes "[\"") ≡ done (listed ((text []) ∷ [])) 2
+a_quote_and_the_end_with_strings : partial_answer false TrailingStrings (codes "[\"") ≡ done (listed (text [] ∷ [])) 2
 unfolding whole_answer front_answer value_at items_at members_at past_blanks number_at word_at digit_run number_value content_at body_at body_within found_at utf8_valid_len utf8_error_len is_utf8 chars encode_utf8
 a_quote_and_the_end_with_strings = refl
 
@@ -244,11 +244,11 @@ a_cut_escape : partial_answer false On (codes "[\"ab\\u0\"]") ≡ done (listed [
 unfolding whole_answer front_answer value_at items_at members_at past_blanks number_at word_at digit_run number_value content_at body_at body_within found_at utf8_valid_len utf8_error_len is_utf8 chars encode_utf8
 a_cut_escape = refl
 
-a_cut_escape_with_strings : partial_answer false TrailingStrings (codes "[\"ab\\u0\"]") ≡ done (listed ((own_text (codes "ab")) ∷ [])) 9
+a_cut_escape_with_strings : partial_answer false TrailingStrings (codes "[\"ab\\u0\"]") ≡ done (listed (own_text (codes "ab") ∷ [])) 9
 unfolding whole_answer front_answer value_at items_at members_at past_blanks number_at word_at digit_run number_value content_at body_at body_within found_at utf8_valid_len utf8_error_len is_utf8 chars encode_utf8
 a_cut_escape_with_strings = refl
 
-a_cut_escape_at_the_end_with_strings : partial_answer false TrailingStrings (codes "[\"ab\\u00") ≡ done (listed ((own_text (codes "ab")) ∷ [])) 8
+a_cut_escape_at_the_end_with_strings : partial_answer false TrailingStrings (codes "[\"ab\\u00") ≡ done (listed (own_text (codes "ab") ∷ [])) 8
 unfolding whole_answer front_answer value_at items_at members_at past_blanks number_at word_at digit_run number_value content_at body_at body_within found_at utf8_valid_len utf8_error_len is_utf8 chars encode_utf8
 a_cut_escape_at_the_end_with_strings = refl
 
@@ -256,11 +256,11 @@ a_quote_among_four_digits : partial_answer false On (codes "[\"ab\\u00\"]") ≡ 
 unfolding whole_answer front_answer value_at items_at members_at past_blanks number_at word_at digit_run number_value content_at body_at body_within found_at utf8_valid_len utf8_error_len is_utf8 chars encode_utf8
 a_quote_among_four_digits = refl
 
-a_backslash_and_the_end_with_strings : partial_answer false TrailingStrings (codes "[\"a\\") ≡ done (listed ((own_text (codes "a")) ∷ [])) 4
+a_backslash_and_the_end_with_strings : partial_answer false TrailingStrings (codes "[\"a\\") ≡ done (listed (own_text (codes "a") ∷ [])) 4
 unfolding whole_answer front_answer value_at items_at members_at past_blanks number_at word_at digit_run number_value content_at body_at body_within found_at utf8_valid_len utf8_error_len is_utf8 chars encode_utf8
 a_backslash_and_the_end_with_strings = refl
 
-a_cut_pair_with_strings : partial_answer false TrailingStrings (codes "[\"a\\ud83d\\ud") ≡ done (listed ((own_text (codes "a")) ∷ [])) 12
+a_cut_pair_with_strings : partial_answer false TrailingStrings (codes "[\"a\\ud83d\\ud") ≡ done (listed (own_text (codes "a") ∷ [])) 12
 unfolding whole_answer front_answer value_at items_at members_at past_blanks number_at word_at digit_run number_value content_at body_at body_within found_at utf8_valid_len utf8_error_len is_utf8 chars encode_utf8
 a_cut_pair_with_strings = refl
 
@@ -276,7 +276,7 @@ a_cut_character : partial_answer false On (codes "[\"a" ++ (226 ∷ 130 ∷ []))
 unfolding whole_answer front_answer value_at items_at members_at past_blanks number_at word_at digit_run number_value content_at body_at body_within found_at utf8_valid_len utf8_error_len is_utf8 chars encode_utf8
 a_cut_character = refl
 
-a_cut_character_with_strings : partial_answer false TrailingStrings (codes "[\"a" ++ (226 ∷ 130 ∷ [])) ≡ done (listed ((text (codes "a")) ∷ [])) 5
+a_cut_character_with_strings : partial_answer false TrailingStrings (codes "[\"a" ++ (226 ∷ 130 ∷ [])) ≡ done (listed (text (codes "a") ∷ [])) 5
 unfolding whole_answer front_answer value_at items_at members_at past_blanks number_at word_at digit_run number_value content_at body_at body_within found_at utf8_valid_len utf8_error_len is_utf8 chars encode_utf8
 a_cut_character_with_strings = refl
 
@@ -284,7 +284,7 @@ a_closed_cut_character : partial_answer false On (codes "[\"a" ++ (226 ∷ 130 �
 unfolding whole_answer front_answer value_at items_at members_at past_blanks number_at word_at digit_run number_value content_at body_at body_within found_at utf8_valid_len utf8_error_len is_utf8 chars encode_utf8
 a_closed_cut_character = refl
 
-a_closed_cut_character_with_strings : partial_answer false TrailingStrings (codes "[\"a" ++ (226 ∷ 130 ∷ (codes "\"]"))) ≡ done (listed ((text (codes "a")) ∷ [])) 7
+a_closed_cut_character_with_strings : partial_answer false TrailingStrings (codes "[\"a" ++ (226 ∷ 130 ∷ (codes "\"]"))) ≡ done (listed (text (codes "a") ∷ [])) 7
 unfolding whole_answer front_answer value_at items_at members_at past_blanks number_at word_at digit_run number_value content_at body_at body_within found_at utf8_valid_len utf8_error_len is_utf8 chars encode_utf8
 a_closed_cut_character_with_strings = refl
 
