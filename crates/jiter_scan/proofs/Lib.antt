@@ -12,3 +12,4 @@ pub mod NumberTexts
 pub mod Words
 pub mod NumberBytes
 pub mod NumberLaws
+mod Rows

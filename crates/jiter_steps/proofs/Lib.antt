@@ -27,3 +27,4 @@ pub mod Sound
 pub mod Mapped
 pub mod Complete
 pub mod Documents
+mod Rows

@@ -12,3 +12,4 @@ pub mod Answer
 pub mod Given
 pub mod Seen
 pub mod Strings
+pub mod Extends
