@@ -1,23 +1,25 @@
 -- What is printed of a document's value is a document of the same value.
-use Rattle.std.proofs.Common.{◌≡◌, inl, inr, ℕ, suc, ◌+◌, ◌<◌, ◌≤◌, Bool, true, false, List, [], ◌∷◌, ◌++◌, length, get_or, refl, sym, ap, ap₂, ◌∙◌, subst, arith}
-use Rattle.std.specs.Prelude.{slice_get, slice_range, Some, max, codes}
-use Rattle.std.proofs.lemmas.Option.{slice_get_within, get_or_from_slice_get}
+use Rattle.std.proofs.Common.{◌≡◌, inl, inr, ℕ, suc, ◌+◌, ◌-◌, ◌≤◌, Bool, false, List, [], ◌∷◌, ◌++◌, length, refl, sym, ap, ap₂, ◌∙◌, subst, arith}
+use Rattle.std.specs.Prelude.{slice_get, slice_range, Some, max}
+use Rattle.std.proofs.lemmas.List.{length-append, take_at, get_or_push}
+use Rattle.std.proofs.lemmas.Option.{slice_get_within}
 use Rattle.jiter_scan.specs.Number.{IsNumberText, number_value}
 use Rattle.jiter_scan.specs.Stands.{Stands}
-use Rattle.jiter_scan.proofs.Standing.{stands-length, stands-within, stands-append, stands-split, slice-stands}
+use Rattle.jiter_scan.proofs.Standing.{stands-length, stands-within, stands-split, stands-slice, slice-stands}
 use Rattle.jiter_steps.specs.Blank.{IsBlank}
 use Rattle.jiter_steps.specs.Literal.{word_of, literal_tree}
-use Rattle.jiter_steps.specs.Node.{Key, Node, literal, number, string, array, object, Nodes, no_nodes, node, NodeMembers, no_members, member, begin, end, StandsBehind, SpellsNumber, SpellsKey, Spells, SpellsItems, SpellsMoreItems, SpellsMembers, SpellsMoreMembers, nesting, nesting_round, nesting_of, nesting_round_members, nesting_of_members, text_at, number_tree, value_of, values_of, members_of, IsDocument}
-use Rattle.jiter_steps.specs.Piece.{Piece, SpellsString, text_of}
+use Rattle.jiter_steps.specs.Node.{Key, Node, literal, number, string, array, object, Nodes, no_nodes, node, NodeMembers, no_members, member, begin, end, StandsBehind, SpellsKey, Spells, SpellsItems, SpellsMoreItems, SpellsMembers, SpellsMoreMembers, nesting, nesting_round, nesting_of, nesting_round_members, nesting_of_members, number_tree, value_of, values_of, members_of}
+use Rattle.jiter_steps.specs.Piece.{SpellsString, text_of}
 use Rattle.jiter_steps.specs.Tree as tree
 use Rattle.jiter_steps.specs.Tree.{Text, Tree, Items, Members}
 use Rattle.jiter_steps.specs.declared.parse.Literal.{Literal}
 use Rattle.jiter_steps.specs.declared.parse.Literal.TheVariants as name
 use Rattle.look.specs.Print.{quoted, print_of, print_items, print_more_items, print_members, print_more_members}
-use Rattle.look.specs.Printed.{unmarked, bare, bare_items, bare_members, ended, PrintsAgain}
+use Rattle.look.specs.Printed.{bare, bare_items, bare_members, ended, PrintsAgain}
 use Rattle.look.proofs.PrintLawNumbers.{number-again}
 use Rattle.look.proofs.PrintLawStrings.{string-again}
 
+-- a literal's print is its word
 literal-again : (u : List ℕ) (i j : ℕ) (l : Literal) → Stands u i j (print_of (literal_tree l)) → Stands u i j (word_of l)
 literal-again u i j name.Null h = h
 literal-again u i j name.True h = h
@@ -30,8 +32,9 @@ no_blank u i h = record { ordered = omega arith; within = h; each = λ k l m. ab
 stands_here : (u : List ℕ) (i c j : ℕ) → slice_get u i ≡ Some c → j ≡ i + 1 → StandsBehind u i c j
 stands_here u i c j h e = let lt = slice_get_within u i c h in record { at = i; blanks = no_blank u i (omega arith); here = h; ends = e }
 
-unmarked-same : (a b : Bool) (v w : List ℕ) → v ≡ w → unmarked (record { owned = a; bytes = v }) ≡ unmarked (record { owned = b; bytes = w })
-unmarked-same a b v w e = ap (λ (x : List ℕ). unmarked (record { owned = false; bytes = x })) e
+-- where nothing more is printed the container closes right here
+closes_here : (u : List ℕ) (i k c j : ℕ) → i ≡ k → slice_get u k ≡ Some c → j ≡ k + 1 → StandsBehind u i c j
+closes_here u i k c j same h e = stands_here u i c j (subst (λ o. slice_get u o ≡ Some c) (sym same) h) (omega arith)
 
 module _ (names : Bool) (t u : List ℕ) where
   -- from i to before j the text u spells what m is in t
@@ -78,12 +81,14 @@ module _ (names : Bool) (t u : List ℕ) where
     spelled : SpellsKey u again j
     same : text_of again.pieces ≡ text_of k.pieces
 
-  key-again : (k : Key) (b e i j l : ℕ) → SpellsString t k.begin k.pieces k.end → Stands u i j (quoted (text_of k.pieces)) → slice_get u j ≡ Some 58 → l ≡ j + 1 → AgainKey k i l
-  key-again k b e i j l s h c x =
+  -- What is printed of a key and its colon is spelled by a key of the same text.
+  key-again : (k : Key) (i j l : ℕ) → SpellsString t k.begin k.pieces k.end → Stands u i j (quoted (text_of k.pieces)) → slice_get u j ≡ Some 58 → l ≡ j + 1 → AgainKey k i l
+  key-again k i j l s h c x =
       let r = string-again t u k.begin k.end i j k.pieces s h in
       let lt = slice_get_within u j 58 c in
       record { again = record { pieces = r.0; begin = i; end = j }; begins = refl; spelled = record { string = r.1; colon = l; behind = stands_here u j 58 l c x; blanks = no_blank u l (omega arith) }; same = r.2 }
 
+  -- What is printed of a node's value is spelled by a node of the same value.
   mutual
     node-again : (m : Node) (i j : ℕ) → Spells names t m → i ≤ length u → Stands u i j (print_of (value_of t m)) → Again m i j
     node-again (literal l b e) i j s w h = record { again = literal l i j; begins = refl; ends = refl; spelled = literal-again u i j l h; depth = refl; same = refl }
@@ -111,8 +116,9 @@ module _ (names : Bool) (t u : List ℕ) where
         let r = members-again ms (b + 1) e (i + 1) parts.0 j s.1 parts.1 parts.2.0 (sym parts.2.1) in
         record { again = object i j r.again; begins = refl; ends = refl; spelled = (h.0, r.spelled); depth = r.depth; same = ap tree.object r.same }
 
+    -- the items and the bracket behind them
     items-again : (ns : Nodes) (x y i k j : ℕ) → SpellsItems names t x ns y → Stands u i k (print_items (values_of t ns)) → slice_get u k ≡ Some 93 → j ≡ k + 1 → AgainItems ns i j
-    items-again no_nodes x y i k j s h c e = record { again = no_nodes; spelled = stands_here u i 93 j (subst (λ o. slice_get u o ≡ Some 93) (sym h) c) (e ∙ ap (λ o. o + 1) (sym h)); depth = refl; same = refl }
+    items-again no_nodes x y i k j s h c e = record { again = no_nodes; spelled = closes_here u i k 93 j h c e; depth = refl; same = refl }
     items-again (node n ns) x y i k j s h c e =
         let l = slice_get_within u k 93 c in
         let long = stands-length u i k _ h in
@@ -127,7 +133,7 @@ module _ (names : Bool) (t u : List ℕ) where
         }
 
     more_items-again : (ns : Nodes) (x y i k j : ℕ) → SpellsMoreItems names t x ns y → Stands u i k (print_more_items (values_of t ns)) → slice_get u k ≡ Some 93 → j ≡ k + 1 → AgainMoreItems ns i j
-    more_items-again no_nodes x y i k j s h c e = record { again = no_nodes; spelled = stands_here u i 93 j (subst (λ o. slice_get u o ≡ Some 93) (sym h) c) (e ∙ ap (λ o. o + 1) (sym h)); depth = refl; same = refl }
+    more_items-again no_nodes x y i k j s h c e = record { again = no_nodes; spelled = closes_here u i k 93 j h c e; depth = refl; same = refl }
     more_items-again (node n ns) x y i k j s h c e =
         let l = slice_get_within u i 44 h.0 in
         let parts = stands-split u (i + 1) k (print_of (value_of t n)) (print_more_items (values_of t ns)) h.1 in
@@ -140,15 +146,15 @@ module _ (names : Bool) (t u : List ℕ) where
           same = ap₂ tree.item a.same r.same;
         }
 
+    -- the members and the brace behind them
     members-again : (ms : NodeMembers) (x y i k j : ℕ) → SpellsMembers names t x ms y → Stands u i k (print_members (members_of t ms)) → slice_get u k ≡ Some 125 → j ≡ k + 1 → AgainMembers ms i j
-    members-again no_members x y i k j s h c e = record { again = no_members; spelled = stands_here u i 125 j (subst (λ o. slice_get u o ≡ Some 125) (sym h) c) (e ∙ ap (λ o. o + 1) (sym h)); depth = refl; same = refl }
+    members-again no_members x y i k j s h c e = record { again = no_members; spelled = closes_here u i k 125 j h c e; depth = refl; same = refl }
     members-again (member q n ms) x y i k j s h c e =
-        let l = slice_get_within u k 125 c in
-        let long = stands-length u i k _ h in
         let front = stands-split u i k (quoted (text_of q.pieces)) (58 ∷ print_of (value_of t n) ++ print_more_members (members_of t ms)) h in
+        let l = slice_get_within u i 34 front.1.0 in
         let colon = slice_get_within u front.0 58 front.2.0 in
         let parts = stands-split u (front.0 + 1) k (print_of (value_of t n)) (print_more_members (members_of t ms)) front.2.1 in
-        let b = key-again q x y i front.0 (front.0 + 1) s.1.string front.1 front.2.0 refl in
+        let b = key-again q i front.0 (front.0 + 1) s.1.string front.1 front.2.0 refl in
         let a = node-again n (front.0 + 1) parts.0 s.2 (omega arith) parts.1 in
         let r = more_members-again ms (end n) y parts.0 k j s.3 parts.2 c e in
         record {
@@ -159,13 +165,13 @@ module _ (names : Bool) (t u : List ℕ) where
         }
 
     more_members-again : (ms : NodeMembers) (x y i k j : ℕ) → SpellsMoreMembers names t x ms y → Stands u i k (print_more_members (members_of t ms)) → slice_get u k ≡ Some 125 → j ≡ k + 1 → AgainMoreMembers ms i j
-    more_members-again no_members x y i k j s h c e = record { again = no_members; spelled = stands_here u i 125 j (subst (λ o. slice_get u o ≡ Some 125) (sym h) c) (e ∙ ap (λ o. o + 1) (sym h)); depth = refl; same = refl }
+    more_members-again no_members x y i k j s h c e = record { again = no_members; spelled = closes_here u i k 125 j h c e; depth = refl; same = refl }
     more_members-again (member q n ms) x y i k j s h c e =
         let l = slice_get_within u i 44 h.0 in
         let front = stands-split u (i + 1) k (quoted (text_of q.pieces)) (58 ∷ print_of (value_of t n) ++ print_more_members (members_of t ms)) h.1 in
         let colon = slice_get_within u front.0 58 front.2.0 in
         let parts = stands-split u (front.0 + 1) k (print_of (value_of t n)) (print_more_members (members_of t ms)) front.2.1 in
-        let b = key-again q x y (i + 1) front.0 (front.0 + 1) s.3.string front.1 front.2.0 refl in
+        let b = key-again q (i + 1) front.0 (front.0 + 1) s.3.string front.1 front.2.0 refl in
         let a = node-again n (front.0 + 1) parts.0 s.4 (omega arith) parts.1 in
         let r = more_members-again ms (end n) y parts.0 k j s.5 parts.2 c e in
         record {
@@ -176,30 +182,33 @@ module _ (names : Bool) (t u : List ℕ) where
         }
 
 -- ---- the whole text
--- bytes stand at the front of a text that goes on
-stands-front : (p v w : List ℕ) → Stands (p ++ (v ++ w)) (length p) (length (p ++ v)) v
-stands-front p v w = ?
-
--- the line feed behind the print
-last-feed : (w : List ℕ) → slice_get (ended w) (length w) ≡ Some 10
-last-feed w = ?
-
+-- the print and one byte more
 length-ended : (w : List ℕ) → length (ended w) ≡ length w + 1
-length-ended w = ?
+length-ended w = length-append w (10 ∷ [])
 
+-- the print stands before its line feed
+print-stands : (w : List ℕ) → Stands (ended w) 0 (length w) w
+print-stands w =
+    let n = length-ended w in
+    subst (Stands (ended w) 0 (length w)) (take_at w (10 ∷ []) (length w - 0) (omega arith)) (stands-slice (ended w) 0 (length w) (omega arith) (omega arith))
+
+-- nothing but the line feed stands behind it
 feed-blank : (w : List ℕ) (e : ℕ) → e ≡ length w → IsBlank (ended w) e (length (ended w))
 feed-blank w e is =
     let n = length-ended w in
-    record { ordered = omega arith; within = omega arith; each = λ k l m. inr (inr (inl (get_or_from_slice_get (ended w) k 10 0 (subst (λ o. slice_get (ended w) o ≡ Some 10) (omega arith) (last-feed w))))) }
+    record { ordered = omega arith; within = omega arith; each = λ k l m. inr (inr (inl (get_or_push w 10 0 k (omega arith)))) }
 
 -- What is printed of a document's value is a document of the same value, texts compared by their bytes.
 pub prints-again : (names : Bool) (t : List ℕ) → PrintsAgain names t
 prints-again names t m d =
     let w = print_of (value_of t m) in
-    let a = node-again names t (ended w) m 0 (length w) d.spelled (omega arith) (stands-front [] w (10 ∷ [])) in
-    (a.again, record {
-      before = subst (IsBlank (ended w) 0) (sym a.begins) (no_blank (ended w) 0 (omega arith));
-      spelled = a.spelled;
-      after = feed-blank w (end a.again) a.ends;
-      limit = subst (λ n. n ≤ 200) (sym a.depth) d.limit;
-    }, a.same)
+    let a = node-again names t (ended w) m 0 (length w) d.spelled (omega arith) (print-stands w) in (
+      a.again,
+      record {
+        before = subst (IsBlank (ended w) 0) (sym a.begins) (no_blank (ended w) 0 (omega arith));
+        spelled = a.spelled;
+        after = feed-blank w (end a.again) a.ends;
+        limit = subst (λ n. n ≤ 200) (sym a.depth) d.limit;
+      },
+      a.same,
+    )

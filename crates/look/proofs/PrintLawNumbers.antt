@@ -3,11 +3,11 @@ use Rattle.std.proofs.Common.{◌≡◌, ◌≢◌, ◌⊎◌, inl, inr, ℕ, �
 use Rattle.std.specs.Prelude.{◌==◌, ◌||◌, if◌then◌else◌, nat_lt, nat_le}
 use Rattle.std.specs.List.{list_any}
 use Rattle.std.specs.Fmt.{decimal, signed_decimal}
-use Rattle.std.proofs.lemmas.Bool.{lt-ltb, le-leb, ltb-true, leb-true, ne_eqb}
+use Rattle.std.proofs.lemmas.Bool.{lt-ltb, le-leb, ltb-true, leb-true}
 use Rattle.std.proofs.lemmas.Bool.Decides.{nat_tests}
 use Rattle.std.proofs.lemmas.Fmt.{decimal_by_steps, length-decimal-le}
 use Rattle.jiter_scan.specs.Digits.{is_digit, decimal_after, decimal_of}
-use Rattle.jiter_scan.specs.Number.{Number, integer, big, float, AreDigits, IsDigits, IsWhole, IsDecimal, IsNumberText, digit_limit, is_float_byte, is_integral, minus_of, positive_value, negative_value, integral_value, number_value}
+use Rattle.jiter_scan.specs.Number.{Number, integer, big, float, AreDigits, IsWhole, IsDecimal, IsNumberText, digit_limit, is_float_byte, is_integral, minus_of, positive_value, negative_value, integral_value, number_value}
 use Rattle.jiter_scan.proofs.Choices.{if_case, if-true, if-false}
 use Rattle.jiter_steps.specs.Node.{number_tree}
 use Rattle.look.specs.Print.{print_of}

@@ -1,6 +1,6 @@
 -- What is printed of a text is a string of the same characters.
-use Rattle.std.proofs.Common.{◌≡◌, ◌≢◌, ◌⊎◌, inl, inr, ℕ, ◌+◌, ◌/◌, ◌%◌, ◌<◌, ◌≤◌, true, false, List, [], ◌∷◌, ◌++◌, refl, sym, ap, ap₂, ◌∙◌, subst, arith}
-use Rattle.std.specs.Prelude.{slice_get, Some, codes, flat_map, ◌&&◌, ◌==◌, if◌then◌else◌, nat_eq, nat_lt}
+use Rattle.std.proofs.Common.{◌≡◌, ◌≢◌, ◌⊎◌, inl, inr, ℕ, ◌+◌, ◌/◌, ◌%◌, ◌<◌, ◌≤◌, true, List, [], ◌∷◌, ◌++◌, refl, sym, ap, ap₂, ◌∙◌, subst, arith}
+use Rattle.std.specs.Prelude.{codes, flat_map, nat_eq, nat_lt}
 use Rattle.std.specs.Char.{IsScalar, encode_utf8, digit_value}
 use Rattle.std.specs.Str.{all_scalars, encode_utf8_all}
 use Rattle.std.proofs.lemmas.Bool.{cases_lt, cases_eq, ne_eqb, le-ltb, lt-ltb, and_parts}
@@ -9,9 +9,9 @@ use Rattle.std.proofs.lemmas.List.Concat.{flat_map-append}
 use Rattle.jiter_scan.specs.Stands.{Stands}
 use Rattle.jiter_scan.proofs.Choices.{if-true, if-false}
 use Rattle.jiter_scan.proofs.Standing.{stands-split}
-use Rattle.jiter_steps.specs.Escape.{is_hex, unit_of}
+use Rattle.jiter_steps.specs.Escape.{is_hex}
 use Rattle.jiter_steps.specs.Piece.{IsUnit, IsPiece, Piece, SpellsPieces, SpellsString, characters, text_of}
-use Rattle.jiter_steps.proofs.Utf8Shape.{Lead, lead}
+use Rattle.jiter_steps.proofs.Utf8Shape.{lead}
 use Rattle.jiter_steps.proofs.StringComplete.{IsPrinted, ArePrinted, plain-printed, pieces-read}
 use lib.Utf8.{encode}
 use Rattle.look.specs.Print.{hex_digit, escaped, quoted}
