@@ -1,8 +1,11 @@
-pub mod Standing
-pub mod Scanning
 pub mod Choices
-pub mod Runs
-pub mod WordLaws
 pub mod NumberBounds
-pub mod NumberSound
 pub mod NumberComplete
+pub mod NumberSound
+pub mod Runs
+pub mod Scanning
+pub mod Standing
+pub mod WordLaws
+pub mod Words
+pub mod NumberBytes
+pub mod NumberLaws

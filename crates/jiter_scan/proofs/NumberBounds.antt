@@ -61,8 +61,8 @@ module _ (t : List ℕ) where
       if_case (Reaches t i 1) (c == 48) (zero_ended (i + 1) (slice_get t (i + 1))) (if is_digit c then within_limit i (digit_run t i) else failed invalid_number i)
       (λ z. zero_ended-reaches i (slice_get t (i + 1)) (omega arith))
       (λ z. if_case (Reaches t i 1) (is_digit c) (within_limit i (digit_run t i)) (failed invalid_number i)
-          (λ d. let more = digit_run-digit t i c s d in within_limit-reaches i (digit_run t i) (omega arith) run)
-          (λ d. fault-reaches i 1 i invalid_number refl (omega arith) le))
+      (λ d. let more = digit_run-digit t i c s d in within_limit-reaches i (digit_run t i) (omega arith) run)
+      (λ d. fault-reaches i 1 i invalid_number refl (omega arith) le))
 
   fraction_from-reaches : (i : ℕ) (o : Option ℕ) → slice_get t i ≡ o → i ≤ length t → Reaches t i 0 (fraction_from t i o)
   fraction_from-reaches i None s le = (omega arith, le)
@@ -131,9 +131,9 @@ module _ (t : List ℕ) where
       (if c == 78 then name_at names t (codes "NaN") i else (if c == 73 then name_at names t (codes "Infinity") i else decimal_at t i))
       (λ p. farther i 1 (i + 1) 1 (signed_from names t (i + 1) (slice_get t (i + 1))) (omega arith) (omega arith) (signed_from-reaches names (i + 1) (slice_get t (i + 1)) refl (omega arith)))
       (λ p. if_case (Reaches t i 1) (c == 78) (name_at names t (codes "NaN") i) (if c == 73 then name_at names t (codes "Infinity") i else decimal_at t i)
-          (λ q. name_at-reaches names (codes "NaN") i (omega arith) le)
-          (λ q. if_case (Reaches t i 1) (c == 73) (name_at names t (codes "Infinity") i) (decimal_at t i)
-              (λ r. name_at-reaches names (codes "Infinity") i (omega arith) le) (λ r. decimal_at-reaches i le)))
+      (λ q. name_at-reaches names (codes "NaN") i (omega arith) le)
+      (λ q. if_case (Reaches t i 1) (c == 73) (name_at names t (codes "Infinity") i) (decimal_at t i)
+      (λ r. name_at-reaches names (codes "Infinity") i (omega arith) le) (λ r. decimal_at-reaches i le)))
 
   pub number_extent-reaches : (names : Bool) (i : ℕ) → i ≤ length t → Reaches t i 1 (number_extent names t i)
   number_extent-reaches names i le = extent_from-reaches names i (slice_get t i) refl le

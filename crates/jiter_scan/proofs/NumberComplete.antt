@@ -1,15 +1,15 @@
 -- A number's text is read as a number, where the byte behind it does not go on it.
-use Rattle.std.proofs.Common.{◌≡◌, ◌≢◌, ◌⊎◌, inl, inr, ℕ, ◌+◌, ◌<◌, ◌≤◌, Bool, true, false, ◌||◌, List, [], ◌∷◌, ◌++◌, length, refl, sym, ap, ◌∙◌, subst, arith}
+use Rattle.std.proofs.Common.{◌≡◌, ◌≢◌, ◌⊎◌, inl, inr, ℕ, ◌+◌, ◌≤◌, Bool, true, false, ◌||◌, List, [], ◌∷◌, ◌++◌, length, refl, sym, ap, ◌∙◌, subst, arith}
 use Rattle.std.specs.Prelude.{slice_get, slice_range, Option, Some, None, IfSome, ◌==◌, if◌then◌else◌, nat_le, codes}
-use Rattle.std.proofs.lemmas.Bool.{eqb-true, ne_eqb, leb-true, le-leb, and_parts, or_parts, cases_eq}
+use Rattle.std.proofs.lemmas.Bool.{ne_eqb, leb-true, le-leb, and_parts, cases_eq}
 use Rattle.std.proofs.lemmas.Option.{IfSome_then}
 use Rattle.jiter_scan.specs.Digits.{is_digit, digit_run}
 use Rattle.jiter_scan.specs.Kind.{invalid_number, number_out_of_range}
-use Rattle.jiter_scan.specs.Number.{number_value, IsDigits, IsMinus, IsWhole, IsFraction, IsSign, IsPower, IsExponent, IsDecimal, IsName, IsNumberText, digit_limit}
+use Rattle.jiter_scan.specs.Number.{number_value, IsDigits, IsMinus, IsWhole, IsFraction, IsSign, IsExponent, IsDecimal, IsName, IsNumberText, digit_limit}
 use Rattle.jiter_scan.specs.NumberReading.{extent_then, digits_from, zero_ended, within_limit, whole_from, whole_at, fraction_from, fraction_at, power_from, exponent_from, exponent_at, decimal_at, signed_from, name_at, extent_from, number_extent, valued, number_at}
 use Rattle.jiter_scan.specs.Scanned.{taken, failed}
 use Rattle.jiter_scan.specs.Stands.{Stands}
-use Rattle.jiter_scan.specs.Word.{Extent, word_at}
+use Rattle.jiter_scan.specs.Word.{word_at}
 use Rattle.jiter_scan.proofs.Choices.{if-true, if-false}
 use Rattle.jiter_scan.proofs.Runs.{NoDigit, digit_run-complete}
 use Rattle.jiter_scan.proofs.Standing.{First, stands-length, stands-split, stands-slice, stands-next}
@@ -23,7 +23,7 @@ continues_number c = is_digit c || (c == 46) || (c == 101) || (c == 69)
 abbrev pub EndsNumber : Option ℕ → Type 0
 EndsNumber o = IfSome o (λ c. continues_number c ≡ false)
 
--- the end, or neither a digit nor a point
+-- neither a digit nor a point
 abbrev NoPoint : ℕ → Type 0
 NoPoint c = (is_digit c ≡ false) × ((c == 46) ≡ false)
 
@@ -31,6 +31,7 @@ NoPoint c = (is_digit c ≡ false) × ((c == 46) ≡ false)
 abbrev NoPart : ℕ → Type 0
 NoPart c = (is_digit c ≡ false) × ((c == 46) ≡ false) × (((c == 101) || (c == 69)) ≡ false)
 
+-- `0` to `9` by their codes
 pub digit-bounds : (c : ℕ) → is_digit c ≡ true → (48 ≤ c) × (c ≤ 57)
 digit-bounds c h = let p = and_parts (nat_le 48 c) (nat_le c 57) h in (leb-true 48 c p.0, leb-true c 57 p.1)
 
@@ -64,6 +65,7 @@ zero_ended-complete j None n = refl
 zero_ended-complete j (Some c) n = if-false (is_digit c) (failed invalid_number j) (taken tt j) n
 
 module _ (t : List ℕ) where
+  -- one digit or more
   pub digits_from-complete : (i j : ℕ) (w : List ℕ) → Stands t i j w → IsDigits w → NoDigit (slice_get t j) → digits_from t i (slice_get t i) ≡ taken tt j
   digits_from-complete i j [] h d n = absurd d
   digits_from-complete i j (c ∷ w) h d n =
@@ -87,6 +89,7 @@ module _ (t : List ℕ) where
       ∙ if-true (nat_le (digit_run t i) digit_limit) (taken tt (i + digit_run t i)) (failed number_out_of_range (i + (digit_limit + 1))) (le-leb (digit_run t i) digit_limit few)
       ∙ ap (taken tt) run
 
+  -- the integer part
   pub whole_at-complete : (i j : ℕ) (w : List ℕ) → Stands t i j w → IsWhole w → length w ≤ digit_limit → NoDigit (slice_get t j) → whole_at t i ≡ taken tt j
   whole_at-complete i j [] h is l n = absurd is
   whole_at-complete i j (c ∷ w) h is l n = by (cases_eq c 48) is.1 where
@@ -99,6 +102,7 @@ module _ (t : List ℕ) where
   fraction-none i None n = refl
   fraction-none i (Some c) n = if-false (c == 46) (digits_from t (i + 1) (slice_get t (i + 1))) (taken tt i) n.1
 
+  -- the fraction
   pub fraction_at-complete : (i j : ℕ) (w : List ℕ) → Stands t i j w → IsFraction w → IfSome (slice_get t j) NoPoint → fraction_at t i ≡ taken tt j
   fraction_at-complete i j [] h is n = fraction-none i (slice_get t i) (subst (λ k. IfSome (slice_get t k) NoPoint) (sym h) n) ∙ ap (taken tt) h
   fraction_at-complete i j (c ∷ w) h is n =
@@ -120,6 +124,7 @@ module _ (t : List ℕ) where
       ap (power_from t i) h.0 ∙ if-false ((c == 43) || (c == 45)) (digits_from t (i + 1) (slice_get t (i + 1))) (digits_from t i (Some c)) (unsigned c d.0)
       ∙ ap (digits_from t i) (sym h.0) ∙ digits_from-complete i j (c ∷ w) h d n
 
+  -- the sign and the digits of an exponent
   pub power_from-complete : (i j : ℕ) (sign digits : List ℕ) → IsSign sign → IsDigits digits → Stands t i j (sign ++ digits) → NoDigit (slice_get t j) → power_from t i (slice_get t i) ≡ taken tt j
   power_from-complete i j sign digits (inl s) d h n = power-unsigned i j digits (subst (λ x. Stands t i j (x ++ digits)) s h) d n
   power_from-complete i j sign digits (inr (inl s)) d h n = power-signed i j 43 digits refl (subst (λ x. Stands t i j (x ++ digits)) s h) d n
@@ -133,6 +138,7 @@ module _ (t : List ℕ) where
   exponent-letter i c (inl e) = ap (λ x. exponent_from t i (Some x)) e
   exponent-letter i c (inr e) = ap (λ x. exponent_from t i (Some x)) e
 
+  -- the exponent
   pub exponent_at-complete : (i j : ℕ) (w : List ℕ) → Stands t i j w → IsExponent w → IfSome (slice_get t j) NoPart → exponent_at t i ≡ taken tt j
   exponent_at-complete i j w h (inl none) n =
       let at : i ≡ j = subst (Stands t i j) none h in
@@ -199,6 +205,7 @@ module _ (t : List ℕ) where
       let s : Stands t i e (codes "-Infinity") = subst (Stands t i e) is h in
       ap (extent_from true t i) s.0 ∙ ap (signed_from true t (i + 1)) s.1.0 ∙ word_at-complete t (codes "Infinity") (i + 1) e s.1
 
+  -- all of a number
   pub number_extent-complete : (names : Bool) (i e : ℕ) (w : List ℕ) → Stands t i e w → IsNumberText names w → EndsNumber (slice_get t e) → number_extent names t i ≡ taken tt e
   number_extent-complete names i e w h (inl d) n = extent-decimal names i e w h d n
   number_extent-complete names i e w h (inr x) n = ap (λ b. number_extent b t i) x.0 ∙ extent-name i e w h x.1

@@ -1,5 +1,5 @@
 -- What is read as a number is a number's text.
-use Rattle.std.proofs.Common.{◌≡◌, ◌⊎◌, inl, inr, ℕ, ◌+◌, ◌<◌, ◌≤◌, Bool, true, false, ◌||◌, List, [], ◌∷◌, ◌++◌, length, refl, sym, ap, ◌∙◌, subst, arith}
+use Rattle.std.proofs.Common.{◌≡◌, ◌⊎◌, inl, inr, ℕ, ◌+◌, ◌≤◌, Bool, true, false, ◌||◌, List, [], ◌∷◌, ◌++◌, length, refl, sym, ap, ◌∙◌, subst, arith}
 use Rattle.std.specs.Prelude.{slice_get, slice_range, Option, Some, None, ◌==◌, if◌then◌else◌, nat_le, codes}
 use Rattle.std.proofs.lemmas.Bool.{eqb-true, eqb-false, leb-true, or_cases}
 use Rattle.jiter_scan.specs.Digits.{is_digit, digit_run}
@@ -32,12 +32,14 @@ module _ (t : List ℕ) where
       let r = digit_run-sound t (digit_run t (i + 1)) (i + 1) refl in
       (r.0, (s, subst (λ k. Stands t (i + 1) k r.0) (omega arith) r.1), (d, r.2))
 
+  -- one digit or more
   pub digits_from-sound : (i e : ℕ) (u : Unit {0}) (o : Option ℕ) → slice_get t i ≡ o → digits_from t i o ≡ taken u e → (w : List ℕ) × Stands t i e w × IsDigits w
   digits_from-sound i e u None s h = absurd (failed-taken eof_value i u e h)
   digits_from-sound i e u (Some c) s h =
       if_gives (is_digit c) (taken tt (i + digit_run t i)) (failed invalid_number i) (taken u e) h
       (λ d r. let x = run-sound i e c s d (same_taken tt u (i + digit_run t i) e r).1 in (c ∷ x.0, x.1, x.2)) (λ d r. absurd (failed-taken invalid_number i u e r))
 
+  -- the integer part
   pub whole_from-sound : (i e : ℕ) (u : Unit {0}) (o : Option ℕ) → slice_get t i ≡ o → whole_from t i o ≡ taken u e → (w : List ℕ) × Stands t i e w × IsWhole w × (length w ≤ digit_limit)
   whole_from-sound i e u None s h = absurd (failed-taken eof_value i u e h)
   whole_from-sound i e u (Some c) s h =
@@ -51,6 +53,7 @@ module _ (t : List ℕ) where
             let n = stands-length t i e (c ∷ x.0) x.1 in
             (c ∷ x.0, x.1, (x.2, inr (eqb-false c 48 z)), omega (arith, l.0, l.1))
 
+  -- the fraction
   pub fraction_from-sound : (i e : ℕ) (u : Unit {0}) (o : Option ℕ) → slice_get t i ≡ o → fraction_from t i o ≡ taken u e → (w : List ℕ) × Stands t i e w × IsFraction w
   fraction_from-sound i e u None s h = ([], (same_taken tt u i e h).1, tt)
   fraction_from-sound i e u (Some c) s h =
@@ -64,6 +67,7 @@ module _ (t : List ℕ) where
     by (inl p) = inr (inl (ap (λ x. x ∷ []) (eqb-true c 43 p)))
     by (inr p) = inr (inr (ap (λ x. x ∷ []) (eqb-true c 45 p)))
 
+  -- the sign and the digits of an exponent
   pub power_from-sound : (i e : ℕ) (u : Unit {0}) (o : Option ℕ) → slice_get t i ≡ o → power_from t i o ≡ taken u e → (sign : List ℕ) × (digits : List ℕ) × IsSign sign × IsDigits digits × Stands t i e (sign ++ digits)
   power_from-sound i e u None s h = absurd (failed-taken eof_value i u e h)
   power_from-sound i e u (Some c) s h =
@@ -77,12 +81,13 @@ module _ (t : List ℕ) where
     by (inl p) = inl (eqb-true c 101 p)
     by (inr p) = inr (eqb-true c 69 p)
 
+  -- the exponent
   pub exponent_from-sound : (i e : ℕ) (u : Unit {0}) (o : Option ℕ) → slice_get t i ≡ o → exponent_from t i o ≡ taken u e → (w : List ℕ) × Stands t i e w × IsExponent w
   exponent_from-sound i e u None s h = ([], (same_taken tt u i e h).1, inl refl)
   exponent_from-sound i e u (Some c) s h =
       if_gives ((c == 101) || (c == 69)) (power_from t (i + 1) (slice_get t (i + 1))) (taken tt i) (taken u e) h
       (λ p r. let x = power_from-sound (i + 1) e u (slice_get t (i + 1)) refl r in
-          (c ∷ (x.0 ++ x.1), (s, x.4), inr (record { letter = c; sign = x.0; digits = x.1; is = refl; is_letter = letter-sound c p; is_sign = x.2; are_digits = x.3 })))
+      (c ∷ (x.0 ++ x.1), (s, x.4), inr (record { letter = c; sign = x.0; digits = x.1; is = refl; is_letter = letter-sound c p; is_sign = x.2; are_digits = x.3 })))
       (λ p r. ([], (same_taken tt u i e r).1, inl refl))
 
   -- a decimal number, behind its minus
@@ -117,20 +122,21 @@ module _ (t : List ℕ) where
   signed_from-sound names i e u (Some c) m s h =
       if_gives (c == 73) (if names then word_at t (codes "Infinity") (i + 1) else failed invalid_number (i + 1)) (decimal_at t (i + 1)) (taken u e) h
       (λ p r. if_gives names (word_at t (codes "Infinity") (i + 1)) (failed invalid_number (i + 1)) (taken u e) r
-          (λ n q. inr (n, inr (inr (sym (slice-stands t i e (codes "-Infinity") (m, word_at-sound t (codes "Infinity") (i + 1) e u q))))))
-          (λ n q. absurd (failed-taken invalid_number (i + 1) u e q)))
+      (λ n q. inr (n, inr (inr (sym (slice-stands t i e (codes "-Infinity") (m, word_at-sound t (codes "Infinity") (i + 1) e u q))))))
+      (λ n q. absurd (failed-taken invalid_number (i + 1) u e q)))
       (λ p r. inl (decimal_at-sound i (i + 1) e u (45 ∷ []) (m, refl) (inr refl) r))
 
+  -- all of a number
   pub extent_from-sound : (names : Bool) (i e : ℕ) (u : Unit {0}) (o : Option ℕ) → slice_get t i ≡ o → extent_from names t i o ≡ taken u e → IsNumberText names (slice_range t i e)
   extent_from-sound names i e u None s h = absurd (failed-taken eof_value i u e h)
   extent_from-sound names i e u (Some c) s h =
       if_gives (c == 45) (signed_from names t (i + 1) (slice_get t (i + 1))) (if c == 78 then name_at names t (codes "NaN") i else (if c == 73 then name_at names t (codes "Infinity") i else decimal_at t i)) (taken u e) h
       (λ p r. signed_from-sound names i e u (slice_get t (i + 1)) (s ∙ ap Some (eqb-true c 45 p)) refl r)
       (λ p r. if_gives (c == 78) (name_at names t (codes "NaN") i) (if c == 73 then name_at names t (codes "Infinity") i else decimal_at t i) (taken u e) r
-          (λ n q. let x = name_at-sound names (codes "NaN") i e u q in inr (x.0, inl (sym (slice-stands t i e (codes "NaN") x.1))))
-          (λ n q. if_gives (c == 73) (name_at names t (codes "Infinity") i) (decimal_at t i) (taken u e) q
-              (λ f g. let x = name_at-sound names (codes "Infinity") i e u g in inr (x.0, inr (inl (sym (slice-stands t i e (codes "Infinity") x.1)))))
-              (λ f g. inl (decimal_at-sound i i e u [] refl (inl refl) g))))
+      (λ n q. let x = name_at-sound names (codes "NaN") i e u q in inr (x.0, inl (sym (slice-stands t i e (codes "NaN") x.1))))
+      (λ n q. if_gives (c == 73) (name_at names t (codes "Infinity") i) (decimal_at t i) (taken u e) q
+      (λ f g. let x = name_at-sound names (codes "Infinity") i e u g in inr (x.0, inr (inl (sym (slice-stands t i e (codes "Infinity") x.1)))))
+      (λ f g. inl (decimal_at-sound i i e u [] refl (inl refl) g))))
 
   valued-sound : (names : Bool) (i : ℕ) (n : Number) (e : ℕ) (x : Extent) → number_extent names t i ≡ x → valued t i x ≡ taken n e → IsNumberText names (slice_range t i e) × (n ≡ number_value (slice_range t i e))
   valued-sound names i n e (taken u f) s h =

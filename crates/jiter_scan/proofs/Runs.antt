@@ -14,22 +14,27 @@ abbrev pub NoDigit : Option ℕ → Type 0
 NoDigit o = IfSome o (λ c. is_digit c ≡ false)
 
 module _ (t : List ℕ) where
+  -- a run goes on behind a digit
   pub digit_run-digit : (i c : ℕ) → slice_get t i ≡ Some c → is_digit c ≡ true → digit_run t i ≡ 1 + digit_run t (i + 1)
   unfolding digit_run
   digit_run-digit i c h e = prefix_len-drop_yes is_digit t i 0 (slice_get_within t i c h) (ap is_digit (get_or_from_slice_get t i c 0 h) ∙ e)
 
+  -- another byte begins no run
   pub digit_run-other : (i c : ℕ) → slice_get t i ≡ Some c → is_digit c ≡ false → digit_run t i ≡ 0
   unfolding digit_run
   digit_run-other i c h e = prefix_len-drop_no is_digit t i 0 (slice_get_within t i c h) (ap is_digit (get_or_from_slice_get t i c 0 h) ∙ e)
 
+  -- the end begins no run
   pub digit_run-end : (i : ℕ) → slice_get t i ≡ None → digit_run t i ≡ 0
   unfolding digit_run
   digit_run-end i h = prefix_len-drop_all is_digit t i (get-none t i h)
 
+  -- where no digit stands there is no run
   pub digit_run-none : (i : ℕ) (o : Option ℕ) → slice_get t i ≡ o → NoDigit o → digit_run t i ≡ 0
   digit_run-none i None h n = digit_run-end i h
   digit_run-none i (Some c) h n = digit_run-other i c h n
 
+  -- a run does not leave the text
   pub digit_run-within : (i : ℕ) → i ≤ length t → i + digit_run t i ≤ length t
   unfolding digit_run
   digit_run-within i h = omega (arith, prefix_len-le-length is_digit (drop i t), length-drop i t)

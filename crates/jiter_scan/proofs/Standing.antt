@@ -6,28 +6,33 @@ use Rattle.std.proofs.lemmas.Option.{slice_get-get_or, slice_get_within, get_or_
 use Rattle.std.proofs.lemmas.Bool.{cases_lt}
 use Rattle.jiter_scan.specs.Stands.{Stands}
 
--- of the first byte, where there is one
+-- P of the first byte, where there is one
 abbrev pub First : List ℕ → (ℕ → Type 0) → Type 0
 First [] P = Unit {0}
 First (c ∷ w) P = P c
 
 module _ (t : List ℕ) where
+  -- the end follows from the length
   pub stands-length : (i j : ℕ) (w : List ℕ) → Stands t i j w → j ≡ i + length w
   stands-length i j [] h = omega arith
   stands-length i j (c ∷ w) h = let rest = stands-length (i + 1) j w h.1 in omega arith
 
+  -- bytes stand inside the text
   pub stands-within : (i j : ℕ) (w : List ℕ) → i ≤ length t → Stands t i j w → j ≤ length t
   stands-within i j [] le h = omega arith
   stands-within i j (c ∷ w) le h = let here = slice_get_within t i c h.0 in stands-within (i + 1) j w (omega arith) h.1
 
+  -- two words one behind the other are their join
   pub stands-append : (i j k : ℕ) (u v : List ℕ) → Stands t i j u → Stands t j k v → Stands t i k (u ++ v)
   stands-append i j k [] v h g = subst (λ x. Stands t x k v) (sym h) g
   stands-append i j k (c ∷ u) v h g = (h.0, stands-append (i + 1) j k u v h.1 g)
 
+  -- and a join stands as two words
   pub stands-split : (i k : ℕ) (u v : List ℕ) → Stands t i k (u ++ v) → (j : ℕ) × Stands t i j u × Stands t j k v
   stands-split i k [] v h = (i, refl, h)
   stands-split i k (c ∷ u) v h = let r = stands-split (i + 1) k u v h.1 in (r.0, (h.0, r.1), r.2)
 
+  -- a word that begins at i ends in one place
   pub stands-unique : (i j k : ℕ) (w : List ℕ) → Stands t i j w → Stands t i k w → j ≡ k
   stands-unique i j k w h g = let a = stands-length i j w h in let b = stands-length i k w g in omega arith
 
@@ -61,6 +66,7 @@ module _ (t : List ℕ) where
   stands-next P i j [] h f p = subst (λ k. IfSome (slice_get t k) P) (sym h) p
   stands-next P i j (c ∷ w) h f p = subst (λ o. IfSome o P) (sym h.0) f
 
+  -- where no byte stands, the text is over
   pub get-none : (i : ℕ) → slice_get t i ≡ None → length t ≤ i
   get-none i h = by (cases_lt i (length t)) where
     by : (i < length t) ⊎ (length t ≤ i) → length t ≤ i

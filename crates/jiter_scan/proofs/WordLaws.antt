@@ -21,6 +21,7 @@ module _ (t : List ℕ) where
   later w c i (taken u e) h = ((omega (arith, h.0.0), h.0.1), tt)
   later w c i (failed k j) h = ((omega (arith, h.0.0), h.0.1), h.1)
 
+  -- both at once: how far a word gets, and where it says that the text ended
   pub word_at-reach : (w : List ℕ) (i : ℕ) → i ≤ length t → WordWithin t w i (word_at t w i) × EndsAtLength t (word_at t w i)
   unfolding word_at
   word_at-reach [] i le = ((omega arith, le), tt)
@@ -39,12 +40,14 @@ module _ (t : List ℕ) where
   pub word_at-ends : (w : List ℕ) (i : ℕ) → i ≤ length t → EndsAtLength t (word_at t w i)
   word_at-ends w i le = (word_at-reach w i le).1
 
+  -- a word that stands is read
   pub word_at-complete : (w : List ℕ) (i e : ℕ) → Stands t i e w → word_at t w i ≡ taken tt e
   unfolding word_at
   word_at-complete [] i e h = ap (taken tt) h
   word_at-complete (c ∷ w) i e h =
       ap (byte_then (word_at t w (i + 1)) c i) h.0 ∙ if-true (c == c) (word_at t w (i + 1)) (failed expected_ident i) (eq-eqb c c refl) ∙ word_at-complete w (i + 1) e h.1
 
+  -- a word that is read stands
   pub word_at-sound : (w : List ℕ) (i e : ℕ) (u : Unit {0}) → word_at t w i ≡ taken u e → Stands t i e w
   unfolding word_at
   word_at-sound [] i e u h = (same_taken tt u i e h).1

@@ -1,4 +1,7 @@
 pub mod Blanks
+pub mod Ahead
+pub mod Values
+pub mod EndKinds
 pub mod StringStand
 pub mod Utf8Shape
 pub mod PlacesExplained

@@ -1,6 +1,6 @@
 -- What the functions of the code say of blanks, literals and steps.
-use Rattle.std.specs.Prelude.{◌≡◌, ◌<◌, ◌≤◌, ℕ, Result, Ok, Err}
-use Rattle.jiter_scan.specs.Kind.{kind_of}
+use Rattle.std.specs.Prelude.{◌≡◌, ◌≢◌, ◌<◌, ◌≤◌, ℕ, Result, Ok, Err}
+use Rattle.jiter_scan.specs.Kind.{kind_of, out_of_memory}
 use Rattle.jiter_scan.specs.Scanned.{taken, failed}
 use Rattle.jiter_scan.specs.Word.{Extent}
 use Rattle.jiter_steps.specs.Step.{Step, more, closed, stuck}
@@ -28,3 +28,8 @@ IsAhead from len (Closed e) = (from < e) × (e ≤ len)
 abbrev pub Leads : Result ℕ Fault → Step → Type 0
 Leads (Ok j) s = s ≡ more j
 Leads (Err f) s = (s ≡ stuck (kind_of f.kind) f.index) × (f.stop ≡ f.index)
+
+-- The fault tells of the bytes, not of memory, and its index does not pass the length.
+pub record TellsOfBytes (f : Fault) (len : ℕ) : Type 0 where
+  pub kind : kind_of f.kind ≢ out_of_memory
+  pub index : f.index ≤ len

@@ -1,12 +1,13 @@
 //! Blanks, literals, and the steps between the parts of arrays and objects.
-ghost use Rattle.std.specs.Prelude.{◌≡◌, ◌+◌, ◌≤◌, ◌<◌, IfOk, IfSome, MatchResult, length, slice_get};
+ghost use Rattle.std.specs.Prelude.{◌≡◌, ◌+◌, ◌≤◌, ◌<◌, IfOk, IfErr, IfSome, MatchResult, length, slice_get};
 ghost use Rattle.jiter_steps.specs.Blank.{is_blank, past_blanks};
 ghost use Rattle.jiter_steps.specs.Literal.{start_of, word_of, literal_at};
 ghost use Rattle.jiter_steps.specs.Step.{step, array_opened, array_comma, array_continued, object_opened, key_colon, value_begins, key_ended, object_comma, object_continued};
-ghost use Rattle.jiter_steps.specs.Given.{ScansWord, Steps, IsAhead, Leads};
+ghost use Rattle.jiter_steps.specs.Given.{ScansWord, Steps, IsAhead, Leads, TellsOfBytes};
 
 use crate::fault::{Fault, fault_at};
 use jiter_scan::JsonErrorType;
+use jiter_scan::word::{byte_at, word_end};
 
 /// A literal name (RFC 8259, 3).
 #[derive(Clone, Copy, Debug, PartialEq, Eq)]
@@ -14,6 +15,18 @@ pub enum Literal {
     Null,
     True,
     False,
+}
+
+impl Literal {
+    fn word(self) -> &'static [u8]
+        ensures { result.now ≡ word_of self }
+    {
+        match self {
+            Literal::Null => b"null",
+            Literal::True => b"true",
+            Literal::False => b"false",
+        }
+    }
 }
 
 /// What a value's first byte says of it.
@@ -58,13 +71,6 @@ fn is_blank(byte: u8) -> bool
     matches!(byte, b' ' | b'\t' | b'\n' | b'\r')
 }
 
-pub fn byte_at(bytes: &[u8], at: usize) -> Option<u8>
-    ensures value { result ≡ slice_get bytes.now at }
-    ensures inside { IfSome result (λ _. at < length bytes.now) }
-{
-    bytes.get(at).copied()
-}
-
 /// The first byte index from `from` on that has no blank, or the length (RFC 8259, 2).
 pub fn past_blanks(bytes: &[u8], from: usize) -> usize
     requires { from ≤ length bytes.now }
@@ -79,11 +85,29 @@ pub fn past_blanks(bytes: &[u8], from: usize) -> usize
     at
 }
 
+/// The byte index behind the literal at `from`; a fault leaves the reading there (RFC 8259, 3).
+pub fn literal_end(bytes: &[u8], from: usize, literal: Literal) -> Result<usize, Fault>
+    requires { from ≤ length bytes.now }
+    ensures value { ScansWord from result (literal_at bytes.now literal from) }
+    ensures end { IfOk result (λ e. (from < e) × (e ≤ length bytes.now)) }
+    ensures fault { IfErr result (λ f. TellsOfBytes f (length bytes.now)) }
+{
+    match word_end(bytes, from, literal.word()) {
+        Ok(end) => Ok(end),
+        Err(error) => Err(Fault {
+            kind: error.error_type,
+            index: error.index,
+            stop: from,
+        }),
+    }
+}
+
 /// The first item of an array, or its end; `from` is the place behind `[` (RFC 8259, 5).
 pub fn array_opened(bytes: &[u8], from: usize) -> Result<Step, Fault>
     requires { from ≤ length bytes.now }
     ensures value { Steps result (step bytes.now array_opened from) }
     ensures place { IfOk result (IsAhead from (length bytes.now)) }
+    ensures fault { IfErr result (λ f. TellsOfBytes f (length bytes.now)) }
 {
     let at = past_blanks(bytes, from);
     match byte_at(bytes, at) {
@@ -103,6 +127,7 @@ fn array_comma(bytes: &[u8], from: usize) -> Result<Step, Fault>
     requires { from ≤ length bytes.now }
     ensures value { Steps result (step bytes.now array_comma from) }
     ensures place { IfOk result (IsAhead from (length bytes.now)) }
+    ensures fault { IfErr result (λ f. TellsOfBytes f (length bytes.now)) }
 {
     let at = past_blanks(bytes, from);
     match byte_at(bytes, at) {
@@ -122,6 +147,7 @@ pub fn array_continued(bytes: &[u8], from: usize) -> Result<Step, Fault>
     requires { from ≤ length bytes.now }
     ensures value { Steps result (step bytes.now (array_continued bytes.now) from) }
     ensures place { IfOk result (IsAhead from (length bytes.now)) }
+    ensures fault { IfErr result (λ f. TellsOfBytes f (length bytes.now)) }
 {
     let at = past_blanks(bytes, from);
     match byte_at(bytes, at) {
@@ -143,6 +169,7 @@ pub fn object_opened(bytes: &[u8], from: usize) -> Result<Step, Fault>
     requires { from ≤ length bytes.now }
     ensures value { Steps result (step bytes.now object_opened from) }
     ensures place { IfOk result (IsAhead from (length bytes.now)) }
+    ensures fault { IfErr result (λ f. TellsOfBytes f (length bytes.now)) }
 {
     let at = past_blanks(bytes, from);
     match byte_at(bytes, at) {
@@ -164,6 +191,7 @@ pub fn key_colon(bytes: &[u8], from: usize) -> Result<usize, Fault>
     requires { from ≤ length bytes.now }
     ensures value { Leads result (step bytes.now key_colon from) }
     ensures place { IfOk result (λ j. (from < j) × (j ≤ length bytes.now)) }
+    ensures fault { IfErr result (λ f. TellsOfBytes f (length bytes.now)) }
 {
     let at = past_blanks(bytes, from);
     match byte_at(bytes, at) {
@@ -183,6 +211,7 @@ fn value_begins(bytes: &[u8], from: usize) -> Result<usize, Fault>
     requires { from ≤ length bytes.now }
     ensures value { Leads result (step bytes.now value_begins from) }
     ensures place { IfOk result (λ j. (from ≤ j) × (j < length bytes.now)) }
+    ensures fault { IfErr result (λ f. TellsOfBytes f (length bytes.now)) }
 {
     let at = past_blanks(bytes, from);
     match byte_at(bytes, at) {
@@ -196,6 +225,7 @@ pub fn key_ended(bytes: &[u8], from: usize) -> Result<usize, Fault>
     requires { from ≤ length bytes.now }
     ensures value { Leads result (key_ended bytes.now from) }
     ensures place { IfOk result (λ j. (from < j) × (j < length bytes.now)) }
+    ensures fault { IfErr result (λ f. TellsOfBytes f (length bytes.now)) }
 {
     match key_colon(bytes, from) {
         Ok(behind) => value_begins(bytes, behind),
@@ -208,6 +238,7 @@ fn object_comma(bytes: &[u8], from: usize) -> Result<Step, Fault>
     requires { from ≤ length bytes.now }
     ensures value { Steps result (step bytes.now object_comma from) }
     ensures place { IfOk result (IsAhead from (length bytes.now)) }
+    ensures fault { IfErr result (λ f. TellsOfBytes f (length bytes.now)) }
 {
     let at = past_blanks(bytes, from);
     match byte_at(bytes, at) {
@@ -229,6 +260,7 @@ pub fn object_continued(bytes: &[u8], from: usize) -> Result<Step, Fault>
     requires { from ≤ length bytes.now }
     ensures value { Steps result (step bytes.now (object_continued bytes.now) from) }
     ensures place { IfOk result (IsAhead from (length bytes.now)) }
+    ensures fault { IfErr result (λ f. TellsOfBytes f (length bytes.now)) }
 {
     let at = past_blanks(bytes, from);
     match byte_at(bytes, at) {
@@ -249,6 +281,7 @@ pub fn object_continued(bytes: &[u8], from: usize) -> Result<Step, Fault>
 pub fn value_begin(bytes: &[u8]) -> Result<usize, Fault>
     ensures value { Leads result (step bytes.now value_begins 0) }
     ensures place { IfOk result (λ j. (past_blanks bytes.now 0 ≡ j) × (j < length bytes.now)) }
+    ensures fault { IfErr result (λ f. TellsOfBytes f (length bytes.now)) }
 {
     value_begins(bytes, 0)
 }
