@@ -77,4 +77,3 @@ error_of (refusal.Fault f) = record { error_type = f.kind; index = f.index }
 abbrev pub Answers : Result JsonValue JsonError → Reading Tree → Type 0
 Answers (Ok v) r = (e : ℕ) × (r ≡ done (view v) e)
 Answers (Err e) r = (e.error_type ≡ OutOfMemory) ⊎ ((stop : ℕ) × (r ≡ fault (kind_of e.error_type) e.index stop))
-

@@ -4,7 +4,8 @@ ghost use Rattle.jiter_steps.specs.Literal.{literal_tree, start_of};
 ghost use Rattle.jiter_steps.specs.Node.{number_tree};
 ghost use Rattle.jiter_scan.specs.NumberView.{number_view};
 ghost use Rattle.jiter_steps.specs.Read.{value_at, scanned};
-ghost use Rattle.jiter_steps.specs.Answer.{whole_trees};
+ghost use Rattle.jiter_steps.specs.Answer.{whole_trees, answer};
+ghost use Rattle.jiter_steps.specs.Blank.{past_blanks};
 ghost use Rattle.jiter_value.specs.View.{view};
 ghost use Rattle.jiter_value.specs.Answers.{Gives, inside_at, IsErrOfFault, IsRefusalAt, IsRefusalFrom};
 
@@ -13,12 +14,15 @@ use jiter_scan::number_decoder::number_at;
 use jiter_scan::{JsonErrorType, NumberAny, NumberInt};
 use jiter_steps::fault::{Fault, Refusal, fault_at};
 use jiter_steps::parse::{
-    Literal, Start, Step, array_continued, array_opened, key_ended, literal_end, object_continued,
-    object_opened, start_of,
+    Literal, Start, Step, array_continued, array_opened, finish, key_ended, literal_end,
+    object_continued, object_opened, start_of, value_begin,
 };
 use jiter_steps::string_decoder::string_at;
 use std::alloc::Global;
 use std::borrow::CowStr;
+
+// How many containers that are not empty may stand one inside another.
+const NESTING_LIMIT: usize = 200;
 
 fn literal_value<'j>(literal: Literal) -> JsonValue<'j>
     ensures { view result ≡ literal_tree literal }
@@ -260,5 +264,28 @@ fn read_object<'j>(
             Ok(Step::More(next)) => place = next,
             Err(fault) => return Err(Refusal::Fault(fault)),
         }
+    }
+}
+
+/// The value of a whole document, and the byte index behind it (RFC 8259, 2).
+pub fn read_whole<'j>(
+    alloc: Global,
+    bytes: &'j [u8],
+    allow_inf_nan: bool,
+) -> Result<(JsonValue<'j>, usize), Refusal>
+    ensures value { Gives result (answer allow_inf_nan bytes.now) }
+    ensures refusal { IfErr result (IsRefusalAt bytes.now (past_blanks bytes.now 0)) }
+{
+    let begin = match value_begin(bytes) {
+        Ok(begin) => begin,
+        Err(fault) => return Err(Refusal::Fault(fault)),
+    };
+    let mut tape = Vec::new(alloc);
+    match read(alloc, &mut tape, bytes, begin, NESTING_LIMIT, allow_inf_nan) {
+        Ok((value, end)) => match finish(bytes, end) {
+            Ok(()) => Ok((value, end)),
+            Err(fault) => Err(Refusal::Fault(fault)),
+        },
+        Err(refusal) => Err(refusal),
     }
 }
