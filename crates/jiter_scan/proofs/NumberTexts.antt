@@ -93,7 +93,6 @@ slice_range-one t i c h = slice_range-first t i (i + 1) c h (omega arith) ∙ ap
     none : i + 1 - (i + 1) ≡ 0
     none = omega arith
 
-
 -- ---- the parts of a number
 
 then_taken : (x : Extent) (next : ℕ → Extent) (e : ℕ) → extent_then x next ≡ taken tt e → (j : ℕ) × (x ≡ taken tt j) × (next j ≡ taken tt e)
@@ -350,8 +349,8 @@ IsAscii-decimal t i j k e minus h part =
 pub IsAscii-name : (t w : List ℕ) (i j e : ℕ) → IsMinusTo t i j → word_at t w j ≡ taken tt e → e ≡ j + length w → IsAscii w → IsAscii (slice_range t i e)
 IsAscii-name t w i j e minus h long ascii =
     let low : AsciiTo t j e = λ k above below.
-      let place : j + (k - j) ≡ k = omega arith in
-      let same : get_or t k 0 ≡ get_or w (k - j) 0 = ap (λ m. get_or t m 0) (sym place) ∙ word_at-bytes t w j e h (k - j) (omega arith) in
-      let small = ascii (k - j) in
-      omega arith in
+    let place : j + (k - j) ≡ k = omega arith in
+    let same : get_or t k 0 ≡ get_or w (k - j) 0 = ap (λ m. get_or t m 0) (sym place) ∙ word_at-bytes t w j e h (k - j) (omega arith) in
+    let small = ascii (k - j) in
+    omega arith in
     IsAscii-slice_range t i e (AsciiTo-join t i j e (IsMinusTo-low t i j minus) low)

@@ -209,10 +209,7 @@ fn limited_read(bytes: &[u8], at: usize) -> JsonResult<(u64, usize)>
     if end - at <= DIGIT_LIMIT {
         Ok((magnitude, end))
     } else {
-        Err(fault(
-            JsonErrorType::NumberOutOfRange,
-            at + (DIGIT_LIMIT + 1),
-        ))
+        Err(fault(JsonErrorType::NumberOutOfRange, at + (DIGIT_LIMIT + 1)))
     }
 }
 
@@ -372,11 +369,7 @@ fn tail_end(bytes: &[u8], at: usize) -> JsonResult<usize>
 }
 
 // The decimal number that begins at `from`, its minus apart at `at`.
-fn decimal_read<'j>(
-    bytes: &'j [u8],
-    from: usize,
-    at: usize,
-) -> JsonResult<(NumberAny<'j>, usize)>
+fn decimal_read<'j>(bytes: &'j [u8], from: usize, at: usize) -> JsonResult<(NumberAny<'j>, usize)>
     requires within { at ≤ length bytes.now }
     requires minus { IsMinusTo bytes.now from at }
     ensures value { Scans number_view result (valued bytes.now from (decimal_at bytes.now at)) }
@@ -573,3 +566,6 @@ fn begins_number(byte: u8) -> bool
 {
     byte.is_ascii_digit() || matches!(byte, b'-' | b'N' | b'I')
 }
+
+#[cfg(test)]
+mod tests;

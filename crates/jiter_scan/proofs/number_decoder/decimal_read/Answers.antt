@@ -21,12 +21,12 @@ returns-clause-value c =
     let end = c.in_ok-end in
     let read = decimal_at-whole t c.args.at whole.whole_end whole.ensures.value ∙ end.ensures.value in
     let value : number_value (slice_range t c.args.from end.end) ≡ number_view c.if-end-whole_end.number =
-      elim c.if-end-whole_end.branch [
-        | then-end-whole_end w ↦ sym (ap number_view w.number-is ∙ w.integer_of.ensures)
-        | else-end-whole_end w ↦
-            let part = tail-part t whole.whole_end end.end end.ensures.value in
-            let ahead : whole.whole_end < end.end = omega (arith, end.ensures.place, w.if-end-whole_end.false) in
-            number_value-part t c.args.from whole.whole_end end.end (omega (arith, IsMinusTo-le t c.args.from c.args.at c.requires.minus, whole.ensures.place)) ahead (omega (arith, end.ensures.place)) (part.first ahead)
-            ∙ sym (ap number_view w.number-is ∙ ap float w.ascii_text.ensures)
-      ] in
+    elim c.if-end-whole_end.branch [
+      | then-end-whole_end w ↦ sym (ap number_view w.number-is ∙ w.integer_of.ensures)
+      | else-end-whole_end w ↦
+          let part = tail-part t whole.whole_end end.end end.ensures.value in
+          let ahead : whole.whole_end < end.end = omega (arith, end.ensures.place, w.if-end-whole_end.false) in
+          number_value-part t c.args.from whole.whole_end end.end (omega (arith, IsMinusTo-le t c.args.from c.args.at c.requires.minus, whole.ensures.place)) ahead (omega (arith, end.ensures.place)) (part.first ahead)
+          ∙ sym (ap number_view w.number-is ∙ ap float w.ascii_text.ensures)
+    ] in
     ap (valued t c.args.from) read ∙ ap (λ n. taken n end.end) value

@@ -1,0 +1,196 @@
+//! Rows of numbers alone, of integers alone, and of numbers that something follows.
+use crate::errors::{JsonError, JsonErrorType, JsonResult};
+use crate::number_decoder::{Integer, NumberAny, NumberInt, int_at, number_at};
+use std::alloc::{AllocError, Global};
+use std::test::*;
+
+fn int<'j>(value: i64) -> JsonResult<NumberAny<'j>> {
+    Ok(NumberAny::Int(NumberInt::Int(value)))
+}
+
+fn big(text: &str) -> JsonResult<NumberAny> {
+    Ok(NumberAny::Int(NumberInt::BigInt(text)))
+}
+
+fn float(text: &str) -> JsonResult<NumberAny> {
+    Ok(NumberAny::Float(text))
+}
+
+fn refused<'j>(error_type: JsonErrorType, index: usize) -> JsonResult<NumberAny<'j>> {
+    Err(JsonError { error_type, index })
+}
+
+fn refused_int<'j>(error_type: JsonErrorType, index: usize) -> JsonResult<NumberInt<'j>> {
+    Err(JsonError { error_type, index })
+}
+
+// The front, so many times the digit, and the back.
+fn spelled(
+    alloc: Global,
+    front: &str,
+    digit: u8,
+    count: usize,
+    back: &str,
+) -> Result<Vec<u8>, AllocError> {
+    let mut text = Vec::new(alloc);
+    text.extend_from_slice(front.as_bytes())?;
+    for _ in 0..count {
+        text.push(digit)?;
+    }
+    text.extend_from_slice(back.as_bytes())?;
+    Ok(text)
+}
+
+#[test]
+fn integers_and_floats(rt: HostRuntime) {
+    for (text, wanted) in [
+        (b"-9223372036854775808".as_slice(), int(i64::MIN)),
+        (b"9223372036854775807", int(i64::MAX)),
+        (b"9223372036854775808", big("9223372036854775808")),
+        (b"18446744073709551617", big("18446744073709551617")),
+        (b"-0", int(0)),
+        (b"1E5", float("1E5")),
+        (b"-0.0", float("-0.0")),
+    ] {
+        assert_eq!(rt; NumberAny::from_bytes(text, false), wanted);
+    }
+}
+
+#[test]
+fn refused_numbers(rt: HostRuntime) {
+    for (text, wanted) in [
+        (b"01".as_slice(), refused(JsonErrorType::InvalidNumber, 1)),
+        (b"0.", refused(JsonErrorType::EofWhileParsingValue, 2)),
+        (b"1e", refused(JsonErrorType::EofWhileParsingValue, 2)),
+        (b"1e+x", refused(JsonErrorType::InvalidNumber, 3)),
+        (b"-01", refused(JsonErrorType::InvalidNumber, 2)),
+        (b"NaN", refused(JsonErrorType::ExpectedSomeValue, 0)),
+        (b"I", refused(JsonErrorType::ExpectedSomeValue, 0)),
+        (b"", refused(JsonErrorType::InvalidNumber, 0)),
+        (b" 1", refused(JsonErrorType::InvalidNumber, 0)),
+        (b"1x", refused(JsonErrorType::InvalidNumber, 1)),
+    ] {
+        assert_eq!(rt; NumberAny::from_bytes(text, false), wanted);
+    }
+}
+
+#[test]
+fn names(rt: HostRuntime) {
+    for (text, wanted) in [
+        (b"NaN".as_slice(), float("NaN")),
+        (b"Infinity", float("Infinity")),
+        (b"-Infinity", float("-Infinity")),
+        (b"-NaN", refused(JsonErrorType::InvalidNumber, 1)),
+        (b"Infinit", refused(JsonErrorType::EofWhileParsingValue, 7)),
+        (b"Infinitx", refused(JsonErrorType::ExpectedSomeIdent, 7)),
+    ] {
+        assert_eq!(rt; NumberAny::from_bytes(text, true), wanted);
+    }
+}
+
+#[test]
+fn integers_alone(rt: HostRuntime) {
+    for (text, wanted) in [
+        (
+            b"1000000000000000000".as_slice(),
+            Ok(NumberInt::Int(1_000_000_000_000_000_000)),
+        ),
+        (b"9223372036854775807", Ok(NumberInt::Int(i64::MAX))),
+        (
+            b"-9223372036854775809",
+            Ok(NumberInt::BigInt("-9223372036854775809")),
+        ),
+        (b"1.", refused_int(JsonErrorType::InvalidNumber, 1)),
+        (b"12x", refused_int(JsonErrorType::InvalidNumber, 2)),
+        (b"-", refused_int(JsonErrorType::EofWhileParsingValue, 1)),
+        (b"-I", refused_int(JsonErrorType::InvalidNumber, 1)),
+        (b"NaN", refused_int(JsonErrorType::InvalidNumber, 0)),
+    ] {
+        assert_eq!(rt; NumberInt::from_bytes(text), wanted);
+    }
+    assert_eq!(rt;
+        NumberInt::try_from(b"-7".as_slice()),
+        Ok(NumberInt::Int(-7))
+    );
+}
+
+#[test]
+fn digit_limit(rt: HostRuntime) -> Result<(), Fail> {
+    let longest = spelled(rt.alloc(), "", b'1', 4300, ".5")?;
+    match NumberAny::from_bytes(&longest, false) {
+        Ok(NumberAny::Float(text)) => assert_eq!(rt; text.as_bytes(), longest.as_slice()),
+        _ => panic!(rt; "4300 digits and a fraction are a float"),
+    }
+    for (front, back, index) in [("", ".5", 4301), ("-", ".5", 4302), ("", "", 4301)] {
+        let text = spelled(rt.alloc(), front, b'1', 4301, back)?;
+        assert_eq!(rt;
+            NumberAny::from_bytes(&text, false),
+            refused(JsonErrorType::NumberOutOfRange, index)
+        );
+    }
+    let digits = spelled(rt.alloc(), "", b'1', 4301, "")?;
+    assert_eq!(rt;
+        NumberInt::from_bytes(&digits),
+        refused_int(JsonErrorType::NumberOutOfRange, 4301)
+    );
+    Ok(())
+}
+
+// The form with its digits written out: `D` stands for them.
+fn filled(alloc: Global, form: &str, count: usize) -> Result<Vec<u8>, AllocError> {
+    let mut text = Vec::new(alloc);
+    for byte in form.as_bytes() {
+        if *byte == b'D' {
+            for _ in 0..count {
+                text.push(b'7')?;
+            }
+        } else {
+            text.push(*byte)?;
+        }
+    }
+    Ok(text)
+}
+
+// The end of the number that the bytes begin with, or None where it is refused.
+fn number_end(bytes: &[u8]) -> Option<usize> {
+    if bytes.is_empty() {
+        return None;
+    }
+    match number_at(bytes, 0, false) {
+        Ok((_, end)) => Some(end),
+        Err(_) => None,
+    }
+}
+
+// Whether the number ends at what follows it, whatever the count of its digits.
+fn all_end(alloc: Global, form: &str, follower: &str) -> Result<bool, AllocError> {
+    for count in [1, 7, 8, 9, 15, 16, 17, 23, 24, 25, 40] {
+        let mut text = filled(alloc, form, count)?;
+        let length = text.len();
+        text.extend_from_slice(follower.as_bytes())?;
+        if number_end(&text) != Some(length) {
+            return Ok(false);
+        }
+    }
+    Ok(true)
+}
+
+#[test]
+fn ends_at_what_follows(rt: HostRuntime) -> Result<(), Fail> {
+    for form in ["D", "-D", "1.D", "1.5eD", "D.De-D"] {
+        for follower in ["", ",", "]", " "] {
+            assert!(rt; all_end(rt.alloc(), form, follower)?);
+        }
+    }
+    Ok(())
+}
+
+#[test]
+fn integers_at_a_place(rt: HostRuntime) {
+    assert_eq!(rt;
+        int_at(b"[-12,3]", 1),
+        Ok(Integer::Whole(NumberInt::Int(-12), 4))
+    );
+    assert_eq!(rt; int_at(b"[1.5]", 1), Ok(Integer::FloatSeen(2)));
+    assert_eq!(rt; int_at(b"-Infinity", 0), Ok(Integer::FloatSeen(1)));
+}
