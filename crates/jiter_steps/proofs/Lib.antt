@@ -12,3 +12,4 @@ pub mod StringMarks
 pub mod StringLaws
 pub mod PlainRuns
 pub mod StringAnswers
+pub mod StringCutLaws
