@@ -29,3 +29,4 @@ pub mod Complete
 pub mod Documents
 mod Rows
 pub mod GrammarLaw
+pub mod StringCutLaws

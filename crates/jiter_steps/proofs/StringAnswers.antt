@@ -4,7 +4,6 @@ use Rattle.std.specs.Prelude.{slice_get, slice_range, Some, None, Result, Ok, Er
 use Rattle.std.specs.declared.alloc.Global.{Global}
 use Rattle.std.specs.declared.borrow.CowStr.{CowStr}
 use Rattle.std.proofs.lemmas.Bool.Decides.{nat_tests}
-use Rattle.std.proofs.lemmas.Option.{slice_get_within}
 use Rattle.jiter_scan.specs.Kind.{Kind, kind_of, eof_string, control_character, out_of_memory}
 use Rattle.jiter_scan.specs.Scan.{is_stop, scan_stop}
 use Rattle.jiter_scan.specs.Scanned.{Scanned, taken, failed}
@@ -14,11 +13,11 @@ use Rattle.jiter_scan.specs.declared.errors.JsonErrorType.TheVariants.{OutOfMemo
 use Rattle.jiter_steps.specs.Tree.{Text}
 use Rattle.jiter_steps.specs.Seen.{text_seen}
 use Rattle.jiter_steps.specs.Strings.{IfFault, GivesText}
-use Rattle.jiter_steps.specs.StringReading.{Stop, closed, unclosed, cut, wrong, Body, before, body_at, checked, ended, content_at, whole, string_at}
+use Rattle.jiter_steps.specs.StringReading.{Stop, closed, unclosed, cut, wrong, before, body_at, checked, whole, string_at}
 use Rattle.jiter_steps.specs.declared.fault.Refusal.{Refusal}
 use Rattle.jiter_steps.specs.declared.fault.Refusal.TheVariants.{Fault, Memory}
 use Rattle.jiter_steps.proofs.DecodeSteps.{at_none, at_quote, at_control, at_backslash, at_stop}
-use Rattle.jiter_steps.proofs.PlainRuns.{plain_run, scan_stop_stops, scan_stop_within}
+use Rattle.jiter_steps.proofs.PlainRuns.{plain_run, scan_stop_stops}
 use Rattle.jiter_steps.proofs.StringLaws.{NoMemoryKind, string_at-within, string_at-no_memory}
 
 -- a fault is given by its kind and places

@@ -15,8 +15,7 @@ use Rattle.jiter_steps.specs.StringReading.{Stop, unclosed, cut, over, few, hex_
 use Rattle.jiter_steps.proofs.Utf8Shape.{lead}
 use Rattle.jiter_steps.proofs.StringStand.{stands-length}
 use Rattle.jiter_steps.proofs.Bodies.{body_at-found, found-end}
-use Rattle.jiter_steps.proofs.StringComplete.{ArePrinted, plain-printed, if-true, if-false, bytes-read, char-read, found-backslash, found-number, UnitAt, unit-at, stands-split, string-complete}
-use Rattle.jiter_steps.proofs.StringForms.{content-kept}
+use Rattle.jiter_steps.proofs.StringComplete.{ArePrinted, plain-printed, if-true, if-false, bytes-read, char-read, found-backslash, found-number, UnitAt, unit-at, stands-split}
 use Rattle.jiter_scan.specs.Kind.{eof_string}
 use Rattle.jiter_steps.proofs.Tails.{IsFront, tail-unfinished, tail-taken}
 
@@ -24,10 +23,10 @@ module _ (t : List ℕ) (k : ℕ) (within : k ≤ length t) where
   abbrev u : List ℕ
   u = take k t
 
-  long : length u ≡ k
+  pub long : length u ≡ k
   long = length-take-le k t within
 
-  same : (x b : ℕ) → x < k → slice_get t x ≡ Some b → slice_get u x ≡ Some b
+  pub same : (x b : ℕ) → x < k → slice_get t x ≡ Some b → slice_get u x ≡ Some b
   same x b h e = slice_get-get_or u x 0 (omega (arith, long)) ∙ ap Some (get_or-take k t x 0 h ∙ get_or_from_slice_get t x b 0 e)
 
   stands-cut : (i j : ℕ) (w : List ℕ) → Stands t i j w → j ≤ k → Stands u i j w
@@ -189,16 +188,14 @@ module _ (t : List ℕ) (k : ℕ) (within : k ≤ length t) where
   pieces-kept [] i q h l = h
   pieces-kept (p ∷ ps) i q h l = (char-cut i p.end p.character h.0 (omega (arith, pieces-ahead ps p.end q h.1)), pieces-kept ps p.end q h.1 l)
 
-  -- a string that ends before the cut is read as it was
-  pub string-kept : (i e : ℕ) (ps : List Piece) → SpellsString t i ps e → e ≤ k → (o : Bool) × (string_at kept u i ≡ taken (record { owned = o; bytes = text_of ps }) e)
-  string-kept i e ps s l =
+  -- a string that ends before the cut is spelled as it was
+  pub string-still : (i e : ℕ) (ps : List Piece) → SpellsString t i ps e → e ≤ k → SpellsString u i ps e
+  string-still i e ps s l =
       let ends = s.ends in
-      let there : SpellsString u i ps e = record {
+      record {
         opens = same i 34 (omega (arith, pieces-ahead ps (i + 1) s.close s.spelled)) s.opens;
         close = s.close;
         spelled = pieces-kept ps (i + 1) s.close s.spelled (omega arith);
         closes = same s.close 34 (omega arith) s.closes;
         ends = s.ends;
-      } in
-      let r = string-complete u i e ps there in
-      (r.0, (content-kept u (i + 1) (record { owned = r.0; bytes = text_of ps }) e r.1).0)
+      }

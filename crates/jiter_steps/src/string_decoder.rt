@@ -268,9 +268,9 @@ fn refused(kind: JsonErrorType, index: usize, stop: usize) -> Refusal
 // The input ends inside the string.
 fn cut_short(bytes: &[u8], at: usize) -> Refusal
     ensures { result ≡ refusal.Fault (record {
-        kind = EofWhileParsingString;
-        index = length bytes.now;
-        stop = at
+      kind = EofWhileParsingString;
+      index = length bytes.now;
+      stop = at;
     }) }
 {
     refused(JsonErrorType::EofWhileParsingString, bytes.len(), at)
@@ -371,8 +371,9 @@ pub fn string_at<'j>(
         None => Err(cut_short(bytes, at)),
         Some(b'"') => borrowed(bytes, at, to),
         Some(b'\\') => decoded(alloc, tape, bytes, at, to),
-        Some(_) => {
-            Err(refused(JsonErrorType::ControlCharacterWhileParsingString, to, at))
-        }
+        Some(_) => Err(refused(JsonErrorType::ControlCharacterWhileParsingString, to, at)),
     }
 }
+
+#[cfg(test)]
+mod tests;

@@ -1,8 +1,6 @@
-use Rattle.std.proofs.Common.{◌≡◌, ◌≢◌, ◌+◌, ◌∙◌, sym, ap, arith}
+use Rattle.std.proofs.Common.{◌≡◌}
 use Rattle.std.specs.Prelude.{slice_get, Some, None}
 use Rattle.jiter_scan.specs.declared.errors.JsonErrorType.TheVariants.{EofWhileParsingString, ControlCharacterWhileParsingString}
-use Rattle.jiter_steps.specs.Strings.{GivesText}
-use Rattle.jiter_steps.specs.StringReading.{string_at, whole}
 use Rattle.jiter_steps.proofs.StringAnswers.{fault-given, advances-given, kind-given, index-given, string_none, string_quote, string_control}
 use Rattle.jiter_steps.proofs.string_decoder.string_at.Goals as goal
 
