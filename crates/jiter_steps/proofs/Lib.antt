@@ -17,4 +17,5 @@ pub mod StringCut
 pub mod StringForms
 pub mod StringMarks
 pub mod StringLaws
+pub mod NoMemory
 pub mod Instances
