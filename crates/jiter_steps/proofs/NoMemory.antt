@@ -11,7 +11,7 @@ use Rattle.jiter_scan.specs.NumberReading.{extent_then, digits_from, zero_ended,
 use Rattle.jiter_steps.specs.Blank.{past_blanks}
 use Rattle.jiter_steps.specs.Literal.{start_of, word_of, literal_at}
 use Rattle.jiter_steps.specs.Step.{Step, more, closed, stuck, step, step_then, array_opened, array_comma, array_continued, object_opened, object_comma, object_continued, key_colon, key_ended, value_begins}
-use Rattle.jiter_steps.specs.Read.{Reading, done, fault, Rules, scanned, stopped, stepped, item_read, items_at, member_read, key_read, members_at, value_with, value_at}
+use Rattle.jiter_steps.specs.Read.{Reading, done, fault, Rules, scanned, stopped, stepped, item_read, items_at, member_read, key_read, members_at, value_with, value_at, ended_at, to_end, begun, front_answer, whole_answer}
 use Rattle.jiter_steps.specs.declared.parse.Literal.{Literal}
 use Rattle.jiter_steps.specs.declared.parse.Start.{Start}
 use Rattle.jiter_steps.specs.declared.parse.Start.TheVariants as start
@@ -244,3 +244,23 @@ module _ {K A : Type 0} (r : Rules K A) (t : List ℕ) (tells : Tells r t) where
   unfolding value_at
   value_at-tells zero i h = value_with-tells (λ j. fault recursion_limit j j) (λ j lj e. cc) i (start_of (slice_index t i)) h
   value_at-tells (suc room) i h = value_with-tells (λ j. value_at r t room j) (value_at-tells room) i (start_of (slice_index t i)) h
+
+  begun-tells : (i : ℕ) (o : Option ℕ) → slice_get t i ≡ o → ReadingTells (begun r t i o)
+  begun-tells i None q = λ e. cc
+  begun-tells i (Some c) q = value_at-tells 200 i (slice_get_within t i c q)
+
+  ended-tells : (a : A) (e j : ℕ) (o : Option ℕ) → ReadingTells (ended_at a e j o)
+  ended-tells a e j None = tt
+  ended-tells a e j (Some c) = λ q. cc
+
+  to_end-tells : (x : Reading A) → ReadingTells x → ReadingTells (to_end t x)
+  to_end-tells (done a e) h = ended-tells a e (past_blanks t e) (slice_get t (past_blanks t e))
+  to_end-tells (fault k x stop) h = h
+
+  pub front_answer-tells : ReadingTells (front_answer r t)
+  unfolding front_answer
+  front_answer-tells = begun-tells (past_blanks t 0) (slice_get t (past_blanks t 0)) refl
+
+  pub whole_answer-tells : ReadingTells (whole_answer r t)
+  unfolding whole_answer
+  whole_answer-tells = to_end-tells (front_answer r t) front_answer-tells
