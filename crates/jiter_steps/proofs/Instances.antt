@@ -17,6 +17,7 @@ use Rattle.jiter_steps.specs.declared.parse.Literal.TheVariants as literal
 use Rattle.jiter_steps.proofs.Ahead.{Within}
 use Rattle.jiter_steps.proofs.Values.{Advances, value_at-within}
 use Rattle.jiter_steps.proofs.EndKinds.{EndsRight, ReadingEnds, value_at-ends}
+use Rattle.jiter_steps.proofs.Answered.{front_answer-within, whole_answer-within, front_answer-ends, whole_answer-ends}
 use Rattle.jiter_steps.proofs.NoMemory.{ScalarTells, ReadingTells, Tells, literal_at-tells, number_at-tells, value_at-tells, front_answer-tells, whole_answer-tells}
 use Rattle.jiter_steps.proofs.StringLaws.{string_at-within, string_at-ends, string_at-no_memory}
 
@@ -139,6 +140,18 @@ module _ (t : List ℕ) where
   skip_at-tells names i h = value_at-tells (ends names) t (ends-tells names) 200 i h
 
   -- what a parse answers
+  pub answer-within : (names : Bool) → Within t 0 (answer names t)
+  answer-within names = whole_answer-within (whole_trees names) t (trees-advances _ whole names)
+
+  pub answer-ends : (names : Bool) → ReadingEnds t (answer names t)
+  answer-ends names = whole_answer-ends (whole_trees names) t (trees-advances _ whole names) (trees-end_right _ whole names)
+
+  pub partial_answer-within : (names : Bool) (mode : PartialMode) → Within t 0 (partial_answer names mode t)
+  partial_answer-within names mode = front_answer-within (partial_trees names mode) t (trees-advances _ (value_form mode) names)
+
+  pub partial_answer-ends : (names : Bool) (mode : PartialMode) → ReadingEnds t (partial_answer names mode t)
+  partial_answer-ends names mode = front_answer-ends (partial_trees names mode) t (trees-advances _ (value_form mode) names) (trees-end_right _ (value_form mode) names)
+
   pub answer-tells : (names : Bool) → ReadingTells (answer names t)
   answer-tells names = whole_answer-tells (whole_trees names) t (trees-tells _ whole names)
 
