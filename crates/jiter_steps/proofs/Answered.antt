@@ -6,7 +6,7 @@ use Rattle.jiter_scan.specs.Kind.{Kind, eof_value, trailing_characters}
 use Rattle.jiter_scan.proofs.Standing.{get-none}
 use Rattle.jiter_steps.specs.Blank.{past_blanks}
 use Rattle.jiter_steps.specs.Read.{Reading, done, fault, Rules, value_at, ended_at, to_end, begun, front_answer, whole_answer}
-use Rattle.jiter_steps.proofs.Blanks.{past_blanks-bound, past_blanks-after}
+use Rattle.jiter_steps.proofs.Blanks.{past_blanks-bound}
 use Rattle.jiter_steps.proofs.Ahead.{Within}
 use Rattle.jiter_steps.proofs.Values.{Advances, value_at-within}
 use Rattle.jiter_steps.proofs.EndKinds.{EndsRight, ReadingEnds, value_at-ends}

@@ -1,6 +1,6 @@
 -- The readings that calls answer with stay within the text, find its end at its length, and want no memory.
-use Rattle.std.proofs.Common.{◌≡◌, ℕ, ◌<◌, ◌≤◌, Bool, true, List, length, arith}
-use Rattle.jiter_scan.specs.Kind.{Kind, is_end_kind}
+use Rattle.std.proofs.Common.{ℕ, ◌<◌, ◌≤◌, Bool, List, length, arith}
+use Rattle.jiter_scan.specs.Kind.{Kind}
 use Rattle.jiter_scan.specs.Scanned.{Scanned, taken, failed}
 use Rattle.jiter_scan.specs.Word.{Extent}
 use Rattle.jiter_scan.specs.NumberReading.{number_at}
@@ -10,7 +10,6 @@ use Rattle.jiter_scan.proofs.WordLaws.{WordWithin, word_at-within, word_at-ends}
 use Rattle.jiter_scan.proofs.NumberLaws.{number_at-within, number_at-ends}
 use Rattle.jiter_steps.specs.Literal.{word_of, literal_at}
 use Rattle.jiter_steps.specs.StringReading.{Form, whole, raw, string_at}
-use Rattle.jiter_steps.specs.Read.{Reading, value_at}
 use Rattle.jiter_steps.specs.Answer.{seen_as, trees, ends, nodes, whole_trees, partial_trees, value_form, answer, partial_answer, read_at, skip_at}
 use Rattle.jiter_steps.specs.declared.parse.Literal.{Literal}
 use Rattle.jiter_steps.specs.declared.parse.Literal.TheVariants as literal

@@ -15,6 +15,7 @@ use Rattle.jiter_steps.specs.Read.{Reading, done, fault, Rules, scanned, stopped
 use Rattle.jiter_steps.specs.declared.parse.Literal.{Literal}
 use Rattle.jiter_steps.specs.declared.parse.Start.{Start}
 use Rattle.jiter_steps.specs.declared.parse.Start.TheVariants as start
+use Rattle.jiter_steps.proofs.Ahead.{either}
 
 -- the fault of a scalar, of a reading and of a step; a step goes on at a byte
 abbrev pub ScalarTells : {A : Type 0} → Scanned A → Type 0
@@ -29,10 +30,6 @@ abbrev pub StepTells : List ℕ → Step → Type 0
 StepTells t (more j) = j < length t
 StepTells t (closed e) = Unit {0}
 StepTells t (stuck k j) = k ≢ out_of_memory
-
-either : {A : Type 0} (P : A → Type 0) (b : Bool) (x y : A) → P x → P y → P (cond b x y)
-either P true x y p q = p
-either P false x y p q = q
 
 -- Words and numbers.
 pub word_at-tells : (t w : List ℕ) (i : ℕ) → ScalarTells (word_at t w i)
