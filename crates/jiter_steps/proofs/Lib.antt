@@ -18,4 +18,14 @@ pub mod StringForms
 pub mod StringMarks
 pub mod StringLaws
 pub mod NoMemory
+pub mod PlainRuns
+pub mod StringAnswers
 pub mod Instances
+pub mod ScalarLaws
+pub mod Nodes
+pub mod RowSteps
+pub mod Sound
+pub mod Mapped
+pub mod Complete
+pub mod Documents
+mod Rows
