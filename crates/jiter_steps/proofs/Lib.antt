@@ -29,3 +29,4 @@ pub mod Mapped
 pub mod Complete
 pub mod Documents
 mod Rows
+pub mod GrammarLaw
