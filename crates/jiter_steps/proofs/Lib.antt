@@ -17,6 +17,7 @@ pub mod StringCut
 pub mod StringForms
 pub mod StringMarks
 pub mod StringLaws
+pub mod NoMemory
 pub mod PlainRuns
 pub mod StringAnswers
 pub mod Instances
