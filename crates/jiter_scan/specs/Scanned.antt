@@ -1,6 +1,6 @@
 -- What reading a scalar or a key from the left gives, and what a function of the code says of it.
-use Rattle.std.specs.Prelude.{◌≡◌, ℕ, Result, Ok, Err}
-use Rattle.jiter_scan.specs.Kind.{Kind, kind_of}
+use Rattle.std.specs.Prelude.{◌≡◌, ◌≢◌, ℕ, Result, Ok, Err}
+use Rattle.jiter_scan.specs.Kind.{Kind, kind_of, out_of_memory}
 use Rattle.jiter_scan.specs.declared.errors.JsonError.{JsonError}
 
 -- what was read and the place behind it, or a fault's kind and index
@@ -12,3 +12,17 @@ pub data Scanned (A : Type 0) : Type 0 where
 abbrev pub Scans : {X A : Type 0} → (X → A) → Result (X × ℕ) JsonError → Scanned A → Type 0
 Scans view (Ok x) s = s ≡ taken (view x.0) x.1
 Scans view (Err e) s = s ≡ failed (kind_of e.error_type) e.index
+
+-- What a function returned is the place where this reading ends.
+abbrev pub Ends : Result ℕ JsonError → Scanned (Unit {0}) → Type 0
+Ends (Ok e) s = s ≡ taken tt e
+Ends (Err e) s = s ≡ failed (kind_of e.error_type) e.index
+
+-- What a function returned is what this reading took, seen by view, and the reading ends at a known place.
+abbrev pub Answers : {X A : Type 0} → (X → A) → ℕ → Result X JsonError → Scanned A → Type 0
+Answers view end (Ok x) s = s ≡ taken (view x) end
+Answers view end (Err e) s = s ≡ failed (kind_of e.error_type) e.index
+
+-- The fault tells of the bytes: it is not want of memory.
+abbrev pub TellsOfBytes : JsonError → Type 0
+TellsOfBytes e = kind_of e.error_type ≢ out_of_memory

@@ -4,6 +4,7 @@
 
 pub mod errors;
 pub mod partial_mode;
+pub mod word;
 
 pub use errors::{JsonError, JsonErrorType, JsonResult, LinePosition};
 pub use partial_mode::PartialMode;

@@ -7,12 +7,12 @@ use Rattle.std.proofs.lemmas.Option.{slice_get_within, slice_get-get_or, slice_g
 use Rattle.std.proofs.lemmas.Bool.{cases_eq}
 use Rattle.std.proofs.lemmas.Bool.Decides.{nat_tests}
 use Rattle.jiter_scan.specs.Number.{IsNumberText}
-use Rattle.jiter_scan.specs.NumberReading.{begins_number, number_at}
-use Rattle.jiter_scan.specs.Scanned.{Scanned, taken, failed}
-use Rattle.jiter_scan.proofs.Scanning.{ScalarWithin}
+use Rattle.jiter_scan.specs.NumberReading.{begins_number}
+use Rattle.jiter_scan.specs.Scanned.{taken}
+use Rattle.jiter_scan.proofs.NumberLaws.{continues_number}
 use Rattle.jiter_steps.specs.Answer.{nodes, nodes_of, node_members_of, seen_as, key_of}
 use Rattle.jiter_steps.specs.Blank.{is_blank, IsBlankByte, IsBlank}
-use Rattle.jiter_steps.specs.Literal.{start_of, literal_at}
+use Rattle.jiter_steps.specs.Literal.{start_of}
 use Rattle.jiter_steps.specs.Node as grammar
 use Rattle.jiter_steps.specs.Node.{Key, Node, Nodes, no_nodes, node, NodeMembers, no_members, member, begin, end, StandsBehind, SpellsNumber, SpellsKey, Spells, SpellsItems, SpellsMoreItems, SpellsMembers, SpellsMoreMembers, nesting, nesting_of, nesting_of_members}
 use Rattle.jiter_steps.specs.Read.{Reading, done, stepped, items_at, members_at, value_at}
@@ -21,10 +21,11 @@ use Rattle.jiter_steps.specs.StringReading.{whole, string_at, pieces_from}
 use Rattle.jiter_steps.specs.declared.parse.Literal.TheVariants as literal
 use Rattle.jiter_steps.specs.declared.parse.Start.{Start}
 use Rattle.jiter_steps.specs.declared.parse.Start.TheVariants as start
+use Rattle.jiter_steps.proofs.Instances.{nodes-advances}
 use Rattle.jiter_steps.proofs.RowSteps.{array_opened-closed, array_opened-more, array_continued-closed, array_continued-more, object_opened-closed, object_opened-more, object_continued-closed, object_continued-more, key_ended-more}
-use Rattle.jiter_steps.proofs.ScalarLaws.{ScalarLaws, continues_number, EndsNumber}
+use Rattle.jiter_steps.proofs.ScalarLaws.{ScalarLaws, scalar-laws, EndsNumber}
 use Rattle.jiter_steps.proofs.Sound.{nodes_before, before-none, before-push, members_before, members-none, members-push}
-use Rattle.jiter_steps.proofs.Values.{Advances, value-literal, value-number, value-text, value-array-closed, value-array-items, value-object-closed, value-object-members, items-item, members-member}
+use Rattle.jiter_steps.proofs.Values.{value-literal, value-number, value-text, value-array-closed, value-array-items, value-object-closed, value-object-members, items-item, members-member}
 
 -- what kind of value a node is
 abbrev pub start_is : Node → Start
@@ -85,18 +86,9 @@ module _ (t : List ℕ) where
     by (inl same) = subst (λ o. IfSome o (λ b. continues_number b ≡ false)) (sym (slice_get_past t i (omega arith))) tt
     by (inr apart) = ends-blank i (length t) h (omega (arith, h.ordered))
 
-module _ (names : Bool) (t : List ℕ) (laws : ScalarLaws names t) where
-  seen-within : {A B : Type 0} (f : A → ℕ → B) (i : ℕ) (x : Scanned A) → ScalarWithin t i x → ScalarWithin t i (seen_as f x)
-  seen-within f i (taken a e) h = h
-  seen-within f i (failed k j) h = h
-
-  pub nodes-advance : Advances (nodes names) t
-  nodes-advance = record {
-    literal = λ l i h. seen-within (λ u e. grammar.literal l i e) i (literal_at t l i) (laws.literal-within l i h);
-    number = λ i h. seen-within (λ n e. grammar.number i e) i (number_at names t i) (laws.number-within i h);
-    text = λ i h. seen-within (λ s e. grammar.string (pieces_from t (i + 1) (chars s.bytes)) i e) i (string_at whole t i) (laws.string-within i h);
-    key = λ i h. seen-within (key_of t i) i (string_at whole t i) (laws.string-within i h);
-  }
+module _ (names : Bool) (t : List ℕ) where
+  laws : ScalarLaws names t
+  laws = scalar-laws names t
 
   -- what a value's first byte says
   number-begins : (b e : ℕ) → SpellsNumber names t b e → (b ≡ e) ⊎ (b ≢ e) → BeginsValue t b start.Number
@@ -162,7 +154,7 @@ module _ (names : Bool) (t : List ℕ) (laws : ScalarLaws names t) where
 
   one-item : (room b : ℕ) (so_far : List Node) (n : Node) → Spells names t n → value_at (nodes names) t room (begin n) ≡ done n (end n)
       → Items room b so_far (begin n) ≡ BehindItem room b (so_far ++ n ∷ []) (step t (array_continued t) (end n))
-  one-item room b so_far n s v = items-item (nodes names) t nodes-advance room b (begin n) (end n) so_far n _ (begin-within n s) v refl
+  one-item room b so_far n s v = items-item (nodes names) t (nodes-advances t names) room b (begin n) (end n) so_far n _ (begin-within n s) v refl
 
   key-taken : (k : Key) (j : ℕ) → SpellsKey t k j → seen_as (key_of t k.begin) (string_at whole t k.begin) ≡ taken k k.end
   key-taken k j h =
@@ -172,7 +164,7 @@ module _ (names : Bool) (t : List ℕ) (laws : ScalarLaws names t) where
   one-member : (room b : ℕ) (so_far : List (Key × Node)) (k : Key) (n : Node) → SpellsKey t k (begin n) → Spells names t n → value_at (nodes names) t room (begin n) ≡ done n (end n)
       → Members room b so_far k.begin ≡ BehindMember room b (so_far ++ (k, n) ∷ []) (step t (object_continued t) (end n))
   one-member room b so_far k n h s v =
-      members-member (nodes names) t nodes-advance room b k.begin k.end (begin n) (end n) so_far k n _ (slice_get_within t k.begin 34 h.string.opens) (key-taken k (begin n) h) (key-ended k n h s) v refl
+      members-member (nodes names) t (nodes-advances t names) room b k.begin k.end (begin n) (end n) so_far k n _ (slice_get_within t k.begin 34 h.string.opens) (key-taken k (begin n) h) (key-ended k n h s) v refl
 
   mutual
     pub value_at-complete : (n : Node) (room : ℕ) → Spells names t n → nesting n ≤ room → EndsNumber t (end n) → value_at (nodes names) t room (begin n) ≡ done n (end n)

@@ -9,3 +9,5 @@ pub mod Read
 pub mod Node
 pub mod Cut
 pub mod Answer
+pub mod Given
+pub mod Seen

@@ -1,0 +1,74 @@
+-- Bytes that stand at a place of a text: joined, split, and cut out.
+use Rattle.std.proofs.Common.{◌≡◌, ℕ, zero, suc, ◌+◌, ◌-◌, ◌<◌, ◌≤◌, ◌⊎◌, inl, inr, List, [], ◌∷◌, ◌++◌, length, take, drop, get_or, refl, sym, ap, ◌∙◌, subst, arith}
+use Rattle.std.specs.Prelude.{slice_get, slice_range, None, IfSome}
+use Rattle.std.proofs.lemmas.List.{drop_more}
+use Rattle.std.proofs.lemmas.Option.{slice_get-get_or, slice_get_within, get_or_from_slice_get, none-some}
+use Rattle.std.proofs.lemmas.Bool.{cases_lt}
+use Rattle.jiter_scan.specs.Stands.{Stands}
+
+-- P of the first byte, where there is one
+abbrev pub First : List ℕ → (ℕ → Type 0) → Type 0
+First [] P = Unit {0}
+First (c ∷ w) P = P c
+
+module _ (t : List ℕ) where
+  -- the end follows from the length
+  pub stands-length : (i j : ℕ) (w : List ℕ) → Stands t i j w → j ≡ i + length w
+  stands-length i j [] h = omega arith
+  stands-length i j (c ∷ w) h = let rest = stands-length (i + 1) j w h.1 in omega arith
+
+  -- bytes stand inside the text
+  pub stands-within : (i j : ℕ) (w : List ℕ) → i ≤ length t → Stands t i j w → j ≤ length t
+  stands-within i j [] le h = omega arith
+  stands-within i j (c ∷ w) le h = let here = slice_get_within t i c h.0 in stands-within (i + 1) j w (omega arith) h.1
+
+  -- two words one behind the other are their join
+  pub stands-append : (i j k : ℕ) (u v : List ℕ) → Stands t i j u → Stands t j k v → Stands t i k (u ++ v)
+  stands-append i j k [] v h g = subst (λ x. Stands t x k v) (sym h) g
+  stands-append i j k (c ∷ u) v h g = (h.0, stands-append (i + 1) j k u v h.1 g)
+
+  -- and a join stands as two words
+  pub stands-split : (i k : ℕ) (u v : List ℕ) → Stands t i k (u ++ v) → (j : ℕ) × Stands t i j u × Stands t j k v
+  stands-split i k [] v h = (i, refl, h)
+  stands-split i k (c ∷ u) v h = let r = stands-split (i + 1) k u v h.1 in (r.0, (h.0, r.1), r.2)
+
+  -- a word that begins at i ends in one place
+  pub stands-unique : (i j k : ℕ) (w : List ℕ) → Stands t i j w → Stands t i k w → j ≡ k
+  stands-unique i j k w h g = let a = stands-length i j w h in let b = stands-length i k w g in omega arith
+
+  stands-take : (n i : ℕ) → i + n ≤ length t → Stands t i (i + n) (take n (drop i t))
+  stands-take zero i h = omega arith
+  stands-take (suc n) i h =
+      let rest : Stands t (i + 1) (i + suc n) (take n (drop (i + 1) t)) = subst (λ k. Stands t (i + 1) k (take n (drop (i + 1) t))) (omega arith) (stands-take n (i + 1) (omega arith)) in
+      subst (λ l. Stands t i (i + suc n) (take (suc n) l)) (sym (drop_more t i 0 (omega arith))) (slice_get-get_or t i 0 (omega arith), rest)
+
+  -- the bytes of a range stand there
+  pub stands-slice : (i j : ℕ) → i ≤ j → j ≤ length t → Stands t i j (slice_range t i j)
+  stands-slice i j le h = subst (λ k. Stands t i k (slice_range t i j)) (omega arith) (stands-take (j - i) i (omega arith))
+
+  take-stands : (i j : ℕ) (w : List ℕ) → Stands t i j w → w ≡ take (length w) (drop i t)
+  take-stands i j [] h = refl
+  take-stands i j (c ∷ w) h =
+      let lt = slice_get_within t i c h.0 in
+      let here : get_or t i 0 ≡ c = get_or_from_slice_get t i c 0 h.0 in
+      ap (λ l. c ∷ l) (take-stands (i + 1) j w h.1) ∙ ap (λ x. x ∷ take (length w) (drop (i + 1) t)) (sym here)
+      ∙ ap (take (suc (length w))) (sym (drop_more t i 0 lt))
+
+  -- what stands in a range is its bytes
+  pub slice-stands : (i j : ℕ) (w : List ℕ) → Stands t i j w → w ≡ slice_range t i j
+  slice-stands i j w h =
+      let n = stands-length i j w h in
+      let same : length w ≡ j - i = omega arith in
+      take-stands i j w h ∙ ap (λ k. take k (drop i t)) same
+
+  -- the byte at the front of a word, or the one behind an empty word
+  pub stands-next : (P : ℕ → Type 0) (i j : ℕ) (w : List ℕ) → Stands t i j w → First w P → IfSome (slice_get t j) P → IfSome (slice_get t i) P
+  stands-next P i j [] h f p = subst (λ k. IfSome (slice_get t k) P) (sym h) p
+  stands-next P i j (c ∷ w) h f p = subst (λ o. IfSome o P) (sym h.0) f
+
+  -- where no byte stands, the text is over
+  pub get-none : (i : ℕ) → slice_get t i ≡ None → length t ≤ i
+  get-none i h = by (cases_lt i (length t)) where
+    by : (i < length t) ⊎ (length t ≤ i) → length t ≤ i
+    by (inl lt) = absurd (none-some _ (sym h ∙ slice_get-get_or t i 0 lt))
+    by (inr le) = le

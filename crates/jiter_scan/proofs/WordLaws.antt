@@ -1,0 +1,62 @@
+-- A word is read just where its bytes stand.
+use Rattle.std.proofs.Common.{◌≡◌, ℕ, ◌+◌, ◌≤◌, List, [], ◌∷◌, length, refl, ap, ◌∙◌, arith}
+use Rattle.std.specs.Prelude.{slice_get, Option, Some, None, ◌==◌}
+use Rattle.std.proofs.lemmas.Bool.{eqb-true, eq-eqb, false≢true}
+use Rattle.std.proofs.lemmas.Option.{slice_get_within}
+use Rattle.jiter_scan.specs.Kind.{eof_value, expected_ident}
+use Rattle.jiter_scan.specs.Scanned.{taken, failed}
+use Rattle.jiter_scan.specs.Stands.{Stands}
+use Rattle.jiter_scan.specs.Word.{Extent, byte_then, word_at}
+use Rattle.jiter_scan.proofs.Choices.{if_case, if_gives, if-true, failed-taken, same_taken}
+use Rattle.jiter_scan.proofs.Scanning.{EndsAtLength}
+use Rattle.jiter_scan.proofs.Standing.{get-none}
+
+-- the whole word, or a fault on the way
+abbrev pub WordWithin : List ℕ → List ℕ → ℕ → Extent → Type 0
+WordWithin t w i (taken u e) = (e ≡ i + length w) × (e ≤ length t)
+WordWithin t w i (failed k j) = (i ≤ j) × (j ≤ length t)
+
+module _ (t : List ℕ) where
+  later : (w : List ℕ) (c i : ℕ) (x : Extent) → WordWithin t w (i + 1) x × EndsAtLength t x → WordWithin t (c ∷ w) i x × EndsAtLength t x
+  later w c i (taken u e) h = ((omega (arith, h.0.0), h.0.1), tt)
+  later w c i (failed k j) h = ((omega (arith, h.0.0), h.0.1), h.1)
+
+  -- both at once: how far a word gets, and where it says that the text ended
+  pub word_at-reach : (w : List ℕ) (i : ℕ) → i ≤ length t → WordWithin t w i (word_at t w i) × EndsAtLength t (word_at t w i)
+  unfolding word_at
+  word_at-reach [] i le = ((omega arith, le), tt)
+  word_at-reach (c ∷ w) i le = by (slice_get t i) refl (λ lt. word_at-reach w (i + 1) lt) where
+    by : (o : Option ℕ) → slice_get t i ≡ o → (i + 1 ≤ length t → WordWithin t w (i + 1) (word_at t w (i + 1)) × EndsAtLength t (word_at t w (i + 1)))
+        → WordWithin t (c ∷ w) i (byte_then (word_at t w (i + 1)) c i o) × EndsAtLength t (byte_then (word_at t w (i + 1)) c i o)
+    by None e go = let past = get-none t i e in ((omega arith, le), λ k. omega arith)
+    by (Some b) e go =
+        let lt = slice_get_within t i b e in
+        if_case (λ x. WordWithin t (c ∷ w) i x × EndsAtLength t x) (b == c) (word_at t w (i + 1)) (failed expected_ident i)
+        (λ s. later w c i (word_at t w (i + 1)) (go (omega arith))) (λ s. ((omega arith, le), λ k. absurd (false≢true k)))
+
+  pub word_at-within : (w : List ℕ) (i : ℕ) → i ≤ length t → WordWithin t w i (word_at t w i)
+  word_at-within w i le = (word_at-reach w i le).0
+
+  pub word_at-ends : (w : List ℕ) (i : ℕ) → i ≤ length t → EndsAtLength t (word_at t w i)
+  word_at-ends w i le = (word_at-reach w i le).1
+
+  -- a word that stands is read
+  pub word_at-complete : (w : List ℕ) (i e : ℕ) → Stands t i e w → word_at t w i ≡ taken tt e
+  unfolding word_at
+  word_at-complete [] i e h = ap (taken tt) h
+  word_at-complete (c ∷ w) i e h =
+      ap (byte_then (word_at t w (i + 1)) c i) h.0 ∙ if-true (c == c) (word_at t w (i + 1)) (failed expected_ident i) (eq-eqb c c refl) ∙ word_at-complete w (i + 1) e h.1
+
+  -- a word that is read stands
+  pub word_at-sound : (w : List ℕ) (i e : ℕ) (u : Unit {0}) → word_at t w i ≡ taken u e → Stands t i e w
+  unfolding word_at
+  word_at-sound [] i e u h = (same_taken tt u i e h).1
+  word_at-sound (c ∷ w) i e u h = by (slice_get t i) refl h (λ g. word_at-sound w (i + 1) e u g) where
+    by : (o : Option ℕ) → slice_get t i ≡ o → byte_then (word_at t w (i + 1)) c i o ≡ taken u e → (word_at t w (i + 1) ≡ taken u e → Stands t (i + 1) e w) → Stands t i e (c ∷ w)
+    by None s h go = absurd (failed-taken eof_value i u e h)
+    by (Some b) s h go =
+        if_gives (b == c) (word_at t w (i + 1)) (failed expected_ident i) (taken u e) h
+        (λ q r. (s ∙ ap Some (eqb-true b c q), go r)) (λ q r. absurd (failed-taken expected_ident i u e r))
+
+  pub word_at-stands : (w : List ℕ) (i e : ℕ) → (Stands t i e w → word_at t w i ≡ taken tt e) × (word_at t w i ≡ taken tt e → Stands t i e w)
+  word_at-stands w i e = (word_at-complete w i e, word_at-sound w i e tt)

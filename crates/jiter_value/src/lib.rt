@@ -1,0 +1,6 @@
+//! JSON as a tree whose unescaped texts borrow from the input.
+#![tactic(auto)]
+
+pub mod value;
+
+pub use value::{JsonArray, JsonObject, JsonValue};

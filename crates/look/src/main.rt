@@ -1,0 +1,4 @@
+//! Reads a document and writes it as one line.
+#![tactic(auto)]
+
+fn main() {}
