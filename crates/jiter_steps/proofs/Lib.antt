@@ -24,3 +24,4 @@ pub mod RowSteps
 pub mod Sound
 pub mod Complete
 pub mod Documents
+pub mod Front
