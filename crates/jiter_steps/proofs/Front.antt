@@ -1,17 +1,17 @@
 -- The front of a text: its bytes, blanks and steps before the place k.
-use Rattle.std.proofs.Common.{◌≡◌, ◌≢◌, ◌⊎◌, inl, inr, ℕ, zero, suc, ◌+◌, ◌-◌, ◌<◌, ◌≤◌, ◌==◌, Bool, true, false, cond, List, [], ◌∷◌, length, take, drop, min, refl, sym, ap, ◌∙◌, subst, arith}
-use Rattle.std.specs.Prelude.{slice_get, slice_index, slice_range, Option, Some, None, IfSome}
+use Rattle.std.proofs.Common.{◌≡◌, ◌⊎◌, inl, inr, ℕ, zero, suc, ◌+◌, ◌-◌, ◌<◌, ◌≤◌, cond, List, [], ◌∷◌, length, take, drop, refl, sym, ap, ◌∙◌, subst, arith}
+use Rattle.std.specs.Prelude.{slice_get, slice_index, slice_range, Some, None, IfSome}
 use Rattle.std.proofs.lemmas.Bool.{cases_lt, eq-eqb}
 use Rattle.std.proofs.lemmas.List.{get_or-take, length-take-le, drop-take}
-use Rattle.std.proofs.lemmas.Option.{slice_get-get_or, slice_get_past, slice_get_within, get_or_from_slice_get}
-use Rattle.jiter_scan.specs.Kind.{Kind, eof_list, eof_object, eof_value, expected_ident}
-use Rattle.jiter_scan.specs.Scanned.{taken, failed}
+use Rattle.std.proofs.lemmas.Option.{slice_get-get_or, slice_get_past}
+use Rattle.jiter_scan.specs.Kind.{eof_list, eof_object, eof_value, expected_ident}
+use Rattle.jiter_scan.specs.Scanned.{failed}
 use Rattle.jiter_scan.specs.Stands.{Stands}
-use Rattle.jiter_scan.specs.Word.{Extent, byte_then, word_at}
+use Rattle.jiter_scan.specs.Word.{byte_then, word_at}
 use Rattle.jiter_scan.proofs.Standing.{stands-length}
 use Rattle.jiter_steps.specs.Blank.{past_blanks, IsBlankByte, IsBlank}
 use Rattle.jiter_steps.specs.Node.{StandsBehind}
-use Rattle.jiter_steps.specs.Step.{Row, Step, stuck, step, step_then, array_comma, array_continued, object_comma, object_continued, key_colon, value_begins, key_ended}
+use Rattle.jiter_steps.specs.Step.{Row, stuck, step, step_then, array_comma, array_continued, object_comma, object_continued, key_colon, value_begins, key_ended}
 use Rattle.jiter_steps.proofs.Nodes.{blank-to_end}
 use Rattle.jiter_steps.proofs.RowSteps.{row-at}
 
@@ -43,11 +43,11 @@ module _ (t : List ℕ) (k : ℕ) (within : k ≤ length t) where
       let whole : i + (k - i) ≡ k = omega arith in
       let part : (j - i) + (k - j) ≡ k - i = omega arith in
       ap (λ n. take (j - i) (drop i (take n t))) (sym whole) ∙ ap (take (j - i)) (drop-take i (k - i) t) ∙ taken-twice (j - i) (k - i) (drop i t) (omega arith) where
-    taken-twice : (n m : ℕ) (l : List ℕ) → n ≤ m → take n (take m l) ≡ take n l
-    taken-twice zero m l h = refl
-    taken-twice (suc n) zero l h = absurd (omega arith)
-    taken-twice (suc n) (suc m) [] h = refl
-    taken-twice (suc n) (suc m) (c ∷ l) h = ap (λ x. c ∷ x) (taken-twice n m l (omega arith))
+        taken-twice : (n m : ℕ) (l : List ℕ) → n ≤ m → take n (take m l) ≡ take n l
+        taken-twice zero m l h = refl
+        taken-twice (suc n) zero l h = absurd (omega arith)
+        taken-twice (suc n) (suc m) [] h = refl
+        taken-twice (suc n) (suc m) (c ∷ l) h = ap (λ x. c ∷ x) (taken-twice n m l (omega arith))
 
   -- bytes that stand before k
   pub front-stands : (i j : ℕ) (w : List ℕ) → Stands t i j w → j ≤ k → Stands u i j w

@@ -25,3 +25,4 @@ pub mod Sound
 pub mod Complete
 pub mod Documents
 pub mod Front
+pub mod NumberCut
