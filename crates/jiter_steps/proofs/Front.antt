@@ -12,6 +12,7 @@ use Rattle.jiter_scan.proofs.Standing.{stands-length}
 use Rattle.jiter_steps.specs.Blank.{past_blanks, IsBlankByte, IsBlank}
 use Rattle.jiter_steps.specs.Node.{StandsBehind}
 use Rattle.jiter_steps.specs.Step.{Row, stuck, step, step_then, array_comma, array_continued, object_comma, object_continued, key_colon, value_begins, key_ended}
+use Rattle.jiter_steps.proofs.Blanks.{past_blanks-end}
 use Rattle.jiter_steps.proofs.Nodes.{blank-to_end}
 use Rattle.jiter_steps.proofs.RowSteps.{row-at}
 
@@ -64,7 +65,7 @@ module _ (t : List ℕ) (k : ℕ) (within : k ≤ length t) where
         ap (byte_then (word_at u w (i + 1)) c i) (front-get i c here h.0) ∙ ap (λ y. cond y (word_at u w (i + 1)) (failed expected_ident i)) (eq-eqb c c refl) ∙ go (omega arith)
     by (inr past) go = let at : i ≡ k = omega arith in ap (byte_then (word_at u w (i + 1)) c i) (front-past i past) ∙ ap (failed eof_value) at
 
-  front-index : (i : ℕ) → i < k → slice_index u i ≡ slice_index t i
+  pub front-index : (i : ℕ) → i < k → slice_index u i ≡ slice_index t i
   front-index i h = get_or-take k t i 0 h
 
   -- blanks before k
@@ -85,6 +86,11 @@ module _ (t : List ℕ) (k : ℕ) (within : k ≤ length t) where
   pub row-cut : (row : Row) (i j : ℕ) → IsBlank t i j → i ≤ k → k ≤ j → step u row i ≡ row k None
   row-cut row i j b le ge =
       let last : past_blanks u i ≡ k = blank-to_end u i (cut-blank i j b le ge) ∙ front-length in
+      ap (λ m. row m (slice_get u m)) last ∙ ap (row k) (front-past k (omega arith))
+
+  pub row-end : (row : Row) (i : ℕ) → i ≡ k → step u row i ≡ row k None
+  row-end row i h =
+      let last : past_blanks u i ≡ k = past_blanks-end u i (omega (arith, front-length)) ∙ h in
       ap (λ m. row m (slice_get u m)) last ∙ ap (row k) (front-past k (omega arith))
 
   -- behind an item, behind a comma

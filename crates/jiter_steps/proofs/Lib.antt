@@ -26,3 +26,4 @@ pub mod Complete
 pub mod Documents
 pub mod Front
 pub mod NumberCut
+pub mod SpellsFront
