@@ -7,24 +7,26 @@ use Rattle.std.proofs.lemmas.Option.{slice_get_within, slice_get-get_or, slice_g
 use Rattle.std.proofs.lemmas.Bool.{cases_eq}
 use Rattle.std.proofs.lemmas.Bool.Decides.{nat_tests}
 use Rattle.jiter_scan.specs.Number.{IsNumberText}
-use Rattle.jiter_scan.specs.NumberReading.{begins_number, number_at}
-use Rattle.jiter_scan.specs.Scanned.{Scanned, taken, failed}
-use Rattle.jiter_scan.proofs.Scanning.{ScalarWithin}
+use Rattle.jiter_scan.specs.NumberReading.{begins_number}
+use Rattle.jiter_scan.specs.Scanned.{taken}
+use Rattle.jiter_scan.proofs.NumberLaws.{continues_number}
 use Rattle.jiter_steps.specs.Answer.{nodes, nodes_of, node_members_of, seen_as, key_of}
 use Rattle.jiter_steps.specs.Blank.{is_blank, IsBlankByte, IsBlank}
-use Rattle.jiter_steps.specs.Literal.{start_of, literal_at}
+use Rattle.jiter_steps.specs.Literal.{start_of}
 use Rattle.jiter_steps.specs.Node as grammar
 use Rattle.jiter_steps.specs.Node.{Key, Node, Nodes, no_nodes, node, NodeMembers, no_members, member, begin, end, StandsBehind, SpellsNumber, SpellsKey, Spells, SpellsItems, SpellsMoreItems, SpellsMembers, SpellsMoreMembers, nesting, nesting_of, nesting_of_members}
+use Rattle.jiter_steps.specs.Piece.{SpellsString}
 use Rattle.jiter_steps.specs.Read.{Reading, done, stepped, items_at, members_at, value_at}
 use Rattle.jiter_steps.specs.Step.{Step, more, step, array_opened, array_continued, object_continued, key_ended}
 use Rattle.jiter_steps.specs.StringReading.{whole, string_at, pieces_from}
 use Rattle.jiter_steps.specs.declared.parse.Literal.TheVariants as literal
 use Rattle.jiter_steps.specs.declared.parse.Start.{Start}
 use Rattle.jiter_steps.specs.declared.parse.Start.TheVariants as start
+use Rattle.jiter_steps.proofs.Instances.{nodes-advances}
 use Rattle.jiter_steps.proofs.RowSteps.{array_opened-closed, array_opened-more, array_continued-closed, array_continued-more, object_opened-closed, object_opened-more, object_continued-closed, object_continued-more, key_ended-more}
-use Rattle.jiter_steps.proofs.ScalarLaws.{ScalarLaws, continues_number, EndsNumber}
+use Rattle.jiter_steps.proofs.ScalarLaws.{ScalarLaws, scalar-laws, EndsNumber}
 use Rattle.jiter_steps.proofs.Sound.{nodes_before, before-none, before-push, members_before, members-none, members-push}
-use Rattle.jiter_steps.proofs.Values.{Advances, value-literal, value-number, value-text, value-array-closed, value-array-items, value-object-closed, value-object-members, items-item, members-member}
+use Rattle.jiter_steps.proofs.Values.{value-literal, value-number, value-text, value-array-closed, value-array-items, value-object-closed, value-object-members, items-item, members-member}
 
 -- what kind of value a node is
 abbrev pub start_is : Node → Start
@@ -57,7 +59,7 @@ blank-ends c (inr (inl e)) = ap continues_number e
 blank-ends c (inr (inr (inl e))) = ap continues_number e
 blank-ends c (inr (inr (inr e))) = ap continues_number e
 
-slice-empty : (t : List ℕ) (b e : ℕ) → e ≡ b → slice_range t b e ≡ []
+pub slice-empty : (t : List ℕ) (b e : ℕ) → e ≡ b → slice_range t b e ≡ []
 slice-empty t b e h = let none : e - b ≡ 0 = omega arith in ap (λ k. take k (drop b t)) none
 
 slice-first : (t : List ℕ) (b e : ℕ) → b < e → e ≤ length t → slice_range t b e ≡ slice_index t b ∷ slice_range t (b + 1) e
@@ -85,18 +87,9 @@ module _ (t : List ℕ) where
     by (inl same) = subst (λ o. IfSome o (λ b. continues_number b ≡ false)) (sym (slice_get_past t i (omega arith))) tt
     by (inr apart) = ends-blank i (length t) h (omega (arith, h.ordered))
 
-module _ (names : Bool) (t : List ℕ) (laws : ScalarLaws names t) where
-  seen-within : {A B : Type 0} (f : A → ℕ → B) (i : ℕ) (x : Scanned A) → ScalarWithin t i x → ScalarWithin t i (seen_as f x)
-  seen-within f i (taken a e) h = h
-  seen-within f i (failed k j) h = h
-
-  pub nodes-advance : Advances (nodes names) t
-  nodes-advance = record {
-    literal = λ l i h. seen-within (λ u e. grammar.literal l i e) i (literal_at t l i) (laws.literal-within l i h);
-    number = λ i h. seen-within (λ n e. grammar.number i e) i (number_at names t i) (laws.number-within i h);
-    text = λ i h. seen-within (λ s e. grammar.string (pieces_from t (i + 1) (chars s.bytes)) i e) i (string_at whole t i) (laws.string-within i h);
-    key = λ i h. seen-within (key_of t i) i (string_at whole t i) (laws.string-within i h);
-  }
+module _ (names : Bool) (t : List ℕ) where
+  laws : ScalarLaws names t
+  laws = scalar-laws names t
 
   -- what a value's first byte says
   number-begins : (b e : ℕ) → SpellsNumber names t b e → (b ≡ e) ⊎ (b ≢ e) → BeginsValue t b start.Number
@@ -121,8 +114,8 @@ module _ (names : Bool) (t : List ℕ) (laws : ScalarLaws names t) where
   begins-value (grammar.array b e ns) h = record { byte = 91; here = h.0; starts = refl; no_blank = refl; no_closer = refl }
   begins-value (grammar.object b e ms) h = record { byte = 123; here = h.0; starts = refl; no_blank = refl; no_closer = refl }
 
-  starts : (n : Node) → Spells names t n → start_of (slice_index t (begin n)) ≡ start_is n
-  starts n h = let first = begins-value n h in ap start_of (get_or_from_slice_get t (begin n) first.byte 0 first.here) ∙ first.starts
+  pub value-starts : (n : Node) → Spells names t n → start_of (slice_index t (begin n)) ≡ start_is n
+  value-starts n h = let first = begins-value n h in ap start_of (get_or_from_slice_get t (begin n) first.byte 0 first.here) ∙ first.starts
 
   begin-within : (n : Node) → Spells names t n → begin n < length t
   begin-within n h = let first = begins-value n h in slice_get_within t (begin n) first.byte first.here
@@ -162,35 +155,35 @@ module _ (names : Bool) (t : List ℕ) (laws : ScalarLaws names t) where
 
   one-item : (room b : ℕ) (so_far : List Node) (n : Node) → Spells names t n → value_at (nodes names) t room (begin n) ≡ done n (end n)
       → Items room b so_far (begin n) ≡ BehindItem room b (so_far ++ n ∷ []) (step t (array_continued t) (end n))
-  one-item room b so_far n s v = items-item (nodes names) t nodes-advance room b (begin n) (end n) so_far n _ (begin-within n s) v refl
+  one-item room b so_far n s v = items-item (nodes names) t (nodes-advances t names) room b (begin n) (end n) so_far n _ (begin-within n s) v refl
 
-  key-taken : (k : Key) (j : ℕ) → SpellsKey t k j → seen_as (key_of t k.begin) (string_at whole t k.begin) ≡ taken k k.end
-  key-taken k j h =
-      ap (seen_as (key_of t k.begin)) (laws.string-complete k.begin k.end k.pieces h.string)
-      ∙ ap (λ ps. taken (record { pieces = ps; begin = k.begin; end = k.end }) k.end) (laws.pieces-again k.begin k.end k.pieces h.string)
+  pub key-taken : (k : Key) → SpellsString t k.begin k.pieces k.end → seen_as (key_of t k.begin) (string_at whole t k.begin) ≡ taken k k.end
+  key-taken k h =
+      ap (seen_as (key_of t k.begin)) (laws.string-complete k.begin k.end k.pieces h)
+      ∙ ap (λ ps. taken (record { pieces = ps; begin = k.begin; end = k.end }) k.end) (laws.pieces-again k.begin k.end k.pieces h)
 
   one-member : (room b : ℕ) (so_far : List (Key × Node)) (k : Key) (n : Node) → SpellsKey t k (begin n) → Spells names t n → value_at (nodes names) t room (begin n) ≡ done n (end n)
       → Members room b so_far k.begin ≡ BehindMember room b (so_far ++ (k, n) ∷ []) (step t (object_continued t) (end n))
   one-member room b so_far k n h s v =
-      members-member (nodes names) t nodes-advance room b k.begin k.end (begin n) (end n) so_far k n _ (slice_get_within t k.begin 34 h.string.opens) (key-taken k (begin n) h) (key-ended k n h s) v refl
+      members-member (nodes names) t (nodes-advances t names) room b k.begin k.end (begin n) (end n) so_far k n _ (slice_get_within t k.begin 34 h.string.opens) (key-taken k h.string) (key-ended k n h s) v refl
 
   mutual
     pub value_at-complete : (n : Node) (room : ℕ) → Spells names t n → nesting n ≤ room → EndsNumber t (end n) → value_at (nodes names) t room (begin n) ≡ done n (end n)
     value_at-complete (grammar.literal l b e) room h d q =
-        value-literal (nodes names) t room b l (taken (grammar.literal l b e) e) (starts (grammar.literal l b e) h) (ap (seen_as (λ u f. grammar.literal l b f)) (laws.literal-complete l b e h))
+        value-literal (nodes names) t room b l (taken (grammar.literal l b e) e) (value-starts (grammar.literal l b e) h) (ap (seen_as (λ u f. grammar.literal l b f)) (laws.literal-complete l b e h))
     value_at-complete (grammar.number b e) room h d q =
-        value-number (nodes names) t room b (taken (grammar.number b e) e) (starts (grammar.number b e) h) (ap (seen_as (λ n f. grammar.number b f)) (laws.number-complete b e h.ordered h.within h.text q))
+        value-number (nodes names) t room b (taken (grammar.number b e) e) (value-starts (grammar.number b e) h) (ap (seen_as (λ n f. grammar.number b f)) (laws.number-complete b e h.ordered h.within h.text q))
     value_at-complete (grammar.string ps b e) room h d q =
-        value-text (nodes names) t room b (taken (grammar.string ps b e) e) (starts (grammar.string ps b e) h)
+        value-text (nodes names) t room b (taken (grammar.string ps b e) e) (value-starts (grammar.string ps b e) h)
         (ap (seen_as (λ s f. grammar.string (pieces_from t (b + 1) (chars s.bytes)) b f)) (laws.string-complete b e ps h) ∙ ap (λ x. taken (grammar.string x b e) e) (laws.pieces-again b e ps h))
-    value_at-complete (grammar.array b e no_nodes) room h d q = value-array-closed (nodes names) t room b e (starts (grammar.array b e no_nodes) h) (array_opened-closed t (b + 1) e h.1)
+    value_at-complete (grammar.array b e no_nodes) room h d q = value-array-closed (nodes names) t room b e (value-starts (grammar.array b e no_nodes) h) (array_opened-closed t (b + 1) e h.1)
     value_at-complete (grammar.array b e (node n ns)) room h d q =
-        value-array-items (nodes names) t room b (begin n) (omega arith) (starts (grammar.array b e (node n ns)) h) (opened (b + 1) n h.1.0 h.1.1)
+        value-array-items (nodes names) t room b (begin n) (omega arith) (value-starts (grammar.array b e (node n ns)) h) (opened (b + 1) n h.1.0 h.1.1)
         ∙ one-item (room - 1) b [] n h.1.1 (value_at-complete n (room - 1) h.1.1 (omega arith) (items-end ns (end n) e h.1.2))
         ∙ items-complete ns (room - 1) b (end n) e (n ∷ []) h.1.2 (omega arith)
-    value_at-complete (grammar.object b e no_members) room h d q = value-object-closed (nodes names) t room b e (starts (grammar.object b e no_members) h) (object_opened-closed t (b + 1) e h.1)
+    value_at-complete (grammar.object b e no_members) room h d q = value-object-closed (nodes names) t room b e (value-starts (grammar.object b e no_members) h) (object_opened-closed t (b + 1) e h.1)
     value_at-complete (grammar.object b e (member k n ms)) room h d q =
-        value-object-members (nodes names) t room b k.begin (omega arith) (starts (grammar.object b e (member k n ms)) h) (object_opened-more t (b + 1) k.begin h.1.0 h.1.1.string.opens)
+        value-object-members (nodes names) t room b k.begin (omega arith) (value-starts (grammar.object b e (member k n ms)) h) (object_opened-more t (b + 1) k.begin h.1.0 h.1.1.string.opens)
         ∙ one-member (room - 1) b [] k n h.1.1 h.1.2 (value_at-complete n (room - 1) h.1.2 (omega arith) (members-end ms (end n) e h.1.3))
         ∙ members-complete ms (room - 1) b (end n) e ((k, n) ∷ []) h.1.3 (omega arith)
 

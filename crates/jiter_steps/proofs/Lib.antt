@@ -31,3 +31,6 @@ pub mod Documents
 mod Rows
 pub mod GrammarLaw
 pub mod StringCutLaws
+pub mod Front
+pub mod NumberCut
+pub mod SpellsFront

@@ -136,7 +136,7 @@ module _ (t : List ℕ) where
   key_ended-is i h = key_colon-at i (past_blanks t i) (passed-blank t i h) _ refl
 
   -- complete: what is there is read
-  row-at : (row : Row) (i j c : ℕ) → IsBlank t i j → slice_get t j ≡ Some c → is_blank c ≡ false → step t row i ≡ row j (Some c)
+  pub row-at : (row : Row) (i j c : ℕ) → IsBlank t i j → slice_get t j ≡ Some c → is_blank c ≡ false → step t row i ≡ row j (Some c)
   row-at row i j c b e other = ap (λ k. row k (slice_get t k)) (blank-passed t i j c b e other) ∙ ap (row j) e
 
   pub array_opened-closed : (i e : ℕ) → StandsBehind t i 93 e → step t array_opened i ≡ closed e

@@ -23,8 +23,9 @@ use Rattle.jiter_steps.specs.Tree.{Text}
 use Rattle.jiter_steps.specs.declared.parse.Literal.{Literal}
 use Rattle.jiter_steps.specs.declared.parse.Start.{Start}
 use Rattle.jiter_steps.specs.declared.parse.Start.TheVariants as start
+use Rattle.jiter_steps.proofs.Firsts.{string-first}
 use Rattle.jiter_steps.proofs.RowSteps.{StepIs, OpenStepIs, ByteBehind, QuoteBehind, Behind, array_opened-is, array_continued-is, object_opened-is, object_continued-is, key_ended-is}
-use Rattle.jiter_steps.proofs.ScalarLaws.{ScalarLaws}
+use Rattle.jiter_steps.proofs.ScalarLaws.{ScalarLaws, scalar-laws}
 
 -- these nodes, and then the rest
 abbrev pub nodes_before : List Node → Nodes → Nodes
@@ -69,15 +70,12 @@ members_nesting-round : (ms : NodeMembers) (room : ℕ) → nesting_of_members m
 members_nesting-round no_members room h = omega arith
 members_nesting-round (member k n ms) room h = omega arith
 
--- the bytes that begin an array, an object and a string
+-- the bytes that begin an array and an object
 pub array-byte : (c : ℕ) → start_of c ≡ start.Array → c ≡ 91
 array-byte c e = grind (arith, nat_tests, e)
 
 pub object-byte : (c : ℕ) → start_of c ≡ start.Object → c ≡ 123
 object-byte c e = grind (arith, nat_tests, e)
-
-pub string-byte : (c : ℕ) → start_of c ≡ start.String → c ≡ 34
-string-byte c e = grind (arith, nat_tests, e)
 
 -- the text spells n from i to e, with room for it
 pub record IsNodeAt (names : Bool) (t : List ℕ) (room i : ℕ) (n : Node) (e : ℕ) : Type 0 where
@@ -102,7 +100,10 @@ abbrev KeySound : List ℕ → ℕ → Scanned Key → Type 0
 KeySound t i (taken k e) = IsKeyAt t i k e
 KeySound t i (failed k j) = Unit {0}
 
-module _ (names : Bool) (t : List ℕ) (laws : ScalarLaws names t) where
+module _ (names : Bool) (t : List ℕ) where
+  laws : ScalarLaws names t
+  laws = scalar-laws names t
+
   closer-within : (i c e : ℕ) → StandsBehind t i c e → e ≤ length t
   closer-within i c e h = let inside = slice_get_within t h.at c h.here in omega (arith, h.ends)
 
@@ -281,7 +282,7 @@ module _ (names : Bool) (t : List ℕ) (laws : ScalarLaws names t) where
   value_with-sound room i inner h items members start.Object e =
       let here = byte-here i 123 h (object-byte _ e) in
       object-sound room i (members_at (nodes names) inner t i (length t) []) here (members here) (step t object_opened (i + 1)) (object_opened-is t (i + 1) (omega arith))
-  value_with-sound room i inner h items members start.String e = text-sound room i (string_at whole t i) (byte-here i 34 h (string-byte _ e)) refl (laws.string-within i h)
+  value_with-sound room i inner h items members start.String e = text-sound room i (string_at whole t i) (byte-here i 34 h (string-first _ e)) refl (laws.string-within i h)
   value_with-sound room i inner h items members start.Number e = number-sound room i (number_at names t i) h refl (laws.number-within i h)
   value_with-sound room i inner h items members (start.Literal l) e = literal-sound room i l (literal_at t l i) refl (laws.literal-within l i h)
   value_with-sound room i inner h items members start.Nothing e = tt
