@@ -1,2 +1,3 @@
 pub mod Scanning
 mod Rows
+pub mod NumberTests
