@@ -13,3 +13,4 @@ pub mod Words
 pub mod NumberBytes
 pub mod NumberLaws
 mod Rows
+pub mod NumberTests

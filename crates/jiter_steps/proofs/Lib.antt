@@ -34,3 +34,4 @@ pub mod StringCutLaws
 pub mod Front
 pub mod NumberCut
 pub mod SpellsFront
+pub mod Growth

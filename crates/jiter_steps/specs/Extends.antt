@@ -1,6 +1,8 @@
 -- One tree goes on where another stopped, as a longer front of a document does.
-use Rattle.std.specs.Prelude.{◌≡◌, ℕ, List, ◌++◌}
+use Rattle.std.specs.Prelude.{◌≡◌, ◌⊎◌, ℕ, ◌≤◌, List, ◌++◌}
 use Rattle.jiter_steps.specs.Tree.{Text, Tree, string, array, object, Items, no_items, item, Members, no_members, member}
+use Rattle.jiter_steps.specs.Node.{Node, Nodes, no_nodes, node, NodeMembers}
+use Rattle.jiter_steps.specs.Node as grammar
 
 -- the first text's characters begin the second's; both are UTF-8, so that their bytes say it
 abbrev pub BeginsText : Text → Text → Type 0
@@ -32,3 +34,20 @@ abbrev mutual
   ExtendsMembers no_members ns = Unit {0}
   ExtendsMembers (member k v ms) no_members = ⊥
   ExtendsMembers (member k v ms) (member l w ns) = (k ≡ l) × IfLastMember ms (Extends v w) ((v ≡ w) × ExtendsMembers ms ns)
+
+-- No number of a node is cut by k: each is whole before it, or not begun.
+abbrev mutual
+  pub CutsNoNumber : ℕ → Node → Type 0
+  CutsNoNumber k (grammar.literal l b e) = Unit {0}
+  CutsNoNumber k (grammar.number b e) = (k ≤ b) ⊎ (e ≤ k)
+  CutsNoNumber k (grammar.string ps b e) = Unit {0}
+  CutsNoNumber k (grammar.array b e ns) = CutsNoNumberOf k ns
+  CutsNoNumber k (grammar.object b e ms) = CutsNoNumberOfMembers k ms
+
+  pub CutsNoNumberOf : ℕ → Nodes → Type 0
+  CutsNoNumberOf k no_nodes = Unit {0}
+  CutsNoNumberOf k (node n ns) = CutsNoNumber k n × CutsNoNumberOf k ns
+
+  pub CutsNoNumberOfMembers : ℕ → NodeMembers → Type 0
+  CutsNoNumberOfMembers k grammar.no_members = Unit {0}
+  CutsNoNumberOfMembers k (grammar.member key n ms) = CutsNoNumber k n × CutsNoNumberOfMembers k ms

@@ -1,5 +1,6 @@
 -- Runs of digits and their values, by computation.
-use Rattle.std.proofs.Common.{◌≡◌, [], refl, codes}
+use Rattle.std.proofs.Common.{◌≡◌, [], ◌++◌, refl, codes}
+use Rattle.std.specs.Prelude.{replicate, take}
 use Rattle.jiter_scan.specs.Digits.{digit_run, decimal_of}
 
 a_run_to_a_comma : digit_run (codes "12,34") 0 ≡ 2
@@ -41,6 +42,34 @@ nine_digits = refl
 
 sixteen_digits : decimal_of (codes "1234567890123456") ≡ 1234567890123456
 sixteen_digits = refl
+
+eight_of_sixteen_bytes : digit_run (codes "12345678" ++ replicate 8 47) 0 ≡ 8
+unfolding digit_run
+eight_of_sixteen_bytes = refl
+
+eight_of_sixteen_bytes_as_a_number : decimal_of (take 8 (codes "12345678" ++ replicate 8 47)) ≡ 12345678
+eight_of_sixteen_bytes_as_a_number = refl
+
+two_of_sixteen_bytes : digit_run (codes "12," ++ replicate 13 255) 0 ≡ 2
+unfolding digit_run
+two_of_sixteen_bytes = refl
+
+two_of_sixteen_bytes_as_a_number : decimal_of (take 2 (codes "12," ++ replicate 13 255)) ≡ 12
+two_of_sixteen_bytes_as_a_number = refl
+
+two_before_digits_bytes : digit_run (codes "12," ++ replicate 13 55) 0 ≡ 2
+unfolding digit_run
+two_before_digits_bytes = refl
+
+two_before_digits_bytes_as_a_number : decimal_of (take 2 (codes "12," ++ replicate 13 55)) ≡ 12
+two_before_digits_bytes_as_a_number = refl
+
+nine_of_sixteen_bytes : digit_run (codes "123456789]" ++ replicate 6 58) 0 ≡ 9
+unfolding digit_run
+nine_of_sixteen_bytes = refl
+
+nine_of_sixteen_bytes_as_a_number : decimal_of (take 9 (codes "123456789]" ++ replicate 6 58)) ≡ 123456789
+nine_of_sixteen_bytes_as_a_number = refl
 
 leading_zeros : decimal_of (codes "0012") ≡ 12
 leading_zeros = refl
