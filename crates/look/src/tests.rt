@@ -1,5 +1,5 @@
 //! Runs over memory, and over a reader and a writer that fail.
-ghost use Rattle.std.specs.Prelude.{Some};
+ghost use Rattle.std.specs.Prelude.{Some, false};
 ghost use Rattle.look.specs.Run.{Wrote, line_of};
 
 use crate::asking::words;
