@@ -5,6 +5,8 @@ mod asking;
 mod print;
 mod running;
 mod settings;
+#[cfg(test)]
+mod tests;
 
 use asking::words;
 use running::run;

@@ -1,0 +1,354 @@
+//! Runs over memory, and over a reader and a writer that fail.
+ghost use Rattle.std.specs.Prelude.{Some, false};
+ghost use Rattle.look.specs.Run.{Wrote, line_of};
+
+use crate::asking::words;
+use crate::print::print;
+use crate::running::{End, run};
+use crate::settings::Words;
+use jiter::{JsonValue, PartialMode};
+use std::alloc::Global;
+use std::borrow::CowStr;
+use std::io;
+use std::io::{Read, Write};
+use std::test::*;
+
+/// Gives one byte a call, and fails at the call that its count names.
+#[derive(Drop)]
+struct FailingReader<'a> {
+    rest: &'a [u8],
+    calls_left: usize,
+}
+
+impl<'a> Read for FailingReader<'a> {
+    ghost remaining = { λ r. Some r.rest.now };
+
+    fn read(&mut self, buf: &mut [u8]) -> io::Result<usize> {
+        if self.calls_left == 0 {
+            return Err(io::Error::from(io::ErrorKind::BrokenPipe));
+        }
+        self.calls_left -= 1;
+        let Some((byte, rest)) = self.rest.split_first() else {
+            return Ok(0);
+        };
+        let Some(place) = buf.first_mut() else {
+            return Ok(0);
+        };
+        *place = *byte;
+        self.rest = rest;
+        Ok(1)
+    }
+}
+
+/// Takes one byte a call, fails at the call that its count names, and counts that call and those after it.
+#[derive(Drop)]
+struct FailingWriter {
+    got: Vec<u8>,
+    calls_left: usize,
+    calls_failed: usize,
+}
+
+impl Write for FailingWriter {
+    ghost contents = { λ w. Some w.got.items };
+
+    fn write(&mut self, buf: &[u8]) -> io::Result<usize> {
+        if self.calls_left == 0 {
+            self.calls_failed = self.calls_failed.saturating_add(1);
+            return Err(io::Error::from(io::ErrorKind::BrokenPipe));
+        }
+        self.calls_left -= 1;
+        let Some(byte) = buf.first() else {
+            return Ok(0);
+        };
+        self.got.push(*byte)?;
+        Ok(1)
+    }
+
+    fn flush(&mut self) -> io::Result<()> {
+        if self.calls_left == 0 {
+            self.calls_failed = self.calls_failed.saturating_add(1);
+            return Err(io::Error::from(io::ErrorKind::BrokenPipe));
+        }
+        self.calls_left -= 1;
+        Ok(())
+    }
+}
+
+fn failing_writer(alloc: Global, calls_left: usize) -> FailingWriter {
+    FailingWriter {
+        got: Vec::new(alloc),
+        calls_left,
+        calls_failed: 0,
+    }
+}
+
+/// A run over memory alone.
+fn run_over_memory(
+    alloc: Global,
+    text: &[u8],
+    out: &mut Vec<u8>,
+    err: &mut Vec<u8>,
+    inf_nan: bool,
+) -> End
+    ensures { Wrote (line_of inf_nan text.now) result
+        (Some out.old.items) (Some out.new.items) (Some err.old.items) (Some err.new.items) }
+{
+    let mut reader: &[u8] = text;
+    run(alloc, &mut reader, out, err, PartialMode::Off, inf_nan)
+}
+
+/// The same over a reader and a writer that may fail.
+fn run_over_failing(
+    alloc: Global,
+    text: &[u8],
+    calls_left: usize,
+    out: &mut FailingWriter,
+    err: &mut FailingWriter,
+) -> End
+    ensures { Wrote (line_of false text.now) result
+        (Some out.old.got.items) (Some out.new.got.items) (Some err.old.got.items) (Some err.new.got.items) }
+{
+    let mut reader = FailingReader {
+        rest: text,
+        calls_left,
+    };
+    run(alloc, &mut reader, out, err, PartialMode::Off, false)
+}
+
+#[test]
+fn values_are_shown(rt: HostRuntime) {
+    for (text, line) in [
+        (" [true, [null, []], false]", "[true,[null,[]],false]\n"),
+        (
+            "[1.50, -0, 123456789012345678901234567890]",
+            "[1.50,0,123456789012345678901234567890]\n",
+        ),
+        (
+            "{\"a\": [1, 2.50, \"\\n\"]}",
+            "{\"a\":[1,2.50,\"\\u000a\"]}\n",
+        ),
+        ("\"\\u00e9\\\"\\\\\"", "\"é\\\"\\\\\"\n"),
+    ] {
+        let mut out = Vec::new(rt.alloc());
+        let mut err = Vec::new(rt.alloc());
+        let end = run_over_memory(rt.alloc(), text.as_bytes(), &mut out, &mut err, false);
+        assert_eq!(rt; end, End::Shown);
+        assert_eq!(rt; out.as_slice(), line.as_bytes());
+        assert!(rt; err.is_empty());
+    }
+}
+
+#[test]
+fn faults_are_described(rt: HostRuntime) {
+    for (text, line) in [
+        ("", "EOF while parsing a value at line 1 column 0\n"),
+        ("[tru]", "expected ident at line 1 column 5\n"),
+        ("[true", "EOF while parsing a list at line 1 column 5\n"),
+        ("[true,]", "trailing comma at line 1 column 7\n"),
+        ("[\ntrue\nx", "expected `,` or `]` at line 3 column 1\n"),
+        ("[1,", "EOF while parsing a value at line 1 column 3\n"),
+        ("[1, 2] extra", "trailing characters at line 1 column 8\n"),
+    ] {
+        let mut out = Vec::new(rt.alloc());
+        let mut err = Vec::new(rt.alloc());
+        let end = run_over_memory(rt.alloc(), text.as_bytes(), &mut out, &mut err, false);
+        assert_eq!(rt; end, End::Refused);
+        assert!(rt; out.is_empty());
+        assert_eq!(rt; err.as_slice(), line.as_bytes());
+    }
+}
+
+#[test]
+fn names_are_numbers_where_allowed(rt: HostRuntime) {
+    for (inf_nan, wanted, shown, refused) in [
+        (true, End::Shown, "[NaN]\n", ""),
+        (
+            false,
+            End::Refused,
+            "",
+            "expected value at line 1 column 2\n",
+        ),
+    ] {
+        let mut out = Vec::new(rt.alloc());
+        let mut err = Vec::new(rt.alloc());
+        let end = run_over_memory(rt.alloc(), b"[NaN]", &mut out, &mut err, inf_nan);
+        assert_eq!(rt; end, wanted);
+        assert_eq!(rt; out.as_slice(), shown.as_bytes());
+        assert_eq!(rt; err.as_slice(), refused.as_bytes());
+    }
+}
+
+#[test]
+fn a_line_is_added_behind_what_stands(rt: HostRuntime) -> Result<(), Fail> {
+    let alloc = rt.alloc();
+    let mut out = Vec::new(alloc);
+    let mut err = Vec::new(alloc);
+    for text in ["[1 ]", "[", "2"] {
+        run_over_memory(alloc, text.as_bytes(), &mut out, &mut err, false);
+    }
+    assert_eq!(rt; out.as_slice(), b"[1]\n2\n".as_slice());
+    assert_eq!(rt;
+        err.as_slice(),
+        b"EOF while parsing a list at line 1 column 1\n".as_slice()
+    );
+    Ok(())
+}
+
+#[test]
+fn nothing_is_written_after_a_failed_read(rt: HostRuntime) {
+    for text in ["null", "nul!"] {
+        // Four calls give a byte each, and the fifth is the end.
+        for calls in 0..5usize {
+            let mut out = failing_writer(rt.alloc(), 100);
+            let mut err = failing_writer(rt.alloc(), 100);
+            let end = run_over_failing(rt.alloc(), text.as_bytes(), calls, &mut out, &mut err);
+            assert_eq!(rt; end, End::Failed);
+            assert_eq!(rt; out.calls_left, 100);
+            assert_eq!(rt; err.calls_left, 100);
+        }
+    }
+}
+
+#[test]
+fn a_failed_write_of_a_value_is_the_last(rt: HostRuntime) {
+    // Five bytes and a flush.
+    for calls in 0..6usize {
+        let mut out = failing_writer(rt.alloc(), calls);
+        let mut err = failing_writer(rt.alloc(), 100);
+        let end = run_over_failing(rt.alloc(), b"null", 100, &mut out, &mut err);
+        assert_eq!(rt; end, End::Failed);
+        assert_eq!(rt; out.calls_failed, 1);
+        assert_eq!(rt; err.calls_left, 100);
+    }
+    let mut out = failing_writer(rt.alloc(), 6);
+    let mut err = failing_writer(rt.alloc(), 0);
+    let end = run_over_failing(rt.alloc(), b"null", 100, &mut out, &mut err);
+    assert_eq!(rt; end, End::Shown);
+    assert_eq!(rt; err.calls_failed, 0);
+}
+
+#[test]
+fn a_failed_write_of_a_fault_is_the_last(rt: HostRuntime) {
+    // `expected value at line 1 column 1`, a line feed, and a flush.
+    for calls in 0..35usize {
+        let mut out = failing_writer(rt.alloc(), 100);
+        let mut err = failing_writer(rt.alloc(), calls);
+        let end = run_over_failing(rt.alloc(), b"?", 100, &mut out, &mut err);
+        assert_eq!(rt; end, End::Failed);
+        assert_eq!(rt; err.calls_failed, 1);
+        assert_eq!(rt; out.calls_left, 100);
+    }
+    let mut out = failing_writer(rt.alloc(), 0);
+    let mut err = failing_writer(rt.alloc(), 35);
+    let end = run_over_failing(rt.alloc(), b"?", 100, &mut out, &mut err);
+    assert_eq!(rt; end, End::Refused);
+    assert_eq!(rt; out.calls_failed, 0);
+}
+
+#[test]
+fn each_end_has_a_status(rt: HostRuntime) {
+    for (end, status) in [(End::Shown, 0), (End::Refused, 1), (End::Failed, 3)] {
+        assert_eq!(rt; end.status(), status);
+    }
+}
+
+fn list_of(alloc: Global, given: &[&str]) -> Result<Vec<String>, Fail> {
+    let mut list = Vec::new(alloc);
+    for word in given {
+        list.push(String::from_str(alloc, word)?)?;
+    }
+    Ok(list)
+}
+
+#[test]
+fn words_name_a_mode(rt: HostRuntime) -> Result<(), Fail> {
+    let alloc = rt.alloc();
+    let off = Words {
+        mode: PartialMode::Off,
+        inf_nan: false,
+    };
+    assert_eq!(rt; words(list_of(alloc, &["off"])?.as_slice()), Some(off));
+    let off_with_names = Words {
+        mode: PartialMode::Off,
+        inf_nan: true,
+    };
+    assert_eq!(rt;
+        words(list_of(alloc, &["off", "inf-nan"])?.as_slice()),
+        Some(off_with_names)
+    );
+    Ok(())
+}
+
+#[test]
+fn other_words_are_wrong(rt: HostRuntime) -> Result<(), Fail> {
+    let alloc = rt.alloc();
+    assert!(rt; words(list_of(alloc, &[])?.as_slice()).is_none());
+    for word in [
+        "maybe",
+        "",
+        "Off",
+        "off ",
+        "inf-nan",
+        "on",
+        "trailing-strings",
+    ] {
+        assert!(rt; words(list_of(alloc, &[word])?.as_slice()).is_none());
+        assert!(rt; words(list_of(alloc, &[word, "inf-nan"])?.as_slice()).is_none());
+        assert!(rt; words(list_of(alloc, &["off", "inf-nan", word])?.as_slice()).is_none());
+    }
+    assert!(rt; words(list_of(alloc, &["off", "x"])?.as_slice()).is_none());
+    assert!(rt; words(list_of(alloc, &["off", "off"])?.as_slice()).is_none());
+    Ok(())
+}
+
+#[test]
+fn scalars_are_printed(rt: HostRuntime) -> Result<(), Fail> {
+    let alloc = rt.alloc();
+    assert_eq!(rt;
+        print(alloc, &JsonValue::Null)?.as_slice(),
+        b"null".as_slice()
+    );
+    assert_eq!(rt;
+        print(alloc, &JsonValue::Bool(true))?.as_slice(),
+        b"true".as_slice()
+    );
+    assert_eq!(rt;
+        print(alloc, &JsonValue::Bool(false))?.as_slice(),
+        b"false".as_slice()
+    );
+    assert_eq!(rt;
+        print(alloc, &JsonValue::Int(-12))?.as_slice(),
+        b"-12".as_slice()
+    );
+    let big = JsonValue::BigInt(CowStr::Borrowed("9223372036854775808"));
+    assert_eq!(rt;
+        print(alloc, &big)?.as_slice(),
+        b"9223372036854775808".as_slice()
+    );
+    let float = JsonValue::Float(CowStr::Borrowed("-1.50E+2"));
+    assert_eq!(rt; print(alloc, &float)?.as_slice(), b"-1.50E+2".as_slice());
+    let text = JsonValue::Str(CowStr::Borrowed("a\"\\/\u{1f}\u{7f}é"));
+    assert_eq!(rt;
+        print(alloc, &text)?.as_slice(),
+        "\"a\\\"\\\\/\\u001f\u{7f}é\"".as_bytes()
+    );
+    Ok(())
+}
+
+#[test]
+fn containers_are_printed(rt: HostRuntime) -> Result<(), Fail> {
+    let alloc = rt.alloc();
+    let mut items = Vec::new(alloc);
+    items.push(JsonValue::Array(Vec::new(alloc)))?;
+    items.push(JsonValue::Object(Vec::new(alloc)))?;
+    let mut members = Vec::new(alloc);
+    members.push((CowStr::Borrowed("a"), JsonValue::Array(items)))?;
+    members.push((CowStr::Borrowed("\n"), JsonValue::Null))?;
+    members.push((CowStr::Borrowed("a"), JsonValue::Int(2)))?;
+    let object = JsonValue::Object(members);
+    assert_eq!(rt;
+        print(alloc, &object)?.as_slice(),
+        b"{\"a\":[[],{}],\"\\u000a\":null,\"a\":2}".as_slice()
+    );
+    Ok(())
+}
