@@ -1,1 +1,16 @@
 pub mod Blanks
+pub mod Ahead
+pub mod Values
+pub mod EndKinds
+pub mod StringStand
+pub mod Utf8Shape
+pub mod PlacesExplained
+pub mod Bodies
+pub mod StringComplete
+pub mod StringSound
+pub mod DecodeSteps
+pub mod Tails
+pub mod StringCut
+pub mod StringForms
+pub mod StringMarks
+pub mod StringLaws
