@@ -1,5 +1,4 @@
-//! JSON that people can trust with hostile bytes.
+//! Reading JSON from a slice of bytes.
 #![tactic(auto)]
 
 pub use jiter_scan::{JsonError, JsonErrorType, JsonResult, LinePosition, PartialMode};
-pub use jiter_value::{JsonArray, JsonObject, JsonValue};

@@ -2,6 +2,9 @@ pub mod Blanks
 pub mod Ahead
 pub mod Values
 pub mod EndKinds
+pub mod Firsts
+pub mod Fused
+pub mod Answered
 pub mod StringStand
 pub mod Utf8Shape
 pub mod PlacesExplained
@@ -14,3 +17,14 @@ pub mod StringCut
 pub mod StringForms
 pub mod StringMarks
 pub mod StringLaws
+pub mod PlainRuns
+pub mod StringAnswers
+pub mod Instances
+pub mod ScalarLaws
+pub mod Nodes
+pub mod RowSteps
+pub mod Sound
+pub mod Mapped
+pub mod Complete
+pub mod Documents
+mod Rows

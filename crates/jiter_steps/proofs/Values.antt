@@ -316,3 +316,36 @@ module _ {K A : Type 0} (r : Rules K A) (t : List ℕ) where
         → step t (object_continued t) d ≡ s
         → members_at r (value_at r t room) t b (length t) members i ≡ stepped r (members_at r (value_at r t room) t b (length t) (members ++ (key, a) ∷ [])) (λ e. r.object b e (members ++ (key, a) ∷ [])) s
     members-member room b = inner-member (value_at r t room) (value_at-within good room) b
+
+    -- One turn, with the room of the container itself.
+    pub room-item : (room b i e : ℕ) (items : List A) (a : A) (s : Step) → i < length t → 0 < room → value_at r t (room - 1) i ≡ done a e → step t (array_continued t) e ≡ s
+        → items_at r (inner_at room) t b (length t) items i ≡ stepped r (items_at r (inner_at room) t b (length t) (items ++ a ∷ [])) (λ e. r.array b e (items ++ a ∷ [])) s
+    room-item room b i e items a s h z v w = inner-item (inner_at room) (inner_at-within good room) b i e items a s h (inner_at-suc room i z ∙ v) w
+
+    pub room-item-fault : (room b i x stop : ℕ) (items : List A) (k : Kind) → i < length t → 0 < room → value_at r t (room - 1) i ≡ fault k x stop
+        → items_at r (inner_at room) t b (length t) items i ≡ stopped r (λ e. r.array b e items) k x stop
+    room-item-fault room b i x stop items k h z v = inner-item-fault (inner_at room) (inner_at-within good room) b i x stop items k h (inner_at-suc room i z ∙ v)
+
+    pub room-item-limit : (room b i : ℕ) (items : List A) → i < length t → room ≡ 0 → items_at r (inner_at room) t b (length t) items i ≡ stopped r (λ e. r.array b e items) recursion_limit i i
+    room-item-limit room b i items h z = inner-item-fault (inner_at room) (inner_at-within good room) b i i i items recursion_limit h (inner_at-zero room i z)
+
+    pub room-key-fault : (room b i j : ℕ) (members : List (K × A)) (k : Kind) → i < length t → r.key t i ≡ failed k j
+        → members_at r (inner_at room) t b (length t) members i ≡ stopped r (λ e. r.object b e members) k j i
+    room-key-fault room b = inner-key-fault (inner_at room) (inner_at-within good room) b
+
+    pub room-colon-fault : (room b i e j : ℕ) (members : List (K × A)) (key : K) (k : Kind) → i < length t → r.key t i ≡ taken key e → key_ended t e ≡ stuck k j
+        → members_at r (inner_at room) t b (length t) members i ≡ stopped r (λ e. r.object b e members) k j j
+    room-colon-fault room b = inner-colon-fault (inner_at room) (inner_at-within good room) b
+
+    pub room-value-limit : (room b i e j : ℕ) (members : List (K × A)) (key : K) → i < length t → r.key t i ≡ taken key e → key_ended t e ≡ more j → room ≡ 0
+        → members_at r (inner_at room) t b (length t) members i ≡ stopped r (λ e. r.object b e members) recursion_limit j j
+    room-value-limit room b i e j members key h v w z = inner-member-fault (inner_at room) (inner_at-within good room) b i e j j j members key recursion_limit h v w (inner_at-zero room j z)
+
+    pub room-value-fault : (room b i e j x stop : ℕ) (members : List (K × A)) (key : K) (k : Kind) → i < length t → r.key t i ≡ taken key e → key_ended t e ≡ more j → 0 < room → value_at r t (room - 1) j ≡ fault k x stop
+        → members_at r (inner_at room) t b (length t) members i ≡ stopped r (λ e. r.object b e members) k x stop
+    room-value-fault room b i e j x stop members key k h v w z u = inner-member-fault (inner_at room) (inner_at-within good room) b i e j x stop members key k h v w (inner_at-suc room j z ∙ u)
+
+    pub room-member : (room b i e j d : ℕ) (members : List (K × A)) (key : K) (a : A) (s : Step) → i < length t → r.key t i ≡ taken key e → key_ended t e ≡ more j → 0 < room → value_at r t (room - 1) j ≡ done a d
+        → step t (object_continued t) d ≡ s
+        → members_at r (inner_at room) t b (length t) members i ≡ stepped r (members_at r (inner_at room) t b (length t) (members ++ (key, a) ∷ [])) (λ e. r.object b e (members ++ (key, a) ∷ [])) s
+    room-member room b i e j d members key a s h v w z u q = inner-member (inner_at room) (inner_at-within good room) b i e j d members key a s h v w (inner_at-suc room j z ∙ u) q
