@@ -28,3 +28,4 @@ pub mod Mapped
 pub mod Complete
 pub mod Documents
 mod Rows
+pub mod GrammarLaw

@@ -1,19 +1,22 @@
 //! Reading one value, by recursion.
 ghost use Rattle.std.specs.Prelude.{◌≡◌, ◌+◌, ◌≤◌, ◌<◌, [], ◌∷◌, ◌++◌, IfOk, IfErr, OnOk, true, false, length, slice_index};
 ghost use Rattle.jiter_steps.specs.Literal.{literal_tree, start_of};
-ghost use Rattle.jiter_steps.specs.StringReading.{string_at, whole};
+ghost use Rattle.jiter_steps.specs.Node.{number_tree};
+ghost use Rattle.jiter_scan.specs.NumberView.{number_view};
 ghost use Rattle.jiter_steps.specs.Read.{value_at, scanned};
 ghost use Rattle.jiter_steps.specs.Answer.{whole_trees};
 ghost use Rattle.jiter_value.specs.View.{view};
-ghost use Rattle.jiter_value.specs.Answers.{Gives, GivesText, inside_at, IsRefusalAt};
+ghost use Rattle.jiter_value.specs.Answers.{Gives, inside_at, IsErrOfFault, IsRefusalAt, IsRefusalFrom};
 
 use crate::value::JsonValue;
-use jiter_scan::JsonErrorType;
-use jiter_steps::fault::{Refusal, fault_at};
+use jiter_scan::number_decoder::number_at;
+use jiter_scan::{JsonErrorType, NumberAny, NumberInt};
+use jiter_steps::fault::{Fault, Refusal, fault_at};
 use jiter_steps::parse::{
     Literal, Start, Step, array_continued, array_opened, key_ended, literal_end, object_continued,
     object_opened, start_of,
 };
+use jiter_steps::string_decoder::string_at;
 use std::alloc::Global;
 use std::borrow::CowStr;
 
@@ -64,7 +67,7 @@ fn read_literal<'j>(
     requires { at ≤ length bytes.now }
     ensures value { Gives result (scanned at ((whole_trees false).literal bytes.now literal at)) }
     ensures advances { IfOk result (λ x. (at < x.1) × (x.1 ≤ length bytes.now)) }
-    ensures refusal { IfErr result (IsRefusalAt bytes.now at) }
+    ensures fault { IsErrOfFault result (length bytes.now) }
 {
     match literal_end(bytes, at, literal) {
         Ok(end) => {
@@ -72,6 +75,16 @@ fn read_literal<'j>(
             Ok((value, end))
         }
         Err(fault) => Err(Refusal::Fault(fault)),
+    }
+}
+
+fn number_value<'j>(number: NumberAny<'j>) -> JsonValue<'j>
+    ensures { view result ≡ number_tree (number_view number.entry) }
+{
+    match number {
+        NumberAny::Int(NumberInt::Int(integer)) => JsonValue::Int(integer),
+        NumberAny::Int(NumberInt::BigInt(text)) => JsonValue::BigInt(CowStr::Borrowed(text)),
+        NumberAny::Float(text) => JsonValue::Float(CowStr::Borrowed(text)),
     }
 }
 
@@ -83,25 +96,19 @@ fn read_number<'j>(
     requires { at < length bytes.now }
     ensures value { Gives result (scanned at ((whole_trees allow_inf_nan).number bytes.now at)) }
     ensures advances { IfOk result (λ x. (at < x.1) × (x.1 ≤ length bytes.now)) }
-    ensures refusal { IfErr result (IsRefusalAt bytes.now at) }
+    ensures fault { IsErrOfFault result (length bytes.now) }
 {
-    let _byte = bytes[at];
-    Err(Refusal::Memory(at))
-}
-
-fn read_key<'j>(
-    alloc: Global,
-    tape: &mut Vec<u8>,
-    bytes: &'j [u8],
-    at: usize,
-) -> Result<(CowStr<'j>, usize), Refusal>
-    requires { at < length bytes.now }
-    ensures value { GivesText at result (string_at whole bytes.now at) }
-    ensures advances { IfOk result (λ x. (at < x.1) × (x.1 ≤ length bytes.now)) }
-    ensures refusal { IfErr result (IsRefusalAt bytes.now at) }
-{
-    let _byte = bytes[at];
-    Err(Refusal::Memory(at))
+    match number_at(bytes, at, allow_inf_nan) {
+        Ok((number, end)) => {
+            let value = number_value(number);
+            Ok((value, end))
+        }
+        Err(error) => Err(Refusal::Fault(Fault {
+            kind: error.error_type,
+            index: error.index,
+            stop: at,
+        })),
+    }
 }
 
 fn read_text<'j>(
@@ -110,12 +117,13 @@ fn read_text<'j>(
     bytes: &'j [u8],
     at: usize,
 ) -> Result<(JsonValue<'j>, usize), Refusal>
-    requires { at < length bytes.now }
+    requires within { at < length bytes.now }
+    requires quote { start_of (slice_index bytes.now at) ≡ Start.String }
     ensures value { Gives result (scanned at ((whole_trees false).text bytes.now at)) }
     ensures advances { IfOk result (λ x. (at < x.1) × (x.1 ≤ length bytes.now)) }
     ensures refusal { IfErr result (IsRefusalAt bytes.now at) }
 {
-    match read_key(alloc, tape, bytes, at) {
+    match string_at(alloc, tape, bytes, at) {
         Ok((text, end)) => {
             let value = JsonValue::Str(text);
             Ok((value, end))
@@ -163,7 +171,7 @@ fn read_inside<'j>(
     requires { at < length bytes.now }
     ensures value { Gives result (inside_at allow_inf_nan bytes.now room at) }
     ensures advances { IfOk result (λ x. (at < x.1) × (x.1 ≤ length bytes.now)) }
-    ensures refusal { IfErr result (IsRefusalAt bytes.now at) }
+    ensures refusal { IfErr result (IsRefusalFrom bytes.now at) }
 {
     if room == 0 {
         Err(Refusal::Fault(fault_at(JsonErrorType::RecursionLimitExceeded, at)))
@@ -237,7 +245,7 @@ fn read_object<'j>(
         Err(fault) => return Err(Refusal::Fault(fault)),
     };
     loop {
-        let (key, key_end) = read_key(alloc, tape, bytes, place)?;
+        let (key, key_end) = string_at(alloc, tape, bytes, place)?;
         let begin = match key_ended(bytes, key_end) {
             Ok(begin) => begin,
             Err(fault) => return Err(Refusal::Fault(fault)),
