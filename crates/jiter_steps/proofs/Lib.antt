@@ -25,11 +25,9 @@ pub mod ScalarLaws
 pub mod Nodes
 pub mod RowSteps
 pub mod Sound
-pub mod Mapped
 pub mod Complete
 pub mod Documents
 mod Rows
-pub mod GrammarLaw
 pub mod StringCutLaws
 pub mod Front
 pub mod NumberCut

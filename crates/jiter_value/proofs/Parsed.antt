@@ -1,29 +1,23 @@
 -- What a whole parse answers, by the grammar and by reading.
-use Rattle.std.proofs.Common.{◌≡◌, ◌≢◌, ℕ, ◌+◌, ◌<◌, ◌≤◌, Bool, true, false, inl, inr, List, length, refl, sym, ap, ◌∙◌, subst, arith}
-use Rattle.std.specs.Prelude.{slice_get, slice_index, Option, Some, None, Result, Ok, Err}
-use Rattle.jiter_scan.specs.Kind.{Kind, kind_of, is_end_kind, out_of_memory, eof_value, trailing_characters}
-use Rattle.jiter_scan.specs.declared.errors.JsonError.{JsonError}
+use Rattle.std.proofs.Common.{◌≡◌, ℕ, ◌<◌, ◌≤◌, Bool, true, inl, inr, List, length, refl, sym, ap, ◌∙◌, subst}
+use Rattle.std.specs.Prelude.{slice_get, slice_index, Option, Some, None, Err}
+use Rattle.jiter_scan.specs.Kind.{Kind, kind_of, is_end_kind}
 use Rattle.jiter_scan.specs.declared.errors.JsonErrorType.TheVariants.{OutOfMemory}
 use Rattle.jiter_steps.specs.Tree.{Text, Tree}
 use Rattle.jiter_steps.specs.Blank.{past_blanks}
 use Rattle.jiter_steps.specs.Literal.{start_of}
 use Rattle.jiter_steps.specs.Step.{stuck, step, value_begins}
-use Rattle.jiter_steps.specs.StringReading.{whole}
 use Rattle.jiter_steps.specs.Node.{Node, IsDocument, value_of}
-use Rattle.jiter_steps.specs.Read.{Reading, done, fault, Rules, value_at, begun, front_answer, whole_answer, ended_at, to_end}
-use Rattle.jiter_steps.specs.Answer.{answer, whole_trees, nothing_forgiven}
+use Rattle.jiter_steps.specs.Read.{Reading, done, fault, Rules, value_at, begun, front_answer, whole_answer, to_end}
+use Rattle.jiter_steps.specs.Answer.{answer, whole_trees}
 use Rattle.jiter_steps.specs.declared.fault.Refusal.{Refusal}
 use Rattle.jiter_steps.specs.declared.fault.Refusal.TheVariants as refusal
-use Rattle.jiter_steps.proofs.Blanks.{past_blanks-bound}
-use Rattle.jiter_steps.proofs.Nodes.{at_length}
-use Rattle.jiter_steps.proofs.EndKinds.{ReadingEnds, value_at-ends}
-use Rattle.jiter_steps.proofs.Instances.{trees-advances, trees-end_right}
-use Rattle.jiter_steps.proofs.Answered.{whole-is, front-begins, whole-done, whole-trailing, whole-begins}
-use Rattle.jiter_steps.proofs.Documents.{IsRead}
-use Rattle.jiter_steps.proofs.GrammarLaw.{answer-law}
-use Rattle.std.proofs.lemmas.Option.{slice_get_within}
+use Rattle.jiter_steps.proofs.EndKinds.{ReadingEnds}
+use Rattle.jiter_steps.proofs.Instances.{answer-ends}
+use Rattle.jiter_steps.proofs.Answered.{whole-begins}
+use Rattle.jiter_steps.proofs.Documents.{IsRead, answer-is}
 use Rattle.jiter_value.specs.View.{view}
-use Rattle.jiter_value.specs.Answers.{Fails, Gives, Answers, MayGrow, MayGrowAs, IsRefusalAt, error_of}
+use Rattle.jiter_value.specs.Answers.{Fails, Answers, MayGrowAs, IsRefusalAt, error_of}
 use Rattle.jiter_value.specs.declared.value.JsonValue.{JsonValue}
 use Rattle.jiter_value.proofs.Turns.{fails-along}
 
@@ -44,33 +38,16 @@ fails-to_end (refusal.Fault f) t r h = ap (to_end t) h
 pub answer-refused : (names : Bool) (t : List ℕ) (e : Refusal) (i : ℕ) → past_blanks t 0 ≡ i → i < length t → Fails e (value_at (whole_trees names) t 200 i) → Fails e (answer names t)
 answer-refused names t e i at h v = fails-along e _ _ (whole-begins (whole_trees names) t i at h) (fails-to_end e t _ v)
 
--- the end kinds stand at the length
-ended-ends : (t : List ℕ) (v : Tree) (e j : ℕ) (o : Option ℕ) → ReadingEnds t (ended_at v e j o)
-ended-ends t v e j None = tt
-ended-ends t v e j (Some c) = λ h. absurd (cc)
-
-to_end-ends : (t : List ℕ) (x : Reading Tree) → ReadingEnds t x → ReadingEnds t (to_end t x)
-to_end-ends t (done v e) h = ended-ends t v e (past_blanks t e) (slice_get t (past_blanks t e))
-to_end-ends t (fault k i stop) h = h
-
-begun-ends : (names : Bool) (t : List ℕ) (i : ℕ) → i ≤ length t → (o : Option ℕ) → slice_get t i ≡ o → ReadingEnds t (begun (whole_trees names) t i o)
-begun-ends names t i le None e = λ h. at_length t i le e
-begun-ends names t i le (Some c) e = value_at-ends (whole_trees names) t (trees-advances t nothing_forgiven whole names) (trees-end_right t nothing_forgiven whole names) 200 i (slice_get_within t i c e)
-
-pub answer-ends : (names : Bool) (t : List ℕ) → ReadingEnds t (answer names t)
-unfolding whole_answer front_answer
-answer-ends names t = to_end-ends t _ (begun-ends names t (past_blanks t 0) (past_blanks-bound t 0 (omega arith)) (slice_get t (past_blanks t 0)) refl)
-
 module _ (names : Bool) (t : List ℕ) where
   pub found : (v : JsonValue) (e : ℕ) → answer names t ≡ done (view v) e → (n : Node) × IsDocument names t n × (value_of t n ≡ view v)
-  found v e h = let read = subst (IsRead names t) h (answer-law names t) in (read.0, read.1, read.2)
+  found v e h = let read = subst (IsRead names t) h (answer-is names t) in (read.0, read.1, read.2)
 
   pub only-value : (v : JsonValue) (e : ℕ) → answer names t ≡ done (view v) e → (n : Node) → IsDocument names t n → view v ≡ value_of t n
-  only-value v e h n d = let read = subst (IsRead names t) h (answer-law names t) in sym read.2 ∙ sym (ap (value_of t) (read.3 n d))
+  only-value v e h n d = let read = subst (IsRead names t) h (answer-is names t) in sym read.2 ∙ sym (ap (value_of t) (read.3 n d))
 
   pub only-error : (e : Refusal) → Fails e (answer names t) → (n : Node) → IsDocument names t n → (error_of e).error_type ≡ OutOfMemory
   only-error (refusal.Memory at) h n d = refl
-  only-error (refusal.Fault f) h n d = absurd (subst (IsRead names t) h (answer-law names t) n d)
+  only-error (refusal.Fault f) h n d = absurd (subst (IsRead names t) h (answer-is names t) n d)
 
   pub first-error : (e : Refusal) → Fails e (answer names t) → Answers (Err (error_of e)) (answer names t)
   first-error (refusal.Memory at) h = inl refl
@@ -78,7 +55,7 @@ module _ (names : Bool) (t : List ℕ) where
 
   pub error-ends : (e : Refusal) → Fails e (answer names t) → is_end_kind (kind_of (error_of e).error_type) ≡ true → (error_of e).index ≡ length t
   error-ends (refusal.Memory at) h k = absurd (cc)
-  error-ends (refusal.Fault f) h k = subst (ReadingEnds t) h (answer-ends names t) k
+  error-ends (refusal.Fault f) h k = subst (ReadingEnds t) h (answer-ends t names) k
 
 pub error-index : (t : List ℕ) (i : ℕ) (e : Refusal) → IsRefusalAt t i e → (error_of e).index ≤ length t
 error-index t i (refusal.Memory at) h = h.1

@@ -1,16 +1,13 @@
 -- One turn of reading an array or an object, as the code takes it.
 use Rattle.std.proofs.Common.{◌≡◌, ◌≢◌, ℕ, zero, suc, ◌+◌, ◌<◌, ◌≤◌, Bool, List, [], ◌∷◌, ◌++◌, length, refl, sym, ap, ◌∙◌, arith}
 use Rattle.std.specs.Prelude.{slice_index, Result, Ok, Err}
-use Rattle.std.specs.declared.alloc.Global.{Global}
-use Rattle.std.specs.declared.borrow.CowStr.{CowStr}
-use Rattle.jiter_scan.specs.Kind.{Kind, kind_of, out_of_memory, recursion_limit}
-use Rattle.jiter_scan.specs.Scanned.{Scanned, taken, failed}
+use Rattle.jiter_scan.specs.Kind.{Kind, kind_of, out_of_memory}
+use Rattle.jiter_scan.specs.Scanned.{taken}
 use Rattle.jiter_scan.specs.declared.errors.JsonErrorType.{JsonErrorType}
 use Rattle.jiter_scan.specs.declared.errors.JsonErrorType.TheVariants.{OutOfMemory}
-use Rattle.jiter_steps.specs.Tree.{Text, Tree, items_of, members_of}
-use Rattle.jiter_steps.specs.Tree as tree
+use Rattle.jiter_steps.specs.Tree.{Text, Tree}
 use Rattle.jiter_steps.specs.Literal.{start_of}
-use Rattle.jiter_steps.specs.Step.{Step, more, closed, stuck, step, array_opened, array_continued, object_opened, key_ended, object_continued}
+use Rattle.jiter_steps.specs.Step.{Step, more, stuck, step, array_opened, array_continued, object_opened, key_ended, object_continued}
 use Rattle.jiter_steps.specs.StringReading.{string_at, whole}
 use Rattle.jiter_steps.specs.Read.{Reading, done, fault, Rules, stepped, items_at, members_at, value_at}
 use Rattle.jiter_steps.specs.Answer.{whole_trees, nothing_forgiven}
@@ -20,10 +17,8 @@ use Rattle.jiter_steps.specs.declared.fault.Fault.{Fault}
 use Rattle.jiter_steps.specs.declared.fault.Refusal.{Refusal}
 use Rattle.jiter_steps.specs.declared.fault.Refusal.TheVariants as refusal
 use Rattle.jiter_steps.specs.declared.parse.Start.TheVariants as start
-use Rattle.jiter_steps.proofs.Ahead.{Within}
-use Rattle.jiter_steps.proofs.Values.{Advances, AllWithin, inner_at, inner_at-within, value_at-within, value-array-more, value-array-closed, value-array-stuck, value-object-more, value-object-closed, value-object-stuck, inner-item, inner-item-fault, inner-key-fault, inner-colon-fault, inner-member-fault, inner-member}
+use Rattle.jiter_steps.proofs.Values.{Advances, AllWithin, inner_at, value_at-within, value-array-more, value-object-more, inner-item, inner-item-fault, inner-key-fault, inner-colon-fault, inner-member-fault, inner-member}
 use Rattle.jiter_steps.proofs.Instances.{trees-advances}
-use Rattle.jiter_value.specs.View.{view}
 use Rattle.jiter_value.specs.Answers.{Fails, Gives, inside_at}
 use Rattle.jiter_value.specs.declared.value.JsonValue.{JsonValue}
 

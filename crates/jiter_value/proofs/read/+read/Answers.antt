@@ -7,11 +7,11 @@ use Rattle.jiter_steps.specs.Tree.{array, object, items_of, members_of}
 use Rattle.jiter_steps.specs.Literal.{start_of}
 use Rattle.jiter_steps.specs.Seen.{text_seen}
 use Rattle.jiter_steps.specs.Step.{closed, more, step, array_opened, array_continued, object_opened, object_continued}
-use Rattle.jiter_steps.specs.Read.{done, items_at, members_at, value_at}
+use Rattle.jiter_steps.specs.Read.{done, items_at, members_at}
 use Rattle.jiter_steps.specs.Answer.{whole_trees}
 use Rattle.jiter_steps.specs.declared.parse.Start.TheVariants as start
 use Rattle.jiter_steps.proofs.Values.{value-literal, value-number, value-text, value-nothing, value-array-closed, value-array-stuck, value-object-closed, value-object-stuck}
-use Rattle.jiter_value.specs.View.{view, views, member_views}
+use Rattle.jiter_value.specs.View.{view, member_views}
 use Rattle.jiter_value.specs.Answers.{inside_at}
 use Rattle.jiter_value.proofs.Views.{seen, view-Array, view-Object, member_views_is}
 use Rattle.jiter_value.proofs.Turns.{fails-along, gives-along, fault-stops, array-begun, object-begun, item-refused, item-stepped, key-refused, colon-refused, value-refused, member-stepped}

@@ -1,4 +1,4 @@
-use Rattle.std.proofs.Common.{◌≡◌, ◌+◌, ◌*◌, ◌-◌, ◌≤◌, ◌<◌, length, map}
+use Rattle.std.proofs.Common.{◌≡◌, ◌+◌, ◌*◌, ◌-◌, ◌<◌, length, map}
 use Rattle.jiter_steps.specs.Read.{value_at, items_at, members_at}
 use Rattle.jiter_steps.specs.Answer.{whole_trees}
 use Rattle.jiter_value.specs.View.{view}

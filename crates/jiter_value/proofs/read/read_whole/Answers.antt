@@ -1,4 +1,3 @@
-use Rattle.std.proofs.Common.{◌∙◌, sym}
 use Rattle.jiter_steps.specs.Answer.{whole_trees}
 use Rattle.jiter_steps.proofs.Answered.{whole-done, whole-trailing}
 use Rattle.jiter_value.specs.View.{view}

@@ -1,5 +1,4 @@
-use Rattle.std.proofs.Common.{◌≡◌, ◌∙◌, ap}
-use Rattle.jiter_scan.specs.Kind.{kind_of}
+use Rattle.std.proofs.Common.{◌∙◌, ap}
 use Rattle.jiter_value.proofs.Parsed.{found, only-value, only-error, error-ends}
 use Rattle.jiter_value.proofs.value.JsonValue.parse.Goals as goal
 
