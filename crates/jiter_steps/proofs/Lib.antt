@@ -27,3 +27,4 @@ pub mod Documents
 pub mod Front
 pub mod NumberCut
 pub mod SpellsFront
+pub mod Prefixes
