@@ -6,6 +6,10 @@ pub mod Runs
 pub mod Scanning
 pub mod Standing
 pub mod WordLaws
+pub mod DigitRuns
+pub mod NumberStarts
+pub mod NumberTexts
 pub mod Words
 pub mod NumberBytes
 pub mod NumberLaws
+mod Rows

@@ -7,4 +7,5 @@ pub mod Word
 pub mod Digits
 pub mod Number
 pub mod NumberReading
+pub mod NumberView
 pub mod Scan

@@ -3,10 +3,12 @@
 #![tactic(auto)]
 
 pub mod errors;
+pub mod number_decoder;
 pub mod partial_mode;
 pub mod word;
 
 pub use errors::{JsonError, JsonErrorType, JsonResult, LinePosition};
+pub use number_decoder::{NumberAny, NumberInt};
 pub use partial_mode::PartialMode;
 
 #[cfg(test)]

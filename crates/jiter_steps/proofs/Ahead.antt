@@ -1,9 +1,9 @@
 -- Where steps and readings end.
-use Rattle.std.proofs.Common.{◌≡◌, ◌⊎◌, inl, inr, ℕ, ◌+◌, ◌<◌, ◌≤◌, ◌==◌, Bool, true, false, cond, length, List, refl, sym, ◌∙◌, arith}
+use Rattle.std.proofs.Common.{◌≡◌, ℕ, ◌+◌, ◌<◌, ◌≤◌, ◌==◌, Bool, true, false, cond, length, List, refl, arith}
 use Rattle.std.specs.Prelude.{slice_get, Option, Some, None}
-use Rattle.std.proofs.lemmas.Option.{slice_get_within, slice_get-get_or}
-use Rattle.std.proofs.lemmas.Bool.{cases_lt}
+use Rattle.std.proofs.lemmas.Option.{slice_get_within}
 use Rattle.jiter_scan.specs.Kind.{is_end_kind, expected_colon, expected_list_comma_or_end, expected_object_comma_or_end, key_must_be_a_string, trailing_comma}
+use Rattle.jiter_scan.proofs.Standing.{get-none}
 use Rattle.jiter_steps.specs.Blank.{past_blanks}
 use Rattle.jiter_steps.specs.Step.{Step, more, closed, stuck, step, step_then, array_opened, array_comma, array_continued, object_opened, object_comma, object_continued, key_colon, key_ended, value_begins}
 use Rattle.jiter_steps.specs.Read.{Reading, done, fault}
@@ -43,19 +43,17 @@ abbrev Reaches : List ℕ → ℕ → Option ℕ → Type 0
 Reaches t j None = j ≡ length t
 Reaches t j (Some c) = j < length t
 
-either : {A : Type 0} (P : A → Type 0) (b : Bool) (x y : A) → P x → P y → P (cond b x y)
+-- what holds of both arms of a choice
+pub either : {A : Type 0} (P : A → Type 0) (b : Bool) (x y : A) → P x → P y → P (cond b x y)
 either P true x y p q = p
 either P false x y p q = q
 
-none_at : (t : List ℕ) (j : ℕ) → j ≤ length t → slice_get t j ≡ None → (j < length t) ⊎ (length t ≤ j) → j ≡ length t
-none_at t j le none (inl lt) = let here = slice_get-get_or t j 0 lt in let clash = sym none ∙ here in cc
-none_at t j le none (inr ge) = omega arith
-
 reaches : (t : List ℕ) (j : ℕ) → j ≤ length t → (o : Option ℕ) → slice_get t j ≡ o → Reaches t j o
-reaches t j le None e = none_at t j le e (cases_lt j (length t))
+reaches t j le None e = omega (arith, get-none t j e)
 reaches t j le (Some c) e = slice_get_within t j c e
 
-no_end : {A : Type 0} → false ≡ true → A
+-- a kind that is no end kind
+pub no_end : {A : Type 0} → false ≡ true → A
 no_end k = let no : ⊥ = cc in absurd no
 
 module _ (t : List ℕ) where

@@ -10,7 +10,7 @@ use Rattle.jiter_steps.specs.Read.{Reading, done, fault, Rules, scanned, stopped
 use Rattle.jiter_steps.specs.declared.parse.Literal.{Literal}
 use Rattle.jiter_steps.specs.declared.parse.Start.{Start}
 use Rattle.jiter_steps.specs.declared.parse.Start.TheVariants as start
-use Rattle.jiter_steps.proofs.Ahead.{Ahead, StepEnds, Within, array_opened-ahead, array_opened-ends, array_continued-ahead, array_continued-ends, object_opened-ahead, object_opened-ends, object_continued-ahead, object_continued-ends, key_ended-ahead, key_ended-ends}
+use Rattle.jiter_steps.proofs.Ahead.{no_end, Ahead, StepEnds, Within, array_opened-ahead, array_opened-ends, array_continued-ahead, array_continued-ends, object_opened-ahead, object_opened-ends, object_continued-ahead, object_continued-ends, key_ended-ahead, key_ended-ends}
 use Rattle.jiter_steps.proofs.Values.{Advances, AllWithin, value_at-within}
 
 -- so do they in scalars and keys
@@ -23,9 +23,6 @@ pub record EndsRight {K A : Type 0} (r : Rules K A) (t : List ℕ) : Type 0 wher
 abbrev pub ReadingEnds : {A : Type 0} → List ℕ → Reading A → Type 0
 ReadingEnds t (done a e) = Unit {0}
 ReadingEnds t (fault k x stop) = is_end_kind k ≡ true → x ≡ length t
-
-no_end : {A : Type 0} → false ≡ true → A
-no_end k = let no : ⊥ = cc in absurd no
 
 module _ {K A : Type 0} (r : Rules K A) (t : List ℕ) where
   abbrev AllEnd : (ℕ → Reading A) → Type 0

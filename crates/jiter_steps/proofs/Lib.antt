@@ -17,6 +17,9 @@ pub mod StringCut
 pub mod StringForms
 pub mod StringMarks
 pub mod StringLaws
+pub mod NoMemory
+pub mod PlainRuns
+pub mod StringAnswers
 pub mod Instances
 pub mod ScalarLaws
 pub mod Nodes
@@ -28,3 +31,5 @@ pub mod Front
 pub mod NumberCut
 pub mod SpellsFront
 pub mod Prefixes
+mod Rows
+pub mod GrammarLaw

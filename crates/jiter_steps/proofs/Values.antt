@@ -316,3 +316,29 @@ module _ {K A : Type 0} (r : Rules K A) (t : List ℕ) where
         → step t (object_continued t) d ≡ s
         → members_at r (value_at r t room) t b (length t) members i ≡ stepped r (members_at r (value_at r t room) t b (length t) (members ++ (key, a) ∷ [])) (λ e. r.object b e (members ++ (key, a) ∷ [])) s
     members-member room b = inner-member (value_at r t room) (value_at-within good room) b
+
+    -- One turn of a container with this room, which may be none.
+    pub inside-item : (room b i e : ℕ) (items : List A) (a : A) (s : Step) → i < length t → inner_at room i ≡ done a e → step t (array_continued t) e ≡ s
+        → items_at r (inner_at room) t b (length t) items i ≡ stepped r (items_at r (inner_at room) t b (length t) (items ++ a ∷ [])) (λ e. r.array b e (items ++ a ∷ [])) s
+    inside-item room b = inner-item (inner_at room) (inner_at-within good room) b
+
+    pub inside-item-fault : (room b i x stop : ℕ) (items : List A) (k : Kind) → i < length t → inner_at room i ≡ fault k x stop
+        → items_at r (inner_at room) t b (length t) items i ≡ stopped r (λ e. r.array b e items) k x stop
+    inside-item-fault room b = inner-item-fault (inner_at room) (inner_at-within good room) b
+
+    pub inside-key-fault : (room b i j : ℕ) (members : List (K × A)) (k : Kind) → i < length t → r.key t i ≡ failed k j
+        → members_at r (inner_at room) t b (length t) members i ≡ stopped r (λ e. r.object b e members) k j i
+    inside-key-fault room b = inner-key-fault (inner_at room) (inner_at-within good room) b
+
+    pub inside-colon-fault : (room b i e j : ℕ) (members : List (K × A)) (key : K) (k : Kind) → i < length t → r.key t i ≡ taken key e → key_ended t e ≡ stuck k j
+        → members_at r (inner_at room) t b (length t) members i ≡ stopped r (λ e. r.object b e members) k j j
+    inside-colon-fault room b = inner-colon-fault (inner_at room) (inner_at-within good room) b
+
+    pub inside-value-fault : (room b i e j x stop : ℕ) (members : List (K × A)) (key : K) (k : Kind) → i < length t → r.key t i ≡ taken key e → key_ended t e ≡ more j → inner_at room j ≡ fault k x stop
+        → members_at r (inner_at room) t b (length t) members i ≡ stopped r (λ e. r.object b e members) k x stop
+    inside-value-fault room b = inner-member-fault (inner_at room) (inner_at-within good room) b
+
+    pub inside-member : (room b i e j d : ℕ) (members : List (K × A)) (key : K) (a : A) (s : Step) → i < length t → r.key t i ≡ taken key e → key_ended t e ≡ more j → inner_at room j ≡ done a d
+        → step t (object_continued t) d ≡ s
+        → members_at r (inner_at room) t b (length t) members i ≡ stepped r (members_at r (inner_at room) t b (length t) (members ++ (key, a) ∷ [])) (λ e. r.object b e (members ++ (key, a) ∷ [])) s
+    inside-member room b = inner-member (inner_at room) (inner_at-within good room) b

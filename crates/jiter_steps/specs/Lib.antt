@@ -11,3 +11,5 @@ pub mod Cut
 pub mod Answer
 pub mod Given
 pub mod Seen
+pub mod Strings
+pub mod Extends

@@ -4,3 +4,4 @@
 
 pub mod fault;
 pub mod parse;
+pub mod string_decoder;

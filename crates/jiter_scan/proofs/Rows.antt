@@ -1,0 +1,12 @@
+-- Worked rows on the definitions, by computation.
+mod Positions
+mod Descriptions
+mod NumbersAtAPlace
+mod NumbersAlone
+mod IntegersAlone
+mod IntegersAtAPlace
+mod NumberTexts
+mod DigitRuns
+mod LongNumbers
+mod Scans
+mod Digits

@@ -1,0 +1,32 @@
+use Rattle.std.proofs.Common.{◌≡◌, ◌∙◌, ◌<◌, ap, sym, arith, slice_range}
+use Rattle.jiter_scan.specs.Scanned.{taken}
+use Rattle.jiter_scan.specs.Number.{float, number_value}
+use Rattle.jiter_scan.specs.NumberReading.{valued}
+use Rattle.jiter_scan.specs.NumberView.{number_view}
+use Rattle.jiter_scan.proofs.NumberTexts.{tail-part, decimal_at-whole, IsAscii-decimal, IsMinusTo-le, number_value-part}
+use Rattle.jiter_scan.proofs.number_decoder.decimal_read.Goals as goal
+use Rattle.jiter_scan.proofs.number_decoder.decimal_read.Goals.{then-end-whole_end, else-end-whole_end}
+
+pub ascii_text-requires : goal.ascii_text-requires
+ascii_text-requires c =
+    let t = c.args.bytes.now in
+    let whole = c.in_ok-magnitude in
+    let end = c.in_ok-end in
+    IsAscii-decimal t c.args.from c.args.at whole.whole_end end.end c.requires.minus whole.ensures.value (tail-part t whole.whole_end end.end end.ensures.value)
+
+pub returns-clause-value : goal.returns-clause-value
+returns-clause-value c =
+    let t = c.args.bytes.now in
+    let whole = c.in_ok-magnitude in
+    let end = c.in_ok-end in
+    let read = decimal_at-whole t c.args.at whole.whole_end whole.ensures.value ∙ end.ensures.value in
+    let value : number_value (slice_range t c.args.from end.end) ≡ number_view c.if-end-whole_end.number =
+      elim c.if-end-whole_end.branch [
+        | then-end-whole_end w ↦ sym (ap number_view w.number-is ∙ w.integer_of.ensures)
+        | else-end-whole_end w ↦
+            let part = tail-part t whole.whole_end end.end end.ensures.value in
+            let ahead : whole.whole_end < end.end = omega (arith, end.ensures.place, w.if-end-whole_end.false) in
+            number_value-part t c.args.from whole.whole_end end.end (omega (arith, IsMinusTo-le t c.args.from c.args.at c.requires.minus, whole.ensures.place)) ahead (omega (arith, end.ensures.place)) (part.first ahead)
+            ∙ sym (ap number_view w.number-is ∙ ap float w.ascii_text.ensures)
+      ] in
+    ap (valued t c.args.from) read ∙ ap (λ n. taken n end.end) value

@@ -1,0 +1,42 @@
+-- The numbers of the code, as values, and what a function of the code says of a number that it read.
+use Rattle.std.specs.Prelude.{◌≡◌, ◌⊎◌, ◌+◌, ◌-◌, ◌^◌, ◌<◌, ◌≤◌, ℕ, min, List, Result, Ok, Err, slice_get, Some}
+use Rattle.jiter_scan.specs.Kind.{kind_of}
+use Rattle.jiter_scan.specs.Digits.{decimal_of}
+use Rattle.jiter_scan.specs.Number.{Number, integer, big, float}
+use Rattle.jiter_scan.specs.NumberReading as reading
+use Rattle.jiter_scan.specs.declared.errors.JsonError.{JsonError}
+use Rattle.jiter_scan.specs.declared.number_decoder.NumberInt.{NumberInt}
+use Rattle.jiter_scan.specs.declared.number_decoder.NumberInt.TheVariants as int
+use Rattle.jiter_scan.specs.declared.number_decoder.NumberAny.{NumberAny}
+use Rattle.jiter_scan.specs.declared.number_decoder.NumberAny.TheVariants as any
+use Rattle.jiter_scan.specs.declared.number_decoder.Integer.{Integer}
+use Rattle.jiter_scan.specs.declared.number_decoder.Integer.TheVariants as found
+
+-- the integer, or its text where 64 signed bits do not hold it
+abbrev pub int_view : NumberInt → Number
+int_view (int.Int n) = integer n
+int_view (int.BigInt s) = big s.now
+
+-- the integer, or the text of a float
+abbrev pub number_view : NumberAny → Number
+number_view (any.Int n) = int_view n
+number_view (any.Float s) = float s.now
+
+-- What a function returned is this reading of an integer.
+abbrev pub ScansInteger : Result Integer JsonError → reading.Integer → Type 0
+ScansInteger (Ok (found.Whole n e)) s = s ≡ reading.whole (int_view n) e
+ScansInteger (Ok (found.FloatSeen j)) s = s ≡ reading.float_seen j
+ScansInteger (Err e) s = s ≡ reading.wrong (kind_of e.error_type) e.index
+
+-- an integer ends behind i, a float shows at i or behind it, and neither past the length
+abbrev pub EndsWithin : ℕ → ℕ → Integer → Type 0
+EndsWithin i len (found.Whole n e) = (i < e) × (e ≤ len)
+EndsWithin i len (found.FloatSeen j) = (i ≤ j) × (j < len)
+
+-- the value of decimal digits, or the greatest number of 64 bits where that is less
+abbrev pub magnitude_of : List ℕ → ℕ
+magnitude_of w = min (decimal_of w) (2 ^ 64 - 1)
+
+-- nothing, or a minus, stands from i to before j
+abbrev pub IsMinusTo : List ℕ → ℕ → ℕ → Type 0
+IsMinusTo t i j = (j ≡ i) ⊎ ((j ≡ i + 1) × (slice_get t i ≡ Some 45))

@@ -1,0 +1,50 @@
+-- What a whole run writes.
+use Rattle.std.specs.Prelude.{ℕ, Bool, List, [], ◌∷◌, ◌++◌, Option}
+use Rattle.std.specs.Io.KnownBytes.{Keeps, Appends}
+use Rattle.jiter_scan.specs.Position.{description_text}
+use Rattle.jiter_steps.specs.Tree.{Tree}
+use Rattle.jiter_steps.specs.Read.{Reading, done, fault}
+use Rattle.jiter_steps.specs.Answer.{answer}
+use Rattle.look.specs.Print.{print_of}
+use Rattle.look.specs.declared.running.End.{End}
+use Rattle.look.specs.declared.running.End.TheVariants.{Shown, Refused, Failed}
+use Rattle.look.specs.declared.running.Line.{Line as HeldLine}
+use Rattle.look.specs.declared.running.Line.TheVariants as code
+
+-- the one line that a run writes, and where: a value to one writer, a fault to the other
+pub data Line : Type 0 where
+  shown : List ℕ → Line
+  refused : List ℕ → Line
+
+-- with a line feed behind
+abbrev pub ended : List ℕ → List ℕ
+ended bs = bs ++ 10 ∷ []
+
+-- the line for what a text was read as
+abbrev pub line_for : Reading Tree → List ℕ → Line
+line_for (done v e) t = shown (ended (print_of v))
+line_for (fault kind i stop) t = refused (ended (description_text kind i t))
+
+-- the line for a text
+abbrev pub line_of : Bool → List ℕ → Line
+line_of inf_nan t = line_for (answer inf_nan t) t
+
+-- what the two writers hold after a run over known bytes: the line in its own, nothing new in the other
+abbrev pub Wrote : Line → End → Option (List ℕ) → Option (List ℕ) → Option (List ℕ) → Option (List ℕ) → Type 0
+Wrote (shown bs) Shown out out' err err' = Appends out out' bs × Keeps err err'
+Wrote (shown bs) Refused out out' err err' = ⊥
+Wrote (shown bs) Failed out out' err err' = Keeps err err'
+Wrote (refused bs) Shown out out' err err' = ⊥
+Wrote (refused bs) Refused out out' err err' = Keeps out out' × Appends err err' bs
+Wrote (refused bs) Failed out out' err err' = Keeps out out'
+
+-- the line that the code holds
+abbrev pub line_held : HeldLine → Line
+line_held (code.Shown v) = shown v.items
+line_held (code.Refused v) = refused v.items
+
+-- the program's exit status
+abbrev pub status_of : End → ℕ
+status_of Shown = 0
+status_of Refused = 1
+status_of Failed = 3

@@ -1,0 +1,21 @@
+-- The words behind the program's name.
+use Rattle.std.specs.Prelude.{ℕ, Bool, true, false, List, [], ◌∷◌, codes, bytes_eq, Option, Some, None, if◌then◌else◌, option_map}
+use Rattle.jiter_scan.specs.declared.partial_mode.PartialMode.{PartialMode}
+use Rattle.jiter_scan.specs.declared.partial_mode.PartialMode.TheVariants.{Off}
+use Rattle.look.specs.declared.settings.Words.{Words}
+
+-- the mode that a word names
+abbrev pub mode_of : List ℕ → Option PartialMode
+mode_of w =
+    if bytes_eq w (codes "off") then Some Off
+    else None
+
+abbrev pub with_names : Bool → PartialMode → Words
+with_names inf_nan mode = record { mode = mode; inf_nan = inf_nan }
+
+-- a mode, and perhaps `inf-nan`
+abbrev pub words_of : List (List ℕ) → Option Words
+words_of [] = None
+words_of (mode ∷ []) = option_map (with_names false) (mode_of mode)
+words_of (mode ∷ name ∷ []) = if bytes_eq name (codes "inf-nan") then option_map (with_names true) (mode_of mode) else None
+words_of (mode ∷ name ∷ more ∷ rest) = None

@@ -1,0 +1,32 @@
+//! The words behind the program's name.
+ghost use Rattle.std.specs.Prelude.{◌≡◌, map, string_bytes};
+ghost use Rattle.look.specs.Words.{mode_of, words_of};
+
+use crate::settings::Words;
+use jiter::PartialMode;
+
+/// What the words ask for: a mode, and perhaps `inf-nan`. Any other list asks for nothing.
+pub fn words(list: &[String]) -> Option<Words>
+    ensures { result ≡ words_of (map string_bytes list.now) }
+{
+    match list {
+        [mode] => Some(Words {
+            mode: mode_named(mode.as_str())?,
+            inf_nan: false,
+        }),
+        [mode, name] if name.as_str() == "inf-nan" => Some(Words {
+            mode: mode_named(mode.as_str())?,
+            inf_nan: true,
+        }),
+        _ => None,
+    }
+}
+
+fn mode_named(word: &str) -> Option<PartialMode>
+    ensures { result ≡ mode_of word.now }
+{
+    match word {
+        "off" => Some(PartialMode::Off),
+        _ => None,
+    }
+}
