@@ -121,11 +121,11 @@ module _ (names : Bool) (t : List ℕ) where
   begin-within n h = let first = begins-value n h in slice_get_within t (begin n) first.byte first.here
 
   -- what follows a value in a container ends a number
-  items-end : (ns : Nodes) (i e : ℕ) → SpellsMoreItems names t i ns e → EndsNumber t i
+  pub items-end : (ns : Nodes) (i e : ℕ) → SpellsMoreItems names t i ns e → EndsNumber t i
   items-end no_nodes i e h = ends-behind t i 93 e refl h
   items-end (node n ns) i e h = ends-behind t i 44 h.0 refl h.1
 
-  members-end : (ms : NodeMembers) (i e : ℕ) → SpellsMoreMembers names t i ms e → EndsNumber t i
+  pub members-end : (ms : NodeMembers) (i e : ℕ) → SpellsMoreMembers names t i ms e → EndsNumber t i
   members-end no_members i e h = ends-behind t i 125 e refl h
   members-end (member k n ms) i e h = ends-behind t i 44 h.0 refl h.1
 

@@ -33,3 +33,4 @@ pub mod Front
 pub mod NumberCut
 pub mod SpellsFront
 pub mod Growth
+pub mod Prefixes

@@ -6,7 +6,7 @@ use Rattle.jiter_scan.proofs.Standing.{stands-length}
 use Rattle.jiter_steps.specs.Literal.{word_of}
 use Rattle.jiter_steps.specs.Node as grammar
 use Rattle.jiter_steps.specs.Node.{Key, Node, Nodes, no_nodes, node, NodeMembers, no_members, member, begin, end, StandsBehind, SpellsNumber, SpellsKey, Spells, SpellsItems, SpellsMoreItems, SpellsMembers, SpellsMoreMembers}
-use Rattle.jiter_steps.specs.Piece.{Piece, SpellsChar, SpellsPieces, SpellsString}
+use Rattle.jiter_steps.specs.Piece.{Piece, SpellsPieces, SpellsString}
 use Rattle.jiter_steps.specs.declared.parse.Literal.TheVariants as literal
 use Rattle.jiter_steps.proofs.Complete.{slice-empty}
 use Rattle.jiter_steps.proofs.Front.{front-length, front-get, front-range, front-stands, front-blank, front-behind}
@@ -24,7 +24,7 @@ module _ (names : Bool) (t : List ℕ) where
   behind-ahead i c e h = omega (arith, h.blanks.ordered, h.ends)
 
   -- from a key to its value
-  key-ahead : (key : Key) (j : ℕ) → SpellsKey t key j → key.begin < j
+  pub key-ahead : (key : Key) (j : ℕ) → SpellsKey t key j → key.begin < j
   key-ahead key j h = omega (arith, (laws.string-ordered key.begin key.end key.pieces h.string).0, behind-ahead key.end 58 h.colon h.behind, h.blanks.ordered)
 
   -- a node ends behind its begin
@@ -103,8 +103,7 @@ module _ (names : Bool) (t : List ℕ) where
       node-front (grammar.object b e (member key n ms)) h le =
           let rest = members-ahead ms (end n) e h.1.3 in
           let first = node-ahead n h.1.2 in
-          let before = key-ahead key (begin n) h.1.1 in
-          (
+          let before = key-ahead key (begin n) h.1.1 in (
             front-get t k within b 123 (omega (arith, h.1.0.ordered)) h.0,
             (front-blank t k within (b + 1) key.begin h.1.0 (omega arith), key-front key (begin n) h.1.1 (omega arith), node-front n h.1.2 (omega arith), members-front ms (end n) e h.1.3 le),
           )
@@ -121,8 +120,7 @@ module _ (names : Bool) (t : List ℕ) where
       members-front (member key n ms) i e h le =
           let rest = members-ahead ms (end n) e h.5 in
           let first = node-ahead n h.4 in
-          let before = key-ahead key (begin n) h.3 in
-          (
+          let before = key-ahead key (begin n) h.3 in (
             h.0,
             front-behind t k within i 44 h.0 h.1 (omega (arith, h.2.ordered)),
             front-blank t k within h.0 key.begin h.2 (omega arith),
