@@ -1,5 +1,5 @@
 -- The pull reader: what it holds, what each of its calls answers, and where that leaves it.
-use Rattle.std.specs.Prelude.{ℕ, ◌+◌, Bool, true, false, if◌then◌else◌, List, slice_get, slice_index, slice_range, Option, Some, None}
+use Rattle.std.specs.Prelude.{◌≡◌, ℕ, ◌+◌, Bool, true, false, if◌then◌else◌, List, slice_get, slice_index, slice_range, Option, Some, None}
 use Rattle.jiter_scan.specs.Kind.{eof_value, expected_value, trailing_characters}
 use Rattle.jiter_scan.specs.Scanned.{Scanned, taken, failed}
 use Rattle.jiter_scan.specs.Number.{Number, integer, big}
@@ -38,6 +38,11 @@ moved_to s i = record { text = s.text; position = i; names = s.names; partial_st
 abbrev pub position_after : {A : Type 0} → Answered A → ℕ
 position_after (answered a e) = e
 position_after (refused r i stop) = stop
+
+-- where it refuses, the reader stands at i afterwards
+abbrev pub StaysAt : {A : Type 0} → ℕ → Answered A → Type 0
+StaysAt i (answered a e) = Unit {0}
+StaysAt i (refused r j stop) = stop ≡ i
 
 -- the first place that has no blank, or the length
 abbrev pub value_place : ReaderState → ℕ

@@ -6,17 +6,17 @@ use Rattle.jiter_scan.specs.Scanned.{taken, failed}
 use Rattle.jiter_steps.specs.Literal.{literal_at}
 use Rattle.jiter_steps.specs.declared.parse.Literal.TheVariants as literal
 
-null : literal_at (codes "[null]") literal.Null 1 ≡ taken tt 5
+a_null : literal_at (codes "[null]") literal.Null 1 ≡ taken tt 5
 unfolding word_at
-null = refl
+a_null = refl
 
-true_ : literal_at (codes "true") literal.True 0 ≡ taken tt 4
+a_true : literal_at (codes "true") literal.True 0 ≡ taken tt 4
 unfolding word_at
-true_ = refl
+a_true = refl
 
-false_ : literal_at (codes " falsely") literal.False 1 ≡ taken tt 6
+a_false : literal_at (codes " falsely") literal.False 1 ≡ taken tt 6
 unfolding word_at
-false_ = refl
+a_false = refl
 
 a_cut_true : literal_at (codes "tru") literal.True 0 ≡ failed eof_value 3
 unfolding word_at
