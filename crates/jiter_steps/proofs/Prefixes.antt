@@ -11,7 +11,7 @@ use Rattle.jiter_scan.proofs.NumberLaws.{continues_number}
 use Rattle.jiter_steps.specs.Answer.{nodes, nodes_of, node_members_of, seen_as, key_of, answer}
 use Rattle.jiter_steps.specs.Literal.{word_of, start_of}
 use Rattle.jiter_steps.specs.Node as grammar
-use Rattle.jiter_steps.specs.Node.{Key, Node, Nodes, no_nodes, node, NodeMembers, no_members, member, begin, end, StandsBehind, SpellsNumber, SpellsKey, Spells, SpellsItems, SpellsMoreItems, SpellsMembers, SpellsMoreMembers, nesting, nesting_of, nesting_of_members, nesting_round, nesting_round_members, value_of, IsDocument}
+use Rattle.jiter_steps.specs.Node.{Key, Node, Nodes, no_nodes, node, NodeMembers, no_members, member, begin, end, StandsBehind, SpellsNumber, SpellsKey, Spells, SpellsItems, SpellsMoreItems, SpellsMembers, SpellsMoreMembers, nesting, nesting_of, nesting_of_members, nesting_round, nesting_round_members, value_of, IsContainer, IsDocument}
 use Rattle.jiter_steps.specs.Piece.{Piece, SpellsString}
 use Rattle.jiter_steps.specs.Read.{Reading, done, fault, scanned, stepped, items_at, members_at, value_at, to_end, whole_answer}
 use Rattle.jiter_steps.specs.Step.{Step, more, stuck, step, array_opened, array_continued, object_opened, object_continued, key_ended}
@@ -47,14 +47,6 @@ early-short k (fault kind i stop) h = h
 
 early-along : {A : Type 0} (x y : Reading A) → x ≡ y → EndsEarly y → EndsEarly x
 early-along x y e h = subst EndsEarly (sym e) h
-
--- an array or an object
-abbrev pub IsContainer : Node → Type 0
-IsContainer (grammar.literal l b e) = ⊥
-IsContainer (grammar.number b e) = ⊥
-IsContainer (grammar.string ps b e) = ⊥
-IsContainer (grammar.array b e ns) = Unit {0}
-IsContainer (grammar.object b e ms) = Unit {0}
 
 module _ (names : Bool) (t : List ℕ) (k : ℕ) (within : k ≤ length t) where
   abbrev u : List ℕ

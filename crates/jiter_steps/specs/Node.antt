@@ -1,5 +1,5 @@
 -- The grammar of a whole document (RFC 8259, 2 to 5): a text and the nodes that it spells.
-use Rattle.std.specs.Prelude.{◌≡◌, ℕ, suc, ◌+◌, ◌≤◌, ◌==◌, max, Bool, false, List, length, slice_get, slice_range, Some}
+use Rattle.std.specs.Prelude.{◌≡◌, ℕ, suc, ◌+◌, ◌≤◌, ◌<◌, take, ◌==◌, max, Bool, false, List, length, slice_get, slice_range, Some}
 use Rattle.std.specs.List.{list_any}
 use Rattle.jiter_scan.specs.Stands.{Stands}
 use Rattle.jiter_scan.specs.Number.{Number, integer, big, float, IsNumberText, number_value}
@@ -159,3 +159,21 @@ pub record IsDocument (names : Bool) (t : List ℕ) (n : Node) : Type 0 where
   pub spelled : Spells names t n
   pub after : IsBlank t (end n) (length t)
   pub limit : nesting n ≤ 200
+
+-- an array or an object
+abbrev pub IsContainer : Node → Type 0
+IsContainer (literal l b e) = ⊥
+IsContainer (number b e) = ⊥
+IsContainer (string ps b e) = ⊥
+IsContainer (array b e ns) = Unit {0}
+IsContainer (object b e ms) = Unit {0}
+
+-- a front of a document that is an array or an object, without its last bracket
+pub record IsCutContainer (names : Bool) (front : List ℕ) : Type 0 where
+  pub text : List ℕ
+  pub node : Node
+  pub place : ℕ
+  pub document : IsDocument names text node
+  pub container : IsContainer node
+  pub before_end : place < end node
+  pub is : front ≡ take place text

@@ -1,17 +1,19 @@
 -- What a whole parse answers, by the grammar and by reading.
-use Rattle.std.proofs.Common.{◌≡◌, ℕ, ◌<◌, ◌≤◌, Bool, true, inl, inr, List, length, refl, sym, ap, ◌∙◌, subst}
+use Rattle.std.proofs.Common.{◌≡◌, ◌⊎◌, ℕ, ◌<◌, ◌≤◌, Bool, true, inl, inr, List, length, refl, sym, ap, ◌∙◌, subst}
 use Rattle.std.specs.Prelude.{slice_get, slice_index, Option, Some, None, Err}
 use Rattle.jiter_scan.specs.Kind.{Kind, kind_of, is_end_kind}
+use Rattle.jiter_scan.specs.declared.errors.JsonError.{JsonError}
 use Rattle.jiter_scan.specs.declared.errors.JsonErrorType.TheVariants.{OutOfMemory}
 use Rattle.jiter_steps.specs.Tree.{Text, Tree}
 use Rattle.jiter_steps.specs.Blank.{past_blanks}
 use Rattle.jiter_steps.specs.Literal.{start_of}
 use Rattle.jiter_steps.specs.Step.{stuck, step, value_begins}
-use Rattle.jiter_steps.specs.Node.{Node, IsDocument, value_of}
+use Rattle.jiter_steps.specs.Node.{Node, IsDocument, IsCutContainer, value_of}
 use Rattle.jiter_steps.specs.Read.{Reading, done, fault, Rules, value_at, begun, front_answer, whole_answer, to_end}
 use Rattle.jiter_steps.specs.Answer.{answer, whole_trees}
 use Rattle.jiter_steps.specs.declared.fault.Refusal.{Refusal}
 use Rattle.jiter_steps.specs.declared.fault.Refusal.TheVariants as refusal
+use Rattle.jiter_steps.proofs.Prefixes.{EndsEarly, prefix-refused}
 use Rattle.jiter_steps.proofs.EndKinds.{ReadingEnds}
 use Rattle.jiter_steps.proofs.Instances.{answer-ends}
 use Rattle.jiter_steps.proofs.Answered.{whole-begins}
@@ -56,6 +58,20 @@ module _ (names : Bool) (t : List ℕ) where
   pub error-ends : (e : Refusal) → Fails e (answer names t) → is_end_kind (kind_of (error_of e).error_type) ≡ true → (error_of e).index ≡ length t
   error-ends (refusal.Memory at) h k = absurd (cc)
   error-ends (refusal.Fault f) h k = subst (ReadingEnds t) h (answer-ends t names) k
+
+abbrev OrEnds : JsonError → Type 0
+OrEnds e = (e.error_type ≡ OutOfMemory) ⊎ (is_end_kind (kind_of e.error_type) ≡ true)
+
+-- a container that is cut ends too early
+cut-early : (names : Bool) (t : List ℕ) → IsCutContainer names t → EndsEarly (answer names t)
+cut-early names t c = subst (λ u. EndsEarly (answer names u)) (sym c.is) (prefix-refused names c.text c.node c.place c.document c.container c.before_end)
+
+pub cut-value : (names : Bool) (t : List ℕ) (v : JsonValue) (e : ℕ) → answer names t ≡ done (view v) e → IsCutContainer names t → ⊥
+cut-value names t v e h c = subst EndsEarly h (cut-early names t c)
+
+pub cut-error : (names : Bool) (t : List ℕ) (e : Refusal) → Fails e (answer names t) → IsCutContainer names t → OrEnds (error_of e)
+cut-error names t (refusal.Memory at) h c = inl refl
+cut-error names t (refusal.Fault f) h c = inr (subst EndsEarly h (cut-early names t c))
 
 pub error-index : (t : List ℕ) (i : ℕ) (e : Refusal) → IsRefusalAt t i e → (error_of e).index ≤ length t
 error-index t i (refusal.Memory at) h = h.1

@@ -1,8 +1,8 @@
 //! The tree of a document, and reading it.
-ghost use Rattle.std.specs.Prelude.{◌≡◌, ◌≤◌, IfOk, IfErr, MatchResult, true, length};
+ghost use Rattle.std.specs.Prelude.{◌≡◌, ◌≤◌, ◌⊎◌, IfOk, IfErr, MatchResult, true, length};
 ghost use Rattle.jiter_scan.specs.Kind.{kind_of, is_end_kind};
 ghost use Rattle.jiter_steps.specs.Blank.{past_blanks};
-ghost use Rattle.jiter_steps.specs.Node.{Node, IsDocument, value_of};
+ghost use Rattle.jiter_steps.specs.Node.{Node, IsDocument, IsCutContainer, value_of};
 ghost use Rattle.jiter_steps.specs.Answer.{answer};
 ghost use Rattle.jiter_value.specs.View.{view};
 ghost use Rattle.jiter_value.specs.Answers.{Answers, MayGrow, error_of};
@@ -64,6 +64,11 @@ impl<'j> JsonValue<'j> {
         ensures index { IfErr result (λ e. e.index ≤ length bytes.now) }
         ensures ends { IfErr result (λ e. is_end_kind (kind_of e.error_type) ≡ true
             → e.index ≡ length bytes.now) }
+
+        // An array or an object without its last bracket is refused, since the input ends too early.
+        ensures early { IsCutContainer allow_inf_nan bytes.now → MatchResult result (λ _. ⊥)
+            (λ e. (e.error_type ≡ JsonErrorType.OutOfMemory)
+            ⊎ (is_end_kind (kind_of e.error_type) ≡ true)) }
 
         // Memory may be the answer only where the value's first bytes ask for some, and from its first byte on.
         ensures memory { IfErr result (λ e. e.error_type ≡ JsonErrorType.OutOfMemory
