@@ -1,5 +1,5 @@
 -- What the functions that read strings return.
-use Rattle.std.specs.Prelude.{◌≡◌, ℕ, ◌+◌, List, slice_get, Some, true, Result, Ok, Err}
+use Rattle.std.specs.Prelude.{◌≡◌, ℕ, ◌+◌, true, List, slice_get, Some, Result, Ok, Err}
 use Rattle.std.specs.Char.{encode_utf8}
 use Rattle.std.specs.declared.alloc.Global.{Global}
 use Rattle.std.specs.declared.borrow.CowStr.{CowStr}
@@ -25,6 +25,7 @@ digits_seen hex.Short = few
 digits_seen (hex.Bad k) = bad k
 digits_seen (hex.Number u) = number u
 
+-- where there are four hex digits, of their number
 abbrev pub IfNumber : Hex → (ℕ → Type 0) → Type 0
 IfNumber hex.Short P = Unit {0}
 IfNumber (hex.Bad k) P = Unit {0}

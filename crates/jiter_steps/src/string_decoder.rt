@@ -1,10 +1,10 @@
 //! Reading a string (RFC 8259, 7 and 8.1): its own bytes where it has no backslash, or else its text decoded.
-ghost use Rattle.std.specs.Prelude.{◌≡◌, ◌≢◌, ◌⊎◌, ◌+◌, ◌^◌, ◌<◌, ◌≤◌, ◌++◌, List, ◌∷◌, [], length, true, false, Some, None, Err, slice_get, slice_range, IfOk, IfSome, IfErr};
+ghost use Rattle.std.specs.Prelude.{◌≡◌, ◌≢◌, ◌+◌, ◌^◌, ◌<◌, ◌≤◌, ◌++◌, length, true, false, slice_get, slice_range, IfOk, IfSome};
 ghost use Rattle.std.specs.Char.{digit_value, encode_utf8};
 ghost use Rattle.jiter_scan.specs.Scan.{is_stop, scan_stop};
 ghost use Rattle.jiter_scan.specs.declared.errors.JsonErrorType.TheVariants.{EofWhileParsingString, OutOfMemory};
 ghost use Rattle.jiter_steps.specs.Escape.{short_escape, is_hex, is_high, is_low};
-ghost use Rattle.jiter_steps.specs.StringReading.{hex_digits_at, found_at, unit_then, escaped, numbered, second, second_u, paired, body_at, before, checked, content_at, whole, string_at};
+ghost use Rattle.jiter_steps.specs.StringReading.{hex_digits_at, found_at, unit_then, escaped, numbered, second, second_u, paired, body_at, checked, whole, string_at};
 ghost use Rattle.jiter_steps.specs.Strings.{digits_seen, IfNumber, found_seen, stop_seen, IfFault, IfMemory, GivesText, WantsMemory};
 ghost use Rattle.jiter_steps.specs.declared.fault.Refusal.TheVariants as refusal;
 ghost use Rattle.jiter_steps.specs.declared.string_decoder.Place.TheVariants as place;
