@@ -1,9 +1,9 @@
 -- Runs of digits and their values, a digit at a time.
-use Rattle.std.proofs.Common.{◌≡◌, ℕ, ◌+◌, ◌-◌, ◌*◌, ◌^◌, ◌<◌, ◌≤◌, min, true, false, cond, length, drop, take, get_or, List, [], ◌∷◌, ◌++◌, refl, sym, ap, ◌∙◌, slice_range, arith, add-one}
+use Rattle.std.proofs.Common.{◌≡◌, ℕ, ◌+◌, ◌-◌, ◌*◌, ◌^◌, ◌<◌, ◌≤◌, min, true, false, cond, length, drop, take, get_or, List, [], ◌∷◌, ◌++◌, refl, sym, ap, ◌∙◌, slice_range, arith}
 use Rattle.std.proofs.lemmas.List.{drop_more, take_more, length-drop, get_or-drop}
-use Rattle.std.proofs.lemmas.List.Sums.{prefix_len-le-length, prefix_len-drop_all, prefix_len-drop_no, prefix_len_passes, prefix_len_stops}
+use Rattle.std.proofs.lemmas.List.Sums.{prefix_len-le-length, prefix_len-drop_all, prefix_len-drop_no, prefix_len_passes}
 use Rattle.std.specs.List.{prefix_len}
-use Rattle.jiter_scan.specs.Digits.{is_digit, digit_run, decimal_after, decimal_of}
+use Rattle.jiter_scan.specs.Digits.{is_digit, digit_run, decimal_after}
 use Rattle.jiter_scan.specs.NumberView.{magnitude_of}
 
 -- at a digit

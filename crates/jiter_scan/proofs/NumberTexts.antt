@@ -1,9 +1,9 @@
 -- The bytes of a number's parts, and what a number's text stands for.
-use Rattle.std.proofs.Common.{◌≡◌, ◌≢◌, ◌⊎◌, inl, inr, ℕ, suc, ◌+◌, ◌-◌, ◌*◌, ◌^◌, ◌<◌, ◌≤◌, ◌==◌, ◌||◌, min, Bool, true, false, cond, length, drop, take, get_or, List, [], ◌∷◌, ◌++◌, refl, sym, ap, ◌∙◌, subst, slice_range, arith, nat_le, nat_lt, pos}
+use Rattle.std.proofs.Common.{◌≡◌, ◌≢◌, inl, inr, ℕ, suc, ◌+◌, ◌-◌, ◌^◌, ◌<◌, ◌≤◌, ◌==◌, ◌||◌, min, Bool, true, false, cond, length, drop, take, get_or, List, [], ◌∷◌, refl, sym, ap, ◌∙◌, subst, slice_range, arith, nat_le, nat_lt, pos}
 use Rattle.std.specs.Prelude.{Option, Some, None, slice_get}
 use Rattle.std.specs.Str.{IsAscii}
 use Rattle.std.specs.List.{list_any}
-use Rattle.std.proofs.lemmas.Option.{slice_get_within, get_or_from_slice_get, slice_get-get_or}
+use Rattle.std.proofs.lemmas.Option.{slice_get_within, get_or_from_slice_get}
 use Rattle.std.proofs.lemmas.List.{get_or-take, get_or-drop, get_or_past, get_or_default, length-drop, length-take, drop_more}
 use Rattle.std.proofs.lemmas.List.Folds.{list_any_at, list_any_none}
 use Rattle.std.proofs.lemmas.Bool.{eq-eqb, ne_eqb, cases_eq, cases_lt}
@@ -12,7 +12,7 @@ use Rattle.jiter_scan.specs.Kind.{Kind, invalid_number}
 use Rattle.jiter_scan.specs.Scanned.{taken, failed}
 use Rattle.jiter_scan.specs.Word.{Extent, word_at}
 use Rattle.jiter_scan.specs.Digits.{is_digit, digit_run, decimal_of}
-use Rattle.jiter_scan.specs.Number.{Number, float, big, integer, is_float_byte, is_integral, number_value, positive_value, negative_value, integral_value, minus_of, digit_limit}
+use Rattle.jiter_scan.specs.Number.{float, big, integer, is_float_byte, number_value, positive_value, negative_value, integral_value, minus_of, digit_limit}
 use Rattle.jiter_scan.specs.NumberReading.{extent_then, digits_from, zero_ended, within_limit, whole_from, whole_at, fraction_from, fraction_at, power_from, exponent_from, exponent_at, decimal_at}
 use Rattle.jiter_scan.specs.NumberView.{magnitude_of, IsMinusTo}
 use Rattle.jiter_scan.proofs.Words.{word_at-bytes}

@@ -1,6 +1,5 @@
 //! Numbers: integers that 64 signed bits hold, and the text of all others (RFC 8259, 6).
 ghost use Rattle.std.specs.Prelude.{◌≡◌, ◌+◌, ◌<◌, ◌≤◌, ◌==◌, ◌||◌, IfOk, IfErr, length, slice_get, slice_index, slice_range, Some, true};
-ghost use Rattle.std.specs.List.{AllPass};
 ghost use Rattle.std.specs.Str.{IsAscii};
 ghost use Rattle.jiter_scan.specs.Scanned.{Scans, Ends, Answers, TellsOfBytes, taken};
 ghost use Rattle.jiter_scan.specs.Word.{word_at};
@@ -35,7 +34,7 @@ impl<'j> NumberInt<'j> {
     ///
     /// Bytes that begin no number, a byte that does not fit and a float's first byte are `InvalidNumber` at
     /// their index, bytes that end inside the integer `EofWhileParsingValue` at the length, and more than
-    /// 4300 digits `NumberOutOfRange` at the 4301st.
+    /// 4300 digits `NumberOutOfRange` behind the 4301st.
     pub fn from_bytes(bytes: &'j [u8]) -> JsonResult<Self>
         ensures value { Answers int_view (length bytes.now) result (int_alone bytes.now) }
         ensures memory { IfErr result TellsOfBytes }
@@ -462,8 +461,8 @@ fn negative_read<'j>(
 /// `Infinity` and `-Infinity` too where they are allowed.
 ///
 /// Input that ends inside it is `EofWhileParsingValue` at the length, a byte that does not fit
-/// `InvalidNumber` at its index, more than 4300 digits before the point `NumberOutOfRange` at the 4301st, a
-/// name that is not allowed `ExpectedSomeValue` at its first byte, or `InvalidNumber` behind a minus, and
+/// `InvalidNumber` at its index, more than 4300 digits before the point `NumberOutOfRange` behind the 4301st,
+/// a name that is not allowed `ExpectedSomeValue` at its first byte, or `InvalidNumber` behind a minus, and
 /// one that goes wrong `ExpectedSomeIdent`.
 pub fn number_at<'j>(
     bytes: &'j [u8],
@@ -537,7 +536,7 @@ fn negative_int_read<'j>(bytes: &'j [u8], from: usize) -> JsonResult<Integer<'j>
 /// or an exponent behind the integer part, or the first letter of `NaN`, `Infinity` or `-Infinity`.
 ///
 /// Input that ends inside it is `EofWhileParsingValue` at the length, a byte that does not fit
-/// `InvalidNumber` at its index, and more than 4300 digits are `NumberOutOfRange` at the 4301st.
+/// `InvalidNumber` at its index, and more than 4300 digits are `NumberOutOfRange` behind the 4301st.
 pub fn int_at<'j>(bytes: &'j [u8], at: usize) -> JsonResult<Integer<'j>>
     requires { at < length bytes.now }
     ensures value { ScansInteger result (int_at bytes.now at) }

@@ -1,4 +1,4 @@
-use Rattle.std.proofs.Common.{◌∙◌, arith}
+use Rattle.std.proofs.Common.{◌∙◌}
 use Rattle.jiter_scan.proofs.NumberTexts.{IsAscii-integer, integer_value-positive, integer_value-negative}
 use Rattle.jiter_scan.proofs.number_decoder.integer_of.Goals as goal
 
