@@ -150,3 +150,24 @@ kept-whole t i e x h = (content-kept t (i + 1) x e h).0
 -- a fault other than that of UTF-8 is one of raw reading
 pub raw-whole-fault : (t : List ℕ) (i : ℕ) (k : Kind) (j : ℕ) → k ≢ invalid_code_point → string_at whole t i ≡ failed k j → string_at raw t i ≡ failed k j
 raw-whole-fault t i k j ne h = content-raw t (i + 1) k j ne h
+
+place-no_code : (k : Kind) → IsPlaceKind k → k ≢ invalid_code_point
+place-no_code k (inl e) m = cc
+place-no_code k (inr (inl e)) m = cc
+place-no_code k (inr (inr (inl e))) m = cc
+place-no_code k (inr (inr (inr e))) m = cc
+
+same-kind : (s r : Scanned Text) (k l : Kind) (i j : ℕ) → s ≡ failed k i → r ≡ failed l j → s ≡ r → k ≡ l
+same-kind s r k l i j p q h = cc
+
+module _ (t : List ℕ) (i : ℕ) where
+  code-raw : (bs : List ℕ) (o : Bool) (s : Stop) (j : ℕ) → StopWithin t i s → ended whole t i bs o s ≡ failed invalid_code_point j → (e : ℕ) × (ended raw t i bs o s ≡ taken (between t i (e - 1)) e)
+  code-raw bs o (wrong k x) j w h = absurd (place-no_code k w.2 (same-kind _ _ k invalid_code_point x j refl refl h))
+  code-raw bs o unclosed j w h = let no : eof_string ≡ invalid_code_point = same-kind _ _ eof_string invalid_code_point (length t) j refl refl h in absurd (cc)
+  code-raw bs o cut j w h = let no : eof_string ≡ invalid_code_point = same-kind _ _ eof_string invalid_code_point (length t) j refl refl h in absurd (cc)
+  code-raw bs o (closed f) j w h = (f, refl)
+
+-- where the fault is that of UTF-8, raw reading goes through
+pub raw-whole-code_point : (t : List ℕ) (i j : ℕ) → string_at whole t i ≡ failed invalid_code_point j → (e : ℕ) × (string_at raw t i ≡ taken (between t (i + 1) (e - 1)) e)
+unfolding content_at
+raw-whole-code_point t i j h = let b = body_at t (i + 1) in code-raw t (i + 1) b.bytes b.owned b.stop j (body_at-within t (i + 1)) h
