@@ -1,6 +1,6 @@
 -- What is printed of a document's value is a document of the same value.
 use Rattle.std.proofs.Common.{◌≡◌, inl, inr, ℕ, suc, ◌+◌, ◌-◌, ◌≤◌, Bool, false, List, [], ◌∷◌, ◌++◌, length, refl, sym, ap, ap₂, ◌∙◌, subst, arith}
-use Rattle.std.specs.Prelude.{slice_get, slice_range, Some, max}
+use Rattle.std.specs.Prelude.{slice_get, slice_range, Option, Some, None, IfSome, max}
 use Rattle.std.proofs.lemmas.List.{length-append, take_at, get_or_push}
 use Rattle.std.proofs.lemmas.Option.{slice_get_within}
 use Rattle.jiter_scan.specs.Number.{IsNumberText, number_value}
@@ -8,14 +8,17 @@ use Rattle.jiter_scan.specs.Stands.{Stands}
 use Rattle.jiter_scan.proofs.Standing.{stands-length, stands-within, stands-split, stands-slice, slice-stands}
 use Rattle.jiter_steps.specs.Blank.{IsBlank}
 use Rattle.jiter_steps.specs.Literal.{word_of, literal_tree}
-use Rattle.jiter_steps.specs.Node.{Key, Node, literal, number, string, array, object, Nodes, no_nodes, node, NodeMembers, no_members, member, begin, end, StandsBehind, SpellsKey, Spells, SpellsItems, SpellsMoreItems, SpellsMembers, SpellsMoreMembers, nesting, nesting_round, nesting_of, nesting_round_members, nesting_of_members, number_tree, value_of, values_of, members_of}
+use Rattle.jiter_steps.specs.Node.{Key, Node, literal, number, string, array, object, Nodes, no_nodes, node, NodeMembers, no_members, member, begin, end, StandsBehind, SpellsKey, Spells, SpellsItems, SpellsMoreItems, SpellsMembers, SpellsMoreMembers, nesting, nesting_round, nesting_of, nesting_round_members, nesting_of_members, number_tree, value_of, values_of, members_of, IsDocument}
+use Rattle.jiter_steps.specs.Read.{Reading, done, fault}
+use Rattle.jiter_steps.specs.Answer.{answer}
+use Rattle.jiter_steps.proofs.Documents.{IsRead, answer-is}
 use Rattle.jiter_steps.specs.Piece.{SpellsString, text_of}
 use Rattle.jiter_steps.specs.Tree as tree
 use Rattle.jiter_steps.specs.Tree.{Text, Tree, Items, Members}
 use Rattle.jiter_steps.specs.declared.parse.Literal.{Literal}
 use Rattle.jiter_steps.specs.declared.parse.Literal.TheVariants as name
-use Rattle.look.specs.Print.{quoted, print_of, print_items, print_more_items, print_members, print_more_members}
-use Rattle.look.specs.Printed.{bare, bare_items, bare_members, ended, PrintsAgain}
+use Rattle.look.specs.Print.{quoted, ended, print_of, print_items, print_more_items, print_members, print_more_members}
+use Rattle.look.specs.Printed.{bare, bare_items, bare_members, PrintsAgain}
 use Rattle.look.proofs.PrintLawNumbers.{number-again}
 use Rattle.look.proofs.PrintLawStrings.{string-again}
 
@@ -198,9 +201,10 @@ feed-blank w e is =
     let n = length-ended w in
     record { ordered = omega arith; within = omega arith; each = λ k l m. inr (inr (inl (get_or_push w 10 0 k (omega arith)))) }
 
--- What is printed of a document's value is a document of the same value, texts compared by their bytes.
-pub prints-again : (names : Bool) (t : List ℕ) → PrintsAgain names t
-prints-again names t m d =
+-- the print of a document's value is a document of the same value, texts compared by their bytes
+document-again : (names : Bool) (t : List ℕ) (m : Node) → IsDocument names t m
+    → (n : Node) × IsDocument names (ended (print_of (value_of t m))) n × (bare (value_of (ended (print_of (value_of t m))) n) ≡ bare (value_of t m))
+document-again names t m d =
     let w = print_of (value_of t m) in
     let a = node-again names t (ended w) m 0 (length w) d.spelled (omega arith) (print-stands w) in (
       a.again,
@@ -212,3 +216,18 @@ prints-again names t m d =
       },
       a.same,
     )
+
+read-again : (names : Bool) (t : List ℕ) (x : Reading Tree) → IsRead names t x → PrintsAgain names x
+read-again names t (done v e) h =
+    let Again : Tree → Type 0 = λ v. (n : Node) × IsDocument names (ended (print_of v)) n × (bare (value_of (ended (print_of v)) n) ≡ bare v) in
+    subst Again h.2 (document-again names t h.0 h.1)
+read-again names t (fault kind i stop) h = tt
+
+-- What is printed of what was read is a document of the same value.
+pub prints_again : (names : Bool) (t : List ℕ) → PrintsAgain names (answer names t)
+prints_again names t = read-again names t (answer names t) (answer-is names t)
+
+-- of known bytes, if they are known
+pub prints_again_if_known : (names : Bool) (known : Option (List ℕ)) → IfSome known (λ t. PrintsAgain names (answer names t))
+prints_again_if_known names None = tt
+prints_again_if_known names (Some t) = prints_again names t

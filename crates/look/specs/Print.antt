@@ -54,3 +54,7 @@ abbrev mutual
   pub print_more_members : Members → List ℕ
   print_more_members no_members = []
   print_more_members (member k j ms) = 44 ∷ quoted k.bytes ++ (58 ∷ print_of j ++ print_more_members ms)
+
+-- with a line feed behind
+abbrev pub ended : List ℕ → List ℕ
+ended bs = bs ++ 10 ∷ []

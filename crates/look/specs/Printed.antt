@@ -2,7 +2,8 @@
 use Rattle.std.specs.Prelude.{◌≡◌, ℕ, Bool, false, List, [], ◌∷◌, ◌++◌}
 use Rattle.jiter_steps.specs.Node.{Node, IsDocument, value_of}
 use Rattle.jiter_steps.specs.Tree.{Text, Tree, null, boolean, int, big, float, string, array, object, Items, no_items, item, Members, no_members, member}
-use Rattle.look.specs.Print.{print_of}
+use Rattle.jiter_steps.specs.Read.{Reading, done, fault}
+use Rattle.look.specs.Print.{print_of, ended}
 
 -- the same bytes, as if they lay in the input
 abbrev pub unmarked : Text → Text
@@ -28,12 +29,7 @@ abbrev mutual
   bare_members no_members = no_members
   bare_members (member k j ms) = member (unmarked k) (bare j) (bare_members ms)
 
--- a line feed behind the bytes
-abbrev pub ended : List ℕ → List ℕ
-ended bs = bs ++ 10 ∷ []
-
--- The print of a document's value, a line feed behind it, is a document of the same value.
-abbrev pub PrintsAgain : Bool → List ℕ → Type 0
-PrintsAgain names t =
-    (m : Node) → IsDocument names t m
-    → (n : Node) × IsDocument names (ended (print_of (value_of t m))) n × (bare (value_of (ended (print_of (value_of t m))) n) ≡ bare (value_of t m))
+-- what is printed of what was read, a line feed behind it, is a document of the same value under the same setting
+abbrev pub PrintsAgain : Bool → Reading Tree → Type 0
+PrintsAgain names (done v e) = (n : Node) × IsDocument names (ended (print_of v)) n × (bare (value_of (ended (print_of v)) n) ≡ bare v)
+PrintsAgain names (fault kind i stop) = Unit {0}

@@ -1,11 +1,11 @@
 -- What a whole run writes.
-use Rattle.std.specs.Prelude.{ℕ, Bool, List, [], ◌∷◌, ◌++◌, Option}
+use Rattle.std.specs.Prelude.{ℕ, Bool, List, Option}
 use Rattle.std.specs.Io.KnownBytes.{Keeps, Appends}
 use Rattle.jiter_scan.specs.Position.{description_text}
 use Rattle.jiter_steps.specs.Tree.{Tree}
 use Rattle.jiter_steps.specs.Read.{Reading, done, fault}
 use Rattle.jiter_steps.specs.Answer.{answer}
-use Rattle.look.specs.Print.{print_of}
+use Rattle.look.specs.Print.{print_of, ended}
 use Rattle.look.specs.declared.running.End.{End}
 use Rattle.look.specs.declared.running.End.TheVariants.{Shown, Refused, Failed}
 use Rattle.look.specs.declared.running.Line.{Line as HeldLine}
@@ -15,10 +15,6 @@ use Rattle.look.specs.declared.running.Line.TheVariants as code
 pub data Line : Type 0 where
   shown : List ℕ → Line
   refused : List ℕ → Line
-
--- with a line feed behind
-abbrev pub ended : List ℕ → List ℕ
-ended bs = bs ++ 10 ∷ []
 
 -- the line for what a text was read as
 abbrev pub line_for : Reading Tree → List ℕ → Line

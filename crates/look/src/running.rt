@@ -1,6 +1,8 @@
 //! A whole run, over one reader and two writers.
 ghost use Rattle.std.specs.Prelude.{◌≡◌, IfOk, OnOk, IfSome};
 ghost use Rattle.std.specs.Io.KnownBytes.{Appends};
+ghost use Rattle.jiter_steps.specs.Answer.{answer};
+ghost use Rattle.look.specs.Printed.{PrintsAgain};
 ghost use Rattle.look.specs.Run.{line_of, line_held, status_of, Wrote};
 
 use crate::print::print;
@@ -42,6 +44,7 @@ enum Line {
 
 /// Reads all, parses it, makes one line whole, and then writes it: a value's compact text to `out`, or a
 /// fault's description to `err`. After a failed read or refused memory nothing is written.
+#[tactic(auto, using(crate::proofs::PrintLaw::prints_again_if_known))]
 pub fn run<R: Read, O: Write, E: Write>(
     alloc: Global,
     reader: &mut R,
@@ -54,6 +57,8 @@ pub fn run<R: Read, O: Write, E: Write>(
     // Over known bytes: the line of these bytes in its own writer, and the other writer as it was.
     ensures wrote { IfSome (R.remaining reader.old) (λ text. Wrote (line_of inf_nan text) result
         (O.contents out.old) (O.contents out.new) (E.contents err.old) (E.contents err.new)) }
+    // A value's line is again a document of the value that was read, under the same setting.
+    ensures again { IfSome (R.remaining reader.old) (λ text. PrintsAgain inf_nan (answer inf_nan text)) }
 {
     let mut text = Vec::new(alloc);
     if reader.read_to_end(&mut text).is_err() {
