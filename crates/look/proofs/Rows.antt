@@ -1,0 +1,2 @@
+-- Worked rows on the definitions, by computation.
+mod PrintedAgain
