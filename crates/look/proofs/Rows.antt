@@ -1,2 +1,3 @@
 -- Worked rows on the definitions, by computation.
 mod PrintedAgain
+mod Lines
