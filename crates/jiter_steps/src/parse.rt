@@ -300,3 +300,6 @@ pub fn finish(bytes: &[u8], end: usize) -> Result<(), Fault>
         Ok(())
     }
 }
+
+#[cfg(test)]
+mod tests;
