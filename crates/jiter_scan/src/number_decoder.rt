@@ -1,10 +1,10 @@
 //! Numbers: integers that 64 signed bits hold, and the text of all others (RFC 8259, 6).
-ghost use Rattle.std.specs.Prelude.{◌≡◌, ◌+◌, ◌<◌, ◌≤◌, ◌==◌, ◌||◌, IfOk, IfErr, length, slice_get, slice_index, slice_range, Some, true};
+ghost use Rattle.std.specs.Prelude.{◌≡◌, ◌+◌, ◌<◌, ◌≤◌, ◌==◌, ◌||◌, IfOk, IfErr, min, length, slice_get, slice_index, slice_range, Some, true};
 ghost use Rattle.std.specs.Str.{IsAscii};
 ghost use Rattle.jiter_scan.specs.Scanned.{Scans, Ends, Answers, TellsOfBytes, taken};
 ghost use Rattle.jiter_scan.specs.Word.{word_at};
 ghost use Rattle.jiter_scan.specs.Digits.{is_digit, digit_run};
-ghost use Rattle.jiter_scan.specs.Number.{is_float_byte, positive_value, negative_value, number_value};
+ghost use Rattle.jiter_scan.specs.Number.{digit_limit, is_float_byte, positive_value, negative_value, number_value};
 ghost use Rattle.jiter_scan.specs.NumberReading.{extent_then, digits_from, zero_ended, within_limit, whole_at, fraction_at, exponent_at, power_from, decimal_at, is_float_sign, signed_from, name_at, valued, number_at, int_at, integer_behind, integer_signed, begins_number, number_alone, int_alone};
 ghost use Rattle.jiter_scan.specs.NumberView.{int_view, number_view, ScansInteger, EndsWithin, magnitude_of, IsMinusTo};
 
@@ -134,16 +134,17 @@ fn digit_run_end(bytes: &[u8], from: usize) -> usize
     end
 }
 
-// The magnitude of the digits that stand at `from`, or the greatest `u64`, and the place behind them.
+// The digits that stand at `from`, at most one more than the limit: their magnitude, or the greatest `u64`,
+// and the place behind them.
 fn digits_read(bytes: &[u8], from: usize) -> (u64, usize)
     requires { from ≤ length bytes.now }
-    ensures end { result.1 ≡ from + digit_run bytes.now from }
+    ensures end { result.1 ≡ from + min (digit_run bytes.now from) (digit_limit + 1) }
     ensures place { (from ≤ result.1) × (result.1 ≤ length bytes.now) }
     ensures magnitude { result.0 ≡ magnitude_of (slice_range bytes.now from result.1) }
 {
     let mut magnitude: u64 = 0;
     let mut end = from;
-    while end < bytes.len() && is_digit(bytes[end]) {
+    while end - from <= DIGIT_LIMIT && end < bytes.len() && is_digit(bytes[end]) {
         let digit = u64::from(bytes[end] - b'0');
         magnitude = magnitude.saturating_mul(10).saturating_add(digit);
         end += 1;
