@@ -307,37 +307,50 @@ fn integers_of_many_digits(rt: HostRuntime) -> Result<(), Fail> {
 fn damaged(alloc: Global, letters: usize, damage: &[u8]) -> Result<Vec<u8>, AllocError> {
     let mut bytes = Vec::new(alloc);
     bytes.push(b'"')?;
-    for _ in 0..letters {
-        bytes.push(b'a')?;
-    }
+    bytes.extend_from_slice(repeated(alloc, "a", letters)?.as_bytes())?;
     bytes.extend_from_slice(damage)?;
     bytes.push(b'"')?;
     Ok(bytes)
 }
 
+// The first count of letters, up to 40, behind which the damage is not refused with this kind, so many bytes
+// behind the letters.
+fn first_miss(
+    alloc: Global,
+    damage: &[u8],
+    kind: &Kind,
+    behind: usize,
+) -> Result<Option<usize>, AllocError> {
+    for letters in 0..=40usize {
+        let bytes = damaged(alloc, letters, damage)?;
+        let index = letters.saturating_add(behind);
+        match fault_of(alloc, bytes.as_slice(), false) {
+            Some(error) if error.error_type == *kind && error.index == index => {}
+            _ => return Ok(Some(letters)),
+        }
+    }
+    Ok(None)
+}
+
 #[test]
 fn damage_is_found_at_each_place_of_a_string(rt: HostRuntime) -> Result<(), Fail> {
-    let alloc = rt.alloc();
-    for letters in 0..=40usize {
-        for (damage, kind, behind) in [
-            (b"\xff".as_slice(), Kind::InvalidUnicodeCodePoint, 1),
-            (
-                b"\x1f".as_slice(),
-                Kind::ControlCharacterWhileParsingString,
-                1,
-            ),
-            (br"\q".as_slice(), Kind::InvalidEscape, 2),
-            (
-                br"\udc00".as_slice(),
-                Kind::LoneLeadingSurrogateInHexEscape,
-                6,
-            ),
-            (br"\ud83dx".as_slice(), Kind::UnexpectedEndOfHexEscape, 7),
-        ] {
-            let bytes = damaged(alloc, letters, damage)?;
-            let seen = fault_of(alloc, bytes.as_slice(), false);
-            assert_eq!(rt; seen, fault(kind, letters + behind), "{bytes:?}");
-        }
+    for (damage, kind, behind) in [
+        (b"\xff".as_slice(), Kind::InvalidUnicodeCodePoint, 1),
+        (
+            b"\x1f".as_slice(),
+            Kind::ControlCharacterWhileParsingString,
+            1,
+        ),
+        (br"\q".as_slice(), Kind::InvalidEscape, 2),
+        (
+            br"\udc00".as_slice(),
+            Kind::LoneLeadingSurrogateInHexEscape,
+            6,
+        ),
+        (br"\ud83dx".as_slice(), Kind::UnexpectedEndOfHexEscape, 7),
+    ] {
+        let miss = first_miss(rt.alloc(), damage, &kind, behind)?;
+        assert_eq!(rt; miss, None, "{kind}");
     }
     Ok(())
 }
@@ -345,38 +358,44 @@ fn damage_is_found_at_each_place_of_a_string(rt: HostRuntime) -> Result<(), Fail
 #[test]
 fn every_proper_front_is_refused_at_its_end(rt: HostRuntime) -> Result<(), Fail> {
     let alloc = rt.alloc();
-    let text = r#"[12,"aé",{"k":true}]"#;
-    let bytes = text.as_bytes();
+    let bytes = r#"[12,"aé",{"k":true}]"#.as_bytes();
     assert_eq!(rt; bytes.len(), 21);
-    for (kind, first, last) in [
-        (Kind::EofWhileParsingValue, 0usize, 0usize),
-        (Kind::EofWhileParsingList, 1, 3),
-        (Kind::EofWhileParsingValue, 4, 4),
-        (Kind::EofWhileParsingString, 5, 8),
-        (Kind::EofWhileParsingList, 9, 9),
-        (Kind::EofWhileParsingValue, 10, 10),
-        (Kind::EofWhileParsingObject, 11, 11),
-        (Kind::EofWhileParsingString, 12, 13),
-        (Kind::EofWhileParsingObject, 14, 14),
-        (Kind::EofWhileParsingValue, 15, 18),
-        (Kind::EofWhileParsingObject, 19, 19),
-        (Kind::EofWhileParsingList, 20, 20),
+    for (kind, length) in [
+        (Kind::EofWhileParsingValue, 0),
+        (Kind::EofWhileParsingList, 1),
+        (Kind::EofWhileParsingList, 2),
+        (Kind::EofWhileParsingList, 3),
+        (Kind::EofWhileParsingValue, 4),
+        (Kind::EofWhileParsingString, 5),
+        (Kind::EofWhileParsingString, 6),
+        (Kind::EofWhileParsingString, 7),
+        (Kind::EofWhileParsingString, 8),
+        (Kind::EofWhileParsingList, 9),
+        (Kind::EofWhileParsingValue, 10),
+        (Kind::EofWhileParsingObject, 11),
+        (Kind::EofWhileParsingString, 12),
+        (Kind::EofWhileParsingString, 13),
+        (Kind::EofWhileParsingObject, 14),
+        (Kind::EofWhileParsingValue, 15),
+        (Kind::EofWhileParsingValue, 16),
+        (Kind::EofWhileParsingValue, 17),
+        (Kind::EofWhileParsingValue, 18),
+        (Kind::EofWhileParsingObject, 19),
+        (Kind::EofWhileParsingList, 20),
     ] {
-        for length in first..=last {
-            let front = bytes.get(..length).ok_or("longer than the whole")?;
-            let error = fault_of(alloc, front, false).ok_or("a value")?;
-            assert_eq!(rt; error.index, length);
-            assert_eq!(rt; error.error_type, kind, "of {length} bytes");
-        }
+        let front = bytes.get(..length).ok_or("longer than the whole")?;
+        assert_eq!(rt; fault_of(alloc, front, false), fault(kind, length));
     }
     let value = JsonValue::parse(alloc, bytes, false)?;
     assert_eq!(rt; shown(alloc, &value)?.as_str(), "[12,'aé',{'k':true}]");
     Ok(())
 }
 
+// The bytes that are kept back while all other memory is taken.
 const RESERVE: usize = 65_536;
 
-// Holds all memory but what the reserve was made smaller by.
+// All memory, but what was left of the reserve. Under `rt try` the allocator keeps some to itself, and the tests
+// that refuse requests fail there.
 #[derive(Drop)]
 struct Held {
     blocks: Vec<Vec<u8>>,
@@ -424,23 +443,23 @@ fn each_refused_request_is_told(rt: HostRuntime) -> Result<(), Fail> {
     let alloc = rt.alloc();
     let bytes = br#"[1,["a\nb"],{"k":"\u0061"}]"#.as_slice();
     let mut held = Held::all(alloc)?;
+    // The third item begins at index 12.
+    let mut refused_in_third_item = false;
     for steps in 0..128usize {
         held.leave(alloc, 16 * steps)?;
         let answer = JsonValue::parse(alloc, bytes, false);
         held.give_back(alloc);
         match answer {
             Ok(value) => {
-                assert_eq!(rt;
-                    shown(alloc, &value)?.as_str(),
-                    "[1,[owned 'a\nb'],{'k':owned 'a'}]"
-                );
-                assert!(rt; steps > 0);
+                let wanted = "[1,[owned 'a\nb'],{'k':owned 'a'}]";
+                assert_eq!(rt; shown(alloc, &value)?.as_str(), wanted);
+                assert!(rt; refused_in_third_item);
                 return Ok(());
             }
             Err(error) => {
-                println!(rt; "{steps} {}", error.index)?;
                 assert_eq!(rt; error.error_type, Kind::OutOfMemory);
                 assert!(rt; error.index <= bytes.len());
+                refused_in_third_item = refused_in_third_item || error.index >= 12;
             }
         }
     }
