@@ -5,3 +5,6 @@ pub use jiter_scan::{
     JsonError, JsonErrorType, JsonResult, LinePosition, NumberAny, NumberInt, PartialMode,
 };
 pub use jiter_value::{JsonArray, JsonObject, JsonValue};
+
+#[cfg(test)]
+mod tests;
