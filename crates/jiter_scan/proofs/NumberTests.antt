@@ -1,5 +1,5 @@
 -- The tests of a number's text say what its grammar says, both ways.
-use Rattle.std.proofs.Common.{◌≡◌, ◌⊎◌, inl, inr, ℕ, ◌+◌, ◌≤◌, Bool, true, false, not, ◌&&◌, ◌||◌, List, [], ◌∷◌, ◌++◌, length, take, drop, refl, sym, ap, ◌∙◌, subst, arith, take-append-drop, bytes_eq, codes, nat_le, ◌==◌, if◌then◌else◌, true≢false, Decides}
+use Rattle.std.proofs.Common.{◌≡◌, ◌⊎◌, inl, inr, ℕ, ◌+◌, ◌≤◌, Bool, true, false, not, ◌&&◌, ◌||◌, List, [], ◌∷◌, ◌++◌, length, take, drop, refl, sym, ap, ◌∙◌, subst, arith, take-append-drop, bytes_eq, codes, nat_le, ◌==◌, true≢false, Decides}
 use Rattle.std.specs.List.{prefix_len, list_all}
 use Rattle.std.proofs.lemmas.Bool.{and_parts, and_from, or_left, or_right, or_from, or_cases, not-true, not_from_false, eqb-true, eqb-false, eq-eqb, ne_eqb, leb-true, le-leb, cond-true, cond-false}
 use Rattle.std.proofs.lemmas.List.Folds.{length-prefix_len}
@@ -7,10 +7,7 @@ use Rattle.std.proofs.lemmas.Slice.Eq.{bytes_eq-Decides}
 use Rattle.std.proofs.Math.Seq.{take-append_seam, drop-append_seam}
 use Rattle.jiter_scan.specs.Digits.{is_digit}
 use Rattle.jiter_scan.specs.Number.{AreDigits, IsDigits, IsMinus, IsWhole, IsFraction, IsSign, IsPower, IsExponent, IsDecimal, IsName, IsNumberText, digit_limit, is_some_digits, is_whole, without_sign, without_minus, is_exponent, is_digits_and_exponent, is_fraction_and_exponent, is_unsigned, is_decimal, is_name, is_number_text}
-
-if_case : {A : Type 0} (P : A → Type 0) (b : Bool) (x y : A) → (b ≡ true → P x) → (b ≡ false → P y) → P (if b then x else y)
-if_case P true x y p q = p refl
-if_case P false x y p q = q refl
+use Rattle.jiter_scan.proofs.Choices.{if_case}
 
 -- digits
 

@@ -3,17 +3,18 @@ use Rattle.std.proofs.Common.{◌≡◌, ◌≢◌, ℕ, ◌+◌, ◌<◌, ◌�
 use Rattle.std.specs.Prelude.{slice_get, slice_index, slice_range, Some, None, ◌==◌, nat_lt}
 use Rattle.std.proofs.lemmas.Bool.{ne_eqb, lt-ltb, eq-eqb}
 use Rattle.std.proofs.lemmas.List.Edits.{between_more}
+use Rattle.std.proofs.lemmas.Option.{none-some, same_Some}
 use Rattle.jiter_scan.specs.Scanned.{failed, taken}
 use Rattle.jiter_steps.specs.StringReading.{Found, part, over, Stop, closed, unclosed, cut, wrong, found, found_at, escaped, plain, unquoted, Body, before, body_at, whole, checked, ended, content_at, joined}
 use Rattle.jiter_scan.specs.Kind.{Kind, eof_string, control_character, invalid_code_point}
-use Rattle.std.specs.Prelude.{Option}
 use Rattle.std.specs.Str.{IsUtf8}
 use Rattle.std.specs.Str.Lossy.{utf8_valid_len}
 use Rattle.std.proofs.lemmas.Str.{utf8_valid_len-IsUtf8}
 use Rattle.jiter_steps.proofs.StringStand.{got}
 use Rattle.jiter_steps.proofs.PlacesExplained.{explained, Explains}
 use Rattle.jiter_steps.proofs.Bodies.{before-before, body_at-is, body_at-found, part-ahead}
-use Rattle.jiter_steps.proofs.StringComplete.{found-byte, found-quote, if-true, if-false}
+use Rattle.jiter_scan.proofs.Choices.{if-true, if-false}
+use Rattle.jiter_steps.proofs.StringComplete.{found-byte, found-quote}
 
 pub plain_more : (t : List ℕ) (from at : ℕ) → body_at t from ≡ before (slice_range t from at) false (body_at t at) → from ≤ at → at < length t
     → slice_index t at ≢ 34 → slice_index t at ≢ 92 → 32 ≤ slice_index t at → body_at t from ≡ before (slice_range t from (at + 1)) false (body_at t (at + 1))
@@ -58,21 +59,15 @@ at_control t from to b h e q s l =
     ∙ if-false (b == 92) (escaped t (to + 1) (slice_get t (to + 1))) (plain to b) (ne_eqb b 92 s) ∙ if-true (nat_lt b 32) (over (wrong control_character to)) (part (b ∷ []) false (to + 1)) (lt-ltb b 32 l) in
     ap (λ (b : Body). ended whole t from b.bytes b.owned b.stop) (h ∙ ap (before (slice_range t from to) false) (body_at-found t to (over (wrong control_character to)) there))
 
-some_one : (o : Option ℕ) (a b : ℕ) → o ≡ Some a → o ≡ Some b → a ≡ b
-some_one o a b p q = let same : Some a ≡ Some b = sym p ∙ q in cc
-
-some_none : (o : Option ℕ) (a : ℕ) → o ≡ Some a → o ≡ None → ⊥
-some_none o a p q = let same : Some a ≡ None = sym p ∙ q in cc
-
 no_fault : (k : Kind) (j e : ℕ) (s : Stop) → s ≡ wrong k j → s ≡ closed e → ⊥
 no_fault k j e s p q = let same : wrong k j ≡ closed e = sym p ∙ q in cc
 
 -- behind a backslash
 owned_behind : (t : List ℕ) (i e : ℕ) → slice_get t i ≡ Some 92 → (x : Found) → Explains t i x → (joined (body_at t) x).stop ≡ closed e → (joined (body_at t) x).owned ≡ true
 owned_behind t i e h (part bs true j) x s = refl
-owned_behind t i e h (part bs false j) x s = absurd (x.no_backslash (some_one _ _ _ x.here h))
-owned_behind t i e h (over (closed f)) x s = let no = some_one _ _ _ x.0 h in absurd (omega arith)
-owned_behind t i e h (over unclosed) x s = absurd (some_none _ _ h x)
+owned_behind t i e h (part bs false j) x s = absurd (x.no_backslash (same_Some _ _ (sym x.here ∙ h)))
+owned_behind t i e h (over (closed f)) x s = let no = same_Some _ _ (sym x.0 ∙ h) in absurd (omega arith)
+owned_behind t i e h (over unclosed) x s = absurd (none-some _ (sym x ∙ h))
 owned_behind t i e h (over cut) x s = refl
 owned_behind t i e h (over (wrong k j)) x s = absurd (no_fault k j e _ refl s)
 

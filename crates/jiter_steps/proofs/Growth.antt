@@ -1,28 +1,22 @@
 -- A later cut of a document goes on where an earlier one stopped.
-use Rattle.std.proofs.Common.{◌≡◌, ◌⊎◌, inl, inr, ℕ, ◌+◌, ◌<◌, ◌≤◌, Bool, true, false, Option, Some, None, List, [], ◌∷◌, ◌++◌, length, take, drop, refl, sym, ap, ap₂, ◌∙◌, subst, arith, nat_le, if◌then◌else◌, slice_range, ◌-◌, append-nil, true≢false}
+use Rattle.std.proofs.Common.{◌≡◌, ◌⊎◌, inl, inr, ℕ, ◌<◌, ◌≤◌, Bool, true, Option, Some, None, List, [], ◌∷◌, ◌++◌, refl, sym, ap, ap₂, ◌∙◌, subst, arith, nat_le, if◌then◌else◌, slice_range, append-nil, true≢false}
 use Rattle.std.specs.Str.{encode_utf8_all}
 use Rattle.std.proofs.lemmas.Bool.{cases_lt, le-leb, lt-leb, leb-true, leb-false}
 use Rattle.std.proofs.lemmas.List.{map-append}
 use Rattle.std.proofs.lemmas.Str.{encodes-append}
-use Rattle.jiter_scan.specs.Stands.{Stands}
-use Rattle.jiter_scan.specs.Number.{IsNumberText, number_value, is_number_text}
+use Rattle.jiter_scan.specs.Number.{number_value}
 use Rattle.jiter_scan.specs.Mode.{allows_trailing_strings}
 use Rattle.jiter_scan.specs.declared.partial_mode.PartialMode.{PartialMode}
-use Rattle.jiter_scan.proofs.NumberTests.{number_text-decides}
-use Rattle.jiter_steps.specs.Literal.{word_of, literal_tree}
-use Rattle.jiter_steps.specs.Piece.{Piece, SpellsPieces, characters, text_of, pieces_to}
+use Rattle.jiter_scan.proofs.Choices.{if_case}
+use Rattle.jiter_steps.specs.Literal.{literal_tree}
+use Rattle.jiter_steps.specs.Piece.{Piece, characters, text_of, pieces_to}
 use Rattle.jiter_steps.specs.Tree.{Text, Tree, Items, no_items, item, Members}
 use Rattle.jiter_steps.specs.Tree as tree
 use Rattle.jiter_steps.specs.Node.{Key, Node, Nodes, no_nodes, node, NodeMembers, no_members, member, begin, end, StandsBehind, SpellsKey, Spells, SpellsItems, SpellsMoreItems, SpellsMembers, SpellsMoreMembers, text_at, number_tree, value_of, values_of, members_of}
 use Rattle.jiter_steps.specs.Node as grammar
 use Rattle.jiter_steps.specs.Cut.{cut, cut_items, cut_members, cut_number, cut_string, with_item, with_member}
 use Rattle.jiter_steps.specs.Extends.{IfLast, IfLastMember, Extends, ExtendsItems, ExtendsMembers, CutsNoNumber, CutsNoNumberOf, CutsNoNumberOfMembers}
-use Rattle.jiter_steps.specs.declared.parse.Literal.{Literal}
-use Rattle.jiter_steps.specs.declared.parse.Literal.TheVariants as literal
-
-if_case : {A : Type 0} (P : A → Type 0) (b : Bool) (x y : A) → (b ≡ true → P x) → (b ≡ false → P y) → P (if b then x else y)
-if_case P true x y p q = p refl
-if_case P false x y p q = q refl
+use Rattle.jiter_steps.proofs.SpellsFront.{key-ahead, node-ahead, items-ahead, members-ahead}
 
 -- a tree goes on from itself
 
@@ -75,62 +69,12 @@ text-front : (ps qs : List Piece) (rest : List Piece) → qs ≡ ps ++ rest → 
 text-front ps qs rest e = ap text_of e ∙ ap encode_utf8_all (map-append (λ (p : Piece). p.character) ps rest) ∙ encodes-append (characters ps) (characters rest)
 
 module _ (names : Bool) (t : List ℕ) where
-  -- how far things reach
-
-  stands-length : (i j : ℕ) (w : List ℕ) → Stands t i j w → j ≡ i + length w
-  stands-length i j [] h = omega arith
-  stands-length i j (c ∷ w) h = let rest = stands-length (i + 1) j w h.1 in omega arith
-
-  pieces-ordered : (i : ℕ) (ps : List Piece) (e : ℕ) → SpellsPieces t i ps e → i ≤ e
-  pieces-ordered i [] e h = omega arith
-  pieces-ordered i (p ∷ ps) e h = let first = stands-length i p.end h.0.bytes h.0.stands in let rest = pieces-ordered p.end ps e h.1 in omega arith
-
-  some_word : (l : Literal) → 0 < length (word_of l)
-  some_word literal.Null = omega arith
-  some_word literal.True = omega arith
-  some_word literal.False = omega arith
-
-  -- a number's text is not empty
-  no_number : (names : Bool) → IsNumberText names [] → ⊥
-  unfolding is_number_text
-  no_number true h = true≢false (sym ((number_text-decides true []).1 h))
-  no_number false h = true≢false (sym ((number_text-decides false []).1 h))
-
-  number-ordered : (b e : ℕ) → b ≤ e → IsNumberText names (slice_range t b e) → b < e
-  number-ordered b e h text = by (cases_lt b e) where
-    by : (b < e) ⊎ (e ≤ b) → b < e
-    by (inl g) = g
-    by (inr g) = let none : e - b ≡ 0 = omega arith in absurd (no_number names (subst (λ n. IsNumberText names (take n (drop b t))) none text))
-
-  key-ordered : (k : Key) (j : ℕ) → SpellsKey t k j → k.begin < j
-  key-ordered k j h = let content = pieces-ordered (k.begin + 1) k.pieces h.string.close h.string.spelled in omega (arith, h.string.ends, h.behind.blanks.ordered, h.behind.ends, h.blanks.ordered)
-
-  mutual
-    node-ordered : (n : Node) → Spells names t n → begin n < end n
-    node-ordered (grammar.literal l b e) h = let some = some_word l in let stands = stands-length b e (word_of l) h in omega arith
-    node-ordered (grammar.number b e) h = number-ordered b e h.ordered h.text
-    node-ordered (grammar.string ps b e) h = let content = pieces-ordered (b + 1) ps h.close h.spelled in omega (arith, h.ends)
-    node-ordered (grammar.array b e no_nodes) h = omega (arith, h.1.blanks.ordered, h.1.ends)
-    node-ordered (grammar.array b e (node n ns)) h = let first = node-ordered n h.1.1 in let rest = more-ordered (end n) ns e h.1.2 in omega (arith, h.1.0.ordered)
-    node-ordered (grammar.object b e no_members) h = omega (arith, h.1.blanks.ordered, h.1.ends)
-    node-ordered (grammar.object b e (member k n ms)) h =
-        let key = key-ordered k (begin n) h.1.1 in let first = node-ordered n h.1.2 in let rest = more_members-ordered (end n) ms e h.1.3 in omega (arith, h.1.0.ordered)
-
-    more-ordered : (i : ℕ) (ns : Nodes) (e : ℕ) → SpellsMoreItems names t i ns e → i < e
-    more-ordered i no_nodes e h = omega (arith, h.blanks.ordered, h.ends)
-    more-ordered i (node n ns) e h = let first = node-ordered n h.3 in let rest = more-ordered (end n) ns e h.4 in omega (arith, h.1.blanks.ordered, h.1.ends, h.2.ordered)
-
-    more_members-ordered : (i : ℕ) (ms : NodeMembers) (e : ℕ) → SpellsMoreMembers names t i ms e → i < e
-    more_members-ordered i no_members e h = omega (arith, h.blanks.ordered, h.ends)
-    more_members-ordered i (member k n ms) e h =
-        let key = key-ordered k (begin n) h.3 in let first = node-ordered n h.4 in let rest = more_members-ordered (end n) ms e h.5 in omega (arith, h.1.blanks.ordered, h.1.ends, h.2.ordered)
-
   module _ (mode : PartialMode) where
     -- what is not reached by k has no cut
 
     node-late : (k : ℕ) (n : Node) → Spells names t n → k ≤ begin n → cut names t n k mode ≡ None
     node-late k (grammar.literal l b e) h late =
-        let order = node-ordered (grammar.literal l b e) h in
+        let order = node-ahead names t (grammar.literal l b e) h in
         if_case (λ x. x ≡ None) (nat_le e k) (Some (literal_tree l)) None (λ z. let reached = leb-true e k z in absurd (omega arith)) (λ z. refl)
     node-late k (grammar.number b e) h late = ap (λ y. if y then None else (if nat_le e k then Some (number_tree (number_value (slice_range t b e))) else cut_number names (slice_range t b k))) (le-leb k b late)
     node-late k (grammar.string ps b e) h late = ap (λ y. if y then None else (if nat_le e k then Some (tree.string (text_at t ps b e)) else (if allows_trailing_strings mode then Some (cut_string t ps b k) else None))) (le-leb k b late)
@@ -140,15 +84,15 @@ module _ (names : Bool) (t : List ℕ) where
     items-late : (k i : ℕ) (ns : Nodes) (e : ℕ) → SpellsMoreItems names t i ns e → k ≤ i → cut_items names t ns k mode ≡ no_items
     items-late k i no_nodes e h late = refl
     items-late k i (node n ns) e h late =
-        let order = node-ordered n h.3 in
+        let order = node-ahead names t n h.3 in
         let before : k ≤ begin n = omega (arith, h.1.blanks.ordered, h.1.ends, h.2.ordered) in
         ap₂ with_item (node-late k n h.3 before) (items-late k (end n) ns e h.4 (omega arith))
 
     members-late : (k i : ℕ) (ms : NodeMembers) (e : ℕ) → SpellsMoreMembers names t i ms e → k ≤ i → cut_members names t ms k mode ≡ tree.no_members
     members-late k i no_members e h late = refl
     members-late k i (member key n ms) e h late =
-        let order = node-ordered n h.4 in
-        let between = key-ordered key (begin n) h.3 in
+        let order = node-ahead names t n h.4 in
+        let between = key-ahead names t key (begin n) h.3 in
         let before : k ≤ begin n = omega (arith, h.1.blanks.ordered, h.1.ends, h.2.ordered) in
         ap₂ (with_member (text_at t key.pieces key.begin key.end)) (node-late k n h.4 before) (members-late k (end n) ms e h.5 (omega arith))
 
@@ -158,38 +102,38 @@ module _ (names : Bool) (t : List ℕ) where
       node-whole : (k : ℕ) (n : Node) → Spells names t n → end n ≤ k → cut names t n k mode ≡ Some (value_of t n)
       node-whole k (grammar.literal l b e) h all = ap (λ y. if y then Some (literal_tree l) else None) (le-leb e k all)
       node-whole k (grammar.number b e) h all =
-          let order = node-ordered (grammar.number b e) h in
+          let order = node-ahead names t (grammar.number b e) h in
           ap (λ y. if y then None else (if nat_le e k then Some (number_tree (number_value (slice_range t b e))) else cut_number names (slice_range t b k))) (lt-leb k b (omega arith))
           ∙ ap (λ y. if y then Some (number_tree (number_value (slice_range t b e))) else cut_number names (slice_range t b k)) (le-leb e k all)
       node-whole k (grammar.string ps b e) h all =
-          let order = node-ordered (grammar.string ps b e) h in
+          let order = node-ahead names t (grammar.string ps b e) h in
           ap (λ y. if y then None else (if nat_le e k then Some (tree.string (text_at t ps b e)) else (if allows_trailing_strings mode then Some (cut_string t ps b k) else None))) (lt-leb k b (omega arith))
           ∙ ap (λ y. if y then Some (tree.string (text_at t ps b e)) else (if allows_trailing_strings mode then Some (cut_string t ps b k) else None)) (le-leb e k all)
       node-whole k (grammar.array b e no_nodes) h all =
-          let order = node-ordered (grammar.array b e no_nodes) h in
+          let order = node-ahead names t (grammar.array b e no_nodes) h in
           ap (λ y. if y then None else Some (tree.array no_items)) (lt-leb k b (omega arith))
       node-whole k (grammar.array b e (node n ns)) h all =
-          let order = node-ordered (grammar.array b e (node n ns)) h in
-          let rest = more-ordered (end n) ns e h.1.2 in
+          let order = node-ahead names t (grammar.array b e (node n ns)) h in
+          let rest = items-ahead names t ns (end n) e h.1.2 in
           ap (λ y. if y then None else Some (tree.array (cut_items names t (node n ns) k mode))) (lt-leb k b (omega arith))
           ∙ ap₂ (λ x y. Some (tree.array (with_item x y))) (node-whole k n h.1.1 (omega arith)) (more-whole k (end n) ns e h.1.2 all)
       node-whole k (grammar.object b e no_members) h all =
-          let order = node-ordered (grammar.object b e no_members) h in
+          let order = node-ahead names t (grammar.object b e no_members) h in
           ap (λ y. if y then None else Some (tree.object tree.no_members)) (lt-leb k b (omega arith))
       node-whole k (grammar.object b e (member key n ms)) h all =
-          let order = node-ordered (grammar.object b e (member key n ms)) h in
-          let rest = more_members-ordered (end n) ms e h.1.3 in
+          let order = node-ahead names t (grammar.object b e (member key n ms)) h in
+          let rest = members-ahead names t ms (end n) e h.1.3 in
           ap (λ y. if y then None else Some (tree.object (cut_members names t (member key n ms) k mode))) (lt-leb k b (omega arith))
           ∙ ap₂ (λ x y. Some (tree.object (with_member (text_at t key.pieces key.begin key.end) x y))) (node-whole k n h.1.2 (omega arith)) (more_members-whole k (end n) ms e h.1.3 all)
 
       more-whole : (k i : ℕ) (ns : Nodes) (e : ℕ) → SpellsMoreItems names t i ns e → e ≤ k → cut_items names t ns k mode ≡ values_of t ns
       more-whole k i no_nodes e h all = refl
-      more-whole k i (node n ns) e h all = let rest = more-ordered (end n) ns e h.4 in ap₂ with_item (node-whole k n h.3 (omega arith)) (more-whole k (end n) ns e h.4 all)
+      more-whole k i (node n ns) e h all = let rest = items-ahead names t ns (end n) e h.4 in ap₂ with_item (node-whole k n h.3 (omega arith)) (more-whole k (end n) ns e h.4 all)
 
       more_members-whole : (k i : ℕ) (ms : NodeMembers) (e : ℕ) → SpellsMoreMembers names t i ms e → e ≤ k → cut_members names t ms k mode ≡ members_of t ms
       more_members-whole k i no_members e h all = refl
       more_members-whole k i (member key n ms) e h all =
-          let rest = more_members-ordered (end n) ms e h.5 in
+          let rest = members-ahead names t ms (end n) e h.5 in
           ap₂ (with_member (text_at t key.pieces key.begin key.end)) (node-whole k n h.4 (omega arith)) (more_members-whole k (end n) ms e h.5 all)
 
     -- what there is at k goes on at l

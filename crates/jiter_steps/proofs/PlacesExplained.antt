@@ -11,7 +11,9 @@ use Rattle.jiter_steps.specs.Escape.{short_escape, is_hex, unit_of, is_high, is_
 use Rattle.jiter_scan.specs.Stands.{Stands}
 use Rattle.jiter_steps.specs.Piece.{IsUnit, IsEscape}
 use Rattle.jiter_steps.specs.StringReading.{closed, unclosed, cut, wrong, Found, part, over, bad_digit, unit_at, few, hex_digits_or, hex_digits_at, behind, unit_then, paired, second_u, second, single, numbered, short, escaped, plain, unquoted, found, found_at}
-use Rattle.jiter_steps.proofs.StringStand.{if_case, stands-append, stands-more, got}
+use Rattle.jiter_scan.proofs.Choices.{if_case}
+use Rattle.jiter_scan.proofs.Standing.{stands-append}
+use Rattle.jiter_steps.proofs.StringStand.{stands-more, got}
 
 pub record ByteAt (t : List ℕ) (i : ℕ) (bs : List ℕ) (j : ℕ) : Type 0 where
   pub byte : ℕ

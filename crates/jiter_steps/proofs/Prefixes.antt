@@ -27,8 +27,8 @@ use Rattle.jiter_steps.proofs.Nodes.{blank-passed, blank-to_end}
 use Rattle.jiter_steps.proofs.NumberCut.{CutTo, number_at-cut}
 use Rattle.jiter_steps.proofs.RowSteps.{array_opened-more, array_continued-more, object_opened-more, object_continued-more, key_ended-more}
 use Rattle.jiter_steps.proofs.ScalarLaws.{scalar-laws, EndsNumber}
-use Rattle.jiter_steps.proofs.SpellsFront.{behind-ahead, key-ahead, string-front, node-front}
-use Rattle.jiter_steps.proofs.StringCut.{whole-cut}
+use Rattle.jiter_steps.proofs.SpellsFront.{behind-ahead, key-ahead, node-front}
+use Rattle.jiter_steps.proofs.StringCut.{string-still, whole-cut}
 use Rattle.jiter_steps.proofs.Values.{value-literal, value-number, value-text, value-array-stuck, value-array-items, value-object-stuck, value-object-members, items-item, items-fault, members-key-fault, members-colon-fault, members-value-fault, members-member}
 
 -- the input ends too early
@@ -80,7 +80,7 @@ module _ (names : Bool) (t : List ℕ) (k : ℕ) (within : k ≤ length t) where
   value-front n room h d q le = value_at-complete names u n room (node-front names t k within n h le) d (front-if t k within (λ c. continues_number c ≡ false) (end n) q)
 
   key-front-taken : (key : Key) → SpellsString t key.begin key.pieces key.end → key.end ≤ k → seen_as (key_of u key.begin) (string_at whole u key.begin) ≡ taken key key.end
-  key-front-taken key h le = key-taken names u key (string-front names t k within key.begin key.end key.pieces h le)
+  key-front-taken key h le = key-taken names u key (string-still t k within key.begin key.end key.pieces h le)
 
   -- scalars that are cut
   literal-cut : (l : Literal) (b e room : ℕ) → Spells names t (grammar.literal l b e) → b < k → k < e → EndsEarly (Value room b)

@@ -1,16 +1,16 @@
 -- What the grammar spells before a cut is spelled by the front of the text.
-use Rattle.std.proofs.Common.{◌≡◌, ◌≢◌, ◌⊎◌, inl, inr, ℕ, ◌+◌, ◌<◌, ◌≤◌, Bool, List, [], ◌∷◌, length, take, sym, subst, arith}
+use Rattle.std.proofs.Common.{◌≡◌, ◌≢◌, ◌⊎◌, inl, inr, ℕ, ◌+◌, ◌<◌, ◌≤◌, Bool, List, length, take, sym, subst, arith}
 use Rattle.std.proofs.lemmas.Bool.{cases_eq}
 use Rattle.jiter_scan.specs.Number.{IsNumberText}
 use Rattle.jiter_scan.proofs.Standing.{stands-length}
 use Rattle.jiter_steps.specs.Literal.{word_of}
 use Rattle.jiter_steps.specs.Node as grammar
 use Rattle.jiter_steps.specs.Node.{Key, Node, Nodes, no_nodes, node, NodeMembers, no_members, member, begin, end, StandsBehind, SpellsNumber, SpellsKey, Spells, SpellsItems, SpellsMoreItems, SpellsMembers, SpellsMoreMembers}
-use Rattle.jiter_steps.specs.Piece.{Piece, SpellsPieces, SpellsString}
 use Rattle.jiter_steps.specs.declared.parse.Literal.TheVariants as literal
 use Rattle.jiter_steps.proofs.Complete.{slice-empty}
 use Rattle.jiter_steps.proofs.Front.{front-length, front-get, front-range, front-stands, front-blank, front-behind}
 use Rattle.jiter_steps.proofs.ScalarLaws.{ScalarLaws, scalar-laws}
+use Rattle.jiter_steps.proofs.StringCut.{string-still}
 
 module _ (names : Bool) (t : List ℕ) where
   laws : ScalarLaws names t
@@ -52,28 +52,6 @@ module _ (names : Bool) (t : List ℕ) where
     abbrev u : List ℕ
     u = take k t
 
-    pieces-ahead : (ps : List Piece) (i e : ℕ) → SpellsPieces t i ps e → i ≤ e
-    pieces-ahead [] i e h = omega (arith, h)
-    pieces-ahead (p ∷ ps) i e h = omega (arith, stands-length t i p.end h.0.bytes h.0.stands, pieces-ahead ps p.end e h.1)
-
-    pieces-front : (ps : List Piece) (i e : ℕ) → SpellsPieces t i ps e → e ≤ k → SpellsPieces u i ps e
-    pieces-front [] i e h le = h
-    pieces-front (p ∷ ps) i e h le = (
-      record { bytes = h.0.bytes; stands = front-stands t k within i p.end h.0.bytes h.0.stands (omega (arith, pieces-ahead ps p.end e h.1)); piece = h.0.piece },
-      pieces-front ps p.end e h.1 le,
-    )
-
-    pub string-front : (i e : ℕ) (ps : List Piece) → SpellsString t i ps e → e ≤ k → SpellsString u i ps e
-    string-front i e ps h le =
-        let close : h.close < k = omega (arith, h.ends) in
-        record {
-          opens = front-get t k within i 34 (omega (arith, pieces-ahead ps (i + 1) h.close h.spelled)) h.opens;
-          close = h.close;
-          spelled = pieces-front ps (i + 1) h.close h.spelled (omega arith);
-          closes = front-get t k within h.close 34 close h.closes;
-          ends = h.ends;
-        }
-
     pub number-front : (b e : ℕ) → SpellsNumber names t b e → e ≤ k → SpellsNumber names u b e
     number-front b e h le = record {
       ordered = h.ordered;
@@ -83,7 +61,7 @@ module _ (names : Bool) (t : List ℕ) where
 
     pub key-front : (key : Key) (j : ℕ) → SpellsKey t key j → j ≤ k → SpellsKey u key j
     key-front key j h le = record {
-      string = string-front key.begin key.end key.pieces h.string (omega (arith, behind-ahead key.end 58 h.colon h.behind, h.blanks.ordered));
+      string = string-still t k within key.begin key.end key.pieces h.string (omega (arith, behind-ahead key.end 58 h.colon h.behind, h.blanks.ordered));
       colon = h.colon;
       behind = front-behind t k within key.end 58 h.colon h.behind (omega (arith, h.blanks.ordered));
       blanks = front-blank t k within h.colon j h.blanks le;
@@ -93,7 +71,7 @@ module _ (names : Bool) (t : List ℕ) where
       pub node-front : (n : Node) → Spells names t n → end n ≤ k → Spells names u n
       node-front (grammar.literal l b e) h le = front-stands t k within b e (word_of l) h le
       node-front (grammar.number b e) h le = number-front b e h le
-      node-front (grammar.string ps b e) h le = string-front b e ps h le
+      node-front (grammar.string ps b e) h le = string-still t k within b e ps h le
       node-front (grammar.array b e no_nodes) h le = (front-get t k within b 91 (omega (arith, behind-ahead (b + 1) 93 e h.1)) h.0, front-behind t k within (b + 1) 93 e h.1 le)
       node-front (grammar.array b e (node n ns)) h le =
           let rest = items-ahead ns (end n) e h.1.2 in

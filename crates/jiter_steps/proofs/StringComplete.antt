@@ -1,6 +1,6 @@
 -- What is spelled is read.
-use Rattle.std.proofs.Common.{◌≡◌, ◌≢◌, ◌⊎◌, inl, inr, ℕ, ◌+◌, ◌<◌, ◌≤◌, Bool, true, false, ◌||◌, ◌&&◌, ap₂, List, [], ◌∷◌, ◌++◌, length, refl, sym, ap, ◌∙◌, subst, arith}
-use Rattle.std.specs.Prelude.{slice_get, slice_index, Some, None, if◌then◌else◌, ◌==◌, nat_lt}
+use Rattle.std.proofs.Common.{◌≡◌, ◌≢◌, ◌⊎◌, inl, inr, ℕ, ◌+◌, ◌<◌, ◌≤◌, Bool, true, false, ◌||◌, ◌&&◌, ap₂, List, [], ◌∷◌, length, refl, sym, ap, ◌∙◌, subst, arith}
+use Rattle.std.specs.Prelude.{slice_get, slice_index, Some, None, ◌==◌, nat_lt}
 use Rattle.std.specs.Char.{IsScalar, encode_utf8}
 use Rattle.std.specs.Str.{all_scalars}
 use Rattle.std.specs.Str.Lossy.{utf8_valid_len}
@@ -13,6 +13,8 @@ use Rattle.jiter_scan.specs.Stands.{Stands}
 use Rattle.jiter_steps.specs.Piece.{IsUnit, IsEscape, IsPiece, Piece, SpellsChar, SpellsPieces, SpellsString, characters, text_of}
 use Rattle.jiter_scan.specs.Scanned.{taken}
 use Rattle.jiter_steps.specs.StringReading.{closed, part, over, bad_digit, unit_at, few, number, hex_digits_or, hex_digits_at, behind, paired, second_u, second, single, numbered, short, escaped, plain, unquoted, found, found_at, Body, before, body_at, whole, content_at, string_at, ended}
+use Rattle.jiter_scan.proofs.Choices.{if-true, if-false}
+use Rattle.jiter_scan.proofs.Standing.{stands-split}
 use Rattle.jiter_steps.proofs.Utf8Shape.{AllFollow, Lead, lead}
 use Rattle.jiter_steps.proofs.PlacesExplained.{HexAt, scalar-pair, scalar-short}
 use Rattle.jiter_steps.proofs.Bodies.{before-before, body_at-found}
@@ -38,16 +40,6 @@ plain-printed c p q b l = subst ArePrinted (sym l.is) (first (cases_lt c 128), a
   first : (c < 128) ⊎ (128 ≤ c) → IsPrinted l.first
   first (inl low) = subst IsPrinted (l.low low) (record { printed = p; no_quote = q; no_backslash = b })
   first (inr high) = high-printed l.first (omega (arith, l.high high))
-
-pub if-true : {A : Type 0} (b : Bool) (x y : A) → b ≡ true → (if b then x else y) ≡ x
-if-true b x y e = ap (λ (c : Bool). if c then x else y) e
-
-pub if-false : {A : Type 0} (b : Bool) (x y : A) → b ≡ false → (if b then x else y) ≡ y
-if-false b x y e = ap (λ (c : Bool). if c then x else y) e
-
-pub stands-split : (t : List ℕ) (i k : ℕ) (p q : List ℕ) → Stands t i k (p ++ q) → (j : ℕ) × Stands t i j p × Stands t j k q
-stands-split t i k [] q h = (i, refl, h)
-stands-split t i k (c ∷ p) q h = let r = stands-split t (i + 1) k p q h.1 in (r.0, (h.0, r.1), r.2)
 
 module _ (t : List ℕ) where
   pub found-byte : (i b : ℕ) → slice_get t i ≡ Some b → IsPrinted b → found_at t i ≡ part (b ∷ []) false (i + 1)

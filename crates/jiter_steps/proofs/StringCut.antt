@@ -5,17 +5,19 @@ use Rattle.std.specs.Char.{encode_utf8}
 use Rattle.std.specs.Str.{all_scalars, IsUtf8}
 use Rattle.std.proofs.lemmas.Bool.{le-leb, cases_lt, lt-ltb}
 use Rattle.std.proofs.lemmas.Bool.Decides.{nat_tests}
-use Rattle.std.proofs.lemmas.List.{get_or-take, length-take-le}
-use Rattle.std.proofs.lemmas.Option.{slice_get-get_or, slice_get_past, get_or_from_slice_get}
+use Rattle.std.proofs.lemmas.Option.{slice_get_past}
 use Rattle.jiter_steps.specs.Escape.{is_high}
 use Rattle.jiter_scan.specs.Stands.{Stands}
 use Rattle.jiter_steps.specs.Piece.{IsPlain, IsEscape, IsPiece, Piece, SpellsChar, SpellsPieces, SpellsString, characters, text_of, pieces_to}
 use Rattle.jiter_scan.specs.Scanned.{taken, failed}
 use Rattle.jiter_steps.specs.StringReading.{Stop, unclosed, cut, over, few, hex_digits_or, bad_digit, unit_at, hex_digits_at, behind, paired, second_u, second, single, numbered, escaped, found_at, Body, before, body_at, kept, shortened, as_kept, ended, content_at, string_at, whole, raw}
 use Rattle.jiter_steps.proofs.Utf8Shape.{lead}
-use Rattle.jiter_steps.proofs.StringStand.{stands-length}
+use Rattle.jiter_scan.proofs.Choices.{if-true, if-false}
+use Rattle.jiter_scan.proofs.Standing.{stands-split}
+use Rattle.jiter_steps.proofs.Front.{front-length, front-get, front-stands}
+use Rattle.jiter_steps.proofs.StringStand.{pieces-ahead}
 use Rattle.jiter_steps.proofs.Bodies.{body_at-found, found-end}
-use Rattle.jiter_steps.proofs.StringComplete.{ArePrinted, plain-printed, if-true, if-false, bytes-read, char-read, found-backslash, found-number, UnitAt, unit-at, stands-split}
+use Rattle.jiter_steps.proofs.StringComplete.{ArePrinted, plain-printed, bytes-read, char-read, found-backslash, found-number, UnitAt, unit-at}
 use Rattle.jiter_scan.specs.Kind.{eof_string}
 use Rattle.jiter_steps.proofs.Tails.{IsFront, tail-unfinished, tail-taken}
 
@@ -24,17 +26,13 @@ module _ (t : List ℕ) (k : ℕ) (within : k ≤ length t) where
   u = take k t
 
   pub long : length u ≡ k
-  long = length-take-le k t within
+  long = front-length t k within
 
   pub same : (x b : ℕ) → x < k → slice_get t x ≡ Some b → slice_get u x ≡ Some b
-  same x b h e = slice_get-get_or u x 0 (omega (arith, long)) ∙ ap Some (get_or-take k t x 0 h ∙ get_or_from_slice_get t x b 0 e)
-
-  stands-cut : (i j : ℕ) (w : List ℕ) → Stands t i j w → j ≤ k → Stands u i j w
-  stands-cut i j [] h l = h
-  stands-cut i j (b ∷ w) h l = (same i b (omega (arith, stands-length t (i + 1) j w h.1)) h.0, stands-cut (i + 1) j w h.1 l)
+  same x b h e = front-get t k within x b h e
 
   char-cut : (i j c : ℕ) → SpellsChar t i j c → j ≤ k → SpellsChar u i j c
-  char-cut i j c s l = record { bytes = s.bytes; stands = stands-cut i j s.bytes s.stands l; piece = s.piece }
+  char-cut i j c s l = record { bytes = s.bytes; stands = front-stands t k within i j s.bytes s.stands l; piece = s.piece }
 
   -- the input ends at k, within or before a character
   record EndsAt (i : ℕ) : Type 0 where
@@ -106,7 +104,7 @@ module _ (t : List ℕ) (k : ℕ) (within : k ≤ length t) where
       elim (cases_lt k o) [
         | inl lt ↦ unit-ends i h.0 is.high x l (omega arith)
         | inr ge ↦
-            let first = stands-cut i h.0 is.front h.1 (omega (arith, at)) in
+            let first = front-stands t k within i h.0 is.front h.1 (omega (arith, at)) in
             found-number u i h.0 is.high (unit-at u i h.0 is.high is.front is.first first)
             ∙ if-true (is_high is.high) (second u is.high o (slice_get u o)) (single o is.high) is.is_high
             ∙ second-ends o j is.high is.low y ge (omega (arith, y.ends))
@@ -180,20 +178,16 @@ module _ (t : List ℕ) (k : ℕ) (within : k ≤ length t) where
       let r = open-whole b.bytes b.owned b.stop c.stop (i + 1) in
       (r.0 ∙ ap (failed eof_string) long, r.1 ∙ ap (failed eof_string) long)
 
-  pieces-ahead : (ps : List Piece) (i q : ℕ) → SpellsPieces t i ps q → i ≤ q
-  pieces-ahead [] i q h = omega (arith, h)
-  pieces-ahead (p ∷ ps) i q h = let x = stands-length t i p.end h.0.bytes h.0.stands in omega (arith, pieces-ahead ps p.end q h.1)
-
   pieces-kept : (ps : List Piece) (i q : ℕ) → SpellsPieces t i ps q → q ≤ k → SpellsPieces u i ps q
   pieces-kept [] i q h l = h
-  pieces-kept (p ∷ ps) i q h l = (char-cut i p.end p.character h.0 (omega (arith, pieces-ahead ps p.end q h.1)), pieces-kept ps p.end q h.1 l)
+  pieces-kept (p ∷ ps) i q h l = (char-cut i p.end p.character h.0 (omega (arith, pieces-ahead t ps p.end q h.1)), pieces-kept ps p.end q h.1 l)
 
   -- a string that ends before the cut is spelled as it was
   pub string-still : (i e : ℕ) (ps : List Piece) → SpellsString t i ps e → e ≤ k → SpellsString u i ps e
   string-still i e ps s l =
       let ends = s.ends in
       record {
-        opens = same i 34 (omega (arith, pieces-ahead ps (i + 1) s.close s.spelled)) s.opens;
+        opens = same i 34 (omega (arith, pieces-ahead t ps (i + 1) s.close s.spelled)) s.opens;
         close = s.close;
         spelled = pieces-kept ps (i + 1) s.close s.spelled (omega arith);
         closes = same s.close 34 (omega arith) s.closes;

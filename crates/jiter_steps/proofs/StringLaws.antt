@@ -1,5 +1,5 @@
 -- The laws of reading a string that the layers above stand on.
-use Rattle.std.proofs.Common.{◌≡◌, ◌≢◌, inl, inr, ℕ, ◌+◌, ◌-◌, ◌<◌, ◌≤◌, Bool, false, List, [], ◌∷◌, length, drop, refl, sym, ap, ◌∙◌, subst, arith}
+use Rattle.std.proofs.Common.{◌≡◌, ◌≢◌, inl, inr, ℕ, ◌+◌, ◌-◌, ◌<◌, ◌≤◌, Bool, false, List, length, drop, refl, sym, ap, ◌∙◌, subst, arith}
 use Rattle.std.specs.Prelude.{slice_get, Option, Some, None, ◌==◌}
 use Rattle.std.specs.Str.{chars}
 use Rattle.std.specs.Str.Lossy.{utf8_valid_len, utf8_error_len}
@@ -10,10 +10,11 @@ use Rattle.jiter_scan.specs.Kind.{Kind, is_end_kind, eof_string, invalid_code_po
 use Rattle.jiter_scan.specs.Scanned.{Scanned, taken, failed}
 use Rattle.jiter_scan.proofs.Scanning.{ScalarWithin, EndsAtLength}
 use Rattle.jiter_steps.specs.Tree.{Text}
-use Rattle.jiter_steps.specs.Piece.{Piece, SpellsString, SpellsPieces, characters, text_of}
+use Rattle.jiter_steps.specs.Piece.{Piece, SpellsString, characters, text_of}
 use Rattle.jiter_steps.specs.Node.{has_backslash, text_at}
 use Rattle.jiter_steps.specs.StringReading.{Stop, closed, unclosed, cut, wrong, pieces_from, body_at, Form, whole, kept, raw, raw_kept, checked, shortened, as_kept, between, ended, content_at, string_at}
-use Rattle.jiter_steps.proofs.StringStand.{if_case, stands-length}
+use Rattle.jiter_scan.proofs.Choices.{if_case}
+use Rattle.jiter_steps.proofs.StringStand.{pieces-ahead}
 use Rattle.jiter_steps.proofs.PlacesExplained.{IsPlaceKind}
 use Rattle.jiter_steps.proofs.Bodies.{StopWithin, body_at-within, body_at-long}
 use Rattle.jiter_steps.proofs.StringComplete.{string-complete, pieces-read}
@@ -98,10 +99,6 @@ pub string_at-no_memory : (form : Form) (t : List ℕ) (i : ℕ) → i < length 
 string_at-no_memory form t i h = let f = fine t i h form in f.no_memory
 
 -- ---- the grammar
-pieces-ahead : (t : List ℕ) (ps : List Piece) (i q : ℕ) → SpellsPieces t i ps q → i ≤ q
-pieces-ahead t [] i q h = omega (arith, h)
-pieces-ahead t (p ∷ ps) i q h = let x = stands-length t i p.end h.0.bytes h.0.stands in omega (arith, pieces-ahead t ps p.end q h.1)
-
 -- where a string lies
 pub string-ordered : (t : List ℕ) (i e : ℕ) (ps : List Piece) → SpellsString t i ps e → (i < e) × (e ≤ length t) × (slice_get t i ≡ Some 34)
 string-ordered t i e ps s =

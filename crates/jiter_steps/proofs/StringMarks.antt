@@ -2,7 +2,7 @@
 use Rattle.std.proofs.Common.{◌≡◌, ◌≢◌, inl, inr, ℕ, zero, suc, ◌+◌, ◌-◌, ◌<◌, ◌≤◌, ◌==◌, Bool, true, false, List, length, drop, get_or, refl, sym, ap, ◌∙◌, subst, arith}
 use Rattle.std.specs.Prelude.{slice_get, slice_range, Some, None}
 use Rattle.std.proofs.lemmas.Bool.{cases_eq, true≢false, ne_eqb}
-use Rattle.std.proofs.lemmas.Option.{slice_get-get_or, slice_get_within, get_or_from_slice_get}
+use Rattle.std.proofs.lemmas.Option.{slice_get-get_or, slice_get_within, get_or_from_slice_get, same_Some}
 use Rattle.std.proofs.lemmas.List.{length-take, length-drop, get_or-take, get_or-drop}
 use Rattle.std.proofs.lemmas.List.Folds.{list_any_at, list_any_none}
 use Rattle.jiter_steps.specs.Node.{has_backslash}
@@ -16,9 +16,6 @@ EndOf t (closed f) e = f ≡ e
 EndOf t unclosed e = length t ≡ e
 EndOf t cut e = length t ≡ e
 EndOf t (wrong k j) e = ⊥
-
-some_one : {a b : ℕ} → Some a ≡ Some b → a ≡ b
-some_one h = cc
 
 module _ (t : List ℕ) where
   abbrev pub Tells : ℕ → ℕ → Body → Type 0
@@ -40,7 +37,7 @@ module _ (t : List ℕ) where
         (
           λ o. let x = r.0.0 o in (x.0, omega (arith, x.1), x.2, x.3),
           λ o x l m. elim (cases_eq x i) [
-            | inl here ↦ λ e. h.no_backslash (some_one (sym h.here ∙ subst (λ y. slice_get t y ≡ Some 92) here e))
+            | inl here ↦ λ e. h.no_backslash (same_Some _ _ (sym h.here ∙ subst (λ y. slice_get t y ≡ Some 92) here e))
             | inr other ↦ r.0.1 o x (omega arith) m
           ],
         ),
@@ -48,7 +45,7 @@ module _ (t : List ℕ) where
       )
   joined-tells n i e p q go (over (closed f)) h s =
       let at : e ≡ i + 1 = sym s ∙ h.1 in
-      ((λ o. absurd (true≢false (sym o)), λ o x l m z. let here : x ≡ i = omega arith in let no : 34 ≡ 92 = some_one (sym h.0 ∙ subst (λ y. slice_get t y ≡ Some 92) here z) in absurd (omega arith)), omega arith)
+      ((λ o. absurd (true≢false (sym o)), λ o x l m z. let here : x ≡ i = omega arith in let no : 34 ≡ 92 = same_Some _ _ (sym h.0 ∙ subst (λ y. slice_get t y ≡ Some 92) here z) in absurd (omega arith)), omega arith)
   joined-tells n i e p q go (over unclosed) h s =
       ((λ o. absurd (true≢false (sym o)), λ o x l m z. absurd (outside i h (omega (arith, s)))), omega (arith, s))
   joined-tells n i e p q go (over cut) h s =
@@ -99,6 +96,6 @@ mark-is t i e q within s = by _ refl where
   by : (b : Bool) → (body_at t (i + 1)).owned ≡ b → (body_at t (i + 1)).owned ≡ has_backslash t i e
   by true o = let x = marks.0 o in o ∙ sym (some-backslash t i e within x.0 (omega (arith, x.1)) x.2 x.3)
   by false o = o ∙ sym (none-backslash t i e within (λ x l m h. elim (cases_eq x i) [
-    | inl here ↦ let no : 34 ≡ 92 = some_one (sym q ∙ subst (λ y. slice_get t y ≡ Some 92) here h) in absurd (omega arith)
+    | inl here ↦ let no : 34 ≡ 92 = same_Some _ _ (sym q ∙ subst (λ y. slice_get t y ≡ Some 92) here h) in absurd (omega arith)
     | inr other ↦ marks.1 o x (omega arith) m h
   ]))

@@ -14,7 +14,8 @@ use Rattle.jiter_scan.specs.Scanned.{taken, failed}
 use Rattle.jiter_steps.specs.Tree.{Text}
 use Rattle.jiter_steps.specs.StringReading.{Stop, closed, unclosed, cut, wrong, Found, part, over, found_at, end_of, pieces_from, Body, body_at, whole, content_at, string_at, ended}
 use Rattle.jiter_steps.proofs.Utf8Shape.{Follows, AllFollow, Lead, lead}
-use Rattle.jiter_steps.proofs.StringStand.{if_case, stands-length}
+use Rattle.jiter_scan.proofs.Choices.{if_case}
+use Rattle.jiter_scan.proofs.Standing.{stands-length}
 use Rattle.jiter_steps.proofs.PlacesExplained.{Explains, explained}
 use Rattle.jiter_steps.proofs.Bodies.{body_at-found}
 use Rattle.jiter_steps.proofs.StringComplete.{ArePrinted, plain-printed, found-byte, found-escape, string-complete}

@@ -12,6 +12,7 @@ ghost use Rattle.jiter_steps.specs.declared.string_decoder.Ending.TheVariants as
 
 use crate::fault::{Fault, Refusal};
 use jiter_scan::JsonErrorType;
+use jiter_scan::word::byte_at;
 use std::alloc::{AllocError, Global};
 use std::borrow::CowStr;
 
@@ -37,12 +38,6 @@ enum Ending {
 enum Place {
     Escape(char, usize),
     End(Ending),
-}
-
-fn byte_at(bytes: &[u8], at: usize) -> Option<u8>
-    ensures value { result ≡ slice_get bytes.now at }
-{
-    bytes.get(at).copied()
 }
 
 fn digit(byte: u8) -> Option<u32>
