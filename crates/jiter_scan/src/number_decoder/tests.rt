@@ -4,12 +4,20 @@ use crate::number_decoder::{Integer, NumberAny, NumberInt, int_at, number_at};
 use std::alloc::{AllocError, Global};
 use std::test::*;
 
+fn int_number<'j>(value: i64) -> NumberAny<'j> {
+    NumberAny::Int(NumberInt::Int(value))
+}
+
+fn big_number(text: &str) -> NumberAny {
+    NumberAny::Int(NumberInt::BigInt(text))
+}
+
 fn int<'j>(value: i64) -> JsonResult<NumberAny<'j>> {
-    Ok(NumberAny::Int(NumberInt::Int(value)))
+    Ok(int_number(value))
 }
 
 fn big(text: &str) -> JsonResult<NumberAny> {
-    Ok(NumberAny::Int(NumberInt::BigInt(text)))
+    Ok(big_number(text))
 }
 
 fn float(text: &str) -> JsonResult<NumberAny> {
@@ -128,11 +136,13 @@ fn digit_limit(rt: HostRuntime) -> Result<(), Fail> {
             refused(JsonErrorType::NumberOutOfRange, index)
         );
     }
-    let digits = spelled(rt.alloc(), "", b'1', 4301, "")?;
-    assert_eq!(rt;
-        NumberInt::from_bytes(&digits),
-        refused_int(JsonErrorType::NumberOutOfRange, 4301)
-    );
+    for count in [4301, 4302, 9000] {
+        let digits = spelled(rt.alloc(), "", b'1', count, "")?;
+        assert_eq!(rt;
+            NumberInt::from_bytes(&digits),
+            refused_int(JsonErrorType::NumberOutOfRange, 4301)
+        );
+    }
     Ok(())
 }
 
@@ -193,4 +203,35 @@ fn integers_at_a_place(rt: HostRuntime) {
     );
     assert_eq!(rt; int_at(b"[1.5]", 1), Ok(Integer::FloatSeen(2)));
     assert_eq!(rt; int_at(b"-Infinity", 0), Ok(Integer::FloatSeen(1)));
+}
+
+#[test]
+fn clones_are_equal(rt: HostRuntime) -> Result<(), Fail> {
+    for integer in [NumberInt::Int(-7), NumberInt::BigInt("9223372036854775808")] {
+        assert_eq!(rt; integer.clone()?, integer);
+    }
+    for number in [
+        int_number(-7),
+        big_number("9223372036854775808"),
+        NumberAny::Float("2.50"),
+    ] {
+        assert_eq!(rt; number.clone()?, number);
+    }
+    Ok(())
+}
+
+#[test]
+fn unlike_numbers_are_unequal(rt: HostRuntime) {
+    for (left, right) in [
+        (int_number(1), int_number(2)),
+        (
+            big_number("9223372036854775808"),
+            big_number("9223372036854775809"),
+        ),
+        (NumberAny::Float("1.0"), NumberAny::Float("1.00")),
+        (int_number(1), big_number("1")),
+        (big_number("1"), NumberAny::Float("1")),
+    ] {
+        assert!(rt; left != right);
+    }
 }
