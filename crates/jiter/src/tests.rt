@@ -470,6 +470,7 @@ fn each_refused_request_is_told(rt: HostRuntime) -> Result<(), Fail> {
 fn some_values_want_no_memory(rt: HostRuntime) -> Result<(), Fail> {
     let alloc = rt.alloc();
     let held = Held::all(alloc)?;
+    let letter = String::from_str(alloc, "a");
     let answers = [
         (JsonValue::parse(alloc, b"true", false), "true"),
         (JsonValue::parse(alloc, b"12", false), "12"),
@@ -478,6 +479,7 @@ fn some_values_want_no_memory(rt: HostRuntime) -> Result<(), Fail> {
         (JsonValue::parse(alloc, b"{ }", false), "{}"),
     ];
     drop(held);
+    assert!(rt; letter.is_err());
     for (answer, wanted) in answers {
         assert_eq!(rt; shown(alloc, &answer?)?.as_str(), wanted);
     }
