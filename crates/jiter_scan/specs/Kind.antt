@@ -79,50 +79,14 @@ kind_of code.OutOfMemory = out_of_memory
 
 -- the input ended too early
 abbrev pub is_end_kind : Kind → Bool
-is_end_kind float_expecting_int = false
 is_end_kind eof_list = true
 is_end_kind eof_object = true
 is_end_kind eof_string = true
 is_end_kind eof_value = true
-is_end_kind expected_colon = false
-is_end_kind expected_list_comma_or_end = false
-is_end_kind expected_object_comma_or_end = false
-is_end_kind expected_ident = false
-is_end_kind expected_value = false
-is_end_kind invalid_escape = false
-is_end_kind invalid_number = false
-is_end_kind number_out_of_range = false
-is_end_kind invalid_code_point = false
-is_end_kind control_character = false
-is_end_kind key_must_be_a_string = false
-is_end_kind lone_surrogate = false
-is_end_kind trailing_comma = false
-is_end_kind trailing_characters = false
-is_end_kind end_of_hex_escape = false
-is_end_kind recursion_limit = false
-is_end_kind out_of_memory = false
+is_end_kind k = false
 
 -- what a partial mode forgives inside a container
 abbrev pub is_forgiven : Kind → Bool
-is_forgiven float_expecting_int = false
-is_forgiven eof_list = true
-is_forgiven eof_object = true
-is_forgiven eof_string = true
-is_forgiven eof_value = true
-is_forgiven expected_colon = false
 is_forgiven expected_list_comma_or_end = true
 is_forgiven expected_object_comma_or_end = true
-is_forgiven expected_ident = false
-is_forgiven expected_value = false
-is_forgiven invalid_escape = false
-is_forgiven invalid_number = false
-is_forgiven number_out_of_range = false
-is_forgiven invalid_code_point = false
-is_forgiven control_character = false
-is_forgiven key_must_be_a_string = false
-is_forgiven lone_surrogate = false
-is_forgiven trailing_comma = false
-is_forgiven trailing_characters = false
-is_forgiven end_of_hex_escape = false
-is_forgiven recursion_limit = false
-is_forgiven out_of_memory = false
+is_forgiven k = is_end_kind k

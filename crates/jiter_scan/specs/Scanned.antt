@@ -1,5 +1,5 @@
 -- What reading a scalar or a key from the left gives, and what a function of the code says of it.
-use Rattle.std.specs.Prelude.{◌≡◌, ◌≢◌, ℕ, Result, Ok, Err}
+use Rattle.std.specs.Prelude.{◌≡◌, ◌≢◌, ◌≤◌, ℕ, List, length, Result, Ok, Err}
 use Rattle.jiter_scan.specs.Kind.{Kind, kind_of, out_of_memory}
 use Rattle.jiter_scan.specs.declared.errors.JsonError.{JsonError}
 
@@ -23,6 +23,7 @@ abbrev pub Answers : {X A : Type 0} → (X → A) → ℕ → Result X JsonError
 Answers view end (Ok x) s = s ≡ taken (view x) end
 Answers view end (Err e) s = s ≡ failed (kind_of e.error_type) e.index
 
--- The fault tells of the bytes: it is not want of memory.
-abbrev pub TellsOfBytes : JsonError → Type 0
-TellsOfBytes e = kind_of e.error_type ≢ out_of_memory
+-- A fault of this text's bytes: it is not want of memory, and its index does not pass the length.
+pub record IsFaultOf (t : List ℕ) (e : JsonError) : Type 0 where
+  pub kind : kind_of e.error_type ≢ out_of_memory
+  pub index : e.index ≤ length t

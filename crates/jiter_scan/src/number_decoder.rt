@@ -1,7 +1,7 @@
 //! Numbers: integers that 64 signed bits hold, and the text of all others (RFC 8259, 6).
 ghost use Rattle.std.specs.Prelude.{◌≡◌, ◌+◌, ◌<◌, ◌≤◌, ◌==◌, ◌||◌, IfOk, IfErr, min, length, slice_get, slice_index, slice_range, Some, true};
 ghost use Rattle.std.specs.Str.{IsAscii};
-ghost use Rattle.jiter_scan.specs.Scanned.{Scans, Ends, Answers, TellsOfBytes, taken};
+ghost use Rattle.jiter_scan.specs.Scanned.{Scans, Ends, Answers, IsFaultOf, taken};
 ghost use Rattle.jiter_scan.specs.Word.{word_at};
 ghost use Rattle.jiter_scan.specs.Digits.{is_digit, digit_run};
 ghost use Rattle.jiter_scan.specs.Number.{digit_limit, is_float_byte, positive_value, negative_value, number_value};
@@ -37,8 +37,7 @@ impl<'j> NumberInt<'j> {
     /// 4300 digits `NumberOutOfRange` behind the 4301st.
     pub fn from_bytes(bytes: &'j [u8]) -> JsonResult<Self>
         ensures value { Answers int_view (length bytes.now) result (int_alone bytes.now) }
-        ensures memory { IfErr result TellsOfBytes }
-        ensures index { IfErr result (λ e. e.index ≤ length bytes.now) }
+        ensures fault { IfErr result (IsFaultOf bytes.now) }
     {
         if !bytes.first().copied().is_some_and(begins_number) {
             return Err(fault(JsonErrorType::InvalidNumber, 0));
@@ -62,8 +61,7 @@ impl<'j> TryFrom<&'j [u8]> for NumberInt<'j> {
 
     ghost try_from_gives = { λ bytes result.
         Answers int_view (length bytes.now) result (int_alone bytes.now)
-        × IfErr result TellsOfBytes
-        × IfErr result (λ e. e.index ≤ length bytes.now) };
+        × IfErr result (IsFaultOf bytes.now) };
 
     fn try_from(bytes: &'j [u8]) -> JsonResult<Self> {
         Self::from_bytes(bytes)
@@ -79,8 +77,7 @@ impl<'j> NumberAny<'j> {
     pub fn from_bytes(bytes: &'j [u8], allow_inf_nan: bool) -> JsonResult<Self>
         ensures value { Answers number_view (length bytes.now) result
             (number_alone allow_inf_nan bytes.now) }
-        ensures memory { IfErr result TellsOfBytes }
-        ensures index { IfErr result (λ e. e.index ≤ length bytes.now) }
+        ensures fault { IfErr result (IsFaultOf bytes.now) }
     {
         if !bytes.first().copied().is_some_and(begins_number) {
             return Err(fault(JsonErrorType::InvalidNumber, 0));
@@ -157,8 +154,7 @@ fn digits_end(bytes: &[u8], from: usize) -> JsonResult<usize>
     requires { from ≤ length bytes.now }
     ensures value { Ends result (digits_from bytes.now from (slice_get bytes.now from)) }
     ensures place { IfOk result (λ e. (from ≤ e) × (e ≤ length bytes.now)) }
-    ensures memory { IfErr result TellsOfBytes }
-    ensures index { IfErr result (λ e. e.index ≤ length bytes.now) }
+    ensures fault { IfErr result (IsFaultOf bytes.now) }
 {
     match byte_at(bytes, from) {
         None => Err(fault(JsonErrorType::EofWhileParsingValue, from)),
@@ -179,8 +175,7 @@ fn zero_read(bytes: &[u8], at: usize) -> JsonResult<(u64, usize)>
     ensures place { IfOk result (λ x. (at < x.1) × (x.1 ≤ length bytes.now)) }
     ensures magnitude { IfOk result
         (λ x. x.0 ≡ magnitude_of (slice_range bytes.now at x.1)) }
-    ensures memory { IfErr result TellsOfBytes }
-    ensures index { IfErr result (λ e. e.index ≤ length bytes.now) }
+    ensures fault { IfErr result (IsFaultOf bytes.now) }
 {
     match byte_at(bytes, at + 1) {
         None => Ok((0, at + 1)),
@@ -202,8 +197,7 @@ fn limited_read(bytes: &[u8], at: usize) -> JsonResult<(u64, usize)>
     ensures place { IfOk result (λ x. (at < x.1) × (x.1 ≤ length bytes.now)) }
     ensures magnitude { IfOk result
         (λ x. x.0 ≡ magnitude_of (slice_range bytes.now at x.1)) }
-    ensures memory { IfErr result TellsOfBytes }
-    ensures index { IfErr result (λ e. e.index ≤ length bytes.now) }
+    ensures fault { IfErr result (IsFaultOf bytes.now) }
 {
     let (magnitude, end) = digits_read(bytes, at);
     if end - at <= DIGIT_LIMIT {
@@ -220,8 +214,7 @@ fn whole_read(bytes: &[u8], at: usize) -> JsonResult<(u64, usize)>
     ensures place { IfOk result (λ x. (at < x.1) × (x.1 ≤ length bytes.now)) }
     ensures magnitude { IfOk result
         (λ x. x.0 ≡ magnitude_of (slice_range bytes.now at x.1)) }
-    ensures memory { IfErr result TellsOfBytes }
-    ensures index { IfErr result (λ e. e.index ≤ length bytes.now) }
+    ensures fault { IfErr result (IsFaultOf bytes.now) }
 {
     match byte_at(bytes, at) {
         None => Err(fault(JsonErrorType::EofWhileParsingValue, at)),
@@ -242,8 +235,7 @@ fn fraction_end(bytes: &[u8], at: usize) -> JsonResult<usize>
     requires { at ≤ length bytes.now }
     ensures value { Ends result (fraction_at bytes.now at) }
     ensures place { IfOk result (λ e. (at ≤ e) × (e ≤ length bytes.now)) }
-    ensures memory { IfErr result TellsOfBytes }
-    ensures index { IfErr result (λ e. e.index ≤ length bytes.now) }
+    ensures fault { IfErr result (IsFaultOf bytes.now) }
 {
     match byte_at(bytes, at) {
         None => Ok(at),
@@ -262,8 +254,7 @@ fn power_end(bytes: &[u8], at: usize) -> JsonResult<usize>
     requires { at ≤ length bytes.now }
     ensures value { Ends result (power_from bytes.now at (slice_get bytes.now at)) }
     ensures place { IfOk result (λ e. (at ≤ e) × (e ≤ length bytes.now)) }
-    ensures memory { IfErr result TellsOfBytes }
-    ensures index { IfErr result (λ e. e.index ≤ length bytes.now) }
+    ensures fault { IfErr result (IsFaultOf bytes.now) }
 {
     match byte_at(bytes, at) {
         None => Err(fault(JsonErrorType::EofWhileParsingValue, at)),
@@ -282,8 +273,7 @@ fn exponent_end(bytes: &[u8], at: usize) -> JsonResult<usize>
     requires { at ≤ length bytes.now }
     ensures value { Ends result (exponent_at bytes.now at) }
     ensures place { IfOk result (λ e. (at ≤ e) × (e ≤ length bytes.now)) }
-    ensures memory { IfErr result TellsOfBytes }
-    ensures index { IfErr result (λ e. e.index ≤ length bytes.now) }
+    ensures fault { IfErr result (IsFaultOf bytes.now) }
 {
     match byte_at(bytes, at) {
         None => Ok(at),
@@ -361,8 +351,7 @@ fn tail_end(bytes: &[u8], at: usize) -> JsonResult<usize>
     requires { at ≤ length bytes.now }
     ensures value { Ends result (extent_then (fraction_at bytes.now at) (exponent_at bytes.now)) }
     ensures place { IfOk result (λ e. (at ≤ e) × (e ≤ length bytes.now)) }
-    ensures memory { IfErr result TellsOfBytes }
-    ensures index { IfErr result (λ e. e.index ≤ length bytes.now) }
+    ensures fault { IfErr result (IsFaultOf bytes.now) }
 {
     let end = fraction_end(bytes, at)?;
     exponent_end(bytes, end)
@@ -374,8 +363,7 @@ fn decimal_read<'j>(bytes: &'j [u8], from: usize, at: usize) -> JsonResult<(Numb
     requires minus { IsMinusTo bytes.now from at }
     ensures value { Scans number_view result (valued bytes.now from (decimal_at bytes.now at)) }
     ensures place { IfOk result (λ x. (at < x.1) × (x.1 ≤ length bytes.now)) }
-    ensures memory { IfErr result TellsOfBytes }
-    ensures index { IfErr result (λ e. e.index ≤ length bytes.now) }
+    ensures fault { IfErr result (IsFaultOf bytes.now) }
 {
     let (magnitude, whole_end) = whole_read(bytes, at)?;
     let end = tail_end(bytes, whole_end)?;
@@ -400,8 +388,7 @@ fn name_read<'j>(
     ensures value { Scans number_view result
         (valued bytes.now from (word_at bytes.now name.now at)) }
     ensures place { IfOk result (λ x. (at < x.1) × (x.1 ≤ length bytes.now)) }
-    ensures memory { IfErr result TellsOfBytes }
-    ensures index { IfErr result (λ e. e.index ≤ length bytes.now) }
+    ensures fault { IfErr result (IsFaultOf bytes.now) }
 {
     let end = word_end(bytes, at, name)?;
     let text = ascii_text(&bytes[from..end]);
@@ -420,8 +407,7 @@ fn allowed_read<'j>(
     ensures value { Scans number_view result
         (valued bytes.now at (name_at allow_inf_nan bytes.now name.now at)) }
     ensures place { IfOk result (λ x. (at < x.1) × (x.1 ≤ length bytes.now)) }
-    ensures memory { IfErr result TellsOfBytes }
-    ensures index { IfErr result (λ e. e.index ≤ length bytes.now) }
+    ensures fault { IfErr result (IsFaultOf bytes.now) }
 {
     if allow_inf_nan {
         name_read(bytes, at, at, name)
@@ -440,8 +426,7 @@ fn negative_read<'j>(
     ensures value { Scans number_view result (valued bytes.now from
         (signed_from allow_inf_nan bytes.now (from + 1) (slice_get bytes.now (from + 1)))) }
     ensures place { IfOk result (λ x. (from < x.1) × (x.1 ≤ length bytes.now)) }
-    ensures memory { IfErr result TellsOfBytes }
-    ensures index { IfErr result (λ e. e.index ≤ length bytes.now) }
+    ensures fault { IfErr result (IsFaultOf bytes.now) }
 {
     let at = from + 1;
     match byte_at(bytes, at) {
@@ -465,6 +450,7 @@ fn negative_read<'j>(
 /// `InvalidNumber` at its index, more than 4300 digits before the point `NumberOutOfRange` behind the 4301st,
 /// a name that is not allowed `ExpectedSomeValue` at its first byte, or `InvalidNumber` behind a minus, and
 /// one that goes wrong `ExpectedSomeIdent`.
+#[tactic(auto, unfolding(crate::specs::NumberReading::number_at))]
 pub fn number_at<'j>(
     bytes: &'j [u8],
     at: usize,
@@ -473,18 +459,21 @@ pub fn number_at<'j>(
     requires { at < length bytes.now }
     ensures value { Scans number_view result (number_at allow_inf_nan bytes.now at) }
     ensures advances { IfOk result (λ x. (at < x.1) × (x.1 ≤ length bytes.now)) }
-    ensures memory { IfErr result TellsOfBytes }
-    ensures index { IfErr result (λ e. e.index ≤ length bytes.now) }
+    ensures fault { IfErr result (IsFaultOf bytes.now) }
 {
-    let first = bytes[at];
-    if first == b'-' {
-        negative_read(bytes, at, allow_inf_nan)
-    } else if first == b'N' {
-        allowed_read(bytes, at, b"NaN", allow_inf_nan)
-    } else if first == b'I' {
-        allowed_read(bytes, at, b"Infinity", allow_inf_nan)
-    } else {
-        decimal_read(bytes, at, at)
+    match byte_at(bytes, at) {
+        None => Err(fault(JsonErrorType::EofWhileParsingValue, at)),
+        Some(byte) => {
+            if byte == b'-' {
+                negative_read(bytes, at, allow_inf_nan)
+            } else if byte == b'N' {
+                allowed_read(bytes, at, b"NaN", allow_inf_nan)
+            } else if byte == b'I' {
+                allowed_read(bytes, at, b"Infinity", allow_inf_nan)
+            } else {
+                decimal_read(bytes, at, at)
+            }
+        }
     }
 }
 
@@ -500,8 +489,7 @@ fn integer_read<'j>(bytes: &'j [u8], from: usize, at: usize) -> JsonResult<Integ
     requires minus { IsMinusTo bytes.now from at }
     ensures value { ScansInteger result (integer_behind bytes.now from (whole_at bytes.now at)) }
     ensures place { IfOk result (EndsWithin at (length bytes.now)) }
-    ensures memory { IfErr result TellsOfBytes }
-    ensures index { IfErr result (λ e. e.index ≤ length bytes.now) }
+    ensures fault { IfErr result (IsFaultOf bytes.now) }
 {
     let (magnitude, end) = whole_read(bytes, at)?;
     if byte_at(bytes, end).is_some_and(is_float_sign) {
@@ -517,8 +505,7 @@ fn negative_int_read<'j>(bytes: &'j [u8], from: usize) -> JsonResult<Integer<'j>
     ensures value { ScansInteger result
         (integer_signed bytes.now from (slice_get bytes.now (from + 1))) }
     ensures place { IfOk result (EndsWithin from (length bytes.now)) }
-    ensures memory { IfErr result TellsOfBytes }
-    ensures index { IfErr result (λ e. e.index ≤ length bytes.now) }
+    ensures fault { IfErr result (IsFaultOf bytes.now) }
 {
     let at = from + 1;
     match byte_at(bytes, at) {
@@ -538,20 +525,24 @@ fn negative_int_read<'j>(bytes: &'j [u8], from: usize) -> JsonResult<Integer<'j>
 ///
 /// Input that ends inside it is `EofWhileParsingValue` at the length, a byte that does not fit
 /// `InvalidNumber` at its index, and more than 4300 digits are `NumberOutOfRange` behind the 4301st.
+#[tactic(auto, unfolding(crate::specs::NumberReading::int_at))]
 pub fn int_at<'j>(bytes: &'j [u8], at: usize) -> JsonResult<Integer<'j>>
     requires { at < length bytes.now }
     ensures value { ScansInteger result (int_at bytes.now at) }
     ensures advances { IfOk result (EndsWithin at (length bytes.now)) }
-    ensures memory { IfErr result TellsOfBytes }
-    ensures index { IfErr result (λ e. e.index ≤ length bytes.now) }
+    ensures fault { IfErr result (IsFaultOf bytes.now) }
 {
-    let first = bytes[at];
-    if first == b'-' {
-        negative_int_read(bytes, at)
-    } else if begins_name(first) {
-        Ok(Integer::FloatSeen(at))
-    } else {
-        integer_read(bytes, at, at)
+    match byte_at(bytes, at) {
+        None => Err(fault(JsonErrorType::EofWhileParsingValue, at)),
+        Some(byte) => {
+            if byte == b'-' {
+                negative_int_read(bytes, at)
+            } else if begins_name(byte) {
+                Ok(Integer::FloatSeen(at))
+            } else {
+                integer_read(bytes, at, at)
+            }
+        }
     }
 }
 

@@ -1,6 +1,6 @@
 //! Words of given bytes, as `true`, read from the left.
 ghost use Rattle.std.specs.Prelude.{◌≡◌, ◌+◌, ◌<◌, ◌≤◌, IfOk, IfErr, IfSome, length, slice_get};
-ghost use Rattle.jiter_scan.specs.Scanned.{Ends, TellsOfBytes};
+ghost use Rattle.jiter_scan.specs.Scanned.{Ends, IsFaultOf};
 ghost use Rattle.jiter_scan.specs.Word.{word_at};
 
 use crate::errors::{JsonError, JsonErrorType, JsonResult};
@@ -20,8 +20,7 @@ pub fn word_end(bytes: &[u8], from: usize, word: &[u8]) -> JsonResult<usize>
     requires { from ≤ length bytes.now }
     ensures value { Ends result (word_at bytes.now word.now from) }
     ensures end { IfOk result (λ e. (e ≡ from + length word.now) × (e ≤ length bytes.now)) }
-    ensures memory { IfErr result TellsOfBytes }
-    ensures index { IfErr result (λ e. e.index ≤ length bytes.now) }
+    ensures fault { IfErr result (IsFaultOf bytes.now) }
 {
     let mut index = from;
     for expected in word {

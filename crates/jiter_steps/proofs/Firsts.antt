@@ -8,7 +8,7 @@ use Rattle.jiter_scan.specs.Kind.{expected_object_comma_or_end, key_must_be_a_st
 use Rattle.jiter_scan.specs.NumberReading.{begins_number}
 use Rattle.jiter_steps.specs.Blank.{past_blanks}
 use Rattle.jiter_steps.specs.Literal.{start_of}
-use Rattle.jiter_steps.specs.Step.{Step, more, closed, stuck, step, object_opened, object_comma, object_continued}
+use Rattle.jiter_steps.specs.Step.{Step, more, closed, stuck, step, object_first, object_comma, object_step}
 use Rattle.jiter_steps.specs.declared.parse.Literal.TheVariants as literal
 use Rattle.jiter_steps.specs.declared.parse.Start.{Start}
 use Rattle.jiter_steps.specs.declared.parse.Start.TheVariants as start
@@ -47,7 +47,7 @@ KeyAt t (closed e) = Unit {0}
 KeyAt t (stuck k j) = Unit {0}
 
 module _ (t : List ℕ) where
-  opened-key : (j : ℕ) (o : Option ℕ) → slice_get t j ≡ o → KeyAt t (object_opened j o)
+  opened-key : (j : ℕ) (o : Option ℕ) → slice_get t j ≡ o → KeyAt t (object_first j o)
   opened-key j None e = tt
   opened-key j (Some c) e = pick (c == 34) (c == 125) refl where
     pick : (y z : Bool) → (c == 34) ≡ y → KeyAt t (cond y (more j) (cond z (closed (j + 1)) (stuck key_must_be_a_string j)))
@@ -55,8 +55,8 @@ module _ (t : List ℕ) where
     pick false true q = tt
     pick false false q = tt
 
-  pub object_opened-key : (i : ℕ) → KeyAt t (step t object_opened i)
-  object_opened-key i = opened-key (past_blanks t i) _ refl
+  pub object_first-key : (i : ℕ) → KeyAt t (step t object_first i)
+  object_first-key i = opened-key (past_blanks t i) _ refl
 
   comma-key : (j : ℕ) (o : Option ℕ) → slice_get t j ≡ o → KeyAt t (object_comma j o)
   comma-key j None e = tt
@@ -69,7 +69,7 @@ module _ (t : List ℕ) where
   pub object_comma-key : (i : ℕ) → KeyAt t (step t object_comma i)
   object_comma-key i = comma-key (past_blanks t i) _ refl
 
-  continued-key : (j : ℕ) (o : Option ℕ) → KeyAt t (object_continued t j o)
+  continued-key : (j : ℕ) (o : Option ℕ) → KeyAt t (object_step t j o)
   continued-key j None = tt
   continued-key j (Some c) = pick (c == 125) (c == 44) where
     pick : (y z : Bool) → KeyAt t (cond y (closed (j + 1)) (cond z (step t object_comma (j + 1)) (stuck expected_object_comma_or_end j)))
@@ -77,5 +77,5 @@ module _ (t : List ℕ) where
     pick false true = object_comma-key (j + 1)
     pick false false = tt
 
-  pub object_continued-key : (i : ℕ) → KeyAt t (step t (object_continued t) i)
-  object_continued-key i = continued-key (past_blanks t i) (slice_get t (past_blanks t i))
+  pub object_step-key : (i : ℕ) → KeyAt t (step t (object_step t) i)
+  object_step-key i = continued-key (past_blanks t i) (slice_get t (past_blanks t i))

@@ -6,7 +6,7 @@ use Rattle.std.proofs.lemmas.Bool.{eqb-true}
 use Rattle.jiter_scan.specs.Kind.{trailing_comma, expected_colon, expected_list_comma_or_end, expected_object_comma_or_end, key_must_be_a_string}
 use Rattle.jiter_steps.specs.Blank.{is_blank, past_blanks, IsBlank}
 use Rattle.jiter_steps.specs.Node.{StandsBehind}
-use Rattle.jiter_steps.specs.Step.{Row, Step, more, closed, stuck, step, step_then, array_opened, array_comma, array_continued, object_opened, object_comma, object_continued, key_colon, value_begins, key_ended}
+use Rattle.jiter_steps.specs.Step.{Row, Step, more, closed, stuck, step, step_then, array_first, array_comma, array_step, object_first, object_comma, object_step, colon, value_first, object_colon}
 use Rattle.jiter_steps.proofs.Nodes.{blank-passed, passed-blank}
 
 -- where a step goes on; where it closes, by the byte closer
@@ -43,15 +43,15 @@ module _ (t : List ℕ) where
   byte-is j c d e h = e ∙ ap Some (eqb-true c d h)
 
   -- sound: what is read is there
-  array_opened-at : (i j : ℕ) → IsBlank t i j → (o : Option ℕ) → slice_get t j ≡ o → StepIs t i 93 (ByteBehind t i) (array_opened j o)
-  array_opened-at i j b None e = tt
-  array_opened-at i j b (Some c) e = pick (c == 93) refl where
+  array_first-at : (i j : ℕ) → IsBlank t i j → (o : Option ℕ) → slice_get t j ≡ o → StepIs t i 93 (ByteBehind t i) (array_first j o)
+  array_first-at i j b None e = tt
+  array_first-at i j b (Some c) e = pick (c == 93) refl where
     pick : (y : Bool) → (c == 93) ≡ y → StepIs t i 93 (ByteBehind t i) (cond y (closed (j + 1)) (more j))
     pick true h = behind i j 93 b (byte-is j c 93 e h)
     pick false h = record { blanks = b; within = slice_get_within t j c e }
 
-  pub array_opened-is : (i : ℕ) → i ≤ length t → StepIs t i 93 (ByteBehind t i) (step t array_opened i)
-  array_opened-is i h = array_opened-at i (past_blanks t i) (passed-blank t i h) _ refl
+  pub array_first-is : (i : ℕ) → i ≤ length t → StepIs t i 93 (ByteBehind t i) (step t array_first i)
+  array_first-is i h = array_first-at i (past_blanks t i) (passed-blank t i h) _ refl
 
   array_comma-at : (i j : ℕ) → IsBlank t i j → (o : Option ℕ) → slice_get t j ≡ o → OpenStepIs (ByteBehind t i) (array_comma j o)
   array_comma-at i j b None e = tt
@@ -66,9 +66,9 @@ module _ (t : List ℕ) where
   sign-then i c sign closer Then (closed e) b h = absurd h
   sign-then i c sign closer Then (stuck k j) b h = tt
 
-  array_continued-at : (i j : ℕ) → IsBlank t i j → (o : Option ℕ) → slice_get t j ≡ o → StepIs t i 93 (Behind t i 44 (ByteBehind t)) (array_continued t j o)
-  array_continued-at i j b None e = tt
-  array_continued-at i j b (Some c) e = pick (c == 93) (c == 44) refl refl where
+  array_step-at : (i j : ℕ) → IsBlank t i j → (o : Option ℕ) → slice_get t j ≡ o → StepIs t i 93 (Behind t i 44 (ByteBehind t)) (array_step t j o)
+  array_step-at i j b None e = tt
+  array_step-at i j b (Some c) e = pick (c == 93) (c == 44) refl refl where
     pick : (y z : Bool) → (c == 93) ≡ y → (c == 44) ≡ z → StepIs t i 93 (Behind t i 44 (ByteBehind t)) (cond y (closed (j + 1)) (cond z (step t array_comma (j + 1)) (stuck expected_list_comma_or_end j)))
     pick true z h g = behind i j 93 b (byte-is j c 93 e h)
     pick false true h g =
@@ -77,19 +77,19 @@ module _ (t : List ℕ) where
         (array_comma-at (j + 1) (past_blanks t (j + 1)) (passed-blank t (j + 1) (omega arith)) _ refl)
     pick false false h g = tt
 
-  pub array_continued-is : (i : ℕ) → i ≤ length t → StepIs t i 93 (Behind t i 44 (ByteBehind t)) (step t (array_continued t) i)
-  array_continued-is i h = array_continued-at i (past_blanks t i) (passed-blank t i h) _ refl
+  pub array_step-is : (i : ℕ) → i ≤ length t → StepIs t i 93 (Behind t i 44 (ByteBehind t)) (step t (array_step t) i)
+  array_step-is i h = array_step-at i (past_blanks t i) (passed-blank t i h) _ refl
 
-  object_opened-at : (i j : ℕ) → IsBlank t i j → (o : Option ℕ) → slice_get t j ≡ o → StepIs t i 125 (QuoteBehind t i) (object_opened j o)
-  object_opened-at i j b None e = tt
-  object_opened-at i j b (Some c) e = pick (c == 34) (c == 125) refl refl where
+  object_first-at : (i j : ℕ) → IsBlank t i j → (o : Option ℕ) → slice_get t j ≡ o → StepIs t i 125 (QuoteBehind t i) (object_first j o)
+  object_first-at i j b None e = tt
+  object_first-at i j b (Some c) e = pick (c == 34) (c == 125) refl refl where
     pick : (y z : Bool) → (c == 34) ≡ y → (c == 125) ≡ z → StepIs t i 125 (QuoteBehind t i) (cond y (more j) (cond z (closed (j + 1)) (stuck key_must_be_a_string j)))
     pick true z h g = record { blanks = b; here = byte-is j c 34 e h }
     pick false true h g = behind i j 125 b (byte-is j c 125 e g)
     pick false false h g = tt
 
-  pub object_opened-is : (i : ℕ) → i ≤ length t → StepIs t i 125 (QuoteBehind t i) (step t object_opened i)
-  object_opened-is i h = object_opened-at i (past_blanks t i) (passed-blank t i h) _ refl
+  pub object_first-is : (i : ℕ) → i ≤ length t → StepIs t i 125 (QuoteBehind t i) (step t object_first i)
+  object_first-is i h = object_first-at i (past_blanks t i) (passed-blank t i h) _ refl
 
   object_comma-at : (i j : ℕ) → IsBlank t i j → (o : Option ℕ) → slice_get t j ≡ o → OpenStepIs (QuoteBehind t i) (object_comma j o)
   object_comma-at i j b None e = tt
@@ -99,9 +99,9 @@ module _ (t : List ℕ) where
     pick false true h = tt
     pick false false h = tt
 
-  object_continued-at : (i j : ℕ) → IsBlank t i j → (o : Option ℕ) → slice_get t j ≡ o → StepIs t i 125 (Behind t i 44 (QuoteBehind t)) (object_continued t j o)
-  object_continued-at i j b None e = tt
-  object_continued-at i j b (Some c) e = pick (c == 125) (c == 44) refl refl where
+  object_step-at : (i j : ℕ) → IsBlank t i j → (o : Option ℕ) → slice_get t j ≡ o → StepIs t i 125 (Behind t i 44 (QuoteBehind t)) (object_step t j o)
+  object_step-at i j b None e = tt
+  object_step-at i j b (Some c) e = pick (c == 125) (c == 44) refl refl where
     pick : (y z : Bool) → (c == 125) ≡ y → (c == 44) ≡ z → StepIs t i 125 (Behind t i 44 (QuoteBehind t)) (cond y (closed (j + 1)) (cond z (step t object_comma (j + 1)) (stuck expected_object_comma_or_end j)))
     pick true z h g = behind i j 125 b (byte-is j c 125 e h)
     pick false true h g =
@@ -110,64 +110,64 @@ module _ (t : List ℕ) where
         (object_comma-at (j + 1) (past_blanks t (j + 1)) (passed-blank t (j + 1) (omega arith)) _ refl)
     pick false false h g = tt
 
-  pub object_continued-is : (i : ℕ) → i ≤ length t → StepIs t i 125 (Behind t i 44 (QuoteBehind t)) (step t (object_continued t) i)
-  object_continued-is i h = object_continued-at i (past_blanks t i) (passed-blank t i h) _ refl
+  pub object_step-is : (i : ℕ) → i ≤ length t → StepIs t i 125 (Behind t i 44 (QuoteBehind t)) (step t (object_step t) i)
+  object_step-is i h = object_step-at i (past_blanks t i) (passed-blank t i h) _ refl
 
-  value_begins-at : (i j : ℕ) → IsBlank t i j → (o : Option ℕ) → slice_get t j ≡ o → OpenStepIs (ByteBehind t i) (value_begins j o)
-  value_begins-at i j b None e = tt
-  value_begins-at i j b (Some c) e = record { blanks = b; within = slice_get_within t j c e }
+  value_first-at : (i j : ℕ) → IsBlank t i j → (o : Option ℕ) → slice_get t j ≡ o → OpenStepIs (ByteBehind t i) (value_first j o)
+  value_first-at i j b None e = tt
+  value_first-at i j b (Some c) e = record { blanks = b; within = slice_get_within t j c e }
 
   colon-then : (i c : ℕ) (s : Step) → StandsBehind t i 58 c → OpenStepIs (ByteBehind t c) s → OpenStepIs (Behind t i 58 (ByteBehind t)) s
   colon-then i c (more j) b h = (c, b, h)
   colon-then i c (closed e) b h = absurd h
   colon-then i c (stuck k j) b h = tt
 
-  key_colon-at : (i j : ℕ) → IsBlank t i j → (o : Option ℕ) → slice_get t j ≡ o → OpenStepIs (Behind t i 58 (ByteBehind t)) (step_then (key_colon j o) (λ k. step t value_begins k))
-  key_colon-at i j b None e = tt
-  key_colon-at i j b (Some c) e = pick (c == 58) refl where
-    pick : (y : Bool) → (c == 58) ≡ y → OpenStepIs (Behind t i 58 (ByteBehind t)) (step_then (cond y (more (j + 1)) (stuck expected_colon j)) (λ k. step t value_begins k))
+  colon-at : (i j : ℕ) → IsBlank t i j → (o : Option ℕ) → slice_get t j ≡ o → OpenStepIs (Behind t i 58 (ByteBehind t)) (step_then (colon j o) (λ k. step t value_first k))
+  colon-at i j b None e = tt
+  colon-at i j b (Some c) e = pick (c == 58) refl where
+    pick : (y : Bool) → (c == 58) ≡ y → OpenStepIs (Behind t i 58 (ByteBehind t)) (step_then (cond y (more (j + 1)) (stuck expected_colon j)) (λ k. step t value_first k))
     pick true h =
         let inside = slice_get_within t j c e in
-        colon-then i (j + 1) (step t value_begins (j + 1)) (behind i j 58 b (byte-is j c 58 e h))
-        (value_begins-at (j + 1) (past_blanks t (j + 1)) (passed-blank t (j + 1) (omega arith)) _ refl)
+        colon-then i (j + 1) (step t value_first (j + 1)) (behind i j 58 b (byte-is j c 58 e h))
+        (value_first-at (j + 1) (past_blanks t (j + 1)) (passed-blank t (j + 1) (omega arith)) _ refl)
     pick false h = tt
 
-  pub key_ended-is : (i : ℕ) → i ≤ length t → OpenStepIs (Behind t i 58 (ByteBehind t)) (key_ended t i)
-  key_ended-is i h = key_colon-at i (past_blanks t i) (passed-blank t i h) _ refl
+  pub object_colon-is : (i : ℕ) → i ≤ length t → OpenStepIs (Behind t i 58 (ByteBehind t)) (object_colon t i)
+  object_colon-is i h = colon-at i (past_blanks t i) (passed-blank t i h) _ refl
 
   -- complete: what is there is read
   pub row-at : (row : Row) (i j c : ℕ) → IsBlank t i j → slice_get t j ≡ Some c → is_blank c ≡ false → step t row i ≡ row j (Some c)
   row-at row i j c b e other = ap (λ k. row k (slice_get t k)) (blank-passed t i j c b e other) ∙ ap (row j) e
 
-  pub array_opened-closed : (i e : ℕ) → StandsBehind t i 93 e → step t array_opened i ≡ closed e
-  array_opened-closed i e h = row-at array_opened i h.at 93 h.blanks h.here refl ∙ ap closed (sym h.ends)
+  pub array_first-closed : (i e : ℕ) → StandsBehind t i 93 e → step t array_first i ≡ closed e
+  array_first-closed i e h = row-at array_first i h.at 93 h.blanks h.here refl ∙ ap closed (sym h.ends)
 
-  pub array_opened-more : (i j c : ℕ) → IsBlank t i j → slice_get t j ≡ Some c → is_blank c ≡ false → (c == 93) ≡ false → step t array_opened i ≡ more j
-  array_opened-more i j c b e other apart = row-at array_opened i j c b e other ∙ ap (λ y. cond y (closed (j + 1)) (more j)) apart
+  pub array_first-more : (i j c : ℕ) → IsBlank t i j → slice_get t j ≡ Some c → is_blank c ≡ false → (c == 93) ≡ false → step t array_first i ≡ more j
+  array_first-more i j c b e other apart = row-at array_first i j c b e other ∙ ap (λ y. cond y (closed (j + 1)) (more j)) apart
 
-  pub array_continued-closed : (i e : ℕ) → StandsBehind t i 93 e → step t (array_continued t) i ≡ closed e
-  array_continued-closed i e h = row-at (array_continued t) i h.at 93 h.blanks h.here refl ∙ ap closed (sym h.ends)
+  pub array_step-closed : (i e : ℕ) → StandsBehind t i 93 e → step t (array_step t) i ≡ closed e
+  array_step-closed i e h = row-at (array_step t) i h.at 93 h.blanks h.here refl ∙ ap closed (sym h.ends)
 
   array_comma-more : (i j c : ℕ) → IsBlank t i j → slice_get t j ≡ Some c → is_blank c ≡ false → (c == 93) ≡ false → step t array_comma i ≡ more j
   array_comma-more i j c b e other apart = row-at array_comma i j c b e other ∙ ap (λ y. cond y (stuck trailing_comma j) (more j)) apart
 
-  pub array_continued-more : (i m j c : ℕ) → StandsBehind t i 44 m → IsBlank t m j → slice_get t j ≡ Some c → is_blank c ≡ false → (c == 93) ≡ false → step t (array_continued t) i ≡ more j
-  array_continued-more i m j c h b e other apart =
-      row-at (array_continued t) i h.at 44 h.blanks h.here refl ∙ ap (step t array_comma) (sym h.ends) ∙ array_comma-more m j c b e other apart
+  pub array_step-more : (i m j c : ℕ) → StandsBehind t i 44 m → IsBlank t m j → slice_get t j ≡ Some c → is_blank c ≡ false → (c == 93) ≡ false → step t (array_step t) i ≡ more j
+  array_step-more i m j c h b e other apart =
+      row-at (array_step t) i h.at 44 h.blanks h.here refl ∙ ap (step t array_comma) (sym h.ends) ∙ array_comma-more m j c b e other apart
 
-  pub object_opened-closed : (i e : ℕ) → StandsBehind t i 125 e → step t object_opened i ≡ closed e
-  object_opened-closed i e h = row-at object_opened i h.at 125 h.blanks h.here refl ∙ ap closed (sym h.ends)
+  pub object_first-closed : (i e : ℕ) → StandsBehind t i 125 e → step t object_first i ≡ closed e
+  object_first-closed i e h = row-at object_first i h.at 125 h.blanks h.here refl ∙ ap closed (sym h.ends)
 
-  pub object_opened-more : (i j : ℕ) → IsBlank t i j → slice_get t j ≡ Some 34 → step t object_opened i ≡ more j
-  object_opened-more i j b e = row-at object_opened i j 34 b e refl
+  pub object_first-more : (i j : ℕ) → IsBlank t i j → slice_get t j ≡ Some 34 → step t object_first i ≡ more j
+  object_first-more i j b e = row-at object_first i j 34 b e refl
 
-  pub object_continued-closed : (i e : ℕ) → StandsBehind t i 125 e → step t (object_continued t) i ≡ closed e
-  object_continued-closed i e h = row-at (object_continued t) i h.at 125 h.blanks h.here refl ∙ ap closed (sym h.ends)
+  pub object_step-closed : (i e : ℕ) → StandsBehind t i 125 e → step t (object_step t) i ≡ closed e
+  object_step-closed i e h = row-at (object_step t) i h.at 125 h.blanks h.here refl ∙ ap closed (sym h.ends)
 
-  pub object_continued-more : (i m j : ℕ) → StandsBehind t i 44 m → IsBlank t m j → slice_get t j ≡ Some 34 → step t (object_continued t) i ≡ more j
-  object_continued-more i m j h b e =
-      row-at (object_continued t) i h.at 44 h.blanks h.here refl ∙ ap (step t object_comma) (sym h.ends) ∙ row-at object_comma m j 34 b e refl
+  pub object_step-more : (i m j : ℕ) → StandsBehind t i 44 m → IsBlank t m j → slice_get t j ≡ Some 34 → step t (object_step t) i ≡ more j
+  object_step-more i m j h b e =
+      row-at (object_step t) i h.at 44 h.blanks h.here refl ∙ ap (step t object_comma) (sym h.ends) ∙ row-at object_comma m j 34 b e refl
 
-  pub key_ended-more : (i m j c : ℕ) → StandsBehind t i 58 m → IsBlank t m j → slice_get t j ≡ Some c → is_blank c ≡ false → key_ended t i ≡ more j
-  key_ended-more i m j c h b e other =
-      ap (λ s. step_then s (λ k. step t value_begins k)) (row-at key_colon i h.at 58 h.blanks h.here refl) ∙ ap (step t value_begins) (sym h.ends) ∙ row-at value_begins m j c b e other
+  pub object_colon-more : (i m j c : ℕ) → StandsBehind t i 58 m → IsBlank t m j → slice_get t j ≡ Some c → is_blank c ≡ false → object_colon t i ≡ more j
+  object_colon-more i m j c h b e other =
+      ap (λ s. step_then s (λ k. step t value_first k)) (row-at colon i h.at 58 h.blanks h.here refl) ∙ ap (step t value_first) (sym h.ends) ∙ row-at value_first m j c b e other

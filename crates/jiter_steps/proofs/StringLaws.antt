@@ -6,14 +6,16 @@ use Rattle.std.specs.Str.Lossy.{utf8_valid_len, utf8_error_len}
 use Rattle.std.proofs.lemmas.Bool.{true≢false}
 use Rattle.std.proofs.lemmas.Option.{slice_get_within}
 use Rattle.std.proofs.lemmas.Str.{chars-encodes, utf8_valid_len_le}
-use Rattle.jiter_scan.specs.Kind.{Kind, is_end_kind, eof_string, invalid_code_point, out_of_memory}
+use Rattle.jiter_scan.specs.Kind.{Kind, eof_string, invalid_escape, invalid_code_point, lone_surrogate, end_of_hex_escape, control_character}
 use Rattle.jiter_scan.specs.Scanned.{Scanned, taken, failed}
-use Rattle.jiter_scan.proofs.Scanning.{ScalarWithin, EndsAtLength}
+use Rattle.jiter_scan.proofs.Scanning.{ScalarWithin, FaultAt}
 use Rattle.jiter_steps.specs.Tree.{Text}
 use Rattle.jiter_steps.specs.Piece.{Piece, SpellsString, characters, text_of}
 use Rattle.jiter_steps.specs.Node.{has_backslash, text_at}
-use Rattle.jiter_steps.specs.StringReading.{Stop, closed, unclosed, cut, wrong, pieces_from, body_at, Form, whole, kept, raw, raw_kept, checked, shortened, as_kept, between, ended, content_at, string_at}
+use Rattle.jiter_steps.specs.StringReading.{Stop, closed, unclosed, cut, wrong, body_at, Form, whole, kept, raw, raw_kept, checked, shortened, as_kept, between, ended, content_at, string_at}
 use Rattle.jiter_scan.proofs.Choices.{if_case}
+use Rattle.jiter_steps.proofs.Bounds.{fault-end, fault-byte}
+use Rattle.jiter_steps.proofs.Pieces.{pieces_from}
 use Rattle.jiter_steps.proofs.StringStand.{pieces-ahead}
 use Rattle.jiter_steps.proofs.PlacesExplained.{IsPlaceKind}
 use Rattle.jiter_steps.proofs.Bodies.{StopWithin, body_at-within, body_at-long}
@@ -23,80 +25,51 @@ use Rattle.jiter_steps.proofs.StringForms.{content-kept, content-raw}
 use Rattle.jiter_steps.proofs.StringMarks.{EndOf, mark-is}
 
 -- ---- how far reading gets
--- the kinds of a place: none is an end of input, and none is memory's
-place-no_end : (k : Kind) → IsPlaceKind k → is_end_kind k ≡ false
-place-no_end k (inl e) = ap is_end_kind e
-place-no_end k (inr (inl e)) = ap is_end_kind e
-place-no_end k (inr (inr (inl e))) = ap is_end_kind e
-place-no_end k (inr (inr (inr e))) = ap is_end_kind e
+-- a fault of a place is one of a byte
+place-fault : (t : List ℕ) (k : Kind) (j : ℕ) → j ≤ length t → IsPlaceKind k → FaultAt t k j
+place-fault t k j le (inl e) = rw e (fault-byte t invalid_escape j (λ m. cc) refl le)
+place-fault t k j le (inr (inl e)) = rw e (fault-byte t lone_surrogate j (λ m. cc) refl le)
+place-fault t k j le (inr (inr (inl e))) = rw e (fault-byte t end_of_hex_escape j (λ m. cc) refl le)
+place-fault t k j le (inr (inr (inr e))) = rw e (fault-byte t control_character j (λ m. cc) refl le)
 
-place-no_memory : (k : Kind) → IsPlaceKind k → k ≢ out_of_memory
-place-no_memory k (inl e) m = cc
-place-no_memory k (inr (inl e)) m = cc
-place-no_memory k (inr (inr (inl e))) m = cc
-place-no_memory k (inr (inr (inr e))) m = cc
-
-abbrev pub NoMemoryKind : Scanned Text → Type 0
-NoMemoryKind (taken x e) = Unit {0}
-NoMemoryKind (failed k j) = k ≢ out_of_memory
-
--- what holds of each way that a reading from i on can end
+-- each way that a string whose quote is at i can end
 module _ (t : List ℕ) (i : ℕ) (inside : i < length t) where
-  record Fine (s : Scanned Text) : Type 0 where
-    within : ScalarWithin t i s
-    ends : EndsAtLength t s
-    no_memory : NoMemoryKind s
+  end-within : ScalarWithin {A = Text} t i (failed eof_string (length t))
+  end-within = (omega arith, fault-end t eof_string (length t) (λ m. cc) refl)
 
-  fine-taken : (x : Text) (e : ℕ) → i < e → e ≤ length t → Fine (taken x e)
-  fine-taken x e l m = record { within = (l, m); ends = tt; no_memory = tt }
+  code-within : (n : ℕ) → i + 1 + n ≤ length t → ScalarWithin {A = Text} t i (failed invalid_code_point (i + 1 + n))
+  code-within n h = (omega arith, fault-byte t invalid_code_point (i + 1 + n) (λ m. cc) refl h)
 
-  fine-end : Fine (failed eof_string (length t))
-  fine-end = record { within = (omega arith, omega arith); ends = λ e. refl; no_memory = λ e. let no : eof_string ≡ out_of_memory = e in cc }
+  checked-within : (o : Bool) (bs : List ℕ) (e : ℕ) → i + 1 + length bs ≤ length t → i < e → e ≤ length t → ScalarWithin t i (checked (i + 1) o bs e)
+  checked-within o bs e h l m =
+      if_case (ScalarWithin t i) (utf8_valid_len bs == length bs) (taken (record { owned = o; bytes = bs }) e) (failed invalid_code_point (i + 1 + utf8_valid_len bs))
+      (λ q. (l, m)) (λ q. code-within (utf8_valid_len bs) (omega (arith, utf8_valid_len_le bs)))
 
-  fine-code : (n : ℕ) → i + 1 + n ≤ length t → Fine (failed invalid_code_point (i + 1 + n))
-  fine-code n h = record { within = (omega arith, h); ends = λ e. absurd (true≢false (sym e)); no_memory = λ e. let no : invalid_code_point ≡ out_of_memory = e in cc }
+  kept-within : (o : Bool) (bs : List ℕ) (e : ℕ) → i + 1 + length bs ≤ length t → i < e → e ≤ length t → ScalarWithin t i (as_kept (i + 1) o bs e)
+  kept-within o bs e h l m = by (utf8_error_len (drop (utf8_valid_len bs) bs)) where
+    by : (x : Option ℕ) → ScalarWithin t i (shortened (i + 1) o bs e x)
+    by None = (l, m)
+    by (Some n) = code-within (utf8_valid_len bs) (omega (arith, utf8_valid_len_le bs))
 
-  fine-checked : (o : Bool) (bs : List ℕ) (e : ℕ) → i + 1 + length bs ≤ length t → i < e → e ≤ length t → Fine (checked (i + 1) o bs e)
-  fine-checked o bs e h l m =
-      if_case Fine (utf8_valid_len bs == length bs) (taken (record { owned = o; bytes = bs }) e) (failed invalid_code_point (i + 1 + utf8_valid_len bs))
-      (λ q. fine-taken (record { owned = o; bytes = bs }) e l m) (λ q. fine-code (utf8_valid_len bs) (omega (arith, utf8_valid_len_le bs)))
-
-  fine-kept : (o : Bool) (bs : List ℕ) (e : ℕ) → i + 1 + length bs ≤ length t → i < e → e ≤ length t → Fine (as_kept (i + 1) o bs e)
-  fine-kept o bs e h l m = by (utf8_error_len (drop (utf8_valid_len bs) bs)) where
-    by : (x : Option ℕ) → Fine (shortened (i + 1) o bs e x)
-    by None = fine-taken _ e l m
-    by (Some n) = fine-code (utf8_valid_len bs) (omega (arith, utf8_valid_len_le bs))
-
-  fine-ended : (form : Form) (bs : List ℕ) (o : Bool) (s : Stop) → i + 1 + length bs ≤ length t → StopWithin t (i + 1) s → Fine (ended form t (i + 1) bs o s)
-  fine-ended form bs o (wrong k j) h w = record { within = (omega (arith, w.0), omega (arith, w.1)); ends = λ e. absurd (true≢false (sym e ∙ place-no_end k w.2)); no_memory = place-no_memory k w.2 }
-  fine-ended whole bs o (closed e) h w = fine-checked o bs e h (omega (arith, w.0)) w.1
-  fine-ended kept bs o (closed e) h w = fine-kept o bs e h (omega (arith, w.0)) w.1
-  fine-ended raw bs o (closed e) h w = fine-taken (between t (i + 1) (e - 1)) e (omega (arith, w.0)) w.1
-  fine-ended raw_kept bs o (closed e) h w = fine-taken (between t (i + 1) (e - 1)) e (omega (arith, w.0)) w.1
-  fine-ended whole bs o unclosed h w = fine-end
-  fine-ended kept bs o unclosed h w = fine-kept o bs (length t) h inside (omega arith)
-  fine-ended raw bs o unclosed h w = fine-end
-  fine-ended raw_kept bs o unclosed h w = fine-taken (between t (i + 1) (length t)) (length t) inside (omega arith)
-  fine-ended whole bs o cut h w = fine-end
-  fine-ended kept bs o cut h w = fine-kept o bs (length t) h inside (omega arith)
-  fine-ended raw bs o cut h w = fine-end
-  fine-ended raw_kept bs o cut h w = fine-end
-
-  fine : (form : Form) → Fine (string_at form t i)
-  unfolding content_at
-  fine form = let b = body_at t (i + 1) in fine-ended form b.bytes b.owned b.stop (body_at-long t (i + 1) (omega arith)) (body_at-within t (i + 1))
+  ended-within : (form : Form) (bs : List ℕ) (o : Bool) (s : Stop) → i + 1 + length bs ≤ length t → StopWithin t (i + 1) s → ScalarWithin t i (ended form t (i + 1) bs o s)
+  ended-within form bs o (wrong k j) h w = (omega (arith, w.0), place-fault t k j (omega (arith, w.1)) w.2)
+  ended-within whole bs o (closed e) h w = checked-within o bs e h (omega (arith, w.0)) w.1
+  ended-within kept bs o (closed e) h w = kept-within o bs e h (omega (arith, w.0)) w.1
+  ended-within raw bs o (closed e) h w = (omega (arith, w.0), w.1)
+  ended-within raw_kept bs o (closed e) h w = (omega (arith, w.0), w.1)
+  ended-within whole bs o unclosed h w = end-within
+  ended-within kept bs o unclosed h w = kept-within o bs (length t) h inside (omega arith)
+  ended-within raw bs o unclosed h w = end-within
+  ended-within raw_kept bs o unclosed h w = (inside, omega arith)
+  ended-within whole bs o cut h w = end-within
+  ended-within kept bs o cut h w = kept-within o bs (length t) h inside (omega arith)
+  ended-within raw bs o cut h w = end-within
+  ended-within raw_kept bs o cut h w = end-within
 
 -- a string ends behind its begin; a fault stands in the text, or at its end
 pub string_at-within : (form : Form) (t : List ℕ) (i : ℕ) → i < length t → ScalarWithin t i (string_at form t i)
-string_at-within form t i h = let f = fine t i h form in f.within
-
--- the end of input is found at the length
-pub string_at-ends : (form : Form) (t : List ℕ) (i : ℕ) → i < length t → EndsAtLength t (string_at form t i)
-string_at-ends form t i h = let f = fine t i h form in f.ends
-
--- no string's fault is memory's
-pub string_at-no_memory : (form : Form) (t : List ℕ) (i : ℕ) → i < length t → NoMemoryKind (string_at form t i)
-string_at-no_memory form t i h = let f = fine t i h form in f.no_memory
+unfolding content_at
+string_at-within form t i h = let b = body_at t (i + 1) in ended-within t i h form b.bytes b.owned b.stop (body_at-long t (i + 1) (omega arith)) (body_at-within t (i + 1))
 
 -- ---- the grammar
 -- where a string lies

@@ -12,7 +12,8 @@ use Rattle.jiter_scan.specs.Stands.{Stands}
 use Rattle.jiter_steps.specs.Piece.{IsPlain, IsEscape, IsPiece, Piece, SpellsChar, SpellsPieces, SpellsString, characters, text_of}
 use Rattle.jiter_scan.specs.Scanned.{taken, failed}
 use Rattle.jiter_steps.specs.Tree.{Text}
-use Rattle.jiter_steps.specs.StringReading.{Stop, closed, unclosed, cut, wrong, Found, part, over, found_at, end_of, pieces_from, Body, body_at, whole, content_at, string_at, ended}
+use Rattle.jiter_steps.specs.StringReading.{Stop, closed, unclosed, cut, wrong, Found, part, over, found_at, Body, body_at, whole, content_at, string_at, ended}
+use Rattle.jiter_steps.proofs.Pieces.{end_of, pieces_from}
 use Rattle.jiter_steps.proofs.Utf8Shape.{Follows, AllFollow, Lead, lead}
 use Rattle.jiter_scan.proofs.Choices.{if_case}
 use Rattle.jiter_scan.proofs.Standing.{stands-length}

@@ -1,17 +1,15 @@
--- The readings that the calls answer with: of a whole document, of a cut one, of the end alone, and of nodes.
+-- The readings that the calls answer with: of a whole document, of a cut one, and of the end alone.
 use Rattle.std.specs.Prelude.{ℕ, ◌+◌, Bool, false, if◌then◌else◌, List, [], ◌∷◌}
-use Rattle.std.specs.Str.{chars}
 use Rattle.jiter_scan.specs.Kind.{Kind, is_forgiven}
 use Rattle.jiter_scan.specs.Scanned.{Scanned, taken, failed}
 use Rattle.jiter_scan.specs.NumberReading.{number_at}
 use Rattle.jiter_scan.specs.Mode.{allows_trailing_strings, is_active}
 use Rattle.jiter_scan.specs.declared.partial_mode.PartialMode.{PartialMode}
 use Rattle.jiter_steps.specs.Literal.{literal_at, literal_tree}
-use Rattle.jiter_steps.specs.StringReading.{Form, whole, kept, raw, string_at, pieces_from}
+use Rattle.jiter_steps.specs.StringReading.{Form, whole, kept, raw, string_at}
 use Rattle.jiter_steps.specs.Tree.{Text, Tree, items_of, members_of}
 use Rattle.jiter_steps.specs.Tree as tree
-use Rattle.jiter_steps.specs.Node.{Key, Node, Nodes, no_nodes, node, NodeMembers, no_members, member, number_tree}
-use Rattle.jiter_steps.specs.Node as grammar
+use Rattle.jiter_steps.specs.Node.{nesting_limit, number_tree}
 use Rattle.jiter_steps.specs.Read.{Rules, Reading, front_answer, whole_answer, value_at}
 
 -- what was read, seen so, with the place that it ends at
@@ -46,29 +44,6 @@ ends names = record {
   object = λ b e members. tt;
 }
 
-abbrev pub nodes_of : List Node → Nodes
-nodes_of [] = no_nodes
-nodes_of (n ∷ ns) = node n (nodes_of ns)
-
-abbrev pub node_members_of : List (Key × Node) → NodeMembers
-node_members_of [] = no_members
-node_members_of (m ∷ ms) = member m.0 m.1 (node_members_of ms)
-
-abbrev pub key_of : List ℕ → ℕ → Text → ℕ → Key
-key_of t i s e = record { pieces = pieces_from t (i + 1) (chars s.bytes); begin = i; end = e }
-
--- the derivation itself
-abbrev pub nodes : Bool → Rules Key Node
-nodes names = record {
-  forgives = nothing_forgiven;
-  literal = λ t l i. seen_as (λ u e. grammar.literal l i e) (literal_at t l i);
-  number = λ t i. seen_as (λ n e. grammar.number i e) (number_at names t i);
-  text = λ t i. seen_as (λ s e. grammar.string (pieces_from t (i + 1) (chars s.bytes)) i e) (string_at whole t i);
-  key = λ t i. seen_as (key_of t i) (string_at whole t i);
-  array = λ b e items. grammar.array b e (nodes_of items);
-  object = λ b e members. grammar.object b e (node_members_of members);
-}
-
 -- With partial reading off: the value, or the first fault.
 abbrev pub whole_trees : Bool → Rules Text Tree
 whole_trees names = trees nothing_forgiven whole names
@@ -90,10 +65,10 @@ partial_answer names mode t = front_answer (partial_trees names mode) t
 abbrev pub answer_in : Bool → PartialMode → List ℕ → Reading Tree
 answer_in names mode t = if is_active mode then partial_answer names mode t else answer names t
 
--- The value at a place that is a blank's or a value's first byte, with nothing round it yet.
+-- The value at a place, with nothing round it.
 abbrev pub read_at : Bool → List ℕ → ℕ → Reading Tree
-read_at names t i = value_at (whole_trees names) t 200 i
+read_at names t i = value_at (whole_trees names) t nesting_limit i
 
 -- Where the value at a place ends; its UTF-8 is not tested.
 abbrev pub skip_at : Bool → List ℕ → ℕ → Reading (Unit {0})
-skip_at names t i = value_at (ends names) t 200 i
+skip_at names t i = value_at (ends names) t nesting_limit i

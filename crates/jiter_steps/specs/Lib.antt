@@ -9,7 +9,4 @@ pub mod Read
 pub mod Node
 pub mod Cut
 pub mod Answer
-pub mod Given
-pub mod Seen
-pub mod Strings
 pub mod Extends

@@ -153,12 +153,16 @@ abbrev mutual
   members_of t no_members = tree.no_members
   members_of t (member k n ms) = tree.member (text_at t k.pieces k.begin k.end) (value_of t n) (members_of t ms)
 
--- A document: blanks, a value, blanks, and at most 200 containers that are not empty one inside another.
+-- how many containers that are not empty may stand one inside another
+abbrev pub nesting_limit : ℕ
+nesting_limit = 200
+
+-- A document: blanks, a value, blanks, and a nesting within the limit.
 pub record IsDocument (names : Bool) (t : List ℕ) (n : Node) : Type 0 where
   pub before : IsBlank t 0 (begin n)
   pub spelled : Spells names t n
   pub after : IsBlank t (end n) (length t)
-  pub limit : nesting n ≤ 200
+  pub limit : nesting n ≤ nesting_limit
 
 -- an array or an object
 abbrev pub IsContainer : Node → Type 0

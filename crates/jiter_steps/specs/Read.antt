@@ -1,10 +1,12 @@
 -- Reading a value from the left. What a scalar gives, what is built and what is forgiven are the caller's rules.
 use Rattle.std.specs.Prelude.{ℕ, zero, suc, ◌+◌, Bool, if◌then◌else◌, List, [], ◌∷◌, ◌++◌, length, slice_index, slice_get, Option, Some, None}
-use Rattle.jiter_scan.specs.Kind.{Kind, eof_list, eof_object, eof_value, expected_value, trailing_characters, recursion_limit}
+use Rattle.jiter_scan.specs.Kind.{Kind, eof_value, expected_value, trailing_characters, recursion_limit}
 use Rattle.jiter_scan.specs.Scanned.{Scanned, taken, failed}
+use Rattle.jiter_scan.specs.Word.{Extent}
 use Rattle.jiter_steps.specs.Blank.{past_blanks}
 use Rattle.jiter_steps.specs.Literal.{start_of}
-use Rattle.jiter_steps.specs.Step.{Step, more, closed, stuck, step, array_opened, array_continued, object_opened, key_ended, object_continued}
+use Rattle.jiter_steps.specs.Node.{nesting_limit}
+use Rattle.jiter_steps.specs.Step.{Step, more, closed, stuck, step, array_first, array_step, object_first, object_colon, object_step}
 use Rattle.jiter_steps.specs.declared.parse.Literal.{Literal}
 use Rattle.jiter_steps.specs.declared.parse.Start.{Start}
 use Rattle.jiter_steps.specs.declared.parse.Start.TheVariants as start
@@ -24,82 +26,98 @@ pub record Rules (K A : Type 0) : Type 0 where
   pub array : ℕ → ℕ → List A → A
   pub object : ℕ → ℕ → List (K × A) → A
 
--- a scalar at i; a fault leaves the reading there
-abbrev pub scanned : {A : Type 0} → ℕ → Scanned A → Reading A
-scanned i (taken a e) = done a e
-scanned i (failed k j) = fault k j i
+-- A container: what may stand behind its bracket, what behind a part, a part at a place, and what is built of the parts.
+pub record Container (P A : Type 0) : Type 0 where
+  pub first : ℕ → Option ℕ → Step
+  pub next : ℕ → Option ℕ → Step
+  pub part : ℕ → Reading P
+  pub build : ℕ → List P → A
+
+-- a scalar at i; its fault leaves the reading there
+abbrev pub scalar_at : {A : Type 0} → ℕ → Scanned A → Reading A
+scalar_at i (taken a e) = done a e
+scalar_at i (failed k j) = fault k j i
+
+-- A member is a key, its colon and its value. Faults of the colon leave the reading at their index.
+abbrev pub with_key : {K A : Type 0} → K → Reading A → Reading (K × A)
+with_key k (done a e) = done (k, a) e
+with_key k (fault kind i stop) = fault kind i stop
+
+abbrev pub behind_colon : {K A : Type 0} → K → (ℕ → Reading A) → Extent → Reading (K × A)
+behind_colon k inner (taken u j) = with_key k (inner j)
+behind_colon k inner (failed kind j) = fault kind j j
+
+abbrev pub behind_key : {K A : Type 0} → (ℕ → Reading A) → List ℕ → ℕ → Scanned K → Reading (K × A)
+behind_key inner t i (taken k e) = behind_colon k inner (object_colon t e)
+behind_key inner t i (failed kind j) = fault kind j i
 
 -- behind a whole text's value nothing may stand
-abbrev pub ended_at : {A : Type 0} → A → ℕ → ℕ → Option ℕ → Reading A
-ended_at a e j None = done a e
-ended_at a e j (Some c) = fault trailing_characters j j
+abbrev pub if_last : {A : Type 0} → A → ℕ → ℕ → Option ℕ → Reading A
+if_last a e j None = done a e
+if_last a e j (Some c) = fault trailing_characters j j
 
 abbrev pub to_end : {A : Type 0} → List ℕ → Reading A → Reading A
-to_end t (done a e) = ended_at a e (past_blanks t e) (slice_get t (past_blanks t e))
+to_end t (done a e) = if_last a e (past_blanks t e) (slice_get t (past_blanks t e))
 to_end t (fault k i stop) = fault k i stop
-
--- how many non-empty containers may stand one inside another
-abbrev pub nesting_limit : ℕ
-nesting_limit = 200
 
 module _ {K A : Type 0} where
   -- a fault inside a container: where it is forgiven the container closes at the stop
-  abbrev pub stopped : Rules K A → (ℕ → A) → Kind → ℕ → ℕ → Reading A
-  stopped r close k i stop = if r.forgives k then done (close stop) stop else fault k i stop
+  abbrev pub if_forgiven : Rules K A → (ℕ → A) → Kind → ℕ → ℕ → Reading A
+  if_forgiven r close k i stop = if r.forgives k then done (close stop) stop else fault k i stop
 
   -- goes on, or closes the container
-  abbrev pub stepped : Rules K A → (ℕ → Reading A) → (ℕ → A) → Step → Reading A
-  stepped r next close (more j) = next j
-  stepped r next close (closed e) = done (close e) e
-  stepped r next close (stuck k j) = stopped r close k j j
+  abbrev pub follow : Rules K A → (ℕ → Reading A) → (ℕ → A) → Step → Reading A
+  follow r next close (more j) = next j
+  follow r next close (closed e) = done (close e) e
+  follow r next close (stuck k j) = if_forgiven r close k j j
 
-  -- behind an item
-  abbrev pub item_read : Rules K A → (List A → ℕ → Reading A) → List ℕ → ℕ → List A → Reading A → Reading A
-  item_read r next t b items (done a e) = stepped r (next (items ++ a ∷ [])) (λ e. r.array b e (items ++ a ∷ [])) (step t (array_continued t) e)
-  item_read r next t b items (fault k i stop) = stopped r (λ e. r.array b e items) k i stop
+  module _ {P : Type 0} where
+    -- behind a part
+    abbrev pub behind_part : Rules K A → Container P A → List ℕ → (List P → ℕ → Reading A) → List P → Reading P → Reading A
+    behind_part r c t go parts (done p e) = follow r (go (parts ++ p ∷ [])) (λ e. c.build e (parts ++ p ∷ [])) (step t c.next e)
+    behind_part r c t go parts (fault k i stop) = if_forgiven r (λ e. c.build e parts) k i stop
 
-  -- The items from i on, behind those so far, of the array that begins at b. The number bounds the turns; the length is always enough.
-  unfoldable pub items_at : Rules K A → (ℕ → Reading A) → List ℕ → ℕ → ℕ → List A → ℕ → Reading A
-  items_at r inner t b zero items i = fault eof_list i i
-  items_at r inner t b (suc n) items i = item_read r (λ more_items j. items_at r inner t b n more_items j) t b items (inner i)
+    -- The parts from i on, behind those so far. The number bounds the turns; the text's length is always enough.
+    unfoldable pub parts_at : Rules K A → Container P A → List ℕ → ℕ → List P → ℕ → Reading A
+    parts_at r c t zero parts i = fault eof_value i i
+    parts_at r c t (suc n) parts i = behind_part r c t (λ more_parts j. parts_at r c t n more_parts j) parts (c.part i)
 
-  -- behind the value of a key
-  abbrev pub member_read : Rules K A → (List (K × A) → ℕ → Reading A) → List ℕ → ℕ → List (K × A) → K → Reading A → Reading A
-  member_read r next t b members k (done a e) = stepped r (next (members ++ (k, a) ∷ [])) (λ e. r.object b e (members ++ (k, a) ∷ [])) (step t (object_continued t) e)
-  member_read r next t b members k (fault kind i stop) = stopped r (λ e. r.object b e members) kind i stop
+    -- the container whose bracket is at i
+    abbrev pub container_at : Rules K A → Container P A → List ℕ → ℕ → Reading A
+    container_at r c t i = follow r (parts_at r c t (length t) []) (λ e. c.build e []) (step t c.first (i + 1))
 
-  -- behind a key that begins at i
-  abbrev pub key_read : Rules K A → (List (K × A) → ℕ → Reading A) → (ℕ → Reading A) → List ℕ → ℕ → List (K × A) → ℕ → Scanned K → Reading A
-  key_read r next inner t b members i (failed k j) = stopped r (λ e. r.object b e members) k j i
-  key_read r next inner t b members i (taken k e) =
-      stepped r (λ j. member_read r next t b members k (inner j)) (λ e. r.object b e members) (key_ended t e)
+  -- the array that begins at i, and the object, where inner reads the values inside
+  abbrev pub array_of : Rules K A → (ℕ → Reading A) → List ℕ → ℕ → Container A A
+  array_of r inner t i = record { first = array_first; next = array_step t; part = inner; build = r.array i }
 
-  -- The members from i on, behind those so far, of the object that begins at b.
-  unfoldable pub members_at : Rules K A → (ℕ → Reading A) → List ℕ → ℕ → ℕ → List (K × A) → ℕ → Reading A
-  members_at r inner t b zero members i = fault eof_object i i
-  members_at r inner t b (suc n) members i = key_read r (λ more_members j. members_at r inner t b n more_members j) inner t b members i (r.key t i)
+  abbrev pub object_of : Rules K A → (ℕ → Reading A) → List ℕ → ℕ → Container (K × A) A
+  object_of r inner t i = record { first = object_first; next = object_step t; part = λ j. behind_key inner t j (r.key t j); build = r.object i }
 
   -- a value that begins so
   abbrev pub value_with : Rules K A → (ℕ → Reading A) → List ℕ → ℕ → Start → Reading A
-  value_with r inner t i start.Array = stepped r (items_at r inner t i (length t) []) (λ e. r.array i e []) (step t array_opened (i + 1))
-  value_with r inner t i start.Object = stepped r (members_at r inner t i (length t) []) (λ e. r.object i e []) (step t object_opened (i + 1))
-  value_with r inner t i start.String = scanned i (r.text t i)
-  value_with r inner t i start.Number = scanned i (r.number t i)
-  value_with r inner t i (start.Literal l) = scanned i (r.literal t l i)
+  value_with r inner t i start.Array = container_at r (array_of r inner t i) t i
+  value_with r inner t i start.Object = container_at r (object_of r inner t i) t i
+  value_with r inner t i start.String = scalar_at i (r.text t i)
+  value_with r inner t i start.Number = scalar_at i (r.number t i)
+  value_with r inner t i (start.Literal l) = scalar_at i (r.literal t l i)
   value_with r inner t i start.Nothing = fault expected_value i i
 
-  -- The value at i, with room for so many containers that are not empty, one inside another.
-  unfoldable pub value_at : Rules K A → List ℕ → ℕ → ℕ → Reading A
-  value_at r t zero i = value_with r (λ j. fault recursion_limit j j) t i (start_of (slice_index t i))
-  value_at r t (suc room) i = value_with r (λ j. value_at r t room j) t i (start_of (slice_index t i))
+  -- A value inside a container with this room: without room it is the limit's fault at its first byte.
+  unfoldable pub inside_at : Rules K A → List ℕ → ℕ → ℕ → Reading A
+  inside_at r t zero i = fault recursion_limit i i
+  inside_at r t (suc room) i = value_with r (λ j. inside_at r t room j) t i (start_of (slice_index t i))
 
-  abbrev pub begun : Rules K A → List ℕ → ℕ → Option ℕ → Reading A
-  begun r t i None = fault eof_value i i
-  begun r t i (Some c) = value_at r t 200 i
+  -- The value at i, with room for so many containers that are not empty, one inside another.
+  abbrev pub value_at : Rules K A → List ℕ → ℕ → ℕ → Reading A
+  value_at r t room i = value_with r (inside_at r t room) t i (start_of (slice_index t i))
+
+  abbrev pub if_begun : Rules K A → List ℕ → ℕ → Option ℕ → Reading A
+  if_begun r t i None = fault eof_value i i
+  if_begun r t i (Some c) = value_at r t nesting_limit i
 
   -- the text's value, whatever follows it
   unfoldable pub front_answer : Rules K A → List ℕ → Reading A
-  front_answer r t = begun r t (past_blanks t 0) (slice_get t (past_blanks t 0))
+  front_answer r t = if_begun r t (past_blanks t 0) (slice_get t (past_blanks t 0))
 
   -- the text's value, with nothing but blanks round it
   unfoldable pub whole_answer : Rules K A → List ℕ → Reading A

@@ -93,17 +93,6 @@ found t i (Some b) = if b == 34 then over (closed (i + 1)) else unquoted t i b
 unfoldable pub found_at : List ℕ → ℕ → Found
 found_at t i = found t i (slice_get t i)
 
--- where the piece at i of the character c ends
-abbrev pub end_of : ℕ → ℕ → Found → ℕ
-end_of i c (part bytes true j) = j
-end_of i c (part bytes false j) = i + length (encode_utf8 c)
-end_of i c (over s) = i
-
--- the pieces from i on that stand for these characters
-abbrev pub pieces_from : List ℕ → ℕ → List ℕ → List Piece
-pieces_from t i [] = []
-pieces_from t i (c ∷ cs) = record { character = c; end = end_of i c (found_at t i) } ∷ pieces_from t (end_of i c (found_at t i)) cs
-
 -- the decoded bytes up to where a string ends, and whether a backslash was read
 pub record Body : Type 0 where
   pub bytes : List ℕ
