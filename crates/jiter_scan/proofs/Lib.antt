@@ -7,7 +7,6 @@ pub mod Scanning
 pub mod Standing
 pub mod WordLaws
 pub mod DigitRuns
-pub mod NumberStarts
 pub mod NumberTexts
 pub mod Words
 pub mod NumberBytes

@@ -1,4 +1,5 @@
 -- Worked rows on the definitions, by computation.
+pub mod Computed
 mod Positions
 mod Descriptions
 mod NumbersAtAPlace

@@ -8,37 +8,29 @@ use Rattle.jiter_scan.specs.Scanned.{taken, failed}
 use Rattle.jiter_scan.specs.Stands.{Stands}
 use Rattle.jiter_scan.specs.Word.{Extent, byte_then, word_at}
 use Rattle.jiter_scan.proofs.Choices.{if_case, if_gives, if-true, failed-taken, same_taken}
-use Rattle.jiter_scan.proofs.Scanning.{EndsAtLength}
+use Rattle.jiter_scan.proofs.Scanning.{FaultAt}
 use Rattle.jiter_scan.proofs.Standing.{get-none}
 
 -- the whole word, or a fault on the way
 abbrev pub WordWithin : List ℕ → List ℕ → ℕ → Extent → Type 0
 WordWithin t w i (taken u e) = (e ≡ i + length w) × (e ≤ length t)
-WordWithin t w i (failed k j) = (i ≤ j) × (j ≤ length t)
+WordWithin t w i (failed k j) = (i ≤ j) × FaultAt t k j
 
 module _ (t : List ℕ) where
-  later : (w : List ℕ) (c i : ℕ) (x : Extent) → WordWithin t w (i + 1) x × EndsAtLength t x → WordWithin t (c ∷ w) i x × EndsAtLength t x
-  later w c i (taken u e) h = ((omega (arith, h.0.0), h.0.1), tt)
-  later w c i (failed k j) h = ((omega (arith, h.0.0), h.0.1), h.1)
-
-  -- both at once: how far a word gets, and where it says that the text ended
-  pub word_at-reach : (w : List ℕ) (i : ℕ) → i ≤ length t → WordWithin t w i (word_at t w i) × EndsAtLength t (word_at t w i)
-  unfolding word_at
-  word_at-reach [] i le = ((omega arith, le), tt)
-  word_at-reach (c ∷ w) i le = by (slice_get t i) refl (λ lt. word_at-reach w (i + 1) lt) where
-    by : (o : Option ℕ) → slice_get t i ≡ o → (i + 1 ≤ length t → WordWithin t w (i + 1) (word_at t w (i + 1)) × EndsAtLength t (word_at t w (i + 1)))
-        → WordWithin t (c ∷ w) i (byte_then (word_at t w (i + 1)) c i o) × EndsAtLength t (byte_then (word_at t w (i + 1)) c i o)
-    by None e go = let past = get-none t i e in ((omega arith, le), λ k. omega arith)
-    by (Some b) e go =
-        let lt = slice_get_within t i b e in
-        if_case (λ x. WordWithin t (c ∷ w) i x × EndsAtLength t x) (b == c) (word_at t w (i + 1)) (failed expected_ident i)
-        (λ s. later w c i (word_at t w (i + 1)) (go (omega arith))) (λ s. ((omega arith, le), λ k. absurd (false≢true k)))
+  later : (w : List ℕ) (c i : ℕ) (x : Extent) → WordWithin t w (i + 1) x → WordWithin t (c ∷ w) i x
+  later w c i (taken u e) h = (omega (arith, h.0), h.1)
+  later w c i (failed k j) h = (omega (arith, h.0), h.1)
 
   pub word_at-within : (w : List ℕ) (i : ℕ) → i ≤ length t → WordWithin t w i (word_at t w i)
-  word_at-within w i le = (word_at-reach w i le).0
-
-  pub word_at-ends : (w : List ℕ) (i : ℕ) → i ≤ length t → EndsAtLength t (word_at t w i)
-  word_at-ends w i le = (word_at-reach w i le).1
+  unfolding word_at
+  word_at-within [] i le = (omega arith, le)
+  word_at-within (c ∷ w) i le = by (slice_get t i) refl (λ lt. word_at-within w (i + 1) lt) where
+    by : (o : Option ℕ) → slice_get t i ≡ o → (i + 1 ≤ length t → WordWithin t w (i + 1) (word_at t w (i + 1))) → WordWithin t (c ∷ w) i (byte_then (word_at t w (i + 1)) c i o)
+    by None e go = let past = get-none t i e in (omega arith, record { within = le; ends = λ k. omega arith; bytes = λ k. cc })
+    by (Some b) e go =
+        let lt = slice_get_within t i b e in
+        if_case (WordWithin t (c ∷ w) i) (b == c) (word_at t w (i + 1)) (failed expected_ident i)
+        (λ s. later w c i (word_at t w (i + 1)) (go (omega arith))) (λ s. (omega arith, record { within = le; ends = λ k. absurd (false≢true k); bytes = λ k. cc }))
 
   -- a word that stands is read
   pub word_at-complete : (w : List ℕ) (i e : ℕ) → Stands t i e w → word_at t w i ≡ taken tt e

@@ -2,7 +2,10 @@
 use Rattle.std.specs.Prelude.{ℕ, Bool, true, false, List, codes}
 use Rattle.jiter_scan.specs.declared.errors.JsonErrorType.{JsonErrorType}
 use Rattle.jiter_scan.specs.declared.errors.JsonErrorType.TheVariants as code
+use Rattle.jiter_scan.specs.declared.errors.FaultKind.{FaultKind}
+use Rattle.jiter_scan.specs.declared.errors.FaultKind.TheVariants as fault
 
+-- why bytes are refused, and want of memory
 pub data Kind : Type 0 where
   float_expecting_int : Kind
   eof_list : Kind
@@ -77,52 +80,39 @@ kind_of code.UnexpectedEndOfHexEscape = end_of_hex_escape
 kind_of code.RecursionLimitExceeded = recursion_limit
 kind_of code.OutOfMemory = out_of_memory
 
+-- the kind that the code's variant of a fault of the bytes stands for
+abbrev pub fault_kind : FaultKind → Kind
+fault_kind fault.EofWhileParsingList = eof_list
+fault_kind fault.EofWhileParsingObject = eof_object
+fault_kind fault.EofWhileParsingString = eof_string
+fault_kind fault.EofWhileParsingValue = eof_value
+fault_kind fault.ExpectedColon = expected_colon
+fault_kind fault.ExpectedListCommaOrEnd = expected_list_comma_or_end
+fault_kind fault.ExpectedObjectCommaOrEnd = expected_object_comma_or_end
+fault_kind fault.ExpectedSomeIdent = expected_ident
+fault_kind fault.ExpectedSomeValue = expected_value
+fault_kind fault.InvalidEscape = invalid_escape
+fault_kind fault.InvalidNumber = invalid_number
+fault_kind fault.NumberOutOfRange = number_out_of_range
+fault_kind fault.InvalidUnicodeCodePoint = invalid_code_point
+fault_kind fault.ControlCharacterWhileParsingString = control_character
+fault_kind fault.KeyMustBeAString = key_must_be_a_string
+fault_kind fault.LoneLeadingSurrogateInHexEscape = lone_surrogate
+fault_kind fault.TrailingComma = trailing_comma
+fault_kind fault.TrailingCharacters = trailing_characters
+fault_kind fault.UnexpectedEndOfHexEscape = end_of_hex_escape
+fault_kind fault.RecursionLimitExceeded = recursion_limit
+
 -- the input ended too early
 abbrev pub is_end_kind : Kind → Bool
-is_end_kind float_expecting_int = false
 is_end_kind eof_list = true
 is_end_kind eof_object = true
 is_end_kind eof_string = true
 is_end_kind eof_value = true
-is_end_kind expected_colon = false
-is_end_kind expected_list_comma_or_end = false
-is_end_kind expected_object_comma_or_end = false
-is_end_kind expected_ident = false
-is_end_kind expected_value = false
-is_end_kind invalid_escape = false
-is_end_kind invalid_number = false
-is_end_kind number_out_of_range = false
-is_end_kind invalid_code_point = false
-is_end_kind control_character = false
-is_end_kind key_must_be_a_string = false
-is_end_kind lone_surrogate = false
-is_end_kind trailing_comma = false
-is_end_kind trailing_characters = false
-is_end_kind end_of_hex_escape = false
-is_end_kind recursion_limit = false
-is_end_kind out_of_memory = false
+is_end_kind k = false
 
 -- what a partial mode forgives inside a container
 abbrev pub is_forgiven : Kind → Bool
-is_forgiven float_expecting_int = false
-is_forgiven eof_list = true
-is_forgiven eof_object = true
-is_forgiven eof_string = true
-is_forgiven eof_value = true
-is_forgiven expected_colon = false
 is_forgiven expected_list_comma_or_end = true
 is_forgiven expected_object_comma_or_end = true
-is_forgiven expected_ident = false
-is_forgiven expected_value = false
-is_forgiven invalid_escape = false
-is_forgiven invalid_number = false
-is_forgiven number_out_of_range = false
-is_forgiven invalid_code_point = false
-is_forgiven control_character = false
-is_forgiven key_must_be_a_string = false
-is_forgiven lone_surrogate = false
-is_forgiven trailing_comma = false
-is_forgiven trailing_characters = false
-is_forgiven end_of_hex_escape = false
-is_forgiven recursion_limit = false
-is_forgiven out_of_memory = false
+is_forgiven k = is_end_kind k
