@@ -6,10 +6,7 @@ pub mod NodeRules
 pub mod Nodes
 pub mod Pieces
 pub mod PlacesExplained
-pub mod RowSteps
 pub mod StringComplete
-pub mod StringCut
-pub mod StringCutLaws
 pub mod StringForms
 pub mod StringLaws
 pub mod StringMarks
@@ -18,3 +15,5 @@ pub mod StringStand
 pub mod Tails
 pub mod Utf8Shape
 pub mod Values
+pub mod PlainRuns
+pub mod DecodeSteps
