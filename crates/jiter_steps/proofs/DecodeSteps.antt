@@ -80,14 +80,13 @@ backslash_owned t i e h s =
 pub checked_text : (i e : ℕ) (o : Bool) (bs : List ℕ) → IsUtf8 bs → checked i o bs e ≡ taken (record { owned = o; bytes = bs }) e
 checked_text i e o bs u = if-true (utf8_valid_len bs == length bs) (taken (record { owned = o; bytes = bs }) e) (failed invalid_code_point (i + utf8_valid_len bs)) (eq-eqb _ _ (utf8_valid_len-IsUtf8 bs u))
 
-pub at_backslash : (t : List ℕ) (from to e : ℕ) → body_at t from ≡ before (slice_range t from to) false (body_at t to) → slice_get t to ≡ Some 92 → (body_at t to).stop ≡ closed e
-    → content_at whole t from ≡ checked from true (slice_range t from to ++ (body_at t to).bytes) e
+pub at_backslash : (t : List ℕ) (from to e : ℕ) → body_at t from ≡ before (slice_range t from to) false (body_at t to) → slice_get t to ≡ Some 92 → (body_at t from).stop ≡ closed e
+    → content_at whole t from ≡ checked from true (body_at t from).bytes e
 unfolding content_at
 at_backslash t from to e h b s =
-    ap (λ (b : Body). ended whole t from b.bytes b.owned b.stop) h
-    ∙ ap₂ (λ (o : Bool) (x : Stop). ended whole t from (slice_range t from to ++ (body_at t to).bytes) o x) (backslash_owned t to e b s) s
+    let owned = ap (λ (x : Body). x.owned) h ∙ backslash_owned t to e b (sym (ap (λ (x : Body). x.stop) h) ∙ s) in
+    ap₂ (λ (o : Bool) (x : Stop). ended whole t from (body_at t from).bytes o x) owned s
 
-pub at_stop : (t : List ℕ) (from to : ℕ) (x : Stop) → body_at t from ≡ before (slice_range t from to) false (body_at t to) → (body_at t to).stop ≡ x
-    → content_at whole t from ≡ ended whole t from (body_at t from).bytes (body_at t from).owned x
+pub at_stop : (t : List ℕ) (from : ℕ) (x : Stop) → (body_at t from).stop ≡ x → content_at whole t from ≡ ended whole t from (body_at t from).bytes (body_at t from).owned x
 unfolding content_at
-at_stop t from to x h s = ap (λ (y : Stop). ended whole t from (body_at t from).bytes (body_at t from).owned y) (ap (λ (b : Body). b.stop) h ∙ s)
+at_stop t from x s = ap (λ (y : Stop). ended whole t from (body_at t from).bytes (body_at t from).owned y) s

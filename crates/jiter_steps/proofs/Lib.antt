@@ -17,3 +17,4 @@ pub mod Utf8Shape
 pub mod Values
 pub mod PlainRuns
 pub mod DecodeSteps
+pub mod StringAnswers

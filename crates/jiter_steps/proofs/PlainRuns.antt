@@ -72,11 +72,14 @@ module _ (t : List ℕ) where
   pub plain_run : (i : ℕ) → i ≤ length t → body_at t i ≡ before (slice_range t i (scan_stop t i)) false (body_at t (scan_stop t i))
   plain_run i h = run i (prefix_len is_plain (drop i t)) h (omega arith)
 
+  pub plain_run_to : (i to : ℕ) → i ≤ length t → to ≡ scan_stop t i → body_at t i ≡ before (slice_range t i to) false (body_at t to)
+  plain_run_to i to h e = plain_run i h ∙ ap (λ j. before (slice_range t i j) false (body_at t j)) (sym e)
+
   -- a run of plain bytes is added
   run_more : (old tape next : List ℕ) (from at to : ℕ) → old ++ (body_at t from).bytes ≡ tape ++ (body_at t at).bytes → (body_at t from).stop ≡ (body_at t at).stop → at ≤ length t → to ≡ scan_stop t at
       → next ≡ tape ++ slice_range t at to → (old ++ (body_at t from).bytes ≡ next ++ (body_at t to).bytes) × ((body_at t from).stop ≡ (body_at t to).stop)
   run_more old tape next from at to h s w e n =
-      let b : body_at t at ≡ before (slice_range t at to) false (body_at t to) = plain_run at w ∙ ap (λ j. before (slice_range t at j) false (body_at t j)) (sym e) in (
+      let b = plain_run_to at to w e in (
         h ∙ ap (λ (x : Body). tape ++ x.bytes) b ∙ sym (append_assoc tape (slice_range t at to) (body_at t to).bytes) ∙ ap (λ l. l ++ (body_at t to).bytes) (sym n),
         s ∙ ap (λ (x : Body). x.stop) b,
       )

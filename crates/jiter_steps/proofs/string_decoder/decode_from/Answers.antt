@@ -1,23 +1,26 @@
-use Rattle.std.proofs.Common.{rules, ◌≡◌, ◌+◌, ◌^◌, ◌<◌, ◌≤◌, ◌++◌, length, true, false, slice_get, slice_range, IfOk, IfSome, Some, None, ℕ, ◌-◌, ◌*◌, ◌/◌, ◌%◌, Bool, nat_eq, nat_lt, List, [], ◌∷◌, slice_index_or, slice_set, bit_and, bit_or, Fits, w8, w32, w64, Bor, MutBor}
-use Rattle.std.specs.Char.{digit_value, encode_utf8}
-use Rattle.jiter_scan.specs.Scan.{is_stop, scan_stop}
-use Rattle.jiter_scan.specs.Scanned.{Scans, with_end}
-use Rattle.jiter_steps.specs.Escape.{short_escape, is_hex, is_high, is_low}
-use Rattle.jiter_steps.specs.ReadError.{UnlessRefused, WhereRefused}
-use Rattle.jiter_steps.specs.StringReading.{hex_digits_at, found_at, unit_then, escaped, numbered, second, second_u, paired, body_at, checked, whole, string_at}
-use Rattle.jiter_steps.specs.StringDecoder.{text_seen, digits_seen, IfNumber, found_seen, stop_seen, WantsMemory}
-use Rattle.jiter_steps.specs.declared.string_decoder.Place.TheVariants as place
-use Rattle.jiter_steps.specs.declared.string_decoder.Ending.TheVariants as ending
+use Rattle.std.proofs.Common.{◌≡◌, ◌++◌, sym, ap, ◌∙◌, arith}
+use Rattle.std.specs.Prelude.{slice_range}
+use Rattle.std.proofs.lemmas.Grind.{common_steps}
+use Rattle.std.proofs.lemmas.Result.{IfOk-weaker, IfOk-equal}
+use Rattle.jiter_steps.specs.StringReading.{Body, body_at}
+use Rattle.jiter_steps.proofs.PlainRuns.{scan_stop_within, plain_run_to}
 use Rattle.jiter_steps.proofs.string_decoder.decode_from.Goals as goal
 
--- src/string_decoder.rt:311:18
+pub slice_bounds-extend-start : goal.slice_bounds-extend-start
+slice_bounds-extend-start c = omega (arith, scan_stop_within c.args.bytes.now c.args.from c.requires.within, c.requires.stop)
+
 pub slice_bounds-extend-end : goal.slice_bounds-extend-end
-slice_bounds-extend-end c = ?
+slice_bounds-extend-end c = omega (arith, scan_stop_within c.args.bytes.now c.args.from c.requires.within, c.requires.stop)
 
--- src/string_decoder.rt:299:1
 pub returns-clause-text : goal.returns-clause-text
-returns-clause-text c = ?
+returns-clause-text c =
+    let a = c.args in
+    let run = plain_run_to a.bytes.now a.from a.to c.requires.within c.requires.stop in
+    let tape : c.extend.new.bytes.items ≡ slice_range a.bytes.now a.from a.to = grind (arith, common_steps) in
+    IfOk-equal c.decode.result _ _ _ c.decode.ensures.text (ap (λ l. l ++ (body_at a.bytes.now a.to).bytes) tape ∙ sym (ap (λ (x : Body). x.bytes) run))
 
--- src/string_decoder.rt:299:1
 pub returns-clause-stop : goal.returns-clause-stop
-returns-clause-stop c = ?
+returns-clause-stop c =
+    let a = c.args in
+    let run = plain_run_to a.bytes.now a.from a.to c.requires.within c.requires.stop in
+    IfOk-weaker c.decode.result _ _ (λ ending h. h ∙ sym (ap (λ (x : Body). x.stop) run)) c.decode.ensures.stop

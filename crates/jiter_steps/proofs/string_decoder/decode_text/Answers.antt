@@ -1,27 +1,29 @@
-use Rattle.std.proofs.Common.{rules, ◌≡◌, ◌+◌, ◌^◌, ◌<◌, ◌≤◌, ◌++◌, length, true, false, slice_get, slice_range, IfOk, IfSome, Some, None, ℕ, ◌-◌, ◌*◌, ◌/◌, ◌%◌, Bool, nat_eq, nat_lt, List, [], ◌∷◌, slice_index_or, slice_set, bit_and, bit_or, Fits, w8, w32, w64, Bor, MutBor}
-use Rattle.std.specs.Char.{digit_value, encode_utf8}
-use Rattle.jiter_scan.specs.Scan.{is_stop, scan_stop}
-use Rattle.jiter_scan.specs.Scanned.{Scans, with_end}
-use Rattle.jiter_steps.specs.Escape.{short_escape, is_hex, is_high, is_low}
-use Rattle.jiter_steps.specs.ReadError.{UnlessRefused, WhereRefused}
-use Rattle.jiter_steps.specs.StringReading.{hex_digits_at, found_at, unit_then, escaped, numbered, second, second_u, paired, body_at, checked, whole, string_at}
-use Rattle.jiter_steps.specs.StringDecoder.{text_seen, digits_seen, IfNumber, found_seen, stop_seen, WantsMemory}
-use Rattle.jiter_steps.specs.declared.string_decoder.Place.TheVariants as place
-use Rattle.jiter_steps.specs.declared.string_decoder.Ending.TheVariants as ending
+use Rattle.std.proofs.Common.{◌≡◌, ◌∙◌, sym}
+use Rattle.jiter_steps.specs.StringReading.{body_at}
+use Rattle.jiter_steps.proofs.StringAnswers.{string-closed, string-wrong, string-unclosed, string-cut}
 use Rattle.jiter_steps.proofs.string_decoder.decode_text.Goals as goal
 
--- src/string_decoder.rt:330:1
 pub returns-in-Ok-Closed : goal.returns-in-Ok-Closed
-returns-in-Ok-Closed c = ?
+returns-in-Ok-Closed c =
+    let a = c.args in
+    let d = rw c.in-Ok-Closed.field-0-is at c.in-Ok-Closed.ensures in
+    let text = c.as_slice.ensures.value ∙ d.text in
+    rw (string-closed a.bytes.now a.at c.requires.within a.to c.requires.stop c.in-Ok-Closed.end c.requires.backslash (sym d.stop), ← text) c.own_text.ensures
 
--- src/string_decoder.rt:330:1
 pub returns-in-Ok-Wrong : goal.returns-in-Ok-Wrong
-returns-in-Ok-Wrong c = ?
+returns-in-Ok-Wrong c =
+    let a = c.args in
+    let d = rw c.in-Ok-Wrong.field-0-is at c.in-Ok-Wrong.ensures in
+    string-wrong a.bytes.now a.at c.requires.within _ _ (sym d.stop)
 
--- src/string_decoder.rt:330:1
 pub returns-in-Ok-Unclosed : goal.returns-in-Ok-Unclosed
-returns-in-Ok-Unclosed c = ?
+returns-in-Ok-Unclosed c =
+    let a = c.args in
+    let d = rw c.in-Ok-Unclosed.field-0-is at c.in-Ok-Unclosed.ensures in
+    rw c.cut_short.ensures (string-unclosed a.bytes.now a.at c.requires.within (sym d.stop))
 
--- src/string_decoder.rt:330:1
 pub returns-in-Ok-Cut : goal.returns-in-Ok-Cut
-returns-in-Ok-Cut c = ?
+returns-in-Ok-Cut c =
+    let a = c.args in
+    let d = rw c.in-Ok-Cut.field-0-is at c.in-Ok-Cut.ensures in
+    rw c.cut_short-in-Ok-Cut.ensures (string-cut a.bytes.now a.at c.requires.within (sym d.stop))

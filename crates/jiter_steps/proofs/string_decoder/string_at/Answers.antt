@@ -1,31 +1,41 @@
-use Rattle.std.proofs.Common.{rules, ◌≡◌, ◌+◌, ◌^◌, ◌<◌, ◌≤◌, ◌++◌, length, true, false, slice_get, slice_range, IfOk, IfSome, Some, None, ℕ, ◌-◌, ◌*◌, ◌/◌, ◌%◌, Bool, nat_eq, nat_lt, List, [], ◌∷◌, slice_index_or, slice_set, bit_and, bit_or, Fits, w8, w32, w64, Bor, MutBor}
-use Rattle.std.specs.Char.{digit_value, encode_utf8}
-use Rattle.jiter_scan.specs.Scan.{is_stop, scan_stop}
-use Rattle.jiter_scan.specs.Scanned.{Scans, with_end}
-use Rattle.jiter_steps.specs.Escape.{short_escape, is_hex, is_high, is_low}
-use Rattle.jiter_steps.specs.ReadError.{UnlessRefused, WhereRefused}
-use Rattle.jiter_steps.specs.StringReading.{hex_digits_at, found_at, unit_then, escaped, numbered, second, second_u, paired, body_at, checked, whole, string_at}
-use Rattle.jiter_steps.specs.StringDecoder.{text_seen, digits_seen, IfNumber, found_seen, stop_seen, WantsMemory}
-use Rattle.jiter_steps.specs.declared.string_decoder.Place.TheVariants as place
-use Rattle.jiter_steps.specs.declared.string_decoder.Ending.TheVariants as ending
+use Rattle.std.proofs.Common.{◌≡◌, ◌∙◌}
+use Rattle.std.specs.Prelude.{slice_get, Some, None}
+use Rattle.jiter_steps.proofs.StringAnswers.{string-advances, string-none, string-quote, string-control}
 use Rattle.jiter_steps.proofs.string_decoder.string_at.Goals as goal
 
--- src/string_decoder.rt:359:1
 pub returns-in-None-clause-value : goal.returns-in-None-clause-value
-returns-in-None-clause-value c = ?
+returns-in-None-clause-value c =
+    let a = c.args in
+    let t = a.bytes.now in
+    let to = c.plain_end-to.result in
+    let none : slice_get t to ≡ None = cc in
+    rw c.cut_short.ensures (string-none t a.at c.requires to c.plain_end-to.ensures.stop none)
 
--- src/string_decoder.rt:359:1
 pub returns-in-Ok-clause-value : goal.returns-in-Ok-clause-value
-returns-in-Ok-clause-value c = ?
+returns-in-Ok-clause-value c =
+    let a = c.args in
+    let t = a.bytes.now in
+    let to = c.plain_end-to.result in
+    let quote : slice_get t to ≡ Some 34 = cc in
+    string-quote t a.at c.requires to c.plain_end-to.ensures.stop quote ∙ c.in-Ok.ensures
 
--- src/string_decoder.rt:359:1
 pub returns-in-Err-clause-value : goal.returns-in-Err-clause-value
-returns-in-Err-clause-value c = ?
+returns-in-Err-clause-value c =
+    let a = c.args in
+    let t = a.bytes.now in
+    let to = c.plain_end-to.result in
+    let quote : slice_get t to ≡ Some 34 = cc in
+    string-quote t a.at c.requires to c.plain_end-to.ensures.stop quote ∙ c.in-Err.ensures
 
--- src/string_decoder.rt:359:1
 pub returns-in-Some-eq92-clause-advances : goal.returns-in-Some-eq92-clause-advances
-returns-in-Some-eq92-clause-advances c = ?
+returns-in-Some-eq92-clause-advances c = string-advances c.args.bytes.now c.args.at c.requires c.decode_text.result c.decode_text.ensures
 
--- src/string_decoder.rt:359:1
 pub returns-in-Some-clause-value : goal.returns-in-Some-clause-value
-returns-in-Some-clause-value c = ?
+returns-in-Some-clause-value c =
+    let a = c.args in
+    let t = a.bytes.now in
+    let to = c.plain_end-to.result in
+    let b = c.in-Some.field-0 in
+    let other = c.in-Some.field-0-test in
+    let here : slice_get t to ≡ Some b = cc in
+    string-control t a.at c.requires to c.plain_end-to.ensures.stop b here other.0.1 other.1
