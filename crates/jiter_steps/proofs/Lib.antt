@@ -4,6 +4,7 @@ pub mod Bounds
 pub mod Firsts
 pub mod NodeRules
 pub mod Nodes
+pub mod Parts
 pub mod Pieces
 pub mod PlacesExplained
 pub mod RowSteps
