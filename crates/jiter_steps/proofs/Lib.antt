@@ -2,6 +2,8 @@ pub mod Blanks
 pub mod Bodies
 pub mod Bounds
 pub mod Firsts
+pub mod Front
+pub mod Growth
 pub mod NodeRules
 pub mod Nodes
 pub mod Parts
