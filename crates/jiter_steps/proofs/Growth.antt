@@ -1,5 +1,5 @@
 -- A later cut of a document goes on where an earlier one stopped.
-use Rattle.std.proofs.Common.{◌≡◌, ◌⊎◌, inl, inr, ℕ, ◌<◌, ◌≤◌, Bool, true, Option, Some, None, List, [], ◌∷◌, ◌++◌, refl, sym, ap, ap₂, ◌∙◌, subst, arith, nat_le, min, if◌then◌else◌, slice_range, append-nil, true≢false}
+use Rattle.std.proofs.Common.{◌≡◌, ◌⊎◌, inl, inr, ℕ, ◌+◌, ◌<◌, ◌≤◌, Bool, true, Option, Some, None, List, [], ◌∷◌, ◌++◌, refl, sym, ap, ap₂, ◌∙◌, subst, arith, nat_le, min, if◌then◌else◌, slice_range, append-nil, true≢false}
 use Rattle.std.specs.Str.{encode_utf8_all}
 use Rattle.std.proofs.lemmas.Bool.{cases_lt, le-leb, lt-leb, leb-true, leb-false}
 use Rattle.std.proofs.lemmas.List.{map-append}
@@ -85,11 +85,11 @@ record Sequence (S : Type 0) : Type 1 where
   more : (p : Part) (v : Tree) (r s : S) → Goes r s → Goes (put p (Some v) r) (put p (Some v) s)
 
 module _ (names : Bool) (t : List ℕ) (mode : PartialMode) where
-  key-text : Part → Text
+  abbrev key-text : Part → Text
   key-text (item n) = record { owned = true; bytes = [] }
   key-text (member key n) = text_at t key.pieces key.begin key.end
 
-  in_array : Sequence Items
+  abbrev in_array : Sequence Items
   in_array = record {
     none = tree.no_items;
     put = λ p x s. with_item x s;
@@ -100,7 +100,7 @@ module _ (names : Bool) (t : List ℕ) (mode : PartialMode) where
     more = λ p v r s h. items-more v r s (extends-same v) h;
   }
 
-  in_object : Sequence Members
+  abbrev in_object : Sequence Members
   in_object = record {
     none = tree.no_members;
     put = λ p x s. with_member (key-text p) x s;
@@ -110,3 +110,212 @@ module _ (names : Bool) (t : List ℕ) (mode : PartialMode) where
     last = λ p v w s h. (refl, h);
     more = λ p v r s h. members-more (key-text p) v r s (extends-same v) h;
   }
+
+  module _ {S : Type 0} (s : Sequence S) where
+    -- what parts leave when the text ends before k, and whole
+    abbrev left : ℕ → List Part → S
+    left k [] = s.none
+    left k (p ∷ ps) = s.put p (cut names t (value p) k mode) (left k ps)
+
+    abbrev whole : List Part → S
+    whole [] = s.none
+    whole (p ∷ ps) = s.put p (Some (value_of t (value p))) (whole ps)
+
+  items-left : (k : ℕ) (ns : Nodes) → cut_items names t ns k mode ≡ left in_array k (items ns)
+  items-left k no_nodes = refl
+  items-left k (node n ns) = ap (with_item (cut names t n k mode)) (items-left k ns)
+
+  members-left : (k : ℕ) (ms : NodeMembers) → cut_members names t ms k mode ≡ left in_object k (members ms)
+  members-left k no_members = refl
+  members-left k (grammar.member key n ms) =
+      ap (with_member (key-text (member key n)) (cut names t n k mode)) (members-left k ms)
+
+  items-whole : (ns : Nodes) → values_of t ns ≡ whole in_array (items ns)
+  items-whole no_nodes = refl
+  items-whole (node n ns) = ap (tree.item (value_of t n)) (items-whole ns)
+
+  members-whole : (ms : NodeMembers) → members_of t ms ≡ whole in_object (members ms)
+  members-whole no_members = refl
+  members-whole (grammar.member key n ms) = ap (tree.member (key-text (member key n)) (value_of t n)) (members-whole ms)
+
+  -- What is not reached by k leaves nothing.
+  late : (b k : ℕ) (x : Option Tree) → k ≤ b → (if nat_le k b then None else x) ≡ None
+  late b k x h = if-true (nat_le k b) None x (le-leb k b h)
+
+  reached : (b k : ℕ) (x : Option Tree) → b < k → (if nat_le k b then None else x) ≡ x
+  reached b k x h = if-false (nat_le k b) None x (lt-leb k b h)
+
+  node-late : (k : ℕ) (n : Node) → Spells names t n → k ≤ begin n → cut names t n k mode ≡ None
+  node-late k (grammar.literal l b e) h le =
+      let order = node-ahead names t (grammar.literal l b e) h in
+      if-false (nat_le e k) (Some (literal_tree l)) None (lt-leb e k (omega arith))
+  node-late k (grammar.number b e) h le = late b k _ le
+  node-late k (grammar.string ps b e) h le = late b k _ le
+  node-late k (grammar.array b e ns) h le = late b k _ le
+  node-late k (grammar.object b e ms) h le = late b k _ le
+
+  module _ {S : Type 0} (s : Sequence S) where
+    parts-late : (k i closer : ℕ) (ps : List Part) (e : ℕ) → SpellsMore names t closer i ps e → k ≤ i → left s k ps ≡ s.none
+    parts-late k i closer [] e h le = refl
+    parts-late k i closer (p ∷ ps) e h le =
+        let spelled = part-value names t p h.3 in
+        let order = node-ahead names t (value p) spelled in
+        let before : k ≤ begin (value p) = omega (arith, h.1.blanks.ordered, h.1.ends, h.2.ordered, part-ahead names t p h.3) in
+        ap₂ (s.put p) (node-late k (value p) spelled before) (parts-late k (end (value p)) closer ps e h.4 (omega arith))
+        ∙ s.skips p s.none
+
+  -- What ends by k is whole.
+  abbrev IsWhole : ℕ → Node → Type 0
+  IsWhole k n = Spells names t n → end n ≤ k → cut names t n k mode ≡ Some (value_of t n)
+
+  module _ {S : Type 0} (s : Sequence S) (k : ℕ) where
+    more-whole : (i closer : ℕ) (ps : List Part) (e : ℕ) → SpellsMore names t closer i ps e → e ≤ k → Each (IsWhole k) ps
+        → left s k ps ≡ whole s ps
+    more-whole i closer [] e h le each = refl
+    more-whole i closer (p ∷ ps) e h le each =
+        let rest = more-ahead names t closer ps (end (value p)) e h.4 in
+        ap₂ (s.put p) (each.0 (part-value names t p h.3) (omega arith)) (more-whole (end (value p)) closer ps e h.4 le each.1)
+
+    parts-whole : (i closer : ℕ) (ps : List Part) (e : ℕ) → SpellsParts names t closer i ps e → e ≤ k → Each (IsWhole k) ps
+        → left s k ps ≡ whole s ps
+    parts-whole i closer [] e h le each = refl
+    parts-whole i closer (p ∷ ps) e h le each =
+        let rest = more-ahead names t closer ps (end (value p)) e h.2 in
+        ap₂ (s.put p) (each.0 (part-value names t p h.1) (omega arith)) (more-whole (end (value p)) closer ps e h.2 le each.1)
+
+  is_whole : (k : ℕ) (n : Node) → Each (IsWhole k) (parts n) → IsWhole k n
+  is_whole k (grammar.literal l b e) each h le = if-true (nat_le e k) (Some (literal_tree l)) None (le-leb e k le)
+  is_whole k (grammar.number b e) each h le =
+      let order = node-ahead names t (grammar.number b e) h in
+      let all : min k e ≡ e = omega arith in
+      reached b k _ (omega arith) ∙ ap (λ m. cut_number names (slice_range t b m)) all
+      ∙ if-true (is_number_text names (slice_range t b e)) (Some (value_of t (grammar.number b e))) None
+          ((number_text-decides names (slice_range t b e)).1 h.text)
+  is_whole k (grammar.string ps b e) each h le =
+      let order = node-ahead names t (grammar.string ps b e) h in
+      reached b k _ (omega arith) ∙ if-true (nat_le e k) (Some (tree.string (text_at t ps b e))) _ (le-leb e k le)
+  is_whole k (grammar.array b e ns) each h le =
+      let spelled = items-parts names t ns (b + 1) e h.1 in
+      let order = parts-ahead names t 93 (items ns) (b + 1) e spelled in
+      reached b k _ (omega arith)
+      ∙ ap (λ x. Some (tree.array x)) (items-left k ns ∙ parts-whole in_array k (b + 1) 93 (items ns) e spelled le each ∙ sym (items-whole ns))
+  is_whole k (grammar.object b e ms) each h le =
+      let spelled = members-parts names t ms (b + 1) e h.1 in
+      let order = parts-ahead names t 125 (members ms) (b + 1) e spelled in
+      reached b k _ (omega arith)
+      ∙ ap (λ x. Some (tree.object x)) (members-left k ms ∙ parts-whole in_object k (b + 1) 125 (members ms) e spelled le each ∙ sym (members-whole ms))
+
+  pub node-whole : (k : ℕ) (n : Node) → Spells names t n → end n ≤ k → cut names t n k mode ≡ Some (value_of t n)
+  node-whole k = by_parts (IsWhole k) (is_whole k)
+
+  -- What there is at k goes on at l.
+  module _ (k l : ℕ) (later : k ≤ l) where
+    abbrev GrowsAt : Node → Type 0
+    GrowsAt n = Spells names t n → CutsNoNumber k n → Grows (cut names t n k mode) (cut names t n l mode)
+
+    whole-grows : (n : Node) → Spells names t n → end n ≤ k → Grows (cut names t n k mode) (cut names t n l mode)
+    whole-grows n h all =
+        subst (λ x. Grows x (cut names t n l mode)) (sym (node-whole k n h all))
+        (subst (Grows (Some (value_of t n))) (sym (node-whole l n h (omega arith))) (extends-same (value_of t n)))
+
+    none-grows : (n : Node) → cut names t n k mode ≡ None → Grows (cut names t n k mode) (cut names t n l mode)
+    none-grows n e = subst (λ x. Grows x (cut names t n l mode)) (sym e) tt
+
+    abbrev CutsNone : List Part → Type 0
+    CutsNone ps = Each (CutsNoNumber k) ps
+
+    cuts-items : (ns : Nodes) → CutsNoNumberOf k ns → CutsNone (items ns)
+    cuts-items no_nodes c = tt
+    cuts-items (node n ns) c = (c.0, cuts-items ns c.1)
+
+    cuts-members : (ms : NodeMembers) → CutsNoNumberOfMembers k ms → CutsNone (members ms)
+    cuts-members no_members c = tt
+    cuts-members (grammar.member key n ms) c = (c.0, cuts-members ms c.1)
+
+    module _ {S : Type 0} (s : Sequence S) (closer e : ℕ) where
+      last-grows : (p : Part) (x y : Option Tree) (r : S) → Grows x y → s.Goes (s.put p x s.none) (s.put p y r)
+      last-grows p None y r h = subst (λ z. s.Goes z (s.put p y r)) (sym (s.skips p s.none)) (s.from_none (s.put p y r))
+      last-grows p (Some v) None r h = absurd h
+      last-grows p (Some v) (Some w) r h = s.last p v w r h
+
+      -- a part, and those behind it
+      part-grows : (p : Part) (ps : List Part) → SpellsPart names t p → SpellsMore names t closer (end (value p)) ps e
+          → Grows (cut names t (value p) k mode) (cut names t (value p) l mode) → s.Goes (left s k ps) (left s l ps)
+          → s.Goes (left s k (p ∷ ps)) (left s l (p ∷ ps))
+      part-grows p ps h more here behind = by (cases_lt k (end (value p))) where
+        by : (k < end (value p)) ⊎ (end (value p) ≤ k) → s.Goes (left s k (p ∷ ps)) (left s l (p ∷ ps))
+        by (inl unended) =
+            let gone = parts-late s k (end (value p)) closer ps e more (omega arith) in
+            subst (λ r. s.Goes (s.put p (cut names t (value p) k mode) r) (left s l (p ∷ ps))) (sym gone)
+            (last-grows p (cut names t (value p) k mode) (cut names t (value p) l mode) (left s l ps) here)
+        by (inr all) =
+            let spelled = part-value names t p h in
+            subst (λ x. s.Goes (s.put p x (left s k ps)) (left s l (p ∷ ps))) (sym (node-whole k (value p) spelled all))
+            (subst (λ y. s.Goes (s.put p (Some (value_of t (value p))) (left s k ps)) (s.put p y (left s l ps)))
+            (sym (node-whole l (value p) spelled (omega arith))) (s.more p (value_of t (value p)) (left s k ps) (left s l ps) behind))
+
+      more-grows : (i : ℕ) (ps : List Part) → SpellsMore names t closer i ps e → CutsNone ps → Each GrowsAt ps
+          → s.Goes (left s k ps) (left s l ps)
+      more-grows i [] h c each = s.from_none s.none
+      more-grows i (p ∷ ps) h c each =
+          part-grows p ps h.3 h.4 (each.0 (part-value names t p h.3) c.0) (more-grows (end (value p)) ps h.4 c.1 each.1)
+
+      parts-grow : (i : ℕ) (ps : List Part) → SpellsParts names t closer i ps e → CutsNone ps → Each GrowsAt ps
+          → s.Goes (left s k ps) (left s l ps)
+      parts-grow i [] h c each = s.from_none s.none
+      parts-grow i (p ∷ ps) h c each =
+          part-grows p ps h.1 h.2 (each.0 (part-value names t p h.1) c.0) (more-grows (end (value p)) ps h.2 c.1 each.1)
+
+    -- what is kept of a string that k cuts
+    kept-grows : (ps : List Piece) (b e : ℕ) → b < k
+        → Grows (if allows_trailing_strings mode then Some (cut_string t ps b k) else None) (cut names t (grammar.string ps b e) l mode)
+    kept-grows ps b e begun =
+        if_case (λ x. Grows x (cut names t (grammar.string ps b e) l mode)) (allows_trailing_strings mode) (Some (cut_string t ps b k)) None
+        (λ kept. subst Kept (sym (reached b l _ (omega arith)))
+        (if_case Kept (nat_le e l) (Some (tree.string (text_at t ps b e))) (if allows_trailing_strings mode then Some (cut_string t ps b l) else None)
+        (λ y. let f = pieces-all k ps in (text_of f.0, text-front (pieces_to k ps) ps f.0 f.1))
+        (λ y. subst Kept (sym (if-true (allows_trailing_strings mode) (Some (cut_string t ps b l)) None kept))
+        (let f = pieces-front k l later ps in (text_of f.0, text-front (pieces_to k ps) (pieces_to l ps) f.0 f.1)))))
+        (λ none. tt) where
+          Kept : Option Tree → Type 0
+          Kept y = Grows (Some (cut_string t ps b k)) y
+
+    -- a container that is begun at k
+    begun-grows : (b : ℕ) (v w : Tree) → Extends v w → Grows (if nat_le k b then None else Some v) (if nat_le l b then None else Some w)
+    begun-grows b v w h =
+        if_case (λ x. Grows x (if nat_le l b then None else Some w)) (nat_le k b) None (Some v) (λ z. tt)
+        (λ z. let begun = leb-false k b z in subst (Grows (Some v)) (sym (reached b l (Some w) (omega arith))) h)
+
+    grows : (n : Node) → Each GrowsAt (parts n) → GrowsAt n
+    grows (grammar.literal x b e) each h c = by (cases_lt k e) where
+      by : (k < e) ⊎ (e ≤ k) → Grows (cut names t (grammar.literal x b e) k mode) (cut names t (grammar.literal x b e) l mode)
+      by (inl cuts) = none-grows (grammar.literal x b e) (if-false (nat_le e k) (Some (literal_tree x)) None (lt-leb e k cuts))
+      by (inr all) = whole-grows (grammar.literal x b e) h all
+    grows (grammar.number b e) each h (inl unread) = none-grows (grammar.number b e) (node-late k (grammar.number b e) h unread)
+    grows (grammar.number b e) each h (inr all) = whole-grows (grammar.number b e) h all
+    grows (grammar.string ps b e) each h c = by (cases_lt b k) (cases_lt k e) where
+      by : (b < k) ⊎ (k ≤ b) → (k < e) ⊎ (e ≤ k) → Grows (cut names t (grammar.string ps b e) k mode) (cut names t (grammar.string ps b e) l mode)
+      by (inr unread) y = none-grows (grammar.string ps b e) (late b k _ unread)
+      by (inl begun) (inr all) = whole-grows (grammar.string ps b e) h all
+      by (inl begun) (inl cuts) =
+          subst (λ x. Grows x (cut names t (grammar.string ps b e) l mode))
+          (sym (reached b k _ begun ∙ if-false (nat_le e k) (Some (tree.string (text_at t ps b e))) _ (lt-leb e k cuts))) (kept-grows ps b e begun)
+    grows (grammar.array b e ns) each h c =
+        begun-grows b (tree.array (cut_items names t ns k mode)) (tree.array (cut_items names t ns l mode))
+        (subst (λ x. ExtendsItems x (cut_items names t ns l mode)) (sym (items-left k ns))
+        (subst (ExtendsItems (left in_array k (items ns))) (sym (items-left l ns))
+        (parts-grow in_array 93 e (b + 1) (items ns) (items-parts names t ns (b + 1) e h.1) (cuts-items ns c) each)))
+    grows (grammar.object b e ms) each h c =
+        begun-grows b (tree.object (cut_members names t ms k mode)) (tree.object (cut_members names t ms l mode))
+        (subst (λ x. ExtendsMembers x (cut_members names t ms l mode)) (sym (members-left k ms))
+        (subst (ExtendsMembers (left in_object k (members ms))) (sym (members-left l ms))
+        (parts-grow in_object 125 e (b + 1) (members ms) (members-parts names t ms (b + 1) e h.1) (cuts-members ms c) each)))
+
+    node-grows : (n : Node) → GrowsAt n
+    node-grows = by_parts GrowsAt grows
+
+-- Where no number is cut at k, what a later cut leaves goes on where the cut at k stopped.
+pub cut-grows : (names : Bool) (t : List ℕ) (mode : PartialMode) (n : Node) (k l : ℕ) (v w : Tree) → Spells names t n → CutsNoNumber k n → k ≤ l
+    → cut names t n k mode ≡ Some v → cut names t n l mode ≡ Some w → Extends v w
+cut-grows names t mode n k l v w h c later at_k at_l =
+    subst (Grows (Some v)) at_l (subst (λ x. Grows x (cut names t n l mode)) at_k (node-grows names t mode k l later n h c))
