@@ -17,7 +17,7 @@ use Rattle.jiter_steps.specs.Node.{Node, Nodes, no_nodes, node, NodeMembers, no_
 use Rattle.jiter_steps.specs.Node as grammar
 use Rattle.jiter_steps.specs.Cut.{cut, cut_items, cut_members, cut_number, cut_string, with_item, with_member}
 use Rattle.jiter_steps.specs.Extends.{Extends, ExtendsItems, ExtendsMembers, CutsNoNumber, CutsNoNumberOf, CutsNoNumberOfMembers}
-use Rattle.jiter_steps.proofs.Parts.{Part, item, member, value, part_begin, items, members, parts, Each, by_parts, SpellsPart, SpellsMore, SpellsParts, items-parts, members-parts, part-value, part-ahead, node-ahead, more-ahead, parts-ahead}
+use Rattle.jiter_steps.proofs.Parts.{Part, item, member, value, items, members, parts, Each, by_parts, InOrder, items-order, members-order, node-ahead, order-ahead}
 
 -- A tree goes on from itself.
 items-more : (v : Tree) (vs ws : Items) → Extends v v → ExtendsItems vs ws → ExtendsItems (tree.item v vs) (tree.item v ws)
@@ -155,13 +155,11 @@ module _ (names : Bool) (t : List ℕ) (mode : PartialMode) where
   node-late k (grammar.object b e ms) h le = late b k _ le
 
   module _ {S : Type 0} (s : Sequence S) where
-    parts-late : (k i closer : ℕ) (ps : List Part) (e : ℕ) → SpellsMore names t closer i ps e → k ≤ i → left s k ps ≡ s.none
-    parts-late k i closer [] e h le = refl
-    parts-late k i closer (p ∷ ps) e h le =
-        let spelled = part-value names t p h.3 in
-        let order = node-ahead names t (value p) spelled in
-        let before : k ≤ begin (value p) = omega (arith, h.1.blanks.ordered, h.1.ends, h.2.ordered, part-ahead names t p h.3) in
-        ap₂ (s.put p) (node-late k (value p) spelled before) (parts-late k (end (value p)) closer ps e h.4 (omega arith))
+    parts-late : (k i : ℕ) (ps : List Part) (e : ℕ) → InOrder names t i ps e → k ≤ i → left s k ps ≡ s.none
+    parts-late k i [] e h le = refl
+    parts-late k i (p ∷ ps) e h le =
+        let order = node-ahead names t (value p) h.1 in
+        ap₂ (s.put p) (node-late k (value p) h.1 (omega (arith, h.0))) (parts-late k (end (value p)) ps e h.2 (omega (arith, h.0)))
         ∙ s.skips p s.none
 
   -- What ends by k is whole.
@@ -169,19 +167,11 @@ module _ (names : Bool) (t : List ℕ) (mode : PartialMode) where
   IsWhole k n = Spells names t n → end n ≤ k → cut names t n k mode ≡ Some (value_of t n)
 
   module _ {S : Type 0} (s : Sequence S) (k : ℕ) where
-    more-whole : (i closer : ℕ) (ps : List Part) (e : ℕ) → SpellsMore names t closer i ps e → e ≤ k → Each (IsWhole k) ps
-        → left s k ps ≡ whole s ps
-    more-whole i closer [] e h le each = refl
-    more-whole i closer (p ∷ ps) e h le each =
-        let rest = more-ahead names t closer ps (end (value p)) e h.4 in
-        ap₂ (s.put p) (each.0 (part-value names t p h.3) (omega arith)) (more-whole (end (value p)) closer ps e h.4 le each.1)
-
-    parts-whole : (i closer : ℕ) (ps : List Part) (e : ℕ) → SpellsParts names t closer i ps e → e ≤ k → Each (IsWhole k) ps
-        → left s k ps ≡ whole s ps
-    parts-whole i closer [] e h le each = refl
-    parts-whole i closer (p ∷ ps) e h le each =
-        let rest = more-ahead names t closer ps (end (value p)) e h.2 in
-        ap₂ (s.put p) (each.0 (part-value names t p h.1) (omega arith)) (more-whole (end (value p)) closer ps e h.2 le each.1)
+    parts-whole : (i : ℕ) (ps : List Part) (e : ℕ) → InOrder names t i ps e → e ≤ k → Each (IsWhole k) ps → left s k ps ≡ whole s ps
+    parts-whole i [] e h le each = refl
+    parts-whole i (p ∷ ps) e h le each =
+        let rest = order-ahead names t ps (end (value p)) e h.2 in
+        ap₂ (s.put p) (each.0 h.1 (omega arith)) (parts-whole (end (value p)) ps e h.2 le each.1)
 
   is_whole : (k : ℕ) (n : Node) → Each (IsWhole k) (parts n) → IsWhole k n
   is_whole k (grammar.literal l b e) each h le = if-true (nat_le e k) (Some (literal_tree l)) None (le-leb e k le)
@@ -195,15 +185,15 @@ module _ (names : Bool) (t : List ℕ) (mode : PartialMode) where
       let order = node-ahead names t (grammar.string ps b e) h in
       reached b k _ (omega arith) ∙ if-true (nat_le e k) (Some (tree.string (text_at t ps b e))) _ (le-leb e k le)
   is_whole k (grammar.array b e ns) each h le =
-      let spelled = items-parts names t ns (b + 1) e h.1 in
-      let order = parts-ahead names t 93 (items ns) (b + 1) e spelled in
+      let order = items-order names t ns (b + 1) e h.1 in
+      let after = order-ahead names t (items ns) (b + 1) e order in
       reached b k _ (omega arith)
-      ∙ ap (λ x. Some (tree.array x)) (items-left k ns ∙ parts-whole in_array k (b + 1) 93 (items ns) e spelled le each ∙ sym (items-whole ns))
+      ∙ ap (λ x. Some (tree.array x)) (items-left k ns ∙ parts-whole in_array k (b + 1) (items ns) e order le each ∙ sym (items-whole ns))
   is_whole k (grammar.object b e ms) each h le =
-      let spelled = members-parts names t ms (b + 1) e h.1 in
-      let order = parts-ahead names t 125 (members ms) (b + 1) e spelled in
+      let order = members-order names t ms (b + 1) e h.1 in
+      let after = order-ahead names t (members ms) (b + 1) e order in
       reached b k _ (omega arith)
-      ∙ ap (λ x. Some (tree.object x)) (members-left k ms ∙ parts-whole in_object k (b + 1) 125 (members ms) e spelled le each ∙ sym (members-whole ms))
+      ∙ ap (λ x. Some (tree.object x)) (members-left k ms ∙ parts-whole in_object k (b + 1) (members ms) e order le each ∙ sym (members-whole ms))
 
   pub node-whole : (k : ℕ) (n : Node) → Spells names t n → end n ≤ k → cut names t n k mode ≡ Some (value_of t n)
   node-whole k = by_parts (IsWhole k) (is_whole k)
@@ -232,39 +222,32 @@ module _ (names : Bool) (t : List ℕ) (mode : PartialMode) where
     cuts-members no_members c = tt
     cuts-members (grammar.member key n ms) c = (c.0, cuts-members ms c.1)
 
-    module _ {S : Type 0} (s : Sequence S) (closer e : ℕ) where
+    module _ {S : Type 0} (s : Sequence S) (e : ℕ) where
       last-grows : (p : Part) (x y : Option Tree) (r : S) → Grows x y → s.Goes (s.put p x s.none) (s.put p y r)
       last-grows p None y r h = subst (λ z. s.Goes z (s.put p y r)) (sym (s.skips p s.none)) (s.from_none (s.put p y r))
       last-grows p (Some v) None r h = absurd h
       last-grows p (Some v) (Some w) r h = s.last p v w r h
 
+      abbrev PartsGrow : List Part → Type 0
+      PartsGrow ps = s.Goes (left s k ps) (left s l ps)
+
       -- a part, and those behind it
-      part-grows : (p : Part) (ps : List Part) → SpellsPart names t p → SpellsMore names t closer (end (value p)) ps e
-          → Grows (cut names t (value p) k mode) (cut names t (value p) l mode) → s.Goes (left s k ps) (left s l ps)
-          → s.Goes (left s k (p ∷ ps)) (left s l (p ∷ ps))
+      part-grows : (p : Part) (ps : List Part) → Spells names t (value p) → InOrder names t (end (value p)) ps e
+          → Grows (cut names t (value p) k mode) (cut names t (value p) l mode) → PartsGrow ps → PartsGrow (p ∷ ps)
       part-grows p ps h more here behind = by (cases_lt k (end (value p))) where
-        by : (k < end (value p)) ⊎ (end (value p) ≤ k) → s.Goes (left s k (p ∷ ps)) (left s l (p ∷ ps))
+        by : (k < end (value p)) ⊎ (end (value p) ≤ k) → PartsGrow (p ∷ ps)
         by (inl unended) =
-            let gone = parts-late s k (end (value p)) closer ps e more (omega arith) in
+            let gone = parts-late s k (end (value p)) ps e more (omega arith) in
             subst (λ r. s.Goes (s.put p (cut names t (value p) k mode) r) (left s l (p ∷ ps))) (sym gone)
             (last-grows p (cut names t (value p) k mode) (cut names t (value p) l mode) (left s l ps) here)
         by (inr all) =
-            let spelled = part-value names t p h in
-            subst (λ x. s.Goes (s.put p x (left s k ps)) (left s l (p ∷ ps))) (sym (node-whole k (value p) spelled all))
+            subst (λ x. s.Goes (s.put p x (left s k ps)) (left s l (p ∷ ps))) (sym (node-whole k (value p) h all))
             (subst (λ y. s.Goes (s.put p (Some (value_of t (value p))) (left s k ps)) (s.put p y (left s l ps)))
-            (sym (node-whole l (value p) spelled (omega arith))) (s.more p (value_of t (value p)) (left s k ps) (left s l ps) behind))
+            (sym (node-whole l (value p) h (omega arith))) (s.more p (value_of t (value p)) (left s k ps) (left s l ps) behind))
 
-      more-grows : (i : ℕ) (ps : List Part) → SpellsMore names t closer i ps e → CutsNone ps → Each GrowsAt ps
-          → s.Goes (left s k ps) (left s l ps)
-      more-grows i [] h c each = s.from_none s.none
-      more-grows i (p ∷ ps) h c each =
-          part-grows p ps h.3 h.4 (each.0 (part-value names t p h.3) c.0) (more-grows (end (value p)) ps h.4 c.1 each.1)
-
-      parts-grow : (i : ℕ) (ps : List Part) → SpellsParts names t closer i ps e → CutsNone ps → Each GrowsAt ps
-          → s.Goes (left s k ps) (left s l ps)
+      parts-grow : (i : ℕ) (ps : List Part) → InOrder names t i ps e → CutsNone ps → Each GrowsAt ps → PartsGrow ps
       parts-grow i [] h c each = s.from_none s.none
-      parts-grow i (p ∷ ps) h c each =
-          part-grows p ps h.1 h.2 (each.0 (part-value names t p h.1) c.0) (more-grows (end (value p)) ps h.2 c.1 each.1)
+      parts-grow i (p ∷ ps) h c each = part-grows p ps h.1 h.2 (each.0 h.1 c.0) (parts-grow (end (value p)) ps h.2 c.1 each.1)
 
     -- what is kept of a string that k cuts
     kept-grows : (ps : List Piece) (b e : ℕ) → b < k
@@ -304,12 +287,12 @@ module _ (names : Bool) (t : List ℕ) (mode : PartialMode) where
         begun-grows b (tree.array (cut_items names t ns k mode)) (tree.array (cut_items names t ns l mode))
         (subst (λ x. ExtendsItems x (cut_items names t ns l mode)) (sym (items-left k ns))
         (subst (ExtendsItems (left in_array k (items ns))) (sym (items-left l ns))
-        (parts-grow in_array 93 e (b + 1) (items ns) (items-parts names t ns (b + 1) e h.1) (cuts-items ns c) each)))
+        (parts-grow in_array e (b + 1) (items ns) (items-order names t ns (b + 1) e h.1) (cuts-items ns c) each)))
     grows (grammar.object b e ms) each h c =
         begun-grows b (tree.object (cut_members names t ms k mode)) (tree.object (cut_members names t ms l mode))
         (subst (λ x. ExtendsMembers x (cut_members names t ms l mode)) (sym (members-left k ms))
         (subst (ExtendsMembers (left in_object k (members ms))) (sym (members-left l ms))
-        (parts-grow in_object 125 e (b + 1) (members ms) (members-parts names t ms (b + 1) e h.1) (cuts-members ms c) each)))
+        (parts-grow in_object e (b + 1) (members ms) (members-order names t ms (b + 1) e h.1) (cuts-members ms c) each)))
 
     node-grows : (n : Node) → GrowsAt n
     node-grows = by_parts GrowsAt grows

@@ -134,20 +134,38 @@ module _ (names : Bool) (t : List ℕ) where
   part-ahead (item n) h = omega arith
   part-ahead (member key n) h = omega (arith, key-ahead key (begin n) h.0)
 
+  -- the values stand in order, from i to before e
+  abbrev pub InOrder : ℕ → List Part → ℕ → Type 0
+  InOrder i [] e = i < e
+  InOrder i (p ∷ ps) e = (i ≤ begin (value p)) × Spells names t (value p) × InOrder (end (value p)) ps e
+
+  more-order : (closer : ℕ) (ps : List Part) (i e : ℕ) → SpellsMore closer i ps e → InOrder i ps e
+  more-order closer [] i e h = behind-ahead i closer e h
+  more-order closer (p ∷ ps) i e h =
+      let before : i ≤ begin (value p) = omega (arith, behind-ahead i 44 h.0 h.1, h.2.ordered, part-ahead p h.3) in
+      (before, part-value p h.3, more-order closer ps (end (value p)) e h.4)
+
+  pub parts-order : (closer : ℕ) (ps : List Part) (i e : ℕ) → SpellsParts closer i ps e → InOrder i ps e
+  parts-order closer [] i e h = behind-ahead i closer e h
+  parts-order closer (p ∷ ps) i e h =
+      let before : i ≤ begin (value p) = omega (arith, h.0.ordered, part-ahead p h.1) in
+      (before, part-value p h.1, more-order closer ps (end (value p)) e h.2)
+
+  pub items-order : (ns : Nodes) (i e : ℕ) → SpellsItems names t i ns e → InOrder i (items ns) e
+  items-order ns i e h = parts-order 93 (items ns) i e (items-parts ns i e h)
+
+  pub members-order : (ms : NodeMembers) (i e : ℕ) → SpellsMembers names t i ms e → InOrder i (members ms) e
+  members-order ms i e h = parts-order 125 (members ms) i e (members-parts ms i e h)
+
   abbrev IsAhead : Node → Type 0
   IsAhead n = Spells names t n → begin n < end n
 
-  more-after : (closer : ℕ) (ps : List Part) (i e : ℕ) → SpellsMore closer i ps e → Each IsAhead ps → i < e
-  more-after closer [] i e h each = behind-ahead i closer e h
-  more-after closer (p ∷ ps) i e h each =
-      let v = each.0 (part-value p h.3) in
-      omega (arith, behind-ahead i 44 h.0 h.1, h.2.ordered, part-ahead p h.3, more-after closer ps (end (value p)) e h.4 each.1)
-
-  parts-after : (closer : ℕ) (ps : List Part) (i e : ℕ) → SpellsParts closer i ps e → Each IsAhead ps → i < e
-  parts-after closer [] i e h each = behind-ahead i closer e h
-  parts-after closer (p ∷ ps) i e h each =
-      let v = each.0 (part-value p h.1) in
-      omega (arith, h.0.ordered, part-ahead p h.1, more-after closer ps (end (value p)) e h.2 each.1)
+  order-after : (ps : List Part) (i e : ℕ) → InOrder i ps e → Each IsAhead ps → i < e
+  order-after [] i e h each = h
+  order-after (p ∷ ps) i e h each =
+      let here = each.0 h.1 in
+      let rest = order-after ps (end (value p)) e h.2 each.1 in
+      omega (arith, h.0)
 
   is_ahead : (n : Node) → Each IsAhead (parts n) → IsAhead n
   is_ahead (grammar.literal literal.Null b e) each h = let after = stands-length t b e (word_of literal.Null) h in omega arith
@@ -155,18 +173,21 @@ module _ (names : Bool) (t : List ℕ) where
   is_ahead (grammar.literal literal.False b e) each h = let after = stands-length t b e (word_of literal.False) h in omega arith
   is_ahead (grammar.number b e) each h = number-ahead b e h (cases_eq b e)
   is_ahead (grammar.string ps b e) each h = (string-ordered t b e ps h).0
-  is_ahead (grammar.array b e ns) each h = let after = parts-after 93 (items ns) (b + 1) e (items-parts ns (b + 1) e h.1) each in omega arith
-  is_ahead (grammar.object b e ms) each h = let after = parts-after 125 (members ms) (b + 1) e (members-parts ms (b + 1) e h.1) each in omega arith
+  is_ahead (grammar.array b e ns) each h = let after = order-after (items ns) (b + 1) e (items-order ns (b + 1) e h.1) each in omega arith
+  is_ahead (grammar.object b e ms) each h = let after = order-after (members ms) (b + 1) e (members-order ms (b + 1) e h.1) each in omega arith
 
   pub node-ahead : (n : Node) → Spells names t n → begin n < end n
   node-ahead = by_parts IsAhead is_ahead
 
-  all_ahead : (ps : List Part) → Each IsAhead ps
-  all_ahead [] = tt
-  all_ahead (p ∷ ps) = (node-ahead (value p), all_ahead ps)
+  pub order-ahead : (ps : List Part) (i e : ℕ) → InOrder i ps e → i < e
+  order-ahead [] i e h = h
+  order-ahead (p ∷ ps) i e h =
+      let here = node-ahead (value p) h.1 in
+      let rest = order-ahead ps (end (value p)) e h.2 in
+      omega (arith, h.0)
 
   pub more-ahead : (closer : ℕ) (ps : List Part) (i e : ℕ) → SpellsMore closer i ps e → i < e
-  more-ahead closer ps i e h = more-after closer ps i e h (all_ahead ps)
+  more-ahead closer ps i e h = order-ahead ps i e (more-order closer ps i e h)
 
   pub parts-ahead : (closer : ℕ) (ps : List Part) (i e : ℕ) → SpellsParts closer i ps e → i < e
-  parts-ahead closer ps i e h = parts-after closer ps i e h (all_ahead ps)
+  parts-ahead closer ps i e h = order-ahead ps i e (parts-order closer ps i e h)
