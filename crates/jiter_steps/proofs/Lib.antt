@@ -6,6 +6,7 @@ pub mod Front
 pub mod Growth
 pub mod NodeRules
 pub mod Nodes
+pub mod NumberCut
 pub mod Parts
 pub mod Pieces
 pub mod PlacesExplained
