@@ -2,6 +2,7 @@ pub mod Blanks
 pub mod Bodies
 pub mod Bounds
 pub mod Firsts
+pub mod Fused
 pub mod NodeRules
 pub mod Nodes
 pub mod Pieces
