@@ -4,9 +4,12 @@ use Rattle.std.specs.Prelude.{slice_get, Option, Some, None}
 use Rattle.std.proofs.lemmas.Option.{slice_get_within}
 use Rattle.std.proofs.lemmas.Bool.{eqb-true}
 use Rattle.jiter_scan.specs.Kind.{trailing_comma, expected_colon, expected_list_comma_or_end, expected_object_comma_or_end, key_must_be_a_string}
+use Rattle.jiter_scan.specs.Scanned.{taken, failed}
+use Rattle.jiter_scan.specs.Word.{Extent}
+use Rattle.jiter_scan.specs.NumberReading.{extent_then}
 use Rattle.jiter_steps.specs.Blank.{is_blank, past_blanks, IsBlank}
 use Rattle.jiter_steps.specs.Node.{StandsBehind}
-use Rattle.jiter_steps.specs.Step.{Row, Step, more, closed, stuck, step, step_then, array_first, array_comma, array_step, object_first, object_comma, object_step, colon, value_first, object_colon}
+use Rattle.jiter_steps.specs.Step.{Step, more, closed, stuck, step, array_first, array_comma, array_step, object_first, object_comma, object_step, colon, value_first, object_colon}
 use Rattle.jiter_steps.proofs.Nodes.{blank-passed, passed-blank}
 
 -- where a step goes on; where it closes, by the byte closer
@@ -20,6 +23,11 @@ abbrev pub OpenStepIs : (ℕ → Type 0) → Step → Type 0
 OpenStepIs More (more j) = More j
 OpenStepIs More (closed e) = ⊥
 OpenStepIs More (stuck k j) = Unit {0}
+
+-- a place that an extent takes
+abbrev pub ExtentIs : (ℕ → Type 0) → Extent → Type 0
+ExtentIs More (taken u j) = More j
+ExtentIs More (failed k j) = Unit {0}
 
 -- a byte stands behind blanks
 pub record ByteBehind (t : List ℕ) (i j : ℕ) : Type 0 where
@@ -113,30 +121,29 @@ module _ (t : List ℕ) where
   pub object_step-is : (i : ℕ) → i ≤ length t → StepIs t i 125 (Behind t i 44 (QuoteBehind t)) (step t (object_step t) i)
   object_step-is i h = object_step-at i (past_blanks t i) (passed-blank t i h) _ refl
 
-  value_first-at : (i j : ℕ) → IsBlank t i j → (o : Option ℕ) → slice_get t j ≡ o → OpenStepIs (ByteBehind t i) (value_first j o)
+  value_first-at : (i j : ℕ) → IsBlank t i j → (o : Option ℕ) → slice_get t j ≡ o → ExtentIs (ByteBehind t i) (value_first j o)
   value_first-at i j b None e = tt
   value_first-at i j b (Some c) e = record { blanks = b; within = slice_get_within t j c e }
 
-  colon-then : (i c : ℕ) (s : Step) → StandsBehind t i 58 c → OpenStepIs (ByteBehind t c) s → OpenStepIs (Behind t i 58 (ByteBehind t)) s
-  colon-then i c (more j) b h = (c, b, h)
-  colon-then i c (closed e) b h = absurd h
-  colon-then i c (stuck k j) b h = tt
+  colon-then : (i c : ℕ) (x : Extent) → StandsBehind t i 58 c → ExtentIs (ByteBehind t c) x → ExtentIs (Behind t i 58 (ByteBehind t)) x
+  colon-then i c (taken u j) b h = (c, b, h)
+  colon-then i c (failed k j) b h = tt
 
-  colon-at : (i j : ℕ) → IsBlank t i j → (o : Option ℕ) → slice_get t j ≡ o → OpenStepIs (Behind t i 58 (ByteBehind t)) (step_then (colon j o) (λ k. step t value_first k))
+  colon-at : (i j : ℕ) → IsBlank t i j → (o : Option ℕ) → slice_get t j ≡ o → ExtentIs (Behind t i 58 (ByteBehind t)) (extent_then (colon j o) (step t value_first))
   colon-at i j b None e = tt
   colon-at i j b (Some c) e = pick (c == 58) refl where
-    pick : (y : Bool) → (c == 58) ≡ y → OpenStepIs (Behind t i 58 (ByteBehind t)) (step_then (cond y (more (j + 1)) (stuck expected_colon j)) (λ k. step t value_first k))
+    pick : (y : Bool) → (c == 58) ≡ y → ExtentIs (Behind t i 58 (ByteBehind t)) (extent_then (cond y (taken tt (j + 1)) (failed expected_colon j)) (step t value_first))
     pick true h =
         let inside = slice_get_within t j c e in
         colon-then i (j + 1) (step t value_first (j + 1)) (behind i j 58 b (byte-is j c 58 e h))
         (value_first-at (j + 1) (past_blanks t (j + 1)) (passed-blank t (j + 1) (omega arith)) _ refl)
     pick false h = tt
 
-  pub object_colon-is : (i : ℕ) → i ≤ length t → OpenStepIs (Behind t i 58 (ByteBehind t)) (object_colon t i)
+  pub object_colon-is : (i : ℕ) → i ≤ length t → ExtentIs (Behind t i 58 (ByteBehind t)) (object_colon t i)
   object_colon-is i h = colon-at i (past_blanks t i) (passed-blank t i h) _ refl
 
   -- complete: what is there is read
-  pub row-at : (row : Row) (i j c : ℕ) → IsBlank t i j → slice_get t j ≡ Some c → is_blank c ≡ false → step t row i ≡ row j (Some c)
+  pub row-at : {A : Type 0} (row : ℕ → Option ℕ → A) (i j c : ℕ) → IsBlank t i j → slice_get t j ≡ Some c → is_blank c ≡ false → step t row i ≡ row j (Some c)
   row-at row i j c b e other = ap (λ k. row k (slice_get t k)) (blank-passed t i j c b e other) ∙ ap (row j) e
 
   pub array_first-closed : (i e : ℕ) → StandsBehind t i 93 e → step t array_first i ≡ closed e
@@ -168,6 +175,7 @@ module _ (t : List ℕ) where
   object_step-more i m j h b e =
       row-at (object_step t) i h.at 44 h.blanks h.here refl ∙ ap (step t object_comma) (sym h.ends) ∙ row-at object_comma m j 34 b e refl
 
-  pub object_colon-more : (i m j c : ℕ) → StandsBehind t i 58 m → IsBlank t m j → slice_get t j ≡ Some c → is_blank c ≡ false → object_colon t i ≡ more j
+  pub object_colon-more : (i m j c : ℕ) → StandsBehind t i 58 m → IsBlank t m j → slice_get t j ≡ Some c → is_blank c ≡ false → object_colon t i ≡ taken tt j
   object_colon-more i m j c h b e other =
-      ap (λ s. step_then s (λ k. step t value_first k)) (row-at colon i h.at 58 h.blanks h.here refl) ∙ ap (step t value_first) (sym h.ends) ∙ row-at value_first m j c b e other
+      ap (λ x. extent_then x (step t value_first)) (row-at colon i h.at 58 h.blanks h.here refl) ∙ ap (step t value_first) (sym h.ends)
+      ∙ row-at value_first m j c b e other
