@@ -1,8 +1,10 @@
+pub mod Answered
 pub mod Blanks
 pub mod Bodies
 pub mod Bounds
 pub mod Firsts
 pub mod Fused
+pub mod Instances
 pub mod NodeRules
 pub mod Nodes
 pub mod Pieces
