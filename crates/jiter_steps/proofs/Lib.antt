@@ -10,6 +10,7 @@ pub mod Nodes
 pub mod Pieces
 pub mod PlacesExplained
 pub mod RowSteps
+pub mod ScalarLaws
 pub mod StringComplete
 pub mod StringCut
 pub mod StringCutLaws
