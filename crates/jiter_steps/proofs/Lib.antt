@@ -1,9 +1,12 @@
+pub mod Answered
 pub mod Blanks
 pub mod Bodies
 pub mod Bounds
 pub mod Firsts
 pub mod Front
+pub mod Fused
 pub mod Growth
+pub mod Instances
 pub mod NodeRules
 pub mod Nodes
 pub mod NumberCut
@@ -11,6 +14,7 @@ pub mod Parts
 pub mod Pieces
 pub mod PlacesExplained
 pub mod RowSteps
+pub mod ScalarLaws
 pub mod StringComplete
 pub mod StringCut
 pub mod StringCutLaws
