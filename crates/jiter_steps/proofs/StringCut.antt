@@ -1,0 +1,195 @@
+-- A string that is cut, where it is kept: the characters of the pieces that end before the cut.
+use Rattle.std.proofs.Common.{◌≡◌, ◌⊎◌, inl, inr, ℕ, suc, ◌+◌, ◌<◌, ◌≤◌, Bool, true, false, ◌&&◌, List, [], ◌∷◌, ◌++◌, length, take, refl, sym, ap, ap₂, ◌∙◌, subst, arith, append-nil, append_assoc}
+use Rattle.std.specs.Prelude.{slice_get, Some, nat_le, nat_lt}
+use Rattle.std.specs.Char.{encode_utf8}
+use Rattle.std.specs.Str.{all_scalars, IsUtf8}
+use Rattle.std.proofs.lemmas.Bool.{le-leb, cases_lt, lt-ltb}
+use Rattle.std.proofs.lemmas.Bool.Decides.{nat_tests}
+use Rattle.std.proofs.lemmas.Option.{slice_get_past}
+use Rattle.jiter_steps.specs.Escape.{is_high}
+use Rattle.jiter_scan.specs.Stands.{Stands}
+use Rattle.jiter_steps.specs.Piece.{IsPlain, IsEscape, IsPiece, Piece, SpellsChar, SpellsPieces, SpellsString, characters, text_of, pieces_to}
+use Rattle.jiter_scan.specs.Scanned.{taken, failed}
+use Rattle.jiter_steps.specs.StringReading.{Stop, unclosed, cut, over, few, hex_digits_or, bad_digit, unit_at, hex_digits_at, behind, paired, second_u, second, single, numbered, escaped, found_at, Body, before, body_at, kept, shortened, as_kept, ended, content_at, string_at, whole, raw}
+use Rattle.jiter_steps.proofs.Utf8Shape.{lead}
+use Rattle.jiter_scan.proofs.Choices.{if-true, if-false}
+use Rattle.jiter_scan.proofs.Standing.{stands-split}
+use Rattle.jiter_steps.proofs.Front.{front-length, front-get, front-stands}
+use Rattle.jiter_steps.proofs.StringStand.{pieces-ahead}
+use Rattle.jiter_steps.proofs.Bodies.{body_at-found, found-end}
+use Rattle.jiter_steps.proofs.StringComplete.{ArePrinted, plain-printed, bytes-read, char-read, found-backslash, found-number, UnitAt, unit-at}
+use Rattle.jiter_scan.specs.Kind.{eof_string}
+use Rattle.jiter_steps.proofs.Tails.{IsFront, tail-unfinished, tail-taken}
+
+module _ (t : List ℕ) (k : ℕ) (within : k ≤ length t) where
+  abbrev u : List ℕ
+  u = take k t
+
+  pub long : length u ≡ k
+  long = front-length t k within
+
+  pub same : (x b : ℕ) → x < k → slice_get t x ≡ Some b → slice_get u x ≡ Some b
+  same x b h e = front-get t k within x b h e
+
+  char-cut : (i j c : ℕ) → SpellsChar t i j c → j ≤ k → SpellsChar u i j c
+  char-cut i j c s l = record { bytes = s.bytes; stands = front-stands t k within i j s.bytes s.stands l; piece = s.piece }
+
+  -- the input ends at k, within or before a character
+  record EndsAt (i : ℕ) : Type 0 where
+    rest : List ℕ
+    front : IsFront rest
+    bytes : (body_at u i).bytes ≡ rest
+    stop : ((body_at u i).stop ≡ unclosed) ⊎ ((body_at u i).stop ≡ cut)
+
+  any-front : IsFront []
+  any-front = record { c = 65; more = encode_utf8 65; scalar = refl; is = refl; some = let l = lead 65 refl in subst (λ x. 0 < length x) (sym l.is) (omega arith) }
+
+  ends-here : (i : ℕ) → k ≤ i → EndsAt i
+  ends-here i h =
+      let b = body_at-found u i (over unclosed) (found-end u i (omega (arith, long))) in
+      record { rest = []; front = any-front; bytes = ap (λ (x : Body). x.bytes) b; stop = inl (ap (λ (x : Body). x.stop) b) }
+
+  ends-cut : (i : ℕ) → found_at u i ≡ over cut → EndsAt i
+  ends-cut i e =
+      let b = body_at-found u i (over cut) e in
+      record { rest = []; front = any-front; bytes = ap (λ (x : Body). x.bytes) b; stop = inr (ap (λ (x : Body). x.stop) b) }
+
+  -- a plain character's front
+  front-split : (i j : ℕ) (w : List ℕ) → Stands t i j w → i ≤ k → k < j → (v : List ℕ) × (more : List ℕ) × (w ≡ v ++ more) × Stands u i k v × (0 < length more)
+  front-split i j [] h l m = absurd (omega (arith, h))
+  front-split i j (b ∷ w) h l m = elim (cases_lt i k) [
+    | inl lt ↦ let r = front-split (i + 1) j w h.1 (omega arith) m in (b ∷ r.0, r.1, ap (λ x. b ∷ x) r.2, (same i b lt h.0, r.3), r.4)
+    | inr ge ↦ ([], b ∷ w, refl, (let e : i ≡ k = omega arith in e), (let e : 0 < suc (length w) = omega arith in e))
+  ]
+
+  printed-front : (v more : List ℕ) → ArePrinted (v ++ more) → ArePrinted v
+  printed-front [] more h = tt
+  printed-front (b ∷ v) more h = (h.0, printed-front v more h.1)
+
+  plain-ends : (i j c : ℕ) (p : List ℕ) → IsPlain p c → Stands t i j p → i ≤ k → k < j → EndsAt i
+  plain-ends i j c p is s l m =
+      let r = front-split i j (encode_utf8 c) (subst (Stands t i j) is.is s) l m in
+      let all = plain-printed c is.printed is.no_quote is.no_backslash (lead c is.scalar) in
+      let b = bytes-read u i k r.0 (printed-front r.0 r.1 (subst ArePrinted r.2 all)) r.3 in
+      let e = body_at-found u k (over unclosed) (found-end u k (omega (arith, long))) in
+      let both = b ∙ ap (before r.0 false) e in
+      record {
+        rest = r.0;
+        front = record { c = c; more = r.1; scalar = is.scalar; is = r.2; some = r.4 };
+        bytes = ap (λ (x : Body). x.bytes) both ∙ append-nil r.0;
+        stop = inl (ap (λ (x : Body). x.stop) both);
+      }
+
+  digits-few : (x : ℕ) → k < x + 4 → hex_digits_at u x ≡ few
+  digits-few x h = if-true (nat_lt (length u) (x + 4)) few (hex_digits_or (bad_digit u x) (unit_at u x)) (lt-ltb (length u) (x + 4) (omega (arith, long)))
+
+  -- an escape's front
+  unit-ends : (i e n : ℕ) → UnitAt t i e n → i < k → k < i + 6 → found_at u i ≡ over cut
+  unit-ends i e n x l m = found-backslash u i (same i 92 l x.slash) ∙ elim (cases_lt (i + 1) k) [
+    | inl lt ↦ ap (escaped u (i + 1)) (same (i + 1) 117 lt x.letter) ∙ ap (behind (numbered u (i + 1 + 1 + 4))) (digits-few (i + 1 + 1) (omega arith))
+    | inr ge ↦ ap (escaped u (i + 1)) (slice_get_past u (i + 1) (omega (arith, long)))
+  ]
+
+  escape-ends : (i j c : ℕ) (p : List ℕ) → IsEscape p c → Stands t i j p → i < k → k < j → found_at u i ≡ over cut
+  escape-ends i j c p (inl is) s l m =
+      let h : Stands t i j (92 ∷ is.sign ∷ []) = subst (Stands t i j) is.is s in
+      found-backslash u i (same i 92 l h.0) ∙ ap (escaped u (i + 1)) (slice_get_past u (i + 1) (omega (arith, long, h.1.1)))
+  escape-ends i j c p (inr (inl is)) s l m = let x = unit-at t i j c p is.0 s in unit-ends i j c x l (omega (arith, x.ends))
+  escape-ends i j c p (inr (inr is)) s l m =
+      let h = stands-split t i j is.front is.back (subst (Stands t i j) is.is s) in
+      let x = unit-at t i h.0 is.high is.front is.first h.1 in
+      let o = i + 1 + 1 + 4 in
+      let at : h.0 ≡ o = omega (arith, x.ends) in
+      let y = unit-at t o j is.low is.back is.second (subst (λ o. Stands t o j is.back) at h.2) in
+      elim (cases_lt k o) [
+        | inl lt ↦ unit-ends i h.0 is.high x l (omega arith)
+        | inr ge ↦
+            let first = front-stands t k within i h.0 is.front h.1 (omega (arith, at)) in
+            found-number u i h.0 is.high (unit-at u i h.0 is.high is.front is.first first)
+            ∙ if-true (is_high is.high) (second u is.high o (slice_get u o)) (single o is.high) is.is_high
+            ∙ second-ends o j is.high is.low y ge (omega (arith, y.ends))
+      ] where
+        second-ends : (o j high low : ℕ) → UnitAt t o j low → o ≤ k → k < o + 6 → second u high o (slice_get u o) ≡ over cut
+        second-ends o j high low y ge m = elim (cases_lt o k) [
+          | inr none ↦ ap (second u high o) (slice_get_past u o (omega (arith, long)))
+          | inl some ↦ ap (second u high o) (same o 92 some y.slash) ∙ elim (cases_lt (o + 1) k) [
+            | inr none ↦ ap (second_u u high (o + 1)) (slice_get_past u (o + 1) (omega (arith, long)))
+            | inl more ↦ ap (second_u u high (o + 1)) (same (o + 1) 117 more y.letter) ∙ ap (behind (paired high (o + 1 + 1 + 4))) (digits-few (o + 1 + 1) (omega arith))
+          ]
+        ]
+
+  char-ends : (i j c : ℕ) → SpellsChar t i j c → i ≤ k → k < j → EndsAt i
+  char-ends i j c s l m = by s.piece where
+    by : IsPiece s.bytes c → EndsAt i
+    by (inl p) = plain-ends i j c s.bytes p s.stands l m
+    by (inr x) = elim (cases_lt i k) [ inl lt ↦ ends-cut i (escape-ends i j c s.bytes x s.stands lt m) | inr ge ↦ ends-here i ge ]
+
+  record CutAt (i : ℕ) (ps : List Piece) : Type 0 where
+    rest : List ℕ
+    front : IsFront rest
+    bytes : (body_at u i).bytes ≡ text_of (pieces_to k ps) ++ rest
+    stop : ((body_at u i).stop ≡ unclosed) ⊎ ((body_at u i).stop ≡ cut)
+    scalars : all_scalars (characters (pieces_to k ps)) ≡ true
+
+  pieces-cut : (ps : List Piece) (i q : ℕ) → SpellsPieces t i ps q → i ≤ k → k ≤ q → CutAt i ps
+  pieces-cut [] i q s l m = let e = ends-here i (omega (arith, s)) in record { rest = e.rest; front = e.front; bytes = e.bytes; stop = e.stop; scalars = refl }
+  pieces-cut (p ∷ ps) i q s l m = elim (cases_lt k p.end) [
+    | inl lt ↦
+        let e = char-ends i p.end p.character s.0 l lt in
+        let none : [] ≡ pieces_to k (p ∷ ps) = sym (if-false (nat_le p.end k) (p ∷ pieces_to k ps) [] (no p.end lt)) in
+        record { rest = e.rest; front = e.front; bytes = e.bytes ∙ ap (λ x. text_of x ++ e.rest) none; stop = e.stop; scalars = subst (λ x. all_scalars (characters x) ≡ true) none refl }
+    | inr ge ↦
+        let x = char-read u i p.end p.character (char-cut i p.end p.character s.0 ge) in
+        let r = pieces-cut ps p.end q s.1 ge m in
+        let some : p ∷ pieces_to k ps ≡ pieces_to k (p ∷ ps) = sym (if-true (nat_le p.end k) (p ∷ pieces_to k ps) [] (le-leb p.end k ge)) in
+        record {
+          rest = r.rest;
+          front = r.front;
+          bytes = ap (λ (b : Body). b.bytes) x.1 ∙ ap (λ l. encode_utf8 p.character ++ l) r.bytes ∙ sym (append_assoc (encode_utf8 p.character) (text_of (pieces_to k ps)) r.rest) ∙ ap (λ y. text_of y ++ r.rest) some;
+          stop = subst (λ (z : Stop). (z ≡ unclosed) ⊎ (z ≡ cut)) (sym (ap (λ (b : Body). b.stop) x.1)) r.stop;
+          scalars = subst (λ y. all_scalars (characters y) ≡ true) some (ap₂ (λ (a b : Bool). a && b) x.2 r.scalars);
+        }
+  ] where
+    no : (e : ℕ) → k < e → nat_le e k ≡ false
+    no e h = grind (arith, nat_tests)
+
+  pub kept-cut : (i e : ℕ) (ps : List Piece) → SpellsString t i ps e → i < k → k < e → (o : Bool) × (string_at kept u i ≡ taken (record { owned = o; bytes = text_of (pieces_to k ps) }) k)
+  unfolding content_at
+  kept-cut i e ps s l m =
+      let c = pieces-cut ps (i + 1) s.close s.spelled (omega arith) (omega (arith, s.ends)) in
+      let b = body_at u (i + 1) in
+      let text = text_of (pieces_to k ps) in
+      let utf8 : IsUtf8 text = (characters (pieces_to k ps), (c.scalars, refl)) in
+      let kept_so : as_kept (i + 1) b.owned b.bytes (length u) ≡ taken (record { owned = b.owned; bytes = text }) k =
+      ap (λ l. as_kept (i + 1) b.owned l (length u)) c.bytes ∙ ap (shortened (i + 1) b.owned (text ++ c.rest) (length u)) (tail-unfinished text c.rest utf8 c.front)
+      ∙ ap₂ (λ (l : List ℕ) (n : ℕ). taken (record { owned = b.owned; bytes = l }) n) (tail-taken text c.rest utf8 c.front) long in
+      (b.owned, elim c.stop [ inl x ↦ ap (ended kept u (i + 1) b.bytes b.owned) x ∙ kept_so | inr x ↦ ap (ended kept u (i + 1) b.bytes b.owned) x ∙ kept_so ])
+
+  open-whole : (bs : List ℕ) (o : Bool) (s : Stop) → (s ≡ unclosed) ⊎ (s ≡ cut) → (i : ℕ) → (ended whole u i bs o s ≡ failed eof_string (length u)) × (ended raw u i bs o s ≡ failed eof_string (length u))
+  open-whole bs o s (inl h) i = (ap (ended whole u i bs o) h, ap (ended raw u i bs o) h)
+  open-whole bs o s (inr h) i = (ap (ended whole u i bs o) h, ap (ended raw u i bs o) h)
+
+  -- and where it isn't kept, the end of input is the fault
+  pub whole-cut : (i e : ℕ) (ps : List Piece) → SpellsString t i ps e → i < k → k < e → (string_at whole u i ≡ failed eof_string k) × (string_at raw u i ≡ failed eof_string k)
+  unfolding content_at
+  whole-cut i e ps s l m =
+      let c = pieces-cut ps (i + 1) s.close s.spelled (omega arith) (omega (arith, s.ends)) in
+      let b = body_at u (i + 1) in
+      let r = open-whole b.bytes b.owned b.stop c.stop (i + 1) in
+      (r.0 ∙ ap (failed eof_string) long, r.1 ∙ ap (failed eof_string) long)
+
+  pieces-kept : (ps : List Piece) (i q : ℕ) → SpellsPieces t i ps q → q ≤ k → SpellsPieces u i ps q
+  pieces-kept [] i q h l = h
+  pieces-kept (p ∷ ps) i q h l = (char-cut i p.end p.character h.0 (omega (arith, pieces-ahead t ps p.end q h.1)), pieces-kept ps p.end q h.1 l)
+
+  -- a string that ends before the cut is spelled as it was
+  pub string-still : (i e : ℕ) (ps : List Piece) → SpellsString t i ps e → e ≤ k → SpellsString u i ps e
+  string-still i e ps s l =
+      let ends = s.ends in
+      record {
+        opens = same i 34 (omega (arith, pieces-ahead t ps (i + 1) s.close s.spelled)) s.opens;
+        close = s.close;
+        spelled = pieces-kept ps (i + 1) s.close s.spelled (omega arith);
+        closes = same s.close 34 (omega arith) s.closes;
+        ends = s.ends;
+      }
