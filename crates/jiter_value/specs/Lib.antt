@@ -1,2 +1,2 @@
-pub mod View
-pub mod Answers
+pub mod Value
+pub mod Read

@@ -1,23 +1,23 @@
 //! Reading one value, by recursion.
-ghost use Rattle.std.specs.Prelude.{◌≡◌, ◌+◌, ◌≤◌, ◌<◌, [], ◌∷◌, ◌++◌, IfOk, IfErr, OnOk, true, false, length, slice_index};
-ghost use Rattle.jiter_steps.specs.Literal.{literal_tree, start_of};
-ghost use Rattle.jiter_steps.specs.Node.{number_tree};
+ghost use Rattle.std.specs.Prelude.{◌≡◌, ◌≤◌, ◌<◌, OnOk, length};
 ghost use Rattle.jiter_scan.specs.NumberView.{number_view};
-ghost use Rattle.jiter_steps.specs.Read.{value_at, scanned};
-ghost use Rattle.jiter_steps.specs.Answer.{whole_trees, answer};
 ghost use Rattle.jiter_steps.specs.Blank.{past_blanks};
-ghost use Rattle.jiter_value.specs.View.{view};
-ghost use Rattle.jiter_value.specs.Answers.{Gives, inside_at, IsErrOfFault, IsRefusalAt, IsRefusalFrom};
+ghost use Rattle.jiter_steps.specs.Literal.{literal_tree};
+ghost use Rattle.jiter_steps.specs.Node.{number_tree};
+ghost use Rattle.jiter_steps.specs.Read.{scalar_at, container_at, inside_at, value_at};
+ghost use Rattle.jiter_steps.specs.Answer.{whole_trees, answer};
+ghost use Rattle.jiter_steps.specs.ReadError.{WhereRefused};
+ghost use Rattle.jiter_steps.specs.Parse.{Moves, Reads, Gives};
+ghost use Rattle.jiter_steps.specs.StringDecoder.{WantsMemory};
+ghost use Rattle.jiter_value.specs.Value.{view, MayGrowAs, MayGrowAt, MayGrow};
+ghost use Rattle.jiter_value.specs.Read.{member_view, array_at, object_at, GivesWhole};
 
 use crate::value::JsonValue;
-use jiter_scan::number_decoder::number_at;
-use jiter_scan::{JsonErrorType, NumberAny, NumberInt};
-use jiter_steps::fault::{Fault, Refusal, fault_at};
-use jiter_steps::parse::{
-    Literal, Start, Step, array_continued, array_opened, finish, key_ended, literal_end,
-    object_continued, object_opened, start_of, value_begin,
-};
-use jiter_steps::string_decoder::string_at;
+use jiter_scan::errors::{Fault, FaultKind};
+use jiter_scan::memory::push;
+use jiter_scan::{NumberAny, NumberInt};
+use jiter_steps::parse::{Literal, Parser, Start, start_of};
+use jiter_steps::read_error::ReadError;
 use std::alloc::Global;
 use std::borrow::CowStr;
 
@@ -34,54 +34,6 @@ fn literal_value<'j>(literal: Literal) -> JsonValue<'j>
     }
 }
 
-fn push_item<'j>(
-    items: &mut Vec<JsonValue<'j>>,
-    item: JsonValue<'j>,
-    at: usize,
-) -> Result<(), Refusal>
-    ensures ok { OnOk result (items.new.items ≡ items.old.items ++ item.entry ∷ []) }
-    ensures err { IfErr result (λ e. e ≡ Refusal.Memory at) }
-{
-    match items.push(item) {
-        Ok(()) => Ok(()),
-        Err(_) => Err(Refusal::Memory(at)),
-    }
-}
-
-fn push_member<'j>(
-    members: &mut Vec<(CowStr<'j>, JsonValue<'j>)>,
-    key: CowStr<'j>,
-    value: JsonValue<'j>,
-    at: usize,
-) -> Result<(), Refusal>
-    ensures ok { OnOk result (members.new.items ≡ members.old.items ++ (key.entry, value.entry) ∷ []) }
-    ensures err { IfErr result (λ e. e ≡ Refusal.Memory at) }
-{
-    match members.push((key, value)) {
-        Ok(()) => Ok(()),
-        Err(_) => Err(Refusal::Memory(at)),
-    }
-}
-
-fn read_literal<'j>(
-    bytes: &'j [u8],
-    at: usize,
-    literal: Literal,
-) -> Result<(JsonValue<'j>, usize), Refusal>
-    requires { at ≤ length bytes.now }
-    ensures value { Gives result (scanned at ((whole_trees false).literal bytes.now literal at)) }
-    ensures advances { IfOk result (λ x. (at < x.1) × (x.1 ≤ length bytes.now)) }
-    ensures fault { IsErrOfFault result (length bytes.now) }
-{
-    match literal_end(bytes, at, literal) {
-        Ok(end) => {
-            let value = literal_value(literal);
-            Ok((value, end))
-        }
-        Err(fault) => Err(Refusal::Fault(fault)),
-    }
-}
-
 fn number_value<'j>(number: NumberAny<'j>) -> JsonValue<'j>
     ensures { view result ≡ number_tree (number_view number.entry) }
 {
@@ -92,73 +44,91 @@ fn number_value<'j>(number: NumberAny<'j>) -> JsonValue<'j>
     }
 }
 
-fn read_number<'j>(
-    bytes: &'j [u8],
-    at: usize,
-    allow_inf_nan: bool,
-) -> Result<(JsonValue<'j>, usize), Refusal>
-    requires { at < length bytes.now }
-    ensures value { Gives result (scanned at ((whole_trees allow_inf_nan).number bytes.now at)) }
-    ensures advances { IfOk result (λ x. (at < x.1) × (x.1 ≤ length bytes.now)) }
-    ensures fault { IsErrOfFault result (length bytes.now) }
+#[tactic(auto, using(crate::proofs::Turns::reads_seen))]
+fn read_literal<'j>(parser: &mut Parser<'j>, literal: Literal) -> Result<JsonValue<'j>, ReadError>
+    ensures moves { Moves parser.old parser.new }
+    ensures value { Gives view result parser.new.index (scalar_at parser.old.index
+        ((whole_trees false).literal parser.old.bytes.now literal parser.old.index)) }
+    ensures ahead { OnOk result (parser.old.index < parser.new.index) }
+    ensures memory { WhereRefused result ⊥ }
 {
-    match number_at(bytes, at, allow_inf_nan) {
-        Ok((number, end)) => {
-            let value = number_value(number);
-            Ok((value, end))
+    match parser.literal(literal) {
+        Ok(()) => {
+            let value = literal_value(literal);
+            Ok(value)
         }
-        Err(error) => Err(Refusal::Fault(Fault {
-            kind: error.error_type,
-            index: error.index,
-            stop: at,
-        })),
+        Err(fault) => Err(ReadError::Fault(fault)),
+    }
+}
+
+fn read_number<'j>(
+    parser: &mut Parser<'j>,
+    allow_inf_nan: bool,
+) -> Result<JsonValue<'j>, ReadError>
+    requires { parser.old.index < length parser.old.bytes.now }
+    ensures moves { Moves parser.old parser.new }
+    ensures value { Gives view result parser.new.index (scalar_at parser.old.index
+        ((whole_trees allow_inf_nan).number parser.old.bytes.now parser.old.index)) }
+    ensures ahead { OnOk result (parser.old.index < parser.new.index) }
+    ensures memory { WhereRefused result ⊥ }
+{
+    match parser.number(allow_inf_nan) {
+        Ok(number) => {
+            let value = number_value(number);
+            Ok(value)
+        }
+        Err(fault) => Err(ReadError::Fault(fault)),
     }
 }
 
 fn read_text<'j>(
     alloc: Global,
     tape: &mut Vec<u8>,
-    bytes: &'j [u8],
-    at: usize,
-) -> Result<(JsonValue<'j>, usize), Refusal>
-    requires within { at < length bytes.now }
-    requires quote { start_of (slice_index bytes.now at) ≡ Start.String }
-    ensures value { Gives result (scanned at ((whole_trees false).text bytes.now at)) }
-    ensures advances { IfOk result (λ x. (at < x.1) × (x.1 ≤ length bytes.now)) }
-    ensures refusal { IfErr result (IsRefusalAt bytes.now at) }
+    parser: &mut Parser<'j>,
+) -> Result<JsonValue<'j>, ReadError>
+    requires { parser.old.index < length parser.old.bytes.now }
+    ensures moves { Moves parser.old parser.new }
+    ensures value { Gives view result parser.new.index (scalar_at parser.old.index
+        ((whole_trees false).text parser.old.bytes.now parser.old.index)) }
+    ensures ahead { OnOk result (parser.old.index < parser.new.index) }
+    ensures memory { WhereRefused result (WantsMemory parser.old.bytes.now parser.old.index) }
 {
-    match string_at(alloc, tape, bytes, at) {
-        Ok((text, end)) => {
+    match parser.string(alloc, tape) {
+        Ok(text) => {
             let value = JsonValue::Str(text);
-            Ok((value, end))
+            Ok(value)
         }
-        Err(refusal) => Err(refusal),
+        Err(error) => Err(error),
     }
 }
 
-/// The value at the byte index `at`, with room for so many containers that are not empty, one inside
-/// another; and the byte index behind it.
+/// The value where the reader stands, with room for so many containers that are not empty, one inside
+/// another.
 #[cycle(read)]
 pub fn read<'j>(
     alloc: Global,
     tape: &mut Vec<u8>,
-    bytes: &'j [u8],
-    at: usize,
+    parser: &mut Parser<'j>,
     room: usize,
     allow_inf_nan: bool,
-) -> Result<(JsonValue<'j>, usize), Refusal>
-    requires { at < length bytes.now }
-    ensures value { Gives result (value_at (whole_trees allow_inf_nan) bytes.now room at) }
-    ensures advances { IfOk result (λ x. (at < x.1) × (x.1 ≤ length bytes.now)) }
-    ensures refusal { IfErr result (IsRefusalAt bytes.now at) }
+) -> Result<JsonValue<'j>, ReadError>
+    requires { parser.old.index < length parser.old.bytes.now }
+    ensures moves { Moves parser.old parser.new }
+    ensures value { Gives view result parser.new.index
+        (value_at (whole_trees allow_inf_nan) parser.old.bytes.now room parser.old.index) }
+    ensures ahead { OnOk result (parser.old.index < parser.new.index) }
+    ensures memory { WhereRefused result (MayGrowAt parser.old.bytes.now parser.old.index) }
 {
-    match start_of(bytes[at]) {
-        Start::Literal(literal) => read_literal(bytes, at, literal),
-        Start::Number => read_number(bytes, at, allow_inf_nan),
-        Start::String => read_text(alloc, tape, bytes, at),
-        Start::Array => read_array(alloc, tape, bytes, at, room, allow_inf_nan),
-        Start::Object => read_object(alloc, tape, bytes, at, room, allow_inf_nan),
-        Start::Nothing => Err(Refusal::Fault(fault_at(JsonErrorType::ExpectedSomeValue, at))),
+    match start_of(parser.bytes[parser.index]) {
+        Start::Literal(literal) => read_literal(parser, literal),
+        Start::Number => read_number(parser, allow_inf_nan),
+        Start::String => read_text(alloc, tape, parser),
+        Start::Array => read_array(alloc, tape, parser, room, allow_inf_nan),
+        Start::Object => read_object(alloc, tape, parser, room, allow_inf_nan),
+        Start::Nothing => Err(ReadError::Fault(Fault {
+            kind: FaultKind::ExpectedSomeValue,
+            index: parser.index,
+        })),
     }
 }
 
@@ -167,125 +137,120 @@ pub fn read<'j>(
 fn read_inside<'j>(
     alloc: Global,
     tape: &mut Vec<u8>,
-    bytes: &'j [u8],
-    at: usize,
+    parser: &mut Parser<'j>,
     room: usize,
     allow_inf_nan: bool,
-) -> Result<(JsonValue<'j>, usize), Refusal>
-    requires { at < length bytes.now }
-    ensures value { Gives result (inside_at allow_inf_nan bytes.now room at) }
-    ensures advances { IfOk result (λ x. (at < x.1) × (x.1 ≤ length bytes.now)) }
-    ensures refusal { IfErr result (IsRefusalFrom bytes.now at) }
+) -> Result<JsonValue<'j>, ReadError>
+    requires { parser.old.index < length parser.old.bytes.now }
+    ensures moves { Moves parser.old parser.new }
+    ensures value { Gives view result parser.new.index
+        (inside_at (whole_trees allow_inf_nan) parser.old.bytes.now room parser.old.index) }
+    ensures ahead { OnOk result (parser.old.index < parser.new.index) }
 {
     if room == 0 {
-        Err(Refusal::Fault(fault_at(JsonErrorType::RecursionLimitExceeded, at)))
+        Err(ReadError::Fault(Fault {
+            kind: FaultKind::RecursionLimitExceeded,
+            index: parser.index,
+        }))
     } else {
-        read(alloc, tape, bytes, at, room - 1, allow_inf_nan)
+        read(alloc, tape, parser, room - 1, allow_inf_nan)
     }
 }
 
-// The array whose bracket is at `at`.
+// The array whose bracket is where the reader stands.
 #[cycle(read)]
 fn read_array<'j>(
     alloc: Global,
     tape: &mut Vec<u8>,
-    bytes: &'j [u8],
-    at: usize,
+    parser: &mut Parser<'j>,
     room: usize,
     allow_inf_nan: bool,
-) -> Result<(JsonValue<'j>, usize), Refusal>
-    requires within { at < length bytes.now }
-    requires bracket { start_of (slice_index bytes.now at) ≡ Start.Array }
-    ensures value { Gives result (value_at (whole_trees allow_inf_nan) bytes.now room at) }
-    ensures advances { IfOk result (λ x. (at < x.1) × (x.1 ≤ length bytes.now)) }
-    ensures refusal { IfErr result (IsRefusalAt bytes.now at) }
+) -> Result<JsonValue<'j>, ReadError>
+    requires { parser.old.index < length parser.old.bytes.now }
+    ensures moves { Moves parser.old parser.new }
+    ensures value { Gives view result parser.new.index (container_at (whole_trees allow_inf_nan)
+        (array_at allow_inf_nan parser.old.bytes.now room parser.old.index)
+        parser.old.bytes.now parser.old.index) }
+    ensures ahead { OnOk result (parser.old.index < parser.new.index) }
+    ensures memory { WhereRefused result
+        (MayGrowAs parser.old.bytes.now parser.old.index Start.Array) }
 {
     let mut items = Vec::new(alloc);
-    let mut place = match array_opened(bytes, at + 1) {
-        Ok(Step::Closed(end)) => {
-            let value = JsonValue::Array(items);
-            return Ok((value, end));
-        }
-        Ok(Step::More(first)) => first,
-        Err(fault) => return Err(Refusal::Fault(fault)),
-    };
-    loop {
-        let (item, end) = read_inside(alloc, tape, bytes, place, room, allow_inf_nan)?;
-        push_item(&mut items, item, place)?;
-        match array_continued(bytes, end) {
-            Ok(Step::Closed(close)) => {
-                let value = JsonValue::Array(items);
-                return Ok((value, close));
-            }
-            Ok(Step::More(next)) => place = next,
-            Err(fault) => return Err(Refusal::Fault(fault)),
-        }
+    let mut more = parser.array_first()?;
+    while more {
+        let item = read_inside(alloc, tape, parser, room, allow_inf_nan)?;
+        push(&mut items, item)?;
+        more = parser.array_step()?;
     }
+    Ok(JsonValue::Array(items))
 }
 
-// The object whose bracket is at `at`.
+// The member whose key is where the reader stands.
+#[cycle(read)]
+fn read_member<'j>(
+    alloc: Global,
+    tape: &mut Vec<u8>,
+    parser: &mut Parser<'j>,
+    room: usize,
+    allow_inf_nan: bool,
+) -> Result<(CowStr<'j>, JsonValue<'j>), ReadError>
+    requires { parser.old.index < length parser.old.bytes.now }
+    ensures moves { Moves parser.old parser.new }
+    ensures value { Gives member_view result parser.new.index
+        ((object_at allow_inf_nan parser.old.bytes.now room 0).part parser.old.index) }
+    ensures ahead { OnOk result (parser.old.index < parser.new.index) }
+{
+    let key = parser.string(alloc, tape)?;
+    parser.object_colon()?;
+    let value = read_inside(alloc, tape, parser, room, allow_inf_nan)?;
+    Ok((key, value))
+}
+
+// The object whose bracket is where the reader stands.
 #[cycle(read)]
 fn read_object<'j>(
     alloc: Global,
     tape: &mut Vec<u8>,
-    bytes: &'j [u8],
-    at: usize,
+    parser: &mut Parser<'j>,
     room: usize,
     allow_inf_nan: bool,
-) -> Result<(JsonValue<'j>, usize), Refusal>
-    requires within { at < length bytes.now }
-    requires bracket { start_of (slice_index bytes.now at) ≡ Start.Object }
-    ensures value { Gives result (value_at (whole_trees allow_inf_nan) bytes.now room at) }
-    ensures advances { IfOk result (λ x. (at < x.1) × (x.1 ≤ length bytes.now)) }
-    ensures refusal { IfErr result (IsRefusalAt bytes.now at) }
+) -> Result<JsonValue<'j>, ReadError>
+    requires { parser.old.index < length parser.old.bytes.now }
+    ensures moves { Moves parser.old parser.new }
+    ensures value { Gives view result parser.new.index (container_at (whole_trees allow_inf_nan)
+        (object_at allow_inf_nan parser.old.bytes.now room parser.old.index)
+        parser.old.bytes.now parser.old.index) }
+    ensures ahead { OnOk result (parser.old.index < parser.new.index) }
+    ensures memory { WhereRefused result
+        (MayGrowAs parser.old.bytes.now parser.old.index Start.Object) }
 {
     let mut members = Vec::new(alloc);
-    let mut place = match object_opened(bytes, at + 1) {
-        Ok(Step::Closed(end)) => {
-            let value = JsonValue::Object(members);
-            return Ok((value, end));
-        }
-        Ok(Step::More(first)) => first,
-        Err(fault) => return Err(Refusal::Fault(fault)),
-    };
-    loop {
-        let (key, key_end) = string_at(alloc, tape, bytes, place)?;
-        let begin = match key_ended(bytes, key_end) {
-            Ok(begin) => begin,
-            Err(fault) => return Err(Refusal::Fault(fault)),
-        };
-        let (value, end) = read_inside(alloc, tape, bytes, begin, room, allow_inf_nan)?;
-        push_member(&mut members, key, value, place)?;
-        match object_continued(bytes, end) {
-            Ok(Step::Closed(close)) => {
-                let value = JsonValue::Object(members);
-                return Ok((value, close));
-            }
-            Ok(Step::More(next)) => place = next,
-            Err(fault) => return Err(Refusal::Fault(fault)),
-        }
+    let mut more = parser.object_first()?;
+    while more {
+        let member = read_member(alloc, tape, parser, room, allow_inf_nan)?;
+        push(&mut members, member)?;
+        more = parser.object_step()?;
     }
+    Ok(JsonValue::Object(members))
 }
 
-/// The value of a whole document, and the byte index behind it (RFC 8259, 2).
+/// The value of a whole document, from its first byte on (RFC 8259, 2).
 pub fn read_whole<'j>(
     alloc: Global,
-    bytes: &'j [u8],
+    parser: &mut Parser<'j>,
     allow_inf_nan: bool,
-) -> Result<(JsonValue<'j>, usize), Refusal>
-    ensures value { Gives result (answer allow_inf_nan bytes.now) }
-    ensures refusal { IfErr result (IsRefusalAt bytes.now (past_blanks bytes.now 0)) }
+) -> Result<JsonValue<'j>, ReadError>
+    requires { parser.old.index ≡ 0 }
+    ensures value { GivesWhole result parser.new.index
+        (answer allow_inf_nan parser.old.bytes.now) }
+    ensures memory { WhereRefused result (MayGrow parser.old.bytes.now) }
+    ensures place { WhereRefused result
+        (past_blanks parser.old.bytes.now 0 ≤ parser.new.index) }
+    ensures same { parser.new.bytes ≡ parser.old.bytes }
 {
-    let begin = match value_begin(bytes) {
-        Ok(begin) => begin,
-        Err(fault) => return Err(Refusal::Fault(fault)),
-    };
+    parser.value_first()?;
     let mut tape = Vec::new(alloc);
-    match read(alloc, &mut tape, bytes, begin, NESTING_LIMIT, allow_inf_nan) {
-        Ok((value, end)) => match finish(bytes, end) {
-            Ok(()) => Ok((value, end)),
-            Err(fault) => Err(Refusal::Fault(fault)),
-        },
-        Err(refusal) => Err(refusal),
-    }
+    let value = read(alloc, &mut tape, parser, NESTING_LIMIT, allow_inf_nan)?;
+    parser.finish()?;
+    Ok(value)
 }

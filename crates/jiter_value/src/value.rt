@@ -4,12 +4,12 @@ ghost use Rattle.jiter_scan.specs.Kind.{kind_of, is_end_kind};
 ghost use Rattle.jiter_steps.specs.Blank.{past_blanks};
 ghost use Rattle.jiter_steps.specs.Node.{Node, IsDocument, IsCutContainer, value_of};
 ghost use Rattle.jiter_steps.specs.Answer.{answer};
-ghost use Rattle.jiter_value.specs.View.{view};
-ghost use Rattle.jiter_value.specs.Answers.{Answers, MayGrow, error_of};
+ghost use Rattle.jiter_value.specs.Value.{view, Answers, MayGrow};
 
 use crate::read::read_whole;
 use jiter_scan::{JsonError, JsonErrorType};
-use jiter_steps::fault::Refusal;
+use jiter_steps::parse::Parser;
+use jiter_steps::read_error::ReadError;
 use std::alloc::Global;
 use std::borrow::CowStr;
 
@@ -76,24 +76,14 @@ impl<'j> JsonValue<'j> {
         ensures place { IfErr result (λ e. e.error_type ≡ JsonErrorType.OutOfMemory
             → past_blanks bytes.now 0 ≤ e.index) }
     {
-        match read_whole(alloc, bytes, allow_inf_nan) {
-            Ok((value, _)) => Ok(value),
-            Err(refusal) => Err(error_of(refusal)),
+        let mut parser = Parser::new(bytes);
+        match read_whole(alloc, &mut parser, allow_inf_nan) {
+            Ok(value) => Ok(value),
+            Err(ReadError::Fault(fault)) => Err(JsonError::from(fault)),
+            Err(ReadError::Memory(_)) => Err(JsonError {
+                error_type: JsonErrorType::OutOfMemory,
+                index: parser.index,
+            }),
         }
-    }
-}
-
-fn error_of(refusal: Refusal) -> JsonError
-    ensures { result ≡ error_of refusal }
-{
-    match refusal {
-        Refusal::Fault(fault) => JsonError {
-            error_type: fault.kind,
-            index: fault.index,
-        },
-        Refusal::Memory(index) => JsonError {
-            error_type: JsonErrorType::OutOfMemory,
-            index,
-        },
     }
 }

@@ -1,0 +1,33 @@
+-- What the calls that read a value return.
+use Rattle.std.specs.Prelude.{◌≡◌, ℕ, Bool, List, Result, Ok, Err}
+use Rattle.std.specs.declared.alloc.Global.{Global}
+use Rattle.std.specs.declared.borrow.CowStr.{CowStr}
+use Rattle.jiter_scan.specs.Kind.{fault_kind}
+use Rattle.jiter_scan.specs.declared.errors.Fault.{Fault}
+use Rattle.jiter_steps.specs.Tree.{Text, Tree}
+use Rattle.jiter_steps.specs.Read.{Reading, done, fault, Rules, Container, array_of, object_of, inside_at}
+use Rattle.jiter_steps.specs.Answer.{whole_trees}
+use Rattle.jiter_steps.specs.ReadError.{UnlessRefused}
+use Rattle.jiter_steps.specs.StringDecoder.{text_seen}
+use Rattle.jiter_steps.specs.declared.read_error.ReadError.{ReadError}
+use Rattle.jiter_value.specs.Value.{view}
+use Rattle.jiter_value.specs.declared.value.JsonValue.{JsonValue}
+
+-- a member, by its key's text and its value's tree
+abbrev pub member_view : CowStr Global × JsonValue → Text × Tree
+member_view m = (text_seen m.0, view m.1)
+
+-- the array and the object that begin at i, with this room for containers inside
+abbrev pub array_at : Bool → List ℕ → ℕ → ℕ → Container Tree Tree
+array_at names t room i = array_of (whole_trees names) (inside_at (whole_trees names) t room) t i
+
+abbrev pub object_at : Bool → List ℕ → ℕ → ℕ → Container (Text × Tree) Tree
+object_at names t room i = object_of (whole_trees names) (inside_at (whole_trees names) t room) t i
+
+-- What was returned of a whole text is this reading, unless memory was refused; a fault leaves the reader at i.
+abbrev pub ReadsWhole : Result JsonValue Fault → ℕ → Reading Tree → Type 0
+ReadsWhole (Ok v) i r = (e : ℕ) × (r ≡ done (view v) e)
+ReadsWhole (Err f) i r = r ≡ fault (fault_kind f.kind) f.index i
+
+abbrev pub GivesWhole : Result JsonValue ReadError → ℕ → Reading Tree → Type 0
+GivesWhole result i r = UnlessRefused result (λ x. ReadsWhole x i r)
