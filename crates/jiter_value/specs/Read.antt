@@ -5,7 +5,7 @@ use Rattle.std.specs.declared.borrow.CowStr.{CowStr}
 use Rattle.jiter_scan.specs.Kind.{fault_kind}
 use Rattle.jiter_scan.specs.declared.errors.Fault.{Fault}
 use Rattle.jiter_steps.specs.Tree.{Text, Tree}
-use Rattle.jiter_steps.specs.Read.{Reading, done, fault, Rules, Container, array_of, object_of, inside_at}
+use Rattle.jiter_steps.specs.Read.{Reading, done, fault, Container, behind_key, array_of, object_of, inside_at}
 use Rattle.jiter_steps.specs.Answer.{whole_trees}
 use Rattle.jiter_steps.specs.ReadError.{UnlessRefused}
 use Rattle.jiter_steps.specs.StringDecoder.{text_seen}
@@ -18,11 +18,15 @@ abbrev pub member_view : CowStr Global × JsonValue → Text × Tree
 member_view m = (text_seen m.0, view m.1)
 
 -- the array and the object that begin at i, with this room for containers inside
-abbrev pub array_at : Bool → List ℕ → ℕ → ℕ → Container Tree Tree
-array_at names t room i = array_of (whole_trees names) (inside_at (whole_trees names) t room) t i
+abbrev pub array_at : Bool → ℕ → ℕ → List ℕ → Container Tree Tree
+array_at names room i t = array_of (whole_trees names) (inside_at (whole_trees names) t room) t i
 
-abbrev pub object_at : Bool → List ℕ → ℕ → ℕ → Container (Text × Tree) Tree
-object_at names t room i = object_of (whole_trees names) (inside_at (whole_trees names) t room) t i
+abbrev pub object_at : Bool → ℕ → ℕ → List ℕ → Container (Text × Tree) Tree
+object_at names room i t = object_of (whole_trees names) (inside_at (whole_trees names) t room) t i
+
+-- the member whose key is at i
+abbrev pub member_at : Bool → List ℕ → ℕ → ℕ → Reading (Text × Tree)
+member_at names t room i = behind_key (inside_at (whole_trees names) t room) t i ((whole_trees names).key t i)
 
 -- What was returned of a whole text is this reading, unless memory was refused; a fault leaves the reader at i.
 abbrev pub ReadsWhole : Result JsonValue Fault → ℕ → Reading Tree → Type 0

@@ -1,5 +1,5 @@
 //! Reading one value, by recursion.
-ghost use Rattle.std.specs.Prelude.{◌≡◌, ◌≤◌, ◌<◌, OnOk, length};
+ghost use Rattle.std.specs.Prelude.{◌≡◌, ◌≤◌, ◌<◌, OnOk, false, length};
 ghost use Rattle.jiter_scan.specs.NumberView.{number_view};
 ghost use Rattle.jiter_steps.specs.Blank.{past_blanks};
 ghost use Rattle.jiter_steps.specs.Literal.{literal_tree};
@@ -10,7 +10,7 @@ ghost use Rattle.jiter_steps.specs.ReadError.{WhereRefused};
 ghost use Rattle.jiter_steps.specs.Parse.{Moves, Reads, Gives};
 ghost use Rattle.jiter_steps.specs.StringDecoder.{WantsMemory};
 ghost use Rattle.jiter_value.specs.Value.{view, MayGrowAs, MayGrowAt, MayGrow};
-ghost use Rattle.jiter_value.specs.Read.{member_view, array_at, object_at, GivesWhole};
+ghost use Rattle.jiter_value.specs.Read.{member_view, array_at, object_at, member_at, GivesWhole};
 
 use crate::value::JsonValue;
 use jiter_scan::errors::{Fault, FaultKind};
@@ -44,7 +44,7 @@ fn number_value<'j>(number: NumberAny<'j>) -> JsonValue<'j>
     }
 }
 
-#[tactic(auto, using(crate::proofs::Turns::reads_seen))]
+#[tactic(auto, using(crate::proofs::Turns::seen_done, crate::proofs::Turns::seen_fault))]
 fn read_literal<'j>(parser: &mut Parser<'j>, literal: Literal) -> Result<JsonValue<'j>, ReadError>
     ensures moves { Moves parser.old parser.new }
     ensures value { Gives view result parser.new.index (scalar_at parser.old.index
@@ -61,6 +61,7 @@ fn read_literal<'j>(parser: &mut Parser<'j>, literal: Literal) -> Result<JsonVal
     }
 }
 
+#[tactic(auto, using(crate::proofs::Turns::seen_done, crate::proofs::Turns::seen_fault))]
 fn read_number<'j>(
     parser: &mut Parser<'j>,
     allow_inf_nan: bool,
@@ -81,6 +82,7 @@ fn read_number<'j>(
     }
 }
 
+#[tactic(auto, using(crate::proofs::Turns::seen_done, crate::proofs::Turns::seen_fault))]
 fn read_text<'j>(
     alloc: Global,
     tape: &mut Vec<u8>,
@@ -169,7 +171,7 @@ fn read_array<'j>(
     requires { parser.old.index < length parser.old.bytes.now }
     ensures moves { Moves parser.old parser.new }
     ensures value { Gives view result parser.new.index (container_at (whole_trees allow_inf_nan)
-        (array_at allow_inf_nan parser.old.bytes.now room parser.old.index)
+        (array_at allow_inf_nan room parser.old.index parser.old.bytes.now)
         parser.old.bytes.now parser.old.index) }
     ensures ahead { OnOk result (parser.old.index < parser.new.index) }
     ensures memory { WhereRefused result
@@ -197,7 +199,7 @@ fn read_member<'j>(
     requires { parser.old.index < length parser.old.bytes.now }
     ensures moves { Moves parser.old parser.new }
     ensures value { Gives member_view result parser.new.index
-        ((object_at allow_inf_nan parser.old.bytes.now room 0).part parser.old.index) }
+        (member_at allow_inf_nan parser.old.bytes.now room parser.old.index) }
     ensures ahead { OnOk result (parser.old.index < parser.new.index) }
 {
     let key = parser.string(alloc, tape)?;
@@ -218,7 +220,7 @@ fn read_object<'j>(
     requires { parser.old.index < length parser.old.bytes.now }
     ensures moves { Moves parser.old parser.new }
     ensures value { Gives view result parser.new.index (container_at (whole_trees allow_inf_nan)
-        (object_at allow_inf_nan parser.old.bytes.now room parser.old.index)
+        (object_at allow_inf_nan room parser.old.index parser.old.bytes.now)
         parser.old.bytes.now parser.old.index) }
     ensures ahead { OnOk result (parser.old.index < parser.new.index) }
     ensures memory { WhereRefused result
