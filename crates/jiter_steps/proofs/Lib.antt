@@ -7,14 +7,15 @@ pub mod Front
 pub mod Fused
 pub mod Growth
 pub mod Instances
+pub mod NodeParts
 pub mod NodeRules
 pub mod Nodes
 pub mod NumberCut
-pub mod Parts
 pub mod Pieces
 pub mod PlacesExplained
 pub mod RowSteps
 pub mod ScalarLaws
+pub mod SpellsFront
 pub mod StringComplete
 pub mod StringCut
 pub mod StringCutLaws

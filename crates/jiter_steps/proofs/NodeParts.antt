@@ -3,14 +3,13 @@ use Rattle.std.proofs.Common.{◌≡◌, ◌≢◌, ◌⊎◌, inl, inr, ℕ, �
 use Rattle.std.specs.Prelude.{slice_get, slice_range, Some}
 use Rattle.std.proofs.lemmas.Bool.{cases_eq}
 use Rattle.jiter_scan.specs.Number.{IsNumberText}
-use Rattle.jiter_scan.proofs.NumberLaws.{number-not_empty}
 use Rattle.jiter_scan.proofs.Standing.{stands-length}
 use Rattle.jiter_steps.specs.Blank.{IsBlank}
 use Rattle.jiter_steps.specs.Literal.{word_of}
 use Rattle.jiter_steps.specs.Node as grammar
 use Rattle.jiter_steps.specs.Node.{Key, Node, Nodes, no_nodes, node, NodeMembers, no_members, begin, end, StandsBehind, SpellsNumber, SpellsKey, Spells, SpellsItems, SpellsMoreItems, SpellsMembers, SpellsMoreMembers}
 use Rattle.jiter_steps.specs.declared.parse.Literal.TheVariants as literal
-use Rattle.jiter_steps.proofs.StringLaws.{string-ordered}
+use Rattle.jiter_steps.proofs.ScalarLaws.{ScalarLaws, scalar-laws}
 
 -- an item, or a member with its key
 pub data Part : Type 0 where
@@ -64,6 +63,9 @@ module _ (P : Node → Type 0) (step : (n : Node) → Each P (parts n) → P n) 
     by_members (grammar.member key n ms) = (by_parts n, by_members ms)
 
 module _ (names : Bool) (t : List ℕ) where
+  laws : ScalarLaws names t
+  laws = scalar-laws names t
+
   abbrev pub SpellsPart : Part → Type 0
   SpellsPart (item n) = Spells names t n
   SpellsPart (member key n) = SpellsKey t key (begin n) × Spells names t n
@@ -120,7 +122,7 @@ module _ (names : Bool) (t : List ℕ) where
   slice-empty b e h = let none : e - b ≡ 0 = omega arith in ap (λ k. take k (drop b t)) none
 
   number-ahead : (b e : ℕ) → SpellsNumber names t b e → (b ≡ e) ⊎ (b ≢ e) → b < e
-  number-ahead b e h (inl same) = absurd (number-not_empty names (subst (IsNumberText names) (slice-empty b e (sym same)) h.text))
+  number-ahead b e h (inl same) = absurd (laws.number-not_empty (subst (IsNumberText names) (slice-empty b e (sym same)) h.text))
   number-ahead b e h (inr apart) = omega (arith, h.ordered)
 
   pub behind-ahead : (i c e : ℕ) → StandsBehind t i c e → i < e
@@ -128,7 +130,7 @@ module _ (names : Bool) (t : List ℕ) where
 
   -- from a key to its value
   pub key-ahead : (key : Key) (j : ℕ) → SpellsKey t key j → key.begin < j
-  key-ahead key j h = omega (arith, (string-ordered t key.begin key.end key.pieces h.string).0, behind-ahead key.end 58 h.colon h.behind, h.blanks.ordered)
+  key-ahead key j h = omega (arith, (laws.string-ordered key.begin key.end key.pieces h.string).0, behind-ahead key.end 58 h.colon h.behind, h.blanks.ordered)
 
   pub part-ahead : (p : Part) → SpellsPart p → part_begin p ≤ begin (value p)
   part-ahead (item n) h = omega arith
@@ -172,7 +174,7 @@ module _ (names : Bool) (t : List ℕ) where
   is_ahead (grammar.literal literal.True b e) each h = let after = stands-length t b e (word_of literal.True) h in omega arith
   is_ahead (grammar.literal literal.False b e) each h = let after = stands-length t b e (word_of literal.False) h in omega arith
   is_ahead (grammar.number b e) each h = number-ahead b e h (cases_eq b e)
-  is_ahead (grammar.string ps b e) each h = (string-ordered t b e ps h).0
+  is_ahead (grammar.string ps b e) each h = (laws.string-ordered b e ps h).0
   is_ahead (grammar.array b e ns) each h = let after = order-after (items ns) (b + 1) e (items-order ns (b + 1) e h.1) each in omega arith
   is_ahead (grammar.object b e ms) each h = let after = order-after (members ms) (b + 1) e (members-order ms (b + 1) e h.1) each in omega arith
 
