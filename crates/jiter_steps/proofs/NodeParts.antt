@@ -1,15 +1,17 @@
 -- The parts of a node, items and members alike, so that a law about the nodes inside a container is proved once.
-use Rattle.std.proofs.Common.{◌≡◌, ◌≢◌, ◌⊎◌, inl, inr, ℕ, ◌+◌, ◌-◌, ◌<◌, ◌≤◌, Bool, List, [], ◌∷◌, take, drop, sym, ap, subst, arith}
-use Rattle.std.specs.Prelude.{slice_get, slice_range, Some}
+use Rattle.std.proofs.Common.{◌≡◌, ◌≢◌, ◌⊎◌, inl, inr, ℕ, ◌+◌, ◌-◌, ◌<◌, ◌≤◌, Bool, false, List, [], ◌∷◌, take, drop, IfSome, refl, sym, ap, ◌∙◌, subst, arith}
+use Rattle.std.specs.Prelude.{slice_get, slice_index, slice_range, Some}
 use Rattle.std.proofs.lemmas.Bool.{cases_eq}
+use Rattle.std.proofs.lemmas.Option.{slice_get-get_or}
 use Rattle.jiter_scan.specs.Number.{IsNumberText}
+use Rattle.jiter_scan.proofs.NumberLaws.{continues_number}
 use Rattle.jiter_scan.proofs.Standing.{stands-length}
-use Rattle.jiter_steps.specs.Blank.{IsBlank}
+use Rattle.jiter_steps.specs.Blank.{IsBlankByte, IsBlank}
 use Rattle.jiter_steps.specs.Literal.{word_of}
 use Rattle.jiter_steps.specs.Node as grammar
-use Rattle.jiter_steps.specs.Node.{Key, Node, Nodes, no_nodes, node, NodeMembers, no_members, begin, end, StandsBehind, SpellsNumber, SpellsKey, Spells, SpellsItems, SpellsMoreItems, SpellsMembers, SpellsMoreMembers}
+use Rattle.jiter_steps.specs.Node.{Key, Node, Nodes, no_nodes, node, NodeMembers, no_members, begin, end, StandsBehind, SpellsNumber, SpellsKey, Spells, SpellsItems, SpellsMoreItems, SpellsMembers, SpellsMoreMembers, nesting, nesting_of, nesting_of_members}
 use Rattle.jiter_steps.specs.declared.parse.Literal.TheVariants as literal
-use Rattle.jiter_steps.proofs.ScalarLaws.{ScalarLaws, scalar-laws}
+use Rattle.jiter_steps.proofs.ScalarLaws.{ScalarLaws, scalar-laws, EndsNumber}
 
 -- an item, or a member with its key
 pub data Part : Type 0 where
@@ -193,3 +195,47 @@ module _ (names : Bool) (t : List ℕ) where
 
   pub parts-ahead : (closer : ℕ) (ps : List Part) (i e : ℕ) → SpellsParts closer i ps e → i < e
   parts-ahead closer ps i e h = order-ahead ps i e (parts-order closer ps i e h)
+
+  -- What stands behind a part does not go on a number.
+  quiet-get : (i c : ℕ) → slice_get t i ≡ Some c → continues_number c ≡ false → EndsNumber t i
+  quiet-get i c e h = subst (λ o. IfSome o (λ b. continues_number b ≡ false)) (sym e) h
+
+  blank-ends : (c : ℕ) → IsBlankByte c → continues_number c ≡ false
+  blank-ends c (inl e) = ap continues_number e
+  blank-ends c (inr (inl e)) = ap continues_number e
+  blank-ends c (inr (inr (inl e))) = ap continues_number e
+  blank-ends c (inr (inr (inr e))) = ap continues_number e
+
+  behind-ends : (i sign e : ℕ) → continues_number sign ≡ false → StandsBehind t i sign e → EndsNumber t i
+  behind-ends i sign e quiet h = by (cases_eq i h.at) where
+    by : (i ≡ h.at) ⊎ (i ≢ h.at) → EndsNumber t i
+    by (inl same) = quiet-get i sign (ap (slice_get t) same ∙ h.here) quiet
+    by (inr apart) =
+        let order = h.blanks.ordered in
+        let inside = h.blanks.within in
+        quiet-get i (slice_index t i) (slice_get-get_or t i 0 (omega arith)) (blank-ends _ (h.blanks.each i (omega arith) (omega arith)))
+
+  pub more-ends : (closer : ℕ) → continues_number closer ≡ false → (ps : List Part) (i e : ℕ) → SpellsMore closer i ps e → EndsNumber t i
+  more-ends closer quiet [] i e h = behind-ends i closer e quiet h
+  more-ends closer quiet (p ∷ ps) i e h = behind-ends i 44 h.0 refl h.1
+
+-- The values inside a container have room for one level less.
+abbrev NestsBelow : ℕ → Node → Type 0
+NestsBelow room n = nesting n < room
+
+items-nest : (room : ℕ) (ns : Nodes) → nesting_of ns < room → Each (NestsBelow room) (items ns)
+items-nest room no_nodes h = tt
+items-nest room (node n ns) h = (omega arith, items-nest room ns (omega arith))
+
+members-nest : (room : ℕ) (ms : NodeMembers) → nesting_of_members ms < room → Each (NestsBelow room) (members ms)
+members-nest room no_members h = tt
+members-nest room (grammar.member key n ms) h = (omega arith, members-nest room ms (omega arith))
+
+pub parts-nest : (room : ℕ) (n : Node) → nesting n ≤ room → Each (λ m. nesting m < room) (parts n)
+parts-nest room (grammar.literal l b e) h = tt
+parts-nest room (grammar.number b e) h = tt
+parts-nest room (grammar.string ps b e) h = tt
+parts-nest room (grammar.array b e no_nodes) h = tt
+parts-nest room (grammar.array b e (node n ns)) h = items-nest room (node n ns) (omega arith)
+parts-nest room (grammar.object b e no_members) h = tt
+parts-nest room (grammar.object b e (grammar.member key n ms)) h = members-nest room (grammar.member key n ms) (omega arith)
