@@ -7,6 +7,7 @@ pub mod Fused
 pub mod Instances
 pub mod NodeRules
 pub mod Nodes
+pub mod Parts
 pub mod Pieces
 pub mod PlacesExplained
 pub mod RowSteps
