@@ -12,6 +12,7 @@ pub mod Pieces
 pub mod PlacesExplained
 pub mod RowSteps
 pub mod ScalarLaws
+pub mod Sound
 pub mod StringComplete
 pub mod StringCut
 pub mod StringCutLaws

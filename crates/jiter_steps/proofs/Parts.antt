@@ -29,6 +29,24 @@ module _ {P : Type 0} (t : List ℕ) (closer : ℕ) (Begins : ℕ → Type 0) (I
   Parts [] i e = StandsBehind t i closer e
   Parts (p ∷ ps) i e = PartThen i p (λ m. MoreParts ps m e)
 
+  -- what a grammar says of parts behind a bracket, and of more parts behind a part
+  pub record Grammar (Are MoreAre : List P → ℕ → ℕ → Type 0) : Type 0 where
+    pub none : (i e : ℕ) → StandsBehind t i closer e → Are [] i e
+    pub no_more : (i e : ℕ) → StandsBehind t i closer e → MoreAre [] i e
+    pub part : (p : P) (ps : List P) (i j m e : ℕ) → IsBlank t i j → Begins j → IsPart j p m → MoreAre ps m e → Are (p ∷ ps) i e
+    pub comma : (p : P) (ps : List P) (i c e : ℕ) → StandsBehind t i 44 c → Are (p ∷ ps) c e → MoreAre (p ∷ ps) i e
+
+  module _ (Are MoreAre : List P → ℕ → ℕ → Type 0) (grammar : Grammar Are MoreAre) where
+    more-are : (ps : List P) (i e : ℕ) → MoreParts ps i e → MoreAre ps i e
+    more-are [] i e h = grammar.no_more i e h
+    more-are (p ∷ ps) i e h =
+        let x = h.2 in
+        grammar.comma p ps i h.0 e h.1 (grammar.part p ps h.0 x.begin x.end e x.blanks x.begins x.is (more-are ps x.end e x.rest))
+
+    pub parts-are : (ps : List P) (i e : ℕ) → Parts ps i e → Are ps i e
+    parts-are [] i e h = grammar.none i e h
+    parts-are (p ∷ ps) i e h = grammar.part p ps i h.begin h.end e h.blanks h.begins h.is (more-are ps h.end e h.rest)
+
 module _ {K P A : Type 0} (r : Rules K A) (t : List ℕ) (c : Container P A) (closer : ℕ) (Begins : ℕ → Type 0) where
   -- c reads the part p from i to e
   abbrev pub Reads : ℕ → P → ℕ → Type 0
