@@ -2,6 +2,7 @@ pub mod Answered
 pub mod Blanks
 pub mod Bodies
 pub mod Bounds
+pub mod Complete
 pub mod Firsts
 pub mod Fused
 pub mod Instances

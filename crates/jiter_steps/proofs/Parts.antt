@@ -47,6 +47,37 @@ module _ {P : Type 0} (t : List ℕ) (closer : ℕ) (Begins : ℕ → Type 0) (I
     parts-are [] i e h = grammar.none i e h
     parts-are (p ∷ ps) i e h = grammar.part p ps i h.begin h.end e h.blanks h.begins h.is (more-are ps h.end e h.rest)
 
+-- what holds of each part
+module _ {P : Type 0} (t : List ℕ) (closer : ℕ) (Begins : ℕ → Type 0) (Was Is : ℕ → P → ℕ → Type 0)
+    (each : (i : ℕ) (p : P) (e : ℕ) → Begins i → Was i p e → Is i p e) where
+  pub more_parts-each : (ps : List P) (i e : ℕ) → MoreParts t closer Begins Was ps i e → MoreParts t closer Begins Is ps i e
+  more_parts-each [] i e h = h
+  more_parts-each (p ∷ ps) i e h =
+      let x = h.2 in
+      (
+        h.0,
+        h.1,
+        record {
+          begin = x.begin;
+          end = x.end;
+          blanks = x.blanks;
+          begins = x.begins;
+          is = each x.begin p x.end x.begins x.is;
+          rest = more_parts-each ps x.end e x.rest;
+        },
+      )
+
+  pub parts-each : (ps : List P) (i e : ℕ) → Parts t closer Begins Was ps i e → Parts t closer Begins Is ps i e
+  parts-each [] i e h = h
+  parts-each (p ∷ ps) i e h = record {
+    begin = h.begin;
+    end = h.end;
+    blanks = h.blanks;
+    begins = h.begins;
+    is = each h.begin p h.end h.begins h.is;
+    rest = more_parts-each ps h.end e h.rest;
+  }
+
 module _ {K P A : Type 0} (r : Rules K A) (t : List ℕ) (c : Container P A) (closer : ℕ) (Begins : ℕ → Type 0) where
   -- c reads the part p from i to e
   abbrev pub Reads : ℕ → P → ℕ → Type 0
