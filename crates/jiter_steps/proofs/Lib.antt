@@ -2,6 +2,7 @@ pub mod Answered
 pub mod Blanks
 pub mod Bodies
 pub mod Bounds
+pub mod Complete
 pub mod CutParts
 pub mod Firsts
 pub mod Front
@@ -12,10 +13,12 @@ pub mod NodeParts
 pub mod NodeRules
 pub mod Nodes
 pub mod NumberCut
+pub mod Parts
 pub mod Pieces
 pub mod PlacesExplained
 pub mod RowSteps
 pub mod ScalarLaws
+pub mod Sound
 pub mod SpellsFront
 pub mod StringComplete
 pub mod StringCut

@@ -1,0 +1,170 @@
+-- The parts of a container, one behind another: those that a text has, and those that are read. Where nothing is forgiven they are the same.
+use Rattle.std.proofs.Common.{◌≡◌, ℕ, zero, suc, ◌+◌, ◌<◌, ◌≤◌, Bool, true, false, cond, List, [], ◌∷◌, ◌++◌, length, refl, sym, ap, ◌∙◌, subst, arith, append-nil, append_assoc}
+use Rattle.jiter_scan.specs.Kind.{Kind}
+use Rattle.jiter_steps.specs.Blank.{IsBlank}
+use Rattle.jiter_steps.specs.Node.{StandsBehind}
+use Rattle.jiter_steps.specs.Read.{Reading, done, fault, Rules, Container, if_forgiven, follow, behind_part, parts_at, container_at}
+use Rattle.jiter_steps.specs.Step.{Step, more, closed, stuck, step}
+use Rattle.jiter_steps.proofs.Bounds.{Within}
+use Rattle.jiter_steps.proofs.RowSteps.{PartBehind, Behind, StepIs, Delimits}
+use Rattle.jiter_steps.proofs.Values.{Goes, parts-part}
+
+module _ {P : Type 0} (t : List ℕ) (closer : ℕ) (Begins : ℕ → Type 0) (IsPart : ℕ → P → ℕ → Type 0) where
+  -- the part p behind blanks from i on, and the rest behind it
+  pub record PartThen (i : ℕ) (p : P) (Rest : ℕ → Type 0) : Type 0 where
+    pub begin : ℕ
+    pub end : ℕ
+    pub blanks : IsBlank t i begin
+    pub begins : Begins begin
+    pub is : IsPart begin p end
+    pub rest : Rest end
+
+  -- behind a part at i: commas and these parts, and the closer before e
+  abbrev pub MoreParts : List P → ℕ → ℕ → Type 0
+  MoreParts [] i e = StandsBehind t i closer e
+  MoreParts (p ∷ ps) i e = (c : ℕ) × StandsBehind t i 44 c × PartThen c p (λ m. MoreParts ps m e)
+
+  -- behind the bracket at i: these parts, and the closer before e
+  abbrev pub Parts : List P → ℕ → ℕ → Type 0
+  Parts [] i e = StandsBehind t i closer e
+  Parts (p ∷ ps) i e = PartThen i p (λ m. MoreParts ps m e)
+
+  -- what a grammar says of parts behind a bracket, and of more parts behind a part
+  pub record Grammar (Are MoreAre : List P → ℕ → ℕ → Type 0) : Type 0 where
+    pub none : (i e : ℕ) → StandsBehind t i closer e → Are [] i e
+    pub no_more : (i e : ℕ) → StandsBehind t i closer e → MoreAre [] i e
+    pub part : (p : P) (ps : List P) (i j m e : ℕ) → IsBlank t i j → Begins j → IsPart j p m → MoreAre ps m e → Are (p ∷ ps) i e
+    pub comma : (p : P) (ps : List P) (i c e : ℕ) → StandsBehind t i 44 c → Are (p ∷ ps) c e → MoreAre (p ∷ ps) i e
+
+  module _ (Are MoreAre : List P → ℕ → ℕ → Type 0) (grammar : Grammar Are MoreAre) where
+    more-are : (ps : List P) (i e : ℕ) → MoreParts ps i e → MoreAre ps i e
+    more-are [] i e h = grammar.no_more i e h
+    more-are (p ∷ ps) i e h =
+        let x = h.2 in
+        grammar.comma p ps i h.0 e h.1 (grammar.part p ps h.0 x.begin x.end e x.blanks x.begins x.is (more-are ps x.end e x.rest))
+
+    pub parts-are : (ps : List P) (i e : ℕ) → Parts ps i e → Are ps i e
+    parts-are [] i e h = grammar.none i e h
+    parts-are (p ∷ ps) i e h = grammar.part p ps i h.begin h.end e h.blanks h.begins h.is (more-are ps h.end e h.rest)
+
+-- what holds of each part
+module _ {P : Type 0} (t : List ℕ) (closer : ℕ) (Begins : ℕ → Type 0) (Was Is : ℕ → P → ℕ → Type 0)
+    (each : (i : ℕ) (p : P) (e : ℕ) → Begins i → Was i p e → Is i p e) where
+  pub more_parts-each : (ps : List P) (i e : ℕ) → MoreParts t closer Begins Was ps i e → MoreParts t closer Begins Is ps i e
+  more_parts-each [] i e h = h
+  more_parts-each (p ∷ ps) i e h =
+      let x = h.2 in
+      (
+        h.0,
+        h.1,
+        record {
+          begin = x.begin;
+          end = x.end;
+          blanks = x.blanks;
+          begins = x.begins;
+          is = each x.begin p x.end x.begins x.is;
+          rest = more_parts-each ps x.end e x.rest;
+        },
+      )
+
+  pub parts-each : (ps : List P) (i e : ℕ) → Parts t closer Begins Was ps i e → Parts t closer Begins Is ps i e
+  parts-each [] i e h = h
+  parts-each (p ∷ ps) i e h = record {
+    begin = h.begin;
+    end = h.end;
+    blanks = h.blanks;
+    begins = h.begins;
+    is = each h.begin p h.end h.begins h.is;
+    rest = more_parts-each ps h.end e h.rest;
+  }
+
+module _ {K P A : Type 0} (r : Rules K A) (t : List ℕ) (c : Container P A) (closer : ℕ) (Begins : ℕ → Type 0) where
+  -- c reads the part p from i to e
+  abbrev pub Reads : ℕ → P → ℕ → Type 0
+  Reads i p e = c.part i ≡ done p e
+
+  abbrev pub ReadMore : List P → ℕ → ℕ → Type 0
+  ReadMore ps i e = MoreParts t closer Begins Reads ps i e
+
+  abbrev pub ReadParts : List P → ℕ → ℕ → Type 0
+  ReadParts ps i e = Parts t closer Begins Reads ps i e
+
+  -- built of the parts that are read from b on
+  abbrev pub BuiltOf : ℕ → Reading A → Type 0
+  BuiltOf b (done a e) = (ps : List P) × (a ≡ c.build e ps) × ReadParts ps b e
+  BuiltOf b (fault k x stop) = Unit {0}
+
+  module _ (strict : (k : Kind) → r.forgives k ≡ false) (delimits : Delimits t c.first c.next closer Begins) (goes : Goes c t) where
+    -- these parts are read from b on, and the next one is to begin at i
+    abbrev SoFar : ℕ → ℕ → List P → Type 0
+    SoFar b i ps = (p : P) (rest : List P) (m e : ℕ) → Reads i p m → ReadMore rest m e → ReadParts (ps ++ p ∷ rest) b e
+
+    first-part : (b i : ℕ) → PartBehind t Begins b i → SoFar b i []
+    first-part b i h p rest m e is more_parts = record { begin = i; end = m; blanks = h.blanks; begins = h.begins; is = is; rest = more_parts }
+
+    next-part : (b i j m : ℕ) (ps : List P) (p : P) → SoFar b i ps → Reads i p m → Behind t m 44 (PartBehind t Begins) j → SoFar b j (ps ++ p ∷ [])
+    next-part b i j m ps p so is h q rest n e also more_parts =
+        subst (λ l. ReadParts l b e) (sym (append_assoc ps (p ∷ []) (q ∷ rest)))
+        (so p (q ∷ rest) m e is (h.0, h.1, record { begin = j; end = n; blanks = h.2.blanks; begins = h.2.begins; is = also; rest = more_parts }))
+
+    fault-built : (b : ℕ) (close : ℕ → A) (k : Kind) (x stop : ℕ) → BuiltOf b (if_forgiven r close k x stop)
+    fault-built b close k x stop = subst (λ y. BuiltOf b (cond y (done (close stop) stop) (fault k x stop))) (sym (strict k)) tt
+
+    abbrev GoesOn : ℕ → (List P → ℕ → Reading A) → Type 0
+    GoesOn b next = (ps : List P) (j : ℕ) → Begins j → SoFar b j ps → BuiltOf b (next ps j)
+
+    follow-built : (b i m : ℕ) (ps : List P) (p : P) (next : List P → ℕ → Reading A) → GoesOn b next → SoFar b i ps → Reads i p m
+        → (s : Step) → StepIs t m closer (Behind t m 44 (PartBehind t Begins)) s
+        → BuiltOf b (follow r (next (ps ++ p ∷ [])) (λ e. c.build e (ps ++ p ∷ [])) s)
+    follow-built b i m ps p next go so is (more j) h = go (ps ++ p ∷ []) j h.2.begins (next-part b i j m ps p so is h)
+    follow-built b i m ps p next go so is (closed e) h = (ps ++ p ∷ [], refl, so p [] m e is h)
+    follow-built b i m ps p next go so is (stuck k j) h = fault-built b (λ e. c.build e (ps ++ p ∷ [])) k j j
+
+    part-built : (b i : ℕ) (ps : List P) (next : List P → ℕ → Reading A) → GoesOn b next → SoFar b i ps
+        → (x : Reading P) → c.part i ≡ x → Within t i x → BuiltOf b (behind_part r c t next ps x)
+    part-built b i ps next go so (done p m) is w = follow-built b i m ps p next go so is (step t c.next m) (delimits.next-is m w.1)
+    part-built b i ps next go so (fault k x stop) is w = fault-built b (λ e. c.build e ps) k x stop
+
+    parts-built : (b n : ℕ) (ps : List P) (i : ℕ) → Begins i → SoFar b i ps → BuiltOf b (parts_at r c t n ps i)
+    unfolding parts_at
+    parts-built b zero ps i at so = tt
+    parts-built b (suc n) ps i at so =
+        part-built b i ps (λ more_parts j. parts_at r c t n more_parts j) (λ more_parts j begins so_far. parts-built b n more_parts j begins so_far)
+        so (c.part i) refl (goes.part i (delimits.within i at))
+
+    bracket-built : (b : ℕ) (s : Step) → StepIs t b closer (PartBehind t Begins b) s
+        → BuiltOf b (follow r (parts_at r c t (length t) []) (λ e. c.build e []) s)
+    bracket-built b (more j) h = parts-built b (length t) [] j h.begins (first-part b j h)
+    bracket-built b (closed e) h = ([], refl, h)
+    bracket-built b (stuck k j) h = fault-built b (λ e. c.build e []) k j j
+
+    -- A container that is read is built of parts that stand one behind another.
+    pub container_at-built : (i : ℕ) → i < length t → BuiltOf (i + 1) (container_at r c t i)
+    container_at-built i h = bracket-built (i + 1) (step t c.first (i + 1)) (delimits.first-is (i + 1) (omega arith))
+
+  module _ (delimits : Delimits t c.first c.next closer Begins) (goes : Goes c t) where
+    -- behind these parts
+    abbrev pub BehindParts : List P → Step → Reading A
+    BehindParts ps s = follow r (parts_at r c t (length t) ps) (λ e. c.build e ps) s
+
+    pub one-part : (ps : List P) (p : P) (i m : ℕ) → Begins i → Reads i p m
+        → parts_at r c t (length t) ps i ≡ BehindParts (ps ++ p ∷ []) (step t c.next m)
+    one-part ps p i m at is = parts-part r t c goes i m ps p _ (delimits.within i at) is refl
+
+    pub more-read : (so_far ps : List P) (i e : ℕ) → ReadMore ps i e → BehindParts so_far (step t c.next i) ≡ done (c.build e (so_far ++ ps)) e
+    more-read so_far [] i e h =
+        ap (BehindParts so_far) (delimits.next-closed i e h) ∙ ap (λ l. done (c.build e l) e) (sym (append-nil so_far))
+    more-read so_far (p ∷ ps) i e h =
+        let part = h.2 in
+        ap (BehindParts so_far) (delimits.next-more i h.0 part.begin h.1 part.blanks part.begins)
+        ∙ one-part so_far p part.begin part.end part.begins part.is
+        ∙ more-read (so_far ++ p ∷ []) ps part.end e part.rest
+        ∙ ap (λ l. done (c.build e l) e) (append_assoc so_far (p ∷ []) ps)
+
+    -- A container whose parts stand one behind another is read.
+    pub container_at-read : (ps : List P) (i e : ℕ) → ReadParts ps (i + 1) e → container_at r c t i ≡ done (c.build e ps) e
+    container_at-read [] i e h = ap (BehindParts []) (delimits.first-closed (i + 1) e h)
+    container_at-read (p ∷ ps) i e h =
+        ap (BehindParts []) (delimits.first-more (i + 1) h.begin h.blanks h.begins)
+        ∙ one-part [] p h.begin h.end h.begins h.is
+        ∙ more-read (p ∷ []) ps h.end e h.rest
