@@ -5,15 +5,13 @@ use Rattle.std.proofs.lemmas.Bool.{cases_lt}
 use Rattle.jiter_scan.specs.Kind.{Kind, is_end_kind, eof_list, eof_object, eof_value}
 use Rattle.jiter_scan.specs.Scanned.{failed}
 use Rattle.jiter_scan.specs.NumberReading.{extent_then}
-use Rattle.jiter_scan.proofs.NumberLaws.{continues_number}
 use Rattle.jiter_steps.specs.Blank.{IsBlank}
-use Rattle.jiter_steps.specs.Node.{Node, end, StandsBehind}
+use Rattle.jiter_steps.specs.Node.{StandsBehind}
 use Rattle.jiter_steps.specs.Read.{Reading, done, Container}
 use Rattle.jiter_steps.specs.Step.{Step, more, stuck, step, array_first, array_comma, array_step, object_first, object_comma, object_step, colon, value_first, object_colon}
 use Rattle.jiter_steps.proofs.Front.{front-blank, front-behind, row-cut, row-end}
-use Rattle.jiter_steps.proofs.NodeParts.{Part, value, part_begin, Each, SpellsPart, SpellsMore, SpellsParts, part-value, more-ends}
-use Rattle.jiter_steps.proofs.RowSteps.{Delimits, row-at}
-use Rattle.jiter_steps.proofs.ScalarLaws.{EndsNumber}
+use Rattle.jiter_steps.proofs.Parts.{PartThen, MoreParts, Parts}
+use Rattle.jiter_steps.proofs.RowSteps.{row-at}
 
 module _ (t : List ℕ) (k : ℕ) (within : k ≤ length t) where
   abbrev u : List ℕ
@@ -57,55 +55,50 @@ module _ (t : List ℕ) (k : ℕ) (within : k ≤ length t) where
       ap (λ x. extent_then x (step u value_first)) (row-at u colon i g.at 58 g.blanks g.here refl) ∙ ap (step u value_first) (sym g.ends)
       ∙ row-cut t k within value_first c j b le ge
 
-  module _ {P A : Type 0} (c : Container P A) (seen : Part → P) (IsCut : Part → Reading P → Type 0) where
-    abbrev ReadPart : Part → Reading P
-    ReadPart p = c.part (part_begin p)
-
+  module _ {P Q A : Type 0} (c : Container Q A) (seen : P → Q) (IsCut : P → Reading Q → Type 0) where
     -- From i on, where this row decides: the input ends, or a part begins that is cut, or one that is seen and then the rest.
-    abbrev pub CutParts : (ℕ → Option ℕ → Step) → ℕ → List Part → Type 0
+    abbrev pub CutParts : (ℕ → Option ℕ → Step) → ℕ → List P → Type 0
     CutParts row i [] = EndsInput (step u row i)
     CutParts row i (p ∷ ps) =
         EndsInput (step u row i)
-        ⊎ ((step u row i ≡ more (part_begin p)) × (part_begin p < k)
-            × (IsCut p (ReadPart p) ⊎ ((ReadPart p ≡ done (seen p) (end (value p))) × CutParts c.next (end (value p)) ps)))
+        ⊎ ((j : ℕ) × (step u row i ≡ more j) × (j < k) × (IsCut p (c.part j) ⊎ ((e : ℕ) × (c.part j ≡ done (seen p) e) × CutParts c.next e ps)))
 
-    -- what the reading makes of a part that begins before the cut
-    pub record ReadsPart (Begins : ℕ → Type 0) (p : Part) : Type 0 where
-      pub begins : Begins (part_begin p)
-      pub whole : end (value p) ≤ k → ReadPart p ≡ done (seen p) (end (value p))
-      pub cut : k < end (value p) → IsCut p (ReadPart p)
+    -- How c reads, in the front, a part of the text that begins before the cut.
+    pub record ReadsFront (closer : ℕ) (Begins : ℕ → Type 0) (IsPart : ℕ → P → ℕ → Type 0) : Type 0 where
+      pub more-first : (i j : ℕ) → IsBlank u i j → j < k → Begins j → step u c.first i ≡ more j
+      pub more-next : (i m j : ℕ) → StandsBehind u i 44 m → IsBlank u m j → j < k → Begins j → step u c.next i ≡ more j
+      pub whole : (j : ℕ) (p : P) (e : ℕ) → IsPart j p e → e ≤ k → c.part j ≡ done (seen p) e
+      pub cut : (j : ℕ) (p : P) (e : ℕ) → IsPart j p e → j < k → k < e → IsCut p (c.part j)
 
-    module _ (names : Bool) (closer : ℕ) (quiet : continues_number closer ≡ false) (Begins : ℕ → Type 0) (delimits : Delimits u c.first c.next closer Begins)
-        (cut_steps : Cuts c.first c.next) (Ready : Node → Type 0)
-        (reads : (p : Part) → Ready (value p) → SpellsPart names t p → EndsNumber t (end (value p)) → part_begin p < k → ReadsPart Begins p) where
-      -- a part that begins before the cut, and then the rest
-      part-cut : (row : ℕ → Option ℕ → Step) (i : ℕ) (p : Part) (ps : List Part) → part_begin p < k → ReadsPart Begins p
-          → step u row i ≡ more (part_begin p) → (end (value p) ≤ k → CutParts c.next (end (value p)) ps) → CutParts row i (p ∷ ps)
-      part-cut row i p ps lt r goes rest = by (cases_lt k (end (value p))) where
-        by : (k < end (value p)) ⊎ (end (value p) ≤ k) → CutParts row i (p ∷ ps)
-        by (inl gt) = inr (goes, lt, inl (r.cut gt))
-        by (inr le) = inr (goes, lt, inr (r.whole le, rest le))
+    module _ (closer : ℕ) (Begins : ℕ → Type 0) (IsPart : ℕ → P → ℕ → Type 0) (ends : Cuts c.first c.next)
+        (reads : ReadsFront closer Begins IsPart) where
+      abbrev Part : ℕ → P → (ℕ → Type 0) → Type 0
+      Part m p Rest = PartThen t closer Begins IsPart m p Rest
 
-      more-cut : (ps : List Part) (i e : ℕ) → SpellsMore names t closer i ps e → Each Ready ps → i ≤ k → k < e → CutParts c.next i ps
-      more-cut [] i e h ready le lt = cut_steps.next-cut i h.at h.blanks le (omega (arith, h.ends))
-      more-cut (p ∷ ps) i e h ready le lt =
-          let then = more-cut ps (end (value p)) e h.4 ready.1 in
-          by (cases_lt k h.0) (cases_lt (part_begin p) k) (λ past. then past lt) where
-            by : (k < h.0) ⊎ (h.0 ≤ k) → (part_begin p < k) ⊎ (k ≤ part_begin p) → (end (value p) ≤ k → CutParts c.next (end (value p)) ps) → CutParts c.next i (p ∷ ps)
-            by (inl before) place rest = inl (cut_steps.next-cut i h.1.at h.1.blanks le (omega (arith, h.1.ends)))
-            by (inr comma) (inr past) rest = inl (cut_steps.comma-cut i h.0 (part_begin p) h.1 comma h.2 past)
-            by (inr comma) (inl here) rest =
-                let r = reads p ready.0 h.3 (more-ends names t closer quiet ps (end (value p)) e h.4) here in
-                let goes = delimits.next-more i h.0 (part_begin p) (front-behind t k within i 44 h.0 h.1 comma) (front-blank t k within h.0 (part_begin p) h.2 (omega arith)) r.begins in
-                part-cut c.next i p ps here r goes rest
+      part-cut : (row : ℕ → Option ℕ → Step) (i m e : ℕ) (p : P) (ps : List P) (x : Part m p (λ f. MoreParts t closer Begins IsPart ps f e))
+          → (k ≤ x.begin → EndsInput (step u row i)) → (x.begin < k → step u row i ≡ more x.begin) → (x.end ≤ k → CutParts c.next x.end ps)
+          → CutParts row i (p ∷ ps)
+      part-cut row i m e p ps x unread goes rest = by (cases_lt x.begin k) (cases_lt k x.end) where
+        by : (x.begin < k) ⊎ (k ≤ x.begin) → (k < x.end) ⊎ (x.end ≤ k) → CutParts row i (p ∷ ps)
+        by (inr past) y = inl (unread past)
+        by (inl here) (inl gt) = inr (x.begin, goes here, here, inl (reads.cut x.begin p x.end x.is here gt))
+        by (inl here) (inr le) = inr (x.begin, goes here, here, inr (x.end, reads.whole x.begin p x.end x.is le, rest le))
 
-      -- What the grammar spells of a container, its front has, as far as it goes.
-      pub parts-cut : (ps : List Part) (i e : ℕ) → SpellsParts names t closer i ps e → Each Ready ps → i ≤ k → k < e → CutParts c.first i ps
-      parts-cut [] i e h ready le lt = cut_steps.first-cut i h.at h.blanks le (omega (arith, h.ends))
-      parts-cut (p ∷ ps) i e h ready le lt = by (cases_lt (part_begin p) k) where
-        by : (part_begin p < k) ⊎ (k ≤ part_begin p) → CutParts c.first i (p ∷ ps)
-        by (inr past) = inl (cut_steps.first-cut i (part_begin p) h.0 le past)
-        by (inl here) =
-            let r = reads p ready.0 h.1 (more-ends names t closer quiet ps (end (value p)) e h.2) here in
-            let goes = delimits.first-more i (part_begin p) (front-blank t k within i (part_begin p) h.0 (omega arith)) r.begins in
-            part-cut c.first i p ps here r goes (λ past. more-cut ps (end (value p)) e h.2 ready.1 past lt)
+      more-cut : (ps : List P) (i e : ℕ) → MoreParts t closer Begins IsPart ps i e → i ≤ k → k < e → CutParts c.next i ps
+      more-cut [] i e h le lt = ends.next-cut i h.at h.blanks le (omega (arith, h.ends))
+      more-cut (p ∷ ps) i e h le lt = by (cases_lt k h.0) (λ past. more-cut ps h.2.end e h.2.rest past lt) where
+        by : (k < h.0) ⊎ (h.0 ≤ k) → (h.2.end ≤ k → CutParts c.next h.2.end ps) → CutParts c.next i (p ∷ ps)
+        by (inl before) rest = inl (ends.next-cut i h.1.at h.1.blanks le (omega (arith, h.1.ends)))
+        by (inr comma) rest =
+            let x = h.2 in
+            part-cut c.next i h.0 e p ps x (λ past. ends.comma-cut i h.0 x.begin h.1 comma x.blanks past)
+            (λ here. reads.more-next i h.0 x.begin (front-behind t k within i 44 h.0 h.1 comma)
+            (front-blank t k within h.0 x.begin x.blanks (omega arith)) here x.begins) rest
+
+      -- What the grammar says of a container, its front has, as far as it goes.
+      pub parts-cut : (ps : List P) (i e : ℕ) → Parts t closer Begins IsPart ps i e → i ≤ k → k < e → CutParts c.first i ps
+      parts-cut [] i e h le lt = ends.first-cut i h.at h.blanks le (omega (arith, h.ends))
+      parts-cut (p ∷ ps) i e h le lt =
+          part-cut c.first i i e p ps h (λ past. ends.first-cut i h.begin h.blanks le past)
+          (λ here. reads.more-first i h.begin (front-blank t k within i h.begin h.blanks (omega arith)) here h.begins)
+          (λ past. more-cut ps h.end e h.rest past lt)
