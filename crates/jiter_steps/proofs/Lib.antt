@@ -15,6 +15,7 @@ pub mod Nodes
 pub mod NumberCut
 pub mod Parts
 pub mod Pieces
+pub mod Prefixes
 pub mod PlacesExplained
 pub mod RowSteps
 pub mod ScalarLaws
