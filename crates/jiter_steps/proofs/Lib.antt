@@ -3,6 +3,7 @@ pub mod Blanks
 pub mod Bodies
 pub mod Bounds
 pub mod Complete
+pub mod Documents
 pub mod Firsts
 pub mod Fused
 pub mod Instances
