@@ -16,20 +16,19 @@ use Rattle.jiter_steps.specs.Literal.{start_of}
 use Rattle.jiter_steps.specs.Node as grammar
 use Rattle.jiter_steps.specs.Node.{Key, Node, Nodes, no_nodes, node, NodeMembers, no_members, member, begin, end, StandsBehind, SpellsNumber, SpellsKey, Spells, SpellsItems, SpellsMoreItems, SpellsMembers, SpellsMoreMembers, nesting, nesting_of, nesting_of_members, nesting_round, nesting_round_members}
 use Rattle.jiter_steps.specs.Piece.{SpellsString}
-use Rattle.jiter_steps.specs.Read.{Reading, done, scalar_at, behind_key, array_of, object_of, value_with, inside_at, value_at}
+use Rattle.jiter_steps.specs.Read.{Reading, done, scalar_at, behind_key, value_with, value_at}
 use Rattle.jiter_steps.specs.Step.{object_colon}
 use Rattle.jiter_steps.specs.StringReading.{whole, string_at}
 use Rattle.jiter_steps.specs.declared.parse.Literal.TheVariants as literal
 use Rattle.jiter_steps.specs.declared.parse.Start.{Start}
 use Rattle.jiter_steps.specs.declared.parse.Start.TheVariants as start
-use Rattle.jiter_steps.proofs.Instances.{nodes-advances}
 use Rattle.jiter_steps.proofs.NodeRules.{nodes, nodes_of, node_members_of, key_of}
-use Rattle.jiter_steps.proofs.Parts.{MoreParts, Parts, parts-each, Reads, container_at-read}
+use Rattle.jiter_steps.proofs.Parts.{MoreParts, Parts, container_at-read}
 use Rattle.jiter_steps.proofs.Pieces.{pieces_from}
 use Rattle.jiter_steps.proofs.RowSteps.{ByteAt, ItemAt, KeyBegins, array-delimits, object-delimits, object_colon-taken}
 use Rattle.jiter_steps.proofs.ScalarLaws.{ScalarLaws, scalar-laws, EndsNumber}
+use Rattle.jiter_steps.proofs.Sound.{inner, array, object, array-goes, object-goes}
 use Rattle.jiter_steps.proofs.Values
-use Rattle.jiter_steps.proofs.Values.{array_of-goes, object_of-goes, inside_at-within}
 
 -- what kind of value a node is
 abbrev pub start_is : Node → Start
@@ -241,24 +240,21 @@ module _ (names : Bool) (t : List ℕ) where
 
   -- where the values inside are read, a value is
   module _ (room : ℕ) where
-    abbrev inner : ℕ → Reading Node
-    inner i = inside_at (nodes names) t room i
-
     abbrev InnerComplete : Type 0
-    InnerComplete = (n : Node) → Spells names t n → nesting n < room → EndsNumber t (end n) → inner (begin n) ≡ done n (end n)
+    InnerComplete = (n : Node) → Spells names t n → nesting n < room → EndsNumber t (end n) → inner names t room (begin n) ≡ done n (end n)
 
-    item-read : InnerComplete → (i : ℕ) (n : Node) (e : ℕ) → IsItem names t room i n e → inner i ≡ done n e
-    item-read all i n e is = ap inner (sym is.begins) ∙ all n is.spelled is.limit (subst (EndsNumber t) (sym is.ends) is.quiet) ∙ ap (done n) is.ends
+    item-read : InnerComplete → (i : ℕ) (n : Node) (e : ℕ) → IsItem names t room i n e → inner names t room i ≡ done n e
+    item-read all i n e is = ap (inner names t room) (sym is.begins) ∙ all n is.spelled is.limit (subst (EndsNumber t) (sym is.ends) is.quiet) ∙ ap (done n) is.ends
 
     member-read : InnerComplete → (i : ℕ) (m : Key × Node) (e : ℕ) → IsMember names t room i m e
-        → behind_key inner t i (seen_as (key_of t i) (string_at whole t i)) ≡ done m e
+        → behind_key (inner names t room) t i (seen_as (key_of t i) (string_at whole t i)) ≡ done m e
     member-read all i m e is =
-        ap (λ j. behind_key inner t j (seen_as (key_of t j) (string_at whole t j))) (sym is.begins)
-        ∙ Values.member-value (nodes names) t inner m.0.begin m.0.end (begin m.1) m.0 (done m.1 e)
+        ap (λ j. behind_key (inner names t room) t j (seen_as (key_of t j) (string_at whole t j))) (sym is.begins)
+        ∙ Values.member-value (nodes names) t (inner names t room) m.0.begin m.0.end (begin m.1) m.0 (done m.1 e)
         (key-taken m.0 is.key.string) (key-colon m.0 m.1 is.key is.value.spelled) (item-read all (begin m.1) m.1 e is.value)
 
     value-complete : InnerComplete → (n : Node) → Spells names t n → nesting n ≤ room → EndsNumber t (end n)
-        → value_with (nodes names) inner t (begin n) (start_is n) ≡ done n (end n)
+        → value_with (nodes names) (inner names t room) t (begin n) (start_is n) ≡ done n (end n)
     value-complete all (grammar.literal l b e) h d q = ap (λ x. scalar_at b (seen_as (λ u f. grammar.literal l b f) x)) (laws.literal-complete l b e h)
     value-complete all (grammar.number b e) h d q =
         ap (λ x. scalar_at b (seen_as (λ n f. grammar.number b f) x)) (laws.number-complete b e h.ordered h.within h.text q)
@@ -266,15 +262,13 @@ module _ (names : Bool) (t : List ℕ) where
         ap (λ x. scalar_at b (seen_as (λ s f. grammar.string (pieces_from t (b + 1) (chars s.bytes)) b f) x)) (laws.string-complete b e ps h)
         ∙ ap (λ x. done (grammar.string x b e) e) (laws.pieces-again b e ps h)
     value-complete all (grammar.array b e ns) h d q =
-        let array = array_of (nodes names) inner t b in
-        let goes = array_of-goes (nodes names) t (nodes-advances t names) inner (inside_at-within (nodes names) t (nodes-advances t names) room) b in
-        let parts = parts-each t 93 (ItemAt t) (IsItem names t room) (Reads (nodes names) t array 93 (ItemAt t)) (λ i n f at is. item-read all i n f is) (nodes_list ns) (b + 1) e (items-parts room ns (b + 1) e h.1 d) in
-        container_at-read (nodes names) t array 93 (ItemAt t) (array-delimits t) goes (nodes_list ns) b e parts ∙ ap (λ x. done (grammar.array b e x) e) (nodes-listed ns)
+        container_at-read (nodes names) t (array names t room b) 93 (ItemAt t) (array-delimits t) (array-goes names t room b)
+        (IsItem names t room) (item-read all) (nodes_list ns) b e (items-parts room ns (b + 1) e h.1 d)
+        ∙ ap (λ x. done (grammar.array b e x) e) (nodes-listed ns)
     value-complete all (grammar.object b e ms) h d q =
-        let object = object_of (nodes names) inner t b in
-        let goes = object_of-goes (nodes names) t (nodes-advances t names) inner (inside_at-within (nodes names) t (nodes-advances t names) room) b in
-        let parts = parts-each t 125 (KeyBegins t) (IsMember names t room) (Reads (nodes names) t object 125 (KeyBegins t)) (λ i m f at is. member-read all i m f is) (members_list ms) (b + 1) e (members-parts room ms (b + 1) e h.1 d) in
-        container_at-read (nodes names) t object 125 (KeyBegins t) (object-delimits t) goes (members_list ms) b e parts ∙ ap (λ x. done (grammar.object b e x) e) (members-listed ms)
+        container_at-read (nodes names) t (object names t room b) 125 (KeyBegins t) (object-delimits t) (object-goes names t room b)
+        (IsMember names t room) (member-read all) (members_list ms) b e (members-parts room ms (b + 1) e h.1 d)
+        ∙ ap (λ x. done (grammar.object b e x) e) (members-listed ms)
 
     begun-complete : InnerComplete → (n : Node) → Spells names t n → nesting n ≤ room → EndsNumber t (end n)
         → value_at (nodes names) t room (begin n) ≡ done n (end n)

@@ -4,6 +4,7 @@ pub mod Bodies
 pub mod Bounds
 pub mod Complete
 pub mod CutParts
+pub mod Documents
 pub mod Firsts
 pub mod Front
 pub mod Fused
@@ -15,8 +16,8 @@ pub mod Nodes
 pub mod NumberCut
 pub mod Parts
 pub mod Pieces
-pub mod Prefixes
 pub mod PlacesExplained
+pub mod Prefixes
 pub mod RowSteps
 pub mod ScalarLaws
 pub mod Sound

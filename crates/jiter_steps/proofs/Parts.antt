@@ -1,4 +1,4 @@
--- The parts of a container, one behind another: those that a text has, and those that are read. Where nothing is forgiven they are the same.
+-- The parts of a container, one behind another: those that a text has, and those that are read. They are the same.
 use Rattle.std.proofs.Common.{◌≡◌, ℕ, zero, suc, ◌+◌, ◌<◌, ◌≤◌, Bool, true, false, cond, List, [], ◌∷◌, ◌++◌, length, refl, sym, ap, ◌∙◌, subst, arith, append-nil, append_assoc}
 use Rattle.jiter_scan.specs.Kind.{Kind}
 use Rattle.jiter_steps.specs.Blank.{IsBlank}
@@ -47,44 +47,10 @@ module _ {P : Type 0} (t : List ℕ) (closer : ℕ) (Begins : ℕ → Type 0) (I
     parts-are [] i e h = grammar.none i e h
     parts-are (p ∷ ps) i e h = grammar.part p ps i h.begin h.end e h.blanks h.begins h.is (more-are ps h.end e h.rest)
 
--- what holds of each part
-module _ {P : Type 0} (t : List ℕ) (closer : ℕ) (Begins : ℕ → Type 0) (Was Is : ℕ → P → ℕ → Type 0)
-    (each : (i : ℕ) (p : P) (e : ℕ) → Begins i → Was i p e → Is i p e) where
-  pub more_parts-each : (ps : List P) (i e : ℕ) → MoreParts t closer Begins Was ps i e → MoreParts t closer Begins Is ps i e
-  more_parts-each [] i e h = h
-  more_parts-each (p ∷ ps) i e h =
-      let x = h.2 in
-      (
-        h.0,
-        h.1,
-        record {
-          begin = x.begin;
-          end = x.end;
-          blanks = x.blanks;
-          begins = x.begins;
-          is = each x.begin p x.end x.begins x.is;
-          rest = more_parts-each ps x.end e x.rest;
-        },
-      )
-
-  pub parts-each : (ps : List P) (i e : ℕ) → Parts t closer Begins Was ps i e → Parts t closer Begins Is ps i e
-  parts-each [] i e h = h
-  parts-each (p ∷ ps) i e h = record {
-    begin = h.begin;
-    end = h.end;
-    blanks = h.blanks;
-    begins = h.begins;
-    is = each h.begin p h.end h.begins h.is;
-    rest = more_parts-each ps h.end e h.rest;
-  }
-
 module _ {K P A : Type 0} (r : Rules K A) (t : List ℕ) (c : Container P A) (closer : ℕ) (Begins : ℕ → Type 0) where
   -- c reads the part p from i to e
   abbrev pub Reads : ℕ → P → ℕ → Type 0
   Reads i p e = c.part i ≡ done p e
-
-  abbrev pub ReadMore : List P → ℕ → ℕ → Type 0
-  ReadMore ps i e = MoreParts t closer Begins Reads ps i e
 
   abbrev pub ReadParts : List P → ℕ → ℕ → Type 0
   ReadParts ps i e = Parts t closer Begins Reads ps i e
@@ -97,7 +63,7 @@ module _ {K P A : Type 0} (r : Rules K A) (t : List ℕ) (c : Container P A) (cl
   module _ (strict : (k : Kind) → r.forgives k ≡ false) (delimits : Delimits t c.first c.next closer Begins) (goes : Goes c t) where
     -- these parts are read from b on, and the next one is to begin at i
     abbrev SoFar : ℕ → ℕ → List P → Type 0
-    SoFar b i ps = (p : P) (rest : List P) (m e : ℕ) → Reads i p m → ReadMore rest m e → ReadParts (ps ++ p ∷ rest) b e
+    SoFar b i ps = (p : P) (rest : List P) (m e : ℕ) → Reads i p m → MoreParts t closer Begins Reads rest m e → ReadParts (ps ++ p ∷ rest) b e
 
     first-part : (b i : ℕ) → PartBehind t Begins b i → SoFar b i []
     first-part b i h p rest m e is more_parts = record { begin = i; end = m; blanks = h.blanks; begins = h.begins; is = is; rest = more_parts }
@@ -151,20 +117,23 @@ module _ {K P A : Type 0} (r : Rules K A) (t : List ℕ) (c : Container P A) (cl
         → parts_at r c t (length t) ps i ≡ BehindParts (ps ++ p ∷ []) (step t c.next m)
     one-part ps p i m at is = parts-part r t c goes i m ps p _ (delimits.within i at) is refl
 
-    pub more-read : (so_far ps : List P) (i e : ℕ) → ReadMore ps i e → BehindParts so_far (step t c.next i) ≡ done (c.build e (so_far ++ ps)) e
-    more-read so_far [] i e h =
-        ap (BehindParts so_far) (delimits.next-closed i e h) ∙ ap (λ l. done (c.build e l) e) (sym (append-nil so_far))
-    more-read so_far (p ∷ ps) i e h =
-        let part = h.2 in
-        ap (BehindParts so_far) (delimits.next-more i h.0 part.begin h.1 part.blanks part.begins)
-        ∙ one-part so_far p part.begin part.end part.begins part.is
-        ∙ more-read (so_far ++ p ∷ []) ps part.end e part.rest
-        ∙ ap (λ l. done (c.build e l) e) (append_assoc so_far (p ∷ []) ps)
+    -- A container whose parts stand one behind another is read, where each of them is.
+    module _ (IsPart : ℕ → P → ℕ → Type 0) (each : (i : ℕ) (p : P) (e : ℕ) → IsPart i p e → Reads i p e) where
+      more-read : (so_far ps : List P) (i e : ℕ) → MoreParts t closer Begins IsPart ps i e
+          → BehindParts so_far (step t c.next i) ≡ done (c.build e (so_far ++ ps)) e
+      more-read so_far [] i e h =
+          ap (BehindParts so_far) (delimits.next-closed i e h) ∙ ap (λ l. done (c.build e l) e) (sym (append-nil so_far))
+      more-read so_far (p ∷ ps) i e h =
+          let x = h.2 in
+          ap (BehindParts so_far) (delimits.next-more i h.0 x.begin h.1 x.blanks x.begins)
+          ∙ one-part so_far p x.begin x.end x.begins (each x.begin p x.end x.is)
+          ∙ more-read (so_far ++ p ∷ []) ps x.end e x.rest
+          ∙ ap (λ l. done (c.build e l) e) (append_assoc so_far (p ∷ []) ps)
 
-    -- A container whose parts stand one behind another is read.
-    pub container_at-read : (ps : List P) (i e : ℕ) → ReadParts ps (i + 1) e → container_at r c t i ≡ done (c.build e ps) e
-    container_at-read [] i e h = ap (BehindParts []) (delimits.first-closed (i + 1) e h)
-    container_at-read (p ∷ ps) i e h =
-        ap (BehindParts []) (delimits.first-more (i + 1) h.begin h.blanks h.begins)
-        ∙ one-part [] p h.begin h.end h.begins h.is
-        ∙ more-read (p ∷ []) ps h.end e h.rest
+      pub container_at-read : (ps : List P) (i e : ℕ) → Parts t closer Begins IsPart ps (i + 1) e
+          → container_at r c t i ≡ done (c.build e ps) e
+      container_at-read [] i e h = ap (BehindParts []) (delimits.first-closed (i + 1) e h)
+      container_at-read (p ∷ ps) i e h =
+          ap (BehindParts []) (delimits.first-more (i + 1) h.begin h.blanks h.begins)
+          ∙ one-part [] p h.begin h.end h.begins (each h.begin p h.end h.is)
+          ∙ more-read (p ∷ []) ps h.end e h.rest

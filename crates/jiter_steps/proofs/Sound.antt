@@ -105,7 +105,7 @@ module _ (names : Bool) (t : List ℕ) where
   text-sound room i (failed k j) here is w = tt
 
   module _ (room : ℕ) where
-    abbrev inner : ℕ → Reading Node
+    abbrev pub inner : ℕ → Reading Node
     inner i = inside_at (nodes names) t room i
 
     abbrev InnerSound : Type 0
@@ -136,13 +136,23 @@ module _ (names : Bool) (t : List ℕ) where
         behind_colon-sound all i (key_of t i s e) refl (laws.string-sound i e s quote is).0 (object_colon t e) (object_colon-is t e w.1)
     behind_key-sound all i quote (failed k j) is w = tt
 
-    -- items, members
-    abbrev array : ℕ → Container Node Node
+    -- the containers whose values are read inside
+    abbrev pub array : ℕ → Container Node Node
     array b = array_of (nodes names) inner t b
 
-    abbrev object : ℕ → Container (Key × Node) Node
+    abbrev pub object : ℕ → Container (Key × Node) Node
     object b = object_of (nodes names) inner t b
 
+    inner-within : AllWithin t inner
+    inner-within = inside_at-within (nodes names) t (nodes-advances t names) room
+
+    pub array-goes : (b : ℕ) → Goes (array b) t
+    array-goes b = array_of-goes (nodes names) t (nodes-advances t names) inner inner-within b
+
+    pub object-goes : (b : ℕ) → Goes (object b) t
+    object-goes b = object_of-goes (nodes names) t (nodes-advances t names) inner inner-within b
+
+    -- and their grammar
     abbrev ItemsAre : List Node → ℕ → ℕ → Type 0
     ItemsAre ns i e = SpellsItems names t i (nodes_of ns) e × (nesting_round (nodes_of ns) ≤ room)
 
@@ -199,21 +209,16 @@ module _ (names : Bool) (t : List ℕ) where
         built-sound c closer Begins b _ built (container_at-within (nodes names) t c goes b h)
         (λ ps e parts. all ps e (parts-are t closer Begins (Reads (nodes names) t c closer Begins) Are MoreAre grammar ps (b + 1) e parts))
 
-    inner-within : AllWithin t inner
-    inner-within = inside_at-within (nodes names) t (nodes-advances t names) room
-
     byte-here : (i c : ℕ) → i < length t → slice_index t i ≡ c → slice_get t i ≡ Some c
     byte-here i c h e = slice_get-get_or t i 0 h ∙ ap Some e
 
     value_with-sound : InnerSound → (i : ℕ) → i < length t → (s : Start) → start_of (slice_index t i) ≡ s
         → Sound names t room i (value_with (nodes names) inner t i s)
     value_with-sound all i h start.Array e =
-        let goes = array_of-goes (nodes names) t (nodes-advances t names) inner inner-within i in
-        container-sound (array i) 93 (ItemAt t) ItemsAre MoreItemsAre (array-delimits t) goes (items-grammar all i) i h
+        container-sound (array i) 93 (ItemAt t) ItemsAre MoreItemsAre (array-delimits t) (array-goes i) (items-grammar all i) i h
         (λ ns f x le. (record { spelled = (byte-here i 91 h (array-byte _ e), x.0); begins = refl; ends = refl; within = le }, x.1))
     value_with-sound all i h start.Object e =
-        let goes = object_of-goes (nodes names) t (nodes-advances t names) inner inner-within i in
-        container-sound (object i) 125 (KeyBegins t) MembersAre MoreMembersAre (object-delimits t) goes (members-grammar all i) i h
+        container-sound (object i) 125 (KeyBegins t) MembersAre MoreMembersAre (object-delimits t) (object-goes i) (members-grammar all i) i h
         (λ ms f x le. (record { spelled = (byte-here i 123 h (object-byte _ e), x.0); begins = refl; ends = refl; within = le }, x.1))
     value_with-sound all i h start.String e =
         text-sound room i (string_at whole t i) (byte-here i 34 h (string-first _ e)) refl (laws.string-within i h)
