@@ -8,10 +8,10 @@ use Rattle.jiter_scan.specs.Number.{Number, number_value}
 use Rattle.jiter_scan.specs.NumberReading.{number_at}
 use Rattle.jiter_scan.specs.Scanned.{Scanned, taken, failed}
 use Rattle.jiter_scan.proofs.NumberLaws.{continues_number}
-use Rattle.jiter_steps.specs.Answer.{seen_as}
+use Rattle.jiter_steps.specs.Answer.{seen_as, answer}
 use Rattle.jiter_steps.specs.Literal.{word_of, start_of}
 use Rattle.jiter_steps.specs.Node as grammar
-use Rattle.jiter_steps.specs.Node.{Key, Node, Nodes, NodeMembers, begin, end, SpellsKey, Spells, SpellsItems, SpellsMembers, nesting, nesting_round, nesting_round_members, nesting_limit, IsContainer, IsDocument}
+use Rattle.jiter_steps.specs.Node.{Key, Node, Nodes, NodeMembers, begin, end, SpellsKey, Spells, SpellsItems, SpellsMembers, nesting, nesting_round, nesting_round_members, nesting_limit, value_of, IsContainer, IsDocument}
 use Rattle.jiter_steps.specs.Read.{Reading, done, fault, Rules, Container, scalar_at, with_key, behind_key, if_forgiven, follow, parts_at, container_at, array_of, object_of, value_with, inside_at, value_at, to_end, whole_answer}
 use Rattle.jiter_steps.specs.Step.{Step, stuck, step, object_colon}
 use Rattle.jiter_steps.specs.StringReading.{whole, string_at}
@@ -20,7 +20,9 @@ use Rattle.jiter_steps.specs.declared.parse.Start.TheVariants as start
 use Rattle.jiter_steps.proofs.Answered.{whole-empty, whole-begins}
 use Rattle.jiter_steps.proofs.Complete.{start_is, node-starts, begins-value, nodes_list, members_list, IsItem, IsMember, key-taken, key-colon, items-parts, members-parts, value_at-complete}
 use Rattle.jiter_steps.proofs.CutParts.{EndsInput, Cuts, array-cuts, object-cuts, colon-cut, value_first-cut, CutParts, ReadsFront, parts-cut}
+use Rattle.jiter_steps.proofs.Documents.{answer-value}
 use Rattle.jiter_steps.proofs.Front.{front-length, front-get, front-index, front-if, front-word, front-blank, cut-blank, front-behind}
+use Rattle.jiter_steps.proofs.Fused.{mapped}
 use Rattle.jiter_steps.proofs.Instances.{nodes-advances}
 use Rattle.jiter_steps.proofs.NodeRules.{nodes, key_of}
 use Rattle.jiter_steps.proofs.NodeParts.{behind-ahead, node-ahead}
@@ -280,3 +282,15 @@ module _ (names : Bool) (t : List ℕ) (k : ℕ) (within : k ≤ length t) where
       (to_end-early (ValueWith nesting_limit (begin n) (start_is n)) (container-cut n nesting_limit is d.spelled d.limit lt gt))
   whole-early n d is gt (inr ge) =
       subst EndsEarly (sym (whole-empty (nodes names) front (blank-to_end front 0 (cut-blank t k within 0 (begin n) d.before (omega arith) ge)))) refl
+
+  mapped-early : (x : Reading Node) → EndsEarly x → EndsEarly (mapped (value_of front) x)
+  mapped-early (done n e) h = absurd h
+  mapped-early (fault kind i stop) h = h
+
+  prefix-early : (n : Node) → IsDocument names t n → IsContainer n → k < end n → EndsEarly (answer names front)
+  prefix-early n d is gt =
+      subst EndsEarly (answer-value names front) (mapped-early (whole_answer (nodes names) front) (whole-early n d is gt (cases_lt (begin n) k)))
+
+-- Of a document that is an array or an object, each front that lacks the last bracket is refused: the input ends too early.
+pub prefix-refused : (names : Bool) (t : List ℕ) (n : Node) (k : ℕ) → IsDocument names t n → IsContainer n → k < end n → EndsEarly (answer names (take k t))
+prefix-refused names t n k d is gt = prefix-early names t k (omega (arith, d.after.ordered)) n d is gt
