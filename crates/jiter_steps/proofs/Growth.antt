@@ -17,7 +17,7 @@ use Rattle.jiter_steps.specs.Node.{Node, Nodes, no_nodes, node, NodeMembers, no_
 use Rattle.jiter_steps.specs.Node as grammar
 use Rattle.jiter_steps.specs.Cut.{cut, cut_items, cut_members, cut_number, cut_string, with_item, with_member}
 use Rattle.jiter_steps.specs.Extends.{Extends, ExtendsItems, ExtendsMembers, CutsNoNumber, CutsNoNumberOf, CutsNoNumberOfMembers}
-use Rattle.jiter_steps.proofs.Parts.{Part, item, member, value, items, members, parts, Each, by_parts, InOrder, items-order, members-order, node-ahead, order-ahead}
+use Rattle.jiter_steps.proofs.NodeParts.{Part, item, member, value, items, members, parts, Each, by_parts, InOrder, items-order, members-order, node-ahead, order-ahead}
 
 -- A tree goes on from itself.
 items-more : (v : Tree) (vs ws : Items) → Extends v v → ExtendsItems vs ws → ExtendsItems (tree.item v vs) (tree.item v ws)
