@@ -57,6 +57,9 @@ impl<'j> JsonValue<'j> {
         // A document is answered with its value, unless memory is refused.
         ensures only { (n : Node) → IsDocument allow_inf_nan bytes.now n → MatchResult result
             (λ v. view v ≡ value_of bytes.now n) (λ e. e.error_type ≡ JsonErrorType.OutOfMemory) }
+        // At most one node is spelled.
+        ensures one { (n m : Node) → IsDocument allow_inf_nan bytes.now n
+            → IsDocument allow_inf_nan bytes.now m → n ≡ m }
         // Which fault it is: the first one of a reading from the left.
         ensures first { Answers result (answer allow_inf_nan bytes.now) }
 
