@@ -1,9 +1,7 @@
 -- Worked rows on the definitions, by computation.
+mod Computed
 mod Trees
-mod WholeStrings
-mod KeptStrings
-mod RawStrings
-mod RawKeptStrings
+mod Strings
 mod Literals
 mod Steps
 mod Answers
