@@ -19,6 +19,10 @@ unfoldable pub computed_steps : ⊤
 unfolding past_blanks
 computed_steps = tt
 
+unfoldable pub computed_numbers : ⊤
+unfolding number_at word_at digit_run number_value
+computed_numbers = tt
+
 unfoldable pub computed_strings : ⊤
 unfolding content_at body_at body_within found_at utf8_valid_len utf8_error_len is_utf8 chars encode_utf8
 computed_strings = tt
@@ -28,5 +32,6 @@ unfolding is_number_text number_value encode_utf8
 computed_cuts = tt
 
 unfoldable pub computed_readings : ⊤
-unfolding whole_answer front_answer value_at items_at members_at number_at digit_run number_value computed_literals computed_steps computed_strings
+unfolding whole_answer front_answer value_at items_at members_at
+    computed_literals computed_steps computed_numbers computed_strings
 computed_readings = tt

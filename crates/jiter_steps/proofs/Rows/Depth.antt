@@ -1,102 +1,76 @@
 -- How deep containers may stand one inside another, by computation.
-use Rattle.std.proofs.Common.{◌≡◌, ℕ, false, zero, suc, [], ◌∷◌, ◌++◌, refl, codes}
+use Rattle.std.proofs.Common.{◌≡◌, ℕ, zero, suc, false, List, [], ◌∷◌, ◌++◌, refl, codes, map}
 use Rattle.std.specs.Prelude.{replicate}
-use Rattle.std.specs.Str.{chars, is_utf8}
-use Rattle.std.specs.Str.Lossy.{utf8_valid_len, utf8_error_len}
-use Rattle.std.specs.Char.{encode_utf8}
 use Rattle.jiter_scan.specs.Kind.{eof_list, eof_value, recursion_limit}
-use Rattle.jiter_scan.specs.Word.{word_at}
-use Rattle.jiter_scan.specs.Digits.{digit_run}
-use Rattle.jiter_scan.specs.Number.{number_value}
-use Rattle.jiter_scan.specs.NumberReading.{number_at}
 use Rattle.jiter_scan.specs.declared.partial_mode.PartialMode.TheVariants.{On, TrailingStrings}
-use Rattle.jiter_steps.specs.Blank.{past_blanks}
-use Rattle.jiter_steps.specs.StringReading.{found_at, body_within, body_at, content_at}
 use Rattle.jiter_steps.specs.Tree.{Tree}
-use Rattle.jiter_steps.proofs.Rows.Trees.{borrowed, paired, nested, times}
-use Rattle.jiter_steps.specs.Read.{done, fault, value_at, items_at, members_at, front_answer, whole_answer}
+use Rattle.jiter_steps.specs.Read.{Reading, done, fault}
 use Rattle.jiter_steps.specs.Answer.{answer, partial_answer, skip_at}
+use Rattle.jiter_steps.proofs.Rows.Trees.{borrowed, paired, nested, times}
+use Rattle.jiter_steps.proofs.Rows.Computed.{computed_readings}
 
--- an empty container is not counted
-as_deep_as_may_be : answer false (replicate 201 91 ++ replicate 201 93) ≡ done (nested 200) 402
-unfolding whole_answer front_answer value_at items_at members_at past_blanks number_at word_at digit_run number_value content_at body_at body_within found_at utf8_valid_len utf8_error_len is_utf8 chars encode_utf8
-as_deep_as_may_be = refl
+-- so many brackets, and as many closers
+abbrev arrays : ℕ → List ℕ
+arrays n = replicate n 91 ++ replicate n 93
 
-too_deep : answer false (replicate 300 91 ++ replicate 300 93) ≡ fault recursion_limit 201 201
-unfolding whole_answer front_answer value_at items_at members_at past_blanks number_at word_at digit_run number_value content_at body_at body_within found_at utf8_valid_len utf8_error_len is_utf8 chars encode_utf8
-too_deep = refl
+-- so many objects of one member, round a number
+abbrev objects : ℕ → List ℕ
+objects n = times n (codes "{\"a\":") ++ codes "1" ++ times n (codes "}")
 
-too_deep_to_skip : skip_at false (replicate 300 91 ++ replicate 300 93) 0 ≡ fault recursion_limit 201 201
-unfolding whole_answer front_answer value_at items_at members_at past_blanks number_at word_at digit_run number_value content_at body_at body_within found_at utf8_valid_len utf8_error_len is_utf8 chars encode_utf8
-too_deep_to_skip = refl
+-- refused in every mode, at this index
+abbrev too_deep : List (List ℕ × ℕ)
+too_deep =
+    (arrays 300, 201) ∷
+    (replicate 202 91, 201) ∷
+    -- an object is counted where its first value begins
+    (objects 201, 1005) ∷
+    (times 150 (codes "[{\"a\":"), 601) ∷
+    []
 
-as_deep_as_may_be_skipped : skip_at false (replicate 201 91 ++ replicate 201 93) 0 ≡ done tt 402
-unfolding whole_answer front_answer value_at items_at members_at past_blanks number_at word_at digit_run number_value content_at body_at body_within found_at utf8_valid_len utf8_error_len is_utf8 chars encode_utf8
-as_deep_as_may_be_skipped = refl
+too_deep_answer : map (λ r. answer false r.0) too_deep ≡ map (λ r. fault recursion_limit r.1 r.1) too_deep
+unfolding computed_readings
+too_deep_answer = refl
 
-too_deep_in_part : partial_answer false On (replicate 300 91 ++ replicate 300 93) ≡ fault recursion_limit 201 201
-unfolding whole_answer front_answer value_at items_at members_at past_blanks number_at word_at digit_run number_value content_at body_at body_within found_at utf8_valid_len utf8_error_len is_utf8 chars encode_utf8
-too_deep_in_part = refl
+too_deep_skip : map (λ r. skip_at false r.0 0) too_deep ≡ map (λ r. fault recursion_limit r.1 r.1) too_deep
+unfolding computed_readings
+too_deep_skip = refl
 
--- an object is counted where its first value begins
-objects_too_deep : answer false (times 201 (codes "{\"a\":") ++ (codes "1" ++ times 201 (codes "}"))) ≡ fault recursion_limit 1005 1005
-unfolding whole_answer front_answer value_at items_at members_at past_blanks number_at word_at digit_run number_value content_at body_at body_within found_at utf8_valid_len utf8_error_len is_utf8 chars encode_utf8
-objects_too_deep = refl
+too_deep_on : map (λ r. partial_answer false On r.0) too_deep ≡ map (λ r. fault recursion_limit r.1 r.1) too_deep
+unfolding computed_readings
+too_deep_on = refl
 
-objects_too_deep_in_part : partial_answer false TrailingStrings (times 201 (codes "{\"a\":") ++ (codes "1" ++ times 201 (codes "}"))) ≡ fault recursion_limit 1005 1005
-unfolding whole_answer front_answer value_at items_at members_at past_blanks number_at word_at digit_run number_value content_at body_at body_within found_at utf8_valid_len utf8_error_len is_utf8 chars encode_utf8
-objects_too_deep_in_part = refl
-
-objects_too_deep_to_skip : skip_at false (times 201 (codes "{\"a\":") ++ (codes "1" ++ times 201 (codes "}"))) 0 ≡ fault recursion_limit 1005 1005
-unfolding whole_answer front_answer value_at items_at members_at past_blanks number_at word_at digit_run number_value content_at body_at body_within found_at utf8_valid_len utf8_error_len is_utf8 chars encode_utf8
-objects_too_deep_to_skip = refl
-
-arrays_and_objects_too_deep : answer false (times 150 (codes "[{\"a\":")) ≡ fault recursion_limit 601 601
-unfolding whole_answer front_answer value_at items_at members_at past_blanks number_at word_at digit_run number_value content_at body_at body_within found_at utf8_valid_len utf8_error_len is_utf8 chars encode_utf8
-arrays_and_objects_too_deep = refl
-
-arrays_and_objects_too_deep_kept : partial_answer false On (times 150 (codes "[{\"a\":")) ≡ fault recursion_limit 601 601
-unfolding whole_answer front_answer value_at items_at members_at past_blanks number_at word_at digit_run number_value content_at body_at body_within found_at utf8_valid_len utf8_error_len is_utf8 chars encode_utf8
-arrays_and_objects_too_deep_kept = refl
-
-arrays_and_objects_too_deep_with_strings : partial_answer false TrailingStrings (times 150 (codes "[{\"a\":")) ≡ fault recursion_limit 601 601
-unfolding whole_answer front_answer value_at items_at members_at past_blanks number_at word_at digit_run number_value content_at body_at body_within found_at utf8_valid_len utf8_error_len is_utf8 chars encode_utf8
-arrays_and_objects_too_deep_with_strings = refl
-
-arrays_and_objects_too_deep_to_skip : skip_at false (times 150 (codes "[{\"a\":")) 0 ≡ fault recursion_limit 601 601
-unfolding whole_answer front_answer value_at items_at members_at past_blanks number_at word_at digit_run number_value content_at body_at body_within found_at utf8_valid_len utf8_error_len is_utf8 chars encode_utf8
-arrays_and_objects_too_deep_to_skip = refl
-
-open_arrays_as_deep_as_may_be : answer false (replicate 201 91) ≡ fault eof_list 201 201
-unfolding whole_answer front_answer value_at items_at members_at past_blanks number_at word_at digit_run number_value content_at body_at body_within found_at utf8_valid_len utf8_error_len is_utf8 chars encode_utf8
-open_arrays_as_deep_as_may_be = refl
-
-open_arrays_as_deep_as_may_be_kept : partial_answer false On (replicate 201 91) ≡ done (nested 200) 201
-unfolding whole_answer front_answer value_at items_at members_at past_blanks number_at word_at digit_run number_value content_at body_at body_within found_at utf8_valid_len utf8_error_len is_utf8 chars encode_utf8
-open_arrays_as_deep_as_may_be_kept = refl
-
-open_arrays_too_deep : answer false (replicate 202 91) ≡ fault recursion_limit 201 201
-unfolding whole_answer front_answer value_at items_at members_at past_blanks number_at word_at digit_run number_value content_at body_at body_within found_at utf8_valid_len utf8_error_len is_utf8 chars encode_utf8
-open_arrays_too_deep = refl
-
-open_arrays_too_deep_kept : partial_answer false On (replicate 202 91) ≡ fault recursion_limit 201 201
-unfolding whole_answer front_answer value_at items_at members_at past_blanks number_at word_at digit_run number_value content_at body_at body_within found_at utf8_valid_len utf8_error_len is_utf8 chars encode_utf8
-open_arrays_too_deep_kept = refl
-
-open_arrays_too_deep_with_strings : partial_answer false TrailingStrings (replicate 202 91) ≡ fault recursion_limit 201 201
-unfolding whole_answer front_answer value_at items_at members_at past_blanks number_at word_at digit_run number_value content_at body_at body_within found_at utf8_valid_len utf8_error_len is_utf8 chars encode_utf8
-open_arrays_too_deep_with_strings = refl
-
--- an object whose first value is not reached is not counted
-open_objects_as_deep_as_may_be : answer false (times 201 (codes "{\"\":")) ≡ fault eof_value 804 804
-unfolding whole_answer front_answer value_at items_at members_at past_blanks number_at word_at digit_run number_value content_at body_at body_within found_at utf8_valid_len utf8_error_len is_utf8 chars encode_utf8
-open_objects_as_deep_as_may_be = refl
+too_deep_with_strings : map (λ r. partial_answer false TrailingStrings r.0) too_deep
+    ≡ map (λ r. fault recursion_limit r.1 r.1) too_deep
+unfolding computed_readings
+too_deep_with_strings = refl
 
 -- so many objects of one member with an empty key, round an empty one
-abbrev keyed : ℕ → Tree
-keyed zero = paired []
-keyed (suc n) = paired ((borrowed [], keyed n) ∷ [])
+abbrev nested_objects : ℕ → Tree
+nested_objects zero = paired []
+nested_objects (suc n) = paired ((borrowed [], nested_objects n) ∷ [])
 
-open_objects_as_deep_as_may_be_kept : partial_answer false On (times 201 (codes "{\"\":")) ≡ done (keyed 200) 804
-unfolding whole_answer front_answer value_at items_at members_at past_blanks number_at word_at digit_run number_value content_at body_at body_within found_at utf8_valid_len utf8_error_len is_utf8 chars encode_utf8
-open_objects_as_deep_as_may_be_kept = refl
+-- As deep as may be: an empty container is not counted, and neither is an object whose first value is not reached.
+abbrev deep : List (List ℕ × Reading Tree)
+deep =
+    (arrays 201, done (nested 200) 402) ∷
+    (replicate 201 91, fault eof_list 201 201) ∷
+    (times 201 (codes "{\"\":"), fault eof_value 804 804) ∷
+    []
+
+deep_answer : map (λ r. answer false r.0) deep ≡ map (λ r. r.1) deep
+unfolding computed_readings
+deep_answer = refl
+
+abbrev deep_and_open : List (List ℕ × Reading Tree)
+deep_and_open =
+    (replicate 201 91, done (nested 200) 201) ∷
+    (times 201 (codes "{\"\":"), done (nested_objects 200) 804) ∷
+    []
+
+deep_and_open_on : map (λ r. partial_answer false On r.0) deep_and_open ≡ map (λ r. r.1) deep_and_open
+unfolding computed_readings
+deep_and_open_on = refl
+
+arrays_skip : skip_at false (arrays 201) 0 ≡ done tt 402
+unfolding computed_readings
+arrays_skip = refl

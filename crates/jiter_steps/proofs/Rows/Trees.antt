@@ -1,5 +1,6 @@
 -- How the rows write trees and long texts.
-use Rattle.std.proofs.Common.{ℕ, zero, suc, true, false, List, [], ◌∷◌, ◌++◌}
+use Prim.Native.String.{String}
+use Rattle.std.proofs.Common.{ℕ, zero, suc, pos, true, false, List, [], ◌∷◌, ◌++◌, codes}
 use Rattle.jiter_steps.specs.Tree.{Text, Tree, items_of, members_of}
 use Rattle.jiter_steps.specs.Tree as tree
 
@@ -11,8 +12,19 @@ borrowed w = record { owned = false; bytes = w }
 abbrev pub owned : List ℕ → Text
 owned w = record { owned = true; bytes = w }
 
+-- a text of ASCII that lies in the input
+abbrev pub ascii : String → Text
+ascii s = borrowed (codes s)
+
+-- an integer that is not negative
+abbrev pub number : ℕ → Tree
+number n = tree.int (pos n)
+
 abbrev pub text : List ℕ → Tree
 text w = tree.string (borrowed w)
+
+abbrev pub word : String → Tree
+word s = tree.string (ascii s)
 
 abbrev pub own_text : List ℕ → Tree
 own_text w = tree.string (owned w)
