@@ -9,7 +9,7 @@ use Rattle.jiter_steps.specs.Answer.{answer, partial_answer, skip_at}
 use Rattle.jiter_steps.proofs.Rows.Trees.{borrowed, paired, nested, times}
 use Rattle.jiter_steps.proofs.Rows.Computed.{computed_readings}
 
--- so many brackets, and as many closers
+-- so many opening brackets (byte 91), and as many closing ones
 abbrev arrays : ℕ → List ℕ
 arrays n = replicate n 91 ++ replicate n 93
 
