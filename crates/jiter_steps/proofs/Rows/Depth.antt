@@ -1,6 +1,5 @@
 -- How deep containers may stand one inside another, by computation.
 use Rattle.std.proofs.Common.{◌≡◌, ℕ, zero, suc, false, List, [], ◌∷◌, ◌++◌, refl, codes, map}
-use Rattle.std.specs.Prelude.{replicate}
 use Rattle.jiter_scan.specs.Kind.{eof_list, eof_value, recursion_limit}
 use Rattle.jiter_scan.specs.declared.partial_mode.PartialMode.TheVariants.{On, TrailingStrings}
 use Rattle.jiter_steps.specs.Tree.{Tree}
@@ -9,9 +8,9 @@ use Rattle.jiter_steps.specs.Answer.{answer, partial_answer, skip_at}
 use Rattle.jiter_steps.proofs.Rows.Trees.{borrowed, paired, nested, times}
 use Rattle.jiter_steps.proofs.Rows.Computed.{computed_readings}
 
--- so many opening brackets (byte 91), and as many closing ones
+-- so many arrays, one inside another
 abbrev arrays : ℕ → List ℕ
-arrays n = replicate n 91 ++ replicate n 93
+arrays n = times n (codes "[") ++ times n (codes "]")
 
 -- so many objects of one member, round a number
 abbrev objects : ℕ → List ℕ
@@ -21,7 +20,7 @@ objects n = times n (codes "{\"a\":") ++ codes "1" ++ times n (codes "}")
 abbrev too_deep : List (List ℕ × ℕ)
 too_deep =
     (arrays 300, 201) ∷
-    (replicate 202 91, 201) ∷
+    (times 202 (codes "["), 201) ∷
     -- an object is counted where its first value begins
     (objects 201, 1005) ∷
     (times 150 (codes "[{\"a\":"), 601) ∷
@@ -53,7 +52,7 @@ nested_objects (suc n) = paired ((borrowed [], nested_objects n) ∷ [])
 abbrev deep : List (List ℕ × Reading Tree)
 deep =
     (arrays 201, done (nested 200) 402) ∷
-    (replicate 201 91, fault eof_list 201 201) ∷
+    (times 201 (codes "["), fault eof_list 201 201) ∷
     (times 201 (codes "{\"\":"), fault eof_value 804 804) ∷
     []
 
@@ -63,7 +62,7 @@ deep_answer = refl
 
 abbrev deep_and_open : List (List ℕ × Reading Tree)
 deep_and_open =
-    (replicate 201 91, done (nested 200) 201) ∷
+    (times 201 (codes "["), done (nested 200) 201) ∷
     (times 201 (codes "{\"\":"), done (nested_objects 200) 804) ∷
     []
 
