@@ -94,8 +94,8 @@ strings_answer : map (λ r. answer false r.0) strings ≡ map (λ r. r.1) string
 unfolding computed_readings
 strings_answer = refl
 
-abbrev mixed_array : Tree
-mixed_array = paired ((ascii "a", listed (number 1 ∷ float (ascii "2.50") ∷ own_text (codes "\n") ∷ [])) ∷ [])
+abbrev mixed_values : Tree
+mixed_values = paired ((ascii "a", listed (number 1 ∷ float (ascii "2.50") ∷ own_text (codes "\n") ∷ [])) ∷ [])
 
 abbrev nested_containers : Tree
 nested_containers = listed (listed (number 1 ∷ listed (number 2 ∷ number 3 ∷ []) ∷ []) ∷
@@ -117,7 +117,7 @@ containers =
     (codes "[1x]", fault expected_list_comma_or_end 2 2) ∷
     (codes "[{\"a\":[1}, 2]", fault expected_list_comma_or_end 8 8) ∷
     -- objects
-    (codes "{\"a\": [1, 2.50, \"\\n\"]}", done mixed_array 22) ∷
+    (codes "{\"a\": [1, 2.50, \"\\n\"]}", done mixed_values 22) ∷
     -- both members are kept in their order
     (codes "{\"a\":1,\"\\u0061\":2}", done (paired ((ascii "a", number 1) ∷ (owned (codes "a"), number 2) ∷ [])) 18) ∷
     (codes "[[1,[2,3]],{\"a\":[4,{\"b\":5}],\"c\":[]},6]", done nested_containers 38) ∷
