@@ -4,12 +4,10 @@ use Rattle.std.specs.Str.{chars, is_utf8}
 use Rattle.std.specs.Str.Lossy.{utf8_valid_len, utf8_error_len}
 use Rattle.std.specs.Char.{encode_utf8}
 use Rattle.jiter_scan.specs.Word.{word_at}
-use Rattle.jiter_scan.specs.Digits.{digit_run}
-use Rattle.jiter_scan.specs.Number.{number_value, is_number_text}
-use Rattle.jiter_scan.specs.NumberReading.{number_at}
+use Rattle.jiter_scan.proofs.Computed.{computed_numbers}
 use Rattle.jiter_steps.specs.Blank.{past_blanks}
 use Rattle.jiter_steps.specs.StringReading.{found_at, body_within, body_at, content_at}
-use Rattle.jiter_steps.specs.Read.{value_at, items_at, members_at, front_answer, whole_answer}
+use Rattle.jiter_steps.specs.Read.{parts_at, inside_at, front_answer, whole_answer}
 
 unfoldable pub computed_literals : ⊤
 unfolding word_at
@@ -19,19 +17,15 @@ unfoldable pub computed_steps : ⊤
 unfolding past_blanks
 computed_steps = tt
 
-unfoldable pub computed_numbers : ⊤
-unfolding number_at word_at digit_run number_value
-computed_numbers = tt
-
 unfoldable pub computed_strings : ⊤
 unfolding content_at body_at body_within found_at utf8_valid_len utf8_error_len is_utf8 chars encode_utf8
 computed_strings = tt
 
 unfoldable pub computed_cuts : ⊤
-unfolding is_number_text number_value encode_utf8
+unfolding computed_numbers encode_utf8
 computed_cuts = tt
 
 unfoldable pub computed_readings : ⊤
-unfolding whole_answer front_answer value_at items_at members_at
+unfolding whole_answer front_answer parts_at inside_at
     computed_literals computed_steps computed_numbers computed_strings
 computed_readings = tt

@@ -23,8 +23,7 @@ rows =
     (codes "[NaN]", true, 3, []) ∷
     (codes "[NaN]", true, 4, float (ascii "NaN") ∷ []) ∷
     (codes "[NaN]", false, 3, []) ∷
-    -- due once the cut of a whole number heeds whether names are read:
-    -- (codes "[NaN]", false, 4, []) ∷
+    (codes "[NaN]", false, 4, []) ∷
     []
 
 rows_answer : map (λ r. cut r.1 r.0 (around_number r.0) r.2 On) rows ≡ map (λ r. Some (listed r.3)) rows

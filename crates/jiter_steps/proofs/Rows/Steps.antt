@@ -2,8 +2,8 @@
 use Rattle.std.proofs.Common.{◌≡◌, ℕ, List, [], ◌∷◌, ◌++◌, refl, codes, map}
 use Rattle.jiter_scan.specs.Kind.{eof_list, eof_object, eof_value, expected_list_comma_or_end}
 use Rattle.jiter_scan.specs.Kind.{expected_object_comma_or_end, key_must_be_a_string, trailing_comma}
-use Rattle.jiter_steps.specs.Step.{Step, more, closed, stuck, step, array_opened, array_comma, array_continued}
-use Rattle.jiter_steps.specs.Step.{object_opened, object_comma, object_continued}
+use Rattle.jiter_steps.specs.Step.{Step, more, closed, stuck, step, array_first, array_comma, array_step}
+use Rattle.jiter_steps.specs.Step.{object_first, object_comma, object_step}
 use Rattle.jiter_steps.proofs.Rows.Computed.{computed_steps}
 
 -- behind an opening bracket
@@ -17,7 +17,7 @@ array_begins =
     (codes "[" ++ 12 ∷ codes "]", 1, more 1) ∷  -- a form feed is no blank
     []
 
-array_begins_answer : map (λ r. step r.0 array_opened r.1) array_begins ≡ map (λ r. r.2) array_begins
+array_begins_answer : map (λ r. step r.0 array_first r.1) array_begins ≡ map (λ r. r.2) array_begins
 unfolding computed_steps
 array_begins_answer = refl
 
@@ -32,7 +32,7 @@ item_ends =
     (codes "[1,]", 2, stuck trailing_comma 3) ∷
     []
 
-item_ends_answer : map (λ r. step r.0 (array_continued r.0) r.1) item_ends ≡ map (λ r. r.2) item_ends
+item_ends_answer : map (λ r. step r.0 (array_step r.0) r.1) item_ends ≡ map (λ r. r.2) item_ends
 unfolding computed_steps
 item_ends_answer = refl
 
@@ -58,7 +58,7 @@ object_begins =
     (codes "{1:2}", 1, stuck key_must_be_a_string 1) ∷
     []
 
-object_begins_answer : map (λ r. step r.0 object_opened r.1) object_begins ≡ map (λ r. r.2) object_begins
+object_begins_answer : map (λ r. step r.0 object_first r.1) object_begins ≡ map (λ r. r.2) object_begins
 unfolding computed_steps
 object_begins_answer = refl
 
@@ -71,7 +71,7 @@ member_ends =
     (codes "{\"a\":1 \"b\"}", 6, stuck expected_object_comma_or_end 7) ∷
     []
 
-member_ends_answer : map (λ r. step r.0 (object_continued r.0) r.1) member_ends ≡ map (λ r. r.2) member_ends
+member_ends_answer : map (λ r. step r.0 (object_step r.0) r.1) member_ends ≡ map (λ r. r.2) member_ends
 unfolding computed_steps
 member_ends_answer = refl
 
