@@ -6,8 +6,8 @@ pub mod Runs
 pub mod Scanning
 pub mod Standing
 pub mod WordLaws
-pub mod DigitRuns
-pub mod NumberTexts
+pub mod Digits
+pub mod NumberValues
 pub mod Words
 pub mod NumberBytes
 pub mod NumberLaws

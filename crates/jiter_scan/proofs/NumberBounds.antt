@@ -3,14 +3,14 @@ use Rattle.std.proofs.Common.{◌≡◌, ◌≢◌, ℕ, ◌+◌, ◌<◌, ◌�
 use Rattle.std.specs.Prelude.{slice_get, Option, Some, None, ◌==◌, if◌then◌else◌, nat_le, codes}
 use Rattle.std.proofs.lemmas.Bool.{leb-false, false≢true}
 use Rattle.std.proofs.lemmas.Option.{slice_get_within}
-use Rattle.jiter_scan.specs.Digits.{is_digit, digit_run}
+use Rattle.jiter_scan.specs.Digits.{is_digit, digit_run_end}
 use Rattle.jiter_scan.specs.Kind.{Kind, out_of_memory, is_end_kind, eof_value, expected_value, invalid_number, number_out_of_range}
 use Rattle.jiter_scan.specs.Number.{Number, digit_limit, number_value}
 use Rattle.jiter_scan.specs.NumberReading.{extent_then, digits_from, zero_ended, within_limit, whole_from, whole_at, fraction_from, fraction_at, power_from, exponent_from, exponent_at, decimal_at, signed_from, name_at, extent_from, number_extent, valued, number_at, Integer, whole, float_seen, is_float_sign, integer_ended, integer_behind, integer_signed, integer_from, int_at, alone, integer_alone, if_number, begins_number, number_alone, int_alone}
 use Rattle.jiter_scan.specs.Scanned.{Scanned, taken, failed}
 use Rattle.jiter_scan.specs.Word.{Extent, word_at}
 use Rattle.jiter_scan.proofs.Choices.{if_case}
-use Rattle.jiter_scan.proofs.Runs.{digit_run-digit, digit_run-within}
+use Rattle.jiter_scan.proofs.Runs.{run_end-more, run_end-ahead, run_end-within}
 use Rattle.jiter_scan.proofs.Scanning.{ScalarWithin, Within, FaultAt}
 use Rattle.jiter_scan.proofs.Standing.{get-none}
 use Rattle.jiter_scan.proofs.WordLaws.{WordWithin, word_at-within}
@@ -38,9 +38,9 @@ module _ (t : List ℕ) where
   digits_from-reaches : (i : ℕ) (o : Option ℕ) → slice_get t i ≡ o → i ≤ length t → Reaches t i 1 (digits_from t i o)
   digits_from-reaches i None s le = end-reaches i 1 eof_value (λ e. cc) le s
   digits_from-reaches i (Some c) s le =
-      let run = digit_run-within t i le in
-      if_case (Reaches t i 1) (is_digit c) (taken tt (i + digit_run t i)) (failed invalid_number i)
-      (λ d. let more = digit_run-digit t i c s d in (omega arith, run)) (λ d. fault-reaches i 1 i invalid_number (λ e. cc) refl (omega arith) le)
+      let run = run_end-within is_digit t i le in
+      if_case (Reaches t i 1) (is_digit c) (taken tt (digit_run_end t i)) (failed invalid_number i)
+      (λ d. let more = run_end-more is_digit t i c s d in (omega (arith, run_end-ahead is_digit t (i + 1)), run)) (λ d. fault-reaches i 1 i invalid_number (λ e. cc) refl (omega arith) le)
 
   zero_ended-reaches : (i : ℕ) (o : Option ℕ) → i + 1 ≤ length t → Reaches t i 1 (zero_ended (i + 1) o)
   zero_ended-reaches i None le = (omega arith, le)
@@ -48,20 +48,20 @@ module _ (t : List ℕ) where
       if_case (Reaches t i 1) (is_digit c) (failed invalid_number (i + 1)) (taken tt (i + 1))
       (λ d. fault-reaches i 1 (i + 1) invalid_number (λ e. cc) refl (omega arith) le) (λ d. (omega arith, le))
 
-  within_limit-reaches : (i n : ℕ) → 0 < n → i + n ≤ length t → Reaches t i 1 (within_limit i n)
-  within_limit-reaches i n some le =
-      if_case (Reaches t i 1) (nat_le n digit_limit) (taken tt (i + n)) (failed number_out_of_range (i + (digit_limit + 1)))
-      (λ h. (omega arith, le)) (λ h. let long = leb-false n digit_limit h in fault-reaches i 1 (i + (digit_limit + 1)) number_out_of_range (λ e. cc) refl (omega arith) (omega arith))
+  within_limit-reaches : (i e : ℕ) → i < e → e ≤ length t → Reaches t i 1 (within_limit i e)
+  within_limit-reaches i e some le =
+      if_case (Reaches t i 1) (nat_le e (i + digit_limit)) (taken tt e) (failed number_out_of_range (i + (digit_limit + 1)))
+      (λ h. (omega arith, le)) (λ h. let long = leb-false e (i + digit_limit) h in fault-reaches i 1 (i + (digit_limit + 1)) number_out_of_range (λ e. cc) refl (omega arith) (omega arith))
 
   whole_from-reaches : (i : ℕ) (o : Option ℕ) → slice_get t i ≡ o → i ≤ length t → Reaches t i 1 (whole_from t i o)
   whole_from-reaches i None s le = end-reaches i 1 eof_value (λ e. cc) le s
   whole_from-reaches i (Some c) s le =
       let lt = slice_get_within t i c s in
-      let run = digit_run-within t i le in
-      if_case (Reaches t i 1) (c == 48) (zero_ended (i + 1) (slice_get t (i + 1))) (if is_digit c then within_limit i (digit_run t i) else failed invalid_number i)
+      let run = run_end-within is_digit t i le in
+      if_case (Reaches t i 1) (c == 48) (zero_ended (i + 1) (slice_get t (i + 1))) (if is_digit c then within_limit i (digit_run_end t i) else failed invalid_number i)
       (λ z. zero_ended-reaches i (slice_get t (i + 1)) (omega arith))
-      (λ z. if_case (Reaches t i 1) (is_digit c) (within_limit i (digit_run t i)) (failed invalid_number i)
-      (λ d. let more = digit_run-digit t i c s d in within_limit-reaches i (digit_run t i) (omega arith) run)
+      (λ z. if_case (Reaches t i 1) (is_digit c) (within_limit i (digit_run_end t i)) (failed invalid_number i)
+      (λ d. let more = run_end-more is_digit t i c s d in within_limit-reaches i (digit_run_end t i) (omega (arith, run_end-ahead is_digit t (i + 1))) run)
       (λ d. fault-reaches i 1 i invalid_number (λ e. cc) refl (omega arith) le))
 
   fraction_from-reaches : (i : ℕ) (o : Option ℕ) → slice_get t i ≡ o → i ≤ length t → Reaches t i 0 (fraction_from t i o)

@@ -3,7 +3,7 @@ use Rattle.std.proofs.Common.{◌≡◌, ◌≢◌, ◌⊎◌, inl, inr, ℕ, �
 use Rattle.std.specs.Prelude.{slice_get, slice_range, Option, Some, None, IfSome, ◌==◌, if◌then◌else◌, nat_le, codes}
 use Rattle.std.proofs.lemmas.Bool.{ne_eqb, leb-true, le-leb, and_parts, cases_eq}
 use Rattle.std.proofs.lemmas.Option.{IfSome_then}
-use Rattle.jiter_scan.specs.Digits.{is_digit, digit_run}
+use Rattle.jiter_scan.specs.Digits.{is_digit, digit_run_end}
 use Rattle.jiter_scan.specs.Kind.{invalid_number, number_out_of_range}
 use Rattle.jiter_scan.specs.Number.{number_value, IsDigits, IsMinus, IsWhole, IsFraction, IsSign, IsExponent, IsDecimal, IsName, IsNumberText, digit_limit}
 use Rattle.jiter_scan.specs.NumberReading.{extent_then, digits_from, zero_ended, within_limit, whole_from, whole_at, fraction_from, fraction_at, power_from, exponent_from, exponent_at, decimal_at, signed_from, name_at, extent_from, number_extent, valued, number_at}
@@ -11,7 +11,7 @@ use Rattle.jiter_scan.specs.Scanned.{taken, failed}
 use Rattle.jiter_scan.specs.Stands.{Stands}
 use Rattle.jiter_scan.specs.Word.{word_at}
 use Rattle.jiter_scan.proofs.Choices.{if-true, if-false}
-use Rattle.jiter_scan.proofs.Runs.{NoDigit, digit_run-complete}
+use Rattle.jiter_scan.proofs.Runs.{NoDigit, run_end-complete}
 use Rattle.jiter_scan.proofs.Standing.{First, stands-length, stands-split, stands-slice, stands-next}
 use Rattle.jiter_scan.proofs.WordLaws.{word_at-complete}
 
@@ -69,8 +69,8 @@ module _ (t : List ℕ) where
   pub digits_from-complete : (i j : ℕ) (w : List ℕ) → Stands t i j w → IsDigits w → NoDigit (slice_get t j) → digits_from t i (slice_get t i) ≡ taken tt j
   digits_from-complete i j [] h d n = absurd d
   digits_from-complete i j (c ∷ w) h d n =
-      ap (digits_from t i) h.0 ∙ if-true (is_digit c) (taken tt (i + digit_run t i)) (failed invalid_number i) d.0
-      ∙ ap (taken tt) (digit_run-complete t i j (c ∷ w) h d n)
+      ap (digits_from t i) h.0 ∙ if-true (is_digit c) (taken tt (digit_run_end t i)) (failed invalid_number i) d.0
+      ∙ ap (taken tt) (run_end-complete is_digit t i j (c ∷ w) h d n)
 
   whole-zero : (i j c : ℕ) (w : List ℕ) → Stands t i j (c ∷ w) → c ≡ 48 → w ≡ [] → NoDigit (slice_get t j) → whole_at t i ≡ taken tt j
   whole-zero i j c w h z none n =
@@ -80,13 +80,13 @@ module _ (t : List ℕ) where
 
   whole-digits : (i j c : ℕ) (w : List ℕ) → Stands t i j (c ∷ w) → c ≢ 48 → IsDigits (c ∷ w) → length (c ∷ w) ≤ digit_limit → NoDigit (slice_get t j) → whole_at t i ≡ taken tt j
   whole-digits i j c w h z d l n =
-      let run = digit_run-complete t i j (c ∷ w) h d n in
+      let run = run_end-complete is_digit t i j (c ∷ w) h d n in
       let long = stands-length t i j (c ∷ w) h in
-      let few : digit_run t i ≤ digit_limit = omega arith in
+      let few : digit_run_end t i ≤ i + digit_limit = omega arith in
       ap (whole_from t i) h.0
-      ∙ if-false (c == 48) (zero_ended (i + 1) (slice_get t (i + 1))) (if is_digit c then within_limit i (digit_run t i) else failed invalid_number i) (ne_eqb c 48 z)
-      ∙ if-true (is_digit c) (within_limit i (digit_run t i)) (failed invalid_number i) d.0
-      ∙ if-true (nat_le (digit_run t i) digit_limit) (taken tt (i + digit_run t i)) (failed number_out_of_range (i + (digit_limit + 1))) (le-leb (digit_run t i) digit_limit few)
+      ∙ if-false (c == 48) (zero_ended (i + 1) (slice_get t (i + 1))) (if is_digit c then within_limit i (digit_run_end t i) else failed invalid_number i) (ne_eqb c 48 z)
+      ∙ if-true (is_digit c) (within_limit i (digit_run_end t i)) (failed invalid_number i) d.0
+      ∙ if-true (nat_le (digit_run_end t i) (i + digit_limit)) (taken tt (digit_run_end t i)) (failed number_out_of_range (i + (digit_limit + 1))) (le-leb (digit_run_end t i) (i + digit_limit) few)
       ∙ ap (taken tt) run
 
   -- the integer part

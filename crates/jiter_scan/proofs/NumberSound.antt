@@ -1,8 +1,9 @@
 -- What is read as a number is a number's text.
-use Rattle.std.proofs.Common.{◌≡◌, ◌⊎◌, inl, inr, ℕ, ◌+◌, ◌≤◌, Bool, true, false, ◌||◌, List, [], ◌∷◌, ◌++◌, length, refl, sym, ap, ◌∙◌, subst, arith}
+use Rattle.std.proofs.Common.{◌≡◌, ◌⊎◌, inl, inr, ℕ, ◌+◌, ◌≤◌, Bool, true, false, ◌||◌, List, [], ◌∷◌, ◌++◌, length, drop, refl, sym, ap, ◌∙◌, subst, arith}
 use Rattle.std.specs.Prelude.{slice_get, slice_range, Option, Some, None, ◌==◌, if◌then◌else◌, nat_le, codes}
+use Rattle.std.specs.List.{prefix_len}
 use Rattle.std.proofs.lemmas.Bool.{eqb-true, eqb-false, leb-true, or_cases}
-use Rattle.jiter_scan.specs.Digits.{is_digit, digit_run}
+use Rattle.jiter_scan.specs.Digits.{is_digit, digit_run_end}
 use Rattle.jiter_scan.specs.Kind.{eof_value, expected_value, invalid_number, number_out_of_range}
 use Rattle.jiter_scan.specs.Number.{Number, number_value, AreDigits, IsDigits, IsMinus, IsWhole, IsFraction, IsSign, IsExponent, IsDecimal, IsNumberText, digit_limit}
 use Rattle.jiter_scan.specs.NumberReading.{extent_then, digits_from, zero_ended, within_limit, whole_from, whole_at, fraction_from, fraction_at, power_from, exponent_from, exponent_at, decimal_at, signed_from, name_at, extent_from, number_extent, valued, number_at}
@@ -10,7 +11,7 @@ use Rattle.jiter_scan.specs.Scanned.{taken, failed}
 use Rattle.jiter_scan.specs.Stands.{Stands}
 use Rattle.jiter_scan.specs.Word.{Extent, word_at}
 use Rattle.jiter_scan.proofs.Choices.{if_gives, failed-taken, same_taken, extent_then-taken}
-use Rattle.jiter_scan.proofs.Runs.{digit_run-digit, digit_run-sound}
+use Rattle.jiter_scan.proofs.Runs.{run_end-more, run_end-sound}
 use Rattle.jiter_scan.proofs.Standing.{stands-length, stands-append, slice-stands}
 use Rattle.jiter_scan.proofs.WordLaws.{word_at-sound}
 
@@ -20,35 +21,35 @@ zero_ended-taken j e u (Some c) h =
     if_gives (is_digit c) (failed invalid_number j) (taken tt j) (taken u e) h
     (λ d r. absurd (failed-taken invalid_number j u e r)) (λ d r. (same_taken tt u j e r).1)
 
-within_limit-taken : (i n e : ℕ) (u : Unit {0}) → within_limit i n ≡ taken u e → (n ≤ digit_limit) × (i + n ≡ e)
+within_limit-taken : (i n e : ℕ) (u : Unit {0}) → within_limit i n ≡ taken u e → (n ≤ i + digit_limit) × (n ≡ e)
 within_limit-taken i n e u h =
-    if_gives (nat_le n digit_limit) (taken tt (i + n)) (failed number_out_of_range (i + (digit_limit + 1))) (taken u e) h
-    (λ d r. (leb-true n digit_limit d, (same_taken tt u (i + n) e r).1)) (λ d r. absurd (failed-taken number_out_of_range (i + (digit_limit + 1)) u e r))
+    if_gives (nat_le n (i + digit_limit)) (taken tt n) (failed number_out_of_range (i + (digit_limit + 1))) (taken u e) h
+    (λ d r. (leb-true n (i + digit_limit) d, (same_taken tt u n e r).1)) (λ d r. absurd (failed-taken number_out_of_range (i + (digit_limit + 1)) u e r))
 
 module _ (t : List ℕ) where
-  run-sound : (i e c : ℕ) → slice_get t i ≡ Some c → is_digit c ≡ true → i + digit_run t i ≡ e → (w : List ℕ) × Stands t i e (c ∷ w) × AreDigits (c ∷ w)
+  run-sound : (i e c : ℕ) → slice_get t i ≡ Some c → is_digit c ≡ true → digit_run_end t i ≡ e → (w : List ℕ) × Stands t i e (c ∷ w) × AreDigits (c ∷ w)
   run-sound i e c s d h =
-      let more = digit_run-digit t i c s d in
-      let r = digit_run-sound t (digit_run t (i + 1)) (i + 1) refl in
+      let more = run_end-more is_digit t i c s d in
+      let r = run_end-sound is_digit t (prefix_len is_digit (drop (i + 1) t)) (i + 1) refl in
       (r.0, (s, subst (λ k. Stands t (i + 1) k r.0) (omega arith) r.1), (d, r.2))
 
   -- one digit or more
   pub digits_from-sound : (i e : ℕ) (u : Unit {0}) (o : Option ℕ) → slice_get t i ≡ o → digits_from t i o ≡ taken u e → (w : List ℕ) × Stands t i e w × IsDigits w
   digits_from-sound i e u None s h = absurd (failed-taken eof_value i u e h)
   digits_from-sound i e u (Some c) s h =
-      if_gives (is_digit c) (taken tt (i + digit_run t i)) (failed invalid_number i) (taken u e) h
-      (λ d r. let x = run-sound i e c s d (same_taken tt u (i + digit_run t i) e r).1 in (c ∷ x.0, x.1, x.2)) (λ d r. absurd (failed-taken invalid_number i u e r))
+      if_gives (is_digit c) (taken tt (digit_run_end t i)) (failed invalid_number i) (taken u e) h
+      (λ d r. let x = run-sound i e c s d (same_taken tt u (digit_run_end t i) e r).1 in (c ∷ x.0, x.1, x.2)) (λ d r. absurd (failed-taken invalid_number i u e r))
 
   -- the integer part
   pub whole_from-sound : (i e : ℕ) (u : Unit {0}) (o : Option ℕ) → slice_get t i ≡ o → whole_from t i o ≡ taken u e → (w : List ℕ) × Stands t i e w × IsWhole w × (length w ≤ digit_limit)
   whole_from-sound i e u None s h = absurd (failed-taken eof_value i u e h)
   whole_from-sound i e u (Some c) s h =
-      if_gives (c == 48) (zero_ended (i + 1) (slice_get t (i + 1))) (if is_digit c then within_limit i (digit_run t i) else failed invalid_number i) (taken u e) h
+      if_gives (c == 48) (zero_ended (i + 1) (slice_get t (i + 1))) (if is_digit c then within_limit i (digit_run_end t i) else failed invalid_number i) (taken u e) h
       (λ z r. (c ∷ [], (s, zero_ended-taken (i + 1) e u (slice_get t (i + 1)) r), ((ap is_digit (eqb-true c 48 z), tt), inl refl), omega arith))
-      (λ z r. if_gives (is_digit c) (within_limit i (digit_run t i)) (failed invalid_number i) (taken u e) r (digits z) (λ d q. absurd (failed-taken invalid_number i u e q))) where
-        digits : (c == 48) ≡ false → is_digit c ≡ true → within_limit i (digit_run t i) ≡ taken u e → (w : List ℕ) × Stands t i e w × IsWhole w × (length w ≤ digit_limit)
+      (λ z r. if_gives (is_digit c) (within_limit i (digit_run_end t i)) (failed invalid_number i) (taken u e) r (digits z) (λ d q. absurd (failed-taken invalid_number i u e q))) where
+        digits : (c == 48) ≡ false → is_digit c ≡ true → within_limit i (digit_run_end t i) ≡ taken u e → (w : List ℕ) × Stands t i e w × IsWhole w × (length w ≤ digit_limit)
         digits z d q =
-            let l = within_limit-taken i (digit_run t i) e u q in
+            let l = within_limit-taken i (digit_run_end t i) e u q in
             let x = run-sound i e c s d l.1 in
             let n = stands-length t i e (c ∷ x.0) x.1 in
             (c ∷ x.0, x.1, (x.2, inr (eqb-false c 48 z)), omega (arith, l.0, l.1))

@@ -1,6 +1,6 @@
 -- Bytes that stand at a place of a text: joined, split, and cut out.
 use Rattle.std.proofs.Common.{◌≡◌, ℕ, zero, suc, ◌+◌, ◌-◌, ◌<◌, ◌≤◌, ◌⊎◌, inl, inr, List, [], ◌∷◌, ◌++◌, length, take, drop, get_or, refl, sym, ap, ◌∙◌, subst, arith}
-use Rattle.std.specs.Prelude.{slice_get, slice_range, None, IfSome}
+use Rattle.std.specs.Prelude.{slice_get, slice_range, Some, None, IfSome}
 use Rattle.std.proofs.lemmas.List.{drop_more}
 use Rattle.std.proofs.lemmas.Option.{slice_get-get_or, slice_get_within, get_or_from_slice_get, none-some}
 use Rattle.std.proofs.lemmas.Bool.{cases_lt}
@@ -60,6 +60,10 @@ module _ (t : List ℕ) where
       let n = stands-length i j w h in
       let same : length w ≡ j - i = omega arith in
       take-stands i j w h ∙ ap (λ k. take k (drop i t)) same
+
+  -- one byte
+  pub slice-one : (i c : ℕ) → slice_get t i ≡ Some c → slice_range t i (i + 1) ≡ c ∷ []
+  slice-one i c h = sym (slice-stands i (i + 1) (c ∷ []) (h, refl))
 
   -- the byte at the front of a word, or the one behind an empty word
   pub stands-next : (P : ℕ → Type 0) (i j : ℕ) (w : List ℕ) → Stands t i j w → First w P → IfSome (slice_get t j) P → IfSome (slice_get t i) P

@@ -4,8 +4,8 @@ pub mod Mode
 pub mod Scanned
 pub mod Stands
 pub mod Word
+pub mod Scan
 pub mod Digits
 pub mod Number
 pub mod NumberReading
 pub mod NumberView
-pub mod Scan

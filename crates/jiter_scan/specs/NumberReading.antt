@@ -1,9 +1,9 @@
 -- Reading a number from the left, a byte at a time.
-use Rattle.std.specs.Prelude.{ℕ, ◌+◌, ◌==◌, ◌||◌, Bool, if◌then◌else◌, List, codes, slice_get, slice_range, Option, Some, None, nat_le, length}
-use Rattle.jiter_scan.specs.Kind.{Kind, eof_value, expected_value, invalid_number, number_out_of_range}
+use Rattle.std.specs.Prelude.{ℕ, ◌+◌, ◌==◌, ◌||◌, Bool, false, if◌then◌else◌, List, codes, slice_get, slice_range, Option, Some, None, nat_le, length}
+use Rattle.jiter_scan.specs.Kind.{eof_value, expected_value, invalid_number, number_out_of_range}
 use Rattle.jiter_scan.specs.Scanned.{Scanned, taken, failed}
 use Rattle.jiter_scan.specs.Word.{Extent, word_at}
-use Rattle.jiter_scan.specs.Digits.{is_digit, digit_run}
+use Rattle.jiter_scan.specs.Digits.{is_digit, digit_run_end}
 use Rattle.jiter_scan.specs.Number.{Number, number_value, digit_limit}
 
 -- and what follows behind it
@@ -14,23 +14,23 @@ extent_then (failed k j) next = failed k j
 -- one digit or more, at the place i of the byte
 abbrev pub digits_from : List ℕ → ℕ → Option ℕ → Extent
 digits_from t i None = failed eof_value i
-digits_from t i (Some c) = if is_digit c then taken tt (i + digit_run t i) else failed invalid_number i
+digits_from t i (Some c) = if is_digit c then taken tt (digit_run_end t i) else failed invalid_number i
 
 -- behind a leading zero no digit may stand
 abbrev pub zero_ended : ℕ → Option ℕ → Extent
 zero_ended j None = taken tt j
 zero_ended j (Some c) = if is_digit c then failed invalid_number j else taken tt j
 
--- so many digits from i, unless they are too many
+-- the digits from i to before e, unless they are too many
 abbrev pub within_limit : ℕ → ℕ → Extent
-within_limit i n = if nat_le n digit_limit then taken tt (i + n) else failed number_out_of_range (i + (digit_limit + 1))
+within_limit i e = if nat_le e (i + digit_limit) then taken tt e else failed number_out_of_range (i + (digit_limit + 1))
 
 -- the integer part
 abbrev pub whole_from : List ℕ → ℕ → Option ℕ → Extent
 whole_from t i None = failed eof_value i
 whole_from t i (Some c) =
     if c == 48 then zero_ended (i + 1) (slice_get t (i + 1))
-    else (if is_digit c then within_limit i (digit_run t i) else failed invalid_number i)
+    else (if is_digit c then within_limit i (digit_run_end t i) else failed invalid_number i)
 
 abbrev pub whole_at : List ℕ → ℕ → Extent
 whole_at t i = whole_from t i (slice_get t i)
@@ -90,6 +90,15 @@ valued t i (failed k j) = failed k j
 -- The number at i: the longest run of its parts.
 unfoldable pub number_at : Bool → List ℕ → ℕ → Scanned Number
 number_at names t i = valued t i (number_extent names t i)
+
+-- this much is read, to the last byte
+abbrev pub takes_all : ℕ → Extent → Bool
+takes_all n (taken u e) = n == e
+takes_all n (failed k j) = false
+
+-- Whether these bytes are a number's text: whether they are read as a number to the last byte.
+unfoldable pub is_number_text : Bool → List ℕ → Bool
+is_number_text names w = takes_all (length w) (number_extent names w 0)
 
 -- an integer's value, or that a float shows
 pub data Integer : Type 0 where

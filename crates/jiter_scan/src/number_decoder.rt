@@ -3,7 +3,7 @@ ghost use Rattle.std.specs.Prelude.{◌≡◌, ◌+◌, ◌<◌, ◌≤◌, ◌=
 ghost use Rattle.std.specs.Str.{IsAscii};
 ghost use Rattle.jiter_scan.specs.Scanned.{Scans, with_end, whole_text, AnswersAlone, taken};
 ghost use Rattle.jiter_scan.specs.Word.{word_at};
-ghost use Rattle.jiter_scan.specs.Digits.{is_digit, digit_run};
+ghost use Rattle.jiter_scan.specs.Digits.{is_digit, digit_run_end};
 ghost use Rattle.jiter_scan.specs.Number.{digit_limit, is_float_byte, positive_value, negative_value, number_value};
 ghost use Rattle.jiter_scan.specs.NumberReading.{extent_then, digits_from, zero_ended, within_limit, whole_at, fraction_at, exponent_at, power_from, decimal_at, is_float_sign, signed_from, name_at, valued, number_at, int_at, integer_behind, integer_signed, begins_number, number_alone, int_alone};
 ghost use Rattle.jiter_scan.specs.NumberView.{int_view, number_view, integer_view, EndsWithin, magnitude_of, IsMinusTo};
@@ -133,7 +133,7 @@ fn is_digit(byte: u8) -> bool
 // The place behind the digits that stand at `from`, perhaps none.
 fn digit_run_end(bytes: &[u8], from: usize) -> usize
     requires { from ≤ length bytes.now }
-    ensures value { result ≡ from + digit_run bytes.now from }
+    ensures value { result ≡ digit_run_end bytes.now from }
     ensures place { (from ≤ result) × (result ≤ length bytes.now) }
 {
     let mut end = from;
@@ -147,7 +147,7 @@ fn digit_run_end(bytes: &[u8], from: usize) -> usize
 // and the place behind them.
 fn digits_read(bytes: &[u8], from: usize) -> (u64, usize)
     requires { from ≤ length bytes.now }
-    ensures end { result.1 ≡ from + min (digit_run bytes.now from) (digit_limit + 1) }
+    ensures end { result.1 ≡ min (digit_run_end bytes.now from) (from + (digit_limit + 1)) }
     ensures place { (from ≤ result.1) × (result.1 ≤ length bytes.now) }
     ensures magnitude { result.0 ≡ magnitude_of (slice_range bytes.now from result.1) }
 {
@@ -202,8 +202,8 @@ fn zero_read(bytes: &[u8], at: usize) -> Result<(u64, usize), Fault>
 // The digits at `at`, unless they are too many.
 fn limited_read(bytes: &[u8], at: usize) -> Result<(u64, usize), Fault>
     requires within { at ≤ length bytes.now }
-    requires some { 0 < digit_run bytes.now at }
-    ensures value { Scans (with_end (λ _. tt)) result (within_limit at (digit_run bytes.now at)) }
+    requires some { at < digit_run_end bytes.now at }
+    ensures value { Scans (with_end (λ _. tt)) result (within_limit at (digit_run_end bytes.now at)) }
     ensures place { IfOk result (λ x. (at < x.1) × (x.1 ≤ length bytes.now)) }
     ensures magnitude { IfOk result
         (λ x. x.0 ≡ magnitude_of (slice_range bytes.now at x.1)) }

@@ -1,9 +1,10 @@
 use Rattle.std.proofs.Common.{◌≡◌, ◌∙◌, ◌<◌, ap, sym, arith, slice_range}
 use Rattle.jiter_scan.specs.Scanned.{taken}
 use Rattle.jiter_scan.specs.Number.{float, number_value}
-use Rattle.jiter_scan.specs.NumberReading.{valued}
+use Rattle.jiter_scan.specs.NumberReading.{extent_then, fraction_at, exponent_at, valued}
 use Rattle.jiter_scan.specs.NumberView.{number_view}
-use Rattle.jiter_scan.proofs.NumberTexts.{tail-part, decimal_at-whole, IsAscii-decimal, IsMinusTo-le, number_value-part}
+use Rattle.jiter_scan.proofs.NumberBytes.{IsAscii-decimal, IsMinusTo-le}
+use Rattle.jiter_scan.proofs.NumberValues.{number_value-tail}
 use Rattle.jiter_scan.proofs.number_decoder.decimal_read.Goals as goal
 use Rattle.jiter_scan.proofs.number_decoder.decimal_read.Goals.{then-end-whole_end, else-end-whole_end}
 
@@ -12,21 +13,20 @@ ascii_text-requires c =
     let t = c.args.bytes.now in
     let whole = c.in_ok-magnitude in
     let end = c.in_ok-end in
-    IsAscii-decimal t c.args.from c.args.at whole.whole_end end.end c.requires.minus whole.ensures.value (tail-part t whole.whole_end end.end end.ensures.value)
+    IsAscii-decimal t c.args.from c.args.at end.end c.requires.minus (ap (λ x. extent_then x (λ j. extent_then (fraction_at t j) (λ k. exponent_at t k))) whole.ensures.value ∙ end.ensures.value)
 
 pub returns-clause-value : goal.returns-clause-value
 returns-clause-value c =
     let t = c.args.bytes.now in
     let whole = c.in_ok-magnitude in
     let end = c.in_ok-end in
-    let read = decimal_at-whole t c.args.at whole.whole_end whole.ensures.value ∙ end.ensures.value in
+    let read = ap (λ x. extent_then x (λ j. extent_then (fraction_at t j) (λ k. exponent_at t k))) whole.ensures.value ∙ end.ensures.value in
     let value : number_value (slice_range t c.args.from end.end) ≡ number_view c.if-end-whole_end.number =
     elim c.if-end-whole_end.branch [
       | then-end-whole_end w ↦ sym (ap number_view w.number-is ∙ w.integer_of.ensures)
       | else-end-whole_end w ↦
-          let part = tail-part t whole.whole_end end.end end.ensures.value in
           let ahead : whole.whole_end < end.end = omega (arith, end.ensures.place, w.if-end-whole_end.false) in
-          number_value-part t c.args.from whole.whole_end end.end (omega (arith, IsMinusTo-le t c.args.from c.args.at c.requires.minus, whole.ensures.place)) ahead (omega (arith, end.ensures.place)) (part.first ahead)
+          number_value-tail t c.args.from whole.whole_end end.end (omega (arith, IsMinusTo-le t c.args.from c.args.at c.requires.minus, whole.ensures.place)) ahead (omega (arith, whole.ensures.place)) end.ensures.value
           ∙ sym (ap number_view w.number-is ∙ ap float w.ascii_text.ensures)
     ] in
     ap (valued t c.args.from) read ∙ ap (λ n. taken n end.end) value
