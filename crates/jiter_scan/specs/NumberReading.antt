@@ -17,9 +17,9 @@ digits_from t i None = failed eof_value i
 digits_from t i (Some c) = if is_digit c then taken tt (digit_run_end t i) else failed invalid_number i
 
 -- behind a leading zero no digit may stand
-abbrev pub zero_ended : ℕ → Option ℕ → Extent
-zero_ended j None = taken tt j
-zero_ended j (Some c) = if is_digit c then failed invalid_number j else taken tt j
+abbrev pub behind_zero : ℕ → Option ℕ → Extent
+behind_zero j None = taken tt j
+behind_zero j (Some c) = if is_digit c then failed invalid_number j else taken tt j
 
 -- the digits from i to before e, unless they are too many
 abbrev pub within_limit : ℕ → ℕ → Extent
@@ -29,7 +29,7 @@ within_limit i e = if nat_le e (i + digit_limit) then taken tt e else failed num
 abbrev pub whole_from : List ℕ → ℕ → Option ℕ → Extent
 whole_from t i None = failed eof_value i
 whole_from t i (Some c) =
-    if c == 48 then zero_ended (i + 1) (slice_get t (i + 1))
+    if c == 48 then behind_zero (i + 1) (slice_get t (i + 1))
     else (if is_digit c then within_limit i (digit_run_end t i) else failed invalid_number i)
 
 abbrev pub whole_at : List ℕ → ℕ → Extent
@@ -61,9 +61,9 @@ abbrev pub decimal_at : List ℕ → ℕ → Extent
 decimal_at t i = extent_then (whole_at t i) (λ j. extent_then (fraction_at t j) (λ k. exponent_at t k))
 
 -- behind a minus
-abbrev pub signed_from : Bool → List ℕ → ℕ → Option ℕ → Extent
-signed_from names t i None = failed eof_value i
-signed_from names t i (Some c) =
+abbrev pub behind_minus : Bool → List ℕ → ℕ → Option ℕ → Extent
+behind_minus names t i None = failed eof_value i
+behind_minus names t i (Some c) =
     if c == 73 then (if names then word_at t (codes "Infinity") i else failed invalid_number i)
     else decimal_at t i
 
@@ -74,7 +74,7 @@ name_at names t w i = if names then word_at t w i else failed expected_value i
 abbrev pub extent_from : Bool → List ℕ → ℕ → Option ℕ → Extent
 extent_from names t i None = failed eof_value i
 extent_from names t i (Some c) =
-    if c == 45 then signed_from names t (i + 1) (slice_get t (i + 1))
+    if c == 45 then behind_minus names t (i + 1) (slice_get t (i + 1))
     else (if c == 78 then name_at names t (codes "NaN") i
     else (if c == 73 then name_at names t (codes "Infinity") i
     else decimal_at t i))
@@ -83,13 +83,13 @@ extent_from names t i (Some c) =
 abbrev pub number_extent : Bool → List ℕ → ℕ → Extent
 number_extent names t i = extent_from names t i (slice_get t i)
 
-abbrev pub valued : List ℕ → ℕ → Extent → Scanned Number
-valued t i (taken u e) = taken (number_value (slice_range t i e)) e
-valued t i (failed k j) = failed k j
+abbrev pub with_value : List ℕ → ℕ → Extent → Scanned Number
+with_value t i (taken u e) = taken (number_value (slice_range t i e)) e
+with_value t i (failed k j) = failed k j
 
 -- The number at i: the longest run of its parts.
 unfoldable pub number_at : Bool → List ℕ → ℕ → Scanned Number
-number_at names t i = valued t i (number_extent names t i)
+number_at names t i = with_value t i (number_extent names t i)
 
 -- this much is read, to the last byte
 abbrev pub takes_all : ℕ → Extent → Bool
@@ -109,25 +109,25 @@ abbrev pub is_float_sign : ℕ → Bool
 is_float_sign c = (c == 46) || (c == 101) || (c == 69)
 
 -- the integer from i to before e, unless a float shows at e
-abbrev pub integer_ended : List ℕ → ℕ → ℕ → Option ℕ → Scanned Integer
-integer_ended t i e None = taken (whole (number_value (slice_range t i e))) e
-integer_ended t i e (Some c) =
+abbrev pub integer_or_float : List ℕ → ℕ → ℕ → Option ℕ → Scanned Integer
+integer_or_float t i e None = taken (whole (number_value (slice_range t i e))) e
+integer_or_float t i e (Some c) =
     if is_float_sign c then taken float_seen e else taken (whole (number_value (slice_range t i e))) e
 
 -- behind the integer part of a number that begins at i
 abbrev pub integer_behind : List ℕ → ℕ → Extent → Scanned Integer
-integer_behind t i (taken u e) = integer_ended t i e (slice_get t e)
+integer_behind t i (taken u e) = integer_or_float t i e (slice_get t e)
 integer_behind t i (failed k j) = failed k j
 
 -- behind the minus at i
-abbrev pub integer_signed : List ℕ → ℕ → Option ℕ → Scanned Integer
-integer_signed t i None = failed eof_value (i + 1)
-integer_signed t i (Some c) = if c == 73 then taken float_seen (i + 1) else integer_behind t i (whole_at t (i + 1))
+abbrev pub integer_behind_minus : List ℕ → ℕ → Option ℕ → Scanned Integer
+integer_behind_minus t i None = failed eof_value (i + 1)
+integer_behind_minus t i (Some c) = if c == 73 then taken float_seen (i + 1) else integer_behind t i (whole_at t (i + 1))
 
 abbrev pub integer_from : List ℕ → ℕ → Option ℕ → Scanned Integer
 integer_from t i None = failed eof_value i
 integer_from t i (Some c) =
-    if c == 45 then integer_signed t i (slice_get t (i + 1))
+    if c == 45 then integer_behind_minus t i (slice_get t (i + 1))
     else (if (c == 78) || (c == 73) then taken float_seen i
     else integer_behind t i (whole_at t i))
 

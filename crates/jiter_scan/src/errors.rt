@@ -226,11 +226,11 @@ impl JsonError {
         ensures { IfOk result (λ text. string_bytes text
             ≡ description_text (kind_of self.now.error_type) self.now.index bytes.now) }
     {
-        Ok(self.described(alloc, bytes)?)
+        Ok(self.describe(alloc, bytes)?)
     }
 
     // The description, or the evidence that memory was refused.
-    fn described(&self, alloc: Global, bytes: &[u8]) -> Result<String, Refused>
+    fn describe(&self, alloc: Global, bytes: &[u8]) -> Result<String, Refused>
         ensures { IfOk result (λ text. string_bytes text
             ≡ description_text (kind_of self.now.error_type) self.now.index bytes.now) }
     {

@@ -1,7 +1,7 @@
 use Rattle.std.proofs.Common.{ap, sym}
 use Rattle.jiter_scan.specs.NumberView.{magnitude_of}
 use Rattle.jiter_scan.proofs.Standing.{slice-one}
-use Rattle.jiter_scan.proofs.number_decoder.zero_read.Goals as goal
+use Rattle.jiter_scan.proofs.number_decoder.read_zero.Goals as goal
 
 pub returns-in-None-clause-magnitude : goal.returns-in-None-clause-magnitude
 returns-in-None-clause-magnitude c = ap magnitude_of (sym (slice-one c.args.bytes.now c.args.at 48 c.requires))

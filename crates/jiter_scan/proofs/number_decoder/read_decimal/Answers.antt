@@ -1,12 +1,12 @@
 use Rattle.std.proofs.Common.{◌≡◌, ◌∙◌, ◌<◌, ap, sym, arith, slice_range}
 use Rattle.jiter_scan.specs.Scanned.{taken}
 use Rattle.jiter_scan.specs.Number.{float, number_value}
-use Rattle.jiter_scan.specs.NumberReading.{extent_then, fraction_at, exponent_at, valued}
+use Rattle.jiter_scan.specs.NumberReading.{extent_then, fraction_at, exponent_at, with_value}
 use Rattle.jiter_scan.specs.NumberView.{number_view}
 use Rattle.jiter_scan.proofs.NumberBytes.{IsAscii-decimal, IsMinusTo-le}
 use Rattle.jiter_scan.proofs.NumberValues.{number_value-tail}
-use Rattle.jiter_scan.proofs.number_decoder.decimal_read.Goals as goal
-use Rattle.jiter_scan.proofs.number_decoder.decimal_read.Goals.{then-end-whole_end, else-end-whole_end}
+use Rattle.jiter_scan.proofs.number_decoder.read_decimal.Goals as goal
+use Rattle.jiter_scan.proofs.number_decoder.read_decimal.Goals.{then-end-whole_end, else-end-whole_end}
 
 pub ascii_text-requires : goal.ascii_text-requires
 ascii_text-requires c =
@@ -29,4 +29,4 @@ returns-clause-value c =
           number_value-tail t c.args.from whole.whole_end end.end (omega (arith, IsMinusTo-le t c.args.from c.args.at c.requires.minus, whole.ensures.place)) ahead (omega (arith, whole.ensures.place)) end.ensures.value
           ∙ sym (ap number_view w.number-is ∙ ap float w.ascii_text.ensures)
     ] in
-    ap (valued t c.args.from) read ∙ ap (λ n. taken n end.end) value
+    ap (with_value t c.args.from) read ∙ ap (λ n. taken n end.end) value
