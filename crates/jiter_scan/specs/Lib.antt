@@ -1,3 +1,4 @@
+pub mod Ascii
 pub mod Kind
 pub mod Position
 pub mod Mode

@@ -1,5 +1,6 @@
 -- Reading a number from the left, a byte at a time.
 use Rattle.std.specs.Prelude.{ℕ, ◌+◌, ◌==◌, ◌||◌, Bool, false, if◌then◌else◌, List, codes, slice_get, slice_range, Option, Some, None, nat_le, length}
+use Rattle.jiter_scan.specs.Ascii as ascii
 use Rattle.jiter_scan.specs.Kind.{eof_value, expected_value, invalid_number, number_out_of_range}
 use Rattle.jiter_scan.specs.Scanned.{Scanned, taken, failed}
 use Rattle.jiter_scan.specs.Word.{Extent, word_at}
@@ -29,7 +30,7 @@ within_limit i e = if nat_le e (i + digit_limit) then taken tt e else failed num
 abbrev pub whole_from : List ℕ → ℕ → Option ℕ → Extent
 whole_from t i None = failed eof_value i
 whole_from t i (Some c) =
-    if c == 48 then behind_zero (i + 1) (slice_get t (i + 1))
+    if c == ascii.digit_zero then behind_zero (i + 1) (slice_get t (i + 1))
     else (if is_digit c then within_limit i (digit_run_end t i) else failed invalid_number i)
 
 abbrev pub whole_at : List ℕ → ℕ → Extent
@@ -38,17 +39,17 @@ whole_at t i = whole_from t i (slice_get t i)
 -- a fraction, or none
 abbrev pub fraction_from : List ℕ → ℕ → Option ℕ → Extent
 fraction_from t i None = taken tt i
-fraction_from t i (Some c) = if c == 46 then digits_from t (i + 1) (slice_get t (i + 1)) else taken tt i
+fraction_from t i (Some c) = if c == ascii.point then digits_from t (i + 1) (slice_get t (i + 1)) else taken tt i
 
 -- the sign of an exponent, or none, and its digits
 abbrev pub power_from : List ℕ → ℕ → Option ℕ → Extent
 power_from t i None = failed eof_value i
-power_from t i (Some c) = if (c == 43) || (c == 45) then digits_from t (i + 1) (slice_get t (i + 1)) else digits_from t i (Some c)
+power_from t i (Some c) = if (c == ascii.plus) || (c == ascii.minus) then digits_from t (i + 1) (slice_get t (i + 1)) else digits_from t i (Some c)
 
 -- an exponent, or none
 abbrev pub exponent_from : List ℕ → ℕ → Option ℕ → Extent
 exponent_from t i None = taken tt i
-exponent_from t i (Some c) = if (c == 101) || (c == 69) then power_from t (i + 1) (slice_get t (i + 1)) else taken tt i
+exponent_from t i (Some c) = if (c == ascii.small_e) || (c == ascii.capital_e) then power_from t (i + 1) (slice_get t (i + 1)) else taken tt i
 
 abbrev pub fraction_at : List ℕ → ℕ → Extent
 fraction_at t i = fraction_from t i (slice_get t i)
@@ -64,7 +65,7 @@ decimal_at t i = extent_then (whole_at t i) (λ j. extent_then (fraction_at t j)
 abbrev pub behind_minus : Bool → List ℕ → ℕ → Option ℕ → Extent
 behind_minus names t i None = failed eof_value i
 behind_minus names t i (Some c) =
-    if c == 73 then (if names then word_at t (codes "Infinity") i else failed invalid_number i)
+    if c == ascii.capital_i then (if names then word_at t (codes "Infinity") i else failed invalid_number i)
     else decimal_at t i
 
 -- a name, if names are allowed
@@ -74,9 +75,9 @@ name_at names t w i = if names then word_at t w i else failed expected_value i
 abbrev pub extent_from : Bool → List ℕ → ℕ → Option ℕ → Extent
 extent_from names t i None = failed eof_value i
 extent_from names t i (Some c) =
-    if c == 45 then behind_minus names t (i + 1) (slice_get t (i + 1))
-    else (if c == 78 then name_at names t (codes "NaN") i
-    else (if c == 73 then name_at names t (codes "Infinity") i
+    if c == ascii.minus then behind_minus names t (i + 1) (slice_get t (i + 1))
+    else (if c == ascii.capital_n then name_at names t (codes "NaN") i
+    else (if c == ascii.capital_i then name_at names t (codes "Infinity") i
     else decimal_at t i))
 
 -- where the number at i ends
@@ -106,7 +107,7 @@ pub data Integer : Type 0 where
   float_seen : Integer
 
 abbrev pub is_float_sign : ℕ → Bool
-is_float_sign c = (c == 46) || (c == 101) || (c == 69)
+is_float_sign c = (c == ascii.point) || (c == ascii.small_e) || (c == ascii.capital_e)
 
 -- the integer from i to before e, unless a float shows at e
 abbrev pub integer_or_float : List ℕ → ℕ → ℕ → Option ℕ → Scanned Integer
@@ -122,13 +123,13 @@ integer_behind t i (failed k j) = failed k j
 -- behind the minus at i
 abbrev pub integer_behind_minus : List ℕ → ℕ → Option ℕ → Scanned Integer
 integer_behind_minus t i None = failed eof_value (i + 1)
-integer_behind_minus t i (Some c) = if c == 73 then taken float_seen (i + 1) else integer_behind t i (whole_at t (i + 1))
+integer_behind_minus t i (Some c) = if c == ascii.capital_i then taken float_seen (i + 1) else integer_behind t i (whole_at t (i + 1))
 
 abbrev pub integer_from : List ℕ → ℕ → Option ℕ → Scanned Integer
 integer_from t i None = failed eof_value i
 integer_from t i (Some c) =
-    if c == 45 then integer_behind_minus t i (slice_get t (i + 1))
-    else (if (c == 78) || (c == 73) then taken float_seen i
+    if c == ascii.minus then integer_behind_minus t i (slice_get t (i + 1))
+    else (if (c == ascii.capital_n) || (c == ascii.capital_i) then taken float_seen i
     else integer_behind t i (whole_at t i))
 
 -- The integer at i and its end, or that a float shows and where: sign and integer part, and what stands behind.
@@ -137,7 +138,7 @@ int_at t i = integer_from t i (slice_get t i)
 
 -- a first byte of a number; a name's too
 abbrev pub begins_number : ℕ → Bool
-begins_number c = is_digit c || (c == 45) || (c == 78) || (c == 73)
+begins_number c = is_digit c || (c == ascii.minus) || (c == ascii.capital_n) || (c == ascii.capital_i)
 
 -- the number alone: what follows it is a fault
 abbrev pub alone : List ℕ → Scanned Number → Scanned Number

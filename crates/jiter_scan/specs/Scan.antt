@@ -1,6 +1,7 @@
 -- Runs of bytes, and where they end.
 use Rattle.std.specs.Prelude.{◌≡◌, ℕ, ◌+◌, ◌==◌, ◌||◌, Bool, true, not, List, [], ◌∷◌, drop, nat_lt, slice_range}
 use Rattle.std.specs.List.{prefix_len, AllPass}
+use Rattle.jiter_scan.specs.Ascii as ascii
 
 -- where the run of bytes that pass this test ends, if it begins at i
 abbrev pub run_end : (ℕ → Bool) → List ℕ → ℕ → ℕ
@@ -13,7 +14,7 @@ Pass test (c ∷ cs) = (test c ≡ true) × Pass test cs
 
 -- what ends a string's plain bytes (RFC 8259, 7): a quote, a backslash or a control character
 abbrev pub is_stop : ℕ → Bool
-is_stop c = (c == 34) || (c == 92) || nat_lt c 32
+is_stop c = (c == ascii.quote) || (c == ascii.backslash) || nat_lt c ascii.space
 
 -- a byte that a string may hold as it stands
 abbrev pub is_plain : ℕ → Bool

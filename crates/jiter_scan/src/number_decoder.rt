@@ -1,6 +1,7 @@
 //! Numbers: integers that 64 signed bits hold, and the text of all others (RFC 8259, 6).
 ghost use Rattle.std.specs.Prelude.{◌≡◌, ◌+◌, ◌<◌, ◌≤◌, ◌==◌, ◌||◌, IfOk, IfErr, min, length, slice_get, slice_index, slice_range, Some, true};
 ghost use Rattle.std.specs.Str.{IsAscii};
+ghost use Rattle.jiter_scan.specs.Ascii as ascii;
 ghost use Rattle.jiter_scan.specs.Scanned.{Scans, with_end, whole_text, AnswersAlone, taken};
 ghost use Rattle.jiter_scan.specs.Word.{word_at};
 ghost use Rattle.jiter_scan.specs.Digits.{is_digit, digit_run_end};
@@ -181,7 +182,7 @@ fn digits_end(bytes: &[u8], from: usize) -> Result<usize, Fault>
 
 // The zero at `at`, behind which no digit may stand.
 fn read_zero(bytes: &[u8], at: usize) -> Result<(u64, usize), Fault>
-    requires { slice_get bytes.now at ≡ Some 48 }
+    requires { slice_get bytes.now at ≡ Some ascii.digit_zero }
     ensures value { Scans (with_end (λ _. tt)) result (behind_zero (at + 1) (slice_get bytes.now (at + 1))) }
     ensures place { IfOk result (λ x. (at < x.1) × (x.1 ≤ length bytes.now)) }
     ensures magnitude { IfOk result
@@ -427,7 +428,7 @@ fn read_negative<'j>(
     from: usize,
     allow_inf_nan: bool,
 ) -> Result<(NumberAny<'j>, usize), Fault>
-    requires { slice_get bytes.now from ≡ Some 45 }
+    requires { slice_get bytes.now from ≡ Some ascii.minus }
     ensures value { Scans (with_end number_view) result (with_value bytes.now from
         (behind_minus allow_inf_nan bytes.now (from + 1) (slice_get bytes.now (from + 1)))) }
     ensures place { IfOk result (λ x. (from < x.1) × (x.1 ≤ length bytes.now)) }
@@ -503,7 +504,7 @@ fn read_integer<'j>(bytes: &'j [u8], from: usize, at: usize) -> Result<(Integer<
 
 // The integer at `from` that begins with a minus.
 fn read_negative_int<'j>(bytes: &'j [u8], from: usize) -> Result<(Integer<'j>, usize), Fault>
-    requires { slice_get bytes.now from ≡ Some 45 }
+    requires { slice_get bytes.now from ≡ Some ascii.minus }
     ensures value { Scans (with_end integer_view) result
         (integer_behind_minus bytes.now from (slice_get bytes.now (from + 1))) }
     ensures place { IfOk result (EndsWithin from (length bytes.now)) }
@@ -548,7 +549,7 @@ pub fn int_at<'j>(bytes: &'j [u8], at: usize) -> Result<(Integer<'j>, usize), Fa
 }
 
 fn begins_name(byte: u8) -> bool
-    ensures { result ≡ ((byte == 78) || (byte == 73)) }
+    ensures { result ≡ ((byte == ascii.capital_n) || (byte == ascii.capital_i)) }
 {
     matches!(byte, b'N' | b'I')
 }
