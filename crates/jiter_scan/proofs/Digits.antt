@@ -4,7 +4,7 @@ use Rattle.std.proofs.lemmas.List.{take_more, length-drop, get_or-drop, length-a
 use Rattle.std.proofs.Math.Nat.{mul_assoc}
 use Rattle.std.proofs.lemmas.Nat.{pow-add}
 use Rattle.jiter_scan.specs.Digits.{decimal_of}
-use Rattle.jiter_scan.specs.NumberView.{magnitude_of}
+use Rattle.jiter_scan.specs.NumberDecoder.{magnitude_of}
 
 -- one more digit behind the others
 pub decimal_of-push : (cs : List ℕ) (c : ℕ) → decimal_of (cs ++ c ∷ []) ≡ decimal_of cs * 10 + (c - 48)

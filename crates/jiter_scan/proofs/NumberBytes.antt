@@ -12,7 +12,7 @@ use Rattle.std.proofs.lemmas.Str.Ascii.{IsAscii-from_all, IsAscii-nil, IsAscii-p
 use Rattle.jiter_scan.specs.Digits.{is_digit}
 use Rattle.jiter_scan.specs.Number.{AreDigits, IsDigits, IsMinus, IsWhole, IsFraction, IsSign, IsExponent, IsNumberText}
 use Rattle.jiter_scan.specs.NumberReading.{begins_number, whole_at, decimal_at}
-use Rattle.jiter_scan.specs.NumberView.{IsMinusTo}
+use Rattle.jiter_scan.specs.NumberDecoder.{IsMinusTo}
 use Rattle.jiter_scan.specs.Scan.{is_ascii}
 use Rattle.jiter_scan.specs.Scanned.{taken}
 use Rattle.jiter_scan.specs.Stands.{Stands}

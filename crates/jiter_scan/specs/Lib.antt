@@ -1,7 +1,7 @@
 pub mod Ascii
 pub mod Kind
 pub mod Position
-pub mod Mode
+pub mod PartialMode
 pub mod Scanned
 pub mod Stands
 pub mod Word
@@ -9,4 +9,4 @@ pub mod Scan
 pub mod Digits
 pub mod Number
 pub mod NumberReading
-pub mod NumberView
+pub mod NumberDecoder

@@ -7,7 +7,7 @@ ghost use Rattle.jiter_scan.specs.Word.{word_at};
 ghost use Rattle.jiter_scan.specs.Digits.{is_digit, digit_run_end};
 ghost use Rattle.jiter_scan.specs.Number.{digit_limit, is_float_byte, positive_value, negative_value, number_value};
 ghost use Rattle.jiter_scan.specs.NumberReading.{extent_then, digits_from, behind_zero, within_limit, whole_at, fraction_at, exponent_at, power_from, decimal_at, is_float_sign, behind_minus, name_at, with_value, number_at, int_at, integer_behind, integer_behind_minus, begins_number, number_alone, int_alone};
-ghost use Rattle.jiter_scan.specs.NumberView.{int_view, number_view, integer_view, EndsWithin, magnitude_of, IsMinusTo};
+ghost use Rattle.jiter_scan.specs.NumberDecoder.{int_view, number_view, integer_view, EndsWithin, magnitude_of, IsMinusTo};
 
 use crate::errors::{Fault, FaultKind, JsonError, JsonResult, fault_at};
 use crate::word::{byte_at, word_end};

@@ -2,7 +2,7 @@ use Rattle.std.proofs.Common.{◌≡◌, ◌∙◌, ◌<◌, ap, sym, arith, sli
 use Rattle.jiter_scan.specs.Scanned.{taken}
 use Rattle.jiter_scan.specs.Number.{float, number_value}
 use Rattle.jiter_scan.specs.NumberReading.{extent_then, fraction_at, exponent_at, with_value}
-use Rattle.jiter_scan.specs.NumberView.{number_view}
+use Rattle.jiter_scan.specs.NumberDecoder.{number_view}
 use Rattle.jiter_scan.proofs.NumberBytes.{IsAscii-decimal, IsMinusTo-le}
 use Rattle.jiter_scan.proofs.NumberValues.{number_value-tail}
 use Rattle.jiter_scan.proofs.number_decoder.read_decimal.Goals as goal

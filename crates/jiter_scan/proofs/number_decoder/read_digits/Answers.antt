@@ -2,7 +2,7 @@ use Rattle.std.proofs.Common.{◌∙◌, ap, sym, get_or, slice_range, arith}
 use Rattle.jiter_scan.specs.Digits.{is_digit}
 use Rattle.jiter_scan.proofs.Digits.{slice_range-more, magnitude_of-push}
 use Rattle.jiter_scan.proofs.Runs.{run_end-passing, run_end-stopping, run_end-past}
-use Rattle.jiter_scan.specs.NumberView.{magnitude_of}
+use Rattle.jiter_scan.specs.NumberDecoder.{magnitude_of}
 use Rattle.jiter_scan.proofs.number_decoder.read_digits.Goals as goal
 
 pub loop-end-preserved : goal.loop-end-preserved

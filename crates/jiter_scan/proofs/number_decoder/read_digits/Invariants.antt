@@ -1,7 +1,7 @@
 use Rattle.std.proofs.Common.{length, ◌-◌, ◌≡◌, ◌+◌, ◌≤◌, slice_range}
 use Rattle.jiter_scan.specs.Digits.{digit_run_end}
 use Rattle.jiter_scan.specs.Number.{digit_limit}
-use Rattle.jiter_scan.specs.NumberView.{magnitude_of}
+use Rattle.jiter_scan.specs.NumberDecoder.{magnitude_of}
 use Rattle.jiter_scan.proofs.number_decoder.read_digits.Given as goal
 
 abbrev pub invariant-loop-end : goal.invariant-loop-end

@@ -1,5 +1,5 @@
 use Rattle.std.proofs.Common.{ap, sym}
-use Rattle.jiter_scan.specs.NumberView.{magnitude_of}
+use Rattle.jiter_scan.specs.NumberDecoder.{magnitude_of}
 use Rattle.jiter_scan.proofs.Standing.{slice-one}
 use Rattle.jiter_scan.proofs.number_decoder.read_zero.Goals as goal
 
