@@ -12,5 +12,6 @@ pub mod Words
 pub mod NumberBytes
 pub mod NumberLaws
 pub mod Computed
+pub mod Pins
 mod Rows
 pub mod NumberTests

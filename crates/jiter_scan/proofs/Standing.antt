@@ -32,10 +32,6 @@ module _ (t : List ℕ) where
   stands-split i k [] v h = (i, refl, h)
   stands-split i k (c ∷ u) v h = let r = stands-split (i + 1) k u v h.1 in (r.0, (h.0, r.1), r.2)
 
-  -- a word that begins at i ends in one place
-  pub stands-unique : (i j k : ℕ) (w : List ℕ) → Stands t i j w → Stands t i k w → j ≡ k
-  stands-unique i j k w h g = let a = stands-length i j w h in let b = stands-length i k w g in omega arith
-
   stands-take : (n i : ℕ) → i + n ≤ length t → Stands t i (i + n) (take n (drop i t))
   stands-take zero i h = omega arith
   stands-take (suc n) i h =

@@ -92,6 +92,9 @@ impl JsonErrorType {
 impl fmt::Display for JsonErrorType {
     ghost output = { λ kind. Some (kind_text (kind_of kind)) };
 
+    // a width changes nothing
+    ghost styled_output = { λ kind _. Some (kind_text (kind_of kind)) };
+
     fn fmt<W: fmt::Write>(&self, f: &mut fmt::Formatter<W>) -> fmt::Result {
         f.write_str(self.text())
     }
