@@ -19,6 +19,7 @@ pub mod Pieces
 pub mod PlacesExplained
 pub mod Prefixes
 pub mod RowSteps
+mod Rows
 pub mod ScalarLaws
 pub mod Sound
 pub mod SpellsFront

@@ -6,7 +6,8 @@ use Rattle.jiter_scan.specs.declared.partial_mode.PartialMode.TheVariants.{On, T
 use Rattle.jiter_steps.specs.declared.parse.Literal.TheVariants as literal
 use Rattle.jiter_steps.specs.Tree.{Tree, boolean}
 use Rattle.jiter_steps.specs.Read.{done, fault, whole_answer}
-use Rattle.jiter_steps.specs.Answer.{answer, partial_answer, nodes}
+use Rattle.jiter_steps.specs.Answer.{answer, partial_answer}
+use Rattle.jiter_steps.proofs.NodeRules.{nodes}
 use Rattle.jiter_steps.specs.Node.{Node, no_nodes, node, no_members, member, value_of}
 use Rattle.jiter_steps.specs.Node as grammar
 use Rattle.jiter_steps.specs.Cut.{cut}

@@ -27,7 +27,7 @@ abbrev three_members : Tree
 three_members = paired ((ascii "a", number 1) ∷ (ascii "b", listed (null ∷ [])) ∷ (ascii "c", null) ∷ [])
 
 a_value_goes_on_and_a_member_comes : Extends two_members three_members
-a_value_goes_on_and_a_member_comes = (refl, (refl, (refl, tt)))
+a_value_goes_on_and_a_member_comes = (refl, refl, (refl, tt))
 
 a_text_gets_memory_of_its_own : Extends (word "a") (own_text (codes "ab"))
 a_text_gets_memory_of_its_own = (codes "b", refl)
