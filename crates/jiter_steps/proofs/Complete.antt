@@ -108,11 +108,11 @@ abbrev pub members_list : NodeMembers → List (Key × Node)
 members_list no_members = []
 members_list (member k n ms) = (k, n) ∷ members_list ms
 
-pub nodes-listed : (ns : Nodes) → nodes_of (nodes_list ns) ≡ ns
+nodes-listed : (ns : Nodes) → nodes_of (nodes_list ns) ≡ ns
 nodes-listed no_nodes = refl
 nodes-listed (node n ns) = ap (node n) (nodes-listed ns)
 
-pub members-listed : (ms : NodeMembers) → node_members_of (members_list ms) ≡ ms
+members-listed : (ms : NodeMembers) → node_members_of (members_list ms) ≡ ms
 members-listed no_members = refl
 members-listed (member k n ms) = ap (member k n) (members-listed ms)
 
@@ -170,9 +170,6 @@ module _ (names : Bool) (t : List ℕ) where
       let first = begins-value n h in ap start_of (get_or_from_slice_get t (begin n) first.byte 0 first.here)
       ∙ first.starts
 
-  begin-within : (n : Node) → Spells names t n → begin n < length t
-  begin-within n h = let first = begins-value n h in slice_get_within t (begin n) first.byte first.here
-
   -- where an item begins, and what may stand behind a key's colon
   item-begins : (n : Node) → Spells names t n → ItemAt t (begin n)
   item-begins n h =
@@ -190,16 +187,16 @@ module _ (names : Bool) (t : List ℕ) where
       ∙ ap (λ ps. taken (record { pieces = ps; begin = k.begin; end = k.end }) k.end)
       (laws.pieces-again k.begin k.end k.pieces h)
 
-  pub key-colon : (k : Key) (n : Node) → SpellsKey t k (begin n) → Spells names t n
+  key-colon : (k : Key) (n : Node) → SpellsKey t k (begin n) → Spells names t n
       → object_colon t k.end ≡ taken tt (begin n)
   key-colon k n h s = object_colon-taken t k.end h.colon (begin n) h.behind h.blanks (byte-begins n s)
 
   -- the parts of a container, by the grammar
   module _ (room : ℕ) where
-    abbrev pub MoreItems : List Node → ℕ → ℕ → Type 0
+    abbrev MoreItems : List Node → ℕ → ℕ → Type 0
     MoreItems ns i e = MoreParts t 93 (ItemAt t) (IsItem names t room) ns i e
 
-    abbrev pub MoreMembers : List (Key × Node) → ℕ → ℕ → Type 0
+    abbrev MoreMembers : List (Key × Node) → ℕ → ℕ → Type 0
     MoreMembers ms i e = MoreParts t 125 (KeyBegins t) (IsMember names t room) ms i e
 
     abbrev pub Items : List Node → ℕ → ℕ → Type 0

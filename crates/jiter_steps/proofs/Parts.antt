@@ -121,10 +121,10 @@ module _ {K P A : Type 0} (r : Rules K A) (t : List ℕ) (c : Container P A) (cl
 
   module _ (delimits : Delimits t c.first c.next closer Begins) (goes : Goes c t) where
     -- behind these parts
-    abbrev pub BehindParts : List P → Step → Reading A
+    abbrev BehindParts : List P → Step → Reading A
     BehindParts ps s = follow r (parts_at r c t (length t) ps) (λ e. c.build e ps) s
 
-    pub one-part : (ps : List P) (p : P) (i m : ℕ) → Begins i → Reads c i p m
+    one-part : (ps : List P) (p : P) (i m : ℕ) → Begins i → Reads c i p m
         → parts_at r c t (length t) ps i ≡ BehindParts (ps ++ p ∷ []) (step t c.next m)
     one-part ps p i m at is = parts-part r t c goes i m ps p _ (delimits.within i at) is refl
 
