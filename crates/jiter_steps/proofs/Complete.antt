@@ -187,7 +187,7 @@ module _ (names : Bool) (t : List ℕ) where
       ∙ ap (λ ps. taken (record { pieces = ps; begin = k.begin; end = k.end }) k.end)
       (laws.pieces-again k.begin k.end k.pieces h)
 
-  key-colon : (k : Key) (n : Node) → SpellsKey t k (begin n) → Spells names t n
+  pub key-colon : (k : Key) (n : Node) → SpellsKey t k (begin n) → Spells names t n
       → object_colon t k.end ≡ taken tt (begin n)
   key-colon k n h s = object_colon-taken t k.end h.colon (begin n) h.behind h.blanks (byte-begins n s)
 
