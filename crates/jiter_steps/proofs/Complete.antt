@@ -1,5 +1,5 @@
 -- What is spelled so is read.
-use Rattle.std.proofs.Common.{◌≡◌, ◌≢◌, ℕ, zero, suc, ◌+◌, ◌-◌, ◌<◌, ◌≤◌, ◌⊎◌, inl, inr, Bool, true, false, List, [], ◌∷◌, ◌++◌, length, drop, take, refl, sym, ap, ◌∙◌, subst, arith, ◌==◌, IfSome}
+use Rattle.std.proofs.Common.{◌≡◌, ◌≢◌, ℕ, zero, suc, ◌+◌, ◌-◌, ◌<◌, ◌≤◌, ◌⊎◌, inl, inr, Bool, true, false, List, [], ◌∷◌, length, drop, take, refl, sym, ap, ◌∙◌, subst, arith, ◌==◌, IfSome}
 use Rattle.std.specs.Prelude.{slice_get, slice_index, slice_range, Some}
 use Rattle.std.specs.Str.{chars}
 use Rattle.std.proofs.lemmas.List.{drop_more}
@@ -16,7 +16,7 @@ use Rattle.jiter_steps.specs.Literal.{start_of}
 use Rattle.jiter_steps.specs.Node as grammar
 use Rattle.jiter_steps.specs.Node.{Key, Node, Nodes, no_nodes, node, NodeMembers, no_members, member, begin, end, StandsBehind, SpellsNumber, SpellsKey, Spells, SpellsItems, SpellsMoreItems, SpellsMembers, SpellsMoreMembers, nesting, nesting_of, nesting_of_members, nesting_round, nesting_round_members}
 use Rattle.jiter_steps.specs.Piece.{SpellsString}
-use Rattle.jiter_steps.specs.Read.{Reading, done, scalar_at, behind_key, value_with, value_at}
+use Rattle.jiter_steps.specs.Read.{done, scalar_at, behind_key, value_with, value_at}
 use Rattle.jiter_steps.specs.Step.{object_colon}
 use Rattle.jiter_steps.specs.StringReading.{whole, string_at}
 use Rattle.jiter_steps.specs.declared.parse.Literal.TheVariants as literal
@@ -108,11 +108,11 @@ abbrev pub members_list : NodeMembers → List (Key × Node)
 members_list no_members = []
 members_list (member k n ms) = (k, n) ∷ members_list ms
 
-pub nodes-listed : (ns : Nodes) → nodes_of (nodes_list ns) ≡ ns
+nodes-listed : (ns : Nodes) → nodes_of (nodes_list ns) ≡ ns
 nodes-listed no_nodes = refl
 nodes-listed (node n ns) = ap (node n) (nodes-listed ns)
 
-pub members-listed : (ms : NodeMembers) → node_members_of (members_list ms) ≡ ms
+members-listed : (ms : NodeMembers) → node_members_of (members_list ms) ≡ ms
 members-listed no_members = refl
 members-listed (member k n ms) = ap (member k n) (members-listed ms)
 
@@ -170,9 +170,6 @@ module _ (names : Bool) (t : List ℕ) where
       let first = begins-value n h in ap start_of (get_or_from_slice_get t (begin n) first.byte 0 first.here)
       ∙ first.starts
 
-  begin-within : (n : Node) → Spells names t n → begin n < length t
-  begin-within n h = let first = begins-value n h in slice_get_within t (begin n) first.byte first.here
-
   -- where an item begins, and what may stand behind a key's colon
   item-begins : (n : Node) → Spells names t n → ItemAt t (begin n)
   item-begins n h =
@@ -196,10 +193,10 @@ module _ (names : Bool) (t : List ℕ) where
 
   -- the parts of a container, by the grammar
   module _ (room : ℕ) where
-    abbrev pub MoreItems : List Node → ℕ → ℕ → Type 0
+    abbrev MoreItems : List Node → ℕ → ℕ → Type 0
     MoreItems ns i e = MoreParts t 93 (ItemAt t) (IsItem names t room) ns i e
 
-    abbrev pub MoreMembers : List (Key × Node) → ℕ → ℕ → Type 0
+    abbrev MoreMembers : List (Key × Node) → ℕ → ℕ → Type 0
     MoreMembers ms i e = MoreParts t 125 (KeyBegins t) (IsMember names t room) ms i e
 
     abbrev pub Items : List Node → ℕ → ℕ → Type 0

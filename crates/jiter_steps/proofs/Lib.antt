@@ -21,6 +21,7 @@ pub mod PlacesExplained
 pub mod PlainRuns
 pub mod Prefixes
 pub mod RowSteps
+mod Rows
 pub mod ScalarLaws
 pub mod Sound
 pub mod SpellsFront
