@@ -7,7 +7,7 @@ use Rattle.jiter_steps.specs.Tree.{Text, Tree, items_of, members_of}
 use Rattle.jiter_value.specs.View.{view, views, member_views}
 use Rattle.jiter_value.specs.declared.value.JsonValue.{JsonValue}
 use Rattle.jiter_value.proofs.Views.{seen, member_views_is}
-use Rattle.look.specs.Print.{comma, quoted, print_of, print_items, print_more_items, print_members, print_more_members}
+use Rattle.look.specs.Print.{comma, print_text, print_of, print_items, print_more_items, print_members, print_more_members}
 
 more_items : (ts : List Tree) (t : Tree) → print_more_items (items_of (ts ++ t ∷ [])) ≡ print_more_items (items_of ts) ++ (44 ∷ print_of t)
 more_items [] t = append-nil (44 ∷ print_of t)
@@ -24,11 +24,11 @@ items_more xs i d h =
     ∙ ap (λ n. print_items (views (take i xs)) ++ (comma n ++ print_of (view (get_or xs i d)))) (simp (length-map, length-take) (omega arith))
 
 abbrev shown : Text × Tree → List ℕ
-shown m = quoted m.0.bytes ++ (58 ∷ print_of m.1)
+shown m = print_text m.0.bytes ++ (58 ∷ print_of m.1)
 
 -- the text of a member before what follows
-shown_before : (m : Text × Tree) (bs : List ℕ) → quoted m.0.bytes ++ (58 ∷ print_of m.1 ++ bs) ≡ shown m ++ bs
-shown_before m bs = sym (append_assoc (quoted m.0.bytes) (58 ∷ print_of m.1) bs)
+shown_before : (m : Text × Tree) (bs : List ℕ) → print_text m.0.bytes ++ (58 ∷ print_of m.1 ++ bs) ≡ shown m ++ bs
+shown_before m bs = sym (append_assoc (print_text m.0.bytes) (58 ∷ print_of m.1) bs)
 
 more_members : (ms : List (Text × Tree)) (m : Text × Tree) → print_more_members (members_of (ms ++ m ∷ [])) ≡ print_more_members (members_of ms) ++ (44 ∷ shown m)
 more_members [] m = ap (λ bs. 44 ∷ bs) (shown_before m [] ∙ append-nil (shown m))

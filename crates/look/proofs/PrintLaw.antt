@@ -17,8 +17,8 @@ use Rattle.jiter_steps.specs.Tree as tree
 use Rattle.jiter_steps.specs.Tree.{Text, Tree, Items, Members}
 use Rattle.jiter_steps.specs.declared.parse.Literal.{Literal}
 use Rattle.jiter_steps.specs.declared.parse.Literal.TheVariants as name
-use Rattle.look.specs.Print.{quoted, ended, print_of, print_items, print_more_items, print_members, print_more_members}
-use Rattle.look.specs.Printed.{bare, bare_items, bare_members, PrintsAgain}
+use Rattle.look.specs.Print.{print_text, with_line_feed, print_of, print_items, print_more_items, print_members, print_more_members}
+use Rattle.look.specs.Printed.{borrow_tree, borrow_items, borrow_members, PrintsAgain}
 use Rattle.look.proofs.PrintLawNumbers.{number-again}
 use Rattle.look.proofs.PrintLawStrings.{string-again}
 
@@ -47,35 +47,35 @@ module _ (names : Bool) (t u : List ℕ) where
     ends : end again ≡ j
     spelled : Spells names u again
     depth : nesting again ≡ nesting m
-    same : bare (value_of u again) ≡ bare (value_of t m)
+    same : borrow_tree (value_of u again) ≡ borrow_tree (value_of t m)
 
   -- behind `[` at i, up to the place j behind `]`
   record AgainItems (ns : Nodes) (i j : ℕ) : Type 0 where
     again : Nodes
     spelled : SpellsItems names u i again j
     depth : nesting_round again ≡ nesting_round ns
-    same : bare_items (values_of u again) ≡ bare_items (values_of t ns)
+    same : borrow_items (values_of u again) ≡ borrow_items (values_of t ns)
 
   -- behind an item
   record AgainMoreItems (ns : Nodes) (i j : ℕ) : Type 0 where
     again : Nodes
     spelled : SpellsMoreItems names u i again j
     depth : nesting_of again ≡ nesting_of ns
-    same : bare_items (values_of u again) ≡ bare_items (values_of t ns)
+    same : borrow_items (values_of u again) ≡ borrow_items (values_of t ns)
 
   -- behind `{` at i, up to the place j behind `}`
   record AgainMembers (ms : NodeMembers) (i j : ℕ) : Type 0 where
     again : NodeMembers
     spelled : SpellsMembers names u i again j
     depth : nesting_round_members again ≡ nesting_round_members ms
-    same : bare_members (members_of u again) ≡ bare_members (members_of t ms)
+    same : borrow_members (members_of u again) ≡ borrow_members (members_of t ms)
 
   -- behind a member
   record AgainMoreMembers (ms : NodeMembers) (i j : ℕ) : Type 0 where
     again : NodeMembers
     spelled : SpellsMoreMembers names u i again j
     depth : nesting_of_members again ≡ nesting_of_members ms
-    same : bare_members (members_of u again) ≡ bare_members (members_of t ms)
+    same : borrow_members (members_of u again) ≡ borrow_members (members_of t ms)
 
   -- a key, the colon right behind it, and the place behind that
   record AgainKey (k : Key) (i j : ℕ) : Type 0 where
@@ -85,7 +85,7 @@ module _ (names : Bool) (t u : List ℕ) where
     same : text_of again.pieces ≡ text_of k.pieces
 
   -- What is printed of a key and its colon is spelled by a key of the same text.
-  key-again : (k : Key) (i j l : ℕ) → SpellsString t k.begin k.pieces k.end → Stands u i j (quoted (text_of k.pieces)) → slice_get u j ≡ Some 58 → l ≡ j + 1 → AgainKey k i l
+  key-again : (k : Key) (i j l : ℕ) → SpellsString t k.begin k.pieces k.end → Stands u i j (print_text (text_of k.pieces)) → slice_get u j ≡ Some 58 → l ≡ j + 1 → AgainKey k i l
   key-again k i j l s h c x =
       let r = string-again t u k.begin k.end i j k.pieces s h in
       let lt = slice_get_within u j 58 c in
@@ -105,7 +105,7 @@ module _ (names : Bool) (t u : List ℕ) where
           ends = refl;
           spelled = record { ordered = omega arith; within = stands-within u i j _ w h; text = subst (IsNumberText names) is r.0 };
           depth = refl;
-          same = ap (λ x. bare (number_tree x)) (ap number_value (sym is) ∙ r.1);
+          same = ap (λ x. borrow_tree (number_tree x)) (ap number_value (sym is) ∙ r.1);
         }
     node-again (string ps b e) i j s w h =
         let r = string-again t u b e i j ps s h in
@@ -153,7 +153,7 @@ module _ (names : Bool) (t u : List ℕ) where
     members-again : (ms : NodeMembers) (x y i k j : ℕ) → SpellsMembers names t x ms y → Stands u i k (print_members (members_of t ms)) → slice_get u k ≡ Some 125 → j ≡ k + 1 → AgainMembers ms i j
     members-again no_members x y i k j s h c e = record { again = no_members; spelled = closes_here u i k 125 j h c e; depth = refl; same = refl }
     members-again (member q n ms) x y i k j s h c e =
-        let front = stands-split u i k (quoted (text_of q.pieces)) (58 ∷ print_of (value_of t n) ++ print_more_members (members_of t ms)) h in
+        let front = stands-split u i k (print_text (text_of q.pieces)) (58 ∷ print_of (value_of t n) ++ print_more_members (members_of t ms)) h in
         let l = slice_get_within u i 34 front.1.0 in
         let colon = slice_get_within u front.0 58 front.2.0 in
         let parts = stands-split u (front.0 + 1) k (print_of (value_of t n)) (print_more_members (members_of t ms)) front.2.1 in
@@ -171,7 +171,7 @@ module _ (names : Bool) (t u : List ℕ) where
     more_members-again no_members x y i k j s h c e = record { again = no_members; spelled = closes_here u i k 125 j h c e; depth = refl; same = refl }
     more_members-again (member q n ms) x y i k j s h c e =
         let l = slice_get_within u i 44 h.0 in
-        let front = stands-split u (i + 1) k (quoted (text_of q.pieces)) (58 ∷ print_of (value_of t n) ++ print_more_members (members_of t ms)) h.1 in
+        let front = stands-split u (i + 1) k (print_text (text_of q.pieces)) (58 ∷ print_of (value_of t n) ++ print_more_members (members_of t ms)) h.1 in
         let colon = slice_get_within u front.0 58 front.2.0 in
         let parts = stands-split u (front.0 + 1) k (print_of (value_of t n)) (print_more_members (members_of t ms)) front.2.1 in
         let b = key-again q (i + 1) front.0 (front.0 + 1) s.3.string front.1 front.2.0 refl in
@@ -186,30 +186,30 @@ module _ (names : Bool) (t u : List ℕ) where
 
 -- ---- the whole text
 -- the print and one byte more
-length-ended : (w : List ℕ) → length (ended w) ≡ length w + 1
-length-ended w = length-append w (10 ∷ [])
+length-with_line_feed : (w : List ℕ) → length (with_line_feed w) ≡ length w + 1
+length-with_line_feed w = length-append w (10 ∷ [])
 
 -- the print stands before its line feed
-print-stands : (w : List ℕ) → Stands (ended w) 0 (length w) w
+print-stands : (w : List ℕ) → Stands (with_line_feed w) 0 (length w) w
 print-stands w =
-    let n = length-ended w in
-    subst (Stands (ended w) 0 (length w)) (take_at w (10 ∷ []) (length w - 0) (omega arith)) (stands-slice (ended w) 0 (length w) (omega arith) (omega arith))
+    let n = length-with_line_feed w in
+    subst (Stands (with_line_feed w) 0 (length w)) (take_at w (10 ∷ []) (length w - 0) (omega arith)) (stands-slice (with_line_feed w) 0 (length w) (omega arith) (omega arith))
 
 -- nothing but the line feed stands behind it
-feed-blank : (w : List ℕ) (e : ℕ) → e ≡ length w → IsBlank (ended w) e (length (ended w))
+feed-blank : (w : List ℕ) (e : ℕ) → e ≡ length w → IsBlank (with_line_feed w) e (length (with_line_feed w))
 feed-blank w e is =
-    let n = length-ended w in
+    let n = length-with_line_feed w in
     record { ordered = omega arith; within = omega arith; each = λ k l m. inr (inr (inl (get_or_push w 10 0 k (omega arith)))) }
 
 -- the print of a document's value is a document of the same value, texts compared by their bytes
 document-again : (names : Bool) (t : List ℕ) (m : Node) → IsDocument names t m
-    → (n : Node) × IsDocument names (ended (print_of (value_of t m))) n × (bare (value_of (ended (print_of (value_of t m))) n) ≡ bare (value_of t m))
+    → (n : Node) × IsDocument names (with_line_feed (print_of (value_of t m))) n × (borrow_tree (value_of (with_line_feed (print_of (value_of t m))) n) ≡ borrow_tree (value_of t m))
 document-again names t m d =
     let w = print_of (value_of t m) in
-    let a = node-again names t (ended w) m 0 (length w) d.spelled (omega arith) (print-stands w) in (
+    let a = node-again names t (with_line_feed w) m 0 (length w) d.spelled (omega arith) (print-stands w) in (
       a.again,
       record {
-        before = subst (IsBlank (ended w) 0) (sym a.begins) (no_blank (ended w) 0 (omega arith));
+        before = subst (IsBlank (with_line_feed w) 0) (sym a.begins) (no_blank (with_line_feed w) 0 (omega arith));
         spelled = a.spelled;
         after = feed-blank w (end a.again) a.ends;
         limit = subst (λ n. n ≤ 200) (sym a.depth) d.limit;
@@ -219,7 +219,7 @@ document-again names t m d =
 
 read-again : (names : Bool) (t : List ℕ) (x : Reading Tree) → IsRead names t x → PrintsAgain names x
 read-again names t (done v e) h =
-    let Again : Tree → Type 0 = λ v. (n : Node) × IsDocument names (ended (print_of v)) n × (bare (value_of (ended (print_of v)) n) ≡ bare v) in
+    let Again : Tree → Type 0 = λ v. (n : Node) × IsDocument names (with_line_feed (print_of v)) n × (borrow_tree (value_of (with_line_feed (print_of v)) n) ≡ borrow_tree v) in
     subst Again h.2 (document-again names t h.0 h.1)
 read-again names t (fault kind i stop) h = tt
 
