@@ -21,13 +21,7 @@ fn main(rt: HostRuntime) -> ExitCode {
     let mut reader = rt.stdin();
     let mut out = rt.stdout();
     let mut err = rt.stderr();
-    ExitCode::from(look(
-        rt.alloc(),
-        list.as_slice(),
-        &mut reader,
-        &mut out,
-        &mut err,
-    ))
+    ExitCode::from(look(rt.alloc(), list.as_slice(), &mut reader, &mut out, &mut err))
 }
 
 // The words behind the program's name.

@@ -1,26 +1,33 @@
-//! The growths of a line, which alone ask for memory.
-ghost use Rattle.std.specs.Prelude.{◌≡◌, [], ◌∷◌, ◌++◌, OnOk};
+//! What grows: the few requests for memory that a line makes. Each answers, where it is refused, with the
+//! evidence of it, and nothing outside this module can make that evidence.
+ghost use Rattle.std.specs.Prelude.{◌≡◌, ◌∷◌, ◌++◌, [], OnOk, OnErr};
 
-/// The evidence that a growth was refused: nothing outside this module makes one.
-#[derive(Debug, Drop)]
-pub struct Refused(());
+use std::alloc::AllocError;
 
-/// One byte more.
-pub fn push(line: &mut Vec<u8>, byte: u8) -> Result<(), Refused>
-    ensures { OnOk result (line.new.items ≡ line.old.items ++ byte ∷ []) }
+/// The evidence that a request for memory was refused.
+#[derive(Debug, PartialEq, Eq, Drop)]
+pub struct Refused {
+    error: AllocError,
+}
+
+/// Appends an item.
+pub fn push<T: Drop>(items: &mut Vec<T>, item: T) -> Result<(), Refused>
+    ensures ok { OnOk result (items.new.items ≡ items.old.items ++ item ∷ []) }
+    ensures err { OnErr result (items.new.items ≡ items.old.items) }
 {
-    match line.push(byte) {
+    match items.push(item) {
         Ok(()) => Ok(()),
-        Err(_) => Err(Refused(())),
+        Err(_) => Err(Refused { error: AllocError }),
     }
 }
 
-/// Bytes more.
-pub fn extend(line: &mut Vec<u8>, bytes: &[u8]) -> Result<(), Refused>
-    ensures { OnOk result (line.new.items ≡ line.old.items ++ bytes.now) }
+/// Appends bytes.
+pub fn extend(bytes: &mut Vec<u8>, more: &[u8]) -> Result<(), Refused>
+    ensures ok { OnOk result (bytes.new.items ≡ bytes.old.items ++ more.now) }
+    ensures err { OnErr result (bytes.new.items ≡ bytes.old.items) }
 {
-    match line.extend_from_slice(bytes) {
+    match bytes.extend_from_slice(more) {
         Ok(()) => Ok(()),
-        Err(_) => Err(Refused(())),
+        Err(error) => Err(Refused { error }),
     }
 }

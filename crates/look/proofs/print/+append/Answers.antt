@@ -12,4 +12,4 @@ pub append_members-loop-i-preserved : goal.append_members-loop-i-preserved
 append_members-loop-i-preserved t c =
     let members = c.args.members.now in
     let more = members_more members.items c.loop-i.i c.index-member.result.now (omega (arith, members.ok.0)) in
-    rw (c.in_ok-append.ensures, c.in_ok-push-2.ensures, c.in_ok-append_text.ensures, c.as_str.ensures.value, c.in_ok-append_comma.ensures, c.loop-i.invariant, more, ← c.index-member.ensures) (simp append_assoc)
+    rw (c.in_ok-append.ensures, c.in_ok-push-2.ensures.ok, c.in_ok-append_text.ensures, c.as_str.ensures.value, c.in_ok-append_comma.ensures, c.loop-i.invariant, more, ← c.index-member.ensures) (simp append_assoc)
