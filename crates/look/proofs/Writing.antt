@@ -1,5 +1,6 @@
 -- What a writer of known bytes holds after one call more.
-use Rattle.std.proofs.Common.{◌≡◌, ℕ, ◌+◌, ◌-◌, ◌≤◌, List, [], ◌++◌, None, Some, Option, refl, sym, ap, subst, arith, length, take, drop}
+use Rattle.std.proofs.Common.{◌≡◌, ℕ, ◌+◌, ◌-◌, ◌≤◌, List, [], ◌++◌, None, Some, Option, refl, sym, ap, subst, arith}
+use Rattle.std.proofs.Common.{length, take, drop}
 use Rattle.std.proofs.Math.Seq.{take-add, take-length}
 use Rattle.std.proofs.lemmas.List.{append-nil, take_all, length-drop}
 use Rattle.std.proofs.KnownBytes.{Appends-nil, Appends-trans, Appends-kept}
@@ -11,7 +12,8 @@ rest-is : (line : List ℕ) (written : ℕ) → take (length line - written) (dr
 rest-is line written = take_all (length line - written) (drop written line) (omega (arith, length-drop written line))
 
 -- no more of it is taken than there is
-pub front-within : (line : List ℕ) (written n : ℕ) → written ≤ length line → n ≤ length (take (length line - written) (drop written line)) → written + n ≤ length line
+pub front-within : (line : List ℕ) (written n : ℕ) → written ≤ length line
+    → n ≤ length (take (length line - written) (drop written line)) → written + n ≤ length line
 front-within line written n h bound = omega (arith, ap length (rest-is line written), length-drop written line)
 
 -- the front of a line grows by a front of its rest
@@ -22,7 +24,8 @@ front-more a b c line written n h more =
     subst (Appends a c) (sym (take-add written n line)) (Appends-trans a b c _ _ h (subst (Appends b c) taken more))
 
 -- the whole line is its longest front
-pub front-whole : (a b c : Option (List ℕ)) (line : List ℕ) → Appends a b (take (length line) line) → Keeps b c → Appends a c line
+pub front-whole : (a b c : Option (List ℕ)) (line : List ℕ) → Appends a b (take (length line) line) → Keeps b c
+    → Appends a c line
 front-whole a b c line h kept = subst (Appends a c) (take-length line) (Appends-kept a b c _ h kept)
 
 -- a writer that stays as it is holds a front of any line more

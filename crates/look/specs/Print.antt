@@ -1,7 +1,9 @@
 -- The compact text of a value.
-use Rattle.std.specs.Prelude.{ℕ, zero, suc, Bool, true, false, ◌+◌, ◌/◌, ◌%◌, ◌||◌, nat_eq, nat_lt, List, [], ◌∷◌, ◌++◌, codes, flat_map, if◌then◌else◌}
+use Rattle.std.specs.Prelude.{ℕ, zero, suc, Bool, true, false, ◌+◌, ◌/◌, ◌%◌, ◌||◌, nat_eq, nat_lt, List, [], ◌∷◌, ◌++◌}
+use Rattle.std.specs.Prelude.{codes, flat_map, if◌then◌else◌}
 use Rattle.std.specs.Fmt.{signed_decimal}
-use Rattle.jiter_steps.specs.Tree.{Tree, null, boolean, int, big, float, string, array, object, Items, no_items, item, Members, no_members, member}
+use Rattle.jiter_steps.specs.Tree.{Tree, null, boolean, int, big, float, string, array, object, Items, no_items, item}
+use Rattle.jiter_steps.specs.Tree.{Members, no_members, member}
 
 -- a lower-case hexadecimal digit
 abbrev pub hex_digit : ℕ → ℕ

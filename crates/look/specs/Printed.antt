@@ -1,7 +1,8 @@
 -- What is printed, read again: the same value, but for where its texts lie.
 use Rattle.std.specs.Prelude.{◌≡◌, ℕ, Bool, false, List, [], ◌∷◌, ◌++◌}
 use Rattle.jiter_steps.specs.Node.{Node, IsDocument, value_of}
-use Rattle.jiter_steps.specs.Tree.{Text, Tree, null, boolean, int, big, float, string, array, object, Items, no_items, item, Members, no_members, member}
+use Rattle.jiter_steps.specs.Tree.{Text, Tree, null, boolean, int, big, float, string, array, object, Items, no_items}
+use Rattle.jiter_steps.specs.Tree.{item, Members, no_members, member}
 use Rattle.jiter_steps.specs.Read.{Reading, done, fault}
 use Rattle.look.specs.Print.{print_of, with_line_feed}
 
@@ -29,7 +30,11 @@ abbrev mutual
   borrow_members no_members = no_members
   borrow_members (member k j ms) = member (borrow_text k) (borrow_tree j) (borrow_members ms)
 
+-- a line that is a document of this value
+abbrev pub IsLineOf : Bool → Tree → List ℕ → Type 0
+IsLineOf names v line = (n : Node) × IsDocument names line n × (borrow_tree (value_of line n) ≡ borrow_tree v)
+
 -- what is printed of what was read, a line feed behind it, is a document of the same value under the same setting
 abbrev pub PrintsAgain : Bool → Reading Tree → Type 0
-PrintsAgain names (done v e) = (n : Node) × IsDocument names (with_line_feed (print_of v)) n × (borrow_tree (value_of (with_line_feed (print_of v)) n) ≡ borrow_tree v)
+PrintsAgain names (done v e) = IsLineOf names v (with_line_feed (print_of v))
 PrintsAgain names (fault kind i stop) = Unit {0}

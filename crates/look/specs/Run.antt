@@ -38,7 +38,8 @@ IsUnread (Some left) = left ≢ []
 abbrev pub WroteNothing : End → Option (List ℕ) → Option (List ℕ) → Option (List ℕ) → Option (List ℕ) → Type 0
 WroteNothing end out out' err err' = (end ≡ Failed) × Keeps out out' × Keeps err err'
 
--- what the two writers hold after a run: the line in its own, a front of it where the run failed, nothing new in the other
+-- what the two writers hold after a run: the line in its own, a front of it where the run failed, nothing new in the
+-- other
 abbrev pub Wrote : Line → End → Option (List ℕ) → Option (List ℕ) → Option (List ℕ) → Option (List ℕ) → Type 0
 Wrote (shown bs) Shown out out' err err' = Appends out out' bs × Keeps err err'
 Wrote (shown bs) Refused out out' err err' = ⊥
@@ -48,7 +49,8 @@ Wrote (refused bs) Refused out out' err err' = Keeps out out' × Appends err err
 Wrote (refused bs) Failed out out' err err' = Keeps out out' × AppendsFront err err' bs
 
 -- the same, where there may be no line
-abbrev pub WroteIfAny : Option Line → End → Option (List ℕ) → Option (List ℕ) → Option (List ℕ) → Option (List ℕ) → Type 0
+abbrev pub WroteIfAny : Option Line → End → Option (List ℕ) → Option (List ℕ) → Option (List ℕ) → Option (List ℕ)
+    → Type 0
 WroteIfAny None end out out' err err' = WroteNothing end out out' err err'
 WroteIfAny (Some line) end out out' err err' = Wrote line end out out' err err'
 

@@ -7,4 +7,5 @@ abbrev pub invariant-append_items-loop-i : goal.invariant-append_items-loop-i
 invariant-append_items-loop-i l = l.line.items ≡ l.initial.line.items ++ print_items (views (take l.i l.items.items))
 
 abbrev pub invariant-append_members-loop-i : goal.invariant-append_members-loop-i
-invariant-append_members-loop-i l = l.line.items ≡ l.initial.line.items ++ print_members (member_views (take l.i l.members.items))
+invariant-append_members-loop-i l =
+    l.line.items ≡ l.initial.line.items ++ print_members (member_views (take l.i l.members.items))

@@ -11,7 +11,9 @@ loop-preserved g c =
     let held = c.loop.invariant in
     elim c.match-write.branch [
       | in-Ok w ↦ record {
-        within = omega (arith, w.written-is, front-within line c.loop.written w.in-Ok.count held.within w.in-Ok.ensures.bound);
+        within =
+            omega
+            (arith, w.written-is, front-within line c.loop.written w.in-Ok.count held.within w.in-Ok.ensures.bound);
         front = rw w.written-is (front-more _ _ _ line c.loop.written w.in-Ok.count held.front w.in-Ok.ensures.bytes);
       }
       | in-Err+else-ne w ↦ record {
