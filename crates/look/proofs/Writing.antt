@@ -1,11 +1,10 @@
 -- What a writer of known bytes holds after one call more.
-use Rattle.std.proofs.Common.{◌≡◌, ℕ, ◌+◌, ◌-◌, ◌≤◌, List, [], ◌++◌, None, Some, Option, refl, sym, ap, subst, arith}
+use Rattle.std.proofs.Common.{◌≡◌, ℕ, ◌+◌, ◌-◌, ◌≤◌, List, Option, sym, ap, subst, arith}
 use Rattle.std.proofs.Common.{length, take, drop}
-use Rattle.std.proofs.Math.Seq.{take-add, take-length}
-use Rattle.std.proofs.lemmas.List.{append-nil, take_all, length-drop}
-use Rattle.std.proofs.KnownBytes.{Appends-nil, Appends-trans, Appends-kept}
-use Rattle.std.specs.Io.KnownBytes.{Keeps, Appends}
-use Rattle.look.specs.Run.{AppendsFront}
+use Rattle.std.proofs.Math.Seq.{take-add}
+use Rattle.std.proofs.lemmas.List.{take_all, length-drop}
+use Rattle.std.proofs.KnownBytes.{Appends-trans}
+use Rattle.std.specs.Io.KnownBytes.{Appends}
 
 -- what is left of a line, as it is handed over
 rest-is : (line : List ℕ) (written : ℕ) → take (length line - written) (drop written line) ≡ drop written line
@@ -22,12 +21,3 @@ pub front-more : (a b c : Option (List ℕ)) (line : List ℕ) (written n : ℕ)
 front-more a b c line written n h more =
     let taken = ap (take n) (rest-is line written) in
     subst (Appends a c) (sym (take-add written n line)) (Appends-trans a b c _ _ h (subst (Appends b c) taken more))
-
--- the whole line is its longest front
-pub front-whole : (a b c : Option (List ℕ)) (line : List ℕ) → Appends a b (take (length line) line) → Keeps b c
-    → Appends a c line
-front-whole a b c line h kept = subst (Appends a c) (take-length line) (Appends-kept a b c _ h kept)
-
--- a writer that stays as it is holds a front of any line more
-pub front-none : (a b : Option (List ℕ)) (line : List ℕ) → Keeps a b → AppendsFront a b line
-front-none a b line kept = (0, Appends-kept a a b [] (Appends-nil a) kept)

@@ -1,5 +1,5 @@
 -- What is printed, read again: the same value, but for where its texts lie.
-use Rattle.std.specs.Prelude.{◌≡◌, ℕ, Bool, false, List, [], ◌∷◌, ◌++◌}
+use Rattle.std.specs.Prelude.{◌≡◌, ℕ, Bool, false, List}
 use Rattle.jiter_steps.specs.Node.{Node, IsDocument, value_of}
 use Rattle.jiter_steps.specs.Tree.{Text, Tree, null, boolean, int, big, float, string, array, object, Items, no_items}
 use Rattle.jiter_steps.specs.Tree.{item, Members, no_members, member}

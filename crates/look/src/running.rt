@@ -4,7 +4,7 @@ ghost use Rattle.std.specs.Option.{option_map};
 ghost use Rattle.std.specs.Io.KnownBytes.{Appends, IsAtEnd};
 ghost use Rattle.jiter_steps.specs.Answer.{answer};
 ghost use Rattle.look.specs.Printed.{PrintsAgain};
-ghost use Rattle.look.specs.Run.{AppendsFront, IsUnread, line_of, line_held, status_of, Wrote, WroteNothing};
+ghost use Rattle.look.specs.Run.{AppendsFront, IsUnread, line_of, line_view, status_of, Wrote, WroteNothing};
 ghost use Rattle.look.specs.Run.{WroteIfAny};
 
 use crate::memory::{Refused, push};
@@ -42,12 +42,12 @@ impl End {
 #[derive(Drop)]
 pub enum Line {
     /// The value's compact text and a line feed.
-    Shown(Vec<u8>),
+    Value(Vec<u8>),
     /// The fault's description and a line feed.
-    Refused(Vec<u8>),
+    Fault(Vec<u8>),
 }
 
-/// Why there is no line. Each variant holds what was answered there.
+// Why there is no line. Each variant holds what was answered there.
 #[derive(Debug, Drop)]
 enum NoLine {
     Read(io::Error),
@@ -104,7 +104,7 @@ pub fn run<R: Read, O: Write, E: Write>(
 // The line for all that a reader gives.
 fn read_line<R: Read>(alloc: Global, reader: &mut R, inf_nan: bool) -> Result<Line, NoLine>
     ensures line { IfOk result (λ line. IfSome (R.remaining reader.old)
-        (λ text. line_held line ≡ line_of inf_nan text)) }
+        (λ text. line_view line ≡ line_of inf_nan text)) }
     ensures whole { OnOk result (IsAtEnd (R.remaining reader.new)) }
 {
     let mut text = Vec::new(alloc);
@@ -114,20 +114,20 @@ fn read_line<R: Read>(alloc: Global, reader: &mut R, inf_nan: bool) -> Result<Li
 
 // The line for a text. It fails only where memory is refused.
 fn make_line(alloc: Global, text: &[u8], inf_nan: bool) -> Result<Line, NoLine>
-    ensures { IfOk result (λ line. line_held line ≡ line_of inf_nan text.now) }
+    ensures { IfOk result (λ line. line_view line ≡ line_of inf_nan text.now) }
 {
     match JsonValue::parse(alloc, text, inf_nan) {
         Ok(value) => {
             let mut bytes = print(alloc, &value)?;
             push(&mut bytes, b'\n')?;
-            Ok(Line::Shown(bytes))
+            Ok(Line::Value(bytes))
         }
         Err(error) => match error.error_type {
             JsonErrorType::OutOfMemory => Err(NoLine::Parse(error)),
             _ => {
                 let mut bytes = error.description(alloc, text)?.into_bytes();
                 push(&mut bytes, b'\n')?;
-                Ok(Line::Refused(bytes))
+                Ok(Line::Fault(bytes))
             }
         },
     }
@@ -135,15 +135,15 @@ fn make_line(alloc: Global, text: &[u8], inf_nan: bool) -> Result<Line, NoLine>
 
 /// Writes a line to its own writer, if there is one: a value's to `out`, a fault's to `err`.
 pub fn show<O: Write, E: Write>(line: Option<Line>, out: &mut O, err: &mut E) -> End
-    ensures { WroteIfAny (option_map line_held line) result
+    ensures { WroteIfAny (option_map line_view line) result
         (O.contents out.old) (O.contents out.new) (E.contents err.old) (E.contents err.new) }
 {
     match line {
-        Some(Line::Shown(bytes)) => match write_line(out, bytes.as_slice()) {
+        Some(Line::Value(bytes)) => match write_line(out, bytes.as_slice()) {
             Ok(()) => End::Shown,
             Err(_) => End::Failed,
         },
-        Some(Line::Refused(bytes)) => match write_line(err, bytes.as_slice()) {
+        Some(Line::Fault(bytes)) => match write_line(err, bytes.as_slice()) {
             Ok(()) => End::Refused,
             Err(_) => End::Failed,
         },

@@ -14,7 +14,7 @@ use std::io;
 use std::io::{Read, Write};
 use std::test::*;
 
-/// Gives one byte a call, and fails at the call that its count names.
+// Gives one byte a call, and fails at the call that its count names.
 #[derive(Drop)]
 struct FailingReader<'a> {
     rest: &'a [u8],
@@ -41,7 +41,7 @@ impl<'a> Read for FailingReader<'a> {
     }
 }
 
-/// Takes one byte a call, fails at the call that its count names, and counts that call and those after it.
+// Takes one byte a call, fails at the call that its count names, and counts that call and those after it.
 #[derive(Drop)]
 struct FailingWriter {
     got: Vec<u8>,
@@ -83,7 +83,7 @@ fn failing_writer(alloc: Global, calls_left: usize) -> FailingWriter {
     }
 }
 
-/// A run over memory alone.
+// A run over memory alone.
 fn run_over_memory(
     alloc: Global,
     text: &[u8],
@@ -98,7 +98,7 @@ fn run_over_memory(
     run(alloc, &mut reader, out, err, PartialMode::Off, inf_nan)
 }
 
-/// The same over a reader and a writer that may fail.
+// The same over a reader and a writer that may fail.
 fn run_over_failing(
     alloc: Global,
     text: &[u8],

@@ -1,45 +1,45 @@
 -- The lines that runs write, by computation.
 use Rattle.std.proofs.Common.{◌≡◌, ◌++◌, ◌∷◌, [], ℕ, List, Bool, true, false, refl, codes, map}
 use Rattle.look.specs.Print.{with_line_feed}
-use Rattle.look.specs.Run.{Line, shown, refused, line_of}
+use Rattle.look.specs.Run.{Line, value_line, fault_line, line_of}
 use Rattle.look.proofs.Rows.Computed.{computed_answers}
 
 -- whether names are numbers, a text, and its line
 abbrev Row : Type 0
 Row = Bool × List ℕ × Line
 
-abbrev value_line : List ℕ → Line
-value_line w = shown (with_line_feed w)
+abbrev value : List ℕ → Line
+value w = value_line (with_line_feed w)
 
-abbrev fault_line : List ℕ → Line
-fault_line w = refused (with_line_feed w)
+abbrev fault : List ℕ → Line
+fault w = fault_line (with_line_feed w)
 
 abbrev rows : List Row
 rows =
     -- no blanks stay
-    (false, codes " [true, [null, []], false]", value_line (codes "[true,[null,[]],false]")) ∷
+    (false, codes " [true, [null, []], false]", value (codes "[true,[null,[]],false]")) ∷
     -- a float and a long integer by their source text, an integer in decimal
     (
       false,
       codes "[1.50, -0, 123456789012345678901234567890]",
-      value_line (codes "[1.50,0,123456789012345678901234567890]"),
+      value (codes "[1.50,0,123456789012345678901234567890]"),
     ) ∷
     -- a line feed in a string by four hexadecimal digits
-    (false, codes "{\"a\": [1, 2.50, \"\\n\"]}", value_line (codes "{\"a\":[1,2.50,\"\\u000a\"]}")) ∷
+    (false, codes "{\"a\": [1, 2.50, \"\\n\"]}", value (codes "{\"a\":[1,2.50,\"\\u000a\"]}")) ∷
     -- only a quote and a backslash stay behind a backslash
-    (false, codes "\"\\u00e9\\\"\\\\\"", value_line (34 ∷ 195 ∷ 169 ∷ codes "\\\"\\\\\"")) ∷
+    (false, codes "\"\\u00e9\\\"\\\\\"", value (34 ∷ 195 ∷ 169 ∷ codes "\\\"\\\\\"")) ∷
     -- a name, where names are numbers
-    (true, codes "[NaN]", value_line (codes "[NaN]")) ∷
+    (true, codes "[NaN]", value (codes "[NaN]")) ∷
     -- and where they are not
-    (false, codes "[NaN]", fault_line (codes "expected value at line 1 column 2")) ∷
+    (false, codes "[NaN]", fault (codes "expected value at line 1 column 2")) ∷
     -- faults by their line and column
-    (false, [], fault_line (codes "EOF while parsing a value at line 1 column 0")) ∷
-    (false, codes "[tru]", fault_line (codes "expected ident at line 1 column 5")) ∷
-    (false, codes "[true", fault_line (codes "EOF while parsing a list at line 1 column 5")) ∷
-    (false, codes "[true,]", fault_line (codes "trailing comma at line 1 column 7")) ∷
-    (false, 91 ∷ 10 ∷ codes "true" ++ (10 ∷ codes "x"), fault_line (codes "expected `,` or `]` at line 3 column 1")) ∷
-    (false, codes "[1,", fault_line (codes "EOF while parsing a value at line 1 column 3")) ∷
-    (false, codes "[1, 2] extra", fault_line (codes "trailing characters at line 1 column 8")) ∷
+    (false, [], fault (codes "EOF while parsing a value at line 1 column 0")) ∷
+    (false, codes "[tru]", fault (codes "expected ident at line 1 column 5")) ∷
+    (false, codes "[true", fault (codes "EOF while parsing a list at line 1 column 5")) ∷
+    (false, codes "[true,]", fault (codes "trailing comma at line 1 column 7")) ∷
+    (false, 91 ∷ 10 ∷ codes "true" ++ (10 ∷ codes "x"), fault (codes "expected `,` or `]` at line 3 column 1")) ∷
+    (false, codes "[1,", fault (codes "EOF while parsing a value at line 1 column 3")) ∷
+    (false, codes "[1, 2] extra", fault (codes "trailing characters at line 1 column 8")) ∷
     []
 
 lines : map (λ r. line_of r.0 r.1) rows ≡ map (λ r. r.2) rows

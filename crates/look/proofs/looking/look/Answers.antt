@@ -1,4 +1,4 @@
-use Rattle.std.proofs.Common.{◌≡◌, inr, refl}
+use Rattle.std.proofs.Common.{inr, refl}
 use Rattle.std.proofs.KnownBytes.{Keeps-refl}
 use Rattle.look.proofs.looking.look.Goals as goal
 

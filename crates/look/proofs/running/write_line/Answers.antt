@@ -1,6 +1,5 @@
-use Rattle.std.proofs.Common.{◌≡◌, arith, ap, sym, subst, take}
+use Rattle.std.proofs.Common.{arith, take}
 use Rattle.std.proofs.KnownBytes.{Appends-kept}
-use Rattle.std.specs.Io.KnownBytes.{Appends}
 use Rattle.look.proofs.Writing.{front-more, front-within}
 use Rattle.look.proofs.running.write_line.Goals as goal
 use Rattle.look.proofs.running.write_line.Goals.{in-Ok, in-Err+else-ne}
