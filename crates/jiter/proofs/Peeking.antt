@@ -18,7 +18,7 @@ use Rattle.jiter_steps.specs.declared.parse.Literal.TheVariants as literal
 use Rattle.jiter_steps.specs.declared.parse.Start.{Start}
 use Rattle.jiter_steps.specs.declared.parse.Start.TheVariants as start
 use Rattle.jiter.specs.Cause.{ValueType, null, bool, int, float, string}
-use Rattle.jiter.specs.Reader.{ReaderState, Reply, gave, StaysAt, moved_to, position_after, value_place, if_byte}
+use Rattle.jiter.specs.Reader.{ReaderState, Reply, gave, StaysAt, with_position, position_after, value_place, if_byte}
 use Rattle.jiter.specs.Reader.{peek, next, scalar_reply, refused_as_number, refused_as, integer_reply, null_read}
 use Rattle.jiter.specs.Reader.{bool_read, number_read, int_read, number_bytes_read, string_read, str_read, bytes_read}
 
@@ -49,7 +49,7 @@ at_byte-place j None = refl
 at_byte-place j (Some c) = refl
 
 -- Behind a peek a second one gives the same, and leaves the reader there.
-pub peek-again : (s : ReaderState) → peek (moved_to s (position_after (peek s))) ≡ peek s
+pub peek-again : (s : ReaderState) → peek (with_position s (position_after (peek s))) ≡ peek s
 peek-again s =
     let t = s.text in
     let j = value_place s in

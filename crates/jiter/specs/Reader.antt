@@ -34,8 +34,8 @@ pub data Reply (A : Type 0) : Type 0 where
   refused : Cause → ℕ → ℕ → Reply A
 
 -- the same reader at another place
-abbrev pub moved_to : ReaderState → ℕ → ReaderState
-moved_to s i = record { text = s.text; position = i; names = s.names; partial_strings = s.partial_strings }
+abbrev pub with_position : ReaderState → ℕ → ReaderState
+with_position s i = record { text = s.text; position = i; names = s.names; partial_strings = s.partial_strings }
 
 -- where the reader stands then
 abbrev pub position_after : {A : Type 0} → Reply A → ℕ
@@ -73,6 +73,7 @@ abbrev pub scalar_reply : {A : Type 0} → ℕ → Scanned A → Reply A
 scalar_reply i (taken a e) = gave a e
 scalar_reply i (failed k j) = refused (json_error k) j i
 
+-- the type that a number is told as
 abbrev pub number_type : Number → ValueType
 number_type (integer z) = int
 number_type (big w) = int
@@ -94,11 +95,12 @@ refused_as s i wanted (start.Literal literal.True) = refused (wrong_type wanted 
 refused_as s i wanted (start.Literal literal.False) = refused (wrong_type wanted bool) i i
 refused_as s i wanted start.Nothing = refused (json_error expected_value) i i
 
--- What is read at a place, of what begins there: first the scalars.
+-- What a call reads at a place, of what begins there. First the scalars: `null`.
 abbrev pub null_read : ReaderState → ℕ → Start → Reply (Unit {0})
 null_read s i (start.Literal literal.Null) = scalar_reply i (literal_at s.text literal.Null i)
 null_read s i b = refused_as s i null b
 
+-- `true` or `false`
 abbrev pub bool_read : ReaderState → ℕ → Start → Reply Bool
 bool_read s i (start.Literal literal.True) =
     scalar_reply i (seen_as (λ u e. true) (literal_at s.text literal.True i))
@@ -106,20 +108,23 @@ bool_read s i (start.Literal literal.False) =
     scalar_reply i (seen_as (λ u e. false) (literal_at s.text literal.False i))
 bool_read s i b = refused_as s i bool b
 
+-- a number
 abbrev pub number_read : ReaderState → ℕ → Start → Reply Number
 number_read s i start.Number = scalar_reply i (number_at s.names s.text i)
 number_read s i b = refused_as s i int b
 
--- an integer; a float that shows behind it is another type, whatever follows
+-- an integer at i; a float that shows behind it is another type, whatever follows
 abbrev pub integer_reply : ℕ → Integer → Reply Number
 integer_reply i (whole n e) = gave n e
 integer_reply i (float_seen j) = refused (wrong_type int float) i i
 integer_reply i (wrong k j) = refused (json_error k) j i
 
+-- an integer
 abbrev pub int_read : ReaderState → ℕ → Start → Reply Number
 int_read s i start.Number = integer_reply i (int_at s.text i)
 int_read s i b = refused_as s i int b
 
+-- a number's own bytes
 abbrev pub number_bytes_read : ReaderState → ℕ → Start → Reply (List ℕ)
 number_bytes_read s i start.Number =
     scalar_reply i (seen_as (λ n e. slice_range s.text i e) (number_at s.names s.text i))
@@ -138,14 +143,16 @@ str_read s i b = string_read (if s.partial_strings then kept else form.whole) s 
 abbrev pub bytes_read : ReaderState → ℕ → Start → Reply Text
 bytes_read s i b = string_read (if s.partial_strings then raw_kept else raw) s i b
 
--- A whole value, whatever begins there, and its end alone.
+-- a whole value; where it is refused the reader stands where the reading stopped
 abbrev pub value_reply : {A : Type 0} → Reading A → Reply A
 value_reply (done a e) = gave a e
 value_reply (fault k i stop) = refused (json_error k) i stop
 
+-- A whole value, whatever begins there.
 abbrev pub value_read : ReaderState → ℕ → Start → Reply Tree
 value_read s i b = value_reply (read_at s.names s.text i)
 
+-- Its end alone.
 abbrev pub skip_read : ReaderState → ℕ → Start → Reply (Unit {0})
 skip_read s i b = value_reply (skip_at s.names s.text i)
 

@@ -78,7 +78,7 @@ fn append_members(
     out.push_str("}")
 }
 
-fn shown(alloc: Global, value: &JsonValue<'_>) -> Result<String, AllocError> {
+fn text_of(alloc: Global, value: &JsonValue<'_>) -> Result<String, AllocError> {
     let mut out = String::new(alloc);
     append(value, &mut out)?;
     Ok(out)

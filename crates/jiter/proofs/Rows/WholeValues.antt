@@ -44,32 +44,32 @@ unfolding computed
 skips-reply = refl
 
 -- a string of so many letters `a` and this damage
-abbrev damaged : ℕ → List ℕ → ReaderState
-damaged n damage = at (34 ∷ (replicate n 97 ++ (damage ++ 34 ∷ []))) 0
+abbrev with_damage : ℕ → List ℕ → ReaderState
+with_damage n damage = at (34 ∷ (replicate n 97 ++ (damage ++ 34 ∷ []))) 0
 
 -- Skips and bytes want no UTF-8, and find every other damage at its place.
-abbrev damaged_skips : ℕ → List (Row (Unit {0}))
-damaged_skips n =
-    (damaged n (255 ∷ []), gave tt (n + 3)) ∷
-    (damaged n (31 ∷ []), refused (json_error control_character) (n + 1) 0) ∷
-    (damaged n (codes "\\q"), refused (json_error invalid_escape) (n + 2) 0) ∷
-    (damaged n (codes "\\udc00"), refused (json_error lone_surrogate) (n + 6) 0) ∷
-    (damaged n (codes "\\ud83dx"), refused (json_error end_of_hex_escape) (n + 7) 0) ∷
+abbrev skips_of_damage : ℕ → List (Row (Unit {0}))
+skips_of_damage n =
+    (with_damage n (255 ∷ []), gave tt (n + 3)) ∷
+    (with_damage n (31 ∷ []), refused (json_error control_character) (n + 1) 0) ∷
+    (with_damage n (codes "\\q"), refused (json_error invalid_escape) (n + 2) 0) ∷
+    (with_damage n (codes "\\udc00"), refused (json_error lone_surrogate) (n + 6) 0) ∷
+    (with_damage n (codes "\\ud83dx"), refused (json_error end_of_hex_escape) (n + 7) 0) ∷
     []
 
-damaged_skips-reply : Replies (λ s. next s (skip_read s)) (damaged_skips 0 ++ (damaged_skips 1 ++ damaged_skips 16))
+skips_of_damage-reply : Replies (λ s. next s (skip_read s)) (skips_of_damage 0 ++ (skips_of_damage 1 ++ skips_of_damage 16))
 unfolding computed
-damaged_skips-reply = refl
+skips_of_damage-reply = refl
 
-abbrev damaged_bytes : ℕ → List (Row Text)
-damaged_bytes n =
-    (damaged n (255 ∷ []), gave (borrowed (replicate n 97 ++ 255 ∷ [])) (n + 3)) ∷
-    (damaged n (31 ∷ []), refused (json_error control_character) (n + 1) 0) ∷
-    (damaged n (codes "\\q"), refused (json_error invalid_escape) (n + 2) 0) ∷
-    (damaged n (codes "\\udc00"), refused (json_error lone_surrogate) (n + 6) 0) ∷
-    (damaged n (codes "\\ud83dx"), refused (json_error end_of_hex_escape) (n + 7) 0) ∷
+abbrev bytes_of_damage : ℕ → List (Row Text)
+bytes_of_damage n =
+    (with_damage n (255 ∷ []), gave (borrowed (replicate n 97 ++ 255 ∷ [])) (n + 3)) ∷
+    (with_damage n (31 ∷ []), refused (json_error control_character) (n + 1) 0) ∷
+    (with_damage n (codes "\\q"), refused (json_error invalid_escape) (n + 2) 0) ∷
+    (with_damage n (codes "\\udc00"), refused (json_error lone_surrogate) (n + 6) 0) ∷
+    (with_damage n (codes "\\ud83dx"), refused (json_error end_of_hex_escape) (n + 7) 0) ∷
     []
 
-damaged_bytes-reply : Replies (λ s. next s (bytes_read s)) (damaged_bytes 0 ++ (damaged_bytes 1 ++ damaged_bytes 16))
+bytes_of_damage-reply : Replies (λ s. next s (bytes_read s)) (bytes_of_damage 0 ++ (bytes_of_damage 1 ++ bytes_of_damage 16))
 unfolding computed
-damaged_bytes-reply = refl
+bytes_of_damage-reply = refl

@@ -1,5 +1,5 @@
 //! Rows of bytes, each with the kind and the index of the first fault that a parse of the whole answers.
-use super::{fault_of, shown};
+use super::{fault_of, text_of};
 use crate::{JsonError, JsonErrorType as Kind, JsonValue};
 use std::alloc::{AllocError, Global};
 use std::test::*;
@@ -171,7 +171,7 @@ fn integers_of_many_digits(rt: HostRuntime) -> Result<(), Fail> {
         let text = format!(in alloc; "{front}{digits}{back}")?;
         let value = JsonValue::parse(alloc, text.as_bytes(), false)?;
         let wanted = format!(in alloc; "{front}big '{digits}'{back}")?;
-        assert_eq!(rt; shown(alloc, &value)?.as_str(), wanted.as_str());
+        assert_eq!(rt; text_of(alloc, &value)?.as_str(), wanted.as_str());
         let longer = format!(in alloc; "{front}{digits}1{back}")?;
         let seen = fault_of(alloc, longer.as_bytes(), false);
         assert_eq!(rt; seen, Some((Kind::NumberOutOfRange, index)));
@@ -180,7 +180,7 @@ fn integers_of_many_digits(rt: HostRuntime) -> Result<(), Fail> {
 }
 
 // A string of so many letters and these bytes.
-fn damaged(alloc: Global, letters: usize, damage: &[u8]) -> Result<Vec<u8>, AllocError> {
+fn with_damage(alloc: Global, letters: usize, damage: &[u8]) -> Result<Vec<u8>, AllocError> {
     let mut bytes = Vec::new(alloc);
     bytes.push(b'"')?;
     bytes.extend_from_slice("a".repeat(alloc, letters)?.as_bytes())?;
@@ -198,7 +198,7 @@ fn first_miss(
     behind: usize,
 ) -> Result<Option<usize>, AllocError> {
     for letters in 0..=40usize {
-        let bytes = damaged(alloc, letters, damage)?;
+        let bytes = with_damage(alloc, letters, damage)?;
         let index = letters.saturating_add(behind);
         match fault_of(alloc, bytes.as_slice(), false) {
             Some((seen, place)) if seen == *kind && place == index => {}
@@ -263,7 +263,7 @@ fn every_proper_front_is_refused_at_its_end(rt: HostRuntime) -> Result<(), Fail>
         assert_eq!(rt; fault_of(alloc, front, false), Some((kind, length)));
     }
     let value = JsonValue::parse(alloc, bytes, false)?;
-    assert_eq!(rt; shown(alloc, &value)?.as_str(), "[12,'aé',{'k':true}]");
+    assert_eq!(rt; text_of(alloc, &value)?.as_str(), "[12,'aé',{'k':true}]");
     Ok(())
 }
 
@@ -298,16 +298,26 @@ fn fault(kind: &Kind, index: usize) -> Result<JsonError, AllocError> {
     Ok(JsonError { error_type, index })
 }
 
+// How many kinds equal this one, and how many faults of some kind, at this place, the fault of this kind at 3.
+fn count_equals(kind: &Kind, index: usize) -> Result<(usize, usize), AllocError> {
+    let one = fault(kind, 3)?;
+    let mut equals = (0usize, 0usize);
+    for other in &KINDS {
+        equals.0 = equals.0.saturating_add(usize::from(kind == other));
+        equals.1 = equals
+            .1
+            .saturating_add(usize::from(one == fault(other, index)?));
+    }
+    Ok(equals)
+}
+
 #[test]
 fn faults_are_equal_where_kind_and_index_are(rt: HostRuntime) -> Result<(), Fail> {
-    for i in 0..KINDS.len() {
-        let one = fault(&KINDS[i], 3)?;
-        assert!(rt; one != fault(&KINDS[i], 4)?, "at another place");
-        for j in 0..KINDS.len() {
-            let other = fault(&KINDS[j], 3)?;
-            assert_eq!(rt; one == other, i == j, "the kinds {i} and {j}");
-            assert_eq!(rt; KINDS[i] == KINDS[j], i == j, "the kinds {i} and {j}");
-        }
+    for kind in &KINDS {
+        assert!(rt; *kind == kind.clone()?, "{kind}");
+        assert!(rt; fault(kind, 3)? == fault(kind, 3)?, "{kind}");
+        assert_eq!(rt; count_equals(kind, 3)?, (1, 1), "{kind}");
+        assert_eq!(rt; count_equals(kind, 4)?, (1, 0), "{kind}");
     }
     Ok(())
 }

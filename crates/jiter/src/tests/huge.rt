@@ -1,6 +1,6 @@
 //! Ten million bytes through each loop, with ample memory: what a body that calls itself for each byte has no
 //! stack for.
-use super::{fault_of, shown};
+use super::{fault_of, text_of};
 use crate::{JsonErrorType as Kind, JsonValue, LinePosition, NumberAny, NumberInt};
 use std::borrow::CowStr;
 use std::test::*;
@@ -14,7 +14,7 @@ fn ten_million_blanks_are_passed(rt: HostRuntime) -> Result<(), Fail> {
         let blanks = blank.repeat(alloc, TEN_MILLION)?;
         let text = format!(in alloc; "{blanks}[{blanks}7{blanks},{{}}]{blanks}")?;
         let value = JsonValue::parse(alloc, text.as_bytes(), false)?;
-        assert_eq!(rt; shown(alloc, &value)?.as_str(), "[7,{}]");
+        assert_eq!(rt; text_of(alloc, &value)?.as_str(), "[7,{}]");
         let seen = fault_of(alloc, blanks.as_bytes(), false);
         assert_eq!(rt; seen, Some((Kind::EofWhileParsingValue, TEN_MILLION)));
     }
@@ -59,20 +59,20 @@ fn ten_million_bytes_of_members_are_read(rt: HostRuntime) -> Result<(), Fail> {
 #[test]
 fn ten_million_bytes_of_a_string_are_read(rt: HostRuntime) -> Result<(), Fail> {
     let alloc = rt.alloc();
-    for (letter, seen, owned) in [
+    for (letter, text, owned) in [
         ("a", "a", false),
         ("\u{e9}", "\u{e9}", false),
         ("\\n", "\n", true),
     ] {
         let times = TEN_MILLION / letter.len().max(1);
-        let text = format!(in alloc; "\"{}\"", letter.repeat(alloc, times)?)?;
-        let JsonValue::Str(decoded) = JsonValue::parse(alloc, text.as_bytes(), false)? else {
+        let source = format!(in alloc; "\"{}\"", letter.repeat(alloc, times)?)?;
+        let JsonValue::Str(decoded) = JsonValue::parse(alloc, source.as_bytes(), false)? else {
             return Err("no string".into());
         };
         assert_eq!(rt; matches!(decoded, CowStr::Owned(_)), owned);
-        assert!(rt; decoded.as_str() == seen.repeat(alloc, times)?.as_str());
-        let open = text.as_bytes().get(..TEN_MILLION).ok_or("shorter")?;
-        let seen = fault_of(alloc, open, false);
+        assert!(rt; decoded.as_str() == text.repeat(alloc, times)?.as_str());
+        let front = source.as_bytes().get(..TEN_MILLION).ok_or("shorter")?;
+        let seen = fault_of(alloc, front, false);
         assert_eq!(rt; seen, Some((Kind::EofWhileParsingString, TEN_MILLION)));
     }
     Ok(())
@@ -109,7 +109,7 @@ fn ten_million_brackets_are_read(rt: HostRuntime) -> Result<(), Fail> {
     let nests = format!(in alloc; ",{opened}{closed}")?.repeat(alloc, TEN_MILLION / 401)?;
     let text = format!(in alloc; "[7{nests}]")?;
     let value = JsonValue::parse(alloc, text.as_bytes(), false)?;
-    assert!(rt; shown(alloc, &value)?.as_str() == text.as_str());
+    assert!(rt; text_of(alloc, &value)?.as_str() == text.as_str());
     let closers = "]".repeat(alloc, TEN_MILLION)?;
     let text = format!(in alloc; "{opened}{closers}")?;
     assert_eq!(rt;

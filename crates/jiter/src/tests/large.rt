@@ -1,33 +1,33 @@
 //! Large documents with ample memory: many items and members, long texts, faults and positions far in.
-use super::{fault_of, shown};
+use super::{fault_of, text_of};
 use crate::{JsonErrorType as Kind, JsonValue, LinePosition};
 use std::alloc::{AllocError, Global};
 use std::test::*;
 
-// Whether an array of ten thousand of these is shown so.
-fn is_read_as_items(alloc: Global, part: &str, seen: &str) -> Result<bool, Fail> {
+// Whether an array of ten thousand parts is read, where each is told by this text.
+fn is_read_as_items(alloc: Global, part: &str, text: &str) -> Result<bool, Fail> {
     let items = format!(in alloc; ",{part}")?.repeat(alloc, 9999)?;
-    let text = format!(in alloc; "[{part}{items}]")?;
-    let value = JsonValue::parse(alloc, text.as_bytes(), true)?;
-    let others = format!(in alloc; ",{seen}")?.repeat(alloc, 9999)?;
-    let wanted = format!(in alloc; "[{seen}{others}]")?;
-    Ok(shown(alloc, &value)?.as_str() == wanted.as_str())
+    let source = format!(in alloc; "[{part}{items}]")?;
+    let value = JsonValue::parse(alloc, source.as_bytes(), true)?;
+    let others = format!(in alloc; ",{text}")?.repeat(alloc, 9999)?;
+    let wanted = format!(in alloc; "[{text}{others}]")?;
+    Ok(text_of(alloc, &value)?.as_str() == wanted.as_str())
 }
 
-// Whether an object of ten thousand of these is shown so.
-fn is_read_as_members(alloc: Global, part: &str, seen: &str) -> Result<bool, Fail> {
+// Whether an object of ten thousand parts is read, where each is told by this text.
+fn is_read_as_members(alloc: Global, part: &str, text: &str) -> Result<bool, Fail> {
     let members = format!(in alloc; ",\"k\":{part}")?.repeat(alloc, 9999)?;
-    let text = format!(in alloc; "{{\"\\u0037\":{part}{members}}}")?;
-    let value = JsonValue::parse(alloc, text.as_bytes(), true)?;
-    let others = format!(in alloc; ",'k':{seen}")?.repeat(alloc, 9999)?;
-    let wanted = format!(in alloc; "{{owned '7':{seen}{others}}}")?;
-    Ok(shown(alloc, &value)?.as_str() == wanted.as_str())
+    let source = format!(in alloc; "{{\"\\u0037\":{part}{members}}}")?;
+    let value = JsonValue::parse(alloc, source.as_bytes(), true)?;
+    let others = format!(in alloc; ",'k':{text}")?.repeat(alloc, 9999)?;
+    let wanted = format!(in alloc; "{{owned '7':{text}{others}}}")?;
+    Ok(text_of(alloc, &value)?.as_str() == wanted.as_str())
 }
 
 #[test]
 fn ten_thousand_like_parts_are_read(rt: HostRuntime) -> Result<(), Fail> {
     let alloc = rt.alloc();
-    for (part, seen) in [
+    for (part, text) in [
         ("null", "null"),
         ("true", "true"),
         ("false", "false"),
@@ -49,8 +49,8 @@ fn ten_thousand_like_parts_are_read(rt: HostRuntime) -> Result<(), Fail> {
         ("{\"7\":7}", "{'7':7}"),
         ("{\"\\u0037\":[]}", "{owned '7':[]}"),
     ] {
-        assert!(rt; is_read_as_items(alloc, part, seen)?, "{part}");
-        assert!(rt; is_read_as_members(alloc, part, seen)?, "{part}");
+        assert!(rt; is_read_as_items(alloc, part, text)?, "{part}");
+        assert!(rt; is_read_as_members(alloc, part, text)?, "{part}");
     }
     Ok(())
 }
@@ -60,26 +60,41 @@ fn ten_thousand_unlike_items_and_members_are_read(rt: HostRuntime) -> Result<(),
     let alloc = rt.alloc();
     let mut items = String::from_str(alloc, "0")?;
     let mut members = String::from_str(alloc, "\"0\":0")?;
-    let mut shown_members = String::from_str(alloc, "'0':0")?;
+    let mut wanted_members = String::from_str(alloc, "'0':0")?;
     for i in 1..10_000 {
         items.push_str(format!(in alloc; ",{i}")?.as_str())?;
         members.push_str(format!(in alloc; ",\"{i}\":{i}")?.as_str())?;
-        shown_members.push_str(format!(in alloc; ",'{i}':{i}")?.as_str())?;
+        wanted_members.push_str(format!(in alloc; ",'{i}':{i}")?.as_str())?;
     }
     let array = format!(in alloc; "[{items}]")?;
     let value = JsonValue::parse(alloc, array.as_bytes(), false)?;
-    assert!(rt; shown(alloc, &value)?.as_str() == array.as_str());
+    assert!(rt; text_of(alloc, &value)?.as_str() == array.as_str());
     let object = format!(in alloc; "{{{members}}}")?;
     let value = JsonValue::parse(alloc, object.as_bytes(), false)?;
-    let wanted = format!(in alloc; "{{{shown_members}}}")?;
-    assert!(rt; shown(alloc, &value)?.as_str() == wanted.as_str());
+    let wanted = format!(in alloc; "{{{wanted_members}}}")?;
+    assert!(rt; text_of(alloc, &value)?.as_str() == wanted.as_str());
     Ok(())
+}
+
+// The first count of source letters at which a string of them, as a key and as a value, is not read as text.
+fn first_lost(alloc: Global, letter: &str, text: &str, mark: &str) -> Result<Option<usize>, Fail> {
+    for times in [26, 101, 4097, 100_000] {
+        let letters = letter.repeat(alloc, times)?;
+        let source = format!(in alloc; "[\"{letters}\",{{\"{letters}\":\"{letters}\"}}]")?;
+        let value = JsonValue::parse(alloc, source.as_bytes(), false)?;
+        let texts = text.repeat(alloc, times)?;
+        let string = format!(in alloc; "{mark}'{texts}'")?;
+        let wanted = format!(in alloc; "[{string},{{{string}:{string}}}]")?;
+        if text_of(alloc, &value)?.as_str() != wanted.as_str() {
+            return Ok(Some(times));
+        }
+    }
+    Ok(None)
 }
 
 #[test]
 fn long_texts_are_decoded(rt: HostRuntime) -> Result<(), Fail> {
-    let alloc = rt.alloc();
-    for (letter, seen, mark) in [
+    for (letter, text, mark) in [
         ("a", "a", ""),
         ("\u{1F600}", "\u{1F600}", ""),
         ("\\n", "\n", "owned "),
@@ -91,24 +106,14 @@ fn long_texts_are_decoded(rt: HostRuntime) -> Result<(), Fail> {
             "owned ",
         ),
     ] {
-        for times in [26, 101, 4097, 100_000] {
-            let text = letter.repeat(alloc, times)?;
-            let document = format!(in alloc; "[\"{text}\",{{\"{text}\":\"{text}\"}}]")?;
-            let value = JsonValue::parse(alloc, document.as_bytes(), false)?;
-            let decoded = seen.repeat(alloc, times)?;
-            let text = format!(in alloc; "{mark}'{decoded}'")?;
-            let wanted = format!(in alloc; "[{text},{{{text}:{text}}}]")?;
-            assert!(rt;
-                shown(alloc, &value)?.as_str() == wanted.as_str(),
-                "{letter} {times} times"
-            );
-        }
+        let lost = first_lost(rt.alloc(), letter, text, mark)?;
+        assert_eq!(rt; lost, None, "{letter}");
     }
     Ok(())
 }
 
 // The bytes of the front, and then those of the end.
-fn joined(alloc: Global, front: &str, end: &[u8]) -> Result<Vec<u8>, AllocError> {
+fn join(alloc: Global, front: &str, end: &[u8]) -> Result<Vec<u8>, AllocError> {
     let mut bytes = Vec::new(alloc);
     bytes.extend_from_slice(front.as_bytes())?;
     bytes.extend_from_slice(end)?;
@@ -139,6 +144,19 @@ const ENDS_OF_ARRAYS: [(&[u8], Kind, usize); 20] = [
     (b"{\"\xff\":1", Kind::InvalidUnicodeCodePoint, 2),
 ];
 
+// The first end whose fault behind this front is of another kind, or stands at another place.
+fn first_end_missed(alloc: Global, front: &str) -> Result<Option<usize>, Fail> {
+    for i in 0..ENDS_OF_ARRAYS.len() {
+        let (end, kind, place) = &ENDS_OF_ARRAYS[i];
+        let bytes = join(alloc, front, end)?;
+        let (seen, index) = fault_of(alloc, bytes.as_slice(), false).ok_or("a value")?;
+        if seen != *kind || index != front.len().saturating_add(*place) {
+            return Ok(Some(i));
+        }
+    }
+    Ok(None)
+}
+
 #[test]
 fn faults_behind_many_items_are_found(rt: HostRuntime) -> Result<(), Fail> {
     let alloc = rt.alloc();
@@ -151,16 +169,11 @@ fn faults_behind_many_items_are_found(rt: HostRuntime) -> Result<(), Fail> {
     ] {
         let items = item.repeat(alloc, 5000)?;
         let front = format!(in alloc; "{head}{items}{tail}")?;
-        for (end, kind, place) in &ENDS_OF_ARRAYS {
-            let bytes = joined(alloc, front.as_str(), end)?;
-            let (seen, index) = fault_of(alloc, bytes.as_slice(), false).ok_or("a value")?;
-            assert_eq!(rt; seen, *kind, "{end:?} behind {head}");
-            assert_eq!(rt;
-                index,
-                front.len().saturating_add(*place),
-                "{end:?} behind {head}"
-            );
-        }
+        assert_eq!(rt;
+            first_end_missed(alloc, front.as_str())?,
+            None,
+            "{head}{item}"
+        );
     }
     Ok(())
 }
@@ -209,29 +222,30 @@ fn limits_hold_behind_many_items(rt: HostRuntime) -> Result<(), Fail> {
     Ok(())
 }
 
+// What the fault behind so many fillers is described as; where it does not stand there, nothing.
+fn description_behind(alloc: Global, filler: &str, count: usize) -> Result<Option<String>, Fail> {
+    let fillers = filler.repeat(alloc, count)?;
+    let text = format!(in alloc; "{fillers}]")?;
+    let error = JsonValue::parse(alloc, text.as_bytes(), false)
+        .err()
+        .ok_or("a value")?;
+    let position = LinePosition::find(text.as_bytes(), count);
+    let description = error.description(alloc, text.as_bytes())?;
+    let wanted = format!(in alloc; "{} at {position}", error.error_type)?;
+    Ok((error.index == count && description.as_str() == wanted.as_str()).then_some(description))
+}
+
 #[test]
-fn positions_far_in_are_told(rt: HostRuntime) -> Result<(), Fail> {
+fn faults_far_in_are_described(rt: HostRuntime) -> Result<(), Fail> {
     let alloc = rt.alloc();
     for count in [9usize, 62, 63, 64, 65, 99, 100, 4096, 1_000_000, 2_345_678] {
-        let column = count.saturating_add(1);
-        for (filler, wanted) in [
-            (" ", format!(in alloc; "line 1 column {column}")?),
-            ("\n", format!(in alloc; "line {column} column 1")?),
-        ] {
-            let fillers = filler.repeat(alloc, count)?;
-            let text = format!(in alloc; "{fillers}]")?;
-            let error = JsonValue::parse(alloc, text.as_bytes(), false)
-                .err()
-                .ok_or("a value")?;
-            assert_eq!(rt; error.index, count);
-            let position = LinePosition::find(text.as_bytes(), count);
-            assert_eq!(rt; position.to_string(alloc)?.as_str(), wanted.as_str());
-            let description = format!(in alloc; "expected value at {wanted}")?;
-            assert_eq!(rt;
-                error.description(alloc, text.as_bytes())?.as_str(),
-                description.as_str()
-            );
-        }
+        let next = count.saturating_add(1);
+        let seen = description_behind(alloc, " ", count)?.ok_or("another place")?;
+        let wanted = format!(in alloc; "expected value at line 1 column {next}")?;
+        assert_eq!(rt; seen.as_str(), wanted.as_str());
+        let seen = description_behind(alloc, "\n", count)?.ok_or("another place")?;
+        let wanted = format!(in alloc; "expected value at line {next} column 1")?;
+        assert_eq!(rt; seen.as_str(), wanted.as_str());
     }
     Ok(())
 }

@@ -1,5 +1,5 @@
 //! What calls answer where memory is refused.
-use super::shown;
+use super::text_of;
 use crate::{JsonErrorType as Kind, JsonValue};
 use std::alloc::{AllocError, Global};
 use std::test::*;
@@ -65,7 +65,7 @@ fn each_refused_request_is_told(rt: HostRuntime) -> Result<(), Fail> {
         match answer {
             Ok(value) => {
                 let wanted = "[1,[owned 'a\nb'],{'k':owned 'a'}]";
-                assert_eq!(rt; shown(alloc, &value)?.as_str(), wanted);
+                assert_eq!(rt; text_of(alloc, &value)?.as_str(), wanted);
                 assert!(rt; refused_in_third_item);
                 return Ok(());
             }
@@ -94,7 +94,7 @@ fn some_values_want_no_memory(rt: HostRuntime) -> Result<(), Fail> {
     drop(held);
     assert!(rt; letter.is_err());
     for (answer, wanted) in answers {
-        assert_eq!(rt; shown(alloc, &answer?)?.as_str(), wanted);
+        assert_eq!(rt; text_of(alloc, &answer?)?.as_str(), wanted);
     }
     Ok(())
 }

@@ -31,7 +31,7 @@ fn a_document_is_told(rt: HostRuntime) -> Result<(), Fail> {
 }
 
 // A number alone; each arm makes the line that README's prints.
-fn number_told(alloc: Global, bytes: &[u8]) -> Result<String, AllocError> {
+fn number_text(alloc: Global, bytes: &[u8]) -> Result<String, AllocError> {
     match NumberAny::from_bytes(bytes, false) {
         Ok(NumberAny::Int(NumberInt::Int(number))) => format!(in alloc; "{number}"),
         Ok(NumberAny::Int(NumberInt::BigInt(digits))) => format!(in alloc; "{digits}"),
@@ -48,7 +48,7 @@ fn a_number_is_told(rt: HostRuntime) -> Result<(), Fail> {
         ("9223372036854775808", "9223372036854775808"),
         ("2.", "EOF while parsing a value at 2"),
     ] {
-        assert_eq!(rt; number_told(rt.alloc(), text.as_bytes())?.as_str(), wanted);
+        assert_eq!(rt; number_text(rt.alloc(), text.as_bytes())?.as_str(), wanted);
     }
     Ok(())
 }
@@ -78,6 +78,6 @@ fn each_name_stands_for_its_own_type(rt: HostRuntime) -> Result<(), Fail> {
     let items: JsonArray<'_> = vec![in alloc; JsonValue::Null]?;
     let members: JsonObject<'_> = vec![in alloc; (CowStr::Borrowed("a"), JsonValue::Array(items))]?;
     let value: JsonValue<'_> = JsonValue::Object(members);
-    assert_eq!(rt; super::shown(alloc, &value)?.as_str(), "{'a':[null]}");
+    assert_eq!(rt; super::text_of(alloc, &value)?.as_str(), "{'a':[null]}");
     Ok(())
 }

@@ -1,5 +1,5 @@
 //! Rows of documents, each with the value that a parse of the whole answers.
-use super::shown;
+use super::text_of;
 use crate::JsonValue;
 use std::test::*;
 
@@ -15,7 +15,7 @@ fn values_are_read(rt: HostRuntime) -> Result<(), Fail> {
         (r#"{"a":1,"\u0061":2}"#, "{'a':1,owned 'a':2}"),
     ] {
         let value = JsonValue::parse(alloc, text.as_bytes(), false)?;
-        assert_eq!(rt; shown(alloc, &value)?.as_str(), wanted);
+        assert_eq!(rt; text_of(alloc, &value)?.as_str(), wanted);
     }
     Ok(())
 }
@@ -48,7 +48,7 @@ fn values_are_read_where_names_are_numbers(rt: HostRuntime) -> Result<(), Fail> 
         ),
     ] {
         let value = JsonValue::parse(alloc, text.as_bytes(), true)?;
-        assert_eq!(rt; shown(alloc, &value)?.as_str(), wanted);
+        assert_eq!(rt; text_of(alloc, &value)?.as_str(), wanted);
     }
     Ok(())
 }
@@ -64,7 +64,7 @@ fn texts_are_borrowed_unless_they_have_escapes(rt: HostRuntime) -> Result<(), Fa
         (r#""\ud83d\ude00""#, "owned '\u{1F600}'"),
     ] {
         let value = JsonValue::parse(alloc, text.as_bytes(), false)?;
-        assert_eq!(rt; shown(alloc, &value)?.as_str(), wanted);
+        assert_eq!(rt; text_of(alloc, &value)?.as_str(), wanted);
     }
     Ok(())
 }
@@ -76,6 +76,6 @@ fn two_hundred_containers_around_an_empty_one_are_read(rt: HostRuntime) -> Resul
     let closed = "]".repeat(alloc, 201)?;
     let text = format!(in alloc; "{opened}{closed}")?;
     let value = JsonValue::parse(alloc, text.as_bytes(), false)?;
-    assert_eq!(rt; shown(alloc, &value)?.as_str(), text.as_str());
+    assert_eq!(rt; text_of(alloc, &value)?.as_str(), text.as_str());
     Ok(())
 }
