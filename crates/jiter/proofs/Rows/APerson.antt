@@ -4,7 +4,7 @@ use Rattle.jiter_scan.specs.Number as number
 use Rattle.jiter_steps.specs.StringReading.{whole}
 use Rattle.jiter.specs.Reader.{ReaderState, gave, next, known, int_read, str_read, array_read, item_step}
 use Rattle.jiter.specs.Reader.{object_read, key_step, finish}
-use Rattle.jiter.proofs.Rows.Tables.{computed, named, borrowed}
+use Rattle.jiter.proofs.Rows.Tables.{computed_replies, named, borrowed}
 
 -- the reader of the document, at a place
 abbrev person : ℕ → ReaderState
@@ -23,5 +23,5 @@ by_steps :
     × (item_step (person 72) ≡ gave None 73)
     × (key_step whole (person 73) ≡ gave None 74)
     × (finish (person 74) ≡ gave tt 74)
-unfolding computed
+unfolding computed_replies
 by_steps = (refl, refl, refl, refl, refl, refl, refl, refl, refl, refl, refl, refl)

@@ -7,7 +7,7 @@ use Rattle.jiter_steps.specs.StringReading.{whole, raw}
 use Rattle.jiter_steps.specs.Tree.{Text}
 use Rattle.jiter.specs.Cause.{json_error, wrong_type, int, array, object}
 use Rattle.jiter.specs.Reader.{gave, refused, peek, next, array_read, item_step, object_read, key_step, finish}
-use Rattle.jiter.proofs.Rows.Tables.{Row, Replies, computed, at, partly, borrowed, owned}
+use Rattle.jiter.proofs.Rows.Tables.{Row, Replies, computed_replies, at, partly, borrowed, owned}
 
 abbrev arrays : List (Row (Option ℕ))
 arrays =
@@ -20,7 +20,7 @@ arrays =
     []
 
 arrays-reply : Replies (λ s. next s (array_read s)) arrays
-unfolding computed
+unfolding computed_replies
 arrays-reply = refl
 
 -- Behind an item; in the last row the comma was consumed.
@@ -36,7 +36,7 @@ items =
     []
 
 items-reply : Replies (item_step) items
-unfolding computed
+unfolding computed_replies
 items-reply = refl
 
 -- What follows the colon is not looked at.
@@ -57,7 +57,7 @@ objects =
     []
 
 objects-reply : Replies (λ s. next s (object_read whole s)) objects
-unfolding computed
+unfolding computed_replies
 objects-reply = refl
 
 abbrev objects_by_bytes : List (Row (Option Text))
@@ -68,7 +68,7 @@ objects_by_bytes =
     []
 
 objects_by_bytes-reply : Replies (λ s. next s (object_read raw s)) objects_by_bytes
-unfolding computed
+unfolding computed_replies
 objects_by_bytes-reply = refl
 
 -- Behind a member.
@@ -84,7 +84,7 @@ keys =
     []
 
 keys-reply : Replies (key_step whole) keys
-unfolding computed
+unfolding computed_replies
 keys-reply = refl
 
 abbrev bytes_of_keys : List (Row (Option Text))
@@ -93,7 +93,7 @@ bytes_of_keys =
     []
 
 bytes_of_keys-reply : Replies (key_step raw) bytes_of_keys
-unfolding computed
+unfolding computed_replies
 bytes_of_keys-reply = refl
 
 abbrev peeks : List (Row ℕ)
@@ -103,7 +103,7 @@ peeks =
     []
 
 peeks-reply : Replies (peek) peeks
-unfolding computed
+unfolding computed_replies
 peeks-reply = refl
 
 abbrev ends : List (Row (Unit {0}))
@@ -113,5 +113,5 @@ ends =
     []
 
 ends-reply : Replies (finish) ends
-unfolding computed
+unfolding computed_replies
 ends-reply = refl

@@ -8,7 +8,7 @@ use Rattle.jiter_steps.specs.Tree.{Text}
 use Rattle.jiter.specs.Cause.{json_error, wrong_type, null, bool, int, float, string, array, object}
 use Rattle.jiter.specs.Reader.{gave, refused, next, null_read, bool_read, number_read, int_read, number_bytes_read}
 use Rattle.jiter.specs.Reader.{str_read, bytes_read}
-use Rattle.jiter.proofs.Rows.Tables.{Row, Replies, computed, at, named, partly, borrowed, owned}
+use Rattle.jiter.proofs.Rows.Tables.{Row, Replies, computed_replies, at, named, partly, borrowed, owned}
 
 abbrev nulls : List (Row (Unit {0}))
 nulls =
@@ -20,7 +20,7 @@ nulls =
     []
 
 nulls-reply : Replies (λ s. next s (null_read s)) nulls
-unfolding computed
+unfolding computed_replies
 nulls-reply = refl
 
 abbrev bools : List (Row Bool)
@@ -35,7 +35,7 @@ bools =
     []
 
 bools-reply : Replies (λ s. next s (bool_read s)) bools
-unfolding computed
+unfolding computed_replies
 bools-reply = refl
 
 abbrev integers : List (Row Number)
@@ -57,7 +57,7 @@ integers =
     []
 
 integers-reply : Replies (λ s. next s (int_read s)) integers
-unfolding computed
+unfolding computed_replies
 integers-reply = refl
 
 abbrev numbers : List (Row Number)
@@ -72,7 +72,7 @@ numbers =
     []
 
 numbers-reply : Replies (λ s. next s (number_read s)) numbers
-unfolding computed
+unfolding computed_replies
 numbers-reply = refl
 
 abbrev bytes_of_numbers : List (Row (List ℕ))
@@ -83,7 +83,7 @@ bytes_of_numbers =
     []
 
 bytes_of_numbers-reply : Replies (λ s. next s (number_bytes_read s)) bytes_of_numbers
-unfolding computed
+unfolding computed_replies
 bytes_of_numbers-reply = refl
 
 -- A number where another type is wanted is read first.
@@ -105,7 +105,7 @@ texts =
     []
 
 texts-reply : Replies (λ s. next s (str_read s)) texts
-unfolding computed
+unfolding computed_replies
 texts-reply = refl
 
 abbrev bytes_of_texts : List (Row Text)
@@ -119,5 +119,5 @@ bytes_of_texts =
     []
 
 bytes_of_texts-reply : Replies (λ s. next s (bytes_read s)) bytes_of_texts
-unfolding computed
+unfolding computed_replies
 bytes_of_texts-reply = refl

@@ -41,7 +41,7 @@ abbrev pub owned : List ℕ → Text
 owned w = record { owned = true; bytes = w }
 
 -- what a row unfolds
-unfoldable pub computed : ⊤
+unfoldable pub computed_replies : ⊤
 unfolding past_blanks number_at int_at word_at digit_run number_value content_at body_at body_within found_at
     value_at items_at members_at utf8_valid_len utf8_error_len is_utf8 chars encode_utf8
-computed = tt
+computed_replies = tt

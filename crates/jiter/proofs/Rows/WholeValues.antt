@@ -8,7 +8,7 @@ use Rattle.jiter_steps.specs.Tree.{Text, Tree, items_of}
 use Rattle.jiter_steps.specs.Tree as tree
 use Rattle.jiter.specs.Cause.{json_error}
 use Rattle.jiter.specs.Reader.{ReaderState, gave, refused, next, bytes_read, value_read, skip_read}
-use Rattle.jiter.proofs.Rows.Tables.{Row, Replies, computed, at, partly, borrowed}
+use Rattle.jiter.proofs.Rows.Tables.{Row, Replies, computed_replies, at, partly, borrowed}
 
 abbrev a_list : Tree
 a_list = tree.array (items_of (tree.int (pos 1) ∷ tree.string (borrowed (codes "a")) ∷ []))
@@ -25,7 +25,7 @@ values =
     []
 
 values-reply : Replies (λ s. next s (value_read s)) values
-unfolding computed
+unfolding computed_replies
 values-reply = refl
 
 abbrev skips : List (Row (Unit {0}))
@@ -40,7 +40,7 @@ skips =
     []
 
 skips-reply : Replies (λ s. next s (skip_read s)) skips
-unfolding computed
+unfolding computed_replies
 skips-reply = refl
 
 -- a string of so many letters `a` and this damage
@@ -57,8 +57,9 @@ skips_of_damage n =
     (with_damage n (codes "\\ud83dx"), refused (json_error end_of_hex_escape) (n + 7) 0) ∷
     []
 
-skips_of_damage-reply : Replies (λ s. next s (skip_read s)) (skips_of_damage 0 ++ (skips_of_damage 1 ++ skips_of_damage 16))
-unfolding computed
+skips_of_damage-reply :
+    Replies (λ s. next s (skip_read s)) (skips_of_damage 0 ++ (skips_of_damage 1 ++ skips_of_damage 16))
+unfolding computed_replies
 skips_of_damage-reply = refl
 
 abbrev bytes_of_damage : ℕ → List (Row Text)
@@ -70,6 +71,7 @@ bytes_of_damage n =
     (with_damage n (codes "\\ud83dx"), refused (json_error end_of_hex_escape) (n + 7) 0) ∷
     []
 
-bytes_of_damage-reply : Replies (λ s. next s (bytes_read s)) (bytes_of_damage 0 ++ (bytes_of_damage 1 ++ bytes_of_damage 16))
-unfolding computed
+bytes_of_damage-reply :
+    Replies (λ s. next s (bytes_read s)) (bytes_of_damage 0 ++ (bytes_of_damage 1 ++ bytes_of_damage 16))
+unfolding computed_replies
 bytes_of_damage-reply = refl
