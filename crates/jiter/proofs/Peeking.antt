@@ -7,7 +7,7 @@ use Rattle.std.proofs.lemmas.Bool.{cases_lt}
 use Rattle.std.proofs.lemmas.List.Sums.{prefix_len_stops, prefix_len-drop_no, prefix_len-drop_all}
 use Rattle.jiter_scan.specs.Scanned.{Scanned, taken, failed}
 use Rattle.jiter_scan.specs.Number.{Number}
-use Rattle.jiter_scan.specs.NumberReading.{Integer, whole, float_seen, wrong, number_at, int_at}
+use Rattle.jiter_scan.specs.NumberReading.{Integer, whole, float_seen, number_at, int_at}
 use Rattle.jiter_steps.specs.Blank.{is_blank, past_blanks}
 use Rattle.jiter_steps.specs.StringReading.{Form, kept, raw, raw_kept, string_at}
 use Rattle.jiter_steps.specs.StringReading as form
@@ -93,10 +93,10 @@ module _ (s : ReaderState) (i : ℕ) where
   number_read-stays start.Number = scalar_reply-stays (number_at s.names s.text i)
   number_read-stays b = refused_as-stays Number int b
 
-  integer_reply-stays : (x : Integer) → StaysAt i (integer_reply i x)
-  integer_reply-stays (whole n e) = tt
-  integer_reply-stays (float_seen j) = refl
-  integer_reply-stays (wrong k j) = refl
+  integer_reply-stays : (x : Scanned Integer) → StaysAt i (integer_reply i x)
+  integer_reply-stays (taken (whole n) e) = tt
+  integer_reply-stays (taken float_seen j) = refl
+  integer_reply-stays (failed k j) = refl
 
   int_read-stays : (b : Start) → StaysAt i (int_read s i b)
   int_read-stays start.Number = integer_reply-stays (int_at s.text i)

@@ -5,14 +5,15 @@ use Rattle.jiter_scan.specs.Kind.{eof_value, expected_value, trailing_characters
 use Rattle.jiter_scan.specs.Scanned.{Scanned, taken, failed}
 use Rattle.jiter_scan.specs.Number.{Number, integer, big}
 use Rattle.jiter_scan.specs.Number as number
-use Rattle.jiter_scan.specs.NumberReading.{Integer, whole, float_seen, wrong, number_at, int_at}
+use Rattle.jiter_scan.specs.Word.{Extent}
+use Rattle.jiter_scan.specs.NumberReading.{Integer, whole, float_seen, number_at, int_at}
 use Rattle.jiter_steps.specs.Blank.{past_blanks}
 use Rattle.jiter_steps.specs.Literal.{literal_at, start_of}
 use Rattle.jiter_steps.specs.Tree.{Text, Tree}
 use Rattle.jiter_steps.specs.StringReading.{Form, kept, raw, raw_kept, string_at}
 use Rattle.jiter_steps.specs.StringReading as form
-use Rattle.jiter_steps.specs.Step.{Step, more, closed, stuck, step, key_colon}
-use Rattle.jiter_steps.specs.Step.{array_opened, array_continued, object_opened, object_continued}
+use Rattle.jiter_steps.specs.Step.{Step, more, closed, stuck, step, colon}
+use Rattle.jiter_steps.specs.Step.{array_first, array_step, object_first, object_step}
 use Rattle.jiter_steps.specs.Read.{Reading, done, fault}
 use Rattle.jiter_steps.specs.Answer.{seen_as, read_at, skip_at}
 use Rattle.jiter_steps.specs.declared.parse.Literal.TheVariants as literal
@@ -114,10 +115,10 @@ number_read s i start.Number = scalar_reply i (number_at s.names s.text i)
 number_read s i b = refused_as s i int b
 
 -- an integer at i; a float that shows behind it is another type, whatever follows
-abbrev pub integer_reply : ℕ → Integer → Reply Number
-integer_reply i (whole n e) = gave n e
-integer_reply i (float_seen j) = refused (wrong_type int float) i i
-integer_reply i (wrong k j) = refused (json_error k) j i
+abbrev pub integer_reply : ℕ → Scanned Integer → Reply Number
+integer_reply i (taken (whole n) e) = gave n e
+integer_reply i (taken float_seen j) = refused (wrong_type int float) i i
+integer_reply i (failed k j) = refused (json_error k) j i
 
 -- an integer
 abbrev pub int_read : ReaderState → ℕ → Start → Reply Number
@@ -164,22 +165,21 @@ item_reply t (stuck k j) = refused (json_error k) j j
 
 -- An array: its first item.
 abbrev pub array_read : ReaderState → ℕ → Start → Reply (Option ℕ)
-array_read s i start.Array = item_reply s.text (step s.text array_opened (i + 1))
+array_read s i start.Array = item_reply s.text (step s.text array_first (i + 1))
 array_read s i b = refused_as s i array b
 
 -- The call array_step: behind an item, the next one.
 abbrev pub item_step : ReaderState → Reply (Option ℕ)
-item_step s = item_reply s.text (step s.text (array_continued s.text) s.position)
+item_step s = item_reply s.text (step s.text (array_step s.text) s.position)
 
 -- a key and its colon; what follows the colon is not looked at
-abbrev pub colon_reply : Text → Step → Reply (Option Text)
-colon_reply key (more j) = gave (Some key) j
-colon_reply key (closed e) = gave (Some key) e
-colon_reply key (stuck k j) = refused (json_error k) j j
+abbrev pub colon_reply : Text → Extent → Reply (Option Text)
+colon_reply key (taken u j) = gave (Some key) j
+colon_reply key (failed k j) = refused (json_error k) j j
 
 -- the same of a key that begins at i
 abbrev pub key_reply : List ℕ → ℕ → Scanned Text → Reply (Option Text)
-key_reply t i (taken key e) = colon_reply key (step t key_colon e)
+key_reply t i (taken key e) = colon_reply key (step t colon e)
 key_reply t i (failed k j) = refused (json_error k) j i
 
 -- the next key of this form, with its colon consumed; or none, and the closer was consumed
@@ -190,12 +190,12 @@ member_reply f t (stuck k j) = refused (json_error k) j j
 
 -- An object: its first key. The form is `whole` for a text and `raw` for bytes.
 abbrev pub object_read : Form → ReaderState → ℕ → Start → Reply (Option Text)
-object_read f s i start.Object = member_reply f s.text (step s.text object_opened (i + 1))
+object_read f s i start.Object = member_reply f s.text (step s.text object_first (i + 1))
 object_read f s i b = refused_as s i object b
 
 -- The calls next_key and next_key_bytes: behind a member, the next key.
 abbrev pub key_step : Form → ReaderState → Reply (Option Text)
-key_step f s = member_reply f s.text (step s.text (object_continued s.text) s.position)
+key_step f s = member_reply f s.text (step s.text (object_step s.text) s.position)
 
 -- nothing may stand at i
 abbrev pub end_reply : ℕ → Option ℕ → Reply (Unit {0})

@@ -8,7 +8,7 @@ use Rattle.jiter_value.specs.Value.{view, views, member_views}
 use Rattle.jiter_value.specs.Read.{member_view}
 use Rattle.jiter_value.specs.declared.value.JsonValue.{JsonValue, Array, Object, the_lemmas}
 
-member_views_is : (ms : List (CowStr Global × JsonValue)) → member_views ms ≡ members_of (map member_view ms)
+pub member_views_is : (ms : List (CowStr Global × JsonValue)) → member_views ms ≡ members_of (map member_view ms)
 member_views_is [] = refl
 member_views_is (m ∷ ms) = ap (member (text_seen m.0) (view m.1)) (member_views_is ms)
 

@@ -7,10 +7,11 @@ use Rattle.std.specs.Fmt.{decimal, signed_decimal}
 use Rattle.std.proofs.lemmas.Bool.{lt-ltb, le-leb, ltb-true, leb-true}
 use Rattle.std.proofs.lemmas.Bool.Decides.{nat_tests}
 use Rattle.std.proofs.lemmas.Fmt.{decimal_by_steps, length-decimal-le}
-use Rattle.jiter_scan.specs.Digits.{is_digit, decimal_after, decimal_of}
+use Rattle.jiter_scan.specs.Digits.{is_digit, decimal_of}
 use Rattle.jiter_scan.specs.Number.{Number, integer, big, float, AreDigits, IsWhole, IsDecimal, IsNumberText}
 use Rattle.jiter_scan.specs.Number.{digit_limit, is_float_byte, is_integral, minus_of, positive_value, negative_value}
 use Rattle.jiter_scan.specs.Number.{integral_value, number_value}
+use Rattle.jiter_scan.proofs.Digits.{decimal_of-push}
 use Rattle.jiter_scan.proofs.Choices.{if_case, if-true, if-false}
 use Rattle.jiter_steps.specs.Node.{number_tree}
 use Rattle.look.specs.Print.{print_of}
@@ -19,10 +20,6 @@ use Rattle.look.specs.Print.{print_of}
 are_digits-append : (u v : List ℕ) → AreDigits u → AreDigits v → AreDigits (u ++ v)
 are_digits-append [] v h g = g
 are_digits-append (c ∷ u) v h g = (h.0, are_digits-append u v h.1 g)
-
-decimal_after-push : (u : List ℕ) (n d : ℕ) → decimal_after n (u ++ (d ∷ [])) ≡ decimal_after n u * 10 + (d - 48)
-decimal_after-push [] n d = refl
-decimal_after-push (c ∷ u) n d = decimal_after-push u (n * 10 + (c - 48)) d
 
 -- these digits are written for n
 record Writes (n : ℕ) (w : List ℕ) : Type 0 where
@@ -39,17 +36,17 @@ writes-more : (n : ℕ) (w : List ℕ) → 10 ≤ n → Writes (n / 10) w → Wr
 writes-more n [] l h = absurd h.whole
 writes-more n (c ∷ cs) l h =
     let last : AreDigits ((48 + n % 10) ∷ []) = (glyph-digit (n % 10) (omega arith), tt) in
-    let more = decimal_after-push (c ∷ cs) 0 (48 + n % 10) in
-    let front : decimal_after 0 (c ∷ cs) ≡ n / 10 = h.value in
+    let more = decimal_of-push (c ∷ cs) (48 + n % 10) in
+    let front : decimal_of (c ∷ cs) ≡ n / 10 = h.value in
     let digits = are_digits-append cs ((48 + n % 10) ∷ []) h.whole.0.1 last in
     record { whole = ((h.whole.0.0, digits), inr (λ e. first e h.whole.1)); value = more ∙ value front } where
-      value : decimal_after 0 (c ∷ cs) ≡ n / 10 → decimal_after 0 (c ∷ cs) * 10 + (48 + n % 10 - 48) ≡ n
+      value : decimal_of (c ∷ cs) ≡ n / 10 → decimal_of (c ∷ cs) * 10 + (48 + n % 10 - 48) ≡ n
       value e = omega (arith, e)
 
       first : c ≡ 48 → (cs ≡ []) ⊎ (c ≢ 48) → ⊥
       first e (inr other) = other e
       first e (inl none) =
-          let v : decimal_after 0 (c ∷ []) ≡ n / 10 = ap (λ x. decimal_after 0 (c ∷ x)) (sym none) ∙ h.value in
+          let v : decimal_of (c ∷ []) ≡ n / 10 = ap (λ x. decimal_of (c ∷ x)) (sym none) ∙ h.value in
           omega (arith, v, e)
 
 decimal-writes : (n : ℕ) → n < 2 ^ 64 → Writes n (decimal n)

@@ -5,9 +5,10 @@ use Rattle.std.proofs.lemmas.List.{append-nil, map_more, length-map, length-take
 use Rattle.std.specs.declared.alloc.Global.{Global}
 use Rattle.std.specs.declared.borrow.CowStr.{CowStr}
 use Rattle.jiter_steps.specs.Tree.{Text, Tree, items_of, members_of}
-use Rattle.jiter_value.specs.View.{view, views, member_views}
+use Rattle.jiter_value.specs.Value.{view, views, member_views}
 use Rattle.jiter_value.specs.declared.value.JsonValue.{JsonValue}
-use Rattle.jiter_value.proofs.Views.{seen, member_views_is}
+use Rattle.jiter_value.specs.Read.{member_view}
+use Rattle.jiter_value.proofs.Views.{member_views_is}
 use Rattle.look.specs.Print.{comma, print_text, print_of, print_items, print_more_items, print_members}
 use Rattle.look.specs.Print.{print_more_members}
 
@@ -60,12 +61,12 @@ members_push (u ∷ us) m =
 
 pub members_more : (xs : List (CowStr Global × JsonValue)) (i : ℕ) (d : CowStr Global × JsonValue) → i < length xs
     → print_members (member_views (take (i + 1) xs))
-    ≡ print_members (member_views (take i xs)) ++ (comma i ++ print_member (seen (get_or xs i d)))
+    ≡ print_members (member_views (take i xs)) ++ (comma i ++ print_member (member_view (get_or xs i d)))
 members_more xs i d h =
     ap print_members (member_views_is (take (i + 1) xs))
-    ∙ ap (λ ms. print_members (members_of ms)) (map_more seen xs i d h)
-    ∙ members_push (map seen (take i xs)) (seen (get_or xs i d))
-    ∙ ap (λ n. print_members (members_of (map seen (take i xs))) ++ (comma n ++ print_member (seen (get_or xs i d))))
+    ∙ ap (λ ms. print_members (members_of ms)) (map_more member_view xs i d h)
+    ∙ members_push (map member_view (take i xs)) (member_view (get_or xs i d))
+    ∙ ap (λ n. print_members (members_of (map member_view (take i xs))) ++ (comma n ++ print_member (member_view (get_or xs i d))))
     (simp (length-map, length-take) (omega arith))
-    ∙ ap (λ ms. print_members ms ++ (comma i ++ print_member (seen (get_or xs i d))))
+    ∙ ap (λ ms. print_members ms ++ (comma i ++ print_member (member_view (get_or xs i d))))
     (sym (member_views_is (take i xs)))

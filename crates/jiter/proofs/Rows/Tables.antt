@@ -1,16 +1,7 @@
 -- How a table is written, and what its rows compute.
 use Rattle.std.proofs.Common.{◌≡◌, ℕ, true, false, List, map}
 use Rattle.std.specs.Prelude.{⊤}
-use Rattle.std.specs.Str.{chars, is_utf8}
-use Rattle.std.specs.Str.Lossy.{utf8_valid_len, utf8_error_len}
-use Rattle.std.specs.Char.{encode_utf8}
-use Rattle.jiter_scan.specs.Word.{word_at}
-use Rattle.jiter_scan.specs.Digits.{digit_run}
-use Rattle.jiter_scan.specs.Number.{number_value}
-use Rattle.jiter_scan.specs.NumberReading.{number_at, int_at}
-use Rattle.jiter_steps.specs.Blank.{past_blanks}
-use Rattle.jiter_steps.specs.StringReading.{found_at, body_within, body_at, content_at}
-use Rattle.jiter_steps.specs.Read.{value_at, items_at, members_at}
+use Rattle.jiter_steps.proofs.Computed.{computed_readings}
 use Rattle.jiter_steps.specs.Tree.{Text}
 use Rattle.jiter.specs.Reader.{ReaderState, Reply}
 
@@ -42,6 +33,5 @@ owned w = record { owned = true; bytes = w }
 
 -- what a row unfolds
 unfoldable pub computed_replies : ⊤
-unfolding past_blanks number_at int_at word_at digit_run number_value content_at body_at body_within found_at
-    value_at items_at members_at utf8_valid_len utf8_error_len is_utf8 chars encode_utf8
+unfolding computed_readings
 computed_replies = tt

@@ -1,5 +1,5 @@
 use Rattle.std.proofs.Common.{◌≡◌, ◌++◌, take}
-use Rattle.jiter_value.specs.View.{views, member_views}
+use Rattle.jiter_value.specs.Value.{views, member_views}
 use Rattle.look.specs.Print.{print_items, print_members}
 use Rattle.look.proofs.print.+append.Given as goal
 
