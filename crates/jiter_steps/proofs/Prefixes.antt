@@ -173,7 +173,7 @@ module _ (names : Bool) (t : List ℕ) (k : ℕ) (within : k ≤ length t) where
         let key = key-read m.0 (begin m.1) h (omega (arith, behind-ahead names t m.0.end 58 h.colon h.behind, h.blanks.ordered)) in
         ap MemberAt (sym is.begins)
         ∙ member-value (nodes names) front (Inner room) m.0.begin m.0.end (begin m.1) m.0 (done m.1 e) key
-            (colon-read m.0 m.1 h is.value.spelled lt) (item-whole (begin m.1) m.1 e is.value le)
+        (colon-read m.0 m.1 h is.value.spelled lt) (item-whole (begin m.1) m.1 e is.value le)
 
     short-member : (key : Key) (x : Reading Node) → CutShort k x → CutShort k (with_key key x)
     short-member key (done n e) h = h
@@ -204,7 +204,7 @@ module _ (names : Bool) (t : List ℕ) (k : ℕ) (within : k ≤ length t) where
           let value = item-cut all (begin m.1) m.1 e is.value here gt in
           subst (CutShort k)
           (sym (member-value (nodes names) front (Inner room) m.0.begin m.0.end (begin m.1) m.0 (Inner room (begin m.1)) (key-read m.0 (begin m.1) is.key le)
-            (colon-read m.0 m.1 is.key is.value.spelled here) refl))
+          (colon-read m.0 m.1 is.key is.value.spelled here) refl))
           (short-member m.0 (Inner room (begin m.1)) value)
 
     members-read : InnerCut → (b : ℕ) → ReadsFront t k within (object b) (λ m. m) (λ m x. CutShort k x) 125 (KeyBegins t) (IsMember names t room)

@@ -407,3 +407,6 @@ impl<'j> Parser<'j> {
         }
     }
 }
+
+#[cfg(test)]
+mod tests;

@@ -296,12 +296,7 @@ fn own_text<'j>(
 }
 
 // The tape's bytes of a content that begins at `from`, and how it ends there.
-fn decode_from(
-    tape: &mut Vec<u8>,
-    bytes: &[u8],
-    from: usize,
-    to: usize,
-) -> Result<Ending, Refused>
+fn decode_from(tape: &mut Vec<u8>, bytes: &[u8], from: usize, to: usize) -> Result<Ending, Refused>
     requires within { from ≤ length bytes.now }
     requires stop { to ≡ scan_stop bytes.now from }
     ensures text { IfOk result (λ _. tape.new.items ≡ (body_at bytes.now from).bytes) }
@@ -382,3 +377,6 @@ pub fn string_at<'j>(
         })),
     }
 }
+
+#[cfg(test)]
+mod tests;
