@@ -18,6 +18,7 @@ pub mod Parts
 pub mod Pieces
 pub mod PlacesExplained
 pub mod Prefixes
+pub mod ReadFront
 pub mod RowSteps
 pub mod ScalarLaws
 pub mod Sound
