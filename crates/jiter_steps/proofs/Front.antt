@@ -1,16 +1,17 @@
 -- The front of a text: its bytes, blanks and steps before the place k.
-use Rattle.std.proofs.Common.{◌≡◌, ◌⊎◌, inl, inr, ℕ, zero, suc, ◌+◌, ◌-◌, ◌<◌, ◌≤◌, cond, List, [], ◌∷◌, length, take, drop, refl, sym, ap, ◌∙◌, subst, arith}
+use Rattle.std.proofs.Common.{◌≡◌, ◌⊎◌, inl, inr, ℕ, zero, suc, ◌+◌, ◌-◌, ◌<◌, ◌≤◌, Bool, cond, List, [], ◌∷◌, length, take, drop, refl, sym, ap, ◌∙◌, subst, arith}
 use Rattle.std.specs.Prelude.{slice_get, slice_index, slice_range, Option, Some, None, IfSome}
 use Rattle.std.proofs.lemmas.Bool.{cases_lt, eq-eqb}
 use Rattle.std.proofs.lemmas.List.{get_or-take, length-take-le, drop-take}
 use Rattle.std.proofs.lemmas.Option.{slice_get-get_or, slice_get_past}
 use Rattle.jiter_scan.specs.Kind.{eof_value, expected_ident}
+use Rattle.jiter_scan.specs.Number.{IsNumberText}
 use Rattle.jiter_scan.specs.Scanned.{failed}
 use Rattle.jiter_scan.specs.Stands.{Stands}
 use Rattle.jiter_scan.specs.Word.{byte_then, word_at}
 use Rattle.jiter_scan.proofs.Standing.{stands-length}
 use Rattle.jiter_steps.specs.Blank.{past_blanks, IsBlankByte, IsBlank}
-use Rattle.jiter_steps.specs.Node.{StandsBehind}
+use Rattle.jiter_steps.specs.Node.{StandsBehind, SpellsNumber}
 use Rattle.jiter_steps.specs.Step.{step}
 use Rattle.jiter_steps.proofs.Blanks.{past_blanks-end}
 use Rattle.jiter_steps.proofs.Nodes.{blank-to_end}
@@ -53,6 +54,13 @@ module _ (t : List ℕ) (k : ℕ) (within : k ≤ length t) where
   pub front-stands : (i j : ℕ) (w : List ℕ) → Stands t i j w → j ≤ k → Stands u i j w
   front-stands i j [] h le = h
   front-stands i j (c ∷ w) h le = let after = stands-length t (i + 1) j w h.1 in (front-get i c (omega arith) h.0, front-stands (i + 1) j w h.1 le)
+
+  pub number-front : (names : Bool) (b e : ℕ) → SpellsNumber names t b e → e ≤ k → SpellsNumber names u b e
+  number-front names b e h le = record {
+    ordered = h.ordered;
+    within = omega (arith, front-length);
+    text = subst (IsNumberText names) (sym (front-range b e h.ordered le)) h.text;
+  }
 
   -- a word that is cut ends too early
   pub front-word : (w : List ℕ) (i j : ℕ) → Stands t i j w → i ≤ k → k < j → word_at u w i ≡ failed eof_value k

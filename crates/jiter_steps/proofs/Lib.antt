@@ -22,7 +22,6 @@ pub mod ReadFront
 pub mod RowSteps
 pub mod ScalarLaws
 pub mod Sound
-pub mod SpellsFront
 pub mod StringComplete
 pub mod StringCut
 pub mod StringCutLaws
