@@ -175,8 +175,7 @@ module _ {K A : Type 0} (r : Rules K A) (names : Bool) (t : List ℕ) (k : ℕ) 
       value-reads all (grammar.string ps b e) h d q lt = rules.text ps b e h lt
       value-reads all (grammar.array b e ns) h d q lt =
           let goes = array_of-goes r u good inner inner-within b in
-          let parts = items-parts names t room ns (b + 1) e h.1 d in
-          (
+          let parts = items-parts names t room ns (b + 1) e h.1 d in (
             λ le. container-whole t k within (array b) see IsCut 93 ItemAt (IsItem names t room) (items-front all b) r goes (nodes_list ns) b e parts le
                 ∙ ap (λ a. done a e) (rules.array b e ns),
             λ gt. rules.array-cut inner b e ns goes
@@ -184,8 +183,7 @@ module _ {K A : Type 0} (r : Rules K A) (names : Bool) (t : List ℕ) (k : ℕ) 
           )
       value-reads all (grammar.object b e ms) h d q lt =
           let goes = object_of-goes r u good inner inner-within b in
-          let parts = members-parts names t room ms (b + 1) e h.1 d in
-          (
+          let parts = members-parts names t room ms (b + 1) e h.1 d in (
             λ le. container-whole t k within (object b) see_member IsCutMember 125 KeyBegins (IsMember names t room) (members-front all b) r goes (members_list ms) b e parts le
                 ∙ ap (λ a. done a e) (rules.object b e ms),
             λ gt. rules.object-cut inner b e ms goes
