@@ -34,7 +34,8 @@ values-of : (t : List ℕ) (ns : List Node) → values_of t (nodes_of ns) ≡ it
 values-of t [] = refl
 values-of t (n ∷ ns) = ap (tree.item (value_of t n)) (values-of t ns)
 
-members-of : (t : List ℕ) (ms : List (Key × Node)) → grammar.members_of t (node_members_of ms) ≡ tree.members_of (pairs (key_text t) (value_of t) ms)
+members-of : (t : List ℕ) (ms : List (Key × Node))
+    → grammar.members_of t (node_members_of ms) ≡ tree.members_of (pairs (key_text t) (value_of t) ms)
 members-of t [] = refl
 members-of t (m ∷ ms) = ap (tree.member (key_text t m.0) (value_of t m.1)) (members-of t ms)
 
@@ -46,7 +47,8 @@ module _ (names : Bool) (t : List ℕ) where
 
   -- a value where some node fits, and then the value of that node alone; a fault where none fits
   abbrev pub IsRead : Reading Tree → Type 0
-  IsRead (done v e) = (n : Node) × IsDocument names t n × (value_of t n ≡ v) × ((m : Node) → IsDocument names t m → m ≡ n)
+  IsRead (done v e) =
+      (n : Node) × IsDocument names t n × (value_of t n ≡ v) × ((m : Node) → IsDocument names t m → m ≡ n)
   IsRead (fault k i stop) = (n : Node) → IsDocument names t n → ⊥
 
 module _ (names : Bool) (t : List ℕ) where
@@ -54,20 +56,24 @@ module _ (names : Bool) (t : List ℕ) where
   laws = scalar-laws names t
 
   -- the value of the node read is the value read
-  literal-leads : (l : Literal) (i : ℕ) (x : Extent) → scanned_as (value_of t) (seen_as (λ u e. grammar.literal l i e) x) ≡ seen_as (λ u e. literal_tree l) x
+  literal-leads : (l : Literal) (i : ℕ) (x : Extent)
+      → scanned_as (value_of t) (seen_as (λ u e. grammar.literal l i e) x) ≡ seen_as (λ u e. literal_tree l) x
   literal-leads l i (taken u e) = refl
   literal-leads l i (failed k j) = refl
 
-  number-leads : (i : ℕ) (x : Scanned Number) → number_at names t i ≡ x → scanned_as (value_of t) (seen_as (λ n e. grammar.number i e) x) ≡ seen_as (λ n e. number_tree n) x
+  number-leads : (i : ℕ) (x : Scanned Number) → number_at names t i ≡ x
+      → scanned_as (value_of t) (seen_as (λ n e. grammar.number i e) x) ≡ seen_as (λ n e. number_tree n) x
   number-leads i (taken n e) is = ap (λ m. taken (number_tree m) e) (sym (laws.number-sound i e n is).1)
   number-leads i (failed k j) is = refl
 
   text-leads : (i : ℕ) → slice_get t i ≡ Some 34 → (x : Scanned Text) → string_at whole t i ≡ x
-      → scanned_as (value_of t) (seen_as (λ s e. grammar.string (pieces_from t (i + 1) (chars s.bytes)) i e) x) ≡ seen_as (λ s e. tree.string s) x
+      → scanned_as (value_of t) (seen_as (λ s e. grammar.string (pieces_from t (i + 1) (chars s.bytes)) i e) x)
+      ≡ seen_as (λ s e. tree.string s) x
   text-leads i quote (taken s e) is = ap (λ m. taken (tree.string m) e) (sym (laws.string-sound i e s quote is).1)
   text-leads i quote (failed k j) is = refl
 
-  key-leads : (i : ℕ) → slice_get t i ≡ Some 34 → (x : Scanned Text) → string_at whole t i ≡ x → scanned_as (key_text t) (seen_as (key_of t i) x) ≡ x
+  key-leads : (i : ℕ) → slice_get t i ≡ Some 34 → (x : Scanned Text) → string_at whole t i ≡ x
+      → scanned_as (key_text t) (seen_as (key_of t i) x) ≡ x
   key-leads i quote (taken s e) is = ap (λ m. taken m e) (sym (laws.string-sound i e s quote is).1)
   key-leads i quote (failed k j) is = refl
 
@@ -85,7 +91,8 @@ module _ (names : Bool) (t : List ℕ) where
   pub answer-value : mapped (value_of t) (whole_answer (nodes names) t) ≡ answer names t
   answer-value = whole_answer-mapped (nodes names) (whole_trees names) (key_text t) (value_of t) t nodes-lead
 
-  if_last-fits : (i : ℕ) → IsBlank t 0 i → (n : Node) (e : ℕ) → Sound names t nesting_limit i (done n e) → (o : Option ℕ)
+  if_last-fits : (i : ℕ) → IsBlank t 0 i → (n : Node) (e : ℕ) → Sound names t nesting_limit i (done n e)
+      → (o : Option ℕ)
       → slice_get t (past_blanks t e) ≡ o → Fits names t (if_last n e (past_blanks t e) o)
   if_last-fits i before n e is None at =
       let last = at_length t (past_blanks t e) (past_blanks-bound t e is.0.within) at in
@@ -100,14 +107,17 @@ module _ (names : Bool) (t : List ℕ) where
       )
   if_last-fits i before n e is (Some c) at = tt
 
-  to_end-fits : (i : ℕ) → IsBlank t 0 i → (x : Reading Node) → Sound names t nesting_limit i x → Fits names t (to_end t x)
+  to_end-fits : (i : ℕ) → IsBlank t 0 i → (x : Reading Node) → Sound names t nesting_limit i x
+      → Fits names t (to_end t x)
   to_end-fits i before (done n e) is = if_last-fits i before n e is (slice_get t (past_blanks t e)) refl
   to_end-fits i before (fault k x stop) is = tt
 
-  if_begun-fits : (i : ℕ) → IsBlank t 0 i → (o : Option ℕ) → slice_get t i ≡ o → Fits names t (to_end t (if_begun (nodes names) t i o))
+  if_begun-fits : (i : ℕ) → IsBlank t 0 i → (o : Option ℕ) → slice_get t i ≡ o
+      → Fits names t (to_end t (if_begun (nodes names) t i o))
   if_begun-fits i before None e = tt
   if_begun-fits i before (Some c) e =
-      to_end-fits i before (value_at (nodes names) t nesting_limit i) (value_at-sound names t nesting_limit i (slice_get_within t i c e))
+      to_end-fits i before (value_at (nodes names) t nesting_limit i)
+      (value_at-sound names t nesting_limit i (slice_get_within t i c e))
 
   -- What is read is a document.
   pub answer-sound : Fits names t (whole_answer (nodes names) t)
@@ -129,13 +139,15 @@ module _ (names : Bool) (t : List ℕ) where
   answer-complete n d =
       let last = blank-to_end t (end n) d.after in
       ap (to_end t) (front-complete n d)
-      ∙ ap (λ j. if_last n (end n) j (slice_get t j)) last ∙ ap (if_last n (end n) (length t)) (slice_get_past t (length t) (omega arith))
+      ∙ ap (λ j. if_last n (end n) j (slice_get t j)) last
+      ∙ ap (if_last n (end n) (length t)) (slice_get_past t (length t) (omega arith))
 
   -- At most one node fits a text.
   pub one_node : (n m : Node) → IsDocument names t n → IsDocument names t m → n ≡ m
   one_node n m d e = let same = sym (answer-complete n d) ∙ answer-complete m e in cc
 
-  read-mapped : (x : Reading Node) → Fits names t x → whole_answer (nodes names) t ≡ x → IsRead names t (mapped (value_of t) x)
+  read-mapped : (x : Reading Node) → Fits names t x → whole_answer (nodes names) t ≡ x
+      → IsRead names t (mapped (value_of t) x)
   read-mapped (done n e) d is = (n, d.0, refl, λ m other. one_node m n other d.0)
   read-mapped (fault k i stop) d is = λ n doc. let clash = sym is ∙ answer-complete n doc in cc
 

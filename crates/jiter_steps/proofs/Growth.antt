@@ -4,8 +4,9 @@ use Rattle.std.specs.Str.{encode_utf8_all}
 use Rattle.std.proofs.lemmas.Bool.{cases_lt, le-leb, lt-leb, leb-true, leb-false}
 use Rattle.std.proofs.lemmas.List.{map-append}
 use Rattle.std.proofs.lemmas.Str.{encodes-append}
-use Rattle.jiter_scan.specs.Number.{number_value, is_number_text}
-use Rattle.jiter_scan.specs.Mode.{allows_trailing_strings}
+use Rattle.jiter_scan.specs.Number.{number_value}
+use Rattle.jiter_scan.specs.NumberReading.{is_number_text}
+use Rattle.jiter_scan.specs.PartialMode.{allows_trailing_strings}
 use Rattle.jiter_scan.specs.declared.partial_mode.PartialMode.{PartialMode}
 use Rattle.jiter_scan.proofs.Choices.{if_case, if-true, if-false}
 use Rattle.jiter_scan.proofs.NumberTests.{number_text-decides}

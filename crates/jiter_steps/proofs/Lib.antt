@@ -20,6 +20,7 @@ pub mod PlacesExplained
 pub mod Prefixes
 pub mod ReadFront
 pub mod RowSteps
+mod Rows
 pub mod ScalarLaws
 pub mod Sound
 pub mod StringComplete

@@ -1,5 +1,5 @@
 -- The parts of a container, one behind another: those that a text has, and those that are read. They are the same.
-use Rattle.std.proofs.Common.{◌≡◌, ℕ, zero, suc, ◌+◌, ◌<◌, ◌≤◌, Bool, true, false, cond, List, [], ◌∷◌, ◌++◌, length, refl, sym, ap, ◌∙◌, subst, arith, append-nil, append_assoc}
+use Rattle.std.proofs.Common.{◌≡◌, ℕ, zero, suc, ◌+◌, ◌<◌, false, cond, List, [], ◌∷◌, ◌++◌, length, refl, sym, ap, ◌∙◌, subst, arith, append-nil, append_assoc}
 use Rattle.jiter_scan.specs.Kind.{Kind}
 use Rattle.jiter_steps.specs.Blank.{IsBlank}
 use Rattle.jiter_steps.specs.Node.{StandsBehind}
@@ -33,7 +33,8 @@ module _ {P : Type 0} (t : List ℕ) (closer : ℕ) (Begins : ℕ → Type 0) (I
   pub record Grammar (Are MoreAre : List P → ℕ → ℕ → Type 0) : Type 0 where
     pub none : (i e : ℕ) → StandsBehind t i closer e → Are [] i e
     pub no_more : (i e : ℕ) → StandsBehind t i closer e → MoreAre [] i e
-    pub part : (p : P) (ps : List P) (i j m e : ℕ) → IsBlank t i j → Begins j → IsPart j p m → MoreAre ps m e → Are (p ∷ ps) i e
+    pub part : (p : P) (ps : List P) (i j m e : ℕ) → IsBlank t i j → Begins j → IsPart j p m → MoreAre ps m e
+        → Are (p ∷ ps) i e
     pub comma : (p : P) (ps : List P) (i c e : ℕ) → StandsBehind t i 44 c → Are (p ∷ ps) c e → MoreAre (p ∷ ps) i e
 
   module _ (Are MoreAre : List P → ℕ → ℕ → Type 0) (grammar : Grammar Are MoreAre) where
@@ -41,45 +42,53 @@ module _ {P : Type 0} (t : List ℕ) (closer : ℕ) (Begins : ℕ → Type 0) (I
     more-are [] i e h = grammar.no_more i e h
     more-are (p ∷ ps) i e h =
         let x = h.2 in
-        grammar.comma p ps i h.0 e h.1 (grammar.part p ps h.0 x.begin x.end e x.blanks x.begins x.is (more-are ps x.end e x.rest))
+        grammar.comma p ps i h.0 e h.1
+        (grammar.part p ps h.0 x.begin x.end e x.blanks x.begins x.is (more-are ps x.end e x.rest))
 
     pub parts-are : (ps : List P) (i e : ℕ) → Parts ps i e → Are ps i e
     parts-are [] i e h = grammar.none i e h
     parts-are (p ∷ ps) i e h = grammar.part p ps i h.begin h.end e h.blanks h.begins h.is (more-are ps h.end e h.rest)
 
-module _ {K P A : Type 0} (r : Rules K A) (t : List ℕ) (c : Container P A) (closer : ℕ) (Begins : ℕ → Type 0) where
-  -- c reads the part p from i to e
-  abbrev pub Reads : ℕ → P → ℕ → Type 0
-  Reads i p e = c.part i ≡ done p e
+-- c reads the part p from i to e
+abbrev pub Reads : {P A : Type 0} → Container P A → ℕ → P → ℕ → Type 0
+Reads c i p e = c.part i ≡ done p e
 
+module _ {K P A : Type 0} (r : Rules K A) (t : List ℕ) (c : Container P A) (closer : ℕ) (Begins : ℕ → Type 0) where
   abbrev pub ReadParts : List P → ℕ → ℕ → Type 0
-  ReadParts ps i e = Parts t closer Begins Reads ps i e
+  ReadParts ps i e = Parts t closer Begins (Reads c) ps i e
 
   -- built of the parts that are read from b on
   abbrev pub BuiltOf : ℕ → Reading A → Type 0
   BuiltOf b (done a e) = (ps : List P) × (a ≡ c.build e ps) × ReadParts ps b e
   BuiltOf b (fault k x stop) = Unit {0}
 
-  module _ (strict : (k : Kind) → r.forgives k ≡ false) (delimits : Delimits t c.first c.next closer Begins) (goes : Goes c t) where
+  module _ (strict : (k : Kind) → r.forgives k ≡ false) (delimits : Delimits t c.first c.next closer Begins)
+      (goes : Goes c t) where
     -- these parts are read from b on, and the next one is to begin at i
     abbrev SoFar : ℕ → ℕ → List P → Type 0
-    SoFar b i ps = (p : P) (rest : List P) (m e : ℕ) → Reads i p m → MoreParts t closer Begins Reads rest m e → ReadParts (ps ++ p ∷ rest) b e
+    SoFar b i ps =
+        (p : P) (rest : List P) (m e : ℕ) → Reads c i p m → MoreParts t closer Begins (Reads c) rest m e
+        → ReadParts (ps ++ p ∷ rest) b e
 
     first-part : (b i : ℕ) → PartBehind t Begins b i → SoFar b i []
-    first-part b i h p rest m e is more_parts = record { begin = i; end = m; blanks = h.blanks; begins = h.begins; is = is; rest = more_parts }
+    first-part b i h p rest m e is more_parts =
+        record { begin = i; end = m; blanks = h.blanks; begins = h.begins; is = is; rest = more_parts }
 
-    next-part : (b i j m : ℕ) (ps : List P) (p : P) → SoFar b i ps → Reads i p m → Behind t m 44 (PartBehind t Begins) j → SoFar b j (ps ++ p ∷ [])
+    next-part : (b i j m : ℕ) (ps : List P) (p : P) → SoFar b i ps → Reads c i p m
+        → Behind t m 44 (PartBehind t Begins) j → SoFar b j (ps ++ p ∷ [])
     next-part b i j m ps p so is h q rest n e also more_parts =
         subst (λ l. ReadParts l b e) (sym (append_assoc ps (p ∷ []) (q ∷ rest)))
-        (so p (q ∷ rest) m e is (h.0, h.1, record { begin = j; end = n; blanks = h.2.blanks; begins = h.2.begins; is = also; rest = more_parts }))
+        (so p (q ∷ rest) m e is (h.0, h.1, first-part h.0 j h.2 q rest n e also more_parts))
 
     fault-built : (b : ℕ) (close : ℕ → A) (k : Kind) (x stop : ℕ) → BuiltOf b (if_forgiven r close k x stop)
-    fault-built b close k x stop = subst (λ y. BuiltOf b (cond y (done (close stop) stop) (fault k x stop))) (sym (strict k)) tt
+    fault-built b close k x stop =
+        subst (λ y. BuiltOf b (cond y (done (close stop) stop) (fault k x stop))) (sym (strict k)) tt
 
     abbrev GoesOn : ℕ → (List P → ℕ → Reading A) → Type 0
     GoesOn b next = (ps : List P) (j : ℕ) → Begins j → SoFar b j ps → BuiltOf b (next ps j)
 
-    follow-built : (b i m : ℕ) (ps : List P) (p : P) (next : List P → ℕ → Reading A) → GoesOn b next → SoFar b i ps → Reads i p m
+    follow-built : (b i m : ℕ) (ps : List P) (p : P) (next : List P → ℕ → Reading A) → GoesOn b next → SoFar b i ps
+        → Reads c i p m
         → (s : Step) → StepIs t m closer (Behind t m 44 (PartBehind t Begins)) s
         → BuiltOf b (follow r (next (ps ++ p ∷ [])) (λ e. c.build e (ps ++ p ∷ [])) s)
     follow-built b i m ps p next go so is (more j) h = go (ps ++ p ∷ []) j h.2.begins (next-part b i j m ps p so is h)
@@ -88,14 +97,16 @@ module _ {K P A : Type 0} (r : Rules K A) (t : List ℕ) (c : Container P A) (cl
 
     part-built : (b i : ℕ) (ps : List P) (next : List P → ℕ → Reading A) → GoesOn b next → SoFar b i ps
         → (x : Reading P) → c.part i ≡ x → Within t i x → BuiltOf b (behind_part r c t next ps x)
-    part-built b i ps next go so (done p m) is w = follow-built b i m ps p next go so is (step t c.next m) (delimits.next-is m w.1)
+    part-built b i ps next go so (done p m) is w =
+        follow-built b i m ps p next go so is (step t c.next m) (delimits.next-is m w.1)
     part-built b i ps next go so (fault k x stop) is w = fault-built b (λ e. c.build e ps) k x stop
 
     parts-built : (b n : ℕ) (ps : List P) (i : ℕ) → Begins i → SoFar b i ps → BuiltOf b (parts_at r c t n ps i)
     unfolding parts_at
     parts-built b zero ps i at so = tt
     parts-built b (suc n) ps i at so =
-        part-built b i ps (λ more_parts j. parts_at r c t n more_parts j) (λ more_parts j begins so_far. parts-built b n more_parts j begins so_far)
+        part-built b i ps (λ more_parts j. parts_at r c t n more_parts j)
+        (λ more_parts j begins so_far. parts-built b n more_parts j begins so_far)
         so (c.part i) refl (goes.part i (delimits.within i at))
 
     bracket-built : (b : ℕ) (s : Step) → StepIs t b closer (PartBehind t Begins b) s
@@ -110,19 +121,20 @@ module _ {K P A : Type 0} (r : Rules K A) (t : List ℕ) (c : Container P A) (cl
 
   module _ (delimits : Delimits t c.first c.next closer Begins) (goes : Goes c t) where
     -- behind these parts
-    abbrev pub BehindParts : List P → Step → Reading A
+    abbrev BehindParts : List P → Step → Reading A
     BehindParts ps s = follow r (parts_at r c t (length t) ps) (λ e. c.build e ps) s
 
-    pub one-part : (ps : List P) (p : P) (i m : ℕ) → Begins i → Reads i p m
+    one-part : (ps : List P) (p : P) (i m : ℕ) → Begins i → Reads c i p m
         → parts_at r c t (length t) ps i ≡ BehindParts (ps ++ p ∷ []) (step t c.next m)
     one-part ps p i m at is = parts-part r t c goes i m ps p _ (delimits.within i at) is refl
 
     -- A container whose parts stand one behind another is read, where each of them is.
-    module _ (IsPart : ℕ → P → ℕ → Type 0) (each : (i : ℕ) (p : P) (e : ℕ) → IsPart i p e → Reads i p e) where
+    module _ (IsPart : ℕ → P → ℕ → Type 0) (each : (i : ℕ) (p : P) (e : ℕ) → IsPart i p e → Reads c i p e) where
       more-read : (so_far ps : List P) (i e : ℕ) → MoreParts t closer Begins IsPart ps i e
           → BehindParts so_far (step t c.next i) ≡ done (c.build e (so_far ++ ps)) e
       more-read so_far [] i e h =
-          ap (BehindParts so_far) (delimits.next-closed i e h) ∙ ap (λ l. done (c.build e l) e) (sym (append-nil so_far))
+          ap (BehindParts so_far) (delimits.next-closed i e h)
+          ∙ ap (λ l. done (c.build e l) e) (sym (append-nil so_far))
       more-read so_far (p ∷ ps) i e h =
           let x = h.2 in
           ap (BehindParts so_far) (delimits.next-more i h.0 x.begin h.1 x.blanks x.begins)

@@ -1,5 +1,5 @@
 -- What is read is spelled so.
-use Rattle.std.proofs.Common.{◌≡◌, ℕ, zero, suc, ◌+◌, ◌<◌, ◌≤◌, Bool, List, [], ◌∷◌, length, refl, sym, ap, ◌∙◌, subst, arith}
+use Rattle.std.proofs.Common.{◌≡◌, ℕ, zero, suc, ◌+◌, ◌<◌, ◌≤◌, Bool, List, length, refl, sym, ap, ◌∙◌, subst, arith}
 use Rattle.std.specs.Prelude.{slice_get, slice_index, Some}
 use Rattle.std.specs.Str.{chars}
 use Rattle.std.proofs.lemmas.Option.{slice_get-get_or, slice_get_within}
@@ -16,7 +16,7 @@ use Rattle.jiter_steps.specs.Node as grammar
 use Rattle.jiter_steps.specs.Node.{Key, Node, Nodes, no_nodes, node, NodeMembers, no_members, member, begin, end, StandsBehind, SpellsNumber, SpellsKey, Spells, SpellsItems, SpellsMoreItems, SpellsMembers, SpellsMoreMembers, nesting, nesting_round, nesting_round_members}
 use Rattle.jiter_steps.specs.Piece.{SpellsString}
 use Rattle.jiter_steps.specs.Read.{Reading, done, fault, Container, scalar_at, with_key, behind_colon, behind_key, container_at, array_of, object_of, value_with, inside_at, value_at}
-use Rattle.jiter_steps.specs.Step.{step, object_colon}
+use Rattle.jiter_steps.specs.Step.{object_colon}
 use Rattle.jiter_steps.specs.StringReading.{whole, string_at}
 use Rattle.jiter_steps.specs.Tree.{Text}
 use Rattle.jiter_steps.specs.declared.parse.Literal.{Literal}
@@ -32,7 +32,8 @@ use Rattle.jiter_steps.proofs.RowSteps.{ByteAt, ItemAt, KeyBegins, PartBehind, B
 use Rattle.jiter_steps.proofs.ScalarLaws.{ScalarLaws, scalar-laws}
 use Rattle.jiter_steps.proofs.Values.{AllWithin, Goes, array_of-goes, object_of-goes, container_at-within, inside_at-within}
 
-round-items : (n : Node) (ns : Nodes) (room : ℕ) → nesting n < room → nesting_round ns ≤ room → nesting_round (node n ns) ≤ room
+round-items : (n : Node) (ns : Nodes) (room : ℕ) → nesting n < room → nesting_round ns ≤ room
+    → nesting_round (node n ns) ≤ room
 round-items n no_nodes room d h = omega arith
 round-items n (node m ns) room d h = omega arith
 
@@ -80,28 +81,30 @@ module _ (names : Bool) (t : List ℕ) where
   laws : ScalarLaws names t
   laws = scalar-laws names t
 
-  closer-within : (i c e : ℕ) → StandsBehind t i c e → e ≤ length t
-  closer-within i c e h = let inside = slice_get_within t h.at c h.here in omega (arith, h.ends)
+  sound-at : (room : ℕ) (n : Node) → Spells names t n → end n ≤ length t → nesting n ≤ room
+      → Sound names t room (begin n) (done n (end n))
+  sound-at room n h le d = (record { spelled = h; begins = refl; ends = refl; within = le }, d)
 
   -- scalars
   literal-sound : (room i : ℕ) (l : Literal) (x : Extent) → literal_at t l i ≡ x → ScalarWithin t i x
       → Sound names t room i (scalar_at i (seen_as (λ u e. grammar.literal l i e) x))
   literal-sound room i l (taken u e) is w =
-      (record { spelled = laws.literal-sound l i e is; begins = refl; ends = refl; within = w.1 }, omega arith)
+      sound-at room (grammar.literal l i e) (laws.literal-sound l i e is) w.1 (omega arith)
   literal-sound room i l (failed k j) is w = tt
 
   number-sound : (room i : ℕ) (x : Scanned Number) → number_at names t i ≡ x → ScalarWithin t i x
       → Sound names t room i (scalar_at i (seen_as (λ n e. grammar.number i e) x))
   number-sound room i (taken n e) is w =
       let spelled : SpellsNumber names t i e =
-          record { ordered = omega (arith, w.0); within = w.1; text = (laws.number-sound i e n is).0 } in
-      (record { spelled = spelled; begins = refl; ends = refl; within = w.1 }, omega arith)
+      record { ordered = omega (arith, w.0); within = w.1; text = (laws.number-sound i e n is).0 } in
+      sound-at room (grammar.number i e) spelled w.1 (omega arith)
   number-sound room i (failed k j) is w = tt
 
   text-sound : (room i : ℕ) (x : Scanned Text) → slice_get t i ≡ Some 34 → string_at whole t i ≡ x → ScalarWithin t i x
-      → Sound names t room i (scalar_at i (seen_as (λ s e. grammar.string (pieces_from t (i + 1) (chars s.bytes)) i e) x))
+      → Sound names t room i
+      (scalar_at i (seen_as (λ s e. grammar.string (pieces_from t (i + 1) (chars s.bytes)) i e) x))
   text-sound room i (taken s e) here is w =
-      (record { spelled = (laws.string-sound i e s here is).0; begins = refl; ends = refl; within = w.1 }, omega arith)
+      sound-at room (grammar.string _ i e) (laws.string-sound i e s here is).0 w.1 (omega arith)
   text-sound room i (failed k j) here is w = tt
 
   module _ (room : ℕ) where
@@ -112,28 +115,34 @@ module _ (names : Bool) (t : List ℕ) where
     InnerSound = (i : ℕ) → i < length t → InsideSound names t room i (inner i)
 
     -- a member: its key, its colon and its value
-    with_key-sound : (i colon j : ℕ) (k : Key) → k.begin ≡ i → SpellsString t k.begin k.pieces k.end → StandsBehind t k.end 58 colon
-        → PartBehind t (ByteAt t) colon j → (x : Reading Node) → InsideSound names t room j x → MemberSound names t room i (with_key k x)
+    with_key-sound : (i colon j : ℕ) (k : Key) → k.begin ≡ i → SpellsString t k.begin k.pieces k.end
+        → StandsBehind t k.end 58 colon
+        → PartBehind t (ByteAt t) colon j → (x : Reading Node) → InsideSound names t room j x
+        → MemberSound names t room i (with_key k x)
     with_key-sound i colon j k begins string behind h (done n d) is =
         let at = sym is.0.begins in
+        let blanks = subst (IsBlank t colon) at h.blanks in
         record {
           begins = begins;
-          key = record { string = string; colon = colon; behind = behind; blanks = subst (IsBlank t colon) at h.blanks };
+          key = record { string = string; colon = colon; behind = behind; blanks = blanks };
           value = subst (λ b. IsNodeAt names t b n d) at is.0;
           limit = is.1;
         }
     with_key-sound i colon j k begins string behind h (fault kind x stop) is = tt
 
-    behind_colon-sound : InnerSound → (i : ℕ) (k : Key) → k.begin ≡ i → SpellsString t k.begin k.pieces k.end → (x : Extent)
-        → ExtentIs (Behind t k.end 58 (PartBehind t (ByteAt t))) x → MemberSound names t room i (behind_colon k inner x)
+    behind_colon-sound : InnerSound → (i : ℕ) (k : Key) → k.begin ≡ i → SpellsString t k.begin k.pieces k.end
+        → (x : Extent) → ExtentIs (Behind t k.end 58 (PartBehind t (ByteAt t))) x
+        → MemberSound names t room i (behind_colon k inner x)
     behind_colon-sound all i k begins string (taken u j) h =
-        with_key-sound i h.0 j k begins string h.1 h.2 (inner j) (all j (slice_get_within t j h.2.begins.byte h.2.begins.here))
+        with_key-sound i h.0 j k begins string h.1 h.2 (inner j)
+        (all j (slice_get_within t j h.2.begins.byte h.2.begins.here))
     behind_colon-sound all i k begins string (failed kind j) h = tt
 
-    behind_key-sound : InnerSound → (i : ℕ) → KeyBegins t i → (x : Scanned Text) → string_at whole t i ≡ x → ScalarWithin t i x
-        → MemberSound names t room i (behind_key inner t i (seen_as (key_of t i) x))
+    behind_key-sound : InnerSound → (i : ℕ) → KeyBegins t i → (x : Scanned Text) → string_at whole t i ≡ x
+        → ScalarWithin t i x → MemberSound names t room i (behind_key inner t i (seen_as (key_of t i) x))
     behind_key-sound all i quote (taken s e) is w =
-        behind_colon-sound all i (key_of t i s e) refl (laws.string-sound i e s quote is).0 (object_colon t e) (object_colon-is t e w.1)
+        behind_colon-sound all i (key_of t i s e) refl (laws.string-sound i e s quote is).0 (object_colon t e)
+        (object_colon-is t e w.1)
     behind_key-sound all i quote (failed k j) is w = tt
 
     -- the containers whose values are read inside
@@ -160,31 +169,36 @@ module _ (names : Bool) (t : List ℕ) where
     MoreItemsAre ns i e = SpellsMoreItems names t i (nodes_of ns) e × (nesting_round (nodes_of ns) ≤ room)
 
     abbrev MembersAre : List (Key × Node) → ℕ → ℕ → Type 0
-    MembersAre ms i e = SpellsMembers names t i (node_members_of ms) e × (nesting_round_members (node_members_of ms) ≤ room)
+    MembersAre ms i e =
+        SpellsMembers names t i (node_members_of ms) e × (nesting_round_members (node_members_of ms) ≤ room)
 
     abbrev MoreMembersAre : List (Key × Node) → ℕ → ℕ → Type 0
-    MoreMembersAre ms i e = SpellsMoreMembers names t i (node_members_of ms) e × (nesting_round_members (node_members_of ms) ≤ room)
+    MoreMembersAre ms i e =
+        SpellsMoreMembers names t i (node_members_of ms) e × (nesting_round_members (node_members_of ms) ≤ room)
 
-    items-grammar : InnerSound → (b : ℕ) → Grammar t 93 (ItemAt t) (Reads (nodes names) t (array b) 93 (ItemAt t)) ItemsAre MoreItemsAre
+    items-grammar : InnerSound → (b : ℕ)
+        → Grammar t 93 (ItemAt t) (Reads (array b)) ItemsAre MoreItemsAre
     items-grammar all b = record {
       none = λ i e h. (h, omega arith);
       no_more = λ i e h. (h, omega arith);
       part = λ n ns i j m e blanks at is rest.
           let x = subst (InsideSound names t room j) is (all j (slice_get_within t j at.byte at.here)) in
           let more_items = subst (λ k. SpellsMoreItems names t k (nodes_of ns) e) (sym x.0.ends) rest.0 in
-          ((subst (IsBlank t i) (sym x.0.begins) blanks, x.0.spelled, more_items), round-items n (nodes_of ns) room x.1 rest.1);
+          let blanks = subst (IsBlank t i) (sym x.0.begins) blanks in
+          ((blanks, x.0.spelled, more_items), round-items n (nodes_of ns) room x.1 rest.1);
       comma = λ n ns i c e h x. ((c, h, x.0.0, x.0.1, x.0.2), x.1);
     }
 
     members-grammar : InnerSound → (b : ℕ)
-        → Grammar t 125 (KeyBegins t) (Reads (nodes names) t (object b) 125 (KeyBegins t)) MembersAre MoreMembersAre
+        → Grammar t 125 (KeyBegins t) (Reads (object b)) MembersAre MoreMembersAre
     members-grammar all b = record {
       none = λ i e h. (h, omega arith);
       no_more = λ i e h. (h, omega arith);
       part = λ p ms i j m e blanks quote is rest.
           let key = behind_key-sound all j quote _ refl (laws.string-within j (slice_get_within t j 34 quote)) in
           let x = subst (MemberSound names t room j) is key in
-          let more_members = subst (λ k. SpellsMoreMembers names t k (node_members_of ms) e) (sym x.value.ends) rest.0 in (
+          let ends = sym x.value.ends in
+          let more_members = subst (λ k. SpellsMoreMembers names t k (node_members_of ms) e) ends rest.0 in (
             (subst (IsBlank t i) (sym x.begins) blanks, x.key, x.value.spelled, more_members),
             round-members p.0 p.1 (node_members_of ms) room x.limit rest.1,
           );
@@ -194,20 +208,24 @@ module _ (names : Bool) (t : List ℕ) where
     -- values
     built-sound : {P : Type 0} (c : Container P Node) (closer : ℕ) (Begins : ℕ → Type 0) (b : ℕ) (x : Reading Node)
         → BuiltOf (nodes names) t c closer Begins (b + 1) x → Within t b x
-        → ((ps : List P) (e : ℕ) → ReadParts (nodes names) t c closer Begins ps (b + 1) e → e ≤ length t → Sound names t room b (done (c.build e ps) e))
+        → ((ps : List P) (e : ℕ) → ReadParts (nodes names) t c closer Begins ps (b + 1) e → e ≤ length t
+        → Sound names t room b (done (c.build e ps) e))
         → Sound names t room b x
-    built-sound c closer Begins b (done n e) h w all = subst (λ n. Sound names t room b (done n e)) (sym h.1) (all h.0 e h.2 w.1)
+    built-sound c closer Begins b (done n e) h w all =
+        subst (λ n. Sound names t room b (done n e)) (sym h.1) (all h.0 e h.2 w.1)
     built-sound c closer Begins b (fault k x stop) h w all = tt
 
-    container-sound : {P : Type 0} (c : Container P Node) (closer : ℕ) (Begins : ℕ → Type 0) (Are MoreAre : List P → ℕ → ℕ → Type 0)
-        → Delimits t c.first c.next closer Begins → Goes c t → Grammar t closer Begins (Reads (nodes names) t c closer Begins) Are MoreAre
+    container-sound : {P : Type 0} (c : Container P Node) (closer : ℕ) (Begins : ℕ → Type 0)
+        (Are MoreAre : List P → ℕ → ℕ → Type 0)
+        → Delimits t c.first c.next closer Begins → Goes c t
+        → Grammar t closer Begins (Reads c) Are MoreAre
         → (b : ℕ) → b < length t
         → ((ps : List P) (e : ℕ) → Are ps (b + 1) e → e ≤ length t → Sound names t room b (done (c.build e ps) e))
         → Sound names t room b (container_at (nodes names) c t b)
     container-sound c closer Begins Are MoreAre delimits goes grammar b h all =
         let built = container_at-built (nodes names) t c closer Begins (λ k. refl) delimits goes b h in
         built-sound c closer Begins b _ built (container_at-within (nodes names) t c goes b h)
-        (λ ps e parts. all ps e (parts-are t closer Begins (Reads (nodes names) t c closer Begins) Are MoreAre grammar ps (b + 1) e parts))
+        (λ ps e parts. all ps e (parts-are t closer Begins (Reads c) Are MoreAre grammar ps (b + 1) e parts))
 
     byte-here : (i c : ℕ) → i < length t → slice_index t i ≡ c → slice_get t i ≡ Some c
     byte-here i c h e = slice_get-get_or t i 0 h ∙ ap Some e
@@ -215,15 +233,20 @@ module _ (names : Bool) (t : List ℕ) where
     value_with-sound : InnerSound → (i : ℕ) → i < length t → (s : Start) → start_of (slice_index t i) ≡ s
         → Sound names t room i (value_with (nodes names) inner t i s)
     value_with-sound all i h start.Array e =
-        container-sound (array i) 93 (ItemAt t) ItemsAre MoreItemsAre (array-delimits t) (array-goes i) (items-grammar all i) i h
-        (λ ns f x le. (record { spelled = (byte-here i 91 h (array-byte _ e), x.0); begins = refl; ends = refl; within = le }, x.1))
+        let here = byte-here i 91 h (array-byte _ e) in
+        container-sound (array i) 93 (ItemAt t) ItemsAre MoreItemsAre (array-delimits t) (array-goes i)
+        (items-grammar all i) i h
+        (λ ns f x le. sound-at room (grammar.array i f (nodes_of ns)) (here, x.0) le x.1)
     value_with-sound all i h start.Object e =
-        container-sound (object i) 125 (KeyBegins t) MembersAre MoreMembersAre (object-delimits t) (object-goes i) (members-grammar all i) i h
-        (λ ms f x le. (record { spelled = (byte-here i 123 h (object-byte _ e), x.0); begins = refl; ends = refl; within = le }, x.1))
+        let here = byte-here i 123 h (object-byte _ e) in
+        container-sound (object i) 125 (KeyBegins t) MembersAre MoreMembersAre (object-delimits t) (object-goes i)
+        (members-grammar all i) i h
+        (λ ms f x le. sound-at room (grammar.object i f (node_members_of ms)) (here, x.0) le x.1)
     value_with-sound all i h start.String e =
         text-sound room i (string_at whole t i) (byte-here i 34 h (string-first _ e)) refl (laws.string-within i h)
     value_with-sound all i h start.Number e = number-sound room i (number_at names t i) refl (laws.number-within i h)
-    value_with-sound all i h (start.Literal l) e = literal-sound room i l (literal_at t l i) refl (laws.literal-within l i h)
+    value_with-sound all i h (start.Literal l) e =
+        literal-sound room i l (literal_at t l i) refl (laws.literal-within l i h)
     value_with-sound all i h start.Nothing e = tt
 
   -- a value inside needs room for the container round it

@@ -1,7 +1,8 @@
 -- What is left of a document when its text ends before the place k. It speaks of a finished derivation, and not of reading.
 use Rattle.std.specs.Prelude.{ℕ, Bool, Option, Some, None, List, nat_le, min, if◌then◌else◌, slice_range}
-use Rattle.jiter_scan.specs.Number.{number_value, is_number_text}
-use Rattle.jiter_scan.specs.Mode.{allows_trailing_strings}
+use Rattle.jiter_scan.specs.Number.{number_value}
+use Rattle.jiter_scan.specs.NumberReading.{is_number_text}
+use Rattle.jiter_scan.specs.PartialMode.{allows_trailing_strings}
 use Rattle.jiter_scan.specs.declared.partial_mode.PartialMode.{PartialMode}
 use Rattle.jiter_steps.specs.Literal.{literal_tree}
 use Rattle.jiter_steps.specs.Piece.{Piece, pieces_to}
