@@ -108,11 +108,11 @@ abbrev pub members_list : NodeMembers → List (Key × Node)
 members_list no_members = []
 members_list (member k n ms) = (k, n) ∷ members_list ms
 
-nodes-listed : (ns : Nodes) → nodes_of (nodes_list ns) ≡ ns
+pub nodes-listed : (ns : Nodes) → nodes_of (nodes_list ns) ≡ ns
 nodes-listed no_nodes = refl
 nodes-listed (node n ns) = ap (node n) (nodes-listed ns)
 
-members-listed : (ms : NodeMembers) → node_members_of (members_list ms) ≡ ms
+pub members-listed : (ms : NodeMembers) → node_members_of (members_list ms) ≡ ms
 members-listed no_members = refl
 members-listed (member k n ms) = ap (member k n) (members-listed ms)
 
