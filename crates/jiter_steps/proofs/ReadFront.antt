@@ -18,6 +18,7 @@ use Rattle.jiter_steps.proofs.Complete.{start_is, node-starts, begins-value, nod
 use Rattle.jiter_steps.proofs.CutParts.{CutParts, ReadsFront, array-cuts, object-cuts, colon-cut, value_first-cut, container-whole, parts-cut}
 use Rattle.jiter_steps.proofs.Front.{front-get, front-index, front-blank, front-behind}
 use Rattle.jiter_steps.proofs.NodeParts.{behind-ahead, key-ahead, node-ahead}
+use Rattle.jiter_steps.proofs.Parts.{Parts}
 use Rattle.jiter_steps.proofs.RowSteps.{ItemAt, KeyBegins, array-delimits, object-delimits, object_colon-taken}
 use Rattle.jiter_steps.proofs.ScalarLaws.{EndsNumber}
 use Rattle.jiter_steps.proofs.Values.{Advances, AllWithin, Goes, array_of-goes, object_of-goes, inside_at-within, inside_at-suc, value-starts, member-key, member-colon, member-value}
@@ -164,6 +165,19 @@ module _ {K A : Type 0} (r : Rules K A) (names : Bool) (t : List ℕ) (k : ℕ) 
         cut = member-cut all;
       }
 
+      -- a container of these parts
+      container-reads : {P Q : Type 0} (c : Container Q A) (seen : P → Q) (Cut : P → Reading Q → Type 0) (closer : ℕ)
+          (Begins : List ℕ → ℕ → Type 0) (IsPart : ℕ → P → ℕ → Type 0) → ReadsFront t k within c seen Cut closer Begins IsPart → Goes c u
+          → (n : Node) (ps : List P) → Parts t closer (Begins t) IsPart ps (begin n + 1) (end n) → begin n < k
+          → c.build (end n) (map seen ps) ≡ see n
+          → (CutParts t k within c seen Cut c.first (begin n + 1) ps → IsCut n (container_at r c u (begin n)))
+          → Reads n (container_at r c u (begin n))
+      container-reads c seen Cut closer Begins IsPart reads goes n ps parts lt build cut = (
+        λ le. container-whole t k within c seen Cut closer Begins IsPart reads r goes ps (begin n) (end n) parts le
+            ∙ ap (λ a. done a (end n)) build,
+        λ gt. cut (parts-cut t k within c seen Cut closer Begins IsPart reads ps (begin n + 1) (end n) parts (omega arith) gt),
+      )
+
       -- a value, by what it begins with
       abbrev ValueWith : ℕ → Start → Reading A
       ValueWith b s = value_with r inner u b s
@@ -175,20 +189,12 @@ module _ {K A : Type 0} (r : Rules K A) (names : Bool) (t : List ℕ) (k : ℕ) 
       value-reads all (grammar.string ps b e) h d q lt = rules.text ps b e h lt
       value-reads all (grammar.array b e ns) h d q lt =
           let goes = array_of-goes r u good inner inner-within b in
-          let parts = items-parts names t room ns (b + 1) e h.1 d in (
-            λ le. container-whole t k within (array b) see IsCut 93 ItemAt (IsItem names t room) (items-front all b) r goes (nodes_list ns) b e parts le
-                ∙ ap (λ a. done a e) (rules.array b e ns),
-            λ gt. rules.array-cut inner b e ns goes
-                (parts-cut t k within (array b) see IsCut 93 ItemAt (IsItem names t room) (items-front all b) (nodes_list ns) (b + 1) e parts (omega arith) gt),
-          )
+          container-reads (array b) see IsCut 93 ItemAt (IsItem names t room) (items-front all b) goes (grammar.array b e ns)
+          (nodes_list ns) (items-parts names t room ns (b + 1) e h.1 d) lt (rules.array b e ns) (rules.array-cut inner b e ns goes)
       value-reads all (grammar.object b e ms) h d q lt =
           let goes = object_of-goes r u good inner inner-within b in
-          let parts = members-parts names t room ms (b + 1) e h.1 d in (
-            λ le. container-whole t k within (object b) see_member IsCutMember 125 KeyBegins (IsMember names t room) (members-front all b) r goes (members_list ms) b e parts le
-                ∙ ap (λ a. done a e) (rules.object b e ms),
-            λ gt. rules.object-cut inner b e ms goes
-                (parts-cut t k within (object b) see_member IsCutMember 125 KeyBegins (IsMember names t room) (members-front all b) (members_list ms) (b + 1) e parts (omega arith) gt),
-          )
+          container-reads (object b) see_member IsCutMember 125 KeyBegins (IsMember names t room) (members-front all b) goes (grammar.object b e ms)
+          (members_list ms) (members-parts names t room ms (b + 1) e h.1 d) lt (rules.object b e ms) (rules.object-cut inner b e ms goes)
 
       begun-reads : InnerReads → (n : Node) → Spells names t n → nesting n ≤ room → EndsNumber t (end n) → begin n < k
           → Reads n (value_at r u room (begin n))
