@@ -13,6 +13,7 @@ pub mod Instances
 pub mod NodeParts
 pub mod NodeRules
 pub mod Nodes
+pub mod NodesFront
 pub mod NumberCut
 pub mod Parts
 pub mod Pieces
@@ -23,6 +24,7 @@ pub mod RowSteps
 mod Rows
 pub mod ScalarLaws
 pub mod Sound
+pub mod SpelledParts
 pub mod StringComplete
 pub mod StringCut
 pub mod StringCutLaws

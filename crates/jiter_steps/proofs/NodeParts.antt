@@ -9,7 +9,7 @@ use Rattle.jiter_steps.specs.Node as grammar
 use Rattle.jiter_steps.specs.Node.{Key, Node, Nodes, no_nodes, node, NodeMembers, no_members, begin, end, StandsBehind, SpellsNumber, SpellsKey, Spells, SpellsItems, SpellsMoreItems, SpellsMembers, SpellsMoreMembers}
 use Rattle.jiter_steps.specs.declared.parse.Literal.{Literal}
 use Rattle.jiter_steps.specs.declared.parse.Literal.TheVariants as literal
-use Rattle.jiter_steps.proofs.Complete.{slice-empty}
+use Rattle.jiter_steps.proofs.SpelledParts.{slice-empty}
 use Rattle.jiter_steps.proofs.ScalarLaws.{ScalarLaws, scalar-laws}
 
 -- an item, or a member with its key
