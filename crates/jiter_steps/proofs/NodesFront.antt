@@ -1,8 +1,7 @@
 -- The front of a text, read as nodes: what ends before the cut is read as its node, and where a value is cut the input ends too early.
-use Rattle.std.proofs.Common.{◌≡◌, ◌⊎◌, inl, inr, ℕ, ◌+◌, ◌<◌, ◌≤◌, Bool, true, false, cond, List, [], ◌∷◌, ◌++◌, length, take, refl, sym, ap, ◌∙◌, subst, arith}
+use Rattle.std.proofs.Common.{◌≡◌, inl, inr, ℕ, ◌+◌, ◌<◌, ◌≤◌, Bool, true, false, cond, List, [], ◌∷◌, ◌++◌, length, take, refl, sym, ap, ◌∙◌, subst, arith}
 use Rattle.std.specs.Prelude.{slice_range, Option}
 use Rattle.std.specs.Str.{chars}
-use Rattle.std.proofs.lemmas.Bool.{cases_lt}
 use Rattle.std.proofs.lemmas.List.{map-id}
 use Rattle.jiter_scan.specs.Kind.{Kind, is_end_kind}
 use Rattle.jiter_scan.specs.Number.{Number, number_value}
@@ -11,22 +10,21 @@ use Rattle.jiter_scan.specs.Scanned.{Scanned, taken, failed}
 use Rattle.jiter_scan.specs.Stands.{Stands}
 use Rattle.jiter_scan.specs.Word.{Extent}
 use Rattle.jiter_scan.proofs.NumberLaws.{continues_number}
-use Rattle.jiter_steps.specs.Answer.{seen_as, answer}
+use Rattle.jiter_steps.specs.Answer.{seen_as}
 use Rattle.jiter_steps.specs.Literal.{word_of, literal_at}
 use Rattle.jiter_steps.specs.Node as grammar
 use Rattle.jiter_steps.specs.Node.{Key, Node, begin, end, SpellsNumber, Spells, nesting, nesting_limit, value_of, IsContainer, IsDocument}
 use Rattle.jiter_steps.specs.Piece.{Piece, SpellsString}
-use Rattle.jiter_steps.specs.Read.{Reading, done, fault, Rules, Container, scalar_at, with_key, if_forgiven, follow, parts_at, container_at, array_of, object_of, value_with, inside_at, value_at, to_end, whole_answer}
+use Rattle.jiter_steps.specs.Read.{Reading, done, fault, Rules, Container, scalar_at, with_key, if_forgiven, follow, parts_at, container_at, array_of, object_of, value_at}
 use Rattle.jiter_steps.specs.Step.{Step, stuck, step}
 use Rattle.jiter_steps.specs.StringReading.{whole, string_at}
 use Rattle.jiter_steps.specs.Tree.{Text}
 use Rattle.jiter_steps.specs.declared.parse.Literal.{Literal}
-use Rattle.jiter_steps.proofs.SpelledParts.{begins-value, nodes_list, members_list, nodes-listed, members-listed, key-taken, ends-end}
+use Rattle.jiter_steps.proofs.SpelledParts.{nodes_list, members_list, nodes-listed, members-listed, key-taken}
 use Rattle.jiter_steps.proofs.CutParts.{EndsInput, Cuts, array-cuts, object-cuts, CutParts}
-use Rattle.jiter_steps.proofs.Front.{front-length, front-get, front-if, number-front, front-stands, front-word, front-blank, cut-blank}
+use Rattle.jiter_steps.proofs.Front.{front-length, front-if, number-front, front-stands, front-word}
 use Rattle.jiter_steps.proofs.Instances.{nodes-advances}
 use Rattle.jiter_steps.proofs.NodeRules.{nodes, nodes_of, node_members_of, key_of}
-use Rattle.jiter_steps.proofs.Nodes.{blank-passed, blank-to_end}
 use Rattle.jiter_steps.proofs.NumberCut.{CutAt, number_at-cut}
 use Rattle.jiter_steps.proofs.Pieces.{pieces_from}
 use Rattle.jiter_steps.proofs.ReadFront.{see_member, IsCutMember, CutRules, value_at-front}

@@ -1,7 +1,6 @@
 -- The front of a text is read along the node that the whole text spells, by any rules: what ends before the cut is read whole, and what
 -- the cut falls into is cut.
 use Rattle.std.proofs.Common.{◌≡◌, ◌⊎◌, inl, inr, ℕ, zero, suc, ◌+◌, ◌<◌, ◌≤◌, Bool, true, List, length, map, take, refl, sym, ap, ◌∙◌, subst, arith}
-use Rattle.std.specs.Prelude.{slice_index}
 use Rattle.std.proofs.lemmas.Bool.{cases_lt}
 use Rattle.jiter_scan.specs.Kind.{Kind, is_end_kind, eof_object, eof_string, eof_value}
 use Rattle.jiter_scan.specs.Scanned.{taken, failed}

@@ -1,7 +1,6 @@
 -- What the grammar spells of a container is parts that stand one behind another; and what a value begins with.
-use Rattle.std.proofs.Common.{◌≡◌, ◌≢◌, ℕ, zero, suc, ◌+◌, ◌-◌, ◌<◌, ◌≤◌, ◌⊎◌, inl, inr, Bool, true, false, List, [], ◌∷◌, length, drop, take, refl, sym, ap, ◌∙◌, subst, arith, ◌==◌, IfSome}
+use Rattle.std.proofs.Common.{◌≡◌, ◌≢◌, ℕ, suc, ◌+◌, ◌-◌, ◌<◌, ◌≤◌, ◌⊎◌, inl, inr, Bool, true, false, List, [], ◌∷◌, length, drop, take, refl, sym, ap, ◌∙◌, subst, arith, ◌==◌, IfSome}
 use Rattle.std.specs.Prelude.{slice_get, slice_index, slice_range, Some}
-use Rattle.std.specs.Str.{chars}
 use Rattle.std.proofs.lemmas.List.{drop_more}
 use Rattle.std.proofs.lemmas.Option.{slice_get_within, slice_get-get_or, slice_get_past, get_or_from_slice_get}
 use Rattle.std.proofs.lemmas.Bool.{cases_eq}
@@ -17,19 +16,14 @@ use Rattle.jiter_steps.specs.Literal.{word_of, start_of}
 use Rattle.jiter_steps.specs.Node as grammar
 use Rattle.jiter_steps.specs.Node.{Key, Node, Nodes, no_nodes, node, NodeMembers, no_members, member, begin, end, StandsBehind, SpellsNumber, SpellsKey, Spells, SpellsItems, SpellsMoreItems, SpellsMembers, SpellsMoreMembers, nesting, nesting_of, nesting_of_members, nesting_round, nesting_round_members}
 use Rattle.jiter_steps.specs.Piece.{SpellsString}
-use Rattle.jiter_steps.specs.Read.{done, scalar_at, behind_key, value_with, value_at}
-use Rattle.jiter_steps.specs.Step.{object_colon}
 use Rattle.jiter_steps.specs.StringReading.{whole, string_at}
 use Rattle.jiter_steps.specs.declared.parse.Literal.TheVariants as literal
 use Rattle.jiter_steps.specs.declared.parse.Start.{Start}
 use Rattle.jiter_steps.specs.declared.parse.Start.TheVariants as start
-use Rattle.jiter_steps.proofs.NodeRules.{nodes, nodes_of, node_members_of, key_of}
-use Rattle.jiter_steps.proofs.Parts.{MoreParts, Parts, container_at-read}
-use Rattle.jiter_steps.proofs.Pieces.{pieces_from}
-use Rattle.jiter_steps.proofs.RowSteps.{ByteAt, ItemAt, KeyBegins, array-delimits, object-delimits, object_colon-taken}
+use Rattle.jiter_steps.proofs.NodeRules.{nodes_of, node_members_of, key_of}
+use Rattle.jiter_steps.proofs.Parts.{MoreParts, Parts}
+use Rattle.jiter_steps.proofs.RowSteps.{ItemAt, KeyBegins}
 use Rattle.jiter_steps.proofs.ScalarLaws.{ScalarLaws, scalar-laws, EndsNumber}
-use Rattle.jiter_steps.proofs.Sound.{inner, array, object, array-goes, object-goes}
-use Rattle.jiter_steps.proofs.Values
 
 -- what kind of value a node is
 abbrev pub start_is : Node → Start
