@@ -9,8 +9,10 @@ use Rattle.jiter_steps.proofs.ScalarLaws.{EndsNumber}
 use Rattle.jiter_steps.proofs.SpelledParts.{begin-within, node-within}
 
 -- A node that the text spells is read: it ends in the front that is the whole text.
-pub value_at-complete : (names : Bool) (t : List ℕ) (n : Node) (room : ℕ) → Spells names t n → nesting n ≤ room → EndsNumber t (end n)
+pub value_at-complete : (names : Bool) (t : List ℕ) (n : Node) (room : ℕ) → Spells names t n → nesting n ≤ room
+    → EndsNumber t (end n)
     → value_at (nodes names) t room (begin n) ≡ done n (end n)
 value_at-complete names t n room h d q =
     let read = node-front names t (length t) (omega arith) n room h d q (begin-within names t n h) in
-    subst (λ u. value_at (nodes names) u room (begin n) ≡ done n (end n)) (take_all (length t) t (omega arith)) (read.0 (node-within names t n h))
+    subst (λ u. value_at (nodes names) u room (begin n) ≡ done n (end n)) (take_all (length t) t (omega arith))
+    (read.0 (node-within names t n h))

@@ -79,7 +79,8 @@ module _ (names : Bool) (t : List ℕ) where
 
   more_items-order : (ns : Nodes) (i e : ℕ) → SpellsMoreItems names t i ns e → InOrder i (items ns) e
   more_items-order no_nodes i e h = behind-ahead i 93 e h
-  more_items-order (node n ns) i e h = (omega (arith, behind-ahead i 44 h.0 h.1, h.2.ordered), h.3, more_items-order ns (end n) e h.4)
+  more_items-order (node n ns) i e h =
+      (omega (arith, behind-ahead i 44 h.0 h.1, h.2.ordered), h.3, more_items-order ns (end n) e h.4)
 
   pub items-order : (ns : Nodes) (i e : ℕ) → SpellsItems names t i ns e → InOrder i (items ns) e
   items-order no_nodes i e h = behind-ahead i 93 e h
@@ -108,7 +109,8 @@ module _ (names : Bool) (t : List ℕ) where
       omega (arith, h.0)
 
   number-ahead : (b e : ℕ) → SpellsNumber names t b e → (b ≡ e) ⊎ (b ≢ e) → b < e
-  number-ahead b e h (inl same) = absurd (laws.number-not_empty (subst (IsNumberText names) (slice-empty t b e (sym same)) h.text))
+  number-ahead b e h (inl same) =
+      absurd (laws.number-not_empty (subst (IsNumberText names) (slice-empty t b e (sym same)) h.text))
   number-ahead b e h (inr apart) = omega (arith, h.ordered)
 
   word-ahead : (l : Literal) (b e : ℕ) → Stands t b e (word_of l) → b < e
@@ -120,8 +122,10 @@ module _ (names : Bool) (t : List ℕ) where
   is_ahead (grammar.literal l b e) each h = word-ahead l b e h
   is_ahead (grammar.number b e) each h = number-ahead b e h (cases_eq b e)
   is_ahead (grammar.string ps b e) each h = (laws.string-ordered b e ps h).0
-  is_ahead (grammar.array b e ns) each h = omega (arith, order-after (items ns) (b + 1) e (items-order ns (b + 1) e h.1) each)
-  is_ahead (grammar.object b e ms) each h = omega (arith, order-after (members ms) (b + 1) e (members-order ms (b + 1) e h.1) each)
+  is_ahead (grammar.array b e ns) each h =
+      omega (arith, order-after (items ns) (b + 1) e (items-order ns (b + 1) e h.1) each)
+  is_ahead (grammar.object b e ms) each h =
+      omega (arith, order-after (members ms) (b + 1) e (members-order ms (b + 1) e h.1) each)
 
   pub node-ahead : (n : Node) → Spells names t n → begin n < end n
   node-ahead = by_parts IsAhead is_ahead

@@ -1,4 +1,5 @@
--- The front of a text, read as nodes: what ends before the cut is read as its node, and where a value is cut the input ends too early.
+-- The front of a text, read as nodes: what ends before the cut is read as its node, and where a value is cut the input
+-- ends too early.
 use Rattle.std.proofs.Common.{◌≡◌, inl, inr, ℕ, ◌+◌, ◌<◌, ◌≤◌, Bool, true, false, cond, List, [], ◌∷◌, ◌++◌, length, take, refl, sym, ap, ◌∙◌, subst, arith}
 use Rattle.std.specs.Prelude.{slice_range, Option}
 use Rattle.std.specs.Str.{chars}
@@ -51,7 +52,8 @@ module _ (t : List ℕ) (k : ℕ) (within : k ≤ length t) where
   u = take k t
 
   -- A container whose front goes so, and which forgives nothing.
-  module _ {K P Q A : Type 0} (r : Rules K A) (strict : (kind : Kind) → r.forgives kind ≡ false) (c : Container Q A) (goes : Goes c u)
+  module _ {K P Q A : Type 0} (r : Rules K A) (strict : (kind : Kind) → r.forgives kind ≡ false) (c : Container Q A)
+      (goes : Goes c u)
       (seen : P → Q) (IsCut : P → Reading Q → Type 0) (short : (p : P) (x : Reading Q) → IsCut p x → CutShort k x)
       (ends : Cuts t k within c.first c.next) where
     abbrev At : List Q → ℕ → Reading A
@@ -60,8 +62,10 @@ module _ (t : List ℕ) (k : ℕ) (within : k ≤ length t) where
     abbrev Behind : List Q → Step → Reading A
     Behind qs s = follow r (At qs) (λ e. c.build e qs) s
 
-    fault-early : (close : ℕ → A) (kind : Kind) (i stop : ℕ) → is_end_kind kind ≡ true → EndsEarly (if_forgiven r close kind i stop)
-    fault-early close kind i stop early = subst (λ b. EndsEarly (cond b (done (close stop) stop) (fault kind i stop))) (sym (strict kind)) early
+    fault-early : (close : ℕ → A) (kind : Kind) (i stop : ℕ) → is_end_kind kind ≡ true
+        → EndsEarly (if_forgiven r close kind i stop)
+    fault-early close kind i stop early =
+        subst (λ b. EndsEarly (cond b (done (close stop) stop) (fault kind i stop))) (sym (strict kind)) early
 
     input-early : (qs : List Q) (s : Step) → EndsInput t k within s → EndsEarly (Behind qs s)
     input-early qs s h = subst (λ s. EndsEarly (Behind qs s)) (sym h.1) (fault-early (λ e. c.build e qs) h.0 k k h.2)
@@ -75,7 +79,8 @@ module _ (t : List ℕ) (k : ℕ) (within : k ≤ length t) where
         subst EndsEarly (sym (parts-part r u c goes j e qs q (stuck last.0 k) (in-front j lt) is last.1))
         (fault-early (λ e. c.build e (qs ++ q ∷ [])) last.0 k k last.2)
     part-early qs j (fault kind x stop) lt is h =
-        subst EndsEarly (sym (parts-fault r u c goes j x stop qs kind (in-front j lt) is)) (fault-early (λ e. c.build e qs) kind x stop h)
+        subst EndsEarly (sym (parts-fault r u c goes j x stop qs kind (in-front j lt) is))
+        (fault-early (λ e. c.build e qs) kind x stop h)
 
     parts-early : (ps : List P) (row : ℕ → Option ℕ → Step) (i : ℕ) (qs : List Q)
         → CutParts t k within c seen IsCut row i ps → EndsEarly (Behind qs (step u row i))
@@ -84,11 +89,13 @@ module _ (t : List ℕ) (k : ℕ) (within : k ≤ length t) where
     parts-early (p ∷ ps) row i qs (inr h) = subst (λ s. EndsEarly (Behind qs s)) (sym h.1) (elim h.3 [
       | inl x ↦ part-early qs h.0 (c.part h.0) h.2 refl (short p (c.part h.0) x)
       | inr x ↦
-          subst EndsEarly (sym (parts-part r u c goes h.0 x.0 qs (seen p) (step u c.next x.0) (in-front h.0 h.2) x.1 refl))
+          subst EndsEarly
+          (sym (parts-part r u c goes h.0 x.0 qs (seen p) (step u c.next x.0) (in-front h.0 h.2) x.1 refl))
           (parts-early ps c.next x.0 (qs ++ seen p ∷ []) x.2)
     ])
 
-    container-early : (b : ℕ) (ps : List P) → CutParts t k within c seen IsCut c.first (b + 1) ps → EndsEarly (container_at r c u b)
+    container-early : (b : ℕ) (ps : List P) → CutParts t k within c seen IsCut c.first (b + 1) ps
+        → EndsEarly (container_at r c u b)
     container-early b ps h = parts-early ps c.first (b + 1) [] h
 
 module _ (names : Bool) (t : List ℕ) (k : ℕ) (within : k ≤ length t) where
@@ -124,7 +131,8 @@ module _ (names : Bool) (t : List ℕ) (k : ℕ) (within : k ≤ length t) where
   with_key-short key (done n e) h = h
   with_key-short key (fault kind i stop) h = h
 
-  member-short : (m : Key × Node) (x : Reading (Key × Node)) → IsCutMember (nodes names) names t k within same_key same_node IsCut m x → CutShort k x
+  member-short : (m : Key × Node) (x : Reading (Key × Node))
+      → IsCutMember (nodes names) names t k within same_key same_node IsCut m x → CutShort k x
   member-short m x (inl e) = subst (CutShort k) (sym e) refl
   member-short m x (inr (inl h)) = subst (CutShort k) (sym h.1) h.2
   member-short m x (inr (inr h)) = subst (CutShort k) (sym h.1) (with_key-short m.0 h.0 (cut-short m.1 h.0 h.2))
@@ -142,28 +150,34 @@ module _ (names : Bool) (t : List ℕ) (k : ℕ) (within : k ≤ length t) where
   abbrev StringOf : ℕ → Scanned Text → Reading Node
   StringOf b x = scalar_at b (seen_as (λ s e. grammar.string (pieces_from front (b + 1) (chars s.bytes)) b e) x)
 
-  literal-reads : (l : Literal) (b e : ℕ) → Stands t b e (word_of l) → b < k → Reads (grammar.literal l b e) (LiteralOf l b (literal_at front l b))
+  literal-reads : (l : Literal) (b e : ℕ) → Stands t b e (word_of l) → b < k
+      → Reads (grammar.literal l b e) (LiteralOf l b (literal_at front l b))
   literal-reads l b e h lt = (
     λ le. ap (LiteralOf l b) (laws.literal-complete l b e (front-stands t k within b e (word_of l) h le)),
-    λ gt. subst (λ x. EndsEarly (LiteralOf l b x)) (sym (front-word t k within (word_of l) b e h (omega arith) gt)) refl,
+    λ gt. subst (λ x. EndsEarly (LiteralOf l b x))
+        (sym (front-word t k within (word_of l) b e h (omega arith) gt)) refl,
   )
 
   number-short : (b : ℕ) (x : Scanned Number) → CutAt k x → CutShort k (NumberOf b x)
   number-short b (taken n e) h = h
   number-short b (failed kind j) h = h
 
-  number-reads : (b e : ℕ) → SpellsNumber names t b e → EndsNumber t e → b < k → Reads (grammar.number b e) (NumberOf b (number_at names front b))
+  number-reads : (b e : ℕ) → SpellsNumber names t b e → EndsNumber t e → b < k
+      → Reads (grammar.number b e) (NumberOf b (number_at names front b))
   number-reads b e h q lt = (
-    λ le. let g = number-front t k within names b e h le in ap (NumberOf b) (laws.number-complete b e g.ordered g.within g.text (quiet-front e q)),
+    λ le. let g = number-front t k within names b e h le in
+        ap (NumberOf b) (laws.number-complete b e g.ordered g.within g.text (quiet-front e q)),
     λ gt. number-short b (number_at names front b)
         (number_at-cut t k within names b e (number_value (slice_range t b e)) (omega arith) gt
         ((scalar-laws names t).number-complete b e h.ordered h.within h.text q)),
   )
 
-  text-reads : (ps : List Piece) (b e : ℕ) → SpellsString t b ps e → b < k → Reads (grammar.string ps b e) (StringOf b (string_at whole front b))
+  text-reads : (ps : List Piece) (b e : ℕ) → SpellsString t b ps e → b < k
+      → Reads (grammar.string ps b e) (StringOf b (string_at whole front b))
   text-reads ps b e h lt = (
     λ le. let g = string-still t k within b e ps h le in
-        ap (StringOf b) (laws.string-complete b e ps g) ∙ ap (λ x. done (grammar.string x b e) e) (laws.pieces-again b e ps g),
+        ap (StringOf b) (laws.string-complete b e ps g)
+        ∙ ap (λ x. done (grammar.string x b e) e) (laws.pieces-again b e ps g),
     λ gt. subst (λ x. EndsEarly (StringOf b x)) (sym (whole-cut t k within b e ps h lt gt).0) refl,
   )
 
@@ -173,24 +187,32 @@ module _ (names : Bool) (t : List ℕ) (k : ℕ) (within : k ≤ length t) where
     number = number-reads;
     text = text-reads;
     key = λ key h le. key-taken names front key (string-still t k within key.begin key.end key.pieces h le);
-    key-cut = λ key h lt gt. ap (seen_as (key_of front key.begin)) (whole-cut t k within key.begin key.end key.pieces h lt gt).0;
-    array = λ b e ns. ap (λ l. grammar.array b e (nodes_of l)) (map-id (nodes_list ns)) ∙ ap (grammar.array b e) (nodes-listed ns);
-    object = λ b e ms. ap (λ l. grammar.object b e (node_members_of l)) (map-id (members_list ms)) ∙ ap (grammar.object b e) (members-listed ms);
+    key-cut = λ key h lt gt.
+        ap (seen_as (key_of front key.begin)) (whole-cut t k within key.begin key.end key.pieces h lt gt).0;
+    array = λ b e ns.
+        ap (λ l. grammar.array b e (nodes_of l)) (map-id (nodes_list ns)) ∙ ap (grammar.array b e) (nodes-listed ns);
+    object = λ b e ms.
+        ap (λ l. grammar.object b e (node_members_of l)) (map-id (members_list ms))
+        ∙ ap (grammar.object b e) (members-listed ms);
     array-cut = λ inner b e ns goes parts.
-        container-early t k within (nodes names) (λ kind. refl) (array_of (nodes names) inner front b) goes same_node IsCut cut-short
+        container-early t k within (nodes names) (λ kind. refl)
+        (array_of (nodes names) inner front b) goes same_node IsCut cut-short
         (array-cuts t k within) b (nodes_list ns) parts;
     object-cut = λ inner b e ms goes parts.
         container-early t k within (nodes names) (λ kind. refl) (object_of (nodes names) inner front b) goes
-        (see_member (nodes names) names t k within same_key same_node IsCut) (IsCutMember (nodes names) names t k within same_key same_node IsCut) member-short
+        (see_member (nodes names) names t k within same_key same_node IsCut)
+        (IsCutMember (nodes names) names t k within same_key same_node IsCut) member-short
         (object-cuts t k within) b (members_list ms) parts;
   }
 
   -- A value that begins before the cut.
   pub node-front : (n : Node) (room : ℕ) → Spells names t n → nesting n ≤ room → EndsNumber t (end n) → begin n < k
       → Reads n (value_at (nodes names) front room (begin n))
-  node-front = value_at-front (nodes names) names t k within same_key same_node IsCut (nodes-advances front names) nodes-front
+  node-front =
+      value_at-front (nodes names) names t k within same_key same_node IsCut (nodes-advances front names) nodes-front
 
   -- A container that is cut.
-  pub container-front : (n : Node) (room : ℕ) → IsContainer n → Spells names t n → nesting n ≤ room → EndsNumber t (end n) → begin n < k
+  pub container-front : (n : Node) (room : ℕ) → IsContainer n → Spells names t n → nesting n ≤ room
+      → EndsNumber t (end n) → begin n < k
       → k < end n → EndsEarly (value_at (nodes names) front room (begin n))
   container-front n room is h d q lt gt = cut-early n _ is ((node-front n room h d q lt).1 gt)

@@ -254,12 +254,15 @@ module _ (names : Bool) (t : List ℕ) where
   begin-within n h = let first = begins-value n h in slice_get_within t (begin n) first.byte first.here
 
   pub node-within : (n : Node) → Spells names t n → end n ≤ length t
-  node-within (grammar.literal l b e) h = stands-within t b e (word_of l) (omega (arith, begin-within (grammar.literal l b e) h)) h
+  node-within (grammar.literal l b e) h =
+      stands-within t b e (word_of l) (omega (arith, begin-within (grammar.literal l b e) h)) h
   node-within (grammar.number b e) h = h.within
   node-within (grammar.string ps b e) h = (laws.string-ordered b e ps h).1
   node-within (grammar.array b e ns) h =
       let room = nesting_round ns in
-      parts-within 93 (ItemAt t) (IsItem names t room) (nodes_list ns) (b + 1) e (items-parts room ns (b + 1) e h.1 (omega arith))
+      parts-within 93 (ItemAt t) (IsItem names t room) (nodes_list ns) (b + 1) e
+      (items-parts room ns (b + 1) e h.1 (omega arith))
   node-within (grammar.object b e ms) h =
       let room = nesting_round_members ms in
-      parts-within 125 (KeyBegins t) (IsMember names t room) (members_list ms) (b + 1) e (members-parts room ms (b + 1) e h.1 (omega arith))
+      parts-within 125 (KeyBegins t) (IsMember names t room) (members_list ms) (b + 1) e
+      (members-parts room ms (b + 1) e h.1 (omega arith))
