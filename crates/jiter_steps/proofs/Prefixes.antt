@@ -10,7 +10,8 @@ use Rattle.jiter_steps.proofs.Documents.{answer-value}
 use Rattle.jiter_steps.proofs.Front.{front-length, front-get, front-blank, cut-blank}
 use Rattle.jiter_steps.proofs.Fused.{mapped}
 use Rattle.jiter_steps.proofs.NodeRules.{nodes}
-use Rattle.jiter_steps.proofs.NodesFront.{EndsEarly, container-front}
+pub use Rattle.jiter_steps.proofs.NodesFront.{EndsEarly}
+use Rattle.jiter_steps.proofs.NodesFront.{container-front}
 use Rattle.jiter_steps.proofs.Nodes.{blank-passed, blank-to_end}
 
 module _ (names : Bool) (t : List ℕ) (k : ℕ) (within : k ≤ length t) where
