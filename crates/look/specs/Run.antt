@@ -1,5 +1,5 @@
 -- What a whole run writes.
-use Rattle.std.specs.Prelude.{◌≡◌, ◌≢◌, ℕ, Bool, List, [], Option, Some, None, take}
+use Rattle.std.specs.Prelude.{◌≡◌, ◌≢◌, ℕ, Bool, List, [], Option, Some, None, take, ⊤}
 use Rattle.std.specs.Io.KnownBytes.{Keeps, Appends}
 use Rattle.jiter_scan.specs.Position.{description_text}
 use Rattle.jiter_steps.specs.Tree.{Tree}
@@ -8,6 +8,9 @@ use Rattle.jiter_steps.specs.Answer.{answer}
 use Rattle.look.specs.Print.{print_of, with_line_feed}
 use Rattle.look.specs.declared.running.End.{End}
 use Rattle.look.specs.declared.running.End.TheVariants.{Shown, Refused, Failed}
+use Rattle.jiter_scan.specs.declared.errors.JsonErrorType.TheVariants.{OutOfMemory}
+use Rattle.look.specs.declared.running.NoMemory as refusal
+use Rattle.look.specs.declared.running.NoMemory.TheVariants as reason
 use Rattle.look.specs.declared.running.Line as code
 use Rattle.look.specs.declared.running.Line.TheVariants as variant
 
@@ -58,6 +61,12 @@ WroteIfAny (Some line) end out out' err err' = Wrote line end out out' err err'
 abbrev pub line_view : code.Line → Line
 line_view (variant.Value v) = value_line v.items
 line_view (variant.Fault v) = fault_line v.items
+
+-- where memory was refused: of the parse's own faults only that one
+abbrev pub IsOfMemory : refusal.NoMemory → Type 0
+IsOfMemory (reason.Parse e) = e.error_type ≡ OutOfMemory
+IsOfMemory (reason.Describe e) = ⊤
+IsOfMemory (reason.Print r) = ⊤
 
 -- the program's exit status
 abbrev pub status_of : End → ℕ

@@ -1,10 +1,10 @@
 //! A whole run, over one reader and two writers.
-ghost use Rattle.std.specs.Prelude.{◌≡◌, IfOk, OnOk, OnErr, IfSome};
+ghost use Rattle.std.specs.Prelude.{◌≡◌, IfOk, IfErr, OnOk, OnErr, IfSome};
 ghost use Rattle.std.specs.Option.{option_map};
 ghost use Rattle.std.specs.Io.KnownBytes.{Appends, IsAtEnd};
 ghost use Rattle.jiter_steps.specs.Answer.{answer};
 ghost use Rattle.look.specs.Printed.{PrintsAgain};
-ghost use Rattle.look.specs.Run.{AppendsFront, IsUnread, line_of, line_view, status_of, Wrote, WroteNothing};
+ghost use Rattle.look.specs.Run.{AppendsFront, IsOfMemory, IsUnread, line_of, line_view, status_of, Wrote, WroteNothing};
 ghost use Rattle.look.specs.Run.{WroteIfAny};
 
 use crate::memory::{Refused, push};
@@ -47,30 +47,48 @@ pub enum Line {
     Fault(Vec<u8>),
 }
 
-// Why there is no line. Each variant holds what was answered there.
+// Why there is no line: what was answered where a read failed, or where the line was made.
 #[derive(Debug, Drop)]
 enum NoLine {
     Read(io::Error),
+    Make(NoMemory),
+}
+
+// Why no line was made: what was answered where memory was refused.
+#[derive(Debug, Drop)]
+enum NoMemory {
     Parse(JsonError),
     Describe(AllocError),
     Print(Refused),
 }
 
 impl From<io::Error> for NoLine {
+    ghost use Rattle.look.specs.declared.running.NoLine.{NoLine};
+
+    ghost from_gives = { λ error r. r ≡ NoLine.Read error };
+
     fn from(error: io::Error) -> Self {
         NoLine::Read(error)
     }
 }
 
-impl From<AllocError> for NoLine {
+impl From<AllocError> for NoMemory {
+    ghost use Rattle.look.specs.declared.running.NoMemory.{NoMemory};
+
+    ghost from_gives = { λ error r. r ≡ NoMemory.Describe error };
+
     fn from(error: AllocError) -> Self {
-        NoLine::Describe(error)
+        NoMemory::Describe(error)
     }
 }
 
-impl From<Refused> for NoLine {
+impl From<Refused> for NoMemory {
+    ghost use Rattle.look.specs.declared.running.NoMemory.{NoMemory};
+
+    ghost from_gives = { λ refused r. r ≡ NoMemory.Print refused };
+
     fn from(refused: Refused) -> Self {
-        NoLine::Print(refused)
+        NoMemory::Print(refused)
     }
 }
 
@@ -109,12 +127,13 @@ fn read_line<R: Read>(alloc: Global, reader: &mut R, inf_nan: bool) -> Result<Li
 {
     let mut text = Vec::new(alloc);
     reader.read_to_end(&mut text)?;
-    make_line(alloc, text.as_slice(), inf_nan)
+    make_line(alloc, text.as_slice(), inf_nan).map_err(NoLine::Make)
 }
 
 // The line for a text. It fails only where memory is refused.
-fn make_line(alloc: Global, text: &[u8], inf_nan: bool) -> Result<Line, NoLine>
-    ensures { IfOk result (λ line. line_view line ≡ line_of inf_nan text.now) }
+fn make_line(alloc: Global, text: &[u8], inf_nan: bool) -> Result<Line, NoMemory>
+    ensures line { IfOk result (λ line. line_view line ≡ line_of inf_nan text.now) }
+    ensures memory { IfErr result IsOfMemory }
 {
     match JsonValue::parse(alloc, text, inf_nan) {
         Ok(value) => {
@@ -123,7 +142,7 @@ fn make_line(alloc: Global, text: &[u8], inf_nan: bool) -> Result<Line, NoLine>
             Ok(Line::Value(bytes))
         }
         Err(error) => match error.error_type {
-            JsonErrorType::OutOfMemory => Err(NoLine::Parse(error)),
+            JsonErrorType::OutOfMemory => Err(NoMemory::Parse(error)),
             _ => {
                 let mut bytes = error.description(alloc, text)?.into_bytes();
                 push(&mut bytes, b'\n')?;
