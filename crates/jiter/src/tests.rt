@@ -5,6 +5,7 @@
 use crate::{JsonErrorType as Kind, JsonValue};
 use std::alloc::{AllocError, Global};
 use std::borrow::CowStr;
+use std::test::Fail;
 
 mod faults;
 mod huge;
@@ -82,6 +83,12 @@ fn text_of(alloc: Global, value: &JsonValue<'_>) -> Result<String, AllocError> {
     let mut out = String::new(alloc);
     append(value, &mut out)?;
     Ok(out)
+}
+
+// The value that a parse answers, on one line.
+fn value_text(alloc: Global, bytes: &[u8], allow_inf_nan: bool) -> Result<String, Fail> {
+    let value = JsonValue::parse(alloc, bytes, allow_inf_nan)?;
+    Ok(text_of(alloc, &value)?)
 }
 
 // The kind and the index of the fault that a parse answers, if it answers one.

@@ -1,5 +1,5 @@
 //! Rows of bytes, each with the kind and the index of the first fault that a parse of the whole answers.
-use super::{fault_of, text_of};
+use super::{fault_of, value_text};
 use crate::{JsonError, JsonErrorType as Kind, JsonValue};
 use std::alloc::{AllocError, Global};
 use std::test::*;
@@ -169,9 +169,11 @@ fn integers_of_many_digits(rt: HostRuntime) -> Result<(), Fail> {
     let digits = "1".repeat(alloc, 4300)?;
     for (front, back, index) in [("", "", 4301), ("[", "]", 4302)] {
         let text = format!(in alloc; "{front}{digits}{back}")?;
-        let value = JsonValue::parse(alloc, text.as_bytes(), false)?;
         let wanted = format!(in alloc; "{front}big '{digits}'{back}")?;
-        assert_eq!(rt; text_of(alloc, &value)?.as_str(), wanted.as_str());
+        assert_eq!(rt;
+            value_text(alloc, text.as_bytes(), false)?.as_str(),
+            wanted.as_str()
+        );
         let longer = format!(in alloc; "{front}{digits}1{back}")?;
         let seen = fault_of(alloc, longer.as_bytes(), false);
         assert_eq!(rt; seen, Some((Kind::NumberOutOfRange, index)));
@@ -262,8 +264,10 @@ fn every_proper_front_is_refused_at_its_end(rt: HostRuntime) -> Result<(), Fail>
         let front = bytes.get(..length).ok_or("longer than the whole")?;
         assert_eq!(rt; fault_of(alloc, front, false), Some((kind, length)));
     }
-    let value = JsonValue::parse(alloc, bytes, false)?;
-    assert_eq!(rt; text_of(alloc, &value)?.as_str(), "[12,'aé',{'k':true}]");
+    assert_eq!(rt;
+        value_text(alloc, bytes, false)?.as_str(),
+        "[12,'aé',{'k':true}]"
+    );
     Ok(())
 }
 

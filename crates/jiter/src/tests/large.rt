@@ -1,5 +1,5 @@
 //! Large documents with ample memory: many items and members, long texts, faults and positions far in.
-use super::{fault_of, text_of};
+use super::{fault_of, value_text};
 use crate::{JsonErrorType as Kind, JsonValue, LinePosition};
 use std::alloc::{AllocError, Global};
 use std::test::*;
@@ -8,20 +8,18 @@ use std::test::*;
 fn is_read_as_items(alloc: Global, part: &str, text: &str) -> Result<bool, Fail> {
     let items = format!(in alloc; ",{part}")?.repeat(alloc, 9999)?;
     let source = format!(in alloc; "[{part}{items}]")?;
-    let value = JsonValue::parse(alloc, source.as_bytes(), true)?;
     let others = format!(in alloc; ",{text}")?.repeat(alloc, 9999)?;
     let wanted = format!(in alloc; "[{text}{others}]")?;
-    Ok(text_of(alloc, &value)?.as_str() == wanted.as_str())
+    Ok(value_text(alloc, source.as_bytes(), true)?.as_str() == wanted.as_str())
 }
 
 // Whether an object of ten thousand parts is read, where each is told by this text.
 fn is_read_as_members(alloc: Global, part: &str, text: &str) -> Result<bool, Fail> {
     let members = format!(in alloc; ",\"k\":{part}")?.repeat(alloc, 9999)?;
     let source = format!(in alloc; "{{\"\\u0037\":{part}{members}}}")?;
-    let value = JsonValue::parse(alloc, source.as_bytes(), true)?;
     let others = format!(in alloc; ",'k':{text}")?.repeat(alloc, 9999)?;
     let wanted = format!(in alloc; "{{owned '7':{text}{others}}}")?;
-    Ok(text_of(alloc, &value)?.as_str() == wanted.as_str())
+    Ok(value_text(alloc, source.as_bytes(), true)?.as_str() == wanted.as_str())
 }
 
 #[test]
@@ -67,12 +65,10 @@ fn ten_thousand_unlike_items_and_members_are_read(rt: HostRuntime) -> Result<(),
         wanted_members.push_str(format!(in alloc; ",'{i}':{i}")?.as_str())?;
     }
     let array = format!(in alloc; "[{items}]")?;
-    let value = JsonValue::parse(alloc, array.as_bytes(), false)?;
-    assert!(rt; text_of(alloc, &value)?.as_str() == array.as_str());
+    assert!(rt; value_text(alloc, array.as_bytes(), false)?.as_str() == array.as_str());
     let object = format!(in alloc; "{{{members}}}")?;
-    let value = JsonValue::parse(alloc, object.as_bytes(), false)?;
     let wanted = format!(in alloc; "{{{wanted_members}}}")?;
-    assert!(rt; text_of(alloc, &value)?.as_str() == wanted.as_str());
+    assert!(rt; value_text(alloc, object.as_bytes(), false)?.as_str() == wanted.as_str());
     Ok(())
 }
 
@@ -81,11 +77,10 @@ fn first_lost(alloc: Global, letter: &str, text: &str, mark: &str) -> Result<Opt
     for times in [26, 101, 4097, 100_000] {
         let letters = letter.repeat(alloc, times)?;
         let source = format!(in alloc; "[\"{letters}\",{{\"{letters}\":\"{letters}\"}}]")?;
-        let value = JsonValue::parse(alloc, source.as_bytes(), false)?;
         let texts = text.repeat(alloc, times)?;
         let string = format!(in alloc; "{mark}'{texts}'")?;
         let wanted = format!(in alloc; "[{string},{{{string}:{string}}}]")?;
-        if text_of(alloc, &value)?.as_str() != wanted.as_str() {
+        if value_text(alloc, source.as_bytes(), false)?.as_str() != wanted.as_str() {
             return Ok(Some(times));
         }
     }

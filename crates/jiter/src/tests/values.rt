@@ -1,5 +1,5 @@
 //! Rows of documents, each with the value that a parse of the whole answers.
-use super::text_of;
+use super::value_text;
 use crate::JsonValue;
 use std::test::*;
 
@@ -14,8 +14,7 @@ fn values_are_read(rt: HostRuntime) -> Result<(), Fail> {
         ),
         (r#"{"a":1,"\u0061":2}"#, "{'a':1,owned 'a':2}"),
     ] {
-        let value = JsonValue::parse(alloc, text.as_bytes(), false)?;
-        assert_eq!(rt; text_of(alloc, &value)?.as_str(), wanted);
+        assert_eq!(rt; value_text(alloc, text.as_bytes(), false)?.as_str(), wanted);
     }
     Ok(())
 }
@@ -47,8 +46,7 @@ fn values_are_read_where_names_are_numbers(rt: HostRuntime) -> Result<(), Fail> 
             person,
         ),
     ] {
-        let value = JsonValue::parse(alloc, text.as_bytes(), true)?;
-        assert_eq!(rt; text_of(alloc, &value)?.as_str(), wanted);
+        assert_eq!(rt; value_text(alloc, text.as_bytes(), true)?.as_str(), wanted);
     }
     Ok(())
 }
@@ -63,8 +61,7 @@ fn texts_are_borrowed_unless_they_have_escapes(rt: HostRuntime) -> Result<(), Fa
         (r#""aaaaaaaaaaaaaaa\n""#, "owned 'aaaaaaaaaaaaaaa\n'"),
         (r#""\ud83d\ude00""#, "owned '\u{1F600}'"),
     ] {
-        let value = JsonValue::parse(alloc, text.as_bytes(), false)?;
-        assert_eq!(rt; text_of(alloc, &value)?.as_str(), wanted);
+        assert_eq!(rt; value_text(alloc, text.as_bytes(), false)?.as_str(), wanted);
     }
     Ok(())
 }
@@ -75,7 +72,9 @@ fn two_hundred_containers_around_an_empty_one_are_read(rt: HostRuntime) -> Resul
     let opened = "[".repeat(alloc, 201)?;
     let closed = "]".repeat(alloc, 201)?;
     let text = format!(in alloc; "{opened}{closed}")?;
-    let value = JsonValue::parse(alloc, text.as_bytes(), false)?;
-    assert_eq!(rt; text_of(alloc, &value)?.as_str(), text.as_str());
+    assert_eq!(rt;
+        value_text(alloc, text.as_bytes(), false)?.as_str(),
+        text.as_str()
+    );
     Ok(())
 }
