@@ -14,7 +14,6 @@ pub mod Growth
 pub mod Instances
 pub mod NodeParts
 pub mod NodeRules
-pub mod Nodes
 pub mod NodesFront
 pub mod NumberCut
 pub mod Parts
