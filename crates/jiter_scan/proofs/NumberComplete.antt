@@ -3,15 +3,15 @@ use Rattle.std.proofs.Common.{◌≡◌, ◌≢◌, ◌⊎◌, inl, inr, ℕ, �
 use Rattle.std.specs.Prelude.{slice_get, slice_range, Option, Some, None, IfSome, ◌==◌, if◌then◌else◌, nat_le, codes}
 use Rattle.std.proofs.lemmas.Bool.{ne_eqb, leb-true, le-leb, and_parts, cases_eq}
 use Rattle.std.proofs.lemmas.Option.{IfSome_then}
-use Rattle.jiter_scan.specs.Digits.{is_digit, digit_run}
+use Rattle.jiter_scan.specs.Digits.{is_digit, digit_run_end}
 use Rattle.jiter_scan.specs.Kind.{invalid_number, number_out_of_range}
 use Rattle.jiter_scan.specs.Number.{number_value, IsDigits, IsMinus, IsWhole, IsFraction, IsSign, IsExponent, IsDecimal, IsName, IsNumberText, digit_limit}
-use Rattle.jiter_scan.specs.NumberReading.{extent_then, digits_from, zero_ended, within_limit, whole_from, whole_at, fraction_from, fraction_at, power_from, exponent_from, exponent_at, decimal_at, signed_from, name_at, extent_from, number_extent, valued, number_at}
+use Rattle.jiter_scan.specs.NumberReading.{extent_then, digits_from, behind_zero, within_limit, whole_from, whole_at, fraction_from, fraction_at, power_from, exponent_from, exponent_at, decimal_at, behind_minus, name_at, extent_from, number_extent, with_value, number_at}
 use Rattle.jiter_scan.specs.Scanned.{taken, failed}
 use Rattle.jiter_scan.specs.Stands.{Stands}
 use Rattle.jiter_scan.specs.Word.{word_at}
 use Rattle.jiter_scan.proofs.Choices.{if-true, if-false}
-use Rattle.jiter_scan.proofs.Runs.{NoDigit, digit_run-complete}
+use Rattle.jiter_scan.proofs.Runs.{NoDigit, run_end-complete}
 use Rattle.jiter_scan.proofs.Standing.{First, stands-length, stands-split, stands-slice, stands-next}
 use Rattle.jiter_scan.proofs.WordLaws.{word_at-complete}
 
@@ -60,33 +60,33 @@ fraction-first : (w : List ℕ) → IsFraction w → First w (λ c. is_digit c �
 fraction-first [] h = tt
 fraction-first (c ∷ w) h = ap is_digit h.0
 
-zero_ended-complete : (j : ℕ) (o : Option ℕ) → NoDigit o → zero_ended j o ≡ taken tt j
-zero_ended-complete j None n = refl
-zero_ended-complete j (Some c) n = if-false (is_digit c) (failed invalid_number j) (taken tt j) n
+behind_zero-complete : (j : ℕ) (o : Option ℕ) → NoDigit o → behind_zero j o ≡ taken tt j
+behind_zero-complete j None n = refl
+behind_zero-complete j (Some c) n = if-false (is_digit c) (failed invalid_number j) (taken tt j) n
 
 module _ (t : List ℕ) where
   -- one digit or more
   pub digits_from-complete : (i j : ℕ) (w : List ℕ) → Stands t i j w → IsDigits w → NoDigit (slice_get t j) → digits_from t i (slice_get t i) ≡ taken tt j
   digits_from-complete i j [] h d n = absurd d
   digits_from-complete i j (c ∷ w) h d n =
-      ap (digits_from t i) h.0 ∙ if-true (is_digit c) (taken tt (i + digit_run t i)) (failed invalid_number i) d.0
-      ∙ ap (taken tt) (digit_run-complete t i j (c ∷ w) h d n)
+      ap (digits_from t i) h.0 ∙ if-true (is_digit c) (taken tt (digit_run_end t i)) (failed invalid_number i) d.0
+      ∙ ap (taken tt) (run_end-complete is_digit t i j (c ∷ w) h d n)
 
   whole-zero : (i j c : ℕ) (w : List ℕ) → Stands t i j (c ∷ w) → c ≡ 48 → w ≡ [] → NoDigit (slice_get t j) → whole_at t i ≡ taken tt j
   whole-zero i j c w h z none n =
       let at : i + 1 ≡ j = subst (Stands t (i + 1) j) none h.1 in
-      ap (whole_from t i) (h.0 ∙ ap Some z) ∙ zero_ended-complete (i + 1) (slice_get t (i + 1)) (subst (λ k. NoDigit (slice_get t k)) (sym at) n)
+      ap (whole_from t i) (h.0 ∙ ap Some z) ∙ behind_zero-complete (i + 1) (slice_get t (i + 1)) (subst (λ k. NoDigit (slice_get t k)) (sym at) n)
       ∙ ap (taken tt) at
 
   whole-digits : (i j c : ℕ) (w : List ℕ) → Stands t i j (c ∷ w) → c ≢ 48 → IsDigits (c ∷ w) → length (c ∷ w) ≤ digit_limit → NoDigit (slice_get t j) → whole_at t i ≡ taken tt j
   whole-digits i j c w h z d l n =
-      let run = digit_run-complete t i j (c ∷ w) h d n in
+      let run = run_end-complete is_digit t i j (c ∷ w) h d n in
       let long = stands-length t i j (c ∷ w) h in
-      let few : digit_run t i ≤ digit_limit = omega arith in
+      let few : digit_run_end t i ≤ i + digit_limit = omega arith in
       ap (whole_from t i) h.0
-      ∙ if-false (c == 48) (zero_ended (i + 1) (slice_get t (i + 1))) (if is_digit c then within_limit i (digit_run t i) else failed invalid_number i) (ne_eqb c 48 z)
-      ∙ if-true (is_digit c) (within_limit i (digit_run t i)) (failed invalid_number i) d.0
-      ∙ if-true (nat_le (digit_run t i) digit_limit) (taken tt (i + digit_run t i)) (failed number_out_of_range (i + (digit_limit + 1))) (le-leb (digit_run t i) digit_limit few)
+      ∙ if-false (c == 48) (behind_zero (i + 1) (slice_get t (i + 1))) (if is_digit c then within_limit i (digit_run_end t i) else failed invalid_number i) (ne_eqb c 48 z)
+      ∙ if-true (is_digit c) (within_limit i (digit_run_end t i)) (failed invalid_number i) d.0
+      ∙ if-true (nat_le (digit_run_end t i) (i + digit_limit)) (taken tt (digit_run_end t i)) (failed number_out_of_range (i + (digit_limit + 1))) (le-leb (digit_run_end t i) (i + digit_limit) few)
       ∙ ap (taken tt) run
 
   -- the integer part
@@ -168,11 +168,11 @@ module _ (t : List ℕ) where
   extent-digit : (names : Bool) (i c : ℕ) → is_digit c ≡ true → extent_from names t i (Some c) ≡ decimal_at t i
   extent-digit names i c d =
       let b = digit-bounds c d in
-      if-false (c == 45) (signed_from names t (i + 1) (slice_get t (i + 1))) (if c == 78 then name_at names t (codes "NaN") i else (if c == 73 then name_at names t (codes "Infinity") i else decimal_at t i)) (ne_eqb c 45 (λ e. omega arith))
+      if-false (c == 45) (behind_minus names t (i + 1) (slice_get t (i + 1))) (if c == 78 then name_at names t (codes "NaN") i else (if c == 73 then name_at names t (codes "Infinity") i else decimal_at t i)) (ne_eqb c 45 (λ e. omega arith))
       ∙ if-false (c == 78) (name_at names t (codes "NaN") i) (if c == 73 then name_at names t (codes "Infinity") i else decimal_at t i) (ne_eqb c 78 (λ e. omega arith))
       ∙ if-false (c == 73) (name_at names t (codes "Infinity") i) (decimal_at t i) (ne_eqb c 73 (λ e. omega arith))
 
-  signed-digit : (names : Bool) (i c : ℕ) → is_digit c ≡ true → signed_from names t i (Some c) ≡ decimal_at t i
+  signed-digit : (names : Bool) (i c : ℕ) → is_digit c ≡ true → behind_minus names t i (Some c) ≡ decimal_at t i
   signed-digit names i c d =
       let b = digit-bounds c d in
       if-false (c == 73) (if names then word_at t (codes "Infinity") i else failed invalid_number i) (decimal_at t i) (ne_eqb c 73 (λ e. omega arith))
@@ -191,7 +191,7 @@ module _ (t : List ℕ) where
     by (inr m) =
         let s : Stands t i e (45 ∷ (d.whole ++ (d.fraction ++ d.exponent))) = subst (λ x. Stands t i e (x ++ (d.whole ++ (d.fraction ++ d.exponent)))) m all in
         let f = whole-first (i + 1) e d.whole (d.fraction ++ d.exponent) d.is_whole s.1 in
-        ap (extent_from names t i) s.0 ∙ ap (signed_from names t (i + 1)) f.1 ∙ signed-digit names (i + 1) f.0 f.2
+        ap (extent_from names t i) s.0 ∙ ap (behind_minus names t (i + 1)) f.1 ∙ signed-digit names (i + 1) f.0 f.2
         ∙ decimal_at-complete (i + 1) e d.whole d.fraction d.exponent d.is_whole d.limit d.is_fraction d.is_exponent s.1 n
 
   extent-name : (i e : ℕ) (w : List ℕ) → Stands t i e w → IsName w → number_extent true t i ≡ taken tt e
@@ -203,7 +203,7 @@ module _ (t : List ℕ) where
       ap (extent_from true t i) s.0 ∙ word_at-complete t (codes "Infinity") i e s
   extent-name i e w h (inr (inr is)) =
       let s : Stands t i e (codes "-Infinity") = subst (Stands t i e) is h in
-      ap (extent_from true t i) s.0 ∙ ap (signed_from true t (i + 1)) s.1.0 ∙ word_at-complete t (codes "Infinity") (i + 1) e s.1
+      ap (extent_from true t i) s.0 ∙ ap (behind_minus true t (i + 1)) s.1.0 ∙ word_at-complete t (codes "Infinity") (i + 1) e s.1
 
   -- all of a number
   pub number_extent-complete : (names : Bool) (i e : ℕ) (w : List ℕ) → Stands t i e w → IsNumberText names w → EndsNumber (slice_get t e) → number_extent names t i ≡ taken tt e
@@ -214,4 +214,4 @@ module _ (t : List ℕ) where
 pub number_at-complete : (names : Bool) (t : List ℕ) (i e : ℕ) → i ≤ e → e ≤ length t → IsNumberText names (slice_range t i e) → IfSome (slice_get t e) (λ c. continues_number c ≡ false)
     → number_at names t i ≡ taken (number_value (slice_range t i e)) e
 unfolding number_at
-number_at-complete names t i e p q is n = ap (valued t i) (number_extent-complete t names i e (slice_range t i e) (stands-slice t i e p q) is n)
+number_at-complete names t i e p q is n = ap (with_value t i) (number_extent-complete t names i e (slice_range t i e) (stands-slice t i e p q) is n)

@@ -1,7 +1,7 @@
 -- How far the reading of a scalar gets, and where its faults stand.
 use Rattle.std.proofs.Common.{◌≡◌, ℕ, ◌<◌, ◌≤◌, ◌∙◌, List, length, sym, ap, subst}
 use Rattle.std.specs.Prelude.{Err}
-use Rattle.jiter_scan.specs.Kind.{Kind, kind_of, fault_kind}
+use Rattle.jiter_scan.specs.Kind.{kind_of, fault_kind}
 use Rattle.jiter_scan.specs.Scanned.{Scanned, taken, failed, AnswersAlone}
 use Rattle.jiter_scan.specs.declared.errors.Fault.{Fault}
 use Rattle.jiter_scan.specs.declared.errors.JsonError.{JsonError}

@@ -1,10 +1,11 @@
 -- Where an index stands in a text, by line and column, and how errors and positions print.
 use Rattle.std.specs.Prelude.{ℕ, ◌+◌, ◌++◌, Bool, not, List, codes, length, take, reverse, count_by, take_while, nat_eq, decimal}
+use Rattle.jiter_scan.specs.Ascii as ascii
 use Rattle.jiter_scan.specs.Kind.{Kind, kind_text}
 use Rattle.jiter_scan.specs.declared.errors.LinePosition.{LinePosition}
 
 abbrev pub is_newline : ℕ → Bool
-is_newline b = nat_eq b 10
+is_newline b = nat_eq b ascii.line_feed
 
 -- the bytes up to and including the one at the index, or all
 abbrev pub front : List ℕ → ℕ → List ℕ
