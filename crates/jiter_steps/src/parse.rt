@@ -2,7 +2,7 @@
 //! the parts of arrays and objects.
 ghost use Rattle.std.specs.Prelude.{◌≡◌, ◌+◌, ◌≤◌, ◌<◌, IfOk, OnOk, OnErr, IfSome, true, length, slice_get};
 ghost use Rattle.jiter_scan.specs.NumberReading.{number_at};
-ghost use Rattle.jiter_scan.specs.NumberView.{number_view};
+ghost use Rattle.jiter_scan.specs.NumberDecoder.{number_view};
 ghost use Rattle.jiter_scan.specs.Scanned.{Scans, taken};
 ghost use Rattle.jiter_steps.specs.Blank.{is_blank, past_blanks};
 ghost use Rattle.jiter_steps.specs.Literal.{start_of, word_of, literal_at};

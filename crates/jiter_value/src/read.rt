@@ -1,6 +1,6 @@
 //! Reading one value, by recursion.
 ghost use Rattle.std.specs.Prelude.{◌≡◌, ◌≤◌, ◌<◌, OnOk, false, length};
-ghost use Rattle.jiter_scan.specs.NumberView.{number_view};
+ghost use Rattle.jiter_scan.specs.NumberDecoder.{number_view};
 ghost use Rattle.jiter_steps.specs.Blank.{past_blanks};
 ghost use Rattle.jiter_steps.specs.Literal.{literal_tree};
 ghost use Rattle.jiter_steps.specs.Node.{number_tree};
