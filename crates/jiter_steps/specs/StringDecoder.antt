@@ -5,6 +5,7 @@ use Rattle.std.specs.Cow.{cow_str_bytes}
 use Rattle.std.specs.declared.alloc.Global.{Global}
 use Rattle.std.specs.declared.borrow.CowStr.{CowStr}
 use Rattle.std.specs.declared.borrow.CowStr.TheVariants as text
+use Rattle.jiter_scan.specs.Ascii as ascii
 use Rattle.jiter_scan.specs.Kind.{fault_kind}
 use Rattle.jiter_scan.specs.Scan.{scan_stop}
 use Rattle.jiter_steps.specs.Tree.{Text}
@@ -50,4 +51,4 @@ found_seen (place.End s) = over (stop_seen s)
 
 -- Only a string with a backslash wants memory: the plain bytes behind its quote end at one.
 abbrev pub WantsMemory : List ℕ → ℕ → Type 0
-WantsMemory t at = slice_get t (scan_stop t (at + 1)) ≡ Some 92
+WantsMemory t at = slice_get t (scan_stop t (at + 1)) ≡ Some ascii.backslash

@@ -2,6 +2,7 @@
 use Rattle.std.specs.Prelude.{ℕ, zero, suc, ◌+◌, ◌-◌, ◌==◌, ◌||◌, Bool, true, false, if◌then◌else◌, List, [], ◌∷◌, ◌++◌, length, take, drop, slice_get, slice_index, slice_range, Option, Some, None, nat_lt}
 use Rattle.std.specs.Char.{encode_utf8}
 use Rattle.std.specs.Str.Lossy.{utf8_valid_len, utf8_error_len}
+use Rattle.jiter_scan.specs.Ascii as ascii
 use Rattle.jiter_scan.specs.Scanned.{Scanned, taken, failed}
 use Rattle.jiter_steps.specs.Piece.{Piece}
 use Rattle.jiter_steps.specs.Tree.{Text}
@@ -58,11 +59,11 @@ paired high j low = if is_low low then part (encode_utf8 (pair_of high low)) tru
 -- behind the digits of a high surrogate, and behind the backslash there
 abbrev pub second_u : List ℕ → ℕ → ℕ → Option ℕ → Found
 second_u t high i None = over cut
-second_u t high i (Some b) = if b == 117 then unit_then t (i + 1) (paired high) else over (wrong end_of_hex_escape i)
+second_u t high i (Some b) = if b == ascii.small_u then unit_then t (i + 1) (paired high) else over (wrong end_of_hex_escape i)
 
 abbrev pub second : List ℕ → ℕ → ℕ → Option ℕ → Found
 second t high i None = over cut
-second t high i (Some b) = if b == 92 then second_u t high (i + 1) (slice_get t (i + 1)) else over (wrong end_of_hex_escape i)
+second t high i (Some b) = if b == ascii.backslash then second_u t high (i + 1) (slice_get t (i + 1)) else over (wrong end_of_hex_escape i)
 
 -- an escape's number, which ends at j
 abbrev pub single : ℕ → ℕ → Found
@@ -78,17 +79,17 @@ short i (Some c) = part (encode_utf8 c) true (i + 1)
 -- behind a backslash
 abbrev pub escaped : List ℕ → ℕ → Option ℕ → Found
 escaped t i None = over cut
-escaped t i (Some b) = if b == 117 then unit_then t (i + 1) (numbered t) else short i (short_escape b)
+escaped t i (Some b) = if b == ascii.small_u then unit_then t (i + 1) (numbered t) else short i (short_escape b)
 
 abbrev pub plain : ℕ → ℕ → Found
-plain i b = if nat_lt b 32 then over (wrong control_character i) else part (b ∷ []) false (i + 1)
+plain i b = if nat_lt b ascii.space then over (wrong control_character i) else part (b ∷ []) false (i + 1)
 
 abbrev pub unquoted : List ℕ → ℕ → ℕ → Found
-unquoted t i b = if b == 92 then escaped t (i + 1) (slice_get t (i + 1)) else plain i b
+unquoted t i b = if b == ascii.backslash then escaped t (i + 1) (slice_get t (i + 1)) else plain i b
 
 abbrev pub found : List ℕ → ℕ → Option ℕ → Found
 found t i None = over unclosed
-found t i (Some b) = if b == 34 then over (closed (i + 1)) else unquoted t i b
+found t i (Some b) = if b == ascii.quote then over (closed (i + 1)) else unquoted t i b
 
 unfoldable pub found_at : List ℕ → ℕ → Found
 found_at t i = found t i (slice_get t i)
