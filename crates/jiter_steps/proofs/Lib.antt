@@ -19,7 +19,7 @@ pub mod NodesFront
 pub mod NumberCut
 pub mod Parts
 pub mod Pieces
-pub mod PlacesExplained
+pub mod Places
 pub mod PlainRuns
 pub mod Prefixes
 pub mod ReadFront

@@ -10,7 +10,7 @@ use Rattle.std.proofs.lemmas.List.Sums.{prefix_len-le-length, prefix_len-drop_al
 use Rattle.std.proofs.lemmas.Option.{slice_get_within, get_or_from_slice_get}
 use Rattle.jiter_scan.specs.Scan.{is_stop, is_plain, scan_stop}
 use Rattle.jiter_scan.proofs.Runs.{run_end-passing, run_end-stopping, run_end-past, run_end-ahead, run_end-within, run_end-passes, run_end-stops}
-use Rattle.jiter_steps.specs.StringReading.{part, over, found_at, Stop, Body, before, body_at}
+use Rattle.jiter_steps.specs.StringReading.{part, over, place_at, Stop, Body, before, body_at}
 use Rattle.jiter_steps.proofs.DecodeSteps.{plain_more, part_more, part_over}
 
 plain-no_quote : (b : ℕ) → is_plain b ≡ true → b ≢ 34
@@ -75,7 +75,7 @@ module _ (t : List ℕ) where
 
   -- and the character of an escape
   pub decode_more : (old tape next after bs : List ℕ) (from at to end : ℕ) → old ++ (body_at t from).bytes ≡ tape ++ (body_at t at).bytes → (body_at t from).stop ≡ (body_at t at).stop → at ≤ length t → to ≡ scan_stop t at
-      → next ≡ tape ++ slice_range t at to → part bs true end ≡ found_at t to → after ≡ next ++ bs
+      → next ≡ tape ++ slice_range t at to → part bs true end ≡ place_at t to → after ≡ next ++ bs
       → (old ++ (body_at t from).bytes ≡ after ++ (body_at t end).bytes) × ((body_at t from).stop ≡ (body_at t end).stop) × (at < end) × (end ≤ length t)
   decode_more old tape next after bs from at to end h s w e n f a =
       let r = run_more old tape next from at to h s w e n in
@@ -85,7 +85,7 @@ module _ (t : List ℕ) where
 
   -- or the string is over
   pub decode_over : (old tape next : List ℕ) (from at to : ℕ) (x : Stop) → old ++ (body_at t from).bytes ≡ tape ++ (body_at t at).bytes → (body_at t from).stop ≡ (body_at t at).stop → at ≤ length t → to ≡ scan_stop t at
-      → next ≡ tape ++ slice_range t at to → over x ≡ found_at t to → (next ≡ old ++ (body_at t from).bytes) × (x ≡ (body_at t from).stop)
+      → next ≡ tape ++ slice_range t at to → over x ≡ place_at t to → (next ≡ old ++ (body_at t from).bytes) × (x ≡ (body_at t from).stop)
   decode_over old tape next from at to x h s w e n f =
       let r = run_more old tape next from at to h s w e n in
       let m = part_over t old next from to x r.0 r.1 (sym f) in
