@@ -1,3 +1,4 @@
+mod Rows
 pub mod Answered
 pub mod Blanks
 pub mod Bodies
@@ -18,12 +19,11 @@ pub mod NodesFront
 pub mod NumberCut
 pub mod Parts
 pub mod Pieces
-pub mod PlacesExplained
+pub mod Places
 pub mod PlainRuns
 pub mod Prefixes
 pub mod ReadFront
 pub mod RowSteps
-mod Rows
 pub mod ScalarLaws
 pub mod Sound
 pub mod SpelledParts

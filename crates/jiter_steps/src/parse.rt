@@ -10,7 +10,7 @@ ghost use Rattle.jiter_steps.specs.Step.{step, array_first, array_comma, array_s
 ghost use Rattle.jiter_steps.specs.Read.{scalar_at};
 ghost use Rattle.jiter_steps.specs.ReadError.{WhereRefused};
 ghost use Rattle.jiter_steps.specs.StringReading.{string_at, whole};
-ghost use Rattle.jiter_steps.specs.StringDecoder.{text_seen, WantsMemory};
+ghost use Rattle.jiter_steps.specs.StringDecoder.{text_view, WantsMemory};
 
 use crate::read_error::ReadError;
 use crate::string_decoder::string_at;
@@ -392,7 +392,7 @@ impl<'j> Parser<'j> {
     pub fn string(&mut self, alloc: Global, tape: &mut Vec<u8>) -> Result<CowStr<'j>, ReadError>
         requires { self.old.index < length self.old.bytes.now }
         ensures moves { Moves self.old self.new }
-        ensures value { Gives text_seen result self.new.index
+        ensures value { Gives text_view result self.new.index
             (scalar_at self.old.index (string_at whole self.old.bytes.now self.old.index)) }
         ensures ahead { OnOk result (self.old.index < self.new.index) }
         ensures place { OnErr result (self.new.index ≡ self.old.index) }

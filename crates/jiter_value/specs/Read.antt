@@ -8,14 +8,14 @@ use Rattle.jiter_steps.specs.Tree.{Text, Tree}
 use Rattle.jiter_steps.specs.Read.{Reading, done, fault, Container, behind_key, array_of, object_of, inside_at}
 use Rattle.jiter_steps.specs.Answer.{whole_trees}
 use Rattle.jiter_steps.specs.ReadError.{UnlessRefused}
-use Rattle.jiter_steps.specs.StringDecoder.{text_seen}
+use Rattle.jiter_steps.specs.StringDecoder.{text_view}
 use Rattle.jiter_steps.specs.declared.read_error.ReadError.{ReadError}
 use Rattle.jiter_value.specs.Value.{view}
 use Rattle.jiter_value.specs.declared.value.JsonValue.{JsonValue}
 
 -- a member, by its key's text and its value's tree
 abbrev pub member_view : CowStr Global × JsonValue → Text × Tree
-member_view m = (text_seen m.0, view m.1)
+member_view m = (text_view m.0, view m.1)
 
 -- the array and the object that begin at i, with this room for containers inside
 abbrev pub array_at : Bool → ℕ → ℕ → List ℕ → Container Tree Tree
