@@ -3,7 +3,6 @@
 
 mod asking;
 mod looking;
-mod memory;
 mod print;
 mod running;
 mod settings;

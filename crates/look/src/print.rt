@@ -6,7 +6,7 @@ ghost use Rattle.jiter_value.specs.Value.{view, views, member_views};
 ghost use Rattle.look.specs.Print.{print_of, print_items, print_members, comma, print_text, print_byte, escape_of};
 ghost use Rattle.look.specs.Print.{needs_escape, hex_digit};
 
-use crate::memory::{Refused, extend, push};
+use jiter_scan::memory::{Refused, extend, push};
 use jiter::{JsonArray, JsonObject, JsonValue};
 use std::alloc::Global;
 

@@ -7,7 +7,7 @@ ghost use Rattle.look.specs.Printed.{PrintsAgain};
 ghost use Rattle.look.specs.Run.{AppendsFront, IsOfMemory, IsUnread, line_of, line_view, status_of, Wrote, WroteNothing};
 ghost use Rattle.look.specs.Run.{WroteIfAny};
 
-use crate::memory::{Refused, push};
+use jiter_scan::memory::{Refused, push};
 use crate::print::print;
 use jiter::{JsonError, JsonErrorType, JsonValue, PartialMode};
 use std::alloc::{AllocError, Global};
