@@ -4,7 +4,8 @@ ghost use Rattle.std.specs.Option.{option_map};
 ghost use Rattle.std.specs.Io.KnownBytes.{Appends, IsAtEnd};
 ghost use Rattle.jiter_steps.specs.Answer.{answer};
 ghost use Rattle.look.specs.Printed.{PrintsAgain};
-ghost use Rattle.look.specs.Run.{AppendsFront, IsOfMemory, IsUnread, line_of, line_view, status_of, Wrote, WroteNothing};
+ghost use Rattle.look.specs.Run.{AppendsFront, IsOfMemory, IsUnread, line_of, line_view, status_of, Wrote};
+ghost use Rattle.look.specs.Run.{WroteNothing};
 ghost use Rattle.look.specs.Run.{WroteIfAny};
 
 use crate::memory::{Refused, push};
