@@ -112,7 +112,8 @@ pub fn run<R: Read, O: Write, E: Write>(
     ensures unread { IsUnread (R.remaining reader.new) → WroteNothing result
         (O.contents out.old) (O.contents out.new) (E.contents err.old) (E.contents err.new) }
     // A value's line is again a document of the value that was read, under the same setting.
-    ensures again { IfSome (R.remaining reader.old) (λ text. PrintsAgain inf_nan (answer inf_nan text)) }
+    ensures again { IfSome (R.remaining reader.old)
+        (λ text. PrintsAgain inf_nan (answer inf_nan text)) }
 {
     match read_line(alloc, reader, inf_nan) {
         Ok(line) => show(Some(line), out, err),
