@@ -1,24 +1,42 @@
 -- What the line holds after one digit or one byte more.
-use Rattle.std.proofs.Common.{◌≡◌, ℕ, ◌+◌, ◌/◌, ◌%◌, ◌^◌, ◌<◌, ◌≤◌, true, false, List, [], ◌∷◌, ◌++◌, length}
-use Rattle.std.proofs.Common.{take, sym, ap, ◌∙◌, arith, append_assoc}
+use Rattle.std.proofs.Common.{◌≡◌, ℕ, ◌+◌, ◌-◌, ◌/◌, ◌%◌, ◌^◌, ◌<◌, ◌≤◌, true, false, List, [], ◌∷◌, ◌++◌, length, take}
+use Rattle.std.proofs.Common.{drop}
+use Rattle.std.proofs.Common.{set, sym, ap, ◌∙◌, arith, append_assoc}
 use Rattle.std.specs.Prelude.{slice_index, slice_range, flat_map, decimal}
-use Rattle.std.proofs.lemmas.List.{append-nil, take_more, flat_map_more}
+use Rattle.std.proofs.lemmas.List.{append-nil, drop-set, length-append, length-drop, length-set, take_all, take_more}
+use Rattle.std.proofs.lemmas.List.{flat_map_more}
 use Rattle.std.proofs.lemmas.List.Edits.{between_more, between_none}
-use Rattle.std.proofs.lemmas.Fmt.{decimal_step, decimal_digit}
+use Rattle.std.proofs.lemmas.Fmt.{decimal_step, decimal_digit, decimal_nonempty}
 use Rattle.jiter_scan.proofs.Choices.{if-true, if-false}
 use Rattle.look.specs.Print.{print_byte, escape_of, needs_escape}
 
--- a digit behind the digits of a tenth
-pub digit-more : (before : List ℕ) (n : ℕ) → 10 ≤ n → n < 2 ^ 64
-    → (before ++ decimal (n / 10)) ++ ((48 + n % 10) ∷ []) ≡ before ++ decimal n
-digit-more before n h fits =
-    append_assoc before (decimal (n / 10)) _ ∙ ap (λ ds. before ++ ds) (sym (decimal_step n h fits))
+-- of 64 bits, where the last digit is taken there is room for another, and the rest has room before it
+pub room-more : (rest begin : ℕ) → 10 ≤ rest → rest < 2 ^ 64 → length (decimal rest) ≤ begin + 1
+    → (length (decimal (rest / 10)) ≤ begin) × (0 < begin)
+room-more rest begin h fits room =
+    let long : length (decimal rest) ≡ length (decimal (rest / 10)) + 1 =
+    ap length (decimal_step rest h fits) ∙ length-append (decimal (rest / 10)) _ in
+    let some = decimal_nonempty (rest / 10) (omega arith) in
+    (omega arith, omega arith)
 
--- the only digit
-pub digit-one : (before : List ℕ) (n : ℕ) → n < 10 → before ++ ((48 + n % 10) ∷ []) ≡ before ++ decimal n
-digit-one before n h =
-    let same : n % 10 ≡ n = omega arith in
-    ap (λ d. before ++ ((48 + d) ∷ [])) same ∙ ap (λ ds. before ++ ds) (sym (decimal_digit n h))
+-- the last digit of the rest stands before those that are written
+pub digit-more : (digits before : List ℕ) (begin rest : ℕ) → 10 ≤ rest → rest < 2 ^ 64 → begin < length digits
+    → before ≡ decimal rest ++ drop (begin + 1) digits
+    → before ≡ decimal (rest / 10) ++ drop begin (set digits begin (48 + rest % 10))
+digit-more digits before begin rest h fits within written =
+    written ∙ ap (λ ds. ds ++ drop (begin + 1) digits) (decimal_step rest h fits)
+    ∙ append_assoc (decimal (rest / 10)) _ _
+    ∙ ap (λ ds. decimal (rest / 10) ++ ds) (sym (drop-set digits begin (48 + rest % 10) within))
+
+-- the first digit is the last that is written, and then all stand from its place on
+pub digit-first : (digits before : List ℕ) (size begin rest : ℕ) → rest < 10 → begin < length digits
+    → length digits ≡ size → before ≡ decimal rest ++ drop (begin + 1) digits
+    → take (size - begin) (drop begin (set digits begin (48 + rest))) ≡ before
+digit-first digits before size begin rest h within is written =
+    let all = set digits begin (48 + rest) in
+    take_all (size - begin) (drop begin all) (omega (arith, length-drop begin all, length-set digits begin (48 + rest)))
+    ∙ drop-set digits begin (48 + rest) within
+    ∙ sym (written ∙ ap (λ ds. ds ++ drop (begin + 1) digits) (decimal_digit rest h))
 
 -- the text up to a byte, and that byte
 printed-more : (bs : List ℕ) (i : ℕ) → i < length bs

@@ -89,14 +89,20 @@ fn append_integer(number: i64, line: &mut Vec<u8>) -> Result<(), Refused>
     append_digits(number.unsigned_abs(), line)
 }
 
-// The digits of a number.
+// The digits of a number, from the last one on.
 fn append_digits(number: u64, line: &mut Vec<u8>) -> Result<(), Refused>
     ensures { OnOk result (line.new.items ≡ line.old.items ++ decimal number) }
 {
-    if number >= 10 {
-        append_digits(number / 10, line)?;
+    let mut digits = [b'0'; 20];
+    let mut begin = 19;
+    let mut rest = number;
+    while rest >= 10 {
+        digits[begin] = b'0' + (rest % 10) as u8;
+        begin -= 1;
+        rest /= 10;
     }
-    push(line, b'0' + (number % 10) as u8)
+    digits[begin] = b'0' + rest as u8;
+    extend(line, &digits[begin..])
 }
 
 // A text between quotes: runs of bytes that stay as they are, and escapes between them.

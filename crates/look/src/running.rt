@@ -4,7 +4,8 @@ ghost use Rattle.std.specs.Option.{option_map};
 ghost use Rattle.std.specs.Io.KnownBytes.{Appends, IsAtEnd};
 ghost use Rattle.jiter_steps.specs.Answer.{answer};
 ghost use Rattle.look.specs.Printed.{PrintsAgain};
-ghost use Rattle.look.specs.Run.{AppendsFront, IsOfMemory, IsUnread, line_of, line_view, status_of, Wrote, WroteNothing};
+ghost use Rattle.look.specs.Run.{AppendsFront, IsOfMemory, IsUnread, line_of, line_view, status_of, Wrote};
+ghost use Rattle.look.specs.Run.{WroteNothing};
 ghost use Rattle.look.specs.Run.{WroteIfAny};
 
 use jiter_scan::memory::{Refused, push};
@@ -111,7 +112,8 @@ pub fn run<R: Read, O: Write, E: Write>(
     ensures unread { IsUnread (R.remaining reader.new) → WroteNothing result
         (O.contents out.old) (O.contents out.new) (E.contents err.old) (E.contents err.new) }
     // A value's line is again a document of the value that was read, under the same setting.
-    ensures again { IfSome (R.remaining reader.old) (λ text. PrintsAgain inf_nan (answer inf_nan text)) }
+    ensures again { IfSome (R.remaining reader.old)
+        (λ text. PrintsAgain inf_nan (answer inf_nan text)) }
 {
     match read_line(alloc, reader, inf_nan) {
         Ok(line) => show(Some(line), out, err),

@@ -107,7 +107,8 @@ fn run_over_failing(
     err: &mut FailingWriter,
 ) -> End
     ensures { Wrote (line_of false text.now) result
-        (Some out.old.got.items) (Some out.new.got.items) (Some err.old.got.items) (Some err.new.got.items) }
+        (Some out.old.got.items) (Some out.new.got.items)
+        (Some err.old.got.items) (Some err.new.got.items) }
 {
     let mut reader = FailingReader {
         rest: text,
