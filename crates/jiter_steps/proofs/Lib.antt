@@ -7,6 +7,7 @@ pub mod Instances
 pub mod NodeRules
 pub mod Nodes
 pub mod Pieces
+pub mod Resumed
 pub mod PlacesExplained
 pub mod RowSteps
 pub mod StringComplete
