@@ -11,5 +11,6 @@ pub mod NumberTexts
 pub mod Words
 pub mod NumberBytes
 pub mod NumberLaws
+pub mod Computed
 mod Rows
 pub mod NumberTests

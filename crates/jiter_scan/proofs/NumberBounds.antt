@@ -1,17 +1,17 @@
 -- How far the reading of a number gets.
-use Rattle.std.proofs.Common.{◌≡◌, ◌≢◌, ℕ, ◌+◌, ◌<◌, ◌≤◌, Bool, true, false, ◌||◌, List, length, refl, sym, ◌∙◌, arith}
+use Rattle.std.proofs.Common.{◌≡◌, ◌≢◌, ℕ, ◌+◌, ◌<◌, ◌≤◌, Bool, true, false, ◌||◌, List, length, slice_range, refl, sym, ◌∙◌, arith}
 use Rattle.std.specs.Prelude.{slice_get, Option, Some, None, ◌==◌, if◌then◌else◌, nat_le, codes}
 use Rattle.std.proofs.lemmas.Bool.{leb-false, false≢true}
 use Rattle.std.proofs.lemmas.Option.{slice_get_within}
 use Rattle.jiter_scan.specs.Digits.{is_digit, digit_run}
 use Rattle.jiter_scan.specs.Kind.{Kind, out_of_memory, is_end_kind, eof_value, expected_value, invalid_number, number_out_of_range}
-use Rattle.jiter_scan.specs.Number.{digit_limit}
-use Rattle.jiter_scan.specs.NumberReading.{extent_then, digits_from, zero_ended, within_limit, whole_from, whole_at, fraction_from, fraction_at, power_from, exponent_from, exponent_at, decimal_at, signed_from, name_at, extent_from, number_extent, valued, number_at}
-use Rattle.jiter_scan.specs.Scanned.{taken, failed}
+use Rattle.jiter_scan.specs.Number.{Number, digit_limit, number_value}
+use Rattle.jiter_scan.specs.NumberReading.{extent_then, digits_from, zero_ended, within_limit, whole_from, whole_at, fraction_from, fraction_at, power_from, exponent_from, exponent_at, decimal_at, signed_from, name_at, extent_from, number_extent, valued, number_at, Integer, whole, float_seen, is_float_sign, integer_ended, integer_behind, integer_signed, integer_from, int_at, alone, integer_alone, if_number, begins_number, number_alone, int_alone}
+use Rattle.jiter_scan.specs.Scanned.{Scanned, taken, failed}
 use Rattle.jiter_scan.specs.Word.{Extent, word_at}
 use Rattle.jiter_scan.proofs.Choices.{if_case}
 use Rattle.jiter_scan.proofs.Runs.{digit_run-digit, digit_run-within}
-use Rattle.jiter_scan.proofs.Scanning.{ScalarWithin, FaultAt}
+use Rattle.jiter_scan.proofs.Scanning.{ScalarWithin, Within, FaultAt}
 use Rattle.jiter_scan.proofs.Standing.{get-none}
 use Rattle.jiter_scan.proofs.WordLaws.{WordWithin, word_at-within}
 
@@ -138,6 +138,49 @@ module _ (t : List ℕ) where
   pub number_extent-reaches : (names : Bool) (i : ℕ) → i ≤ length t → Reaches t i 1 (number_extent names t i)
   number_extent-reaches names i le = extent_from-reaches names i (slice_get t i) refl le
 
+  integer_ended-within : (i e : ℕ) (o : Option ℕ) → e ≤ length t → Within t (integer_ended t i e o)
+  integer_ended-within i e None h = h
+  integer_ended-within i e (Some c) h =
+      if_case (Within t) (is_float_sign c) (taken float_seen e) (taken (whole (number_value (slice_range t i e))) e) (λ _. h) (λ _. h)
+
+  integer_behind-within : (i j : ℕ) (x : Extent) → Reaches t j 1 x → Within t (integer_behind t i x)
+  integer_behind-within i j (taken u e) h = integer_ended-within i e (slice_get t e) h.1
+  integer_behind-within i j (failed k e) h = h.1
+
+  integer_signed-within : (i : ℕ) (o : Option ℕ) → slice_get t (i + 1) ≡ o → i + 1 ≤ length t → Within t (integer_signed t i o)
+  integer_signed-within i None s le = (end-reaches (i + 1) 0 eof_value (λ e. cc) le s).1
+  integer_signed-within i (Some c) s le =
+      if_case (Within t) (c == 73) (taken float_seen (i + 1)) (integer_behind t i (whole_at t (i + 1)))
+      (λ _. le) (λ _. integer_behind-within i (i + 1) (whole_at t (i + 1)) (whole_at-reaches (i + 1) le))
+
+  integer_from-within : (i : ℕ) (o : Option ℕ) → slice_get t i ≡ o → i ≤ length t → Within t (integer_from t i o)
+  integer_from-within i None s le = (end-reaches i 0 eof_value (λ e. cc) le s).1
+  integer_from-within i (Some c) s le =
+      let lt = slice_get_within t i c s in
+      if_case (Within t) (c == 45) (integer_signed t i (slice_get t (i + 1))) (if (c == 78) || (c == 73) then taken float_seen i else integer_behind t i (whole_at t i))
+      (λ _. integer_signed-within i (slice_get t (i + 1)) refl (omega arith))
+      (λ _. if_case (Within t) ((c == 78) || (c == 73)) (taken float_seen i) (integer_behind t i (whole_at t i))
+      (λ _. le) (λ _. integer_behind-within i i (whole_at t i) (whole_at-reaches i le)))
+
+  alone-within : (x : Scanned Number) → Within t x → Within t (alone t x)
+  alone-within (taken n e) h =
+      if_case (Within t) (length t == e) (taken n e) (failed invalid_number e) (λ _. h) (λ _. (fault-reaches 0 0 e invalid_number (λ e. cc) refl (omega arith) h).1)
+  alone-within (failed k j) h = h
+
+  integer_alone-within : (x : Scanned Integer) → Within t x → Within t (integer_alone x)
+  integer_alone-within (taken (whole n) e) h = h
+  integer_alone-within (taken float_seen j) h = (fault-reaches 0 0 j invalid_number (λ e. cc) refl (omega arith) h).1
+  integer_alone-within (failed k j) h = h
+
+  if_number-within : (o : Option ℕ) (x : Scanned Number) → Within t x → Within t (if_number o x)
+  if_number-within None x h = (fault-reaches 0 0 0 invalid_number (λ e. cc) refl (omega arith) (omega arith)).1
+  if_number-within (Some c) x h =
+      if_case (Within t) (begins_number c) x (failed invalid_number 0) (λ _. h) (λ _. (fault-reaches 0 0 0 invalid_number (λ e. cc) refl (omega arith) (omega arith)).1)
+
+  valued-inside : (i : ℕ) (x : Extent) → Reaches t i 1 x → Within t (valued t i x)
+  valued-inside i (taken u e) h = h.1
+  valued-inside i (failed k j) h = h.1
+
   valued-within : (i : ℕ) (x : Extent) → Reaches t i 1 x → ScalarWithin t i (valued t i x)
   valued-within i (taken u e) h = (omega (arith, h.0), h.1)
   valued-within i (failed k j) h = h
@@ -146,3 +189,20 @@ module _ (t : List ℕ) where
 pub number_at-within : (names : Bool) (t : List ℕ) (i : ℕ) → i < length t → ScalarWithin t i (number_at names t i)
 unfolding number_at
 number_at-within names t i lt = valued-within t i (number_extent names t i) (number_extent-reaches t names i (omega arith))
+
+-- an integer ends within the text, and so does a float that is seen
+pub int_at-within : (t : List ℕ) (i : ℕ) → i ≤ length t → Within t (int_at t i)
+unfolding int_at
+int_at-within t i le = integer_from-within t i (slice_get t i) refl le
+
+-- what is refused of a whole text is a fault of its bytes
+pub number_alone-within : (names : Bool) (t : List ℕ) → Within t (number_alone names t)
+unfolding number_at
+number_alone-within names t =
+    if_number-within t (slice_get t 0) (alone t (number_at names t 0))
+    (alone-within t (number_at names t 0) (valued-inside t 0 (number_extent names t 0) (number_extent-reaches t names 0 (omega arith))))
+
+pub int_alone-within : (t : List ℕ) → Within t (int_alone t)
+int_alone-within t =
+    if_number-within t (slice_get t 0) (alone t (integer_alone (int_at t 0)))
+    (alone-within t (integer_alone (int_at t 0)) (integer_alone-within t (int_at t 0) (int_at-within t 0 (omega arith))))

@@ -1,5 +1,4 @@
 -- Worked rows on the definitions, by computation.
-pub mod Computed
 mod Positions
 mod Descriptions
 mod NumbersAtAPlace

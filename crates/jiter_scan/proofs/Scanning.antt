@@ -1,15 +1,24 @@
 -- How far the reading of a scalar gets, and where its faults stand.
-use Rattle.std.proofs.Common.{◌≡◌, ◌≢◌, ℕ, ◌<◌, ◌≤◌, true, List, length}
-use Rattle.jiter_scan.specs.Kind.{Kind, is_end_kind, out_of_memory}
-use Rattle.jiter_scan.specs.Scanned.{Scanned, taken, failed}
-
--- A fault of the bytes at j: within the text, at its length where the input ended, and not want of memory.
-pub record FaultAt (t : List ℕ) (k : Kind) (j : ℕ) : Type 0 where
-  pub within : j ≤ length t
-  pub ends : is_end_kind k ≡ true → j ≡ length t
-  pub bytes : k ≢ out_of_memory
+use Rattle.std.proofs.Common.{◌≡◌, ℕ, ◌<◌, ◌≤◌, ◌∙◌, List, length, sym, ap, subst}
+use Rattle.std.specs.Prelude.{Err}
+use Rattle.jiter_scan.specs.Kind.{Kind, kind_of, fault_kind}
+use Rattle.jiter_scan.specs.Scanned.{Scanned, taken, failed, AnswersAlone}
+use Rattle.jiter_scan.specs.declared.errors.Fault.{Fault}
+use Rattle.jiter_scan.specs.declared.errors.JsonError.{JsonError}
+pub use Rattle.jiter_scan.specs.Scanned.{FaultAt}
 
 -- behind i and within the text; a fault at or behind i
 abbrev pub ScalarWithin : {A : Type 0} → List ℕ → ℕ → Scanned A → Type 0
 ScalarWithin t i (taken a e) = (i < e) × (e ≤ length t)
 ScalarWithin t i (failed k j) = (i ≤ j) × FaultAt t k j
+
+-- within the text, or a fault of its bytes
+abbrev pub Within : {A : Type 0} → List ℕ → Scanned A → Type 0
+Within t (taken a e) = e ≤ length t
+Within t (failed k j) = FaultAt t k j
+
+-- a public call that hands on a fault of a reading within the text
+pub AnswersAlone-fault : {X A : Type 0} (view : X → A) (t : List ℕ) (s : Scanned A) (f : Fault) (e : JsonError) → Within t s → s ≡ failed (fault_kind f.kind) f.index → (kind_of e.error_type ≡ fault_kind f.kind) × (e.index ≡ f.index) → AnswersAlone view t (Err e) s
+AnswersAlone-fault view t s f e law is same =
+    let found : s ≡ failed (kind_of e.error_type) e.index = is ∙ sym (ap (λ k. failed k e.index) same.0 ∙ ap (λ j. failed (fault_kind f.kind) j) same.1) in
+    (found, subst (Within t) found law)

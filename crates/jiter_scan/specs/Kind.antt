@@ -2,7 +2,10 @@
 use Rattle.std.specs.Prelude.{ℕ, Bool, true, false, List, codes}
 use Rattle.jiter_scan.specs.declared.errors.JsonErrorType.{JsonErrorType}
 use Rattle.jiter_scan.specs.declared.errors.JsonErrorType.TheVariants as code
+use Rattle.jiter_scan.specs.declared.errors.FaultKind.{FaultKind}
+use Rattle.jiter_scan.specs.declared.errors.FaultKind.TheVariants as fault
 
+-- why bytes are refused, and want of memory
 pub data Kind : Type 0 where
   float_expecting_int : Kind
   eof_list : Kind
@@ -76,6 +79,29 @@ kind_of code.TrailingCharacters = trailing_characters
 kind_of code.UnexpectedEndOfHexEscape = end_of_hex_escape
 kind_of code.RecursionLimitExceeded = recursion_limit
 kind_of code.OutOfMemory = out_of_memory
+
+-- the kind that the code's variant of a fault of the bytes stands for
+abbrev pub fault_kind : FaultKind → Kind
+fault_kind fault.EofWhileParsingList = eof_list
+fault_kind fault.EofWhileParsingObject = eof_object
+fault_kind fault.EofWhileParsingString = eof_string
+fault_kind fault.EofWhileParsingValue = eof_value
+fault_kind fault.ExpectedColon = expected_colon
+fault_kind fault.ExpectedListCommaOrEnd = expected_list_comma_or_end
+fault_kind fault.ExpectedObjectCommaOrEnd = expected_object_comma_or_end
+fault_kind fault.ExpectedSomeIdent = expected_ident
+fault_kind fault.ExpectedSomeValue = expected_value
+fault_kind fault.InvalidEscape = invalid_escape
+fault_kind fault.InvalidNumber = invalid_number
+fault_kind fault.NumberOutOfRange = number_out_of_range
+fault_kind fault.InvalidUnicodeCodePoint = invalid_code_point
+fault_kind fault.ControlCharacterWhileParsingString = control_character
+fault_kind fault.KeyMustBeAString = key_must_be_a_string
+fault_kind fault.LoneLeadingSurrogateInHexEscape = lone_surrogate
+fault_kind fault.TrailingComma = trailing_comma
+fault_kind fault.TrailingCharacters = trailing_characters
+fault_kind fault.UnexpectedEndOfHexEscape = end_of_hex_escape
+fault_kind fault.RecursionLimitExceeded = recursion_limit
 
 -- the input ended too early
 abbrev pub is_end_kind : Kind → Bool

@@ -91,37 +91,39 @@ valued t i (failed k j) = failed k j
 unfoldable pub number_at : Bool → List ℕ → ℕ → Scanned Number
 number_at names t i = valued t i (number_extent names t i)
 
--- an integer's value and end, a byte that makes it a float, or a fault
+-- an integer's value, or that a float shows
 pub data Integer : Type 0 where
-  whole : Number → ℕ → Integer
-  float_seen : ℕ → Integer
-  wrong : Kind → ℕ → Integer
+  whole : Number → Integer
+  float_seen : Integer
 
 abbrev pub is_float_sign : ℕ → Bool
 is_float_sign c = (c == 46) || (c == 101) || (c == 69)
 
-abbrev pub integer_ended : List ℕ → ℕ → ℕ → Option ℕ → Integer
-integer_ended t i e None = whole (number_value (slice_range t i e)) e
-integer_ended t i e (Some c) = if is_float_sign c then float_seen e else whole (number_value (slice_range t i e)) e
+-- the integer from i to before e, unless a float shows at e
+abbrev pub integer_ended : List ℕ → ℕ → ℕ → Option ℕ → Scanned Integer
+integer_ended t i e None = taken (whole (number_value (slice_range t i e))) e
+integer_ended t i e (Some c) =
+    if is_float_sign c then taken float_seen e else taken (whole (number_value (slice_range t i e))) e
 
 -- behind the integer part of a number that begins at i
-abbrev pub integer_behind : List ℕ → ℕ → Extent → Integer
+abbrev pub integer_behind : List ℕ → ℕ → Extent → Scanned Integer
 integer_behind t i (taken u e) = integer_ended t i e (slice_get t e)
-integer_behind t i (failed k j) = wrong k j
+integer_behind t i (failed k j) = failed k j
 
-abbrev pub integer_signed : List ℕ → ℕ → Option ℕ → Integer
-integer_signed t i None = wrong eof_value (i + 1)
-integer_signed t i (Some c) = if c == 73 then float_seen (i + 1) else integer_behind t i (whole_at t (i + 1))
+-- behind the minus at i
+abbrev pub integer_signed : List ℕ → ℕ → Option ℕ → Scanned Integer
+integer_signed t i None = failed eof_value (i + 1)
+integer_signed t i (Some c) = if c == 73 then taken float_seen (i + 1) else integer_behind t i (whole_at t (i + 1))
 
-abbrev pub integer_from : List ℕ → ℕ → Option ℕ → Integer
-integer_from t i None = wrong eof_value i
+abbrev pub integer_from : List ℕ → ℕ → Option ℕ → Scanned Integer
+integer_from t i None = failed eof_value i
 integer_from t i (Some c) =
     if c == 45 then integer_signed t i (slice_get t (i + 1))
-    else (if (c == 78) || (c == 73) then float_seen i
+    else (if (c == 78) || (c == 73) then taken float_seen i
     else integer_behind t i (whole_at t i))
 
--- The integer at i: sign and integer part, and whether a float shows behind them.
-unfoldable pub int_at : List ℕ → ℕ → Integer
+-- The integer at i and its end, or that a float shows and where: sign and integer part, and what stands behind.
+unfoldable pub int_at : List ℕ → ℕ → Scanned Integer
 int_at t i = integer_from t i (slice_get t i)
 
 -- a first byte of a number; a name's too
@@ -133,10 +135,11 @@ abbrev pub alone : List ℕ → Scanned Number → Scanned Number
 alone t (taken n e) = if length t == e then taken n e else failed invalid_number e
 alone t (failed k j) = failed k j
 
-abbrev pub integer_alone : Integer → Scanned Number
-integer_alone (whole n e) = taken n e
-integer_alone (float_seen j) = failed invalid_number j
-integer_alone (wrong k j) = failed k j
+-- an integer: a float is a fault
+abbrev pub integer_alone : Scanned Integer → Scanned Number
+integer_alone (taken (whole n) e) = taken n e
+integer_alone (taken float_seen j) = failed invalid_number j
+integer_alone (failed k j) = failed k j
 
 abbrev pub if_number : Option ℕ → Scanned Number → Scanned Number
 if_number None x = failed invalid_number 0

@@ -1,10 +1,8 @@
 -- The numbers of the code, as values, and what a function of the code says of a number that it read.
-use Rattle.std.specs.Prelude.{◌≡◌, ◌⊎◌, ◌+◌, ◌-◌, ◌^◌, ◌<◌, ◌≤◌, ℕ, min, List, Result, Ok, Err, slice_get, Some}
-use Rattle.jiter_scan.specs.Kind.{kind_of}
+use Rattle.std.specs.Prelude.{◌≡◌, ◌⊎◌, ◌+◌, ◌-◌, ◌^◌, ◌<◌, ◌≤◌, ℕ, min, List, slice_get, Some}
 use Rattle.jiter_scan.specs.Digits.{decimal_of}
 use Rattle.jiter_scan.specs.Number.{Number, integer, big, float}
 use Rattle.jiter_scan.specs.NumberReading as reading
-use Rattle.jiter_scan.specs.declared.errors.JsonError.{JsonError}
 use Rattle.jiter_scan.specs.declared.number_decoder.NumberInt.{NumberInt}
 use Rattle.jiter_scan.specs.declared.number_decoder.NumberInt.TheVariants as int
 use Rattle.jiter_scan.specs.declared.number_decoder.NumberAny.{NumberAny}
@@ -22,16 +20,15 @@ abbrev pub number_view : NumberAny → Number
 number_view (any.Int n) = int_view n
 number_view (any.Float s) = float s.now
 
--- What a function returned is this reading of an integer.
-abbrev pub ScansInteger : Result Integer JsonError → reading.Integer → Type 0
-ScansInteger (Ok (found.Whole n e)) s = s ≡ reading.whole (int_view n) e
-ScansInteger (Ok (found.FloatSeen j)) s = s ≡ reading.float_seen j
-ScansInteger (Err e) s = s ≡ reading.wrong (kind_of e.error_type) e.index
+-- the integer, or that a float shows
+abbrev pub integer_view : Integer → reading.Integer
+integer_view (found.Whole n) = reading.whole (int_view n)
+integer_view found.FloatSeen = reading.float_seen
 
 -- an integer ends behind i, a float shows at i or behind it, and neither past the length
-abbrev pub EndsWithin : ℕ → ℕ → Integer → Type 0
-EndsWithin i len (found.Whole n e) = (i < e) × (e ≤ len)
-EndsWithin i len (found.FloatSeen j) = (i ≤ j) × (j < len)
+abbrev pub EndsWithin : ℕ → ℕ → Integer × ℕ → Type 0
+EndsWithin i len (found.Whole n, e) = (i < e) × (e ≤ len)
+EndsWithin i len (found.FloatSeen, j) = (i ≤ j) × (j < len)
 
 -- the value of decimal digits, or the greatest number of 64 bits where that is less
 abbrev pub magnitude_of : List ℕ → ℕ

@@ -1,8 +1,9 @@
 //! The kinds of fault, where a fault stands, and their texts.
 ghost use Rattle.std.specs.Prelude.{◌≡◌, Some, IfOk, string_bytes};
-ghost use Rattle.jiter_scan.specs.Kind.{kind_of, kind_text};
+ghost use Rattle.jiter_scan.specs.Kind.{kind_of, fault_kind, kind_text};
 ghost use Rattle.jiter_scan.specs.Position.{position_of, position_text, description_text};
 
+use crate::memory::{Refused, copy_text, push_number, push_text};
 use std::alloc::{AllocError, Global};
 use std::fmt;
 
@@ -55,40 +56,44 @@ pub enum JsonErrorType {
     OutOfMemory,
 }
 
+impl JsonErrorType {
+    // What the kind prints.
+    fn text(&self) -> &'static str
+        ensures { result.now ≡ kind_text (kind_of self.now) }
+    {
+        match self {
+            Self::FloatExpectingInt => "float value was found where an int was expected",
+            Self::EofWhileParsingList => "EOF while parsing a list",
+            Self::EofWhileParsingObject => "EOF while parsing an object",
+            Self::EofWhileParsingString => "EOF while parsing a string",
+            Self::EofWhileParsingValue => "EOF while parsing a value",
+            Self::ExpectedColon => "expected `:`",
+            Self::ExpectedListCommaOrEnd => "expected `,` or `]`",
+            Self::ExpectedObjectCommaOrEnd => "expected `,` or `}`",
+            Self::ExpectedSomeIdent => "expected ident",
+            Self::ExpectedSomeValue => "expected value",
+            Self::InvalidEscape => "invalid escape",
+            Self::InvalidNumber => "invalid number",
+            Self::NumberOutOfRange => "number out of range",
+            Self::InvalidUnicodeCodePoint => "invalid unicode code point",
+            Self::ControlCharacterWhileParsingString =>
+                "control character (\\u0000-\\u001F) found while parsing a string",
+            Self::KeyMustBeAString => "key must be a string",
+            Self::LoneLeadingSurrogateInHexEscape => "lone leading surrogate in hex escape",
+            Self::TrailingComma => "trailing comma",
+            Self::TrailingCharacters => "trailing characters",
+            Self::UnexpectedEndOfHexEscape => "unexpected end of hex escape",
+            Self::RecursionLimitExceeded => "recursion limit exceeded",
+            Self::OutOfMemory => "out of memory",
+        }
+    }
+}
+
 impl fmt::Display for JsonErrorType {
     ghost output = { λ kind. Some (kind_text (kind_of kind)) };
 
     fn fmt<W: fmt::Write>(&self, f: &mut fmt::Formatter<W>) -> fmt::Result {
-        match self {
-            Self::FloatExpectingInt => {
-                f.write_str("float value was found where an int was expected")
-            }
-            Self::EofWhileParsingList => f.write_str("EOF while parsing a list"),
-            Self::EofWhileParsingObject => f.write_str("EOF while parsing an object"),
-            Self::EofWhileParsingString => f.write_str("EOF while parsing a string"),
-            Self::EofWhileParsingValue => f.write_str("EOF while parsing a value"),
-            Self::ExpectedColon => f.write_str("expected `:`"),
-            Self::ExpectedListCommaOrEnd => f.write_str("expected `,` or `]`"),
-            Self::ExpectedObjectCommaOrEnd => f.write_str("expected `,` or `}`"),
-            Self::ExpectedSomeIdent => f.write_str("expected ident"),
-            Self::ExpectedSomeValue => f.write_str("expected value"),
-            Self::InvalidEscape => f.write_str("invalid escape"),
-            Self::InvalidNumber => f.write_str("invalid number"),
-            Self::NumberOutOfRange => f.write_str("number out of range"),
-            Self::InvalidUnicodeCodePoint => f.write_str("invalid unicode code point"),
-            Self::ControlCharacterWhileParsingString => {
-                f.write_str("control character (\\u0000-\\u001F) found while parsing a string")
-            }
-            Self::KeyMustBeAString => f.write_str("key must be a string"),
-            Self::LoneLeadingSurrogateInHexEscape => {
-                f.write_str("lone leading surrogate in hex escape")
-            }
-            Self::TrailingComma => f.write_str("trailing comma"),
-            Self::TrailingCharacters => f.write_str("trailing characters"),
-            Self::UnexpectedEndOfHexEscape => f.write_str("unexpected end of hex escape"),
-            Self::RecursionLimitExceeded => f.write_str("recursion limit exceeded"),
-            Self::OutOfMemory => f.write_str("out of memory"),
-        }
+        f.write_str(self.text())
     }
 }
 
@@ -104,6 +109,110 @@ pub struct JsonError {
     pub index: usize,
 }
 
+/// A kind of fault of the bytes: each kind of [`JsonErrorType`] that the bytes alone can cause.
+#[derive(Debug, Clone, Copy, PartialEq, Eq)]
+pub enum FaultKind {
+    /// The input ends inside an array.
+    EofWhileParsingList,
+    /// The input ends inside an object, where no value is awaited.
+    EofWhileParsingObject,
+    /// The input ends inside a string.
+    EofWhileParsingString,
+    /// The input ends where a value is awaited, or inside a literal or a number.
+    EofWhileParsingValue,
+    /// A byte other than a colon stands behind a key (RFC 8259, 4).
+    ExpectedColon,
+    /// A byte other than a comma or `]` stands behind an item (RFC 8259, 5).
+    ExpectedListCommaOrEnd,
+    /// A byte other than a comma or `}` stands behind a member (RFC 8259, 4).
+    ExpectedObjectCommaOrEnd,
+    /// A literal or a name goes wrong (RFC 8259, 3).
+    ExpectedSomeIdent,
+    /// A byte that begins no value (RFC 8259, 3).
+    ExpectedSomeValue,
+    /// A backslash with a letter that is no escape, or with a bad hex digit (RFC 8259, 7).
+    InvalidEscape,
+    /// A number that goes wrong (RFC 8259, 6).
+    InvalidNumber,
+    /// A number with more than 4300 digits before its point or exponent.
+    NumberOutOfRange,
+    /// A string that is not UTF-8 (RFC 8259, 8.1).
+    InvalidUnicodeCodePoint,
+    /// A byte below 20 hex inside a string (RFC 8259, 7).
+    ControlCharacterWhileParsingString,
+    /// Something other than a string stands where a key is awaited (RFC 8259, 4).
+    KeyMustBeAString,
+    /// The escape of a low surrogate with no high one before it, or of a high one with no low one behind it.
+    LoneLeadingSurrogateInHexEscape,
+    /// A closer stands behind a comma (RFC 8259, 4 and 5).
+    TrailingComma,
+    /// Something other than blanks stands behind the value (RFC 8259, 2).
+    TrailingCharacters,
+    /// The escape of a high surrogate with no escape behind it.
+    UnexpectedEndOfHexEscape,
+    /// More than 200 non-empty containers one inside another.
+    RecursionLimitExceeded,
+}
+
+impl From<FaultKind> for JsonErrorType {
+    ghost from_gives = { λ kind error_type. kind_of error_type ≡ fault_kind kind };
+
+    fn from(kind: FaultKind) -> JsonErrorType {
+        match kind {
+            FaultKind::EofWhileParsingList => JsonErrorType::EofWhileParsingList,
+            FaultKind::EofWhileParsingObject => JsonErrorType::EofWhileParsingObject,
+            FaultKind::EofWhileParsingString => JsonErrorType::EofWhileParsingString,
+            FaultKind::EofWhileParsingValue => JsonErrorType::EofWhileParsingValue,
+            FaultKind::ExpectedColon => JsonErrorType::ExpectedColon,
+            FaultKind::ExpectedListCommaOrEnd => JsonErrorType::ExpectedListCommaOrEnd,
+            FaultKind::ExpectedObjectCommaOrEnd => JsonErrorType::ExpectedObjectCommaOrEnd,
+            FaultKind::ExpectedSomeIdent => JsonErrorType::ExpectedSomeIdent,
+            FaultKind::ExpectedSomeValue => JsonErrorType::ExpectedSomeValue,
+            FaultKind::InvalidEscape => JsonErrorType::InvalidEscape,
+            FaultKind::InvalidNumber => JsonErrorType::InvalidNumber,
+            FaultKind::NumberOutOfRange => JsonErrorType::NumberOutOfRange,
+            FaultKind::InvalidUnicodeCodePoint => JsonErrorType::InvalidUnicodeCodePoint,
+            FaultKind::ControlCharacterWhileParsingString =>
+                JsonErrorType::ControlCharacterWhileParsingString,
+            FaultKind::KeyMustBeAString => JsonErrorType::KeyMustBeAString,
+            FaultKind::LoneLeadingSurrogateInHexEscape =>
+                JsonErrorType::LoneLeadingSurrogateInHexEscape,
+            FaultKind::TrailingComma => JsonErrorType::TrailingComma,
+            FaultKind::TrailingCharacters => JsonErrorType::TrailingCharacters,
+            FaultKind::UnexpectedEndOfHexEscape => JsonErrorType::UnexpectedEndOfHexEscape,
+            FaultKind::RecursionLimitExceeded => JsonErrorType::RecursionLimitExceeded,
+        }
+    }
+}
+
+/// A fault of the bytes: its kind, and the byte index (from 0) that it stands at.
+#[derive(Debug, Clone, Copy, PartialEq, Eq)]
+pub struct Fault {
+    /// The kind of the fault.
+    pub kind: FaultKind,
+    /// The byte index, from 0 and at most the length.
+    pub index: usize,
+}
+
+/// The fault of this kind at this byte index.
+pub fn fault_at(kind: FaultKind, index: usize) -> Fault
+    ensures { result ≡ record { kind = kind; index = index } }
+{
+    Fault { kind, index }
+}
+
+impl From<Fault> for JsonError {
+    ghost from_gives = { λ fault error. (kind_of error.error_type ≡ fault_kind fault.kind)
+        × (error.index ≡ fault.index) };
+
+    fn from(fault: Fault) -> JsonError {
+        JsonError {
+            error_type: JsonErrorType::from(fault.kind),
+            index: fault.index,
+        }
+    }
+}
+
 impl JsonError {
     /// The line and column of the fault in the bytes that it was found in.
     pub fn get_position(&self, bytes: &[u8]) -> LinePosition
@@ -117,9 +226,21 @@ impl JsonError {
         ensures { IfOk result (λ text. string_bytes text
             ≡ description_text (kind_of self.now.error_type) self.now.index bytes.now) }
     {
+        Ok(self.described(alloc, bytes)?)
+    }
+
+    // The description, or the evidence that memory was refused.
+    fn described(&self, alloc: Global, bytes: &[u8]) -> Result<String, Refused>
+        ensures { IfOk result (λ text. string_bytes text
+            ≡ description_text (kind_of self.now.error_type) self.now.index bytes.now) }
+    {
         let position = self.get_position(bytes);
-        let kind = &self.error_type;
-        format!(in alloc; "{kind} at {position}")
+        let mut text = copy_text(alloc, self.error_type.text())?;
+        push_text(&mut text, " at line ")?;
+        push_number(&mut text, position.line)?;
+        push_text(&mut text, " column ")?;
+        push_number(&mut text, position.column)?;
+        Ok(text)
     }
 }
 

@@ -3,11 +3,13 @@
 #![tactic(auto)]
 
 pub mod errors;
+pub mod memory;
 pub mod number_decoder;
 pub mod partial_mode;
 pub mod word;
 
-pub use errors::{JsonError, JsonErrorType, JsonResult, LinePosition};
+pub use errors::{Fault, FaultKind, JsonError, JsonErrorType, JsonResult, LinePosition};
+pub use memory::Refused;
 pub use number_decoder::{NumberAny, NumberInt};
 pub use partial_mode::PartialMode;
 

@@ -1,14 +1,14 @@
 //! Numbers: integers that 64 signed bits hold, and the text of all others (RFC 8259, 6).
 ghost use Rattle.std.specs.Prelude.{◌≡◌, ◌+◌, ◌<◌, ◌≤◌, ◌==◌, ◌||◌, IfOk, IfErr, min, length, slice_get, slice_index, slice_range, Some, true};
 ghost use Rattle.std.specs.Str.{IsAscii};
-ghost use Rattle.jiter_scan.specs.Scanned.{Scans, Ends, Answers, IsFaultOf, taken};
+ghost use Rattle.jiter_scan.specs.Scanned.{Scans, with_end, whole_text, AnswersAlone, taken};
 ghost use Rattle.jiter_scan.specs.Word.{word_at};
 ghost use Rattle.jiter_scan.specs.Digits.{is_digit, digit_run};
 ghost use Rattle.jiter_scan.specs.Number.{digit_limit, is_float_byte, positive_value, negative_value, number_value};
 ghost use Rattle.jiter_scan.specs.NumberReading.{extent_then, digits_from, zero_ended, within_limit, whole_at, fraction_at, exponent_at, power_from, decimal_at, is_float_sign, signed_from, name_at, valued, number_at, int_at, integer_behind, integer_signed, begins_number, number_alone, int_alone};
-ghost use Rattle.jiter_scan.specs.NumberView.{int_view, number_view, ScansInteger, EndsWithin, magnitude_of, IsMinusTo};
+ghost use Rattle.jiter_scan.specs.NumberView.{int_view, number_view, integer_view, EndsWithin, magnitude_of, IsMinusTo};
 
-use crate::errors::{JsonError, JsonErrorType, JsonResult};
+use crate::errors::{Fault, FaultKind, JsonError, JsonResult, fault_at};
 use crate::word::{byte_at, word_end};
 
 /// An integer.
@@ -36,22 +36,11 @@ impl<'j> NumberInt<'j> {
     /// their index, bytes that end inside the integer `EofWhileParsingValue` at the length, and more than
     /// 4300 digits `NumberOutOfRange` behind the 4301st.
     pub fn from_bytes(bytes: &'j [u8]) -> JsonResult<Self>
-        ensures value { Answers int_view (length bytes.now) result (int_alone bytes.now) }
-        ensures fault { IfErr result (IsFaultOf bytes.now) }
+        ensures value { AnswersAlone int_view bytes.now result (int_alone bytes.now) }
     {
-        if !bytes.first().copied().is_some_and(begins_number) {
-            return Err(fault(JsonErrorType::InvalidNumber, 0));
-        }
-        match int_at(bytes, 0) {
-            Ok(Integer::Whole(number, end)) => {
-                if end == bytes.len() {
-                    Ok(number)
-                } else {
-                    Err(fault(JsonErrorType::InvalidNumber, end))
-                }
-            }
-            Ok(Integer::FloatSeen(index)) => Err(fault(JsonErrorType::InvalidNumber, index)),
-            Err(error) => Err(error),
+        match int_alone(bytes) {
+            Ok(number) => Ok(number),
+            Err(fault) => Err(JsonError::from(fault)),
         }
     }
 }
@@ -60,8 +49,7 @@ impl<'j> TryFrom<&'j [u8]> for NumberInt<'j> {
     type Error = JsonError;
 
     ghost try_from_gives = { λ bytes result.
-        Answers int_view (length bytes.now) result (int_alone bytes.now)
-        × IfErr result (IsFaultOf bytes.now) };
+        AnswersAlone int_view bytes.now result (int_alone bytes.now) };
 
     fn try_from(bytes: &'j [u8]) -> JsonResult<Self> {
         Self::from_bytes(bytes)
@@ -75,29 +63,59 @@ impl<'j> NumberAny<'j> {
     /// Bytes that begin no number and a byte that does not fit are `InvalidNumber` at their index; the other
     /// refusals are those of [`number_at`].
     pub fn from_bytes(bytes: &'j [u8], allow_inf_nan: bool) -> JsonResult<Self>
-        ensures value { Answers number_view (length bytes.now) result
+        ensures value { AnswersAlone number_view bytes.now result
             (number_alone allow_inf_nan bytes.now) }
-        ensures fault { IfErr result (IsFaultOf bytes.now) }
     {
-        if !bytes.first().copied().is_some_and(begins_number) {
-            return Err(fault(JsonErrorType::InvalidNumber, 0));
+        match number_alone(bytes, allow_inf_nan) {
+            Ok(number) => Ok(number),
+            Err(fault) => Err(JsonError::from(fault)),
         }
-        let (number, end) = number_at(bytes, 0, allow_inf_nan)?;
-        if end == bytes.len() {
-            Ok(number)
-        } else {
-            Err(fault(JsonErrorType::InvalidNumber, end))
+    }
+}
+
+// The integer that the bytes are.
+fn int_alone<'j>(bytes: &'j [u8]) -> Result<NumberInt<'j>, Fault>
+    ensures { Scans (whole_text int_view bytes.now) result (int_alone bytes.now) }
+{
+    if !byte_at(bytes, 0).is_some_and(begins_number) {
+        return Err(fault_at(FaultKind::InvalidNumber, 0));
+    }
+    match int_at(bytes, 0) {
+        Ok((Integer::Whole(number), end)) => {
+            if end == bytes.len() {
+                Ok(number)
+            } else {
+                Err(fault_at(FaultKind::InvalidNumber, end))
+            }
         }
+        Ok((Integer::FloatSeen, index)) => Err(fault_at(FaultKind::InvalidNumber, index)),
+        Err(fault) => Err(fault),
+    }
+}
+
+// The number that the bytes are.
+fn number_alone<'j>(bytes: &'j [u8], allow_inf_nan: bool) -> Result<NumberAny<'j>, Fault>
+    ensures { Scans (whole_text number_view bytes.now) result
+        (number_alone allow_inf_nan bytes.now) }
+{
+    if !byte_at(bytes, 0).is_some_and(begins_number) {
+        return Err(fault_at(FaultKind::InvalidNumber, 0));
+    }
+    let (number, end) = number_at(bytes, 0, allow_inf_nan)?;
+    if end == bytes.len() {
+        Ok(number)
+    } else {
+        Err(fault_at(FaultKind::InvalidNumber, end))
     }
 }
 
 /// What stands where an integer is looked for.
 #[derive(Debug, Clone, PartialEq, Drop)]
 pub enum Integer<'j> {
-    /// An integer, and the byte index behind it.
-    Whole(NumberInt<'j>, usize),
-    /// A byte that only a float has, at this index.
-    FloatSeen(usize),
+    /// An integer.
+    Whole(NumberInt<'j>),
+    /// A byte that only a float has.
+    FloatSeen,
 }
 
 // The longest integer part that is read, in digits.
@@ -105,12 +123,6 @@ const DIGIT_LIMIT: usize = 4300;
 
 // One more than the greatest integer of 64 signed bits.
 const INT_LIMIT: u64 = 1 << 63;
-
-fn fault(error_type: JsonErrorType, index: usize) -> JsonError
-    ensures { result ≡ record { error_type = error_type; index = index } }
-{
-    JsonError { error_type, index }
-}
 
 fn is_digit(byte: u8) -> bool
     ensures { result ≡ is_digit byte }
@@ -150,38 +162,36 @@ fn digits_read(bytes: &[u8], from: usize) -> (u64, usize)
 }
 
 // One digit or more: the place behind them.
-fn digits_end(bytes: &[u8], from: usize) -> JsonResult<usize>
+fn digits_end(bytes: &[u8], from: usize) -> Result<usize, Fault>
     requires { from ≤ length bytes.now }
-    ensures value { Ends result (digits_from bytes.now from (slice_get bytes.now from)) }
+    ensures value { Scans (taken tt) result (digits_from bytes.now from (slice_get bytes.now from)) }
     ensures place { IfOk result (λ e. (from ≤ e) × (e ≤ length bytes.now)) }
-    ensures fault { IfErr result (IsFaultOf bytes.now) }
 {
     match byte_at(bytes, from) {
-        None => Err(fault(JsonErrorType::EofWhileParsingValue, from)),
+        None => Err(fault_at(FaultKind::EofWhileParsingValue, from)),
         Some(byte) => {
             if is_digit(byte) {
                 Ok(digit_run_end(bytes, from))
             } else {
-                Err(fault(JsonErrorType::InvalidNumber, from))
+                Err(fault_at(FaultKind::InvalidNumber, from))
             }
         }
     }
 }
 
 // The zero at `at`, behind which no digit may stand.
-fn zero_read(bytes: &[u8], at: usize) -> JsonResult<(u64, usize)>
+fn zero_read(bytes: &[u8], at: usize) -> Result<(u64, usize), Fault>
     requires { slice_get bytes.now at ≡ Some 48 }
-    ensures value { Scans (λ _. tt) result (zero_ended (at + 1) (slice_get bytes.now (at + 1))) }
+    ensures value { Scans (with_end (λ _. tt)) result (zero_ended (at + 1) (slice_get bytes.now (at + 1))) }
     ensures place { IfOk result (λ x. (at < x.1) × (x.1 ≤ length bytes.now)) }
     ensures magnitude { IfOk result
         (λ x. x.0 ≡ magnitude_of (slice_range bytes.now at x.1)) }
-    ensures fault { IfErr result (IsFaultOf bytes.now) }
 {
     match byte_at(bytes, at + 1) {
         None => Ok((0, at + 1)),
         Some(byte) => {
             if is_digit(byte) {
-                Err(fault(JsonErrorType::InvalidNumber, at + 1))
+                Err(fault_at(FaultKind::InvalidNumber, at + 1))
             } else {
                 Ok((0, at + 1))
             }
@@ -190,52 +200,49 @@ fn zero_read(bytes: &[u8], at: usize) -> JsonResult<(u64, usize)>
 }
 
 // The digits at `at`, unless they are too many.
-fn limited_read(bytes: &[u8], at: usize) -> JsonResult<(u64, usize)>
+fn limited_read(bytes: &[u8], at: usize) -> Result<(u64, usize), Fault>
     requires within { at ≤ length bytes.now }
     requires some { 0 < digit_run bytes.now at }
-    ensures value { Scans (λ _. tt) result (within_limit at (digit_run bytes.now at)) }
+    ensures value { Scans (with_end (λ _. tt)) result (within_limit at (digit_run bytes.now at)) }
     ensures place { IfOk result (λ x. (at < x.1) × (x.1 ≤ length bytes.now)) }
     ensures magnitude { IfOk result
         (λ x. x.0 ≡ magnitude_of (slice_range bytes.now at x.1)) }
-    ensures fault { IfErr result (IsFaultOf bytes.now) }
 {
     let (magnitude, end) = digits_read(bytes, at);
     if end - at <= DIGIT_LIMIT {
         Ok((magnitude, end))
     } else {
-        Err(fault(JsonErrorType::NumberOutOfRange, at + (DIGIT_LIMIT + 1)))
+        Err(fault_at(FaultKind::NumberOutOfRange, at + (DIGIT_LIMIT + 1)))
     }
 }
 
 // The integer part: its magnitude, or the greatest `u64`, and the place behind it.
-fn whole_read(bytes: &[u8], at: usize) -> JsonResult<(u64, usize)>
+fn whole_read(bytes: &[u8], at: usize) -> Result<(u64, usize), Fault>
     requires { at ≤ length bytes.now }
-    ensures value { Scans (λ _. tt) result (whole_at bytes.now at) }
+    ensures value { Scans (with_end (λ _. tt)) result (whole_at bytes.now at) }
     ensures place { IfOk result (λ x. (at < x.1) × (x.1 ≤ length bytes.now)) }
     ensures magnitude { IfOk result
         (λ x. x.0 ≡ magnitude_of (slice_range bytes.now at x.1)) }
-    ensures fault { IfErr result (IsFaultOf bytes.now) }
 {
     match byte_at(bytes, at) {
-        None => Err(fault(JsonErrorType::EofWhileParsingValue, at)),
+        None => Err(fault_at(FaultKind::EofWhileParsingValue, at)),
         Some(byte) => {
             if byte == b'0' {
                 zero_read(bytes, at)
             } else if is_digit(byte) {
                 limited_read(bytes, at)
             } else {
-                Err(fault(JsonErrorType::InvalidNumber, at))
+                Err(fault_at(FaultKind::InvalidNumber, at))
             }
         }
     }
 }
 
 // Behind a fraction, or where none stands.
-fn fraction_end(bytes: &[u8], at: usize) -> JsonResult<usize>
+fn fraction_end(bytes: &[u8], at: usize) -> Result<usize, Fault>
     requires { at ≤ length bytes.now }
-    ensures value { Ends result (fraction_at bytes.now at) }
+    ensures value { Scans (taken tt) result (fraction_at bytes.now at) }
     ensures place { IfOk result (λ e. (at ≤ e) × (e ≤ length bytes.now)) }
-    ensures fault { IfErr result (IsFaultOf bytes.now) }
 {
     match byte_at(bytes, at) {
         None => Ok(at),
@@ -250,14 +257,13 @@ fn fraction_end(bytes: &[u8], at: usize) -> JsonResult<usize>
 }
 
 // The sign of an exponent, or none, and its digits: the place behind them.
-fn power_end(bytes: &[u8], at: usize) -> JsonResult<usize>
+fn power_end(bytes: &[u8], at: usize) -> Result<usize, Fault>
     requires { at ≤ length bytes.now }
-    ensures value { Ends result (power_from bytes.now at (slice_get bytes.now at)) }
+    ensures value { Scans (taken tt) result (power_from bytes.now at (slice_get bytes.now at)) }
     ensures place { IfOk result (λ e. (at ≤ e) × (e ≤ length bytes.now)) }
-    ensures fault { IfErr result (IsFaultOf bytes.now) }
 {
     match byte_at(bytes, at) {
-        None => Err(fault(JsonErrorType::EofWhileParsingValue, at)),
+        None => Err(fault_at(FaultKind::EofWhileParsingValue, at)),
         Some(byte) => {
             if byte == b'+' || byte == b'-' {
                 digits_end(bytes, at + 1)
@@ -269,11 +275,10 @@ fn power_end(bytes: &[u8], at: usize) -> JsonResult<usize>
 }
 
 // Behind an exponent, or where none stands.
-fn exponent_end(bytes: &[u8], at: usize) -> JsonResult<usize>
+fn exponent_end(bytes: &[u8], at: usize) -> Result<usize, Fault>
     requires { at ≤ length bytes.now }
-    ensures value { Ends result (exponent_at bytes.now at) }
+    ensures value { Scans (taken tt) result (exponent_at bytes.now at) }
     ensures place { IfOk result (λ e. (at ≤ e) × (e ≤ length bytes.now)) }
-    ensures fault { IfErr result (IsFaultOf bytes.now) }
 {
     match byte_at(bytes, at) {
         None => Ok(at),
@@ -347,23 +352,25 @@ fn integer_of<'j>(
 }
 
 // Behind a fraction, if one stands at `at`, and an exponent, if one follows.
-fn tail_end(bytes: &[u8], at: usize) -> JsonResult<usize>
+fn tail_end(bytes: &[u8], at: usize) -> Result<usize, Fault>
     requires { at ≤ length bytes.now }
-    ensures value { Ends result (extent_then (fraction_at bytes.now at) (exponent_at bytes.now)) }
+    ensures value { Scans (taken tt) result (extent_then (fraction_at bytes.now at) (exponent_at bytes.now)) }
     ensures place { IfOk result (λ e. (at ≤ e) × (e ≤ length bytes.now)) }
-    ensures fault { IfErr result (IsFaultOf bytes.now) }
 {
     let end = fraction_end(bytes, at)?;
     exponent_end(bytes, end)
 }
 
 // The decimal number that begins at `from`, its minus apart at `at`.
-fn decimal_read<'j>(bytes: &'j [u8], from: usize, at: usize) -> JsonResult<(NumberAny<'j>, usize)>
+fn decimal_read<'j>(
+    bytes: &'j [u8],
+    from: usize,
+    at: usize,
+) -> Result<(NumberAny<'j>, usize), Fault>
     requires within { at ≤ length bytes.now }
     requires minus { IsMinusTo bytes.now from at }
-    ensures value { Scans number_view result (valued bytes.now from (decimal_at bytes.now at)) }
+    ensures value { Scans (with_end number_view) result (valued bytes.now from (decimal_at bytes.now at)) }
     ensures place { IfOk result (λ x. (at < x.1) × (x.1 ≤ length bytes.now)) }
-    ensures fault { IfErr result (IsFaultOf bytes.now) }
 {
     let (magnitude, whole_end) = whole_read(bytes, at)?;
     let end = tail_end(bytes, whole_end)?;
@@ -381,14 +388,13 @@ fn name_read<'j>(
     from: usize,
     at: usize,
     name: &[u8],
-) -> JsonResult<(NumberAny<'j>, usize)>
+) -> Result<(NumberAny<'j>, usize), Fault>
     requires minus { IsMinusTo bytes.now from at }
     requires first { (at < length bytes.now) × (is_float_byte (slice_index bytes.now at) ≡ true) }
     requires name { (0 < length name.now) × IsAscii name.now }
-    ensures value { Scans number_view result
+    ensures value { Scans (with_end number_view) result
         (valued bytes.now from (word_at bytes.now name.now at)) }
     ensures place { IfOk result (λ x. (at < x.1) × (x.1 ≤ length bytes.now)) }
-    ensures fault { IfErr result (IsFaultOf bytes.now) }
 {
     let end = word_end(bytes, at, name)?;
     let text = ascii_text(&bytes[from..end]);
@@ -401,18 +407,17 @@ fn allowed_read<'j>(
     at: usize,
     name: &[u8],
     allow_inf_nan: bool,
-) -> JsonResult<(NumberAny<'j>, usize)>
+) -> Result<(NumberAny<'j>, usize), Fault>
     requires first { (at < length bytes.now) × (is_float_byte (slice_index bytes.now at) ≡ true) }
     requires name { (0 < length name.now) × IsAscii name.now }
-    ensures value { Scans number_view result
+    ensures value { Scans (with_end number_view) result
         (valued bytes.now at (name_at allow_inf_nan bytes.now name.now at)) }
     ensures place { IfOk result (λ x. (at < x.1) × (x.1 ≤ length bytes.now)) }
-    ensures fault { IfErr result (IsFaultOf bytes.now) }
 {
     if allow_inf_nan {
         name_read(bytes, at, at, name)
     } else {
-        Err(fault(JsonErrorType::ExpectedSomeValue, at))
+        Err(fault_at(FaultKind::ExpectedSomeValue, at))
     }
 }
 
@@ -421,23 +426,22 @@ fn negative_read<'j>(
     bytes: &'j [u8],
     from: usize,
     allow_inf_nan: bool,
-) -> JsonResult<(NumberAny<'j>, usize)>
+) -> Result<(NumberAny<'j>, usize), Fault>
     requires { slice_get bytes.now from ≡ Some 45 }
-    ensures value { Scans number_view result (valued bytes.now from
+    ensures value { Scans (with_end number_view) result (valued bytes.now from
         (signed_from allow_inf_nan bytes.now (from + 1) (slice_get bytes.now (from + 1)))) }
     ensures place { IfOk result (λ x. (from < x.1) × (x.1 ≤ length bytes.now)) }
-    ensures fault { IfErr result (IsFaultOf bytes.now) }
 {
     let at = from + 1;
     match byte_at(bytes, at) {
-        None => Err(fault(JsonErrorType::EofWhileParsingValue, at)),
+        None => Err(fault_at(FaultKind::EofWhileParsingValue, at)),
         Some(byte) => {
             if byte != b'I' {
                 decimal_read(bytes, from, at)
             } else if allow_inf_nan {
                 name_read(bytes, from, at, b"Infinity")
             } else {
-                Err(fault(JsonErrorType::InvalidNumber, at))
+                Err(fault_at(FaultKind::InvalidNumber, at))
             }
         }
     }
@@ -455,14 +459,13 @@ pub fn number_at<'j>(
     bytes: &'j [u8],
     at: usize,
     allow_inf_nan: bool,
-) -> JsonResult<(NumberAny<'j>, usize)>
+) -> Result<(NumberAny<'j>, usize), Fault>
     requires { at < length bytes.now }
-    ensures value { Scans number_view result (number_at allow_inf_nan bytes.now at) }
+    ensures value { Scans (with_end number_view) result (number_at allow_inf_nan bytes.now at) }
     ensures advances { IfOk result (λ x. (at < x.1) × (x.1 ≤ length bytes.now)) }
-    ensures fault { IfErr result (IsFaultOf bytes.now) }
 {
     match byte_at(bytes, at) {
-        None => Err(fault(JsonErrorType::EofWhileParsingValue, at)),
+        None => Err(fault_at(FaultKind::EofWhileParsingValue, at)),
         Some(byte) => {
             if byte == b'-' {
                 negative_read(bytes, at, allow_inf_nan)
@@ -484,35 +487,33 @@ fn is_float_sign(byte: u8) -> bool
 }
 
 // The integer part at `at` of a number that begins at `from`, and whether a float shows behind it.
-fn integer_read<'j>(bytes: &'j [u8], from: usize, at: usize) -> JsonResult<Integer<'j>>
+fn integer_read<'j>(bytes: &'j [u8], from: usize, at: usize) -> Result<(Integer<'j>, usize), Fault>
     requires within { at ≤ length bytes.now }
     requires minus { IsMinusTo bytes.now from at }
-    ensures value { ScansInteger result (integer_behind bytes.now from (whole_at bytes.now at)) }
+    ensures value { Scans (with_end integer_view) result (integer_behind bytes.now from (whole_at bytes.now at)) }
     ensures place { IfOk result (EndsWithin at (length bytes.now)) }
-    ensures fault { IfErr result (IsFaultOf bytes.now) }
 {
     let (magnitude, end) = whole_read(bytes, at)?;
     if byte_at(bytes, end).is_some_and(is_float_sign) {
-        return Ok(Integer::FloatSeen(end));
+        return Ok((Integer::FloatSeen, end));
     }
     let number = integer_of(bytes, from, at, end, magnitude);
-    Ok(Integer::Whole(number, end))
+    Ok((Integer::Whole(number), end))
 }
 
 // The integer at `from` that begins with a minus.
-fn negative_int_read<'j>(bytes: &'j [u8], from: usize) -> JsonResult<Integer<'j>>
+fn negative_int_read<'j>(bytes: &'j [u8], from: usize) -> Result<(Integer<'j>, usize), Fault>
     requires { slice_get bytes.now from ≡ Some 45 }
-    ensures value { ScansInteger result
+    ensures value { Scans (with_end integer_view) result
         (integer_signed bytes.now from (slice_get bytes.now (from + 1))) }
     ensures place { IfOk result (EndsWithin from (length bytes.now)) }
-    ensures fault { IfErr result (IsFaultOf bytes.now) }
 {
     let at = from + 1;
     match byte_at(bytes, at) {
-        None => Err(fault(JsonErrorType::EofWhileParsingValue, at)),
+        None => Err(fault_at(FaultKind::EofWhileParsingValue, at)),
         Some(byte) => {
             if byte == b'I' {
-                Ok(Integer::FloatSeen(at))
+                Ok((Integer::FloatSeen, at))
             } else {
                 integer_read(bytes, from, at)
             }
@@ -520,25 +521,25 @@ fn negative_int_read<'j>(bytes: &'j [u8], from: usize) -> JsonResult<Integer<'j>
     }
 }
 
-/// The integer that begins at a byte index, or the first byte that only a float has (RFC 8259, 6): a point
-/// or an exponent behind the integer part, or the first letter of `NaN`, `Infinity` or `-Infinity`.
+/// The integer that begins at a byte index, and the byte index behind it; or that a float shows, and the index
+/// of the first byte that only a float has (RFC 8259, 6): a point or an exponent behind the integer part, or
+/// the first letter of `NaN`, `Infinity` or `-Infinity`.
 ///
 /// Input that ends inside it is `EofWhileParsingValue` at the length, a byte that does not fit
 /// `InvalidNumber` at its index, and more than 4300 digits are `NumberOutOfRange` behind the 4301st.
 #[tactic(auto, unfolding(crate::specs::NumberReading::int_at))]
-pub fn int_at<'j>(bytes: &'j [u8], at: usize) -> JsonResult<Integer<'j>>
+pub fn int_at<'j>(bytes: &'j [u8], at: usize) -> Result<(Integer<'j>, usize), Fault>
     requires { at < length bytes.now }
-    ensures value { ScansInteger result (int_at bytes.now at) }
+    ensures value { Scans (with_end integer_view) result (int_at bytes.now at) }
     ensures advances { IfOk result (EndsWithin at (length bytes.now)) }
-    ensures fault { IfErr result (IsFaultOf bytes.now) }
 {
     match byte_at(bytes, at) {
-        None => Err(fault(JsonErrorType::EofWhileParsingValue, at)),
+        None => Err(fault_at(FaultKind::EofWhileParsingValue, at)),
         Some(byte) => {
             if byte == b'-' {
                 negative_int_read(bytes, at)
             } else if begins_name(byte) {
-                Ok(Integer::FloatSeen(at))
+                Ok((Integer::FloatSeen, at))
             } else {
                 integer_read(bytes, at, at)
             }

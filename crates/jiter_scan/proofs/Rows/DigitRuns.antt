@@ -1,241 +1,63 @@
 -- Numbers whose digits come in runs of some lengths, with a comma behind them, by computation.
-use Rattle.std.proofs.Common.{◌≡◌, pos, negsuc, false, refl, codes}
-use Rattle.jiter_scan.specs.Scanned.{taken}
-use Rattle.jiter_scan.specs.Word.{word_at}
-use Rattle.jiter_scan.specs.Digits.{digit_run}
-use Rattle.jiter_scan.specs.Number.{integer, big, float, number_value}
+use Rattle.std.proofs.Common.{◌≡◌, ℕ, ◌+◌, ◌*◌, pos, negsuc, false, List, [], ◌∷◌, ◌++◌, refl, codes, map}
+use Rattle.std.specs.Prelude.{replicate}
+use Rattle.jiter_scan.specs.Scanned.{Scanned, taken}
+use Rattle.jiter_scan.specs.Number.{Number, integer, big, float}
 use Rattle.jiter_scan.specs.NumberReading.{number_at}
+use Rattle.jiter_scan.proofs.Computed.{computed_numbers}
 
-one_digit : number_at false (codes "7,") 0 ≡ taken (integer (pos 7)) 1
-unfolding number_at word_at digit_run number_value
-one_digit = refl
+abbrev numbers : List (List ℕ × Scanned Number)
+numbers =
+    (codes "7,", taken (integer (pos 7)) 1) ∷
+    (codes "-7,", taken (integer (negsuc 6)) 2) ∷
+    (codes "7777777,", taken (integer (pos 7777777)) 7) ∷
+    (codes "-7777777,", taken (integer (negsuc 7777776)) 8) ∷
+    (codes "77777777,", taken (integer (pos 77777777)) 8) ∷
+    (codes "-77777777,", taken (integer (negsuc 77777776)) 9) ∷
+    (codes "777777777,", taken (integer (pos 777777777)) 9) ∷
+    (codes "-777777777,", taken (integer (negsuc 777777776)) 10) ∷
+    (codes "777777777777777,", taken (integer (pos 777777777777777)) 15) ∷
+    (codes "-777777777777777,", taken (integer (negsuc 777777777777776)) 16) ∷
+    (codes "7777777777777777,", taken (integer (pos 7777777777777777)) 16) ∷
+    (codes "-7777777777777777,", taken (integer (negsuc 7777777777777776)) 17) ∷
+    (codes "77777777777777777,", taken (integer (pos 77777777777777777)) 17) ∷
+    (codes "-77777777777777777,", taken (integer (negsuc 77777777777777776)) 18) ∷
+    (codes "77777777777777777777777,", taken (big (codes "77777777777777777777777")) 23) ∷
+    (codes "-77777777777777777777777,", taken (big (codes "-77777777777777777777777")) 24) ∷
+    (codes "777777777777777777777777,", taken (big (codes "777777777777777777777777")) 24) ∷
+    (codes "-777777777777777777777777,", taken (big (codes "-777777777777777777777777")) 25) ∷
+    (codes "7777777777777777777777777,", taken (big (codes "7777777777777777777777777")) 25) ∷
+    (codes "-7777777777777777777777777,", taken (big (codes "-7777777777777777777777777")) 26) ∷
+    (codes "7777777777777777777777777777777777777777,", taken (big (codes "7777777777777777777777777777777777777777")) 40) ∷
+    (codes "-7777777777777777777777777777777777777777,", taken (big (codes "-7777777777777777777777777777777777777777")) 41) ∷
+    -- what may stand behind
+    (codes "-7777777777777777.5", taken (float (codes "-7777777777777777.5")) 19) ∷
+    (codes "-7777777777777777.5]", taken (float (codes "-7777777777777777.5")) 19) ∷
+    (codes "-7777777777777777.5 ", taken (float (codes "-7777777777777777.5")) 19) ∷
+    []
 
-one_digit_behind_a_minus : number_at false (codes "-7,") 0 ≡ taken (integer (negsuc 6)) 2
-unfolding number_at word_at digit_run number_value
-one_digit_behind_a_minus = refl
+numbers_read : map (λ r. number_at false r.0 0) numbers ≡ map (λ r. r.1) numbers
+unfolding computed_numbers
+numbers_read = refl
 
-one_digit_of_a_fraction : number_at false (codes "1.7,") 0 ≡ taken (float (codes "1.7")) 3
-unfolding number_at word_at digit_run number_value
-one_digit_of_a_fraction = refl
+-- so many digits in each run
+abbrev counts : List ℕ
+counts = 1 ∷ 7 ∷ 8 ∷ 9 ∷ 15 ∷ 16 ∷ 17 ∷ 23 ∷ 24 ∷ 25 ∷ 40 ∷ []
 
-one_digit_of_a_power : number_at false (codes "1.5e7,") 0 ≡ taken (float (codes "1.5e7")) 5
-unfolding number_at word_at digit_run number_value
-one_digit_of_a_power = refl
+abbrev sevens : ℕ → List ℕ
+sevens n = replicate n 55
 
-one_digit_everywhere : number_at false (codes "7.7e-7,") 0 ≡ taken (float (codes "7.7e-7")) 6
-unfolding number_at word_at digit_run number_value
-one_digit_everywhere = refl
+abbrev everywhere : ℕ → List ℕ
+everywhere n = sevens n ++ (codes "." ++ (sevens n ++ (codes "e-" ++ sevens n)))
 
-seven_digits : number_at false (codes "7777777,") 0 ≡ taken (integer (pos 7777777)) 7
-unfolding number_at word_at digit_run number_value
-seven_digits = refl
+runs_of_a_fraction : map (λ n. number_at false (codes "1." ++ (sevens n ++ codes ",")) 0) counts ≡ map (λ n. taken (float (codes "1." ++ sevens n)) (n + 2)) counts
+unfolding computed_numbers
+runs_of_a_fraction = refl
 
-seven_digits_behind_a_minus : number_at false (codes "-7777777,") 0 ≡ taken (integer (negsuc 7777776)) 8
-unfolding number_at word_at digit_run number_value
-seven_digits_behind_a_minus = refl
+runs_of_a_power : map (λ n. number_at false (codes "1.5e" ++ (sevens n ++ codes ",")) 0) counts ≡ map (λ n. taken (float (codes "1.5e" ++ sevens n)) (n + 4)) counts
+unfolding computed_numbers
+runs_of_a_power = refl
 
-seven_digits_of_a_fraction : number_at false (codes "1.7777777,") 0 ≡ taken (float (codes "1.7777777")) 9
-unfolding number_at word_at digit_run number_value
-seven_digits_of_a_fraction = refl
-
-seven_digits_of_a_power : number_at false (codes "1.5e7777777,") 0 ≡ taken (float (codes "1.5e7777777")) 11
-unfolding number_at word_at digit_run number_value
-seven_digits_of_a_power = refl
-
-seven_digits_everywhere : number_at false (codes "7777777.7777777e-7777777,") 0 ≡ taken (float (codes "7777777.7777777e-7777777")) 24
-unfolding number_at word_at digit_run number_value
-seven_digits_everywhere = refl
-
-eight_digits : number_at false (codes "77777777,") 0 ≡ taken (integer (pos 77777777)) 8
-unfolding number_at word_at digit_run number_value
-eight_digits = refl
-
-eight_digits_behind_a_minus : number_at false (codes "-77777777,") 0 ≡ taken (integer (negsuc 77777776)) 9
-unfolding number_at word_at digit_run number_value
-eight_digits_behind_a_minus = refl
-
-eight_digits_of_a_fraction : number_at false (codes "1.77777777,") 0 ≡ taken (float (codes "1.77777777")) 10
-unfolding number_at word_at digit_run number_value
-eight_digits_of_a_fraction = refl
-
-eight_digits_of_a_power : number_at false (codes "1.5e77777777,") 0 ≡ taken (float (codes "1.5e77777777")) 12
-unfolding number_at word_at digit_run number_value
-eight_digits_of_a_power = refl
-
-eight_digits_everywhere : number_at false (codes "77777777.77777777e-77777777,") 0 ≡ taken (float (codes "77777777.77777777e-77777777")) 27
-unfolding number_at word_at digit_run number_value
-eight_digits_everywhere = refl
-
-nine_digits : number_at false (codes "777777777,") 0 ≡ taken (integer (pos 777777777)) 9
-unfolding number_at word_at digit_run number_value
-nine_digits = refl
-
-nine_digits_behind_a_minus : number_at false (codes "-777777777,") 0 ≡ taken (integer (negsuc 777777776)) 10
-unfolding number_at word_at digit_run number_value
-nine_digits_behind_a_minus = refl
-
-nine_digits_of_a_fraction : number_at false (codes "1.777777777,") 0 ≡ taken (float (codes "1.777777777")) 11
-unfolding number_at word_at digit_run number_value
-nine_digits_of_a_fraction = refl
-
-nine_digits_of_a_power : number_at false (codes "1.5e777777777,") 0 ≡ taken (float (codes "1.5e777777777")) 13
-unfolding number_at word_at digit_run number_value
-nine_digits_of_a_power = refl
-
-nine_digits_everywhere : number_at false (codes "777777777.777777777e-777777777,") 0 ≡ taken (float (codes "777777777.777777777e-777777777")) 30
-unfolding number_at word_at digit_run number_value
-nine_digits_everywhere = refl
-
-fifteen_digits : number_at false (codes "777777777777777,") 0 ≡ taken (integer (pos 777777777777777)) 15
-unfolding number_at word_at digit_run number_value
-fifteen_digits = refl
-
-fifteen_digits_behind_a_minus : number_at false (codes "-777777777777777,") 0 ≡ taken (integer (negsuc 777777777777776)) 16
-unfolding number_at word_at digit_run number_value
-fifteen_digits_behind_a_minus = refl
-
-fifteen_digits_of_a_fraction : number_at false (codes "1.777777777777777,") 0 ≡ taken (float (codes "1.777777777777777")) 17
-unfolding number_at word_at digit_run number_value
-fifteen_digits_of_a_fraction = refl
-
-fifteen_digits_of_a_power : number_at false (codes "1.5e777777777777777,") 0 ≡ taken (float (codes "1.5e777777777777777")) 19
-unfolding number_at word_at digit_run number_value
-fifteen_digits_of_a_power = refl
-
-fifteen_digits_everywhere : number_at false (codes "777777777777777.777777777777777e-777777777777777,") 0 ≡ taken (float (codes "777777777777777.777777777777777e-777777777777777")) 48
-unfolding number_at word_at digit_run number_value
-fifteen_digits_everywhere = refl
-
-sixteen_digits : number_at false (codes "7777777777777777,") 0 ≡ taken (integer (pos 7777777777777777)) 16
-unfolding number_at word_at digit_run number_value
-sixteen_digits = refl
-
-sixteen_digits_behind_a_minus : number_at false (codes "-7777777777777777,") 0 ≡ taken (integer (negsuc 7777777777777776)) 17
-unfolding number_at word_at digit_run number_value
-sixteen_digits_behind_a_minus = refl
-
-sixteen_digits_of_a_fraction : number_at false (codes "1.7777777777777777,") 0 ≡ taken (float (codes "1.7777777777777777")) 18
-unfolding number_at word_at digit_run number_value
-sixteen_digits_of_a_fraction = refl
-
-sixteen_digits_of_a_power : number_at false (codes "1.5e7777777777777777,") 0 ≡ taken (float (codes "1.5e7777777777777777")) 20
-unfolding number_at word_at digit_run number_value
-sixteen_digits_of_a_power = refl
-
-sixteen_digits_everywhere : number_at false (codes "7777777777777777.7777777777777777e-7777777777777777,") 0 ≡ taken (float (codes "7777777777777777.7777777777777777e-7777777777777777")) 51
-unfolding number_at word_at digit_run number_value
-sixteen_digits_everywhere = refl
-
-seventeen_digits : number_at false (codes "77777777777777777,") 0 ≡ taken (integer (pos 77777777777777777)) 17
-unfolding number_at word_at digit_run number_value
-seventeen_digits = refl
-
-seventeen_digits_behind_a_minus : number_at false (codes "-77777777777777777,") 0 ≡ taken (integer (negsuc 77777777777777776)) 18
-unfolding number_at word_at digit_run number_value
-seventeen_digits_behind_a_minus = refl
-
-seventeen_digits_of_a_fraction : number_at false (codes "1.77777777777777777,") 0 ≡ taken (float (codes "1.77777777777777777")) 19
-unfolding number_at word_at digit_run number_value
-seventeen_digits_of_a_fraction = refl
-
-seventeen_digits_of_a_power : number_at false (codes "1.5e77777777777777777,") 0 ≡ taken (float (codes "1.5e77777777777777777")) 21
-unfolding number_at word_at digit_run number_value
-seventeen_digits_of_a_power = refl
-
-seventeen_digits_everywhere : number_at false (codes "77777777777777777.77777777777777777e-77777777777777777,") 0 ≡ taken (float (codes "77777777777777777.77777777777777777e-77777777777777777")) 54
-unfolding number_at word_at digit_run number_value
-seventeen_digits_everywhere = refl
-
-twenty_three_digits : number_at false (codes "77777777777777777777777,") 0 ≡ taken (big (codes "77777777777777777777777")) 23
-unfolding number_at word_at digit_run number_value
-twenty_three_digits = refl
-
-twenty_three_digits_behind_a_minus : number_at false (codes "-77777777777777777777777,") 0 ≡ taken (big (codes "-77777777777777777777777")) 24
-unfolding number_at word_at digit_run number_value
-twenty_three_digits_behind_a_minus = refl
-
-twenty_three_digits_of_a_fraction : number_at false (codes "1.77777777777777777777777,") 0 ≡ taken (float (codes "1.77777777777777777777777")) 25
-unfolding number_at word_at digit_run number_value
-twenty_three_digits_of_a_fraction = refl
-
-twenty_three_digits_of_a_power : number_at false (codes "1.5e77777777777777777777777,") 0 ≡ taken (float (codes "1.5e77777777777777777777777")) 27
-unfolding number_at word_at digit_run number_value
-twenty_three_digits_of_a_power = refl
-
-twenty_three_digits_everywhere : number_at false (codes "77777777777777777777777.77777777777777777777777e-77777777777777777777777,") 0 ≡ taken (float (codes "77777777777777777777777.77777777777777777777777e-77777777777777777777777")) 72
-unfolding number_at word_at digit_run number_value
-twenty_three_digits_everywhere = refl
-
-twenty_four_digits : number_at false (codes "777777777777777777777777,") 0 ≡ taken (big (codes "777777777777777777777777")) 24
-unfolding number_at word_at digit_run number_value
-twenty_four_digits = refl
-
-twenty_four_digits_behind_a_minus : number_at false (codes "-777777777777777777777777,") 0 ≡ taken (big (codes "-777777777777777777777777")) 25
-unfolding number_at word_at digit_run number_value
-twenty_four_digits_behind_a_minus = refl
-
-twenty_four_digits_of_a_fraction : number_at false (codes "1.777777777777777777777777,") 0 ≡ taken (float (codes "1.777777777777777777777777")) 26
-unfolding number_at word_at digit_run number_value
-twenty_four_digits_of_a_fraction = refl
-
-twenty_four_digits_of_a_power : number_at false (codes "1.5e777777777777777777777777,") 0 ≡ taken (float (codes "1.5e777777777777777777777777")) 28
-unfolding number_at word_at digit_run number_value
-twenty_four_digits_of_a_power = refl
-
-twenty_four_digits_everywhere : number_at false (codes "777777777777777777777777.777777777777777777777777e-777777777777777777777777,") 0 ≡ taken (float (codes "777777777777777777777777.777777777777777777777777e-777777777777777777777777")) 75
-unfolding number_at word_at digit_run number_value
-twenty_four_digits_everywhere = refl
-
-twenty_five_digits : number_at false (codes "7777777777777777777777777,") 0 ≡ taken (big (codes "7777777777777777777777777")) 25
-unfolding number_at word_at digit_run number_value
-twenty_five_digits = refl
-
-twenty_five_digits_behind_a_minus : number_at false (codes "-7777777777777777777777777,") 0 ≡ taken (big (codes "-7777777777777777777777777")) 26
-unfolding number_at word_at digit_run number_value
-twenty_five_digits_behind_a_minus = refl
-
-twenty_five_digits_of_a_fraction : number_at false (codes "1.7777777777777777777777777,") 0 ≡ taken (float (codes "1.7777777777777777777777777")) 27
-unfolding number_at word_at digit_run number_value
-twenty_five_digits_of_a_fraction = refl
-
-twenty_five_digits_of_a_power : number_at false (codes "1.5e7777777777777777777777777,") 0 ≡ taken (float (codes "1.5e7777777777777777777777777")) 29
-unfolding number_at word_at digit_run number_value
-twenty_five_digits_of_a_power = refl
-
-twenty_five_digits_everywhere : number_at false (codes "7777777777777777777777777.7777777777777777777777777e-7777777777777777777777777,") 0 ≡ taken (float (codes "7777777777777777777777777.7777777777777777777777777e-7777777777777777777777777")) 78
-unfolding number_at word_at digit_run number_value
-twenty_five_digits_everywhere = refl
-
-forty_digits : number_at false (codes "7777777777777777777777777777777777777777,") 0 ≡ taken (big (codes "7777777777777777777777777777777777777777")) 40
-unfolding number_at word_at digit_run number_value
-forty_digits = refl
-
-forty_digits_behind_a_minus : number_at false (codes "-7777777777777777777777777777777777777777,") 0 ≡ taken (big (codes "-7777777777777777777777777777777777777777")) 41
-unfolding number_at word_at digit_run number_value
-forty_digits_behind_a_minus = refl
-
-forty_digits_of_a_fraction : number_at false (codes "1.7777777777777777777777777777777777777777,") 0 ≡ taken (float (codes "1.7777777777777777777777777777777777777777")) 42
-unfolding number_at word_at digit_run number_value
-forty_digits_of_a_fraction = refl
-
-forty_digits_of_a_power : number_at false (codes "1.5e7777777777777777777777777777777777777777,") 0 ≡ taken (float (codes "1.5e7777777777777777777777777777777777777777")) 44
-unfolding number_at word_at digit_run number_value
-forty_digits_of_a_power = refl
-
-forty_digits_everywhere : number_at false (codes "7777777777777777777777777777777777777777.7777777777777777777777777777777777777777e-7777777777777777777777777777777777777777,") 0 ≡ taken (float (codes "7777777777777777777777777777777777777777.7777777777777777777777777777777777777777e-7777777777777777777777777777777777777777")) 123
-unfolding number_at word_at digit_run number_value
-forty_digits_everywhere = refl
-
--- what may stand behind
-
-sixteen_digits_and_nothing : number_at false (codes "-7777777777777777.5") 0 ≡ taken (float (codes "-7777777777777777.5")) 19
-unfolding number_at word_at digit_run number_value
-sixteen_digits_and_nothing = refl
-
-sixteen_digits_and_a_closer : number_at false (codes "-7777777777777777.5]") 0 ≡ taken (float (codes "-7777777777777777.5")) 19
-unfolding number_at word_at digit_run number_value
-sixteen_digits_and_a_closer = refl
-
-sixteen_digits_and_a_blank : number_at false (codes "-7777777777777777.5 ") 0 ≡ taken (float (codes "-7777777777777777.5")) 19
-unfolding number_at word_at digit_run number_value
-sixteen_digits_and_a_blank = refl
+runs_everywhere : map (λ n. number_at false (everywhere n ++ codes ",") 0) counts ≡ map (λ n. taken (float (everywhere n)) (3 * n + 3)) counts
+unfolding computed_numbers
+runs_everywhere = refl

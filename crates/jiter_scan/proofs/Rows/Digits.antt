@@ -1,78 +1,40 @@
 -- Runs of digits and their values, by computation.
-use Rattle.std.proofs.Common.{◌≡◌, [], ◌++◌, refl, codes}
+use Rattle.std.proofs.Common.{◌≡◌, ℕ, List, [], ◌∷◌, ◌++◌, refl, codes, map}
 use Rattle.std.specs.Prelude.{replicate, take}
 use Rattle.jiter_scan.specs.Digits.{digit_run, decimal_of}
 
-a_run_to_a_comma : digit_run (codes "12,34") 0 ≡ 2
+abbrev runs : List (List ℕ × ℕ × ℕ)
+runs =
+    (codes "12,34", 0, 2) ∷
+    (codes "12345]", 2, 3) ∷
+    (codes "-123", 1, 3) ∷
+    (codes "x1", 0, 0) ∷
+    (codes "12", 2, 0) ∷
+    (codes "/0:9", 1, 1) ∷
+    (codes "1234567890123456", 0, 16) ∷
+    (codes "12345678" ++ replicate 8 47, 0, 8) ∷
+    (codes "12," ++ replicate 13 255, 0, 2) ∷
+    (codes "12," ++ replicate 13 55, 0, 2) ∷
+    (codes "123456789]" ++ replicate 6 58, 0, 9) ∷
+    []
+
+lengths_of_runs : map (λ r. digit_run r.0 r.1) runs ≡ map (λ r. r.2) runs
 unfolding digit_run
-a_run_to_a_comma = refl
+lengths_of_runs = refl
 
-a_run_from_within : digit_run (codes "12345]") 2 ≡ 3
-unfolding digit_run
-a_run_from_within = refl
+abbrev digits : List (List ℕ × ℕ)
+digits =
+    (codes "12", 12) ∷
+    (codes "12345678", 12345678) ∷
+    (codes "123456789", 123456789) ∷
+    (codes "1234567890123456", 1234567890123456) ∷
+    (take 8 (codes "12345678" ++ replicate 8 47), 12345678) ∷
+    (take 2 (codes "12," ++ replicate 13 255), 12) ∷
+    (take 2 (codes "12," ++ replicate 13 55), 12) ∷
+    (take 9 (codes "123456789]" ++ replicate 6 58), 123456789) ∷
+    (codes "0012", 12) ∷
+    ([], 0) ∷
+    []
 
-a_run_to_the_end : digit_run (codes "-123") 1 ≡ 3
-unfolding digit_run
-a_run_to_the_end = refl
-
-no_run : digit_run (codes "x1") 0 ≡ 0
-unfolding digit_run
-no_run = refl
-
-no_run_at_the_end : digit_run (codes "12") 2 ≡ 0
-unfolding digit_run
-no_run_at_the_end = refl
-
-a_run_between_the_bytes_beside_the_digits : digit_run (codes "/0:9") 1 ≡ 1
-unfolding digit_run
-a_run_between_the_bytes_beside_the_digits = refl
-
-a_run_of_sixteen : digit_run (codes "1234567890123456") 0 ≡ 16
-unfolding digit_run
-a_run_of_sixteen = refl
-
-two_digits : decimal_of (codes "12") ≡ 12
-two_digits = refl
-
-eight_digits : decimal_of (codes "12345678") ≡ 12345678
-eight_digits = refl
-
-nine_digits : decimal_of (codes "123456789") ≡ 123456789
-nine_digits = refl
-
-sixteen_digits : decimal_of (codes "1234567890123456") ≡ 1234567890123456
-sixteen_digits = refl
-
-eight_of_sixteen_bytes : digit_run (codes "12345678" ++ replicate 8 47) 0 ≡ 8
-unfolding digit_run
-eight_of_sixteen_bytes = refl
-
-eight_of_sixteen_bytes_as_a_number : decimal_of (take 8 (codes "12345678" ++ replicate 8 47)) ≡ 12345678
-eight_of_sixteen_bytes_as_a_number = refl
-
-two_of_sixteen_bytes : digit_run (codes "12," ++ replicate 13 255) 0 ≡ 2
-unfolding digit_run
-two_of_sixteen_bytes = refl
-
-two_of_sixteen_bytes_as_a_number : decimal_of (take 2 (codes "12," ++ replicate 13 255)) ≡ 12
-two_of_sixteen_bytes_as_a_number = refl
-
-two_before_digits_bytes : digit_run (codes "12," ++ replicate 13 55) 0 ≡ 2
-unfolding digit_run
-two_before_digits_bytes = refl
-
-two_before_digits_bytes_as_a_number : decimal_of (take 2 (codes "12," ++ replicate 13 55)) ≡ 12
-two_before_digits_bytes_as_a_number = refl
-
-nine_of_sixteen_bytes : digit_run (codes "123456789]" ++ replicate 6 58) 0 ≡ 9
-unfolding digit_run
-nine_of_sixteen_bytes = refl
-
-nine_of_sixteen_bytes_as_a_number : decimal_of (take 9 (codes "123456789]" ++ replicate 6 58)) ≡ 123456789
-nine_of_sixteen_bytes_as_a_number = refl
-
-leading_zeros : decimal_of (codes "0012") ≡ 12
-leading_zeros = refl
-
-no_digits : decimal_of [] ≡ 0
-no_digits = refl
+values_of_digits : map (λ r. decimal_of r.0) digits ≡ map (λ r. r.1) digits
+values_of_digits = refl

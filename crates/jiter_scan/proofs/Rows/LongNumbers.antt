@@ -1,42 +1,36 @@
 -- Numbers about as long as an integer part may be, by computation.
-use Rattle.std.proofs.Common.{◌≡◌, true, false, ◌∷◌, ◌++◌, refl, codes}
+use Rattle.std.proofs.Common.{◌≡◌, ℕ, true, false, Bool, List, [], ◌∷◌, ◌++◌, refl, codes, map}
 use Rattle.std.specs.Prelude.{replicate}
 use Rattle.jiter_scan.specs.Kind.{number_out_of_range}
-use Rattle.jiter_scan.specs.Scanned.{taken, failed}
-use Rattle.jiter_scan.specs.Word.{word_at}
-use Rattle.jiter_scan.specs.Digits.{digit_run}
-use Rattle.jiter_scan.specs.Number.{float, number_value, is_number_text}
-use Rattle.jiter_scan.specs.NumberReading.{number_at, int_at, int_alone}
+use Rattle.jiter_scan.specs.Scanned.{Scanned, taken, failed}
+use Rattle.jiter_scan.specs.Number.{Number, float, is_number_text}
+use Rattle.jiter_scan.specs.NumberReading.{number_at, int_alone}
+use Rattle.jiter_scan.proofs.Computed.{computed_numbers}
 
-as_many_digits_as_may_be : number_at false (replicate 4300 49 ++ codes ".5") 0 ≡ taken (float (replicate 4300 49 ++ codes ".5")) 4302
-unfolding number_at word_at digit_run number_value
-as_many_digits_as_may_be = refl
+abbrev numbers : List (List ℕ × Scanned Number)
+numbers =
+    (replicate 4300 49 ++ codes ".5", taken (float (replicate 4300 49 ++ codes ".5")) 4302) ∷
+    (replicate 4301 49 ++ codes ".5", failed number_out_of_range 4301) ∷
+    (45 ∷ (replicate 4301 49 ++ codes ".5"), failed number_out_of_range 4302) ∷
+    -- the fault stands where the digits pass the limit
+    (replicate 4400 49 ++ codes "x", failed number_out_of_range 4301) ∷
+    []
 
-too_many_digits : number_at false (replicate 4301 49 ++ codes ".5") 0 ≡ failed number_out_of_range 4301
-unfolding number_at word_at digit_run number_value
-too_many_digits = refl
-
-too_many_digits_behind_a_minus : number_at false (45 ∷ (replicate 4301 49 ++ codes ".5")) 0 ≡ failed number_out_of_range 4302
-unfolding number_at word_at digit_run number_value
-too_many_digits_behind_a_minus = refl
-
--- the fault stands where the digits pass the limit
-far_too_many_digits : number_at false (replicate 4400 49 ++ codes "x") 0 ≡ failed number_out_of_range 4301
-unfolding number_at word_at digit_run number_value
-far_too_many_digits = refl
+numbers_read : map (λ r. number_at false r.0 0) numbers ≡ map (λ r. r.1) numbers
+unfolding computed_numbers
+numbers_read = refl
 
 too_many_digits_alone : int_alone (replicate 4301 49) ≡ failed number_out_of_range 4301
-unfolding int_at digit_run number_value
+unfolding computed_numbers
 too_many_digits_alone = refl
 
-a_text_with_as_many_digits : is_number_text false (replicate 4300 49 ++ codes ".5") ≡ true
-unfolding is_number_text
-a_text_with_as_many_digits = refl
+abbrev texts : List (List ℕ × Bool)
+texts =
+    (replicate 4300 49 ++ codes ".5", true) ∷
+    (replicate 4301 49 ++ codes ".5", false) ∷
+    (codes "1." ++ replicate 4301 49, true) ∷
+    []
 
-a_text_with_too_many_digits : is_number_text false (replicate 4301 49 ++ codes ".5") ≡ false
+texts_tested : map (λ r. is_number_text false r.0) texts ≡ map (λ r. r.1) texts
 unfolding is_number_text
-a_text_with_too_many_digits = refl
-
-a_text_with_many_digits_behind_a_point : is_number_text false (codes "1." ++ replicate 4301 49) ≡ true
-unfolding is_number_text
-a_text_with_many_digits_behind_a_point = refl
+texts_tested = refl

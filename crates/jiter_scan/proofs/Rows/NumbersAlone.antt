@@ -4,7 +4,7 @@ use Rattle.jiter_scan.specs.Kind.{eof_value, expected_ident, expected_value, inv
 use Rattle.jiter_scan.specs.Scanned.{Scanned, taken, failed}
 use Rattle.jiter_scan.specs.Number.{Number, integer, big, float}
 use Rattle.jiter_scan.specs.NumberReading.{number_alone}
-use Rattle.jiter_scan.proofs.Rows.Computed.{computed_numbers}
+use Rattle.jiter_scan.proofs.Computed.{computed_numbers}
 
 abbrev Row : Type 0
 Row = List ℕ × Scanned Number

@@ -199,10 +199,10 @@ fn ends_at_what_follows(rt: HostRuntime) -> Result<(), Fail> {
 fn integers_at_a_place(rt: HostRuntime) {
     assert_eq!(rt;
         int_at(b"[-12,3]", 1),
-        Ok(Integer::Whole(NumberInt::Int(-12), 4))
+        Ok((Integer::Whole(NumberInt::Int(-12)), 4))
     );
-    assert_eq!(rt; int_at(b"[1.5]", 1), Ok(Integer::FloatSeen(2)));
-    assert_eq!(rt; int_at(b"-Infinity", 0), Ok(Integer::FloatSeen(1)));
+    assert_eq!(rt; int_at(b"[1.5]", 1), Ok((Integer::FloatSeen, 2)));
+    assert_eq!(rt; int_at(b"-Infinity", 0), Ok((Integer::FloatSeen, 1)));
 }
 
 #[test]

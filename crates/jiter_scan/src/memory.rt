@@ -1,0 +1,72 @@
+//! What grows: the few requests for memory that the parser makes. Each answers, where it is refused, with
+//! the evidence of it, and nothing outside this module can make that evidence.
+ghost use Rattle.std.specs.Prelude.{◌≡◌, ◌∷◌, ◌++◌, [], IfOk, OnOk, OnErr, decimal, string_bytes};
+
+use std::alloc::{AllocError, Global};
+
+/// The evidence that a request for memory was refused.
+#[derive(Debug, PartialEq, Eq, Drop)]
+pub struct Refused {
+    error: AllocError,
+}
+
+impl From<Refused> for AllocError {
+    ghost from_gives = { λ _ _. Unit {0} };
+
+    fn from(refused: Refused) -> AllocError {
+        refused.error
+    }
+}
+
+/// Appends an item.
+pub fn push<T: Drop>(items: &mut Vec<T>, item: T) -> Result<(), Refused>
+    ensures ok { OnOk result (items.new.items ≡ items.old.items ++ item ∷ []) }
+    ensures err { OnErr result (items.new.items ≡ items.old.items) }
+{
+    match items.push(item) {
+        Ok(()) => Ok(()),
+        Err(_) => Err(Refused { error: AllocError }),
+    }
+}
+
+/// Appends bytes.
+pub fn extend(bytes: &mut Vec<u8>, more: &[u8]) -> Result<(), Refused>
+    ensures ok { OnOk result (bytes.new.items ≡ bytes.old.items ++ more.now) }
+    ensures err { OnErr result (bytes.new.items ≡ bytes.old.items) }
+{
+    match bytes.extend_from_slice(more) {
+        Ok(()) => Ok(()),
+        Err(error) => Err(Refused { error }),
+    }
+}
+
+/// A text of its own.
+pub fn copy_text(alloc: Global, text: &str) -> Result<String, Refused>
+    ensures { IfOk result (λ copy. string_bytes copy ≡ text.now) }
+{
+    match String::from_str(alloc, text) {
+        Ok(copy) => Ok(copy),
+        Err(error) => Err(Refused { error }),
+    }
+}
+
+/// Appends a text.
+pub fn push_text(text: &mut String, more: &str) -> Result<(), Refused>
+    ensures ok { OnOk result (string_bytes text.new ≡ string_bytes text.old ++ more.now) }
+    ensures err { OnErr result (string_bytes text.new ≡ string_bytes text.old) }
+{
+    match text.push_str(more) {
+        Ok(()) => Ok(()),
+        Err(error) => Err(Refused { error }),
+    }
+}
+
+/// Appends the decimal digits of a number.
+pub fn push_number(text: &mut String, number: usize) -> Result<(), Refused>
+    ensures { OnOk result (string_bytes text.new ≡ string_bytes text.old ++ decimal number) }
+{
+    match number.to_string(*text.allocator()) {
+        Ok(digits) => push_text(text, digits.as_str()),
+        Err(error) => Err(Refused { error }),
+    }
+}
