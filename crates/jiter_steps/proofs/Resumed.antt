@@ -28,6 +28,9 @@ module _ {K A : Type 0} (r : Rules K A) (t : List ℕ) where
   pub value_in-room : (depth j : ℕ) → depth ≤ 200 → value_in r t depth j ≡ value_at r t (200 - depth) j
   value_in-room depth j h = let e : 201 - depth ≡ suc (200 - depth) = omega arith in ap (λ n. inside_at r t n j) e ∙ inside_at-suc r t (200 - depth) j
 
+  pub value_in-limit : (j : ℕ) → value_in r t 201 j ≡ fault recursion_limit j j
+  value_in-limit j = inside_at-none r t 0 j refl
+
   follow-resolved : (next : ℕ → Reading A) (close : ℕ → A) (s : Step) → follow r next close s ≡ follow r next close (resolved r.forgives s)
   follow-resolved next close (more j) = refl
   follow-resolved next close (closed e) = refl

@@ -1,3 +1,3 @@
+pub mod Kept
+pub mod Sizes
 pub mod Views
-pub mod Turns
-pub mod Parsed

@@ -3,13 +3,12 @@ use Rattle.std.proofs.Common.{◌≡◌, List, [], ◌∷◌, map, refl, sym, ap
 use Rattle.std.specs.declared.alloc.Global.{Global}
 use Rattle.std.specs.declared.borrow.CowStr.{CowStr}
 use Rattle.jiter_steps.specs.Tree.{Text, Tree, array, object, member, members_of}
-use Rattle.jiter_steps.specs.Seen.{text_seen}
+use Rattle.jiter_steps.specs.StringDecoder.{text_seen}
 use Rattle.jiter_value.specs.View.{view, views, member_views}
+use Rattle.jiter_value.specs.Stacks.{seen}
 use Rattle.jiter_value.specs.declared.value.JsonValue.{JsonValue, Array, Object, the_lemmas}
 
--- a member, by its key's text and its value's tree
-abbrev pub seen : CowStr Global × JsonValue → Text × Tree
-seen m = (text_seen m.0, view m.1)
+
 
 pub member_views_is : (ms : List (CowStr Global × JsonValue)) → member_views ms ≡ members_of (map seen ms)
 member_views_is [] = refl

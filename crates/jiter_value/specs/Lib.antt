@@ -1,2 +1,5 @@
 pub mod View
+pub mod Settings
+pub mod Stacks
+pub mod Size
 pub mod Answers

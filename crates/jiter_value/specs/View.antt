@@ -3,7 +3,7 @@ use Rattle.std.specs.Prelude.{List, [], ◌∷◌, map}
 use Rattle.std.specs.declared.alloc.Global.{Global}
 use Rattle.std.specs.declared.borrow.CowStr.{CowStr}
 use Rattle.jiter_steps.specs.Tree.{Tree, null, boolean, int, big, float, string, array, object, Items, items_of, Members, no_members, member}
-use Rattle.jiter_steps.specs.Seen.{text_seen}
+use Rattle.jiter_steps.specs.StringDecoder.{text_seen}
 use Rattle.jiter_value.specs.declared.value.JsonValue.{JsonValue, fold-JsonValue}
 use Rattle.jiter_value.specs.declared.value.JsonValue.TheOpen.{JsonValue-F}
 

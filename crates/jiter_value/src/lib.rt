@@ -1,7 +1,9 @@
 //! JSON as a tree whose unescaped texts borrow from the input.
 #![tactic(auto)]
 
-mod read;
+pub mod scalar;
+pub mod settings;
+pub mod stacks;
 pub mod value;
 
 pub use value::{JsonArray, JsonObject, JsonValue};

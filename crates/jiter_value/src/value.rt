@@ -1,16 +1,4 @@
-//! The tree of a document, and reading it.
-ghost use Rattle.std.specs.Prelude.{◌≡◌, ◌≤◌, ◌⊎◌, IfOk, IfErr, MatchResult, true, length};
-ghost use Rattle.jiter_scan.specs.Kind.{kind_of, is_end_kind};
-ghost use Rattle.jiter_steps.specs.Blank.{past_blanks};
-ghost use Rattle.jiter_steps.specs.Node.{Node, IsDocument, IsCutContainer, value_of};
-ghost use Rattle.jiter_steps.specs.Answer.{answer};
-ghost use Rattle.jiter_value.specs.View.{view};
-ghost use Rattle.jiter_value.specs.Answers.{Answers, MayGrow, error_of};
-
-use crate::read::read_whole;
-use jiter_scan::{JsonError, JsonErrorType};
-use jiter_steps::fault::Refusal;
-use std::alloc::Global;
+//! The tree of a document.
 use std::borrow::CowStr;
 
 /// The items of an array, in source order.
@@ -38,62 +26,4 @@ pub enum JsonValue<'s> {
     Array(JsonArray<'s>),
     /// An object.
     Object(JsonObject<'s>),
-}
-
-impl<'j> JsonValue<'j> {
-    /// The value of the document that the bytes spell; where they spell none, the kind and byte index of the
-    /// first fault (RFC 8259, 2). With `allow_inf_nan` the names `NaN`, `Infinity` and `-Infinity` are numbers.
-    ///
-    /// A text is borrowed exactly where its source has no backslash. `OutOfMemory` is answered only where
-    /// memory was refused.
-    pub fn parse(
-        alloc: Global,
-        bytes: &'j [u8],
-        allow_inf_nan: bool,
-    ) -> Result<JsonValue<'j>, JsonError>
-        // The value is that of a document that the bytes spell, each text with its mark.
-        ensures found { IfOk result (λ v. (n : Node) × IsDocument allow_inf_nan bytes.now n
-            × (value_of bytes.now n ≡ view v)) }
-        // A document is answered with its value, unless memory is refused.
-        ensures only { (n : Node) → IsDocument allow_inf_nan bytes.now n → MatchResult result
-            (λ v. view v ≡ value_of bytes.now n) (λ e. e.error_type ≡ JsonErrorType.OutOfMemory) }
-        // Which fault it is: the first one of a reading from the left.
-        ensures first { Answers result (answer allow_inf_nan bytes.now) }
-
-        // Where faults stand.
-        ensures index { IfErr result (λ e. e.index ≤ length bytes.now) }
-        ensures ends { IfErr result (λ e. is_end_kind (kind_of e.error_type) ≡ true
-            → e.index ≡ length bytes.now) }
-
-        // An array or an object without its last bracket is refused, since the input ends too early.
-        ensures early { IsCutContainer allow_inf_nan bytes.now → MatchResult result (λ _. ⊥)
-            (λ e. (e.error_type ≡ JsonErrorType.OutOfMemory)
-            ⊎ (is_end_kind (kind_of e.error_type) ≡ true)) }
-
-        // Memory may be the answer only where the value's first bytes ask for some, and from its first byte on.
-        ensures memory { IfErr result (λ e. e.error_type ≡ JsonErrorType.OutOfMemory
-            → MayGrow bytes.now) }
-        ensures place { IfErr result (λ e. e.error_type ≡ JsonErrorType.OutOfMemory
-            → past_blanks bytes.now 0 ≤ e.index) }
-    {
-        match read_whole(alloc, bytes, allow_inf_nan) {
-            Ok((value, _)) => Ok(value),
-            Err(refusal) => Err(error_of(refusal)),
-        }
-    }
-}
-
-fn error_of(refusal: Refusal) -> JsonError
-    ensures { result ≡ error_of refusal }
-{
-    match refusal {
-        Refusal::Fault(fault) => JsonError {
-            error_type: fault.kind,
-            index: fault.index,
-        },
-        Refusal::Memory(index) => JsonError {
-            error_type: JsonErrorType::OutOfMemory,
-            index,
-        },
-    }
 }
