@@ -40,11 +40,15 @@ string-first c h = eqb-true c 34 (third (c == 91) (c == 123) (c == 34) _ (not_st
 pub string-begins : (t : List ℕ) (i : ℕ) → start_of (slice_index t i) ≡ start.String → slice_get t i ≡ Some 34
 string-begins t i h = slice_get-get_or t i 0 (begins-within t i (λ e. let clash : start.Nothing ≡ start.String = sym e ∙ h in cc)) ∙ ap Some (string-first (slice_index t i) h)
 
+-- where a step goes on, something begins
+abbrev pub GoesTo : (ℕ → Type 0) → Step → Type 0
+GoesTo Begins (more j) = Begins j
+GoesTo Begins (closed e) = Unit {0}
+GoesTo Begins (stuck k j) = Unit {0}
+
 -- where an object goes on, a quote stands
 abbrev pub KeyAt : List ℕ → Step → Type 0
-KeyAt t (more j) = slice_get t j ≡ Some 34
-KeyAt t (closed e) = Unit {0}
-KeyAt t (stuck k j) = Unit {0}
+KeyAt t s = GoesTo (λ j. slice_get t j ≡ Some 34) s
 
 module _ (t : List ℕ) where
   opened-key : (j : ℕ) (o : Option ℕ) → slice_get t j ≡ o → KeyAt t (object_first j o)

@@ -1,5 +1,5 @@
 -- What is left of a document when its text ends before the place k. It speaks of a finished derivation, and not of reading.
-use Rattle.std.specs.Prelude.{ℕ, Bool, Option, Some, None, List, nat_le, if◌then◌else◌, slice_range}
+use Rattle.std.specs.Prelude.{ℕ, Bool, Option, Some, None, List, nat_le, min, if◌then◌else◌, slice_range}
 use Rattle.jiter_scan.specs.Number.{number_value, is_number_text}
 use Rattle.jiter_scan.specs.Mode.{allows_trailing_strings}
 use Rattle.jiter_scan.specs.declared.partial_mode.PartialMode.{PartialMode}
@@ -10,7 +10,7 @@ use Rattle.jiter_steps.specs.Tree as tree
 use Rattle.jiter_steps.specs.Node.{Node, Nodes, no_nodes, node, NodeMembers, no_members, member, text_at, number_tree}
 use Rattle.jiter_steps.specs.Node as grammar
 
--- a number's bytes before k, where they are a number still
+-- these bytes of a number, where they are a number still
 abbrev pub cut_number : Bool → List ℕ → Option Tree
 cut_number names w = if is_number_text names w then Some (number_tree (number_value w)) else None
 
@@ -30,10 +30,7 @@ with_member key (Some v) members = tree.member key v members
 abbrev mutual
   pub cut : Bool → List ℕ → Node → ℕ → PartialMode → Option Tree
   cut names t (grammar.literal l b e) k mode = if nat_le e k then Some (literal_tree l) else None
-  cut names t (grammar.number b e) k mode =
-      if nat_le k b then None
-      else (if nat_le e k then Some (number_tree (number_value (slice_range t b e)))
-      else cut_number names (slice_range t b k))
+  cut names t (grammar.number b e) k mode = if nat_le k b then None else cut_number names (slice_range t b (min k e))
   cut names t (grammar.string ps b e) k mode =
       if nat_le k b then None
       else (if nat_le e k then Some (tree.string (text_at t ps b e))

@@ -8,16 +8,8 @@ use Rattle.jiter_steps.specs.Node as grammar
 abbrev pub BeginsText : Text → Text → Type 0
 BeginsText a b = (rest : List ℕ) × (b.bytes ≡ a.bytes ++ rest)
 
--- of an item with these behind it: the first where none is, or else the second
-abbrev pub IfLast : Items → Type 0 → Type 0 → Type 0
-IfLast no_items Last Before = Last
-IfLast (item v vs) Last Before = Before
-
-abbrev pub IfLastMember : Members → Type 0 → Type 0 → Type 0
-IfLastMember no_members Last Before = Last
-IfLastMember (member k v ms) Last Before = Before
-
--- Strings and containers go on; other scalars are equal, and so is what stands before a container's last item or value. Keys are equal.
+-- Strings and containers go on; other scalars are equal, and so is what stands before a
+-- container's last item or value. Keys are equal.
 abbrev mutual
   pub Extends : Tree → Tree → Type 0
   Extends (string a) (string b) = BeginsText a b
@@ -28,12 +20,14 @@ abbrev mutual
   pub ExtendsItems : Items → Items → Type 0
   ExtendsItems no_items ws = Unit {0}
   ExtendsItems (item v vs) no_items = ⊥
-  ExtendsItems (item v vs) (item w ws) = IfLast vs (Extends v w) ((v ≡ w) × ExtendsItems vs ws)
+  ExtendsItems (item v no_items) (item w ws) = Extends v w
+  ExtendsItems (item v (item x vs)) (item w ws) = (v ≡ w) × ExtendsItems (item x vs) ws
 
   pub ExtendsMembers : Members → Members → Type 0
   ExtendsMembers no_members ns = Unit {0}
   ExtendsMembers (member k v ms) no_members = ⊥
-  ExtendsMembers (member k v ms) (member l w ns) = (k ≡ l) × IfLastMember ms (Extends v w) ((v ≡ w) × ExtendsMembers ms ns)
+  ExtendsMembers (member k v no_members) (member l w ns) = (k ≡ l) × Extends v w
+  ExtendsMembers (member k v (member m x ms)) (member l w ns) = (k ≡ l) × (v ≡ w) × ExtendsMembers (member m x ms) ns
 
 -- No number of a node is cut by k: each is whole before it, or not begun.
 abbrev mutual

@@ -5,7 +5,10 @@ pub mod Step
 pub mod Escape
 pub mod Piece
 pub mod StringReading
+pub mod StringDecoder
 pub mod Read
+pub mod ReadError
+pub mod Parse
 pub mod Node
 pub mod Cut
 pub mod Answer

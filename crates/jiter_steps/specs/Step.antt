@@ -1,6 +1,6 @@
 -- The steps between the parts of a container (RFC 8259, 4 and 5): blanks are passed, and then a byte decides.
 use Rattle.std.specs.Prelude.{ℕ, ◌+◌, ◌==◌, if◌then◌else◌, List, slice_get, Option, Some, None}
-use Rattle.jiter_scan.specs.Kind.{Kind, eof_list, eof_object, eof_value, expected_colon, expected_list_comma_or_end, expected_object_comma_or_end, key_must_be_a_string, trailing_comma}
+use Rattle.jiter_scan.specs.Kind.{Kind, eof_list, eof_object, eof_value, expected_colon, expected_list_comma_or_end, expected_object_comma_or_end, key_must_be_a_string, trailing_comma, trailing_characters}
 use Rattle.jiter_scan.specs.Scanned.{taken, failed}
 use Rattle.jiter_scan.specs.Word.{Extent}
 use Rattle.jiter_scan.specs.NumberReading.{extent_then}
@@ -71,3 +71,8 @@ value_first j (Some c) = taken tt j
 -- behind a key: its colon, and the place where its value begins
 abbrev pub object_colon : List ℕ → ℕ → Extent
 object_colon t i = extent_then (step t colon i) (step t value_first)
+
+-- behind a document's value: nothing
+abbrev pub document_end : ℕ → Option ℕ → Extent
+document_end j None = taken tt j
+document_end j (Some c) = failed trailing_characters j

@@ -22,9 +22,9 @@ use Rattle.jiter_steps.proofs.Values.{Advances}
 use Rattle.jiter_steps.proofs.Instances.{trees-advances}
 use Rattle.jiter_steps.proofs.Resumed.{IgnoresBegin, value_in-room, value_in-limit, if_forgiven-yes, if_forgiven-no, resume-fault, resume-forgiven, step-to, step-stuck, items-value, key-value, key-failed, colon-failed, array-begins, object-begins}
 use Rattle.jiter_value.specs.Settings.{forgives, rules}
-use Rattle.jiter_value.specs.Stacks.{Member, seen, last_key_of, last_key, front, frames, HaveBases, HaveKeyBase, key_in, key_fault_in, behind_in}
+use Rattle.jiter_value.specs.Stacks.{Member, member_view, last_key_of, last_key, front, frames, HaveBases, HaveKeyBase, key_in, key_fault_in, behind_in}
 use Rattle.jiter_value.specs.Stacks as stacks
-use Rattle.jiter_value.specs.View.{view}
+use Rattle.jiter_value.specs.Value.{view}
 use Rattle.jiter_value.specs.declared.settings.Settings.{Settings}
 use Rattle.jiter_value.specs.declared.stacks.Awaits.{Awaits}
 use Rattle.jiter_value.specs.declared.stacks.Awaits.TheVariants as awaits
@@ -62,13 +62,13 @@ front-append xs m =
 
 -- an object that awaits the value of this key
 pub value-frames : (o : Open) (os : List Open) (es : List JsonValue) (before : List Member) (key : CowStr Global) (old : JsonValue) → o.base ≤ length before
-    → frames awaits.Value (o ∷ os) es (before ++ (key, old) ∷ []) ≡ members_frame (map seen (drop o.base before)) (text_seen key) ∷ frames o.outer os es (take o.base before)
+    → frames awaits.Value (o ∷ os) es (before ++ (key, old) ∷ []) ≡ members_frame (map member_view (drop o.base before)) (text_seen key) ∷ frames o.outer os es (take o.base before)
 value-frames o os es before key old h =
     let m : Member = (key, old) in
     let dropped : drop o.base (before ++ m ∷ []) ≡ drop o.base before ++ m ∷ [] = drop-append-le o.base before (m ∷ []) h in
     let kept : take o.base (before ++ m ∷ []) ≡ take o.base before = take-append-le o.base before (m ∷ []) h in
-    ap₂ (λ part rest. members_frame (map seen (front part)) (last_key part) ∷ frames o.outer os es rest) dropped kept
-    ∙ ap₂ (λ part k. members_frame (map seen part) k ∷ frames o.outer os es (take o.base before)) (front-append (drop o.base before) m) (last_key-append (drop o.base before) m)
+    ap₂ (λ part rest. members_frame (map member_view (front part)) (last_key part) ∷ frames o.outer os es rest) dropped kept
+    ∙ ap₂ (λ part k. members_frame (map member_view part) k ∷ frames o.outer os es (take o.base before)) (front-append (drop o.base before) m) (last_key-append (drop o.base before) m)
 
 pub length-frames : (a : Awaits) (os : List Open) (n m : ℕ) (es : List JsonValue) (ms : List Member) → HaveBases a os n m → length (frames a os es ms) ≡ length os
 length-frames a [] n m es ms h = refl
@@ -104,8 +104,8 @@ module _ (p : Settings) (t : List ℕ) where
   put-value [] es before key old root v e h = absurd h
   put-value (o ∷ os) es before key old root v e h =
       let le : o.base ≤ length before = omega (arith, h.0, length-append before ((key, old) ∷ [])) in
-      let part : map seen (drop o.base before) ++ (text_seen key, view v) ∷ [] ≡ map seen (drop o.base (before ++ (key, v) ∷ [])) =
-      sym (map_push seen (drop o.base before) (key, v)) ∙ ap (map seen) (sym (drop-append-le o.base before ((key, v) ∷ []) le)) in
+      let part : map member_view (drop o.base before) ++ (text_seen key, view v) ∷ [] ≡ map member_view (drop o.base (before ++ (key, v) ∷ [])) =
+      sym (map_push member_view (drop o.base before) (key, v)) ∙ ap (map member_view) (sym (drop-append-le o.base before ((key, v) ∷ []) le)) in
       let rest : take o.base before ≡ take o.base (before ++ (key, v) ∷ []) = sym (take-append-le o.base before ((key, v) ∷ []) le) in
       ap (λ fs. resume (rules p) t fs (done (view v) e)) (value-frames o os es before key old le) ∙ ap₂ (λ xs ys. members_from (rules p) t (frames o.outer os es ys) xs e) part rest
 
@@ -120,7 +120,7 @@ module _ (p : Settings) (t : List ℕ) where
   array-closes init o es rest ms v e left made =
       ap (λ os. stacks.array_in p t os es ms e) (reverse-append init (o ∷ [])) ∙ ap₂ (λ xs y. resume (rules p) t (frames o.outer (reverse init) xs ms) (done y e)) (sym left) (sym made)
 
-  pub object-closes : (init : List Open) (o : Open) (es : List JsonValue) (ms rest : List Member) (v : JsonValue) (e : ℕ) → rest ≡ take o.base ms → view v ≡ object (members_of (map seen (drop o.base ms)))
+  pub object-closes : (init : List Open) (o : Open) (es : List JsonValue) (ms rest : List Member) (v : JsonValue) (e : ℕ) → rest ≡ take o.base ms → view v ≡ object (members_of (map member_view (drop o.base ms)))
       → stacks.object_in p t (reverse (init ++ o ∷ [])) es ms e ≡ resume (rules p) t (frames o.outer (reverse init) es rest) (done (view v) e)
   object-closes init o es ms rest v e left made =
       ap (λ os. stacks.object_in p t os es ms e) (reverse-append init (o ∷ [])) ∙ ap₂ (λ xs y. resume (rules p) t (frames o.outer (reverse init) es xs) (done y e)) (sym left) (sym made)
@@ -153,21 +153,21 @@ module _ (p : Settings) (t : List ℕ) where
   members-more [] es ms root e j b s = absurd b
   members-more (o ∷ os) es ms root e j b s =
       let fs = frames o.outer os es (take o.base ms) in
-      step-to (rules p) t (object_in (rules p) t (length fs)) fs (map seen (drop o.base ms)) (step t (object_step t) e) (more j) s
+      step-to (rules p) t (object_in (rules p) t (length fs)) fs (map member_view (drop o.base ms)) (step t (object_step t) e) (more j) s
 
   pub members-closed : (os : List Open) (es : List JsonValue) (ms : List Member) (root : JsonValue) (e c : ℕ) → HaveBases awaits.Value os (length es) (length ms) → resolved (forgives p.mode) (step t (object_step t) e) ≡ closed c
       → behind_in p t awaits.Value os es ms root e ≡ stacks.object_in p t os es ms c
   members-closed [] es ms root e c b s = absurd b
   members-closed (o ∷ os) es ms root e c b s =
       let fs = frames o.outer os es (take o.base ms) in
-      step-to (rules p) t (object_in (rules p) t (length fs)) fs (map seen (drop o.base ms)) (step t (object_step t) e) (closed c) s
+      step-to (rules p) t (object_in (rules p) t (length fs)) fs (map member_view (drop o.base ms)) (step t (object_step t) e) (closed c) s
 
   pub members-stuck : (os : List Open) (es : List JsonValue) (ms : List Member) (root : JsonValue) (e j : ℕ) (k : Kind) → HaveBases awaits.Value os (length es) (length ms) → resolved (forgives p.mode) (step t (object_step t) e) ≡ stuck k j
       → forgives p.mode k ≡ false → behind_in p t awaits.Value os es ms root e ≡ fault k j j
   members-stuck [] es ms root e j k b s bad = absurd b
   members-stuck (o ∷ os) es ms root e j k b s bad =
       let fs = frames o.outer os es (take o.base ms) in
-      step-stuck (rules p) t (object_in (rules p) t (length fs)) fs (map seen (drop o.base ms)) (step t (object_step t) e) k j s bad
+      step-stuck (rules p) t (object_in (rules p) t (length fs)) fs (map member_view (drop o.base ms)) (step t (object_step t) e) k j s bad
 
   -- A fault where a value is awaited.
   pub fault-kept : (a : Awaits) (os : List Open) (es : List JsonValue) (ms : List Member) (k : Kind) (x stop : ℕ) → forgives p.mode k ≡ false → resume (rules p) t (frames a os es ms) (fault k x stop) ≡ fault k x stop
@@ -183,7 +183,7 @@ module _ (p : Settings) (t : List ℕ) where
   fault-value [] es before key old k x stop b ok = absurd b
   fault-value (o ∷ os) es before key old k x stop b ok =
       ap (λ fs. resume (rules p) t fs (fault k x stop)) (value-frames o os es before key old b.0)
-      ∙ resume-forgiven (rules p) t (members_frame (map seen (drop o.base before)) (text_seen key)) (frames o.outer os es (take o.base before)) k x stop ok
+      ∙ resume-forgiven (rules p) t (members_frame (map member_view (drop o.base before)) (text_seen key)) (frames o.outer os es (take o.base before)) k x stop ok
 
   pub fault-root : (os : List Open) (es : List JsonValue) (ms : List Member) (x : Reading Tree) → HaveBases awaits.Root os (length es) (length ms) → resume (rules p) t (frames awaits.Root os es ms) x ≡ x
   fault-root [] es ms x b = refl
@@ -234,7 +234,7 @@ module _ (p : Settings) (t : List ℕ) where
     pub object-opens : (j : ℕ) (o : Open) → o ≡ record { outer = a; base = length ms } → start_of (slice_index t i) ≡ start.Object → resolved (forgives p.mode) (step t object_first (i + 1)) ≡ more j
         → value_from (rules p) t fs i ≡ key_in p t (o ∷ os) es ms j
     object-opens j o eq is s =
-        let none : [] ≡ map seen (drop (length ms) ms) = sym (ap (map seen) (drop_all (length ms) ms (omega arith))) in
+        let none : [] ≡ map member_view (drop (length ms) ms) = sym (ap (map member_view) (drop_all (length ms) ms (omega arith))) in
         let same : ms ≡ take (length ms) ms = sym (take_all (length ms) ms (omega arith)) in
         object-begins (rules p) t good any fs i (more j) low is s
         ∙ ap₂ (λ xs ys. key_from (rules p) t (frames a os es ys) xs j) none same ∙ ap (λ q. key_in p t (q ∷ os) es ms j) (sym eq)
@@ -252,7 +252,7 @@ module _ (p : Settings) (t : List ℕ) where
       → object_colon t e ≡ taken tt m → key_in p t os es ms j ≡ value_from (rules p) t (frames awaits.Value os es (ms ++ (k, Null) ∷ [])) m
   key-opens [] es ms j k e m b h v s = absurd b
   key-opens (o ∷ os) es ms j k e m b h v s =
-      key-value (rules p) t good (frames o.outer os es (take o.base ms)) (map seen (drop o.base ms)) j e m (text_seen k) h v s
+      key-value (rules p) t good (frames o.outer os es (take o.base ms)) (map member_view (drop o.base ms)) j e m (text_seen k) h v s
       ∙ ap (λ fs. value_from (rules p) t fs m) (sym (value-frames o os es ms k Null b.0))
 
   pub key-limit : (os : List Open) (es : List JsonValue) (ms : List Member) (j : ℕ) (k : Text) (e m : ℕ) → HaveKeyBase os (length es) (length ms) → j < length t → string_at whole t j ≡ taken k e
@@ -260,9 +260,9 @@ module _ (p : Settings) (t : List ℕ) where
   key-limit [] es ms j k e m b h v s full = absurd b
   key-limit (o ∷ os) es ms j k e m b h v s full =
       let fs = frames o.outer os es (take o.base ms) in
-      let f : Frame Text Tree = members_frame (map seen (drop o.base ms)) k in
+      let f : Frame Text Tree = members_frame (map member_view (drop o.base ms)) k in
       let d : suc (length fs) ≡ 201 = omega (arith, full, length-frames o.outer os (length es) o.base es (take o.base ms) b.1) in
-      key-value (rules p) t good fs (map seen (drop o.base ms)) j e m k h v s
+      key-value (rules p) t good fs (map member_view (drop o.base ms)) j e m k h v s
       ∙ ap (λ n. resume (rules p) t (f ∷ fs) (value_in (rules p) t n m)) d ∙ ap (resume (rules p) t (f ∷ fs)) (value_in-limit (rules p) t m)
       ∙ resume-fault (rules p) t (f ∷ fs) recursion_limit m m (limit-kept p.mode)
 
@@ -270,24 +270,24 @@ module _ (p : Settings) (t : List ℕ) where
   pub key-fails : (os : List Open) (es : List JsonValue) (ms : List Member) (j : ℕ) (k : Kind) (x : ℕ) → HaveKeyBase os (length es) (length ms) → j < length t → string_at whole t j ≡ failed k x
       → key_in p t os es ms j ≡ key_fault_in p t os es ms k x j
   key-fails [] es ms j k x b h v = absurd b
-  key-fails (o ∷ os) es ms j k x b h v = key-failed (rules p) t good (frames o.outer os es (take o.base ms)) (map seen (drop o.base ms)) j x k h v
+  key-fails (o ∷ os) es ms j k x b h v = key-failed (rules p) t good (frames o.outer os es (take o.base ms)) (map member_view (drop o.base ms)) j x k h v
 
   pub colon-fails : (os : List Open) (es : List JsonValue) (ms : List Member) (j : ℕ) (key : Text) (e x : ℕ) (k : Kind) → HaveKeyBase os (length es) (length ms) → j < length t → string_at whole t j ≡ taken key e
       → object_colon t e ≡ failed k x → key_in p t os es ms j ≡ key_fault_in p t os es ms k x x
   colon-fails [] es ms j key e x k b h v s = absurd b
-  colon-fails (o ∷ os) es ms j key e x k b h v s = colon-failed (rules p) t good (frames o.outer os es (take o.base ms)) (map seen (drop o.base ms)) j e x key k h v s
+  colon-fails (o ∷ os) es ms j key e x k b h v s = colon-failed (rules p) t good (frames o.outer os es (take o.base ms)) (map member_view (drop o.base ms)) j e x key k h v s
 
   pub key-kept : (os : List Open) (es : List JsonValue) (ms : List Member) (k : Kind) (x stop : ℕ) → forgives p.mode k ≡ false → key_fault_in p t os es ms k x stop ≡ fault k x stop
   key-kept [] es ms k x stop bad = refl
   key-kept (o ∷ os) es ms k x stop bad =
       let fs = frames o.outer os es (take o.base ms) in
-      ap (resume (rules p) t fs) (if_forgiven-no (rules p) t (λ e. (rules p).object 0 e (map seen (drop o.base ms))) k x stop bad) ∙ resume-fault (rules p) t fs k x stop bad
+      ap (resume (rules p) t fs) (if_forgiven-no (rules p) t (λ e. (rules p).object 0 e (map member_view (drop o.base ms))) k x stop bad) ∙ resume-fault (rules p) t fs k x stop bad
 
   pub key-forgiven : (os : List Open) (es : List JsonValue) (ms : List Member) (k : Kind) (x stop : ℕ) → HaveKeyBase os (length es) (length ms) → forgives p.mode k ≡ true
       → key_fault_in p t os es ms k x stop ≡ stacks.object_in p t os es ms stop
   key-forgiven [] es ms k x stop b ok = absurd b
   key-forgiven (o ∷ os) es ms k x stop b ok =
-      ap (resume (rules p) t (frames o.outer os es (take o.base ms))) (if_forgiven-yes (rules p) t (λ e. (rules p).object 0 e (map seen (drop o.base ms))) k x stop ok)
+      ap (resume (rules p) t (frames o.outer os es (take o.base ms))) (if_forgiven-yes (rules p) t (λ e. (rules p).object 0 e (map member_view (drop o.base ms))) k x stop ok)
 
 -- a value that is there needs no key any more
 pub key-base : (os : List Open) (n m : ℕ) → HaveBases awaits.Value os n m → HaveKeyBase os n m

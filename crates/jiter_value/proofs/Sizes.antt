@@ -7,14 +7,14 @@ use Rattle.std.proofs.lemmas.List.{reverse-append, map_push, drop-append-le, tak
 use Rattle.jiter_scan.specs.Scanned.{Scanned, taken, failed}
 use Rattle.jiter_steps.specs.Tree.{Text, Tree, array, object, items_of, members_of}
 use Rattle.jiter_steps.specs.StringDecoder.{text_seen}
-use Rattle.jiter_value.specs.View.{view}
+use Rattle.jiter_value.specs.Value.{view}
 use Rattle.jiter_value.specs.declared.value.JsonValue.{JsonValue}
 use Rattle.jiter_value.specs.declared.value.JsonValue.TheVariants.{Null}
 use Rattle.jiter_value.specs.declared.stacks.Open.{Open}
 use Rattle.jiter_value.specs.declared.stacks.Awaits.{Awaits}
 use Rattle.jiter_value.specs.declared.stacks.Awaits.TheVariants as awaits
 use Rattle.jiter_steps.specs.Frames.{Frame, items_frame, members_frame}
-use Rattle.jiter_value.specs.Stacks.{Member, seen, frames, HaveBases, HaveKeyBase}
+use Rattle.jiter_value.specs.Stacks.{Member, member_view, frames, HaveBases, HaveKeyBase}
 use Rattle.jiter_value.specs.Size.{size, size_items, size_members, items_size, members_size, frames_size, key_size_in, behind_size_in}
 use Rattle.jiter_value.proofs.Kept.{value-frames}
 
@@ -41,12 +41,12 @@ pub put-value-size : (os : List Open) (es : List JsonValue) (before : List Membe
 put-value-size [] es before key old root v h = absurd h
 put-value-size (o ∷ os) es before key old root v h =
     let le : o.base ≤ length before = omega (arith, h.0, length-append before ((key, old) ∷ [])) in
-    let part : map seen (drop o.base (before ++ (key, v) ∷ [])) ≡ map seen (drop o.base before) ++ (text_seen key, view v) ∷ [] =
-    ap (map seen) (drop-append-le o.base before ((key, v) ∷ []) le) ∙ map_push seen (drop o.base before) (key, v) in
+    let part : map member_view (drop o.base (before ++ (key, v) ∷ [])) ≡ map member_view (drop o.base before) ++ (text_seen key, view v) ∷ [] =
+    ap (map member_view) (drop-append-le o.base before ((key, v) ∷ []) le) ∙ map_push member_view (drop o.base before) (key, v) in
     let rest : take o.base (before ++ (key, v) ∷ []) ≡ take o.base before = take-append-le o.base before ((key, v) ∷ []) le in
-    let grown : members_size (map seen (drop o.base (before ++ (key, v) ∷ []))) ≡ members_size (map seen (drop o.base before)) + suc (size (view v)) = ap members_size part ∙ members_size-push (map seen (drop o.base before)) (text_seen key, view v) in
+    let grown : members_size (map member_view (drop o.base (before ++ (key, v) ∷ []))) ≡ members_size (map member_view (drop o.base before)) + suc (size (view v)) = ap members_size part ∙ members_size-push (map member_view (drop o.base before)) (text_seen key, view v) in
     let outer : frames_size (frames o.outer os es (take o.base (before ++ (key, v) ∷ []))) ≡ frames_size (frames o.outer os es (take o.base before)) = ap (λ ys. frames_size (frames o.outer os es ys)) rest in
-    let was : frames_size (frames awaits.Value (o ∷ os) es (before ++ (key, old) ∷ [])) ≡ suc (suc (members_size (map seen (drop o.base before)))) + frames_size (frames o.outer os es (take o.base before)) = ap frames_size (value-frames o os es before key old le) in
+    let was : frames_size (frames awaits.Value (o ∷ os) es (before ++ (key, old) ∷ [])) ≡ suc (suc (members_size (map member_view (drop o.base before)))) + frames_size (frames o.outer os es (take o.base before)) = ap frames_size (value-frames o os es before key old le) in
     omega (arith, grown, outer, was)
 
 pub put-root-size : (os : List Open) (es : List JsonValue) (ms : List Member) (v : JsonValue) → HaveBases awaits.Root os (length es) (length ms)
@@ -63,11 +63,11 @@ array-size init o es rest ms root v left made =
     let outer : frames_size (frames o.outer (reverse init) rest ms) ≡ frames_size (frames o.outer (reverse init) (take o.base es) ms) = ap (λ ys. frames_size (frames o.outer (reverse init) ys ms)) left in
     omega (arith, is, now, outer)
 
-pub object-size : (init : List Open) (o : Open) (es : List JsonValue) (ms rest : List Member) (v : JsonValue) → rest ≡ take o.base ms → view v ≡ object (members_of (map seen (drop o.base ms)))
+pub object-size : (init : List Open) (o : Open) (es : List JsonValue) (ms rest : List Member) (v : JsonValue) → rest ≡ take o.base ms → view v ≡ object (members_of (map member_view (drop o.base ms)))
     → key_size_in (reverse (init ++ o ∷ [])) es ms ≡ frames_size (frames o.outer (reverse init) es rest) + size (view v)
 object-size init o es ms rest v left made =
-    let is : key_size_in (reverse (init ++ o ∷ [])) es ms ≡ suc (members_size (map seen (drop o.base ms))) + frames_size (frames o.outer (reverse init) es (take o.base ms)) = ap (λ os. key_size_in os es ms) (reverse-append init (o ∷ [])) in
-    let now : size (view v) ≡ suc (members_size (map seen (drop o.base ms))) = ap size made in
+    let is : key_size_in (reverse (init ++ o ∷ [])) es ms ≡ suc (members_size (map member_view (drop o.base ms))) + frames_size (frames o.outer (reverse init) es (take o.base ms)) = ap (λ os. key_size_in os es ms) (reverse-append init (o ∷ [])) in
+    let now : size (view v) ≡ suc (members_size (map member_view (drop o.base ms))) = ap size made in
     let outer : frames_size (frames o.outer (reverse init) es rest) ≡ frames_size (frames o.outer (reverse init) es (take o.base ms)) = ap (λ ys. frames_size (frames o.outer (reverse init) es ys)) left in
     omega (arith, is, now, outer)
 

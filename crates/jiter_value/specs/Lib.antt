@@ -1,5 +1,5 @@
-pub mod View
+pub mod Value
 pub mod Settings
 pub mod Stacks
 pub mod Size
-pub mod Answers
+pub mod Read

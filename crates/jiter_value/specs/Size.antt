@@ -1,14 +1,14 @@
 -- How many scalars, containers and keys there are.
 use Rattle.std.specs.Prelude.{ℕ, suc, ◌+◌, List, [], ◌∷◌, take, drop, reverse, map}
 use Rattle.jiter_steps.specs.Tree.{Text, Tree, null, boolean, int, big, float, string, array, object, Items, no_items, item, Members, no_members, member, items_of, members_of}
-use Rattle.jiter_value.specs.View.{view}
+use Rattle.jiter_value.specs.Value.{view}
 use Rattle.jiter_value.specs.declared.value.JsonValue.{JsonValue}
 use Rattle.jiter_value.specs.declared.stacks.Open.{Open}
 use Rattle.jiter_value.specs.declared.stacks.Awaits.{Awaits}
 use Rattle.jiter_value.specs.declared.stacks.Awaits.TheVariants as awaits
 use Rattle.jiter_value.specs.declared.stacks.Stacks.{Stacks}
 use Rattle.jiter_steps.specs.Frames.{Frame, items_frame, members_frame}
-use Rattle.jiter_value.specs.Stacks.{Member, seen, frames}
+use Rattle.jiter_value.specs.Stacks.{Member, member_view, frames}
 
 abbrev mutual
   pub size : Tree → ℕ
@@ -43,12 +43,12 @@ frames_size (members_frame ms k ∷ fs) = suc (suc (members_size ms)) + frames_s
 
 abbrev pub key_size_in : List Open → List JsonValue → List Member → ℕ
 key_size_in [] items members = 0
-key_size_in (o ∷ os) items members = suc (members_size (map seen (drop o.base members))) + frames_size (frames o.outer os items (take o.base members))
+key_size_in (o ∷ os) items members = suc (members_size (map member_view (drop o.base members))) + frames_size (frames o.outer os items (take o.base members))
 
 abbrev pub behind_size_in : Awaits → List Open → List JsonValue → List Member → JsonValue → ℕ
 behind_size_in a [] items members root = size (view root)
 behind_size_in awaits.Item (o ∷ os) items members root = suc (items_size (map view (drop o.base items))) + frames_size (frames o.outer os (take o.base items) members)
-behind_size_in awaits.Value (o ∷ os) items members root = suc (members_size (map seen (drop o.base members))) + frames_size (frames o.outer os items (take o.base members))
+behind_size_in awaits.Value (o ∷ os) items members root = suc (members_size (map member_view (drop o.base members))) + frames_size (frames o.outer os items (take o.base members))
 behind_size_in awaits.Root (o ∷ os) items members root = size (view root)
 behind_size_in awaits.Key (o ∷ os) items members root = size (view root)
 behind_size_in awaits.Done (o ∷ os) items members root = size (view root)

@@ -8,7 +8,7 @@ use Rattle.jiter_steps.specs.Read.{Reading, done, fault, if_forgiven}
 use Rattle.jiter_steps.specs.StringDecoder.{text_seen}
 use Rattle.jiter_steps.specs.Frames.{Frame, items_frame, members_frame, resume, value_from, key_from, items_from, members_from}
 use Rattle.jiter_value.specs.Settings.{rules}
-use Rattle.jiter_value.specs.View.{view}
+use Rattle.jiter_value.specs.Value.{view}
 use Rattle.jiter_value.specs.declared.settings.Settings.{Settings}
 use Rattle.jiter_value.specs.declared.stacks.Awaits.{Awaits}
 use Rattle.jiter_value.specs.declared.stacks.Awaits.TheVariants as awaits
@@ -20,8 +20,8 @@ abbrev pub Member : Type 0
 Member = CowStr Global × JsonValue
 
 -- a member, by its key's text and its value's tree
-abbrev pub seen : Member → Text × Tree
-seen m = (text_seen m.0, view m.1)
+abbrev pub member_view : Member → Text × Tree
+member_view m = (text_seen m.0, view m.1)
 
 abbrev pub last_key_of : Member → List Member → Text
 last_key_of m [] = text_seen m.0
@@ -40,7 +40,7 @@ front ms = take (length ms - 1) ms
 abbrev pub frames : Awaits → List Open → List JsonValue → List Member → List (Frame Text Tree)
 frames a [] items members = []
 frames awaits.Item (o ∷ os) items members = items_frame (map view (drop o.base items)) ∷ frames o.outer os (take o.base items) members
-frames awaits.Value (o ∷ os) items members = members_frame (map seen (front (drop o.base members))) (last_key (drop o.base members)) ∷ frames o.outer os items (take o.base members)
+frames awaits.Value (o ∷ os) items members = members_frame (map member_view (front (drop o.base members))) (last_key (drop o.base members)) ∷ frames o.outer os items (take o.base members)
 frames awaits.Root (o ∷ os) items members = []
 frames awaits.Key (o ∷ os) items members = []
 frames awaits.Done (o ∷ os) items members = []
@@ -65,19 +65,19 @@ module _ (p : Settings) (t : List ℕ) where
   -- where the innermost object awaits a key at j
   abbrev pub key_in : List Open → List JsonValue → List Member → ℕ → Reading Tree
   key_in [] items members j = fault eof_object j j
-  key_in (o ∷ os) items members j = key_from (rules p) t (frames o.outer os items (take o.base members)) (map seen (drop o.base members)) j
+  key_in (o ∷ os) items members j = key_from (rules p) t (frames o.outer os items (take o.base members)) (map member_view (drop o.base members)) j
 
   -- where the key or its colon has this fault
   abbrev pub key_fault_in : List Open → List JsonValue → List Member → Kind → ℕ → ℕ → Reading Tree
   key_fault_in [] items members k x stop = fault k x stop
   key_fault_in (o ∷ os) items members k x stop =
-      resume (rules p) t (frames o.outer os items (take o.base members)) (if_forgiven (rules p) (λ e. (rules p).object 0 e (map seen (drop o.base members))) k x stop)
+      resume (rules p) t (frames o.outer os items (take o.base members)) (if_forgiven (rules p) (λ e. (rules p).object 0 e (map member_view (drop o.base members))) k x stop)
 
   -- where the innermost container has a value that ends at e
   abbrev pub behind_in : Awaits → List Open → List JsonValue → List Member → JsonValue → ℕ → Reading Tree
   behind_in a [] items members root e = done (view root) e
   behind_in awaits.Item (o ∷ os) items members root e = items_from (rules p) t (frames o.outer os (take o.base items) members) (map view (drop o.base items)) e
-  behind_in awaits.Value (o ∷ os) items members root e = members_from (rules p) t (frames o.outer os items (take o.base members)) (map seen (drop o.base members)) e
+  behind_in awaits.Value (o ∷ os) items members root e = members_from (rules p) t (frames o.outer os items (take o.base members)) (map member_view (drop o.base members)) e
   behind_in awaits.Root (o ∷ os) items members root e = done (view root) e
   behind_in awaits.Key (o ∷ os) items members root e = done (view root) e
   behind_in awaits.Done (o ∷ os) items members root e = done (view root) e
@@ -89,7 +89,7 @@ module _ (p : Settings) (t : List ℕ) where
 
   abbrev pub object_in : List Open → List JsonValue → List Member → ℕ → Reading Tree
   object_in [] items members e = fault eof_object e e
-  object_in (o ∷ os) items members e = resume (rules p) t (frames o.outer os items (take o.base members)) (done (object (members_of (map seen (drop o.base members)))) e)
+  object_in (o ∷ os) items members e = resume (rules p) t (frames o.outer os items (take o.base members)) (done (object (members_of (map member_view (drop o.base members)))) e)
 
   -- The same of all that is held.
   abbrev pub resumed : Stacks → Awaits → Reading Tree → Reading Tree

@@ -7,7 +7,7 @@ ghost use Rattle.jiter_steps.specs.Read.{scalar_at, value_at};
 ghost use Rattle.jiter_steps.specs.Parse.{Moves, Reads, Gives};
 ghost use Rattle.jiter_value.specs.Settings.{rules};
 ghost use Rattle.jiter_value.specs.Size.{size};
-ghost use Rattle.jiter_value.specs.View.{view};
+ghost use Rattle.jiter_value.specs.Value.{view};
 
 use crate::settings::Settings;
 use crate::value::JsonValue;

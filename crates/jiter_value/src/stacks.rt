@@ -4,9 +4,9 @@ ghost use Rattle.std.specs.declared.alloc.Global.{Global};
 ghost use Rattle.std.specs.declared.borrow.CowStr.{CowStr as CowStrView};
 ghost use Rattle.jiter_steps.specs.Tree.{array, object, items_of, members_of};
 ghost use Rattle.jiter_steps.specs.Read.{done};
-ghost use Rattle.jiter_value.specs.View.{view};
+ghost use Rattle.jiter_value.specs.Value.{view};
 ghost use Rattle.jiter_value.specs.Size.{size, value_size, key_size, behind_size};
-ghost use Rattle.jiter_value.specs.Stacks.{seen, Member, resumed, behind, closed_array, closed_object, Stands, StandsAtKey};
+ghost use Rattle.jiter_value.specs.Stacks.{member_view, Member, resumed, behind, closed_array, closed_object, Stands, StandsAtKey};
 ghost use Rattle.jiter_value.specs.declared.settings.Settings.{Settings as SettingsView};
 ghost use Rattle.jiter_value.specs.declared.value.JsonValue.{JsonValue as JsonValueView};
 
@@ -97,7 +97,7 @@ fn take_members<'j>(
     requires { container.base ≤ vec_len members.old }
     ensures rest { OnOk result (members.new.items ≡ take container.base members.old.items) }
     ensures value { IfOk result (λ v. view v
-        ≡ object (members_of (map seen (drop container.base members.old.items)))) }
+        ≡ object (members_of (map member_view (drop container.base members.old.items)))) }
 {
     if container.base == 0 && matches!(container.outer, Awaits::Root) {
         let empty = Vec::new(alloc);

@@ -1,6 +1,6 @@
 use Rattle.std.proofs.Common.{◌≡◌, ◌+◌, ◌-◌, ◌++◌, ◌∷◌, [], ◌∙◌, sym, ap, arith, length, take, reverse, subst, length-append}
 use Rattle.jiter_steps.specs.Read.{done}
-use Rattle.jiter_value.specs.View.{view}
+use Rattle.jiter_value.specs.Value.{view}
 use Rattle.jiter_value.specs.declared.stacks.Awaits.TheVariants as awaits
 use Rattle.jiter_steps.specs.Frames.{resume}
 use Rattle.jiter_value.specs.Settings.{rules}
