@@ -5,14 +5,14 @@ ghost use Rattle.jiter_scan.specs.Scan.{is_stop, scan_stop};
 ghost use Rattle.jiter_scan.specs.Scanned.{Scans, with_end};
 ghost use Rattle.jiter_steps.specs.Escape.{short_escape, is_hex, is_high, is_low};
 ghost use Rattle.jiter_steps.specs.ReadError.{UnlessRefused, WhereRefused};
-ghost use Rattle.jiter_steps.specs.StringReading.{hex_digits_at, found_at, unit_then, escaped, numbered, second, second_u, paired, body_at, checked, whole, string_at};
+ghost use Rattle.jiter_steps.specs.StringReading.{hex_digits_at, found_at, unit_then, escaped, numbered, second, second_u, paired, body_at, checked, whole, kept, string_at};
 ghost use Rattle.jiter_steps.specs.StringDecoder.{text_seen, digits_seen, IfNumber, found_seen, stop_seen, WantsMemory};
 ghost use Rattle.jiter_steps.specs.declared.string_decoder.Place.TheVariants as place;
 ghost use Rattle.jiter_steps.specs.declared.string_decoder.Ending.TheVariants as ending;
 
 use crate::read_error::ReadError;
 use jiter_scan::errors::{Fault, FaultKind};
-use jiter_scan::memory::{Refused, copy_text, extend};
+use jiter_scan::memory::{Refused, copy_text, extend, push};
 use jiter_scan::word::byte_at;
 use std::alloc::Global;
 use std::borrow::CowStr;
@@ -381,4 +381,21 @@ pub fn string_at<'j>(
             index: to,
         })),
     }
+}
+
+/// Stub.
+pub fn string_front_at<'j>(
+    alloc: Global,
+    tape: &mut Vec<u8>,
+    bytes: &'j [u8],
+    at: usize,
+) -> Result<(CowStr<'j>, usize), ReadError>
+    requires { at < length bytes.now }
+    ensures value { UnlessRefused result (λ x. Scans (with_end text_seen) x (string_at kept bytes.now at)) }
+    ensures advances { IfOk result (λ x. (at < x.1) × (x.1 ≤ length bytes.now)) }
+{
+    while tape.len() < usize::MAX {
+        push(tape, 0)?;
+    }
+    unreachable!()
 }

@@ -2,4 +2,5 @@ pub mod Value
 pub mod Settings
 pub mod Stacks
 pub mod Size
+pub mod Turns
 pub mod Read

@@ -4,6 +4,7 @@
 pub mod scalar;
 pub mod settings;
 pub mod stacks;
+pub mod turns;
 pub mod value;
 
 pub use value::{JsonArray, JsonObject, JsonValue};
