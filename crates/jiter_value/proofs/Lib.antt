@@ -1,3 +1,4 @@
 pub mod Kept
+pub mod Reached
 pub mod Sizes
 pub mod Views

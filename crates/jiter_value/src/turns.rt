@@ -57,18 +57,16 @@ fn after<'j>(
     let mut inside = awaits;
     'closing: loop {
         match inside {
-            Awaits::Item => {
-                if resolve(settings.mode, parser.array_step())? {
-                    return Ok(Awaits::Item);
-                }
-                inside = close_array(alloc, stacks)?;
-            }
-            Awaits::Value => {
-                if resolve(settings.mode, parser.object_step())? {
-                    return Ok(Awaits::Key);
-                }
-                inside = close_object(alloc, stacks)?;
-            }
+            Awaits::Item => match resolve(settings.mode, parser.array_step()) {
+                Ok(true) => return Ok(Awaits::Item),
+                Ok(false) => inside = close_array(alloc, stacks)?,
+                Err(fault) => return Err(ReadError::Fault(fault)),
+            },
+            Awaits::Value => match resolve(settings.mode, parser.object_step()) {
+                Ok(true) => return Ok(Awaits::Key),
+                Ok(false) => inside = close_object(alloc, stacks)?,
+                Err(fault) => return Err(ReadError::Fault(fault)),
+            },
             Awaits::Root => return Ok(Awaits::Done),
             Awaits::Key => unreachable!(),
             Awaits::Done => unreachable!(),
@@ -163,23 +161,26 @@ fn array_begun<'j>(
         < left parser.old.bytes.now stacks.old parser.old.index) }
     ensures held { IfOk result (λ a. held stacks.new a ≤ value_size stacks.old awaits + 1) }
 {
-    if resolve(settings.mode, parser.array_first())? {
-        if stacks.nest.len() == NESTING_LIMIT {
-            return Err(ReadError::Fault(too_deep(parser.index)));
-        }
-        let base = stacks.items.len();
-        push_small(
-            &mut stacks.nest,
-            Open {
+    match resolve(settings.mode, parser.array_first()) {
+        Ok(true) => {
+            if stacks.nest.len() == NESTING_LIMIT {
+                return Err(ReadError::Fault(too_deep(parser.index)));
+            }
+            let base = stacks.items.len();
+            let begun = Open {
                 outer: awaits,
                 base,
-            },
-        )?;
-        return Ok(Awaits::Item);
+            };
+            push_small(&mut stacks.nest, begun)?;
+            Ok(Awaits::Item)
+        }
+        Ok(false) => {
+            let items = Vec::new(alloc);
+            put(stacks, awaits, JsonValue::Array(items))?;
+            after(alloc, stacks, parser, settings, awaits)
+        }
+        Err(fault) => Err(ReadError::Fault(fault)),
     }
-    let items = Vec::new(alloc);
-    put(stacks, awaits, JsonValue::Array(items))?;
-    after(alloc, stacks, parser, settings, awaits)
 }
 
 // The object whose bracket is where the reader stands.
@@ -202,20 +203,23 @@ fn object_begun<'j>(
         < left parser.old.bytes.now stacks.old parser.old.index) }
     ensures held { IfOk result (λ a. held stacks.new a ≤ value_size stacks.old awaits + 1) }
 {
-    if resolve(settings.mode, parser.object_first())? {
-        let base = stacks.members.len();
-        push_small(
-            &mut stacks.nest,
-            Open {
+    match resolve(settings.mode, parser.object_first()) {
+        Ok(true) => {
+            let base = stacks.members.len();
+            let begun = Open {
                 outer: awaits,
                 base,
-            },
-        )?;
-        return Ok(Awaits::Key);
+            };
+            push_small(&mut stacks.nest, begun)?;
+            Ok(Awaits::Key)
+        }
+        Ok(false) => {
+            let members = Vec::new(alloc);
+            put(stacks, awaits, JsonValue::Object(members))?;
+            after(alloc, stacks, parser, settings, awaits)
+        }
+        Err(fault) => Err(ReadError::Fault(fault)),
     }
-    let members = Vec::new(alloc);
-    put(stacks, awaits, JsonValue::Object(members))?;
-    after(alloc, stacks, parser, settings, awaits)
 }
 
 // What stands where a value begins: a scalar, or a container that begins or is empty.
