@@ -321,3 +321,11 @@ key-above (o ∷ os) n m h = (omega (arith, h.0), h.1)
 pub key-of-value : (os : List Open) (n m : ℕ) → HaveBases awaits.Value os n m → HaveKeyBase os n (m - 1)
 key-of-value [] n m h = absurd h
 key-of-value (o ∷ os) n m h = (omega (arith, h.0), h.1)
+
+-- Nothing is held before the first value.
+pub root-stands : (nest : List Open) (es : List JsonValue) (ms : List Member) → nest ≡ [] → es ≡ [] → ms ≡ [] → HaveBases awaits.Root (reverse nest) (length es) (length ms)
+root-stands nest es ms a b c = subst (λ os. HaveBases awaits.Root (reverse os) (length es) (length ms)) (sym a) (ap length b, ap length c)
+
+pub root-begins : (p : Settings) (t : List ℕ) (nest : List Open) (es : List JsonValue) (ms : List Member) (i : ℕ) → nest ≡ []
+    → value_at (rules p) t 200 i ≡ value_from (rules p) t (frames awaits.Root (reverse nest) es ms) i
+root-begins p t nest es ms i e = sym (value_in-room (rules p) t 0 i (omega arith)) ∙ ap (λ os. value_from (rules p) t (frames awaits.Root (reverse os) es ms) i) (sym e)

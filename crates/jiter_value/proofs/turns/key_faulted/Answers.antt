@@ -1,15 +1,13 @@
-use Rattle.std.proofs.Common.{rules, ◌≡◌, ◌≢◌, ℕ, ◌+◌, ◌≤◌, ◌<◌, [], IfOk, OnOk, length, slice_index, ◌-◌, ◌*◌, ◌/◌, ◌%◌, Bool, true, false, nat_eq, nat_lt, List, ◌∷◌, ◌++◌, slice_index_or, slice_set, bit_and, bit_or, Fits, w8, w32, w64, Bor, MutBor}
+use Rattle.std.proofs.Common.{◌≡◌, ◌∙◌, sym, false, reverse}
 use Rattle.jiter_scan.specs.Kind.{fault_kind}
-use Rattle.jiter_steps.specs.Literal.{start_of}
-use Rattle.jiter_steps.specs.Node.{nesting_limit}
-use Rattle.jiter_steps.specs.Parse.{Moves, Gives}
-use Rattle.jiter_steps.specs.Read.{fault, value_at}
-use Rattle.jiter_value.specs.Size.{value_size, key_size, behind_size, held}
-use Rattle.jiter_value.specs.Stacks.{resumed, from_value, from_key, key_fault, behind, meaning, Stands, StandsAtKey}
-use Rattle.jiter_value.specs.Turns.{IsWithin, Reaches, left}
-use Rattle.jiter_value.specs.Value.{view}
+use Rattle.jiter_value.specs.Settings.{forgives}
+use Rattle.jiter_value.proofs.Kept.{key-kept}
 use Rattle.jiter_value.proofs.turns.key_faulted.Goals as goal
 
--- src/turns.rt:140:9
 pub returns-then-not-forgives-clause-reaches : goal.returns-then-not-forgives-clause-reaches
-returns-then-not-forgives-clause-reaches c = ?
+returns-then-not-forgives-clause-reaches c =
+    let a = c.args in
+    let s = a.stacks.now in
+    let k = fault_kind a.problem.kind in
+    let bad : forgives a.settings.mode k ≡ false = sym c.forgives.ensures ∙ c.if-not-forgives.true in
+    key-kept a.settings a.parser.now.bytes.now (reverse s.nest.items) s.items.items s.members.items k a.problem.index a.parser.now.index bad

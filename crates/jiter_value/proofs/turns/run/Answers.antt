@@ -1,15 +1,14 @@
-use Rattle.std.proofs.Common.{rules, ◌≡◌, ◌≢◌, ℕ, ◌+◌, ◌≤◌, ◌<◌, [], IfOk, OnOk, length, slice_index, ◌-◌, ◌*◌, ◌/◌, ◌%◌, Bool, true, false, nat_eq, nat_lt, List, ◌∷◌, ◌++◌, slice_index_or, slice_set, bit_and, bit_or, Fits, w8, w32, w64, Bor, MutBor}
-use Rattle.jiter_scan.specs.Kind.{fault_kind}
-use Rattle.jiter_steps.specs.Literal.{start_of}
-use Rattle.jiter_steps.specs.Node.{nesting_limit}
-use Rattle.jiter_steps.specs.Parse.{Moves, Gives}
-use Rattle.jiter_steps.specs.Read.{fault, value_at}
-use Rattle.jiter_value.specs.Size.{value_size, key_size, behind_size, held}
-use Rattle.jiter_value.specs.Stacks.{resumed, from_value, from_key, key_fault, behind, meaning, Stands, StandsAtKey}
-use Rattle.jiter_value.specs.Turns.{IsWithin, Reaches, left}
-use Rattle.jiter_value.specs.Value.{view}
+use Rattle.std.proofs.Common.{◌≡◌, ◌≤◌, ◌<◌, [], refl, ap, arith, length}
+use Rattle.jiter_value.proofs.Kept.{root-stands, root-begins}
 use Rattle.jiter_value.proofs.turns.run.Goals as goal
 
--- src/turns.rt:336:5
 pub turning-init : goal.turning-init
-turning-init c = ?
+turning-init c =
+    let a = c.args in
+    let s = a.stacks.now in
+    let none : length s.nest.items ≡ 0 = ap length c.requires.nest in (
+      record { same = refl; forward = omega arith },
+      root-begins a.settings a.parser.now.bytes.now s.nest.items s.items.items s.members.items a.parser.now.index c.requires.nest,
+      (root-stands s.nest.items s.items.items s.members.items c.requires.nest c.requires.items c.requires.members, omega (arith, none), c.requires.within),
+      λ e. cc,
+    )
