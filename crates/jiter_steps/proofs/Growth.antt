@@ -17,7 +17,7 @@ use Rattle.jiter_steps.specs.Node.{Node, Nodes, no_nodes, node, NodeMembers, no_
 use Rattle.jiter_steps.specs.Node as grammar
 use Rattle.jiter_steps.specs.Cut.{cut, cut_items, cut_members, cut_number, cut_string, with_item, with_member}
 use Rattle.jiter_steps.specs.Extends.{Extends, ExtendsItems, ExtendsMembers, CutsNoNumber, CutsNoNumberOf, CutsNoNumberOfMembers}
-use Rattle.jiter_steps.proofs.Parts.{Part, item, member, value, items, members, parts, Each, by_parts, InOrder, items-order, members-order, node-ahead, order-ahead}
+use Rattle.jiter_steps.proofs.NodeParts.{Part, item, member, value, items, members, parts, Each, by_parts, InOrder, items-order, members-order, node-ahead, order-ahead}
 
 -- A tree goes on from itself.
 items-more : (v : Tree) (vs ws : Items) → Extends v v → ExtendsItems vs ws → ExtendsItems (tree.item v vs) (tree.item v ws)
@@ -180,7 +180,7 @@ module _ (names : Bool) (t : List ℕ) (mode : PartialMode) where
       let all : min k e ≡ e = omega arith in
       reached b k _ (omega arith) ∙ ap (λ m. cut_number names (slice_range t b m)) all
       ∙ if-true (is_number_text names (slice_range t b e)) (Some (value_of t (grammar.number b e))) None
-          ((number_text-decides names (slice_range t b e)).1 h.text)
+      ((number_text-decides names (slice_range t b e)).1 h.text)
   is_whole k (grammar.string ps b e) each h le =
       let order = node-ahead names t (grammar.string ps b e) h in
       reached b k _ (omega arith) ∙ if-true (nat_le e k) (Some (tree.string (text_at t ps b e))) _ (le-leb e k le)

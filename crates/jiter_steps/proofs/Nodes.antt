@@ -29,8 +29,8 @@ module _ (t : List ℕ) where
       let long = length-drop i t in
       let n : i + (j - i) ≡ j = omega (arith, b.ordered) in
       let all = prefix_len_is is_blank (drop i t) (j - i) 0 (omega (arith, b.within, b.ordered))
-          (λ k lt. ap is_blank (seen-from i k (i + k) refl) ∙ blank-is _ (b.each (i + k) (omega arith) (omega arith)))
-          (λ lt. ap is_blank (seen-from i (j - i) j n) ∙ other (omega arith)) in
+      (λ k lt. ap is_blank (seen-from i k (i + k) refl) ∙ blank-is _ (b.each (i + k) (omega arith) (omega arith)))
+      (λ lt. ap is_blank (seen-from i (j - i) j n) ∙ other (omega arith)) in
       omega arith
 
   pub blank-passed : (i j c : ℕ) → IsBlank t i j → slice_get t j ≡ Some c → is_blank c ≡ false → past_blanks t i ≡ j
@@ -46,7 +46,9 @@ module _ (t : List ℕ) where
     ordered = past_blanks-after t i;
     within = past_blanks-bound t i h;
     each = λ k l lt.
-        is-blank _ (ap is_blank (sym (seen-from i (k - i) k (omega arith))) ∙ prefix_len_passes is_blank (drop i t) (k - i) 0 (omega arith));
+        is-blank _
+        (ap is_blank (sym (seen-from i (k - i) k (omega arith)))
+        ∙ prefix_len_passes is_blank (drop i t) (k - i) 0 (omega arith));
   }
 
   stops : (i : ℕ) → past_blanks t i < length t → is_blank (get_or t (past_blanks t i) 0) ≡ false
@@ -58,7 +60,8 @@ module _ (t : List ℕ) where
   pub no_blank-behind : (i : ℕ) (o : Option ℕ) → slice_get t (past_blanks t i) ≡ o → IfSome o (λ c. is_blank c ≡ false)
   no_blank-behind i None e = tt
   no_blank-behind i (Some c) e =
-      ap is_blank (sym (get_or_from_slice_get t (past_blanks t i) c 0 e)) ∙ stops i (slice_get_within t (past_blanks t i) c e)
+      ap is_blank (sym (get_or_from_slice_get t (past_blanks t i) c 0 e))
+      ∙ stops i (slice_get_within t (past_blanks t i) c e)
 
   -- where no byte is, the text ends
   pub at_length : (j : ℕ) → j ≤ length t → slice_get t j ≡ None → j ≡ length t

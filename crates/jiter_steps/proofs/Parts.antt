@@ -1,193 +1,151 @@
--- The parts of a node, items and members alike, so that a law about the nodes inside a container is proved once.
-use Rattle.std.proofs.Common.{◌≡◌, ◌≢◌, ◌⊎◌, inl, inr, ℕ, ◌+◌, ◌-◌, ◌<◌, ◌≤◌, Bool, List, [], ◌∷◌, take, drop, sym, ap, subst, arith}
-use Rattle.std.specs.Prelude.{slice_get, slice_range, Some}
-use Rattle.std.proofs.lemmas.Bool.{cases_eq}
-use Rattle.jiter_scan.specs.Number.{IsNumberText}
-use Rattle.jiter_scan.proofs.NumberLaws.{number-not_empty}
-use Rattle.jiter_scan.proofs.Standing.{stands-length}
+-- The parts of a container, one behind another: those that a text has, and those that are read. They are the same.
+use Rattle.std.proofs.Common.{◌≡◌, ℕ, zero, suc, ◌+◌, ◌<◌, ◌≤◌, Bool, true, false, cond, List, [], ◌∷◌, ◌++◌, length, refl, sym, ap, ◌∙◌, subst, arith, append-nil, append_assoc}
+use Rattle.jiter_scan.specs.Kind.{Kind}
 use Rattle.jiter_steps.specs.Blank.{IsBlank}
-use Rattle.jiter_steps.specs.Literal.{word_of}
-use Rattle.jiter_steps.specs.Node as grammar
-use Rattle.jiter_steps.specs.Node.{Key, Node, Nodes, no_nodes, node, NodeMembers, no_members, begin, end, StandsBehind, SpellsNumber, SpellsKey, Spells, SpellsItems, SpellsMoreItems, SpellsMembers, SpellsMoreMembers}
-use Rattle.jiter_steps.specs.declared.parse.Literal.TheVariants as literal
-use Rattle.jiter_steps.proofs.StringLaws.{string-ordered}
+use Rattle.jiter_steps.specs.Node.{StandsBehind}
+use Rattle.jiter_steps.specs.Read.{Reading, done, fault, Rules, Container, if_forgiven, follow, behind_part, parts_at, container_at}
+use Rattle.jiter_steps.specs.Step.{Step, more, closed, stuck, step}
+use Rattle.jiter_steps.proofs.Bounds.{Within}
+use Rattle.jiter_steps.proofs.RowSteps.{PartBehind, Behind, StepIs, Delimits}
+use Rattle.jiter_steps.proofs.Values.{Goes, parts-part}
 
--- an item, or a member with its key
-pub data Part : Type 0 where
-  item : Node → Part
-  member : Key → Node → Part
+module _ {P : Type 0} (t : List ℕ) (closer : ℕ) (Begins : ℕ → Type 0) (IsPart : ℕ → P → ℕ → Type 0) where
+  -- the part p behind blanks from i on, and the rest behind it
+  pub record PartThen (i : ℕ) (p : P) (Rest : ℕ → Type 0) : Type 0 where
+    pub begin : ℕ
+    pub end : ℕ
+    pub blanks : IsBlank t i begin
+    pub begins : Begins begin
+    pub is : IsPart begin p end
+    pub rest : Rest end
 
-abbrev pub value : Part → Node
-value (item n) = n
-value (member key n) = n
+  -- behind a part at i: commas and these parts, and the closer before e
+  abbrev pub MoreParts : List P → ℕ → ℕ → Type 0
+  MoreParts [] i e = StandsBehind t i closer e
+  MoreParts (p ∷ ps) i e = (c : ℕ) × StandsBehind t i 44 c × PartThen c p (λ m. MoreParts ps m e)
 
-abbrev pub part_begin : Part → ℕ
-part_begin (item n) = begin n
-part_begin (member key n) = key.begin
+  -- behind the bracket at i: these parts, and the closer before e
+  abbrev pub Parts : List P → ℕ → ℕ → Type 0
+  Parts [] i e = StandsBehind t i closer e
+  Parts (p ∷ ps) i e = PartThen i p (λ m. MoreParts ps m e)
 
-abbrev pub items : Nodes → List Part
-items no_nodes = []
-items (node n ns) = item n ∷ items ns
+  -- what a grammar says of parts behind a bracket, and of more parts behind a part
+  pub record Grammar (Are MoreAre : List P → ℕ → ℕ → Type 0) : Type 0 where
+    pub none : (i e : ℕ) → StandsBehind t i closer e → Are [] i e
+    pub no_more : (i e : ℕ) → StandsBehind t i closer e → MoreAre [] i e
+    pub part : (p : P) (ps : List P) (i j m e : ℕ) → IsBlank t i j → Begins j → IsPart j p m → MoreAre ps m e
+        → Are (p ∷ ps) i e
+    pub comma : (p : P) (ps : List P) (i c e : ℕ) → StandsBehind t i 44 c → Are (p ∷ ps) c e → MoreAre (p ∷ ps) i e
 
-abbrev pub members : NodeMembers → List Part
-members no_members = []
-members (grammar.member key n ms) = member key n ∷ members ms
+  module _ (Are MoreAre : List P → ℕ → ℕ → Type 0) (grammar : Grammar Are MoreAre) where
+    more-are : (ps : List P) (i e : ℕ) → MoreParts ps i e → MoreAre ps i e
+    more-are [] i e h = grammar.no_more i e h
+    more-are (p ∷ ps) i e h =
+        let x = h.2 in
+        grammar.comma p ps i h.0 e h.1
+        (grammar.part p ps h.0 x.begin x.end e x.blanks x.begins x.is (more-are ps x.end e x.rest))
 
-abbrev pub parts : Node → List Part
-parts (grammar.literal l b e) = []
-parts (grammar.number b e) = []
-parts (grammar.string ps b e) = []
-parts (grammar.array b e ns) = items ns
-parts (grammar.object b e ms) = members ms
+    pub parts-are : (ps : List P) (i e : ℕ) → Parts ps i e → Are ps i e
+    parts-are [] i e h = grammar.none i e h
+    parts-are (p ∷ ps) i e h = grammar.part p ps i h.begin h.end e h.blanks h.begins h.is (more-are ps h.end e h.rest)
 
--- what holds of the value of each part
-abbrev pub Each : (Node → Type 0) → List Part → Type 0
-Each P [] = Unit {0}
-Each P (p ∷ ps) = P (value p) × Each P ps
+-- c reads the part p from i to e
+abbrev pub Reads : {P A : Type 0} → Container P A → ℕ → P → ℕ → Type 0
+Reads c i p e = c.part i ≡ done p e
 
--- Induction over a node: by the values of its parts.
-module _ (P : Node → Type 0) (step : (n : Node) → Each P (parts n) → P n) where
-  mutual
-    pub by_parts : (n : Node) → P n
-    by_parts (grammar.literal l b e) = step (grammar.literal l b e) tt
-    by_parts (grammar.number b e) = step (grammar.number b e) tt
-    by_parts (grammar.string ps b e) = step (grammar.string ps b e) tt
-    by_parts (grammar.array b e ns) = step (grammar.array b e ns) (by_items ns)
-    by_parts (grammar.object b e ms) = step (grammar.object b e ms) (by_members ms)
+module _ {K P A : Type 0} (r : Rules K A) (t : List ℕ) (c : Container P A) (closer : ℕ) (Begins : ℕ → Type 0) where
+  abbrev pub ReadParts : List P → ℕ → ℕ → Type 0
+  ReadParts ps i e = Parts t closer Begins (Reads c) ps i e
 
-    by_items : (ns : Nodes) → Each P (items ns)
-    by_items no_nodes = tt
-    by_items (node n ns) = (by_parts n, by_items ns)
+  -- built of the parts that are read from b on
+  abbrev pub BuiltOf : ℕ → Reading A → Type 0
+  BuiltOf b (done a e) = (ps : List P) × (a ≡ c.build e ps) × ReadParts ps b e
+  BuiltOf b (fault k x stop) = Unit {0}
 
-    by_members : (ms : NodeMembers) → Each P (members ms)
-    by_members no_members = tt
-    by_members (grammar.member key n ms) = (by_parts n, by_members ms)
+  module _ (strict : (k : Kind) → r.forgives k ≡ false) (delimits : Delimits t c.first c.next closer Begins)
+      (goes : Goes c t) where
+    -- these parts are read from b on, and the next one is to begin at i
+    abbrev SoFar : ℕ → ℕ → List P → Type 0
+    SoFar b i ps =
+        (p : P) (rest : List P) (m e : ℕ) → Reads c i p m → MoreParts t closer Begins (Reads c) rest m e
+        → ReadParts (ps ++ p ∷ rest) b e
 
-module _ (names : Bool) (t : List ℕ) where
-  abbrev pub SpellsPart : Part → Type 0
-  SpellsPart (item n) = Spells names t n
-  SpellsPart (member key n) = SpellsKey t key (begin n) × Spells names t n
+    first-part : (b i : ℕ) → PartBehind t Begins b i → SoFar b i []
+    first-part b i h p rest m e is more_parts =
+        record { begin = i; end = m; blanks = h.blanks; begins = h.begins; is = is; rest = more_parts }
 
-  -- commas and further parts, and the closer, behind a part
-  abbrev pub SpellsMore : ℕ → ℕ → List Part → ℕ → Type 0
-  SpellsMore closer i [] e = StandsBehind t i closer e
-  SpellsMore closer i (p ∷ ps) e = (c : ℕ) × StandsBehind t i 44 c × IsBlank t c (part_begin p) × SpellsPart p × SpellsMore closer (end (value p)) ps e
+    next-part : (b i j m : ℕ) (ps : List P) (p : P) → SoFar b i ps → Reads c i p m
+        → Behind t m 44 (PartBehind t Begins) j → SoFar b j (ps ++ p ∷ [])
+    next-part b i j m ps p so is h q rest n e also more_parts =
+        subst (λ l. ReadParts l b e) (sym (append_assoc ps (p ∷ []) (q ∷ rest)))
+        (so p (q ∷ rest) m e is (h.0, h.1, first-part h.0 j h.2 q rest n e also more_parts))
 
-  -- the parts and the closer, behind the bracket
-  abbrev pub SpellsParts : ℕ → ℕ → List Part → ℕ → Type 0
-  SpellsParts closer i [] e = StandsBehind t i closer e
-  SpellsParts closer i (p ∷ ps) e = IsBlank t i (part_begin p) × SpellsPart p × SpellsMore closer (end (value p)) ps e
+    fault-built : (b : ℕ) (close : ℕ → A) (k : Kind) (x stop : ℕ) → BuiltOf b (if_forgiven r close k x stop)
+    fault-built b close k x stop =
+        subst (λ y. BuiltOf b (cond y (done (close stop) stop) (fault k x stop))) (sym (strict k)) tt
 
-  -- items and members are such parts, and such parts are items and members
-  more-items : (ns : Nodes) (i e : ℕ) → SpellsMoreItems names t i ns e → SpellsMore 93 i (items ns) e
-  more-items no_nodes i e h = h
-  more-items (node n ns) i e h = (h.0, h.1, h.2, h.3, more-items ns (end n) e h.4)
+    abbrev GoesOn : ℕ → (List P → ℕ → Reading A) → Type 0
+    GoesOn b next = (ps : List P) (j : ℕ) → Begins j → SoFar b j ps → BuiltOf b (next ps j)
 
-  pub items-parts : (ns : Nodes) (i e : ℕ) → SpellsItems names t i ns e → SpellsParts 93 i (items ns) e
-  items-parts no_nodes i e h = h
-  items-parts (node n ns) i e h = (h.0, h.1, more-items ns (end n) e h.2)
+    follow-built : (b i m : ℕ) (ps : List P) (p : P) (next : List P → ℕ → Reading A) → GoesOn b next → SoFar b i ps
+        → Reads c i p m
+        → (s : Step) → StepIs t m closer (Behind t m 44 (PartBehind t Begins)) s
+        → BuiltOf b (follow r (next (ps ++ p ∷ [])) (λ e. c.build e (ps ++ p ∷ [])) s)
+    follow-built b i m ps p next go so is (more j) h = go (ps ++ p ∷ []) j h.2.begins (next-part b i j m ps p so is h)
+    follow-built b i m ps p next go so is (closed e) h = (ps ++ p ∷ [], refl, so p [] m e is h)
+    follow-built b i m ps p next go so is (stuck k j) h = fault-built b (λ e. c.build e (ps ++ p ∷ [])) k j j
 
-  more-members : (ms : NodeMembers) (i e : ℕ) → SpellsMoreMembers names t i ms e → SpellsMore 125 i (members ms) e
-  more-members no_members i e h = h
-  more-members (grammar.member key n ms) i e h = (h.0, h.1, h.2, (h.3, h.4), more-members ms (end n) e h.5)
+    part-built : (b i : ℕ) (ps : List P) (next : List P → ℕ → Reading A) → GoesOn b next → SoFar b i ps
+        → (x : Reading P) → c.part i ≡ x → Within t i x → BuiltOf b (behind_part r c t next ps x)
+    part-built b i ps next go so (done p m) is w =
+        follow-built b i m ps p next go so is (step t c.next m) (delimits.next-is m w.1)
+    part-built b i ps next go so (fault k x stop) is w = fault-built b (λ e. c.build e ps) k x stop
 
-  pub members-parts : (ms : NodeMembers) (i e : ℕ) → SpellsMembers names t i ms e → SpellsParts 125 i (members ms) e
-  members-parts no_members i e h = h
-  members-parts (grammar.member key n ms) i e h = (h.0, (h.1, h.2), more-members ms (end n) e h.3)
+    parts-built : (b n : ℕ) (ps : List P) (i : ℕ) → Begins i → SoFar b i ps → BuiltOf b (parts_at r c t n ps i)
+    unfolding parts_at
+    parts-built b zero ps i at so = tt
+    parts-built b (suc n) ps i at so =
+        part-built b i ps (λ more_parts j. parts_at r c t n more_parts j)
+        (λ more_parts j begins so_far. parts-built b n more_parts j begins so_far)
+        so (c.part i) refl (goes.part i (delimits.within i at))
 
-  items-more : (ns : Nodes) (i e : ℕ) → SpellsMore 93 i (items ns) e → SpellsMoreItems names t i ns e
-  items-more no_nodes i e h = h
-  items-more (node n ns) i e h = (h.0, h.1, h.2, h.3, items-more ns (end n) e h.4)
+    bracket-built : (b : ℕ) (s : Step) → StepIs t b closer (PartBehind t Begins b) s
+        → BuiltOf b (follow r (parts_at r c t (length t) []) (λ e. c.build e []) s)
+    bracket-built b (more j) h = parts-built b (length t) [] j h.begins (first-part b j h)
+    bracket-built b (closed e) h = ([], refl, h)
+    bracket-built b (stuck k j) h = fault-built b (λ e. c.build e []) k j j
 
-  pub parts-items : (ns : Nodes) (i e : ℕ) → SpellsParts 93 i (items ns) e → SpellsItems names t i ns e
-  parts-items no_nodes i e h = h
-  parts-items (node n ns) i e h = (h.0, h.1, items-more ns (end n) e h.2)
+    -- A container that is read is built of parts that stand one behind another.
+    pub container_at-built : (i : ℕ) → i < length t → BuiltOf (i + 1) (container_at r c t i)
+    container_at-built i h = bracket-built (i + 1) (step t c.first (i + 1)) (delimits.first-is (i + 1) (omega arith))
 
-  members-more : (ms : NodeMembers) (i e : ℕ) → SpellsMore 125 i (members ms) e → SpellsMoreMembers names t i ms e
-  members-more no_members i e h = h
-  members-more (grammar.member key n ms) i e h = (h.0, h.1, h.2, h.3.0, h.3.1, members-more ms (end n) e h.4)
+  module _ (delimits : Delimits t c.first c.next closer Begins) (goes : Goes c t) where
+    -- behind these parts
+    abbrev pub BehindParts : List P → Step → Reading A
+    BehindParts ps s = follow r (parts_at r c t (length t) ps) (λ e. c.build e ps) s
 
-  pub parts-members : (ms : NodeMembers) (i e : ℕ) → SpellsParts 125 i (members ms) e → SpellsMembers names t i ms e
-  parts-members no_members i e h = h
-  parts-members (grammar.member key n ms) i e h = (h.0, h.1.0, h.1.1, members-more ms (end n) e h.2)
+    pub one-part : (ps : List P) (p : P) (i m : ℕ) → Begins i → Reads c i p m
+        → parts_at r c t (length t) ps i ≡ BehindParts (ps ++ p ∷ []) (step t c.next m)
+    one-part ps p i m at is = parts-part r t c goes i m ps p _ (delimits.within i at) is refl
 
-  pub part-value : (p : Part) → SpellsPart p → Spells names t (value p)
-  part-value (item n) h = h
-  part-value (member key n) h = h.1
+    -- A container whose parts stand one behind another is read, where each of them is.
+    module _ (IsPart : ℕ → P → ℕ → Type 0) (each : (i : ℕ) (p : P) (e : ℕ) → IsPart i p e → Reads c i p e) where
+      more-read : (so_far ps : List P) (i e : ℕ) → MoreParts t closer Begins IsPart ps i e
+          → BehindParts so_far (step t c.next i) ≡ done (c.build e (so_far ++ ps)) e
+      more-read so_far [] i e h =
+          ap (BehindParts so_far) (delimits.next-closed i e h)
+          ∙ ap (λ l. done (c.build e l) e) (sym (append-nil so_far))
+      more-read so_far (p ∷ ps) i e h =
+          let x = h.2 in
+          ap (BehindParts so_far) (delimits.next-more i h.0 x.begin h.1 x.blanks x.begins)
+          ∙ one-part so_far p x.begin x.end x.begins (each x.begin p x.end x.is)
+          ∙ more-read (so_far ++ p ∷ []) ps x.end e x.rest
+          ∙ ap (λ l. done (c.build e l) e) (append_assoc so_far (p ∷ []) ps)
 
-  -- Order: a node ends behind its begin.
-  slice-empty : (b e : ℕ) → e ≡ b → slice_range t b e ≡ []
-  slice-empty b e h = let none : e - b ≡ 0 = omega arith in ap (λ k. take k (drop b t)) none
-
-  number-ahead : (b e : ℕ) → SpellsNumber names t b e → (b ≡ e) ⊎ (b ≢ e) → b < e
-  number-ahead b e h (inl same) = absurd (number-not_empty names (subst (IsNumberText names) (slice-empty b e (sym same)) h.text))
-  number-ahead b e h (inr apart) = omega (arith, h.ordered)
-
-  pub behind-ahead : (i c e : ℕ) → StandsBehind t i c e → i < e
-  behind-ahead i c e h = omega (arith, h.blanks.ordered, h.ends)
-
-  -- from a key to its value
-  pub key-ahead : (key : Key) (j : ℕ) → SpellsKey t key j → key.begin < j
-  key-ahead key j h = omega (arith, (string-ordered t key.begin key.end key.pieces h.string).0, behind-ahead key.end 58 h.colon h.behind, h.blanks.ordered)
-
-  pub part-ahead : (p : Part) → SpellsPart p → part_begin p ≤ begin (value p)
-  part-ahead (item n) h = omega arith
-  part-ahead (member key n) h = omega (arith, key-ahead key (begin n) h.0)
-
-  -- the values stand in order, from i to before e
-  abbrev pub InOrder : ℕ → List Part → ℕ → Type 0
-  InOrder i [] e = i < e
-  InOrder i (p ∷ ps) e = (i ≤ begin (value p)) × Spells names t (value p) × InOrder (end (value p)) ps e
-
-  more-order : (closer : ℕ) (ps : List Part) (i e : ℕ) → SpellsMore closer i ps e → InOrder i ps e
-  more-order closer [] i e h = behind-ahead i closer e h
-  more-order closer (p ∷ ps) i e h =
-      let before : i ≤ begin (value p) = omega (arith, behind-ahead i 44 h.0 h.1, h.2.ordered, part-ahead p h.3) in
-      (before, part-value p h.3, more-order closer ps (end (value p)) e h.4)
-
-  pub parts-order : (closer : ℕ) (ps : List Part) (i e : ℕ) → SpellsParts closer i ps e → InOrder i ps e
-  parts-order closer [] i e h = behind-ahead i closer e h
-  parts-order closer (p ∷ ps) i e h =
-      let before : i ≤ begin (value p) = omega (arith, h.0.ordered, part-ahead p h.1) in
-      (before, part-value p h.1, more-order closer ps (end (value p)) e h.2)
-
-  pub items-order : (ns : Nodes) (i e : ℕ) → SpellsItems names t i ns e → InOrder i (items ns) e
-  items-order ns i e h = parts-order 93 (items ns) i e (items-parts ns i e h)
-
-  pub members-order : (ms : NodeMembers) (i e : ℕ) → SpellsMembers names t i ms e → InOrder i (members ms) e
-  members-order ms i e h = parts-order 125 (members ms) i e (members-parts ms i e h)
-
-  abbrev IsAhead : Node → Type 0
-  IsAhead n = Spells names t n → begin n < end n
-
-  order-after : (ps : List Part) (i e : ℕ) → InOrder i ps e → Each IsAhead ps → i < e
-  order-after [] i e h each = h
-  order-after (p ∷ ps) i e h each =
-      let here = each.0 h.1 in
-      let rest = order-after ps (end (value p)) e h.2 each.1 in
-      omega (arith, h.0)
-
-  is_ahead : (n : Node) → Each IsAhead (parts n) → IsAhead n
-  is_ahead (grammar.literal literal.Null b e) each h = let after = stands-length t b e (word_of literal.Null) h in omega arith
-  is_ahead (grammar.literal literal.True b e) each h = let after = stands-length t b e (word_of literal.True) h in omega arith
-  is_ahead (grammar.literal literal.False b e) each h = let after = stands-length t b e (word_of literal.False) h in omega arith
-  is_ahead (grammar.number b e) each h = number-ahead b e h (cases_eq b e)
-  is_ahead (grammar.string ps b e) each h = (string-ordered t b e ps h).0
-  is_ahead (grammar.array b e ns) each h = let after = order-after (items ns) (b + 1) e (items-order ns (b + 1) e h.1) each in omega arith
-  is_ahead (grammar.object b e ms) each h = let after = order-after (members ms) (b + 1) e (members-order ms (b + 1) e h.1) each in omega arith
-
-  pub node-ahead : (n : Node) → Spells names t n → begin n < end n
-  node-ahead = by_parts IsAhead is_ahead
-
-  pub order-ahead : (ps : List Part) (i e : ℕ) → InOrder i ps e → i < e
-  order-ahead [] i e h = h
-  order-ahead (p ∷ ps) i e h =
-      let here = node-ahead (value p) h.1 in
-      let rest = order-ahead ps (end (value p)) e h.2 in
-      omega (arith, h.0)
-
-  pub more-ahead : (closer : ℕ) (ps : List Part) (i e : ℕ) → SpellsMore closer i ps e → i < e
-  more-ahead closer ps i e h = order-ahead ps i e (more-order closer ps i e h)
-
-  pub parts-ahead : (closer : ℕ) (ps : List Part) (i e : ℕ) → SpellsParts closer i ps e → i < e
-  parts-ahead closer ps i e h = order-ahead ps i e (parts-order closer ps i e h)
+      pub container_at-read : (ps : List P) (i e : ℕ) → Parts t closer Begins IsPart ps (i + 1) e
+          → container_at r c t i ≡ done (c.build e ps) e
+      container_at-read [] i e h = ap (BehindParts []) (delimits.first-closed (i + 1) e h)
+      container_at-read (p ∷ ps) i e h =
+          ap (BehindParts []) (delimits.first-more (i + 1) h.begin h.blanks h.begins)
+          ∙ one-part [] p h.begin h.end h.begins (each h.begin p h.end h.is)
+          ∙ more-read (p ∷ []) ps h.end e h.rest

@@ -55,7 +55,8 @@ abbrev pub ExtentIs : (ℕ → Type 0) → Extent → Type 0
 ExtentIs More (taken u j) = More j
 ExtentIs More (failed k j) = Unit {0}
 
--- The steps of a container whose parts begin so, and which ends with the byte closer: what they find is there, and what is there they find.
+-- The steps of a container whose parts begin so, and which ends with the byte closer: what they find is there, and
+-- what is there they find.
 pub record Delimits (t : List ℕ) (first next : ℕ → Option ℕ → Step) (closer : ℕ) (Begins : ℕ → Type 0) : Type 0 where
   pub within : (j : ℕ) → Begins j → j < length t
   pub first-is : (i : ℕ) → i ≤ length t → StepIs t i closer (PartBehind t Begins i) (step t first i)
@@ -66,7 +67,8 @@ pub record Delimits (t : List ℕ) (first next : ℕ → Option ℕ → Step) (c
   pub next-more : (i m j : ℕ) → StandsBehind t i 44 m → IsBlank t m j → Begins j → step t next i ≡ more j
 
 -- what holds of both arms of a test for a byte
-tested : {A : Type 0} (P : A → Type 0) (c d : ℕ) (x y : A) → (c ≡ d → P x) → ((c == d) ≡ false → P y) → P (cond (c == d) x y)
+tested : {A : Type 0} (P : A → Type 0) (c d : ℕ) (x y : A) → (c ≡ d → P x) → ((c == d) ≡ false → P y)
+    → P (cond (c == d) x y)
 tested P c d x y p q = by (c == d) refl where
   by : (b : Bool) → (c == d) ≡ b → P (cond b x y)
   by true e = p (eqb-true c d e)
@@ -79,10 +81,12 @@ module _ (t : List ℕ) where
     pub here : slice_get t j ≡ o
     pub no_blank : IfSome o (λ c. is_blank c ≡ false)
 
-  row-is : {A : Type 0} (P : A → Type 0) (row : ℕ → Option ℕ → A) (i : ℕ) → ((j : ℕ) (o : Option ℕ) → Stops i j o → P (row j o))
+  row-is : {A : Type 0} (P : A → Type 0) (row : ℕ → Option ℕ → A) (i : ℕ)
+      → ((j : ℕ) (o : Option ℕ) → Stops i j o → P (row j o))
       → i ≤ length t → P (step t row i)
   row-is P row i all h =
-      all (past_blanks t i) _ (record { blanks = passed-blank t i h; here = refl; no_blank = no_blank-behind t i _ refl })
+      all (past_blanks t i) _
+      (record { blanks = passed-blank t i h; here = refl; no_blank = no_blank-behind t i _ refl })
 
   behind : (i j c d : ℕ) → Stops i j (Some c) → c ≡ d → StandsBehind t i d (j + 1)
   behind i j c d s e = record { at = j; blanks = s.blanks; here = s.here ∙ ap Some e; ends = refl }
@@ -98,28 +102,33 @@ module _ (t : List ℕ) where
   first-item : (i j : ℕ) (o : Option ℕ) → Stops i j o → StepIs t i 93 (PartBehind t (ItemAt t) i) (array_first j o)
   first-item i j None s = tt
   first-item i j (Some c) s =
-      tested (StepIs t i 93 (PartBehind t (ItemAt t) i)) c 93 (closed (j + 1)) (more j) (behind i j c 93 s) (item-behind i j c s)
+      tested (StepIs t i 93 (PartBehind t (ItemAt t) i)) c 93 (closed (j + 1)) (more j) (behind i j c 93 s)
+      (item-behind i j c s)
 
   first-key : (i j : ℕ) (o : Option ℕ) → Stops i j o → StepIs t i 125 (PartBehind t (KeyBegins t) i) (object_first j o)
   first-key i j None s = tt
   first-key i j (Some c) s =
-      tested (StepIs t i 125 (PartBehind t (KeyBegins t) i)) c 34 (more j) _ (key-behind i j c s)
-      (λ e. tested (StepIs t i 125 (PartBehind t (KeyBegins t) i)) c 125 (closed (j + 1)) (stuck key_must_be_a_string j) (behind i j c 125 s) (λ e. tt))
+      let Is = StepIs t i 125 (PartBehind t (KeyBegins t) i) in
+      tested Is c 34 (more j) _ (key-behind i j c s)
+      (λ e. tested Is c 125 (closed (j + 1)) (stuck key_must_be_a_string j) (behind i j c 125 s) (λ e. tt))
 
   -- behind a comma
   comma-item : (i j : ℕ) (o : Option ℕ) → Stops i j o → OpenStepIs (PartBehind t (ItemAt t) i) (array_comma j o)
   comma-item i j None s = tt
   comma-item i j (Some c) s =
-      tested (OpenStepIs (PartBehind t (ItemAt t) i)) c 93 (stuck trailing_comma j) (more j) (λ e. tt) (item-behind i j c s)
+      tested (OpenStepIs (PartBehind t (ItemAt t) i)) c 93 (stuck trailing_comma j) (more j) (λ e. tt)
+      (item-behind i j c s)
 
   comma-key : (i j : ℕ) (o : Option ℕ) → Stops i j o → OpenStepIs (PartBehind t (KeyBegins t) i) (object_comma j o)
   comma-key i j None s = tt
   comma-key i j (Some c) s =
-      tested (OpenStepIs (PartBehind t (KeyBegins t) i)) c 34 (more j) _ (key-behind i j c s)
-      (λ e. tested (OpenStepIs (PartBehind t (KeyBegins t) i)) c 125 (stuck trailing_comma j) (stuck key_must_be_a_string j) (λ e. tt) (λ e. tt))
+      let Is = OpenStepIs (PartBehind t (KeyBegins t) i) in
+      tested Is c 34 (more j) _ (key-behind i j c s)
+      (λ e. tested Is c 125 (stuck trailing_comma j) (stuck key_must_be_a_string j) (λ e. tt) (λ e. tt))
 
   -- behind a part: the closer, or a comma and the step behind it
-  comma-then : (i m closer : ℕ) (Begins : ℕ → Type 0) (s : Step) → StandsBehind t i 44 m → OpenStepIs (PartBehind t Begins m) s
+  comma-then : (i m closer : ℕ) (Begins : ℕ → Type 0) (s : Step) → StandsBehind t i 44 m
+      → OpenStepIs (PartBehind t Begins m) s
       → StepIs t i closer (Behind t i 44 (PartBehind t Begins)) s
   comma-then i m closer Begins (more j) b h = (m, b, h)
   comma-then i m closer Begins (closed e) b h = absurd h
@@ -128,24 +137,29 @@ module _ (t : List ℕ) where
   behind-part : (closer : ℕ) (Begins : ℕ → Type 0) (comma : ℕ → Option ℕ → Step) (k : Kind)
       → ((i j : ℕ) (o : Option ℕ) → Stops i j o → OpenStepIs (PartBehind t Begins i) (comma j o))
       → (i j c : ℕ) → Stops i j (Some c)
-      → StepIs t i closer (Behind t i 44 (PartBehind t Begins)) (cond (c == closer) (closed (j + 1)) (cond (c == 44) (step t comma (j + 1)) (stuck k j)))
+      → StepIs t i closer (Behind t i 44 (PartBehind t Begins))
+      (cond (c == closer) (closed (j + 1)) (cond (c == 44) (step t comma (j + 1)) (stuck k j)))
   behind-part closer Begins comma k all i j c s =
       let Is = StepIs t i closer (Behind t i 44 (PartBehind t Begins)) in
       let inside = slice_get_within t j c s.here in
       let behind-comma = row-is (OpenStepIs (PartBehind t Begins (j + 1))) comma (j + 1) (all (j + 1)) (omega arith) in
       tested Is c closer (closed (j + 1)) _ (behind i j c closer s)
-      (λ e. tested Is c 44 (step t comma (j + 1)) (stuck k j) (λ e. comma-then i (j + 1) closer Begins _ (behind i j c 44 s e) behind-comma) (λ e. tt))
+      (λ e. tested Is c 44 (step t comma (j + 1)) (stuck k j)
+      (λ e. comma-then i (j + 1) closer Begins _ (behind i j c 44 s e) behind-comma) (λ e. tt))
 
-  next-item : (i j : ℕ) (o : Option ℕ) → Stops i j o → StepIs t i 93 (Behind t i 44 (PartBehind t (ItemAt t))) (array_step t j o)
+  next-item : (i j : ℕ) (o : Option ℕ) → Stops i j o
+      → StepIs t i 93 (Behind t i 44 (PartBehind t (ItemAt t))) (array_step t j o)
   next-item i j None s = tt
   next-item i j (Some c) s = behind-part 93 (ItemAt t) array_comma expected_list_comma_or_end comma-item i j c s
 
-  next-key : (i j : ℕ) (o : Option ℕ) → Stops i j o → StepIs t i 125 (Behind t i 44 (PartBehind t (KeyBegins t))) (object_step t j o)
+  next-key : (i j : ℕ) (o : Option ℕ) → Stops i j o
+      → StepIs t i 125 (Behind t i 44 (PartBehind t (KeyBegins t))) (object_step t j o)
   next-key i j None s = tt
   next-key i j (Some c) s = behind-part 125 (KeyBegins t) object_comma expected_object_comma_or_end comma-key i j c s
 
   -- a row at what stands behind blanks
-  pub row-at : {A : Type 0} (row : ℕ → Option ℕ → A) (i j c : ℕ) → IsBlank t i j → slice_get t j ≡ Some c → is_blank c ≡ false
+  pub row-at : {A : Type 0} (row : ℕ → Option ℕ → A) (i j c : ℕ) → IsBlank t i j → slice_get t j ≡ Some c
+      → is_blank c ≡ false
       → step t row i ≡ row j (Some c)
   row-at row i j c b e other = ap (λ k. row k (slice_get t k)) (blank-passed t i j c b e other) ∙ ap (row j) e
 
@@ -176,13 +190,15 @@ module _ (t : List ℕ) where
     first-more = λ i j b x. row-at object_first i j 34 b x refl;
     next-closed = λ i e h. row-at (object_step t) i h.at 125 h.blanks h.here refl ∙ ap closed (sym h.ends);
     next-more = λ i m j h b x.
-        row-at (object_step t) i h.at 44 h.blanks h.here refl ∙ ap (step t object_comma) (sym h.ends) ∙ row-at object_comma m j 34 b x refl;
+        row-at (object_step t) i h.at 44 h.blanks h.here refl ∙ ap (step t object_comma) (sym h.ends)
+        ∙ row-at object_comma m j 34 b x refl;
   }
 
   -- behind a key: its colon, and the byte where its value may begin
   value-at : (i j : ℕ) (o : Option ℕ) → Stops i j o → ExtentIs (PartBehind t (ByteAt t) i) (value_first j o)
   value-at i j None s = tt
-  value-at i j (Some c) s = record { blanks = s.blanks; begins = record { byte = c; here = s.here; no_blank = s.no_blank } }
+  value-at i j (Some c) s =
+      record { blanks = s.blanks; begins = record { byte = c; here = s.here; no_blank = s.no_blank } }
 
   colon-then : (i m : ℕ) (x : Extent) → StandsBehind t i 58 m → ExtentIs (PartBehind t (ByteAt t) m) x
       → ExtentIs (Behind t i 58 (PartBehind t (ByteAt t))) x
@@ -197,14 +213,17 @@ module _ (t : List ℕ) where
   colon-at i j None s = tt
   colon-at i j (Some c) s =
       let inside = slice_get_within t j c s.here in
-      let value = row-is (ExtentIs (PartBehind t (ByteAt t) (j + 1))) value_first (j + 1) (value-at (j + 1)) (omega arith) in
+      let value = row-is (ExtentIs (PartBehind t (ByteAt t) (j + 1))) value_first (j + 1) (value-at (j + 1))
+      (omega arith) in
       tested (ColonLeads i) c 58 (taken tt (j + 1)) (failed expected_colon j)
       (λ e. colon-then i (j + 1) (step t value_first (j + 1)) (behind i j c 58 s e) value) (λ e. tt)
 
   pub object_colon-is : (i : ℕ) → i ≤ length t → ExtentIs (Behind t i 58 (PartBehind t (ByteAt t))) (object_colon t i)
   object_colon-is i = row-is (ColonLeads i) colon i (colon-at i)
 
-  pub object_colon-taken : (i m j : ℕ) → StandsBehind t i 58 m → IsBlank t m j → ByteAt t j → object_colon t i ≡ taken tt j
+  pub object_colon-taken : (i m j : ℕ) → StandsBehind t i 58 m → IsBlank t m j → ByteAt t j
+      → object_colon t i ≡ taken tt j
   object_colon-taken i m j h b x =
-      ap (λ x. extent_then x (step t value_first)) (row-at colon i h.at 58 h.blanks h.here refl) ∙ ap (step t value_first) (sym h.ends)
+      ap (λ x. extent_then x (step t value_first)) (row-at colon i h.at 58 h.blanks h.here refl)
+      ∙ ap (step t value_first) (sym h.ends)
       ∙ row-at value_first m j x.byte b x.here x.no_blank

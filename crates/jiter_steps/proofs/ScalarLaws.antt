@@ -30,16 +30,22 @@ pub record ScalarLaws (names : Bool) (t : List ℕ) : Type 0 where
   pub literal-sound : (l : Literal) (i e : ℕ) → literal_at t l i ≡ taken tt e → Stands t i e (word_of l)
   pub literal-complete : (l : Literal) (i e : ℕ) → Stands t i e (word_of l) → literal_at t l i ≡ taken tt e
   pub number-within : (i : ℕ) → i < length t → ScalarWithin t i (number_at names t i)
-  pub number-sound : (i e : ℕ) (n : Number) → number_at names t i ≡ taken n e → IsNumberText names (slice_range t i e) × (n ≡ number_value (slice_range t i e))
-  pub number-complete : (i e : ℕ) → i ≤ e → e ≤ length t → IsNumberText names (slice_range t i e) → EndsNumber t e → number_at names t i ≡ taken (number_value (slice_range t i e)) e
+  pub number-sound : (i e : ℕ) (n : Number) → number_at names t i ≡ taken n e
+      → IsNumberText names (slice_range t i e) × (n ≡ number_value (slice_range t i e))
+  pub number-complete : (i e : ℕ) → i ≤ e → e ≤ length t → IsNumberText names (slice_range t i e) → EndsNumber t e
+      → number_at names t i ≡ taken (number_value (slice_range t i e)) e
   pub number-begins : (c : ℕ) (w : List ℕ) → IsNumberText names (c ∷ w) → begins_number c ≡ true
   pub number-not_empty : IsNumberText names [] → ⊥
   pub string-within : (i : ℕ) → i < length t → ScalarWithin t i (string_at whole t i)
   pub string-sound : (i e : ℕ) (x : Text) → slice_get t i ≡ Some 34 → string_at whole t i ≡ taken x e
-      → SpellsString t i (pieces_from t (i + 1) (chars x.bytes)) e × (x ≡ text_at t (pieces_from t (i + 1) (chars x.bytes)) i e)
-  pub string-complete : (i e : ℕ) (ps : List Piece) → SpellsString t i ps e → string_at whole t i ≡ taken (text_at t ps i e) e
-  pub pieces-again : (i e : ℕ) (ps : List Piece) → SpellsString t i ps e → pieces_from t (i + 1) (chars (text_of ps)) ≡ ps
-  pub string-ordered : (i e : ℕ) (ps : List Piece) → SpellsString t i ps e → (i < e) × (e ≤ length t) × (slice_get t i ≡ Some 34)
+      → SpellsString t i (pieces_from t (i + 1) (chars x.bytes)) e
+      × (x ≡ text_at t (pieces_from t (i + 1) (chars x.bytes)) i e)
+  pub string-complete : (i e : ℕ) (ps : List Piece) → SpellsString t i ps e
+      → string_at whole t i ≡ taken (text_at t ps i e) e
+  pub pieces-again : (i e : ℕ) (ps : List Piece) → SpellsString t i ps e
+      → pieces_from t (i + 1) (chars (text_of ps)) ≡ ps
+  pub string-ordered : (i e : ℕ) (ps : List Piece) → SpellsString t i ps e
+      → (i < e) × (e ≤ length t) × (slice_get t i ≡ Some 34)
 
 pub scalar-laws : (names : Bool) (t : List ℕ) → ScalarLaws names t
 scalar-laws names t = record {

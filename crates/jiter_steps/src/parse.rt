@@ -416,6 +416,7 @@ impl<'j> Parser<'j> {
             (scalar_at self.old.index (string_at kept self.old.bytes.now self.old.index)) }
         ensures ahead { OnOk result (self.old.index < self.new.index) }
         ensures place { OnErr result (self.new.index ≡ self.old.index) }
+        ensures memory { WhereRefused result (WantsMemory self.old.bytes.now self.old.index) }
     {
         match string_front_at(alloc, tape, self.bytes, self.index) {
             Ok((text, end)) => {
@@ -426,3 +427,6 @@ impl<'j> Parser<'j> {
         }
     }
 }
+
+#[cfg(test)]
+mod tests;

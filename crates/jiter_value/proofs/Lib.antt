@@ -1,4 +1,5 @@
 pub mod Kept
+pub mod Parsed
 pub mod Reached
 pub mod Sizes
 pub mod Views

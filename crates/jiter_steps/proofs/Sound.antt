@@ -1,0 +1,266 @@
+-- What is read is spelled so.
+use Rattle.std.proofs.Common.{◌≡◌, ℕ, zero, suc, ◌+◌, ◌<◌, ◌≤◌, Bool, List, [], ◌∷◌, length, refl, sym, ap, ◌∙◌, subst, arith}
+use Rattle.std.specs.Prelude.{slice_get, slice_index, Some}
+use Rattle.std.specs.Str.{chars}
+use Rattle.std.proofs.lemmas.Option.{slice_get-get_or, slice_get_within}
+use Rattle.std.proofs.lemmas.Bool.Decides.{nat_tests}
+use Rattle.jiter_scan.specs.Number.{Number}
+use Rattle.jiter_scan.specs.NumberReading.{number_at}
+use Rattle.jiter_scan.specs.Scanned.{Scanned, taken, failed}
+use Rattle.jiter_scan.specs.Word.{Extent}
+use Rattle.jiter_scan.proofs.Scanning.{ScalarWithin}
+use Rattle.jiter_steps.specs.Answer.{seen_as}
+use Rattle.jiter_steps.specs.Blank.{IsBlank}
+use Rattle.jiter_steps.specs.Literal.{start_of, literal_at}
+use Rattle.jiter_steps.specs.Node as grammar
+use Rattle.jiter_steps.specs.Node.{Key, Node, Nodes, no_nodes, node, NodeMembers, no_members, member, begin, end, StandsBehind, SpellsNumber, SpellsKey, Spells, SpellsItems, SpellsMoreItems, SpellsMembers, SpellsMoreMembers, nesting, nesting_round, nesting_round_members}
+use Rattle.jiter_steps.specs.Piece.{SpellsString}
+use Rattle.jiter_steps.specs.Read.{Reading, done, fault, Container, scalar_at, with_key, behind_colon, behind_key, container_at, array_of, object_of, value_with, inside_at, value_at}
+use Rattle.jiter_steps.specs.Step.{step, object_colon}
+use Rattle.jiter_steps.specs.StringReading.{whole, string_at}
+use Rattle.jiter_steps.specs.Tree.{Text}
+use Rattle.jiter_steps.specs.declared.parse.Literal.{Literal}
+use Rattle.jiter_steps.specs.declared.parse.Start.{Start}
+use Rattle.jiter_steps.specs.declared.parse.Start.TheVariants as start
+use Rattle.jiter_steps.proofs.Bounds.{Within}
+use Rattle.jiter_steps.proofs.Firsts.{string-first}
+use Rattle.jiter_steps.proofs.Instances.{nodes-advances}
+use Rattle.jiter_steps.proofs.NodeRules.{nodes, nodes_of, node_members_of, key_of}
+use Rattle.jiter_steps.proofs.Parts.{Grammar, parts-are, Reads, ReadParts, BuiltOf, container_at-built}
+use Rattle.jiter_steps.proofs.Pieces.{pieces_from}
+use Rattle.jiter_steps.proofs.RowSteps.{ByteAt, ItemAt, KeyBegins, PartBehind, Behind, ExtentIs, array-delimits, object-delimits, object_colon-is, Delimits}
+use Rattle.jiter_steps.proofs.ScalarLaws.{ScalarLaws, scalar-laws}
+use Rattle.jiter_steps.proofs.Values.{AllWithin, Goes, array_of-goes, object_of-goes, container_at-within, inside_at-within}
+
+round-items : (n : Node) (ns : Nodes) (room : ℕ) → nesting n < room → nesting_round ns ≤ room
+    → nesting_round (node n ns) ≤ room
+round-items n no_nodes room d h = omega arith
+round-items n (node m ns) room d h = omega arith
+
+round-members : (k : Key) (n : Node) (ms : NodeMembers) (room : ℕ) → nesting n < room → nesting_round_members ms ≤ room
+    → nesting_round_members (member k n ms) ≤ room
+round-members k n no_members room d h = omega arith
+round-members k n (member l m ms) room d h = omega arith
+
+-- the bytes that begin an array and an object
+array-byte : (c : ℕ) → start_of c ≡ start.Array → c ≡ 91
+array-byte c e = grind (arith, nat_tests, e)
+
+object-byte : (c : ℕ) → start_of c ≡ start.Object → c ≡ 123
+object-byte c e = grind (arith, nat_tests, e)
+
+-- the text spells n from i to e
+pub record IsNodeAt (names : Bool) (t : List ℕ) (i : ℕ) (n : Node) (e : ℕ) : Type 0 where
+  pub spelled : Spells names t n
+  pub begins : begin n ≡ i
+  pub ends : end n ≡ e
+  pub within : e ≤ length t
+
+-- with room for it
+abbrev pub Sound : Bool → List ℕ → ℕ → ℕ → Reading Node → Type 0
+Sound names t room i (done n e) = IsNodeAt names t i n e × (nesting n ≤ room)
+Sound names t room i (fault k x stop) = Unit {0}
+
+-- inside a container, which needs room itself
+abbrev InsideSound : Bool → List ℕ → ℕ → ℕ → Reading Node → Type 0
+InsideSound names t room i (done n e) = IsNodeAt names t i n e × (nesting n < room)
+InsideSound names t room i (fault k x stop) = Unit {0}
+
+-- a key at i, its colon, and its value before e
+record IsMemberAt (names : Bool) (t : List ℕ) (room i : ℕ) (k : Key) (n : Node) (e : ℕ) : Type 0 where
+  pub begins : k.begin ≡ i
+  pub key : SpellsKey t k (begin n)
+  pub value : IsNodeAt names t (begin n) n e
+  pub limit : nesting n < room
+
+abbrev MemberSound : Bool → List ℕ → ℕ → ℕ → Reading (Key × Node) → Type 0
+MemberSound names t room i (done m e) = IsMemberAt names t room i m.0 m.1 e
+MemberSound names t room i (fault k x stop) = Unit {0}
+
+module _ (names : Bool) (t : List ℕ) where
+  laws : ScalarLaws names t
+  laws = scalar-laws names t
+
+  closer-within : (i c e : ℕ) → StandsBehind t i c e → e ≤ length t
+  closer-within i c e h = let inside = slice_get_within t h.at c h.here in omega (arith, h.ends)
+
+  -- scalars
+  literal-sound : (room i : ℕ) (l : Literal) (x : Extent) → literal_at t l i ≡ x → ScalarWithin t i x
+      → Sound names t room i (scalar_at i (seen_as (λ u e. grammar.literal l i e) x))
+  literal-sound room i l (taken u e) is w =
+      (record { spelled = laws.literal-sound l i e is; begins = refl; ends = refl; within = w.1 }, omega arith)
+  literal-sound room i l (failed k j) is w = tt
+
+  number-sound : (room i : ℕ) (x : Scanned Number) → number_at names t i ≡ x → ScalarWithin t i x
+      → Sound names t room i (scalar_at i (seen_as (λ n e. grammar.number i e) x))
+  number-sound room i (taken n e) is w =
+      let spelled : SpellsNumber names t i e =
+      record { ordered = omega (arith, w.0); within = w.1; text = (laws.number-sound i e n is).0 } in
+      (record { spelled = spelled; begins = refl; ends = refl; within = w.1 }, omega arith)
+  number-sound room i (failed k j) is w = tt
+
+  text-sound : (room i : ℕ) (x : Scanned Text) → slice_get t i ≡ Some 34 → string_at whole t i ≡ x → ScalarWithin t i x
+      → Sound names t room i
+      (scalar_at i (seen_as (λ s e. grammar.string (pieces_from t (i + 1) (chars s.bytes)) i e) x))
+  text-sound room i (taken s e) here is w =
+      (record { spelled = (laws.string-sound i e s here is).0; begins = refl; ends = refl; within = w.1 }, omega arith)
+  text-sound room i (failed k j) here is w = tt
+
+  module _ (room : ℕ) where
+    abbrev pub inner : ℕ → Reading Node
+    inner i = inside_at (nodes names) t room i
+
+    abbrev InnerSound : Type 0
+    InnerSound = (i : ℕ) → i < length t → InsideSound names t room i (inner i)
+
+    -- a member: its key, its colon and its value
+    with_key-sound : (i colon j : ℕ) (k : Key) → k.begin ≡ i → SpellsString t k.begin k.pieces k.end
+        → StandsBehind t k.end 58 colon
+        → PartBehind t (ByteAt t) colon j → (x : Reading Node) → InsideSound names t room j x
+        → MemberSound names t room i (with_key k x)
+    with_key-sound i colon j k begins string behind h (done n d) is =
+        let at = sym is.0.begins in
+        let blanks = subst (IsBlank t colon) at h.blanks in
+        record {
+          begins = begins;
+          key = record { string = string; colon = colon; behind = behind; blanks = blanks };
+          value = subst (λ b. IsNodeAt names t b n d) at is.0;
+          limit = is.1;
+        }
+    with_key-sound i colon j k begins string behind h (fault kind x stop) is = tt
+
+    behind_colon-sound : InnerSound → (i : ℕ) (k : Key) → k.begin ≡ i → SpellsString t k.begin k.pieces k.end
+        → (x : Extent) → ExtentIs (Behind t k.end 58 (PartBehind t (ByteAt t))) x
+        → MemberSound names t room i (behind_colon k inner x)
+    behind_colon-sound all i k begins string (taken u j) h =
+        with_key-sound i h.0 j k begins string h.1 h.2 (inner j)
+        (all j (slice_get_within t j h.2.begins.byte h.2.begins.here))
+    behind_colon-sound all i k begins string (failed kind j) h = tt
+
+    behind_key-sound : InnerSound → (i : ℕ) → KeyBegins t i → (x : Scanned Text) → string_at whole t i ≡ x
+        → ScalarWithin t i x → MemberSound names t room i (behind_key inner t i (seen_as (key_of t i) x))
+    behind_key-sound all i quote (taken s e) is w =
+        behind_colon-sound all i (key_of t i s e) refl (laws.string-sound i e s quote is).0 (object_colon t e)
+        (object_colon-is t e w.1)
+    behind_key-sound all i quote (failed k j) is w = tt
+
+    -- the containers whose values are read inside
+    abbrev pub array : ℕ → Container Node Node
+    array b = array_of (nodes names) inner t b
+
+    abbrev pub object : ℕ → Container (Key × Node) Node
+    object b = object_of (nodes names) inner t b
+
+    inner-within : AllWithin t inner
+    inner-within = inside_at-within (nodes names) t (nodes-advances t names) room
+
+    pub array-goes : (b : ℕ) → Goes (array b) t
+    array-goes b = array_of-goes (nodes names) t (nodes-advances t names) inner inner-within b
+
+    pub object-goes : (b : ℕ) → Goes (object b) t
+    object-goes b = object_of-goes (nodes names) t (nodes-advances t names) inner inner-within b
+
+    -- and their grammar
+    abbrev ItemsAre : List Node → ℕ → ℕ → Type 0
+    ItemsAre ns i e = SpellsItems names t i (nodes_of ns) e × (nesting_round (nodes_of ns) ≤ room)
+
+    abbrev MoreItemsAre : List Node → ℕ → ℕ → Type 0
+    MoreItemsAre ns i e = SpellsMoreItems names t i (nodes_of ns) e × (nesting_round (nodes_of ns) ≤ room)
+
+    abbrev MembersAre : List (Key × Node) → ℕ → ℕ → Type 0
+    MembersAre ms i e =
+        SpellsMembers names t i (node_members_of ms) e × (nesting_round_members (node_members_of ms) ≤ room)
+
+    abbrev MoreMembersAre : List (Key × Node) → ℕ → ℕ → Type 0
+    MoreMembersAre ms i e =
+        SpellsMoreMembers names t i (node_members_of ms) e × (nesting_round_members (node_members_of ms) ≤ room)
+
+    items-grammar : InnerSound → (b : ℕ)
+        → Grammar t 93 (ItemAt t) (Reads (array b)) ItemsAre MoreItemsAre
+    items-grammar all b = record {
+      none = λ i e h. (h, omega arith);
+      no_more = λ i e h. (h, omega arith);
+      part = λ n ns i j m e blanks at is rest.
+          let x = subst (InsideSound names t room j) is (all j (slice_get_within t j at.byte at.here)) in
+          let more_items = subst (λ k. SpellsMoreItems names t k (nodes_of ns) e) (sym x.0.ends) rest.0 in
+          let blanks = subst (IsBlank t i) (sym x.0.begins) blanks in
+          ((blanks, x.0.spelled, more_items), round-items n (nodes_of ns) room x.1 rest.1);
+      comma = λ n ns i c e h x. ((c, h, x.0.0, x.0.1, x.0.2), x.1);
+    }
+
+    members-grammar : InnerSound → (b : ℕ)
+        → Grammar t 125 (KeyBegins t) (Reads (object b)) MembersAre MoreMembersAre
+    members-grammar all b = record {
+      none = λ i e h. (h, omega arith);
+      no_more = λ i e h. (h, omega arith);
+      part = λ p ms i j m e blanks quote is rest.
+          let key = behind_key-sound all j quote _ refl (laws.string-within j (slice_get_within t j 34 quote)) in
+          let x = subst (MemberSound names t room j) is key in
+          let ends = sym x.value.ends in
+          let more_members = subst (λ k. SpellsMoreMembers names t k (node_members_of ms) e) ends rest.0 in (
+            (subst (IsBlank t i) (sym x.begins) blanks, x.key, x.value.spelled, more_members),
+            round-members p.0 p.1 (node_members_of ms) room x.limit rest.1,
+          );
+      comma = λ p ms i c e h x. ((c, h, x.0.0, x.0.1, x.0.2, x.0.3), x.1);
+    }
+
+    -- values
+    built-sound : {P : Type 0} (c : Container P Node) (closer : ℕ) (Begins : ℕ → Type 0) (b : ℕ) (x : Reading Node)
+        → BuiltOf (nodes names) t c closer Begins (b + 1) x → Within t b x
+        → ((ps : List P) (e : ℕ) → ReadParts (nodes names) t c closer Begins ps (b + 1) e → e ≤ length t
+        → Sound names t room b (done (c.build e ps) e))
+        → Sound names t room b x
+    built-sound c closer Begins b (done n e) h w all =
+        subst (λ n. Sound names t room b (done n e)) (sym h.1) (all h.0 e h.2 w.1)
+    built-sound c closer Begins b (fault k x stop) h w all = tt
+
+    container-sound : {P : Type 0} (c : Container P Node) (closer : ℕ) (Begins : ℕ → Type 0)
+        (Are MoreAre : List P → ℕ → ℕ → Type 0)
+        → Delimits t c.first c.next closer Begins → Goes c t
+        → Grammar t closer Begins (Reads c) Are MoreAre
+        → (b : ℕ) → b < length t
+        → ((ps : List P) (e : ℕ) → Are ps (b + 1) e → e ≤ length t → Sound names t room b (done (c.build e ps) e))
+        → Sound names t room b (container_at (nodes names) c t b)
+    container-sound c closer Begins Are MoreAre delimits goes grammar b h all =
+        let built = container_at-built (nodes names) t c closer Begins (λ k. refl) delimits goes b h in
+        built-sound c closer Begins b _ built (container_at-within (nodes names) t c goes b h)
+        (λ ps e parts. all ps e (parts-are t closer Begins (Reads c) Are MoreAre grammar ps (b + 1) e parts))
+
+    byte-here : (i c : ℕ) → i < length t → slice_index t i ≡ c → slice_get t i ≡ Some c
+    byte-here i c h e = slice_get-get_or t i 0 h ∙ ap Some e
+
+    value_with-sound : InnerSound → (i : ℕ) → i < length t → (s : Start) → start_of (slice_index t i) ≡ s
+        → Sound names t room i (value_with (nodes names) inner t i s)
+    value_with-sound all i h start.Array e =
+        container-sound (array i) 93 (ItemAt t) ItemsAre MoreItemsAre (array-delimits t) (array-goes i)
+        (items-grammar all i) i h
+        (λ ns f x le.
+        let here = byte-here i 91 h (array-byte _ e) in
+        (record { spelled = (here, x.0); begins = refl; ends = refl; within = le }, x.1))
+    value_with-sound all i h start.Object e =
+        container-sound (object i) 125 (KeyBegins t) MembersAre MoreMembersAre (object-delimits t) (object-goes i)
+        (members-grammar all i) i h
+        (λ ms f x le.
+        let here = byte-here i 123 h (object-byte _ e) in
+        (record { spelled = (here, x.0); begins = refl; ends = refl; within = le }, x.1))
+    value_with-sound all i h start.String e =
+        text-sound room i (string_at whole t i) (byte-here i 34 h (string-first _ e)) refl (laws.string-within i h)
+    value_with-sound all i h start.Number e = number-sound room i (number_at names t i) refl (laws.number-within i h)
+    value_with-sound all i h (start.Literal l) e =
+        literal-sound room i l (literal_at t l i) refl (laws.literal-within l i h)
+    value_with-sound all i h start.Nothing e = tt
+
+  -- a value inside needs room for the container round it
+  room-inside : (room i : ℕ) (x : Reading Node) → Sound names t room i x → InsideSound names t (suc room) i x
+  room-inside room i (done n e) h = (h.0, omega (arith, h.1))
+  room-inside room i (fault k x stop) h = tt
+
+  inside_at-sound : (room i : ℕ) → i < length t → InsideSound names t room i (inside_at (nodes names) t room i)
+  unfolding inside_at
+  inside_at-sound zero i h = tt
+  inside_at-sound (suc room) i h =
+      room-inside room i _ (value_with-sound room (inside_at-sound room) i h (start_of (slice_index t i)) refl)
+
+  -- A node is read only where the text spells it.
+  pub value_at-sound : (room i : ℕ) → i < length t → Sound names t room i (value_at (nodes names) t room i)
+  value_at-sound room i h = value_with-sound room (inside_at-sound room) i h (start_of (slice_index t i)) refl
