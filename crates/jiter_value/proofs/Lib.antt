@@ -1,5 +1,4 @@
 pub mod Kept
-pub mod Parsed
 pub mod Reached
 pub mod Sizes
 pub mod Views

@@ -37,3 +37,10 @@ Reaches p t s j (Err e) x = Fails e j x
 -- how much is left to do
 abbrev pub left : List ℕ → Stacks → ℕ → ℕ
 left t s j = 3 * (length t - j) + length s.nest.items + 1
+
+-- P, where the reading goes on or memory was refused
+abbrev pub MayGrowFor : Result Awaits ReadError → Type 0 → Type 0
+MayGrowFor (Ok awaits.Done) P = Unit {0}
+MayGrowFor (Ok a) P = P
+MayGrowFor (Err (error.Fault f)) P = Unit {0}
+MayGrowFor (Err (error.Memory m)) P = P

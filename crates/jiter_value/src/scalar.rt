@@ -7,7 +7,9 @@ ghost use Rattle.jiter_steps.specs.Read.{scalar_at, value_at};
 ghost use Rattle.jiter_steps.specs.Parse.{Moves, Reads, Gives};
 ghost use Rattle.jiter_value.specs.Settings.{rules};
 ghost use Rattle.jiter_value.specs.Size.{size};
-ghost use Rattle.jiter_value.specs.Value.{view};
+ghost use Rattle.jiter_steps.specs.ReadError.{WhereRefused};
+ghost use Rattle.jiter_steps.specs.StringDecoder.{WantsMemory};
+ghost use Rattle.jiter_value.specs.Value.{view, MayGrowAt};
 
 use crate::settings::Settings;
 use crate::value::JsonValue;
@@ -88,6 +90,7 @@ fn read_text<'j>(
         ((rules settings).text parser.old.bytes.now parser.old.index)) }
     ensures ahead { OnOk result (parser.old.index < parser.new.index) }
     ensures one { IfOk result (λ v. size (view v) ≡ 1) }
+    ensures memory { WhereRefused result (WantsMemory parser.old.bytes.now parser.old.index) }
 {
     let read = if settings.mode.allow_trailing_str() {
         parser.string_front(alloc, tape)
@@ -116,6 +119,7 @@ pub fn scalar<'j>(
         (value_at (rules settings) parser.old.bytes.now room parser.old.index) }
     ensures ahead { OnOk result (parser.old.index < parser.new.index) }
     ensures one { IfOk result (λ v. size (view v) ≡ 1) }
+    ensures memory { WhereRefused result (MayGrowAt parser.old.bytes.now parser.old.index) }
 {
     match start_of(parser.bytes[parser.index]) {
         Start::Literal(literal) => match read_literal(parser, literal, settings) {

@@ -8,8 +8,9 @@ ghost use Rattle.jiter_steps.specs.Read.{fault, value_at};
 ghost use Rattle.jiter_value.specs.Settings.{rules};
 ghost use Rattle.jiter_value.specs.Size.{value_size, key_size, behind_size, held};
 ghost use Rattle.jiter_value.specs.Stacks.{resumed, from_value, from_key, key_fault, behind, meaning, Stands, StandsAtKey};
-ghost use Rattle.jiter_value.specs.Turns.{IsWithin, Reaches, left};
-ghost use Rattle.jiter_value.specs.Value.{view};
+ghost use Rattle.jiter_value.specs.Turns.{IsWithin, Reaches, MayGrowFor, left};
+ghost use Rattle.jiter_value.specs.Value.{view, MayGrowAt};
+ghost use Rattle.jiter_steps.specs.ReadError.{WhereRefused};
 
 use crate::scalar::scalar;
 use crate::settings::{Settings, forgives, resolve};
@@ -53,6 +54,8 @@ fn after<'j>(
     ensures left { OnOk result (left parser.old.bytes.now stacks.new parser.new.index
         ≤ left parser.old.bytes.now stacks.old parser.old.index) }
     ensures held { IfOk result (λ a. held stacks.new a ≡ behind_size stacks.old awaits) }
+    ensures memory { WhereRefused result (awaits ≢ Awaits.Root) }
+    ensures root { awaits ≡ Awaits.Root → IfOk result (λ a. a ≡ Awaits.Done) }
 {
     let mut inside = awaits;
     'closing: loop {
@@ -94,6 +97,8 @@ fn value_faulted<'j>(
     ensures left { OnOk result (left parser.old.bytes.now stacks.new parser.new.index
         < left parser.old.bytes.now stacks.old parser.old.index) }
     ensures held { IfOk result (λ a. held stacks.new a ≤ value_size stacks.old awaits) }
+    ensures memory { WhereRefused result (awaits ≢ Awaits.Root) }
+    ensures root { OnOk result (awaits ≢ Awaits.Root) }
 {
     if !forgives(settings.mode, problem.kind) {
         return Err(ReadError::Fault(problem));
@@ -160,6 +165,8 @@ fn array_begun<'j>(
     ensures left { OnOk result (left parser.old.bytes.now stacks.new parser.new.index
         < left parser.old.bytes.now stacks.old parser.old.index) }
     ensures held { IfOk result (λ a. held stacks.new a ≤ value_size stacks.old awaits + 1) }
+    ensures memory { awaits ≡ Awaits.Root
+        → MayGrowFor result (MayGrowAt parser.old.bytes.now parser.old.index) }
 {
     match resolve(settings.mode, parser.array_first()) {
         Ok(true) => {
@@ -202,6 +209,8 @@ fn object_begun<'j>(
     ensures left { OnOk result (left parser.old.bytes.now stacks.new parser.new.index
         < left parser.old.bytes.now stacks.old parser.old.index) }
     ensures held { IfOk result (λ a. held stacks.new a ≤ value_size stacks.old awaits + 1) }
+    ensures memory { awaits ≡ Awaits.Root
+        → MayGrowFor result (MayGrowAt parser.old.bytes.now parser.old.index) }
 {
     match resolve(settings.mode, parser.object_first()) {
         Ok(true) => {
@@ -241,6 +250,8 @@ fn value_turn<'j>(
     ensures left { OnOk result (left parser.old.bytes.now stacks.new parser.new.index
         < left parser.old.bytes.now stacks.old parser.old.index) }
     ensures held { IfOk result (λ a. held stacks.new a ≤ value_size stacks.old awaits + 1) }
+    ensures memory { awaits ≡ Awaits.Root
+        → MayGrowFor result (MayGrowAt parser.old.bytes.now parser.old.index) }
 {
     match start_of(parser.bytes[parser.index]) {
         Start::Array => array_begun(alloc, stacks, parser, settings, awaits),
@@ -311,6 +322,8 @@ pub fn turn<'j>(
     ensures left { OnOk result (left parser.old.bytes.now stacks.new parser.new.index
         < left parser.old.bytes.now stacks.old parser.old.index) }
     ensures held { IfOk result (λ a. held stacks.new a ≤ held stacks.old awaits + 1) }
+    ensures memory { awaits ≡ Awaits.Root
+        → MayGrowFor result (MayGrowAt parser.old.bytes.now parser.old.index) }
 {
     match awaits {
         Awaits::Key => key_turn(alloc, tape, stacks, parser, settings),
@@ -334,7 +347,7 @@ pub fn run<'j>(
     ensures moves { Moves parser.old parser.new }
     ensures value { Gives view result parser.new.index
         (value_at (rules settings) parser.old.bytes.now nesting_limit parser.old.index) }
-    ensures stands { OnOk result (Stands stacks.new Awaits.Root) }
+    ensures memory { WhereRefused result (MayGrowAt parser.old.bytes.now parser.old.index) }
 {
     let mut awaits = Awaits::Root;
     'turning: loop {

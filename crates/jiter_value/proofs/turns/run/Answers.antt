@@ -1,4 +1,4 @@
-use Rattle.std.proofs.Common.{◌≡◌, ◌≤◌, ◌<◌, [], refl, ap, arith, length}
+use Rattle.std.proofs.Common.{◌≡◌, ◌≤◌, ◌<◌, inl, [], refl, ap, arith, length}
 use Rattle.jiter_value.proofs.Kept.{root-stands, root-begins}
 use Rattle.jiter_value.proofs.turns.run.Goals as goal
 
@@ -11,4 +11,5 @@ turning-init c =
       root-begins a.settings a.parser.now.bytes.now s.nest.items s.items.items s.members.items a.parser.now.index c.requires.nest,
       (root-stands s.nest.items s.items.items s.members.items c.requires.nest c.requires.items c.requires.members, omega (arith, none), c.requires.within),
       λ e. cc,
+      inl (refl, refl),
     )

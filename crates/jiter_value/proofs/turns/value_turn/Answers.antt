@@ -7,7 +7,7 @@ use Rattle.jiter_value.specs.Stacks.{behind, resumed}
 use Rattle.jiter_value.specs.Turns.{Reaches}
 use Rattle.jiter_value.specs.Value.{view}
 use Rattle.jiter_value.proofs.Kept.{value-read}
-use Rattle.jiter_value.proofs.Reached.{moves-on, reaches-along}
+use Rattle.jiter_value.proofs.Reached.{moves-on, reaches-along, refused-weaker, root-grows, never-grows}
 use Rattle.jiter_value.proofs.turns.value_turn.Goals as goal
 
 pub returns-in_ok-put-in-Ok : goal.returns-in_ok-put-in-Ok
@@ -30,6 +30,7 @@ returns-in_ok-put-in-Ok c =
       (subst (λ u. Reaches p u c.after.new.stacks c.after.new.parser.index c.after.result (behind p u c.put.new.stacks a.awaits e)) same c.after.ensures.reaches);
       left = on_ok_weaker c.after.result (λ l. omega (arith, l, ap length same, nest, within, c.in-Ok.ensures.ahead)) c.after.ensures.left;
       held = IfOk-weaker c.after.result _ _ (λ x h. omega (arith, h, c.in_ok-put-in-Ok.ensures.held, c.in-Ok.ensures.one)) c.after.ensures.held;
+      memory = λ e. root-grows c.after.result _ (c.after.ensures.root e) (refused-weaker c.after.result _ _ (λ other. absurd (other e)) c.after.ensures.memory);
     }
 
 pub returns-in-Err-Fault : goal.returns-in-Err-Fault
@@ -53,4 +54,5 @@ returns-in-Err-Fault c =
       (subst (λ u. Reaches p u c.value_faulted.new.stacks c.value_faulted.new.parser.index c.value_faulted.result (resumed p u s a.awaits (fault k f.index j))) same c.value_faulted.ensures.reaches);
       left = on_ok_weaker c.value_faulted.result (λ l. omega (arith, l, ap length same, moved.forward)) c.value_faulted.ensures.left;
       held = IfOk-weaker c.value_faulted.result _ _ (λ x h. omega (arith, h)) c.value_faulted.ensures.held;
+      memory = λ e. never-grows c.value_faulted.result _ (on_ok_weaker c.value_faulted.result (λ other. other e) c.value_faulted.ensures.root) (refused-weaker c.value_faulted.result _ _ (λ other. other e) c.value_faulted.ensures.memory);
     }
