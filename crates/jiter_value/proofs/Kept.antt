@@ -329,3 +329,12 @@ root-stands nest es ms a b c = subst (λ os. HaveBases awaits.Root (reverse os) 
 pub root-begins : (p : Settings) (t : List ℕ) (nest : List Open) (es : List JsonValue) (ms : List Member) (i : ℕ) → nest ≡ []
     → value_at (rules p) t 200 i ≡ value_from (rules p) t (frames awaits.Root (reverse nest) es ms) i
 root-begins p t nest es ms i e = sym (value_in-room (rules p) t 0 i (omega arith)) ∙ ap (λ os. value_from (rules p) t (frames awaits.Root (reverse os) es ms) i) (sym e)
+
+pub root-from : (p : Settings) (t : List ℕ) (os : List Open) (es : List JsonValue) (ms : List Member) (n m i : ℕ) → HaveBases awaits.Root os n m
+    → value_at (rules p) t 200 i ≡ value_from (rules p) t (frames awaits.Root os es ms) i
+root-from p t [] es ms n m i h = sym (value_in-room (rules p) t 0 i (omega arith))
+root-from p t (o ∷ os) es ms n m i h = absurd h
+
+pub root-alone : (os : List Open) (n m : ℕ) → HaveBases awaits.Root os n m → length os ≡ 0
+root-alone [] n m h = refl
+root-alone (o ∷ os) n m h = absurd h

@@ -1,4 +1,6 @@
+pub mod Answering
 pub mod Kept
+pub mod Parsed
 pub mod Reached
 pub mod Sizes
 pub mod Views

@@ -3,4 +3,6 @@ pub mod Settings
 pub mod Stacks
 pub mod Size
 pub mod Turns
-pub mod Read
+pub mod Reading
+pub mod Machine
+pub mod Turned

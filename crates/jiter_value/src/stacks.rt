@@ -179,3 +179,19 @@ pub fn close_object<'j>(alloc: Global, stacks: &mut Stacks<'j>) -> Result<Awaits
         }
     }
 }
+
+impl<'j> Stacks<'j> {
+    /// Nothing held.
+    pub fn new(alloc: Global) -> Stacks<'j>
+        ensures nest { result.nest.items ≡ [] }
+        ensures items { result.items.items ≡ [] }
+        ensures members { result.members.items ≡ [] }
+    {
+        Stacks {
+            items: Vec::new(alloc),
+            members: Vec::new(alloc),
+            nest: SmallVec::new(alloc),
+            root: JsonValue::Null,
+        }
+    }
+}

@@ -1,4 +1,16 @@
-//! The tree of a document.
+//! The tree of a document, and reading it.
+ghost use Rattle.std.specs.Prelude.{◌≡◌, ◌≤◌, ◌⊎◌, IfOk, IfErr, MatchResult, true, length};
+ghost use Rattle.jiter_scan.specs.Kind.{kind_of, is_end_kind};
+ghost use Rattle.jiter_steps.specs.Blank.{past_blanks};
+ghost use Rattle.jiter_steps.specs.Node.{Node, IsDocument, IsCutContainer, value_of};
+ghost use Rattle.jiter_steps.specs.Answer.{answer, answer_in};
+ghost use Rattle.jiter_value.specs.Value.{view, Answers, MayGrow};
+
+use crate::reading::{error_at, read_whole};
+use crate::settings::Settings;
+use jiter_scan::{JsonError, JsonErrorType, PartialMode};
+use jiter_steps::parse::Parser;
+use std::alloc::Global;
 use std::borrow::CowStr;
 
 /// The items of an array, in source order.
@@ -26,4 +38,81 @@ pub enum JsonValue<'s> {
     Array(JsonArray<'s>),
     /// An object.
     Object(JsonObject<'s>),
+}
+
+impl<'j> JsonValue<'j> {
+    /// The value of the document that the bytes spell; where they spell none, the kind and byte index of the
+    /// first fault (RFC 8259, 2). With `allow_inf_nan` the names `NaN`, `Infinity` and `-Infinity` are numbers.
+    ///
+    /// A text is borrowed exactly where its source has no backslash. `OutOfMemory` is answered only where
+    /// memory was refused.
+    pub fn parse(
+        alloc: Global,
+        bytes: &'j [u8],
+        allow_inf_nan: bool,
+    ) -> Result<JsonValue<'j>, JsonError>
+        // The value is that of a document that the bytes spell, each text with its mark.
+        ensures found { IfOk result (λ v. (n : Node) × IsDocument allow_inf_nan bytes.now n
+            × (value_of bytes.now n ≡ view v)) }
+        // A document is answered with its value, unless memory is refused.
+        ensures only { (n : Node) → IsDocument allow_inf_nan bytes.now n → MatchResult result
+            (λ v. view v ≡ value_of bytes.now n) (λ e. e.error_type ≡ JsonErrorType.OutOfMemory) }
+        // At most one node is spelled.
+        ensures one { (n m : Node) → IsDocument allow_inf_nan bytes.now n
+            → IsDocument allow_inf_nan bytes.now m → n ≡ m }
+        // Which fault it is: the first one of a reading from the left.
+        ensures first { Answers result (answer allow_inf_nan bytes.now) }
+
+        // Where faults stand.
+        ensures index { IfErr result (λ e. e.index ≤ length bytes.now) }
+        ensures ends { IfErr result (λ e. is_end_kind (kind_of e.error_type) ≡ true
+            → e.index ≡ length bytes.now) }
+
+        // An array or an object without its last bracket is refused, since the input ends too early.
+        ensures early { IsCutContainer allow_inf_nan bytes.now → MatchResult result (λ _. ⊥)
+            (λ e. (e.error_type ≡ JsonErrorType.OutOfMemory)
+            ⊎ (is_end_kind (kind_of e.error_type) ≡ true)) }
+
+        // Memory may be the answer only where the value's first bytes ask for some, and from its first byte on.
+        ensures memory { IfErr result (λ e. e.error_type ≡ JsonErrorType.OutOfMemory
+            → MayGrow bytes.now) }
+        ensures place { IfErr result (λ e. e.error_type ≡ JsonErrorType.OutOfMemory
+            → past_blanks bytes.now 0 ≤ e.index) }
+    {
+        JsonValue::parse_with_config(alloc, bytes, allow_inf_nan, PartialMode::Off)
+    }
+
+    /// What [`JsonValue::parse`] answers, with partial reading as asked. In a partial mode a document that was
+    /// cut is read as far as it goes: each container is closed where a fault of its end or of its commas
+    /// stands, and what follows the value is not looked at. With `TrailingStrings` a cut string is kept.
+    pub fn parse_with_config(
+        alloc: Global,
+        bytes: &'j [u8],
+        allow_inf_nan: bool,
+        allow_partial: PartialMode,
+    ) -> Result<JsonValue<'j>, JsonError>
+        // The reading from the left, in this mode.
+        ensures answer { Answers result (answer_in allow_inf_nan allow_partial bytes.now) }
+
+        // Where faults stand.
+        ensures index { IfErr result (λ e. e.index ≤ length bytes.now) }
+        ensures ends { IfErr result (λ e. is_end_kind (kind_of e.error_type) ≡ true
+            → e.index ≡ length bytes.now) }
+
+        // Memory may be the answer only where the value's first bytes ask for some, and from its first byte on.
+        ensures memory { IfErr result (λ e. e.error_type ≡ JsonErrorType.OutOfMemory
+            → MayGrow bytes.now) }
+        ensures place { IfErr result (λ e. e.error_type ≡ JsonErrorType.OutOfMemory
+            → past_blanks bytes.now 0 ≤ e.index) }
+    {
+        let settings = Settings {
+            allow_inf_nan,
+            mode: allow_partial,
+        };
+        let mut parser = Parser::new(bytes);
+        match read_whole(alloc, &mut parser, settings) {
+            Ok(value) => Ok(value),
+            Err(error) => Err(error_at(error, parser.index)),
+        }
+    }
 }
