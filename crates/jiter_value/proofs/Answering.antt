@@ -1,10 +1,10 @@
 -- What a whole text answers, by how its reading goes.
-use Rattle.std.proofs.Common.{◌≡◌, ◌⊎◌, inl, inr, ℕ, ◌<◌, ◌≤◌, Bool, true, false, List, length, refl, sym, ap, ap₂, subst, ◌∙◌, arith}
+use Rattle.std.proofs.Common.{◌≡◌, inl, inr, ℕ, ◌<◌, Bool, true, false, List, length, refl, sym, ap, ap₂, subst, ◌∙◌, arith}
 use Rattle.std.proofs.lemmas.List.{length-reverse}
-use Rattle.std.specs.Prelude.{reverse, slice_get, Option, Some, None, Result, Ok, Err}
-use Rattle.jiter_scan.specs.Kind.{Kind, kind_of, fault_kind}
+use Rattle.std.specs.Prelude.{reverse, slice_get, Option, Some, None, Ok, Err}
+use Rattle.jiter_scan.specs.Kind.{Kind, fault_kind}
 use Rattle.jiter_scan.specs.Mode.{is_active}
-use Rattle.jiter_scan.specs.Scanned.{FaultAt, taken, failed}
+use Rattle.jiter_scan.specs.Scanned.{taken, failed}
 use Rattle.jiter_scan.specs.declared.errors.JsonError.{JsonError}
 use Rattle.jiter_scan.specs.declared.partial_mode.PartialMode.{PartialMode}
 use Rattle.jiter_scan.specs.declared.partial_mode.PartialMode.TheVariants.{Off, On, TrailingStrings}

@@ -1,6 +1,6 @@
 -- What a whole parse answers, by the grammar.
 use Rattle.std.proofs.Common.{◌≡◌, ◌⊎◌, inl, inr, ℕ, ◌≤◌, Bool, true, List, length, sym, ap, ◌∙◌, subst}
-use Rattle.std.specs.Prelude.{Result, Ok, Err, IfOk, IfErr, MatchResult}
+use Rattle.std.specs.Prelude.{Result, Ok, Err, IfOk, MatchResult}
 use Rattle.jiter_scan.specs.Kind.{Kind, kind_of, fault_kind, is_end_kind}
 use Rattle.jiter_scan.specs.Scanned.{FaultAt}
 use Rattle.jiter_scan.specs.declared.errors.JsonError.{JsonError}
@@ -8,8 +8,7 @@ use Rattle.jiter_scan.specs.declared.errors.JsonErrorType.TheVariants.{OutOfMemo
 use Rattle.jiter_scan.specs.declared.partial_mode.PartialMode.{PartialMode}
 use Rattle.jiter_steps.specs.Answer.{answer, answer_in}
 use Rattle.jiter_steps.specs.Node.{Node, IsDocument, IsCutContainer, value_of}
-use Rattle.jiter_steps.specs.Read.{Reading, done, fault}
-use Rattle.jiter_steps.specs.Tree.{Tree}
+use Rattle.jiter_steps.specs.Read.{fault}
 use Rattle.jiter_steps.specs.declared.read_error.ReadError.{ReadError}
 use Rattle.jiter_steps.specs.declared.read_error.ReadError.TheVariants as error
 use Rattle.jiter_steps.proofs.Bounds.{Within}

@@ -1,21 +1,17 @@
 -- Counting what the machine holds.
-use Rattle.std.proofs.Common.{◌≡◌, ℕ, suc, ◌+◌, ◌<◌, ◌≤◌, List, [], ◌∷◌, ◌++◌, length, take, drop, map, refl, sym, ap, ap₂, ◌∙◌, arith, length-append}
+use Rattle.std.proofs.Common.{◌≡◌, suc, ◌+◌, ◌≤◌, List, [], ◌∷◌, ◌++◌, length, take, drop, map, refl, ap, ◌∙◌, arith, length-append}
 use Rattle.std.specs.Prelude.{reverse}
 use Rattle.std.specs.declared.alloc.Global.{Global}
 use Rattle.std.specs.declared.borrow.CowStr.{CowStr}
-use Rattle.std.proofs.lemmas.List.{reverse-append, map_push, drop-append-le, take-append-le, take_all, drop_all}
-use Rattle.jiter_scan.specs.Scanned.{Scanned, taken, failed}
+use Rattle.std.proofs.lemmas.List.{reverse-append, map_push, drop-append-le, take-append-le}
 use Rattle.jiter_steps.specs.Tree.{Text, Tree, array, object, items_of, members_of}
 use Rattle.jiter_steps.specs.StringDecoder.{text_seen}
 use Rattle.jiter_value.specs.Value.{view}
 use Rattle.jiter_value.specs.declared.value.JsonValue.{JsonValue}
-use Rattle.jiter_value.specs.declared.value.JsonValue.TheVariants.{Null}
 use Rattle.jiter_value.specs.declared.stacks.Open.{Open}
-use Rattle.jiter_value.specs.declared.stacks.Awaits.{Awaits}
 use Rattle.jiter_value.specs.declared.stacks.Awaits.TheVariants as awaits
-use Rattle.jiter_steps.specs.Frames.{Frame, items_frame, members_frame}
 use Rattle.jiter_value.specs.Stacks.{Member, member_view, frames, HaveBases, HaveKeyBase}
-use Rattle.jiter_value.specs.Size.{size, size_items, size_members, items_size, members_size, frames_size, key_size_in, behind_size_in}
+use Rattle.jiter_value.specs.Size.{size, items_size, members_size, frames_size, key_size_in, behind_size_in}
 use Rattle.jiter_value.proofs.Kept.{value-frames}
 
 items_size-push : (xs : List Tree) (x : Tree) → items_size (xs ++ x ∷ []) ≡ items_size xs + size x

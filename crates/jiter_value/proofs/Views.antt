@@ -4,7 +4,7 @@ use Rattle.std.specs.declared.alloc.Global.{Global}
 use Rattle.std.specs.declared.borrow.CowStr.{CowStr}
 use Rattle.jiter_steps.specs.Tree.{array, object, member, items_of, members_of}
 use Rattle.jiter_steps.specs.StringDecoder.{text_seen}
-use Rattle.jiter_value.specs.Value.{view, views, member_views}
+use Rattle.jiter_value.specs.Value.{view, member_views}
 use Rattle.jiter_value.specs.Stacks.{member_view}
 use Rattle.jiter_value.specs.declared.value.JsonValue.{JsonValue, Array, Object, the_lemmas}
 

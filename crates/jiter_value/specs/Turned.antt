@@ -1,5 +1,5 @@
 -- What contracts see of a turn.
-use Rattle.std.specs.Prelude.{◌≡◌, ℕ, ◌+◌, ◌≤◌, ◌<◌, IfOk}
+use Rattle.std.specs.Prelude.{◌≡◌, ◌+◌, ◌≤◌, ◌<◌, IfOk}
 use Rattle.jiter_value.specs.Machine.{Progress}
 use Rattle.jiter_value.specs.Settings.{answered}
 use Rattle.jiter_value.specs.Size.{size}

@@ -110,11 +110,7 @@ fn take_members<'j>(
 
 /// The value that was awaited goes where it belongs.
 #[inline(always)]
-pub fn put<'j>(
-    stacks: &mut Stacks<'j>,
-    awaits: Awaits,
-    value: JsonValue<'j>,
-) -> Result<(), Refused>
+pub fn put<'j>(stacks: &mut Stacks<'j>, awaits: Awaits, value: JsonValue<'j>) -> Result<(), Refused>
     requires { Stands stacks.old awaits }
     ensures value { OnOk result ((p : SettingsView) → (t : List ℕ) → (e : ℕ)
         → resumed p t stacks.old awaits (done (view value.entry) e) ≡ behind p t stacks.new awaits e) }

@@ -1,4 +1,4 @@
-use Rattle.std.proofs.Common.{◌≡◌, ◌≢◌, ◌⊎◌, inl, inr, Bool, false, true, cond, refl, ap, sym, ◌∙◌}
+use Rattle.std.proofs.Common.{◌≡◌, ◌≢◌, ◌⊎◌, inl, inr, false, true, cond, refl, ap, sym, ◌∙◌}
 use Rattle.jiter_scan.specs.Kind.{Kind, fault_kind, is_forgiven}
 use Rattle.jiter_scan.specs.Mode.{is_active}
 use Rattle.jiter_scan.specs.declared.errors.FaultKind.{FaultKind}

@@ -1,4 +1,4 @@
-use Rattle.std.proofs.Common.{◌≡◌, ◌≢◌, ◌≤◌, ◌<◌, ◌+◌, ◌++◌, ◌∷◌, [], ◌∙◌, refl, sym, ap, arith, ℕ, length, map, reverse, subst, length-append}
+use Rattle.std.proofs.Common.{◌≡◌, ◌≢◌, ◌≤◌, ◌<◌, ◌+◌, ◌∷◌, [], ◌∙◌, sym, ap, arith, ℕ, length, map, reverse, subst, length-append}
 use Rattle.std.proofs.lemmas.List.{reverse-append, length-reverse}
 use Rattle.jiter_scan.specs.Kind.{fault_kind}
 use Rattle.jiter_steps.specs.Frames.{resolved, value_from}
@@ -7,7 +7,7 @@ use Rattle.jiter_steps.specs.Read.{fault}
 use Rattle.jiter_steps.specs.Step.{more, closed, step, array_first}
 use Rattle.jiter_steps.specs.Tree.{array, items_of}
 use Rattle.jiter_value.specs.Settings.{forgives, rules}
-use Rattle.jiter_value.specs.Stacks.{frames, HaveBases, Stands, behind}
+use Rattle.jiter_value.specs.Stacks.{frames, HaveBases, behind}
 use Rattle.jiter_value.specs.Turns.{Reaches}
 use Rattle.jiter_value.specs.Value.{view}
 use Rattle.jiter_value.specs.declared.stacks.Awaits.TheVariants as awaits

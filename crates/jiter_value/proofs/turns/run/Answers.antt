@@ -1,4 +1,4 @@
-use Rattle.std.proofs.Common.{◌≡◌, ◌≤◌, ◌<◌, inl, [], refl, ap, arith, length}
+use Rattle.std.proofs.Common.{◌≡◌, inl, refl, ap, arith, length}
 use Rattle.jiter_value.proofs.Kept.{root-stands, root-begins}
 use Rattle.jiter_value.proofs.turns.run.Goals as goal
 
