@@ -1,11 +1,10 @@
 -- What a table of worked rows computes, so that one line unfolds it.
 use Rattle.std.specs.Prelude.{⊤}
 use Rattle.jiter_scan.specs.Word.{word_at}
-use Rattle.jiter_scan.specs.Digits.{digit_run}
 use Rattle.jiter_scan.specs.Number.{number_value}
-use Rattle.jiter_scan.specs.NumberReading.{number_at, int_at}
+use Rattle.jiter_scan.specs.NumberReading.{number_at, int_at, is_number_text}
 
--- what reading a number unfolds
+-- what reading a number unfolds, and testing whether a text is one
 unfoldable pub computed_numbers : ⊤
-unfolding number_at int_at word_at digit_run number_value
+unfolding number_at int_at is_number_text word_at number_value
 computed_numbers = tt

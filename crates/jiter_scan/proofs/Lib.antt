@@ -1,16 +1,16 @@
 pub mod Choices
-pub mod NumberBounds
-pub mod NumberComplete
-pub mod NumberSound
-pub mod Runs
-pub mod Scanning
 pub mod Standing
+pub mod Runs
+pub mod Digits
+pub mod Scanning
 pub mod WordLaws
-pub mod DigitRuns
-pub mod NumberTexts
-pub mod Words
+pub mod NumberBounds
+pub mod NumberSound
+pub mod NumberComplete
 pub mod NumberBytes
+pub mod NumberValues
+pub mod NumberTests
 pub mod NumberLaws
+pub mod Pins
 pub mod Computed
 mod Rows
-pub mod NumberTests

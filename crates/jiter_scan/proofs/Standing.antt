@@ -1,6 +1,6 @@
 -- Bytes that stand at a place of a text: joined, split, and cut out.
 use Rattle.std.proofs.Common.{◌≡◌, ℕ, zero, suc, ◌+◌, ◌-◌, ◌<◌, ◌≤◌, ◌⊎◌, inl, inr, List, [], ◌∷◌, ◌++◌, length, take, drop, get_or, refl, sym, ap, ◌∙◌, subst, arith}
-use Rattle.std.specs.Prelude.{slice_get, slice_range, None, IfSome}
+use Rattle.std.specs.Prelude.{slice_get, slice_range, Some, None, IfSome}
 use Rattle.std.proofs.lemmas.List.{drop_more}
 use Rattle.std.proofs.lemmas.Option.{slice_get-get_or, slice_get_within, get_or_from_slice_get, none-some}
 use Rattle.std.proofs.lemmas.Bool.{cases_lt}
@@ -32,19 +32,19 @@ module _ (t : List ℕ) where
   stands-split i k [] v h = (i, refl, h)
   stands-split i k (c ∷ u) v h = let r = stands-split (i + 1) k u v h.1 in (r.0, (h.0, r.1), r.2)
 
-  -- a word that begins at i ends in one place
-  pub stands-unique : (i j k : ℕ) (w : List ℕ) → Stands t i j w → Stands t i k w → j ≡ k
-  stands-unique i j k w h g = let a = stands-length i j w h in let b = stands-length i k w g in omega arith
-
   stands-take : (n i : ℕ) → i + n ≤ length t → Stands t i (i + n) (take n (drop i t))
   stands-take zero i h = omega arith
   stands-take (suc n) i h =
-      let rest : Stands t (i + 1) (i + suc n) (take n (drop (i + 1) t)) = subst (λ k. Stands t (i + 1) k (take n (drop (i + 1) t))) (omega arith) (stands-take n (i + 1) (omega arith)) in
-      subst (λ l. Stands t i (i + suc n) (take (suc n) l)) (sym (drop_more t i 0 (omega arith))) (slice_get-get_or t i 0 (omega arith), rest)
+      let rest : Stands t (i + 1) (i + suc n) (take n (drop (i + 1) t)) =
+      subst (λ k. Stands t (i + 1) k (take n (drop (i + 1) t))) (omega arith)
+      (stands-take n (i + 1) (omega arith)) in
+      subst (λ l. Stands t i (i + suc n) (take (suc n) l)) (sym (drop_more t i 0 (omega arith)))
+      (slice_get-get_or t i 0 (omega arith), rest)
 
   -- the bytes of a range stand there
   pub stands-slice : (i j : ℕ) → i ≤ j → j ≤ length t → Stands t i j (slice_range t i j)
-  stands-slice i j le h = subst (λ k. Stands t i k (slice_range t i j)) (omega arith) (stands-take (j - i) i (omega arith))
+  stands-slice i j le h =
+      subst (λ k. Stands t i k (slice_range t i j)) (omega arith) (stands-take (j - i) i (omega arith))
 
   take-stands : (i j : ℕ) (w : List ℕ) → Stands t i j w → w ≡ take (length w) (drop i t)
   take-stands i j [] h = refl
@@ -61,8 +61,13 @@ module _ (t : List ℕ) where
       let same : length w ≡ j - i = omega arith in
       take-stands i j w h ∙ ap (λ k. take k (drop i t)) same
 
+  -- one byte
+  pub slice-one : (i c : ℕ) → slice_get t i ≡ Some c → slice_range t i (i + 1) ≡ c ∷ []
+  slice-one i c h = sym (slice-stands i (i + 1) (c ∷ []) (h, refl))
+
   -- the byte at the front of a word, or the one behind an empty word
-  pub stands-next : (P : ℕ → Type 0) (i j : ℕ) (w : List ℕ) → Stands t i j w → First w P → IfSome (slice_get t j) P → IfSome (slice_get t i) P
+  pub stands-next : (P : ℕ → Type 0) (i j : ℕ) (w : List ℕ) → Stands t i j w → First w P → IfSome (slice_get t j) P
+      → IfSome (slice_get t i) P
   stands-next P i j [] h f p = subst (λ k. IfSome (slice_get t k) P) (sym h) p
   stands-next P i j (c ∷ w) h f p = subst (λ o. IfSome o P) (sym h.0) f
 

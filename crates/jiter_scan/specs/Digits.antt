@@ -1,20 +1,17 @@
 -- Decimal digits.
-use Rattle.std.specs.Prelude.{ℕ, ◌+◌, ◌-◌, ◌*◌, ◌&&◌, Bool, List, [], ◌∷◌, drop, nat_le}
-use Rattle.std.specs.List.{prefix_len}
+use Rattle.std.specs.Prelude.{ℕ, ◌+◌, ◌-◌, ◌*◌, ◌^◌, ◌&&◌, Bool, List, [], ◌∷◌, length, nat_le}
+use Rattle.jiter_scan.specs.Ascii as ascii
+use Rattle.jiter_scan.specs.Scan.{run_end}
 
 -- `0` to `9` (RFC 8259, 6)
 abbrev pub is_digit : ℕ → Bool
-is_digit c = nat_le 48 c && nat_le c 57
+is_digit c = nat_le ascii.digit_zero c && nat_le c ascii.digit_nine
 
--- how many digits stand at i
-unfoldable pub digit_run : List ℕ → ℕ → ℕ
-digit_run t i = prefix_len is_digit (drop i t)
+-- where the digits that stand at i end
+abbrev pub digit_run_end : List ℕ → ℕ → ℕ
+digit_run_end t i = run_end is_digit t i
 
--- the number that the digits write behind those of n
-abbrev pub decimal_after : ℕ → List ℕ → ℕ
-decimal_after n [] = n
-decimal_after n (c ∷ cs) = decimal_after (n * 10 + (c - 48)) cs
-
--- the value of decimal digits
+-- the value of decimal digits: each digit times its power of ten
 abbrev pub decimal_of : List ℕ → ℕ
-decimal_of cs = decimal_after 0 cs
+decimal_of [] = 0
+decimal_of (c ∷ cs) = (c - ascii.digit_zero) * 10 ^ length cs + decimal_of cs

@@ -1,11 +1,12 @@
+pub mod Ascii
 pub mod Kind
 pub mod Position
-pub mod Mode
+pub mod PartialMode
 pub mod Scanned
 pub mod Stands
 pub mod Word
+pub mod Scan
 pub mod Digits
 pub mod Number
 pub mod NumberReading
-pub mod NumberView
-pub mod Scan
+pub mod NumberDecoder

@@ -1,9 +1,10 @@
 -- Reading a number from the left, a byte at a time.
-use Rattle.std.specs.Prelude.{ℕ, ◌+◌, ◌==◌, ◌||◌, Bool, if◌then◌else◌, List, codes, slice_get, slice_range, Option, Some, None, nat_le, length}
-use Rattle.jiter_scan.specs.Kind.{Kind, eof_value, expected_value, invalid_number, number_out_of_range}
+use Rattle.std.specs.Prelude.{ℕ, ◌+◌, ◌==◌, ◌||◌, Bool, false, if◌then◌else◌, List, codes, slice_get, slice_range, Option, Some, None, nat_le, length}
+use Rattle.jiter_scan.specs.Ascii as ascii
+use Rattle.jiter_scan.specs.Kind.{eof_value, expected_value, invalid_number, number_out_of_range}
 use Rattle.jiter_scan.specs.Scanned.{Scanned, taken, failed}
 use Rattle.jiter_scan.specs.Word.{Extent, word_at}
-use Rattle.jiter_scan.specs.Digits.{is_digit, digit_run}
+use Rattle.jiter_scan.specs.Digits.{is_digit, digit_run_end}
 use Rattle.jiter_scan.specs.Number.{Number, number_value, digit_limit}
 
 -- and what follows behind it
@@ -14,45 +15,51 @@ extent_then (failed k j) next = failed k j
 -- one digit or more, at the place i of the byte
 abbrev pub digits_from : List ℕ → ℕ → Option ℕ → Extent
 digits_from t i None = failed eof_value i
-digits_from t i (Some c) = if is_digit c then taken tt (i + digit_run t i) else failed invalid_number i
+digits_from t i (Some c) = if is_digit c then taken tt (digit_run_end t i) else failed invalid_number i
 
 -- behind a leading zero no digit may stand
-abbrev pub zero_ended : ℕ → Option ℕ → Extent
-zero_ended j None = taken tt j
-zero_ended j (Some c) = if is_digit c then failed invalid_number j else taken tt j
+abbrev pub behind_zero : ℕ → Option ℕ → Extent
+behind_zero j None = taken tt j
+behind_zero j (Some c) = if is_digit c then failed invalid_number j else taken tt j
 
--- so many digits from i, unless they are too many
+-- the digits from i to before e, unless they are too many
 abbrev pub within_limit : ℕ → ℕ → Extent
-within_limit i n = if nat_le n digit_limit then taken tt (i + n) else failed number_out_of_range (i + (digit_limit + 1))
+within_limit i e = if nat_le e (i + digit_limit) then taken tt e else failed number_out_of_range (i + (digit_limit + 1))
 
--- the integer part
+-- the integer part, at the place i of this byte
 abbrev pub whole_from : List ℕ → ℕ → Option ℕ → Extent
 whole_from t i None = failed eof_value i
 whole_from t i (Some c) =
-    if c == 48 then zero_ended (i + 1) (slice_get t (i + 1))
-    else (if is_digit c then within_limit i (digit_run t i) else failed invalid_number i)
+    if c == ascii.digit_zero then behind_zero (i + 1) (slice_get t (i + 1))
+    else (if is_digit c then within_limit i (digit_run_end t i) else failed invalid_number i)
 
+-- the integer part at i
 abbrev pub whole_at : List ℕ → ℕ → Extent
 whole_at t i = whole_from t i (slice_get t i)
 
 -- a fraction, or none
 abbrev pub fraction_from : List ℕ → ℕ → Option ℕ → Extent
 fraction_from t i None = taken tt i
-fraction_from t i (Some c) = if c == 46 then digits_from t (i + 1) (slice_get t (i + 1)) else taken tt i
+fraction_from t i (Some c) = if c == ascii.point then digits_from t (i + 1) (slice_get t (i + 1)) else taken tt i
 
 -- the sign of an exponent, or none, and its digits
 abbrev pub power_from : List ℕ → ℕ → Option ℕ → Extent
 power_from t i None = failed eof_value i
-power_from t i (Some c) = if (c == 43) || (c == 45) then digits_from t (i + 1) (slice_get t (i + 1)) else digits_from t i (Some c)
+power_from t i (Some c) =
+    if (c == ascii.plus) || (c == ascii.minus) then digits_from t (i + 1) (slice_get t (i + 1)) else digits_from t i
+    (Some c)
 
 -- an exponent, or none
 abbrev pub exponent_from : List ℕ → ℕ → Option ℕ → Extent
 exponent_from t i None = taken tt i
-exponent_from t i (Some c) = if (c == 101) || (c == 69) then power_from t (i + 1) (slice_get t (i + 1)) else taken tt i
+exponent_from t i (Some c) =
+    if (c == ascii.small_e) || (c == ascii.capital_e) then power_from t (i + 1) (slice_get t (i + 1)) else taken tt i
 
+-- a fraction at i, or none
 abbrev pub fraction_at : List ℕ → ℕ → Extent
 fraction_at t i = fraction_from t i (slice_get t i)
 
+-- an exponent at i, or none
 abbrev pub exponent_at : List ℕ → ℕ → Extent
 exponent_at t i = exponent_from t i (slice_get t i)
 
@@ -61,65 +68,79 @@ abbrev pub decimal_at : List ℕ → ℕ → Extent
 decimal_at t i = extent_then (whole_at t i) (λ j. extent_then (fraction_at t j) (λ k. exponent_at t k))
 
 -- behind a minus
-abbrev pub signed_from : Bool → List ℕ → ℕ → Option ℕ → Extent
-signed_from names t i None = failed eof_value i
-signed_from names t i (Some c) =
-    if c == 73 then (if names then word_at t (codes "Infinity") i else failed invalid_number i)
+abbrev pub behind_minus : Bool → List ℕ → ℕ → Option ℕ → Extent
+behind_minus names t i None = failed eof_value i
+behind_minus names t i (Some c) =
+    if c == ascii.capital_i then (if names then word_at t (codes "Infinity") i else failed invalid_number i)
     else decimal_at t i
 
 -- a name, if names are allowed
 abbrev pub name_at : Bool → List ℕ → List ℕ → ℕ → Extent
 name_at names t w i = if names then word_at t w i else failed expected_value i
 
+-- a number, at the place i of this byte
 abbrev pub extent_from : Bool → List ℕ → ℕ → Option ℕ → Extent
 extent_from names t i None = failed eof_value i
 extent_from names t i (Some c) =
-    if c == 45 then signed_from names t (i + 1) (slice_get t (i + 1))
-    else (if c == 78 then name_at names t (codes "NaN") i
-    else (if c == 73 then name_at names t (codes "Infinity") i
+    if c == ascii.minus then behind_minus names t (i + 1) (slice_get t (i + 1))
+    else (if c == ascii.capital_n then name_at names t (codes "NaN") i
+    else (if c == ascii.capital_i then name_at names t (codes "Infinity") i
     else decimal_at t i))
 
 -- where the number at i ends
 abbrev pub number_extent : Bool → List ℕ → ℕ → Extent
 number_extent names t i = extent_from names t i (slice_get t i)
 
-abbrev pub valued : List ℕ → ℕ → Extent → Scanned Number
-valued t i (taken u e) = taken (number_value (slice_range t i e)) e
-valued t i (failed k j) = failed k j
+-- what stands from i to there, as a number
+abbrev pub with_value : List ℕ → ℕ → Extent → Scanned Number
+with_value t i (taken u e) = taken (number_value (slice_range t i e)) e
+with_value t i (failed k j) = failed k j
 
 -- The number at i: the longest run of its parts.
 unfoldable pub number_at : Bool → List ℕ → ℕ → Scanned Number
-number_at names t i = valued t i (number_extent names t i)
+number_at names t i = with_value t i (number_extent names t i)
+
+-- this much is read, to the last byte
+abbrev pub takes_all : ℕ → Extent → Bool
+takes_all n (taken u e) = n == e
+takes_all n (failed k j) = false
+
+-- Whether these bytes are a number's text: whether they are read as a number to the last byte.
+unfoldable pub is_number_text : Bool → List ℕ → Bool
+is_number_text names w = takes_all (length w) (number_extent names w 0)
 
 -- an integer's value, or that a float shows
 pub data Integer : Type 0 where
   whole : Number → Integer
   float_seen : Integer
 
+-- a point or the letter of an exponent
 abbrev pub is_float_sign : ℕ → Bool
-is_float_sign c = (c == 46) || (c == 101) || (c == 69)
+is_float_sign c = (c == ascii.point) || (c == ascii.small_e) || (c == ascii.capital_e)
 
 -- the integer from i to before e, unless a float shows at e
-abbrev pub integer_ended : List ℕ → ℕ → ℕ → Option ℕ → Scanned Integer
-integer_ended t i e None = taken (whole (number_value (slice_range t i e))) e
-integer_ended t i e (Some c) =
+abbrev pub integer_or_float : List ℕ → ℕ → ℕ → Option ℕ → Scanned Integer
+integer_or_float t i e None = taken (whole (number_value (slice_range t i e))) e
+integer_or_float t i e (Some c) =
     if is_float_sign c then taken float_seen e else taken (whole (number_value (slice_range t i e))) e
 
 -- behind the integer part of a number that begins at i
 abbrev pub integer_behind : List ℕ → ℕ → Extent → Scanned Integer
-integer_behind t i (taken u e) = integer_ended t i e (slice_get t e)
+integer_behind t i (taken u e) = integer_or_float t i e (slice_get t e)
 integer_behind t i (failed k j) = failed k j
 
 -- behind the minus at i
-abbrev pub integer_signed : List ℕ → ℕ → Option ℕ → Scanned Integer
-integer_signed t i None = failed eof_value (i + 1)
-integer_signed t i (Some c) = if c == 73 then taken float_seen (i + 1) else integer_behind t i (whole_at t (i + 1))
+abbrev pub integer_behind_minus : List ℕ → ℕ → Option ℕ → Scanned Integer
+integer_behind_minus t i None = failed eof_value (i + 1)
+integer_behind_minus t i (Some c) =
+    if c == ascii.capital_i then taken float_seen (i + 1) else integer_behind t i (whole_at t (i + 1))
 
+-- an integer, at the place i of this byte
 abbrev pub integer_from : List ℕ → ℕ → Option ℕ → Scanned Integer
 integer_from t i None = failed eof_value i
 integer_from t i (Some c) =
-    if c == 45 then integer_signed t i (slice_get t (i + 1))
-    else (if (c == 78) || (c == 73) then taken float_seen i
+    if c == ascii.minus then integer_behind_minus t i (slice_get t (i + 1))
+    else (if (c == ascii.capital_n) || (c == ascii.capital_i) then taken float_seen i
     else integer_behind t i (whole_at t i))
 
 -- The integer at i and its end, or that a float shows and where: sign and integer part, and what stands behind.
@@ -128,7 +149,7 @@ int_at t i = integer_from t i (slice_get t i)
 
 -- a first byte of a number; a name's too
 abbrev pub begins_number : ℕ → Bool
-begins_number c = is_digit c || (c == 45) || (c == 78) || (c == 73)
+begins_number c = is_digit c || (c == ascii.minus) || (c == ascii.capital_n) || (c == ascii.capital_i)
 
 -- the number alone: what follows it is a fault
 abbrev pub alone : List ℕ → Scanned Number → Scanned Number
@@ -141,6 +162,7 @@ integer_alone (taken (whole n) e) = taken n e
 integer_alone (taken float_seen j) = failed invalid_number j
 integer_alone (failed k j) = failed k j
 
+-- the reading, if this byte begins a number
 abbrev pub if_number : Option ℕ → Scanned Number → Scanned Number
 if_number None x = failed invalid_number 0
 if_number (Some c) x = if begins_number c then x else failed invalid_number 0

@@ -1,15 +1,30 @@
--- Looking for the end of a string's plain bytes (RFC 8259, 7).
-use Rattle.std.specs.Prelude.{ℕ, ◌+◌, ◌==◌, ◌||◌, Bool, not, List, drop, nat_lt, slice_range}
+-- Runs of bytes, and where they end.
+use Rattle.std.specs.Prelude.{◌≡◌, ℕ, ◌+◌, ◌==◌, ◌||◌, Bool, true, not, List, [], ◌∷◌, drop, nat_lt, slice_range}
 use Rattle.std.specs.List.{prefix_len, AllPass}
+use Rattle.jiter_scan.specs.Ascii as ascii
 
--- a quote, a backslash or a control character
+-- where the run of bytes that pass this test ends, if it begins at i
+abbrev pub run_end : (ℕ → Bool) → List ℕ → ℕ → ℕ
+run_end test t i = i + prefix_len test (drop i t)
+
+-- each byte passes this test
+abbrev pub Pass : (ℕ → Bool) → List ℕ → Type 0
+Pass test [] = Unit {0}
+Pass test (c ∷ cs) = (test c ≡ true) × Pass test cs
+
+-- what ends a string's plain bytes (RFC 8259, 7): a quote, a backslash or a control character
 abbrev pub is_stop : ℕ → Bool
-is_stop c = (c == 34) || (c == 92) || nat_lt c 32
+is_stop c = (c == ascii.quote) || (c == ascii.backslash) || nat_lt c ascii.space
+
+-- a byte that a string may hold as it stands
+abbrev pub is_plain : ℕ → Bool
+is_plain c = not (is_stop c)
 
 -- the first stop from i on, or the length
 abbrev pub scan_stop : List ℕ → ℕ → ℕ
-scan_stop t i = i + prefix_len (λ c. not (is_stop c)) (drop i t)
+scan_stop t i = run_end is_plain t i
 
+-- a byte of ASCII
 abbrev pub is_ascii : ℕ → Bool
 is_ascii c = nat_lt c 128
 

@@ -92,6 +92,9 @@ impl JsonErrorType {
 impl fmt::Display for JsonErrorType {
     ghost output = { λ kind. Some (kind_text (kind_of kind)) };
 
+    // a width changes nothing
+    ghost styled_output = { λ kind _. Some (kind_text (kind_of kind)) };
+
     fn fmt<W: fmt::Write>(&self, f: &mut fmt::Formatter<W>) -> fmt::Result {
         f.write_str(self.text())
     }
@@ -226,11 +229,11 @@ impl JsonError {
         ensures { IfOk result (λ text. string_bytes text
             ≡ description_text (kind_of self.now.error_type) self.now.index bytes.now) }
     {
-        Ok(self.described(alloc, bytes)?)
+        Ok(self.describe(alloc, bytes)?)
     }
 
     // The description, or the evidence that memory was refused.
-    fn described(&self, alloc: Global, bytes: &[u8]) -> Result<String, Refused>
+    fn describe(&self, alloc: Global, bytes: &[u8]) -> Result<String, Refused>
         ensures { IfOk result (λ text. string_bytes text
             ≡ description_text (kind_of self.now.error_type) self.now.index bytes.now) }
     {

@@ -1,12 +1,13 @@
 //! Numbers: integers that 64 signed bits hold, and the text of all others (RFC 8259, 6).
 ghost use Rattle.std.specs.Prelude.{◌≡◌, ◌+◌, ◌<◌, ◌≤◌, ◌==◌, ◌||◌, IfOk, IfErr, min, length, slice_get, slice_index, slice_range, Some, true};
 ghost use Rattle.std.specs.Str.{IsAscii};
+ghost use Rattle.jiter_scan.specs.Ascii as ascii;
 ghost use Rattle.jiter_scan.specs.Scanned.{Scans, with_end, whole_text, AnswersAlone, taken};
 ghost use Rattle.jiter_scan.specs.Word.{word_at};
-ghost use Rattle.jiter_scan.specs.Digits.{is_digit, digit_run};
+ghost use Rattle.jiter_scan.specs.Digits.{is_digit, digit_run_end};
 ghost use Rattle.jiter_scan.specs.Number.{digit_limit, is_float_byte, positive_value, negative_value, number_value};
-ghost use Rattle.jiter_scan.specs.NumberReading.{extent_then, digits_from, zero_ended, within_limit, whole_at, fraction_at, exponent_at, power_from, decimal_at, is_float_sign, signed_from, name_at, valued, number_at, int_at, integer_behind, integer_signed, begins_number, number_alone, int_alone};
-ghost use Rattle.jiter_scan.specs.NumberView.{int_view, number_view, integer_view, EndsWithin, magnitude_of, IsMinusTo};
+ghost use Rattle.jiter_scan.specs.NumberReading.{extent_then, digits_from, behind_zero, within_limit, whole_at, fraction_at, exponent_at, power_from, decimal_at, is_float_sign, behind_minus, name_at, with_value, number_at, int_at, integer_behind, integer_behind_minus, begins_number, number_alone, int_alone};
+ghost use Rattle.jiter_scan.specs.NumberDecoder.{int_view, number_view, integer_view, EndsWithin, magnitude_of, IsMinusTo};
 
 use crate::errors::{Fault, FaultKind, JsonError, JsonResult, fault_at};
 use crate::word::{byte_at, word_end};
@@ -133,7 +134,7 @@ fn is_digit(byte: u8) -> bool
 // The place behind the digits that stand at `from`, perhaps none.
 fn digit_run_end(bytes: &[u8], from: usize) -> usize
     requires { from ≤ length bytes.now }
-    ensures value { result ≡ from + digit_run bytes.now from }
+    ensures value { result ≡ digit_run_end bytes.now from }
     ensures place { (from ≤ result) × (result ≤ length bytes.now) }
 {
     let mut end = from;
@@ -145,9 +146,9 @@ fn digit_run_end(bytes: &[u8], from: usize) -> usize
 
 // The digits that stand at `from`, at most one more than the limit: their magnitude, or the greatest `u64`,
 // and the place behind them.
-fn digits_read(bytes: &[u8], from: usize) -> (u64, usize)
+fn read_digits(bytes: &[u8], from: usize) -> (u64, usize)
     requires { from ≤ length bytes.now }
-    ensures end { result.1 ≡ from + min (digit_run bytes.now from) (digit_limit + 1) }
+    ensures end { result.1 ≡ min (digit_run_end bytes.now from) (from + (digit_limit + 1)) }
     ensures place { (from ≤ result.1) × (result.1 ≤ length bytes.now) }
     ensures magnitude { result.0 ≡ magnitude_of (slice_range bytes.now from result.1) }
 {
@@ -180,9 +181,9 @@ fn digits_end(bytes: &[u8], from: usize) -> Result<usize, Fault>
 }
 
 // The zero at `at`, behind which no digit may stand.
-fn zero_read(bytes: &[u8], at: usize) -> Result<(u64, usize), Fault>
-    requires { slice_get bytes.now at ≡ Some 48 }
-    ensures value { Scans (with_end (λ _. tt)) result (zero_ended (at + 1) (slice_get bytes.now (at + 1))) }
+fn read_zero(bytes: &[u8], at: usize) -> Result<(u64, usize), Fault>
+    requires { slice_get bytes.now at ≡ Some ascii.digit_zero }
+    ensures value { Scans (with_end (λ _. tt)) result (behind_zero (at + 1) (slice_get bytes.now (at + 1))) }
     ensures place { IfOk result (λ x. (at < x.1) × (x.1 ≤ length bytes.now)) }
     ensures magnitude { IfOk result
         (λ x. x.0 ≡ magnitude_of (slice_range bytes.now at x.1)) }
@@ -200,15 +201,15 @@ fn zero_read(bytes: &[u8], at: usize) -> Result<(u64, usize), Fault>
 }
 
 // The digits at `at`, unless they are too many.
-fn limited_read(bytes: &[u8], at: usize) -> Result<(u64, usize), Fault>
+fn read_within_limit(bytes: &[u8], at: usize) -> Result<(u64, usize), Fault>
     requires within { at ≤ length bytes.now }
-    requires some { 0 < digit_run bytes.now at }
-    ensures value { Scans (with_end (λ _. tt)) result (within_limit at (digit_run bytes.now at)) }
+    requires some { at < digit_run_end bytes.now at }
+    ensures value { Scans (with_end (λ _. tt)) result (within_limit at (digit_run_end bytes.now at)) }
     ensures place { IfOk result (λ x. (at < x.1) × (x.1 ≤ length bytes.now)) }
     ensures magnitude { IfOk result
         (λ x. x.0 ≡ magnitude_of (slice_range bytes.now at x.1)) }
 {
-    let (magnitude, end) = digits_read(bytes, at);
+    let (magnitude, end) = read_digits(bytes, at);
     if end - at <= DIGIT_LIMIT {
         Ok((magnitude, end))
     } else {
@@ -217,7 +218,7 @@ fn limited_read(bytes: &[u8], at: usize) -> Result<(u64, usize), Fault>
 }
 
 // The integer part: its magnitude, or the greatest `u64`, and the place behind it.
-fn whole_read(bytes: &[u8], at: usize) -> Result<(u64, usize), Fault>
+fn read_whole(bytes: &[u8], at: usize) -> Result<(u64, usize), Fault>
     requires { at ≤ length bytes.now }
     ensures value { Scans (with_end (λ _. tt)) result (whole_at bytes.now at) }
     ensures place { IfOk result (λ x. (at < x.1) × (x.1 ≤ length bytes.now)) }
@@ -228,9 +229,9 @@ fn whole_read(bytes: &[u8], at: usize) -> Result<(u64, usize), Fault>
         None => Err(fault_at(FaultKind::EofWhileParsingValue, at)),
         Some(byte) => {
             if byte == b'0' {
-                zero_read(bytes, at)
+                read_zero(bytes, at)
             } else if is_digit(byte) {
-                limited_read(bytes, at)
+                read_within_limit(bytes, at)
             } else {
                 Err(fault_at(FaultKind::InvalidNumber, at))
             }
@@ -304,7 +305,7 @@ fn ascii_text(bytes: &[u8]) -> &str
 }
 
 // The integer of that magnitude, or its text.
-fn positive<'j>(text: &'j [u8], magnitude: u64) -> NumberInt<'j>
+fn positive_int<'j>(text: &'j [u8], magnitude: u64) -> NumberInt<'j>
     requires { IsAscii text.now }
     ensures { int_view result ≡ positive_value text.now magnitude }
 {
@@ -316,7 +317,7 @@ fn positive<'j>(text: &'j [u8], magnitude: u64) -> NumberInt<'j>
 }
 
 // The negative of that magnitude, or its text.
-fn negative<'j>(text: &'j [u8], magnitude: u64) -> NumberInt<'j>
+fn negative_int<'j>(text: &'j [u8], magnitude: u64) -> NumberInt<'j>
     requires { IsAscii text.now }
     ensures { int_view result ≡ negative_value text.now magnitude }
 {
@@ -345,9 +346,9 @@ fn integer_of<'j>(
 {
     let text = &bytes[from..end];
     if from == at {
-        positive(text, magnitude)
+        positive_int(text, magnitude)
     } else {
-        negative(text, magnitude)
+        negative_int(text, magnitude)
     }
 }
 
@@ -362,17 +363,17 @@ fn tail_end(bytes: &[u8], at: usize) -> Result<usize, Fault>
 }
 
 // The decimal number that begins at `from`, its minus apart at `at`.
-fn decimal_read<'j>(
+fn read_decimal<'j>(
     bytes: &'j [u8],
     from: usize,
     at: usize,
 ) -> Result<(NumberAny<'j>, usize), Fault>
     requires within { at ≤ length bytes.now }
     requires minus { IsMinusTo bytes.now from at }
-    ensures value { Scans (with_end number_view) result (valued bytes.now from (decimal_at bytes.now at)) }
+    ensures value { Scans (with_end number_view) result (with_value bytes.now from (decimal_at bytes.now at)) }
     ensures place { IfOk result (λ x. (at < x.1) × (x.1 ≤ length bytes.now)) }
 {
-    let (magnitude, whole_end) = whole_read(bytes, at)?;
+    let (magnitude, whole_end) = read_whole(bytes, at)?;
     let end = tail_end(bytes, whole_end)?;
     let number = if end == whole_end {
         NumberAny::Int(integer_of(bytes, from, at, end, magnitude))
@@ -383,7 +384,7 @@ fn decimal_read<'j>(
 }
 
 // The name at `at`, as a number that begins at `from`.
-fn name_read<'j>(
+fn read_name<'j>(
     bytes: &'j [u8],
     from: usize,
     at: usize,
@@ -393,7 +394,7 @@ fn name_read<'j>(
     requires first { (at < length bytes.now) × (is_float_byte (slice_index bytes.now at) ≡ true) }
     requires name { (0 < length name.now) × IsAscii name.now }
     ensures value { Scans (with_end number_view) result
-        (valued bytes.now from (word_at bytes.now name.now at)) }
+        (with_value bytes.now from (word_at bytes.now name.now at)) }
     ensures place { IfOk result (λ x. (at < x.1) × (x.1 ≤ length bytes.now)) }
 {
     let end = word_end(bytes, at, name)?;
@@ -402,7 +403,7 @@ fn name_read<'j>(
 }
 
 // The name at `at`, if names are allowed.
-fn allowed_read<'j>(
+fn read_allowed_name<'j>(
     bytes: &'j [u8],
     at: usize,
     name: &[u8],
@@ -411,25 +412,25 @@ fn allowed_read<'j>(
     requires first { (at < length bytes.now) × (is_float_byte (slice_index bytes.now at) ≡ true) }
     requires name { (0 < length name.now) × IsAscii name.now }
     ensures value { Scans (with_end number_view) result
-        (valued bytes.now at (name_at allow_inf_nan bytes.now name.now at)) }
+        (with_value bytes.now at (name_at allow_inf_nan bytes.now name.now at)) }
     ensures place { IfOk result (λ x. (at < x.1) × (x.1 ≤ length bytes.now)) }
 {
     if allow_inf_nan {
-        name_read(bytes, at, at, name)
+        read_name(bytes, at, at, name)
     } else {
         Err(fault_at(FaultKind::ExpectedSomeValue, at))
     }
 }
 
 // The number at `from` that begins with a minus.
-fn negative_read<'j>(
+fn read_negative<'j>(
     bytes: &'j [u8],
     from: usize,
     allow_inf_nan: bool,
 ) -> Result<(NumberAny<'j>, usize), Fault>
-    requires { slice_get bytes.now from ≡ Some 45 }
-    ensures value { Scans (with_end number_view) result (valued bytes.now from
-        (signed_from allow_inf_nan bytes.now (from + 1) (slice_get bytes.now (from + 1)))) }
+    requires { slice_get bytes.now from ≡ Some ascii.minus }
+    ensures value { Scans (with_end number_view) result (with_value bytes.now from
+        (behind_minus allow_inf_nan bytes.now (from + 1) (slice_get bytes.now (from + 1)))) }
     ensures place { IfOk result (λ x. (from < x.1) × (x.1 ≤ length bytes.now)) }
 {
     let at = from + 1;
@@ -437,9 +438,9 @@ fn negative_read<'j>(
         None => Err(fault_at(FaultKind::EofWhileParsingValue, at)),
         Some(byte) => {
             if byte != b'I' {
-                decimal_read(bytes, from, at)
+                read_decimal(bytes, from, at)
             } else if allow_inf_nan {
-                name_read(bytes, from, at, b"Infinity")
+                read_name(bytes, from, at, b"Infinity")
             } else {
                 Err(fault_at(FaultKind::InvalidNumber, at))
             }
@@ -468,13 +469,13 @@ pub fn number_at<'j>(
         None => Err(fault_at(FaultKind::EofWhileParsingValue, at)),
         Some(byte) => {
             if byte == b'-' {
-                negative_read(bytes, at, allow_inf_nan)
+                read_negative(bytes, at, allow_inf_nan)
             } else if byte == b'N' {
-                allowed_read(bytes, at, b"NaN", allow_inf_nan)
+                read_allowed_name(bytes, at, b"NaN", allow_inf_nan)
             } else if byte == b'I' {
-                allowed_read(bytes, at, b"Infinity", allow_inf_nan)
+                read_allowed_name(bytes, at, b"Infinity", allow_inf_nan)
             } else {
-                decimal_read(bytes, at, at)
+                read_decimal(bytes, at, at)
             }
         }
     }
@@ -487,13 +488,13 @@ fn is_float_sign(byte: u8) -> bool
 }
 
 // The integer part at `at` of a number that begins at `from`, and whether a float shows behind it.
-fn integer_read<'j>(bytes: &'j [u8], from: usize, at: usize) -> Result<(Integer<'j>, usize), Fault>
+fn read_integer<'j>(bytes: &'j [u8], from: usize, at: usize) -> Result<(Integer<'j>, usize), Fault>
     requires within { at ≤ length bytes.now }
     requires minus { IsMinusTo bytes.now from at }
     ensures value { Scans (with_end integer_view) result (integer_behind bytes.now from (whole_at bytes.now at)) }
     ensures place { IfOk result (EndsWithin at (length bytes.now)) }
 {
-    let (magnitude, end) = whole_read(bytes, at)?;
+    let (magnitude, end) = read_whole(bytes, at)?;
     if byte_at(bytes, end).is_some_and(is_float_sign) {
         return Ok((Integer::FloatSeen, end));
     }
@@ -502,10 +503,10 @@ fn integer_read<'j>(bytes: &'j [u8], from: usize, at: usize) -> Result<(Integer<
 }
 
 // The integer at `from` that begins with a minus.
-fn negative_int_read<'j>(bytes: &'j [u8], from: usize) -> Result<(Integer<'j>, usize), Fault>
-    requires { slice_get bytes.now from ≡ Some 45 }
+fn read_negative_int<'j>(bytes: &'j [u8], from: usize) -> Result<(Integer<'j>, usize), Fault>
+    requires { slice_get bytes.now from ≡ Some ascii.minus }
     ensures value { Scans (with_end integer_view) result
-        (integer_signed bytes.now from (slice_get bytes.now (from + 1))) }
+        (integer_behind_minus bytes.now from (slice_get bytes.now (from + 1))) }
     ensures place { IfOk result (EndsWithin from (length bytes.now)) }
 {
     let at = from + 1;
@@ -515,7 +516,7 @@ fn negative_int_read<'j>(bytes: &'j [u8], from: usize) -> Result<(Integer<'j>, u
             if byte == b'I' {
                 Ok((Integer::FloatSeen, at))
             } else {
-                integer_read(bytes, from, at)
+                read_integer(bytes, from, at)
             }
         }
     }
@@ -537,18 +538,18 @@ pub fn int_at<'j>(bytes: &'j [u8], at: usize) -> Result<(Integer<'j>, usize), Fa
         None => Err(fault_at(FaultKind::EofWhileParsingValue, at)),
         Some(byte) => {
             if byte == b'-' {
-                negative_int_read(bytes, at)
+                read_negative_int(bytes, at)
             } else if begins_name(byte) {
                 Ok((Integer::FloatSeen, at))
             } else {
-                integer_read(bytes, at, at)
+                read_integer(bytes, at, at)
             }
         }
     }
 }
 
 fn begins_name(byte: u8) -> bool
-    ensures { result ≡ ((byte == 78) || (byte == 73)) }
+    ensures { result ≡ ((byte == ascii.capital_n) || (byte == ascii.capital_i)) }
 {
     matches!(byte, b'N' | b'I')
 }

@@ -1,6 +1,6 @@
 //! Whether a document that was cut is read, and how.
 ghost use Rattle.std.specs.Prelude.{◌≡◌, true};
-ghost use Rattle.jiter_scan.specs.Mode.{is_active, allows_trailing_strings, mode_from};
+ghost use Rattle.jiter_scan.specs.PartialMode.{is_active, allows_trailing_strings, mode_from};
 
 /// Whether a document that ends too early is read as far as it goes.
 #[derive(Debug, Clone, Copy, PartialEq, Eq)]
@@ -24,7 +24,7 @@ impl Default for PartialMode {
 }
 
 impl From<bool> for PartialMode {
-    ghost use Rattle.jiter_scan.specs.Mode.{mode_from};
+    ghost use Rattle.jiter_scan.specs.PartialMode.{mode_from};
 
     ghost from_gives = { λ on m. m ≡ mode_from on };
 

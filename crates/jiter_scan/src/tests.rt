@@ -1,6 +1,9 @@
 //! Rows of positions, texts and modes.
-use crate::errors::{JsonError, JsonErrorType, LinePosition};
+use crate::errors::{Fault, FaultKind, JsonError, JsonErrorType, LinePosition};
+use crate::memory::{copy_text, extend, push, push_number, push_text};
 use crate::partial_mode::PartialMode;
+use crate::word::word_end;
+use std::alloc::{AllocError, Global};
 use std::test::*;
 
 #[test]
@@ -144,4 +147,155 @@ fn a_position_prints_its_line_and_column(rt: HostRuntime) -> Result<(), Fail> {
     let position = LinePosition::new(2, 7);
     assert_eq!(rt; position.to_string(rt.alloc())?.as_str(), "line 2 column 7");
     Ok(())
+}
+
+// So many times this byte.
+fn repeated(alloc: Global, byte: u8, count: usize) -> Result<Vec<u8>, AllocError> {
+    let mut bytes = Vec::new(alloc);
+    for _ in 0..count {
+        bytes.push(byte)?;
+    }
+    Ok(bytes)
+}
+
+#[test]
+fn positions_past_a_million_print_all_digits(rt: HostRuntime) -> Result<(), Fail> {
+    let position = LinePosition::new(1_234_567, 76_543_210);
+    assert_eq!(rt;
+        position.to_string(rt.alloc())?.as_str(),
+        "line 1234567 column 76543210"
+    );
+    Ok(())
+}
+
+#[test]
+fn ten_million_bytes_have_positions(rt: HostRuntime) -> Result<(), Fail> {
+    let blanks = repeated(rt.alloc(), b' ', 10_000_000)?;
+    assert_eq!(rt;
+        LinePosition::find(&blanks, 9_999_999),
+        LinePosition::new(1, 10_000_000)
+    );
+    let lines = repeated(rt.alloc(), b'\n', 10_000_000)?;
+    assert_eq!(rt;
+        LinePosition::find(&lines, 10_000_000),
+        LinePosition::new(10_000_001, 0)
+    );
+    Ok(())
+}
+
+#[test]
+fn a_fault_past_a_million_is_described(rt: HostRuntime) -> Result<(), Fail> {
+    let blanks = repeated(rt.alloc(), b' ', 2_000_000)?;
+    let error = JsonError {
+        error_type: JsonErrorType::ExpectedSomeValue,
+        index: 1_999_998,
+    };
+    assert_eq!(rt;
+        error.description(rt.alloc(), &blanks)?.as_str(),
+        "expected value at line 1 column 1999999"
+    );
+    Ok(())
+}
+
+#[test]
+fn ten_million_bytes_are_a_word(rt: HostRuntime) -> Result<(), Fail> {
+    let word = repeated(rt.alloc(), b'a', 10_000_000)?;
+    assert_eq!(rt; word_end(&word, 0, &word), Ok(10_000_000));
+    let fault = Fault {
+        kind: FaultKind::EofWhileParsingValue,
+        index: 10_000_000,
+    };
+    assert_eq!(rt; word_end(&word, 1, &word), Err(fault));
+    Ok(())
+}
+
+#[test]
+fn unlike_errors_are_unequal(rt: HostRuntime) {
+    let error = JsonError {
+        error_type: JsonErrorType::TrailingComma,
+        index: 3,
+    };
+    for (error_type, index) in [
+        (JsonErrorType::TrailingCharacters, 3),
+        (JsonErrorType::TrailingComma, 4),
+    ] {
+        assert!(rt; error != JsonError { error_type, index });
+    }
+    let fault = Fault {
+        kind: FaultKind::TrailingComma,
+        index: 3,
+    };
+    for (kind, index) in [
+        (FaultKind::TrailingCharacters, 3),
+        (FaultKind::TrailingComma, 4),
+    ] {
+        assert!(rt; fault != Fault { kind, index });
+    }
+    assert!(rt; LinePosition::new(1, 2) != LinePosition::new(1, 3));
+    assert!(rt; LinePosition::new(1, 2) != LinePosition::new(2, 2));
+}
+
+#[test]
+fn errors_made_of_faults_have_their_kind_and_index(rt: HostRuntime) {
+    let error = JsonError::from(Fault {
+        kind: FaultKind::InvalidEscape,
+        index: 9,
+    });
+    assert_eq!(rt; error.error_type, JsonErrorType::InvalidEscape);
+    assert_eq!(rt; error.index, 9);
+}
+
+#[test]
+fn a_clone_of_a_kind_prints_the_same(rt: HostRuntime) -> Result<(), Fail> {
+    for kind in [
+        JsonErrorType::FloatExpectingInt,
+        JsonErrorType::EofWhileParsingList,
+        JsonErrorType::ExpectedColon,
+        JsonErrorType::InvalidNumber,
+        JsonErrorType::TrailingComma,
+        JsonErrorType::OutOfMemory,
+    ] {
+        let copy = kind.clone()?;
+        assert_eq!(rt; copy, kind);
+        assert_eq!(rt;
+            copy.to_string(rt.alloc())?.as_str(),
+            kind.to_string(rt.alloc())?.as_str()
+        );
+    }
+    Ok(())
+}
+
+#[test]
+fn a_width_changes_no_text(rt: HostRuntime) -> Result<(), Fail> {
+    let kind = JsonErrorType::TrailingComma;
+    assert_eq!(rt;
+        format!(in rt.alloc(); "{kind:>40}")?.as_str(),
+        "trailing comma"
+    );
+    let position = LinePosition::new(2, 7);
+    assert_eq!(rt;
+        format!(in rt.alloc(); "{position:>40}")?.as_str(),
+        "line 2 column 7"
+    );
+    Ok(())
+}
+
+#[test]
+fn growths_answer_with_ample_memory(rt: HostRuntime) {
+    let mut items = Vec::new(rt.alloc());
+    let mut bytes = Vec::new(rt.alloc());
+    for number in 0..10_000usize {
+        assert!(rt; push(&mut items, number).is_ok());
+        assert!(rt; extend(&mut bytes, b"0123456789").is_ok());
+    }
+    assert_eq!(rt; items.len(), 10_000);
+    assert_eq!(rt; bytes.len(), 100_000);
+    match copy_text(rt.alloc(), "at ") {
+        Ok(mut text) => {
+            assert!(rt; push_number(&mut text, 1_234_567).is_ok());
+            assert!(rt; push_text(&mut text, "!").is_ok());
+            assert_eq!(rt; text.as_str(), "at 1234567!");
+        }
+        Err(_) => panic!(rt; "there is memory"),
+    }
 }

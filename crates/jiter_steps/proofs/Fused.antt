@@ -174,7 +174,7 @@ module _ {K L A B : Type 0} (p : Rules K A) (q : Rules L B) (g : K → L) (h : A
       value_with-mapped (inside_at p t room) (inside_at q t room) (inside_at-mapped room) i
       (start_of (slice_index t i)) refl
 
-  pub to_end-mapped : (x : Reading A) → mapped h (to_end t x) ≡ to_end t (mapped h x)
+  to_end-mapped : (x : Reading A) → mapped h (to_end t x) ≡ to_end t (mapped h x)
   to_end-mapped (done a e) = at (slice_get t (past_blanks t e)) where
     at : (o : Option ℕ) → mapped h (if_last a e (past_blanks t e) o) ≡ if_last (h a) e (past_blanks t e) o
     at None = refl
@@ -185,7 +185,7 @@ module _ {K L A B : Type 0} (p : Rules K A) (q : Rules L B) (g : K → L) (h : A
   if_begun-mapped i None = refl
   if_begun-mapped i (Some c) = value_at-mapped nesting_limit i
 
-  pub front_answer-mapped : mapped h (front_answer p t) ≡ front_answer q t
+  front_answer-mapped : mapped h (front_answer p t) ≡ front_answer q t
   unfolding front_answer
   front_answer-mapped = if_begun-mapped (past_blanks t 0) (slice_get t (past_blanks t 0))
 

@@ -1,11 +1,11 @@
 -- A later cut of a document goes on where an earlier one stopped.
-use Rattle.std.proofs.Common.{◌≡◌, ◌⊎◌, inl, inr, ℕ, ◌+◌, ◌<◌, ◌≤◌, Bool, true, Option, Some, None, List, [], ◌∷◌, ◌++◌, refl, sym, ap, ap₂, ◌∙◌, subst, arith, nat_le, min, if◌then◌else◌, slice_range, append-nil, true≢false}
+use Rattle.std.proofs.Common.{◌≡◌, ◌⊎◌, inl, inr, ℕ, ◌+◌, ◌<◌, ◌≤◌, Bool, true, Option, Some, None, List, [], ◌∷◌, ◌++◌, refl, sym, ap, ap₂, ◌∙◌, subst, arith, nat_le, min, if◌then◌else◌, slice_range, append-nil}
 use Rattle.std.specs.Str.{encode_utf8_all}
 use Rattle.std.proofs.lemmas.Bool.{cases_lt, le-leb, lt-leb, leb-true, leb-false}
 use Rattle.std.proofs.lemmas.List.{map-append}
 use Rattle.std.proofs.lemmas.Str.{encodes-append}
-use Rattle.jiter_scan.specs.Number.{number_value, is_number_text}
-use Rattle.jiter_scan.specs.Mode.{allows_trailing_strings}
+use Rattle.jiter_scan.specs.NumberReading.{is_number_text}
+use Rattle.jiter_scan.specs.PartialMode.{allows_trailing_strings}
 use Rattle.jiter_scan.specs.declared.partial_mode.PartialMode.{PartialMode}
 use Rattle.jiter_scan.proofs.Choices.{if_case, if-true, if-false}
 use Rattle.jiter_scan.proofs.NumberTests.{number_text-decides}
@@ -20,7 +20,8 @@ use Rattle.jiter_steps.specs.Extends.{Extends, ExtendsItems, ExtendsMembers, Cut
 use Rattle.jiter_steps.proofs.NodeParts.{Part, item, member, value, items, members, parts, Each, by_parts, InOrder, items-order, members-order, node-ahead, order-ahead}
 
 -- A tree goes on from itself.
-items-more : (v : Tree) (vs ws : Items) → Extends v v → ExtendsItems vs ws → ExtendsItems (tree.item v vs) (tree.item v ws)
+items-more : (v : Tree) (vs ws : Items) → Extends v v → ExtendsItems vs ws
+    → ExtendsItems (tree.item v vs) (tree.item v ws)
 items-more v tree.no_items ws h more = h
 items-more v (tree.item x vs) ws h more = (refl, more)
 
@@ -66,7 +67,8 @@ pieces-all k (p ∷ ps) =
 
 text-front : (ps qs : List Piece) (rest : List Piece) → qs ≡ ps ++ rest → text_of qs ≡ text_of ps ++ text_of rest
 text-front ps qs rest e =
-    ap text_of e ∙ ap encode_utf8_all (map-append (λ (p : Piece). p.character) ps rest) ∙ encodes-append (characters ps) (characters rest)
+    ap text_of e ∙ ap encode_utf8_all (map-append (λ (p : Piece). p.character) ps rest)
+    ∙ encodes-append (characters ps) (characters rest)
 
 -- what there is goes on
 abbrev Grows : Option Tree → Option Tree → Type 0
@@ -159,7 +161,8 @@ module _ (names : Bool) (t : List ℕ) (mode : PartialMode) where
     parts-late k i [] e h le = refl
     parts-late k i (p ∷ ps) e h le =
         let order = node-ahead names t (value p) h.1 in
-        ap₂ (s.put p) (node-late k (value p) h.1 (omega (arith, h.0))) (parts-late k (end (value p)) ps e h.2 (omega (arith, h.0)))
+        ap₂ (s.put p) (node-late k (value p) h.1 (omega (arith, h.0)))
+        (parts-late k (end (value p)) ps e h.2 (omega (arith, h.0)))
         ∙ s.skips p s.none
 
   -- What ends by k is whole.
@@ -167,7 +170,8 @@ module _ (names : Bool) (t : List ℕ) (mode : PartialMode) where
   IsWhole k n = Spells names t n → end n ≤ k → cut names t n k mode ≡ Some (value_of t n)
 
   module _ {S : Type 0} (s : Sequence S) (k : ℕ) where
-    parts-whole : (i : ℕ) (ps : List Part) (e : ℕ) → InOrder names t i ps e → e ≤ k → Each (IsWhole k) ps → left s k ps ≡ whole s ps
+    parts-whole : (i : ℕ) (ps : List Part) (e : ℕ) → InOrder names t i ps e → e ≤ k → Each (IsWhole k) ps
+        → left s k ps ≡ whole s ps
     parts-whole i [] e h le each = refl
     parts-whole i (p ∷ ps) e h le each =
         let rest = order-ahead names t ps (end (value p)) e h.2 in
@@ -188,12 +192,14 @@ module _ (names : Bool) (t : List ℕ) (mode : PartialMode) where
       let order = items-order names t ns (b + 1) e h.1 in
       let after = order-ahead names t (items ns) (b + 1) e order in
       reached b k _ (omega arith)
-      ∙ ap (λ x. Some (tree.array x)) (items-left k ns ∙ parts-whole in_array k (b + 1) (items ns) e order le each ∙ sym (items-whole ns))
+      ∙ ap (λ x. Some (tree.array x))
+      (items-left k ns ∙ parts-whole in_array k (b + 1) (items ns) e order le each ∙ sym (items-whole ns))
   is_whole k (grammar.object b e ms) each h le =
       let order = members-order names t ms (b + 1) e h.1 in
       let after = order-ahead names t (members ms) (b + 1) e order in
       reached b k _ (omega arith)
-      ∙ ap (λ x. Some (tree.object x)) (members-left k ms ∙ parts-whole in_object k (b + 1) (members ms) e order le each ∙ sym (members-whole ms))
+      ∙ ap (λ x. Some (tree.object x))
+      (members-left k ms ∙ parts-whole in_object k (b + 1) (members ms) e order le each ∙ sym (members-whole ms))
 
   pub node-whole : (k : ℕ) (n : Node) → Spells names t n → end n ≤ k → cut names t n k mode ≡ Some (value_of t n)
   node-whole k = by_parts (IsWhole k) (is_whole k)
@@ -243,19 +249,24 @@ module _ (names : Bool) (t : List ℕ) (mode : PartialMode) where
         by (inr all) =
             subst (λ x. s.Goes (s.put p x (left s k ps)) (left s l (p ∷ ps))) (sym (node-whole k (value p) h all))
             (subst (λ y. s.Goes (s.put p (Some (value_of t (value p))) (left s k ps)) (s.put p y (left s l ps)))
-            (sym (node-whole l (value p) h (omega arith))) (s.more p (value_of t (value p)) (left s k ps) (left s l ps) behind))
+            (sym (node-whole l (value p) h (omega arith)))
+            (s.more p (value_of t (value p)) (left s k ps) (left s l ps) behind))
 
       parts-grow : (i : ℕ) (ps : List Part) → InOrder names t i ps e → CutsNone ps → Each GrowsAt ps → PartsGrow ps
       parts-grow i [] h c each = s.from_none s.none
-      parts-grow i (p ∷ ps) h c each = part-grows p ps h.1 h.2 (each.0 h.1 c.0) (parts-grow (end (value p)) ps h.2 c.1 each.1)
+      parts-grow i (p ∷ ps) h c each =
+          part-grows p ps h.1 h.2 (each.0 h.1 c.0) (parts-grow (end (value p)) ps h.2 c.1 each.1)
 
     -- what is kept of a string that k cuts
     kept-grows : (ps : List Piece) (b e : ℕ) → b < k
-        → Grows (if allows_trailing_strings mode then Some (cut_string t ps b k) else None) (cut names t (grammar.string ps b e) l mode)
+        → Grows (if allows_trailing_strings mode then Some (cut_string t ps b k) else None)
+        (cut names t (grammar.string ps b e) l mode)
     kept-grows ps b e begun =
-        if_case (λ x. Grows x (cut names t (grammar.string ps b e) l mode)) (allows_trailing_strings mode) (Some (cut_string t ps b k)) None
+        if_case (λ x. Grows x (cut names t (grammar.string ps b e) l mode)) (allows_trailing_strings mode)
+        (Some (cut_string t ps b k)) None
         (λ kept. subst Kept (sym (reached b l _ (omega arith)))
-        (if_case Kept (nat_le e l) (Some (tree.string (text_at t ps b e))) (if allows_trailing_strings mode then Some (cut_string t ps b l) else None)
+        (if_case Kept (nat_le e l) (Some (tree.string (text_at t ps b e)))
+        (if allows_trailing_strings mode then Some (cut_string t ps b l) else None)
         (λ y. let f = pieces-all k ps in (text_of f.0, text-front (pieces_to k ps) ps f.0 f.1))
         (λ y. subst Kept (sym (if-true (allows_trailing_strings mode) (Some (cut_string t ps b l)) None kept))
         (let f = pieces-front k l later ps in (text_of f.0, text-front (pieces_to k ps) (pieces_to l ps) f.0 f.1)))))
@@ -264,25 +275,32 @@ module _ (names : Bool) (t : List ℕ) (mode : PartialMode) where
           Kept y = Grows (Some (cut_string t ps b k)) y
 
     -- a container that is begun at k
-    begun-grows : (b : ℕ) (v w : Tree) → Extends v w → Grows (if nat_le k b then None else Some v) (if nat_le l b then None else Some w)
+    begun-grows : (b : ℕ) (v w : Tree) → Extends v w
+        → Grows (if nat_le k b then None else Some v) (if nat_le l b then None else Some w)
     begun-grows b v w h =
         if_case (λ x. Grows x (if nat_le l b then None else Some w)) (nat_le k b) None (Some v) (λ z. tt)
         (λ z. let begun = leb-false k b z in subst (Grows (Some v)) (sym (reached b l (Some w) (omega arith))) h)
 
     grows : (n : Node) → Each GrowsAt (parts n) → GrowsAt n
     grows (grammar.literal x b e) each h c = by (cases_lt k e) where
-      by : (k < e) ⊎ (e ≤ k) → Grows (cut names t (grammar.literal x b e) k mode) (cut names t (grammar.literal x b e) l mode)
-      by (inl cuts) = none-grows (grammar.literal x b e) (if-false (nat_le e k) (Some (literal_tree x)) None (lt-leb e k cuts))
+      by : (k < e) ⊎ (e ≤ k)
+          → Grows (cut names t (grammar.literal x b e) k mode) (cut names t (grammar.literal x b e) l mode)
+      by (inl cuts) =
+          none-grows (grammar.literal x b e) (if-false (nat_le e k) (Some (literal_tree x)) None (lt-leb e k cuts))
       by (inr all) = whole-grows (grammar.literal x b e) h all
-    grows (grammar.number b e) each h (inl unread) = none-grows (grammar.number b e) (node-late k (grammar.number b e) h unread)
+    grows (grammar.number b e) each h (inl unread) =
+        none-grows (grammar.number b e) (node-late k (grammar.number b e) h unread)
     grows (grammar.number b e) each h (inr all) = whole-grows (grammar.number b e) h all
     grows (grammar.string ps b e) each h c = by (cases_lt b k) (cases_lt k e) where
-      by : (b < k) ⊎ (k ≤ b) → (k < e) ⊎ (e ≤ k) → Grows (cut names t (grammar.string ps b e) k mode) (cut names t (grammar.string ps b e) l mode)
+      by : (b < k) ⊎ (k ≤ b) → (k < e) ⊎ (e ≤ k)
+          → Grows (cut names t (grammar.string ps b e) k mode) (cut names t (grammar.string ps b e) l mode)
       by (inr unread) y = none-grows (grammar.string ps b e) (late b k _ unread)
       by (inl begun) (inr all) = whole-grows (grammar.string ps b e) h all
       by (inl begun) (inl cuts) =
           subst (λ x. Grows x (cut names t (grammar.string ps b e) l mode))
-          (sym (reached b k _ begun ∙ if-false (nat_le e k) (Some (tree.string (text_at t ps b e))) _ (lt-leb e k cuts))) (kept-grows ps b e begun)
+          (sym (reached b k _ begun
+          ∙ if-false (nat_le e k) (Some (tree.string (text_at t ps b e))) _ (lt-leb e k cuts)))
+          (kept-grows ps b e begun)
     grows (grammar.array b e ns) each h c =
         begun-grows b (tree.array (cut_items names t ns k mode)) (tree.array (cut_items names t ns l mode))
         (subst (λ x. ExtendsItems x (cut_items names t ns l mode)) (sym (items-left k ns))
@@ -292,13 +310,16 @@ module _ (names : Bool) (t : List ℕ) (mode : PartialMode) where
         begun-grows b (tree.object (cut_members names t ms k mode)) (tree.object (cut_members names t ms l mode))
         (subst (λ x. ExtendsMembers x (cut_members names t ms l mode)) (sym (members-left k ms))
         (subst (ExtendsMembers (left in_object k (members ms))) (sym (members-left l ms))
-        (parts-grow in_object e (b + 1) (members ms) (members-order names t ms (b + 1) e h.1) (cuts-members ms c) each)))
+        (parts-grow in_object e (b + 1) (members ms) (members-order names t ms (b + 1) e h.1)
+        (cuts-members ms c) each)))
 
     node-grows : (n : Node) → GrowsAt n
     node-grows = by_parts GrowsAt grows
 
 -- Where no number is cut at k, what a later cut leaves goes on where the cut at k stopped.
-pub cut-grows : (names : Bool) (t : List ℕ) (mode : PartialMode) (n : Node) (k l : ℕ) (v w : Tree) → Spells names t n → CutsNoNumber k n → k ≤ l
+pub cut-grows : (names : Bool) (t : List ℕ) (mode : PartialMode) (n : Node) (k l : ℕ) (v w : Tree) → Spells names t n
+    → CutsNoNumber k n → k ≤ l
     → cut names t n k mode ≡ Some v → cut names t n l mode ≡ Some w → Extends v w
 cut-grows names t mode n k l v w h c later at_k at_l =
-    subst (Grows (Some v)) at_l (subst (λ x. Grows x (cut names t n l mode)) at_k (node-grows names t mode k l later n h c))
+    subst (Grows (Some v)) at_l
+    (subst (λ x. Grows x (cut names t n l mode)) at_k (node-grows names t mode k l later n h c))

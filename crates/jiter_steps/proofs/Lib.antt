@@ -1,3 +1,4 @@
+mod Rows
 pub mod Answered
 pub mod Blanks
 pub mod Bodies
@@ -16,17 +17,19 @@ pub mod Instances
 pub mod NodeParts
 pub mod NodeRules
 pub mod Nodes
+pub mod NodesFront
 pub mod NumberCut
 pub mod Parts
 pub mod Pieces
-pub mod Resumed
-pub mod PlacesExplained
+pub mod Places
 pub mod PlainRuns
 pub mod Prefixes
+pub mod ReadFront
+pub mod Resumed
 pub mod RowSteps
 pub mod ScalarLaws
 pub mod Sound
-pub mod SpellsFront
+pub mod SpelledParts
 pub mod StringAnswers
 pub mod StringComplete
 pub mod StringCut

@@ -1,5 +1,5 @@
 -- The parts of a container, one behind another: those that a text has, and those that are read. They are the same.
-use Rattle.std.proofs.Common.{◌≡◌, ℕ, zero, suc, ◌+◌, ◌<◌, ◌≤◌, Bool, true, false, cond, List, [], ◌∷◌, ◌++◌, length, refl, sym, ap, ◌∙◌, subst, arith, append-nil, append_assoc}
+use Rattle.std.proofs.Common.{◌≡◌, ℕ, zero, suc, ◌+◌, ◌<◌, false, cond, List, [], ◌∷◌, ◌++◌, length, refl, sym, ap, ◌∙◌, subst, arith, append-nil, append_assoc}
 use Rattle.jiter_scan.specs.Kind.{Kind}
 use Rattle.jiter_steps.specs.Blank.{IsBlank}
 use Rattle.jiter_steps.specs.Node.{StandsBehind}
@@ -121,10 +121,10 @@ module _ {K P A : Type 0} (r : Rules K A) (t : List ℕ) (c : Container P A) (cl
 
   module _ (delimits : Delimits t c.first c.next closer Begins) (goes : Goes c t) where
     -- behind these parts
-    abbrev pub BehindParts : List P → Step → Reading A
+    abbrev BehindParts : List P → Step → Reading A
     BehindParts ps s = follow r (parts_at r c t (length t) ps) (λ e. c.build e ps) s
 
-    pub one-part : (ps : List P) (p : P) (i m : ℕ) → Begins i → Reads c i p m
+    one-part : (ps : List P) (p : P) (i m : ℕ) → Begins i → Reads c i p m
         → parts_at r c t (length t) ps i ≡ BehindParts (ps ++ p ∷ []) (step t c.next m)
     one-part ps p i m at is = parts-part r t c goes i m ps p _ (delimits.within i at) is refl
 

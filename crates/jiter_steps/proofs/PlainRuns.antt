@@ -8,12 +8,10 @@ use Rattle.std.proofs.lemmas.List.{get_or-drop, length-drop}
 use Rattle.std.proofs.lemmas.List.Edits.{between_none}
 use Rattle.std.proofs.lemmas.List.Sums.{prefix_len-le-length, prefix_len-drop_all, prefix_len-drop_no, prefix_len_passes, prefix_len_stops}
 use Rattle.std.proofs.lemmas.Option.{slice_get_within, get_or_from_slice_get}
-use Rattle.jiter_scan.specs.Scan.{is_stop, scan_stop}
-use Rattle.jiter_steps.specs.StringReading.{part, over, found_at, Stop, Body, before, body_at}
+use Rattle.jiter_scan.specs.Scan.{is_stop, is_plain, scan_stop}
+use Rattle.jiter_scan.proofs.Runs.{run_end-passing, run_end-stopping, run_end-past, run_end-ahead, run_end-within, run_end-passes, run_end-stops}
+use Rattle.jiter_steps.specs.StringReading.{part, over, place_at, Stop, Body, before, body_at}
 use Rattle.jiter_steps.proofs.DecodeSteps.{plain_more, part_more, part_over}
-
-abbrev is_plain : ℕ → Bool
-is_plain c = not (is_stop c)
 
 plain-no_quote : (b : ℕ) → is_plain b ≡ true → b ≢ 34
 plain-no_quote b e = grind (arith, nat_tests, e)
@@ -33,40 +31,31 @@ stop-again b e = by (is_stop b) e where
 module _ (t : List ℕ) where
   -- at the end there is no stop
   pub scan_stop_past : (i : ℕ) → length t ≤ i → scan_stop t i ≡ i
-  scan_stop_past i h = omega (arith, prefix_len-drop_all is_plain t i h)
+  scan_stop_past = run_end-past is_plain t
 
   pub scan_stop_here : (i : ℕ) → i < length t → is_stop (slice_index t i) ≡ true → scan_stop t i ≡ i
-  scan_stop_here i h e = omega (arith, prefix_len-drop_no is_plain t i 0 h (ap not e))
+  scan_stop_here i h e = run_end-stopping is_plain t i h (ap not e)
 
   pub scan_stop_more : (i : ℕ) → i < length t → is_stop (slice_index t i) ≡ false → scan_stop t i ≡ scan_stop t (i + 1)
-  scan_stop_more i h e =
-      let next : i + 1 ≡ suc i = omega arith in
-      let one : prefix_len is_plain (drop i t) ≡ 1 + prefix_len is_plain (drop (i + 1) t) =
-      ap (prefix_len is_plain) (drop-cons t i 0 h) ∙ ap (λ (b : Bool). cond (not b) (1 + prefix_len is_plain (drop (suc i) t)) 0) e ∙ ap (λ n. 1 + prefix_len is_plain (drop n t)) (sym next) in
-      omega (arith, one)
+  scan_stop_more i h e = run_end-passing is_plain t i h (ap not e)
 
   pub scan_stop_within : (i : ℕ) → i ≤ length t → (i ≤ scan_stop t i) × (scan_stop t i ≤ length t)
-  scan_stop_within i h = (omega arith, omega (arith, prefix_len-le-length is_plain (drop i t), length-drop i t))
+  scan_stop_within i h = (run_end-ahead is_plain t i, run_end-within is_plain t i h)
 
   -- the byte there, if there is one, is a stop
   pub scan_stop_stops : (i b : ℕ) → slice_get t (scan_stop t i) ≡ Some b → is_stop b ≡ true
-  scan_stop_stops i b e =
-      let inside = slice_get_within t (scan_stop t i) b e in
-      let n = prefix_len is_plain (drop i t) in
-      let byte : get_or (drop i t) n 0 ≡ b = get_or-drop i t n 0 ∙ get_or_from_slice_get t (scan_stop t i) b 0 e in
-      stop-again b (subst (λ x. is_plain x ≡ false) byte (prefix_len_stops is_plain (drop i t) 0 (omega (arith, inside, length-drop i t))))
+  scan_stop_stops i b e = stop-again b (run_end-stops is_plain t i b e)
 
   -- so many plain bytes
-  run : (i k : ℕ) → i ≤ length t → k ≤ prefix_len is_plain (drop i t) → body_at t i ≡ before (slice_range t i (i + k)) false (body_at t (i + k))
+  run : (i k : ℕ) → i ≤ length t → i + k ≤ scan_stop t i → body_at t i ≡ before (slice_range t i (i + k)) false (body_at t (i + k))
   run i zero w h =
       let none : slice_range t i i ≡ [] = between_none t i in
       let at : i ≡ i + 0 = omega arith in
       ap (λ l. before l false (body_at t i)) (sym none) ∙ ap (λ j. before (slice_range t i j) false (body_at t j)) at
   run i (suc k) w h =
-      let most = prefix_len-le-length is_plain (drop i t) in
-      let plain : is_plain (get_or t (i + k) 0) ≡ true = subst (λ x. is_plain x ≡ true) (get_or-drop i t k 0) (prefix_len_passes is_plain (drop i t) k 0 (omega arith)) in
+      let plain = run_end-passes is_plain t i (i + k) (omega arith) (omega arith) in
       let at : i + k + 1 ≡ i + suc k = omega arith in
-      plain_more t i (i + k) (run i k w (omega arith)) (omega arith) (omega (arith, most, length-drop i t)) (plain-no_quote _ plain) (plain-no_backslash _ plain) (plain-printed _ plain)
+      plain_more t i (i + k) (run i k w (omega arith)) (omega arith) (omega (arith, run_end-within is_plain t i w)) (plain-no_quote _ plain) (plain-no_backslash _ plain) (plain-printed _ plain)
       ∙ ap (λ j. before (slice_range t i j) false (body_at t j)) at
 
   pub plain_run : (i : ℕ) → i ≤ length t → body_at t i ≡ before (slice_range t i (scan_stop t i)) false (body_at t (scan_stop t i))
@@ -86,7 +75,7 @@ module _ (t : List ℕ) where
 
   -- and the character of an escape
   pub decode_more : (old tape next after bs : List ℕ) (from at to end : ℕ) → old ++ (body_at t from).bytes ≡ tape ++ (body_at t at).bytes → (body_at t from).stop ≡ (body_at t at).stop → at ≤ length t → to ≡ scan_stop t at
-      → next ≡ tape ++ slice_range t at to → part bs true end ≡ found_at t to → after ≡ next ++ bs
+      → next ≡ tape ++ slice_range t at to → part bs true end ≡ place_at t to → after ≡ next ++ bs
       → (old ++ (body_at t from).bytes ≡ after ++ (body_at t end).bytes) × ((body_at t from).stop ≡ (body_at t end).stop) × (at < end) × (end ≤ length t)
   decode_more old tape next after bs from at to end h s w e n f a =
       let r = run_more old tape next from at to h s w e n in
@@ -96,7 +85,7 @@ module _ (t : List ℕ) where
 
   -- or the string is over
   pub decode_over : (old tape next : List ℕ) (from at to : ℕ) (x : Stop) → old ++ (body_at t from).bytes ≡ tape ++ (body_at t at).bytes → (body_at t from).stop ≡ (body_at t at).stop → at ≤ length t → to ≡ scan_stop t at
-      → next ≡ tape ++ slice_range t at to → over x ≡ found_at t to → (next ≡ old ++ (body_at t from).bytes) × (x ≡ (body_at t from).stop)
+      → next ≡ tape ++ slice_range t at to → over x ≡ place_at t to → (next ≡ old ++ (body_at t from).bytes) × (x ≡ (body_at t from).stop)
   decode_over old tape next from at to x h s w e n f =
       let r = run_more old tape next from at to h s w e n in
       let m = part_over t old next from to x r.0 r.1 (sym f) in

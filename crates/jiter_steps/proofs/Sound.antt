@@ -1,5 +1,5 @@
 -- What is read is spelled so.
-use Rattle.std.proofs.Common.{◌≡◌, ℕ, zero, suc, ◌+◌, ◌<◌, ◌≤◌, Bool, List, [], ◌∷◌, length, refl, sym, ap, ◌∙◌, subst, arith}
+use Rattle.std.proofs.Common.{◌≡◌, ℕ, zero, suc, ◌+◌, ◌<◌, ◌≤◌, Bool, List, length, refl, sym, ap, ◌∙◌, subst, arith}
 use Rattle.std.specs.Prelude.{slice_get, slice_index, Some}
 use Rattle.std.specs.Str.{chars}
 use Rattle.std.proofs.lemmas.Option.{slice_get-get_or, slice_get_within}
@@ -16,7 +16,7 @@ use Rattle.jiter_steps.specs.Node as grammar
 use Rattle.jiter_steps.specs.Node.{Key, Node, Nodes, no_nodes, node, NodeMembers, no_members, member, begin, end, StandsBehind, SpellsNumber, SpellsKey, Spells, SpellsItems, SpellsMoreItems, SpellsMembers, SpellsMoreMembers, nesting, nesting_round, nesting_round_members}
 use Rattle.jiter_steps.specs.Piece.{SpellsString}
 use Rattle.jiter_steps.specs.Read.{Reading, done, fault, Container, scalar_at, with_key, behind_colon, behind_key, container_at, array_of, object_of, value_with, inside_at, value_at}
-use Rattle.jiter_steps.specs.Step.{step, object_colon}
+use Rattle.jiter_steps.specs.Step.{object_colon}
 use Rattle.jiter_steps.specs.StringReading.{whole, string_at}
 use Rattle.jiter_steps.specs.Tree.{Text}
 use Rattle.jiter_steps.specs.declared.parse.Literal.{Literal}
@@ -81,14 +81,15 @@ module _ (names : Bool) (t : List ℕ) where
   laws : ScalarLaws names t
   laws = scalar-laws names t
 
-  closer-within : (i c e : ℕ) → StandsBehind t i c e → e ≤ length t
-  closer-within i c e h = let inside = slice_get_within t h.at c h.here in omega (arith, h.ends)
+  sound-at : (room : ℕ) (n : Node) → Spells names t n → end n ≤ length t → nesting n ≤ room
+      → Sound names t room (begin n) (done n (end n))
+  sound-at room n h le d = (record { spelled = h; begins = refl; ends = refl; within = le }, d)
 
   -- scalars
   literal-sound : (room i : ℕ) (l : Literal) (x : Extent) → literal_at t l i ≡ x → ScalarWithin t i x
       → Sound names t room i (scalar_at i (seen_as (λ u e. grammar.literal l i e) x))
   literal-sound room i l (taken u e) is w =
-      (record { spelled = laws.literal-sound l i e is; begins = refl; ends = refl; within = w.1 }, omega arith)
+      sound-at room (grammar.literal l i e) (laws.literal-sound l i e is) w.1 (omega arith)
   literal-sound room i l (failed k j) is w = tt
 
   number-sound : (room i : ℕ) (x : Scanned Number) → number_at names t i ≡ x → ScalarWithin t i x
@@ -96,14 +97,14 @@ module _ (names : Bool) (t : List ℕ) where
   number-sound room i (taken n e) is w =
       let spelled : SpellsNumber names t i e =
       record { ordered = omega (arith, w.0); within = w.1; text = (laws.number-sound i e n is).0 } in
-      (record { spelled = spelled; begins = refl; ends = refl; within = w.1 }, omega arith)
+      sound-at room (grammar.number i e) spelled w.1 (omega arith)
   number-sound room i (failed k j) is w = tt
 
   text-sound : (room i : ℕ) (x : Scanned Text) → slice_get t i ≡ Some 34 → string_at whole t i ≡ x → ScalarWithin t i x
       → Sound names t room i
       (scalar_at i (seen_as (λ s e. grammar.string (pieces_from t (i + 1) (chars s.bytes)) i e) x))
   text-sound room i (taken s e) here is w =
-      (record { spelled = (laws.string-sound i e s here is).0; begins = refl; ends = refl; within = w.1 }, omega arith)
+      sound-at room (grammar.string _ i e) (laws.string-sound i e s here is).0 w.1 (omega arith)
   text-sound room i (failed k j) here is w = tt
 
   module _ (room : ℕ) where
@@ -232,17 +233,15 @@ module _ (names : Bool) (t : List ℕ) where
     value_with-sound : InnerSound → (i : ℕ) → i < length t → (s : Start) → start_of (slice_index t i) ≡ s
         → Sound names t room i (value_with (nodes names) inner t i s)
     value_with-sound all i h start.Array e =
+        let here = byte-here i 91 h (array-byte _ e) in
         container-sound (array i) 93 (ItemAt t) ItemsAre MoreItemsAre (array-delimits t) (array-goes i)
         (items-grammar all i) i h
-        (λ ns f x le.
-        let here = byte-here i 91 h (array-byte _ e) in
-        (record { spelled = (here, x.0); begins = refl; ends = refl; within = le }, x.1))
+        (λ ns f x le. sound-at room (grammar.array i f (nodes_of ns)) (here, x.0) le x.1)
     value_with-sound all i h start.Object e =
+        let here = byte-here i 123 h (object-byte _ e) in
         container-sound (object i) 125 (KeyBegins t) MembersAre MoreMembersAre (object-delimits t) (object-goes i)
         (members-grammar all i) i h
-        (λ ms f x le.
-        let here = byte-here i 123 h (object-byte _ e) in
-        (record { spelled = (here, x.0); begins = refl; ends = refl; within = le }, x.1))
+        (λ ms f x le. sound-at room (grammar.object i f (node_members_of ms)) (here, x.0) le x.1)
     value_with-sound all i h start.String e =
         text-sound room i (string_at whole t i) (byte-here i 34 h (string-first _ e)) refl (laws.string-within i h)
     value_with-sound all i h start.Number e = number-sound room i (number_at names t i) refl (laws.number-within i h)

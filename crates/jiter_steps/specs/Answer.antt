@@ -3,7 +3,7 @@ use Rattle.std.specs.Prelude.{ℕ, ◌+◌, Bool, false, if◌then◌else◌, Li
 use Rattle.jiter_scan.specs.Kind.{Kind, is_forgiven}
 use Rattle.jiter_scan.specs.Scanned.{Scanned, taken, failed}
 use Rattle.jiter_scan.specs.NumberReading.{number_at}
-use Rattle.jiter_scan.specs.Mode.{allows_trailing_strings, is_active}
+use Rattle.jiter_scan.specs.PartialMode.{allows_trailing_strings, is_active}
 use Rattle.jiter_scan.specs.declared.partial_mode.PartialMode.{PartialMode}
 use Rattle.jiter_steps.specs.Literal.{literal_at, literal_tree}
 use Rattle.jiter_steps.specs.StringReading.{Form, whole, kept, raw, string_at}

@@ -2,7 +2,7 @@
 //! the parts of arrays and objects.
 ghost use Rattle.std.specs.Prelude.{◌≡◌, ◌+◌, ◌≤◌, ◌<◌, IfOk, OnOk, OnErr, IfSome, true, length, slice_get};
 ghost use Rattle.jiter_scan.specs.NumberReading.{number_at};
-ghost use Rattle.jiter_scan.specs.NumberView.{number_view};
+ghost use Rattle.jiter_scan.specs.NumberDecoder.{number_view};
 ghost use Rattle.jiter_scan.specs.Scanned.{Scans, taken};
 ghost use Rattle.jiter_steps.specs.Blank.{is_blank, past_blanks};
 ghost use Rattle.jiter_steps.specs.Literal.{start_of, word_of, literal_at};
@@ -10,7 +10,7 @@ ghost use Rattle.jiter_steps.specs.Step.{step, array_first, array_comma, array_s
 ghost use Rattle.jiter_steps.specs.Read.{scalar_at};
 ghost use Rattle.jiter_steps.specs.ReadError.{WhereRefused};
 ghost use Rattle.jiter_steps.specs.StringReading.{string_at, whole, kept};
-ghost use Rattle.jiter_steps.specs.StringDecoder.{text_seen, WantsMemory};
+ghost use Rattle.jiter_steps.specs.StringDecoder.{text_view, WantsMemory};
 
 use crate::read_error::ReadError;
 use crate::string_decoder::{string_at, string_front_at};
@@ -392,7 +392,7 @@ impl<'j> Parser<'j> {
     pub fn string(&mut self, alloc: Global, tape: &mut Vec<u8>) -> Result<CowStr<'j>, ReadError>
         requires { self.old.index < length self.old.bytes.now }
         ensures moves { Moves self.old self.new }
-        ensures value { Gives text_seen result self.new.index
+        ensures value { Gives text_view result self.new.index
             (scalar_at self.old.index (string_at whole self.old.bytes.now self.old.index)) }
         ensures ahead { OnOk result (self.old.index < self.new.index) }
         ensures place { OnErr result (self.new.index ≡ self.old.index) }
@@ -412,7 +412,7 @@ impl<'j> Parser<'j> {
     pub fn string_front(&mut self, alloc: Global, tape: &mut Vec<u8>) -> Result<CowStr<'j>, ReadError>
         requires { self.old.index < length self.old.bytes.now }
         ensures moves { Moves self.old self.new }
-        ensures value { Gives text_seen result self.new.index
+        ensures value { Gives text_view result self.new.index
             (scalar_at self.old.index (string_at kept self.old.bytes.now self.old.index)) }
         ensures ahead { OnOk result (self.old.index < self.new.index) }
         ensures place { OnErr result (self.new.index ≡ self.old.index) }

@@ -6,9 +6,9 @@ ghost use Rattle.jiter_scan.specs.Kind.{invalid_code_point};
 ghost use Rattle.jiter_scan.specs.Scanned.{Scans, with_end, taken, failed};
 ghost use Rattle.jiter_steps.specs.Escape.{short_escape, is_hex, is_high, is_low};
 ghost use Rattle.jiter_steps.specs.ReadError.{UnlessRefused, WhereRefused};
-ghost use Rattle.jiter_steps.specs.StringReading.{hex_digits_at, found_at, unit_then, escaped, numbered, second, second_u, paired, body_at, checked, as_kept, whole, kept, string_at};
-ghost use Rattle.jiter_steps.specs.StringDecoder.{text_seen, digits_seen, IfNumber, found_seen, stop_seen, WantsMemory};
-ghost use Rattle.jiter_steps.specs.declared.string_decoder.Place.TheVariants as place;
+ghost use Rattle.jiter_steps.specs.StringReading.{hex_digits_at, place_at, unit_then, behind_backslash, unicode_escape, behind_high, behind_high_backslash, surrogate_pair, body_at, if_utf8, valid_front, whole, kept, string_at};
+ghost use Rattle.jiter_steps.specs.StringDecoder.{text_view, digits_view, IfNumber, place_view, stop_view, WantsMemory};
+ghost use Rattle.jiter_steps.specs.declared.string_decoder.AtStop.TheVariants as at_stop;
 ghost use Rattle.jiter_steps.specs.declared.string_decoder.Ending.TheVariants as ending;
 
 use crate::read_error::ReadError;
@@ -37,7 +37,7 @@ enum Ending {
 
 // What ends a run of plain bytes: an escape's character with its end, or the end of the string.
 #[derive(Clone, Copy, Debug)]
-enum Place {
+enum AtStop {
     Escape(char, usize),
     End(Ending),
 }
@@ -85,7 +85,7 @@ fn is_low(unit: u32) -> bool
 
 fn hex_at(bytes: &[u8], at: usize) -> Hex
     requires { at ≤ length bytes.now }
-    ensures value { digits_seen result ≡ hex_digits_at bytes.now at }
+    ensures value { digits_view result ≡ hex_digits_at bytes.now at }
     ensures within { IfNumber result (λ u. (u < 65536) × (at + 4 ≤ length bytes.now)) }
 {
     if bytes.len() - at < 4 {
@@ -106,27 +106,27 @@ fn hex_at(bytes: &[u8], at: usize) -> Hex
     Hex::Number(a * 4096 + b * 256 + c * 16 + d)
 }
 
-fn wrong(kind: FaultKind, index: usize) -> Place
-    ensures { result ≡ place.End (ending.Wrong (record { kind = kind; index = index })) }
+fn wrong(kind: FaultKind, index: usize) -> AtStop
+    ensures { result ≡ at_stop.End (ending.Wrong (record { kind = kind; index = index })) }
 {
-    Place::End(Ending::Wrong(Fault { kind, index }))
+    AtStop::End(Ending::Wrong(Fault { kind, index }))
 }
 
 // The second number of a pair, whose digits begin at `at`.
-fn low_surrogate(bytes: &[u8], high: u32, at: usize) -> Place
+fn low_surrogate(bytes: &[u8], high: u32, at: usize) -> AtStop
     requires high { is_high high ≡ true }
     requires within { at ≤ length bytes.now }
-    ensures value { found_seen result ≡ unit_then bytes.now at (paired high) }
+    ensures value { place_view result ≡ unit_then bytes.now at (surrogate_pair high) }
 {
     match hex_at(bytes, at) {
-        Hex::Short => Place::End(Ending::Cut),
+        Hex::Short => AtStop::End(Ending::Cut),
         Hex::Bad(index) => wrong(FaultKind::InvalidEscape, index),
         Hex::Number(low) => {
             if !is_low(low) {
                 return wrong(FaultKind::LoneLeadingSurrogateInHexEscape, at + 3);
             }
             match char::from_u32(0x10000 + (high - 0xd800) * 0x400 + (low - 0xdc00)) {
-                Some(c) => Place::Escape(c, at + 4),
+                Some(c) => AtStop::Escape(c, at + 4),
                 None => unreachable!(),
             }
         }
@@ -134,36 +134,36 @@ fn low_surrogate(bytes: &[u8], high: u32, at: usize) -> Place
 }
 
 // Behind the backslash that follows a high surrogate.
-fn behind_high_backslash(bytes: &[u8], high: u32, at: usize) -> Place
+fn behind_high_backslash(bytes: &[u8], high: u32, at: usize) -> AtStop
     requires high { is_high high ≡ true }
-    ensures value { found_seen result ≡ second_u bytes.now high at (slice_get bytes.now at) }
+    ensures value { place_view result ≡ behind_high_backslash bytes.now high at (slice_get bytes.now at) }
 {
     match byte_at(bytes, at) {
-        None => Place::End(Ending::Cut),
+        None => AtStop::End(Ending::Cut),
         Some(b'u') => low_surrogate(bytes, high, at + 1),
         Some(_) => wrong(FaultKind::UnexpectedEndOfHexEscape, at),
     }
 }
 
 // Behind the digits of a high surrogate.
-fn behind_high(bytes: &[u8], high: u32, at: usize) -> Place
+fn behind_high(bytes: &[u8], high: u32, at: usize) -> AtStop
     requires high { is_high high ≡ true }
-    ensures value { found_seen result ≡ second bytes.now high at (slice_get bytes.now at) }
+    ensures value { place_view result ≡ behind_high bytes.now high at (slice_get bytes.now at) }
 {
     match byte_at(bytes, at) {
-        None => Place::End(Ending::Cut),
+        None => AtStop::End(Ending::Cut),
         Some(b'\\') => behind_high_backslash(bytes, high, at + 1),
         Some(_) => wrong(FaultKind::UnexpectedEndOfHexEscape, at),
     }
 }
 
 // Behind `\u`.
-fn unicode_escape(bytes: &[u8], at: usize) -> Place
+fn unicode_escape(bytes: &[u8], at: usize) -> AtStop
     requires within { at ≤ length bytes.now }
-    ensures value { found_seen result ≡ unit_then bytes.now at (numbered bytes.now) }
+    ensures value { place_view result ≡ unit_then bytes.now at (unicode_escape bytes.now) }
 {
     match hex_at(bytes, at) {
-        Hex::Short => Place::End(Ending::Cut),
+        Hex::Short => AtStop::End(Ending::Cut),
         Hex::Bad(index) => wrong(FaultKind::InvalidEscape, index),
         Hex::Number(unit) => {
             if is_high(unit) {
@@ -173,7 +173,7 @@ fn unicode_escape(bytes: &[u8], at: usize) -> Place
                 return wrong(FaultKind::LoneLeadingSurrogateInHexEscape, at + 3);
             }
             match char::from_u32(unit) {
-                Some(c) => Place::Escape(c, at + 4),
+                Some(c) => AtStop::Escape(c, at + 4),
                 None => unreachable!(),
             }
         }
@@ -181,28 +181,28 @@ fn unicode_escape(bytes: &[u8], at: usize) -> Place
 }
 
 // Behind a backslash.
-fn behind_backslash(bytes: &[u8], at: usize) -> Place
-    ensures value { found_seen result ≡ escaped bytes.now at (slice_get bytes.now at) }
+fn behind_backslash(bytes: &[u8], at: usize) -> AtStop
+    ensures value { place_view result ≡ behind_backslash bytes.now at (slice_get bytes.now at) }
 {
     match byte_at(bytes, at) {
-        None => Place::End(Ending::Cut),
+        None => AtStop::End(Ending::Cut),
         Some(b'u') => unicode_escape(bytes, at + 1),
         Some(letter) => match short_escape(letter) {
-            Some(c) => Place::Escape(c as char, at + 1),
+            Some(c) => AtStop::Escape(c as char, at + 1),
             None => wrong(FaultKind::InvalidEscape, at),
         },
     }
 }
 
 // What stands where a run of plain bytes ends.
-#[tactic(auto, unfolding(crate::specs::StringReading::found_at))]
-fn place_at(bytes: &[u8], at: usize) -> Place
+#[tactic(auto, unfolding(crate::specs::StringReading::place_at))]
+fn place_at(bytes: &[u8], at: usize) -> AtStop
     requires { IfSome (slice_get bytes.now at) (λ b. is_stop b ≡ true) }
-    ensures { found_seen result ≡ found_at bytes.now at }
+    ensures { place_view result ≡ place_at bytes.now at }
 {
     match byte_at(bytes, at) {
-        None => Place::End(Ending::Unclosed),
-        Some(b'"') => Place::End(Ending::Closed(at + 1)),
+        None => AtStop::End(Ending::Unclosed),
+        Some(b'"') => AtStop::End(Ending::Closed(at + 1)),
         Some(b'\\') => behind_backslash(bytes, at + 1),
         Some(_) => wrong(FaultKind::ControlCharacterWhileParsingString, at),
     }
@@ -240,18 +240,18 @@ fn decode(tape: &mut Vec<u8>, bytes: &[u8], from: usize) -> Result<Ending, Refus
     requires { from ≤ length bytes.now }
     ensures text { IfOk result (λ _. tape.new.items
         ≡ tape.old.items ++ (body_at bytes.now from).bytes) }
-    ensures stop { IfOk result (λ ending. stop_seen ending ≡ (body_at bytes.now from).stop) }
+    ensures stop { IfOk result (λ ending. stop_view ending ≡ (body_at bytes.now from).stop) }
 {
     let mut at = from;
     loop {
         let to = plain_end(bytes, at);
         extend(tape, &bytes[at..to])?;
         match place_at(bytes, to) {
-            Place::Escape(c, end) => {
+            AtStop::Escape(c, end) => {
                 push_char(tape, c)?;
                 at = end;
             }
-            Place::End(ending) => return Ok(ending),
+            AtStop::End(ending) => return Ok(ending),
         }
     }
 }
@@ -260,8 +260,8 @@ fn decode(tape: &mut Vec<u8>, bytes: &[u8], from: usize) -> Result<Ending, Refus
 #[tactic(auto, using(crate::proofs::DecodeSteps::checked_text))]
 fn borrow_text<'j>(bytes: &'j [u8], from: usize, to: usize) -> Result<(CowStr<'j>, usize), Fault>
     requires { (from ≤ to) × (to < length bytes.now) }
-    ensures { Scans (with_end text_seen) result
-        (checked from false (slice_range bytes.now from to) (to + 1)) }
+    ensures { Scans (with_end text_view) result
+        (if_utf8 from false (slice_range bytes.now from to) (to + 1)) }
 {
     match simdutf8::compat::from_utf8(&bytes[from..to]) {
         Ok(text) => Ok((CowStr::Borrowed(text), to + 1)),
@@ -281,8 +281,8 @@ fn own_text<'j>(
     end: usize,
 ) -> Result<(CowStr<'j>, usize), ReadError>
     requires { from + length bytes.now < 2 ^ 64 }
-    ensures { UnlessRefused result (λ r. Scans (with_end text_seen) r
-        (checked from true bytes.now end)) }
+    ensures { UnlessRefused result (λ r. Scans (with_end text_view) r
+        (if_utf8 from true bytes.now end)) }
 {
     match simdutf8::compat::from_utf8(bytes) {
         Ok(text) => match copy_text(alloc, text) {
@@ -301,7 +301,7 @@ fn decode_from(tape: &mut Vec<u8>, bytes: &[u8], from: usize, to: usize) -> Resu
     requires within { from ≤ length bytes.now }
     requires stop { to ≡ scan_stop bytes.now from }
     ensures text { IfOk result (λ _. tape.new.items ≡ (body_at bytes.now from).bytes) }
-    ensures stop { IfOk result (λ ending. stop_seen ending ≡ (body_at bytes.now from).stop) }
+    ensures stop { IfOk result (λ ending. stop_view ending ≡ (body_at bytes.now from).stop) }
 {
     tape.clear();
     extend(tape, &bytes[from..to])?;
@@ -333,7 +333,7 @@ fn decode_text<'j>(
     requires within { at < length bytes.now }
     requires stop { to ≡ scan_stop bytes.now (at + 1) }
     requires backslash { slice_get bytes.now to ≡ Some 92 }
-    ensures { UnlessRefused result (λ r. Scans (with_end text_seen) r
+    ensures { UnlessRefused result (λ r. Scans (with_end text_view) r
         (string_at whole bytes.now at)) }
 {
     match decode_from(tape, bytes, at + 1, to) {
@@ -359,7 +359,7 @@ pub fn string_at<'j>(
     at: usize,
 ) -> Result<(CowStr<'j>, usize), ReadError>
     requires { at < length bytes.now }
-    ensures value { UnlessRefused result (λ r. Scans (with_end text_seen) r
+    ensures value { UnlessRefused result (λ r. Scans (with_end text_view) r
         (string_at whole bytes.now at)) }
     ensures advances { IfOk result (λ x. (at < x.1) × (x.1 ≤ length bytes.now)) }
     ensures memory { WhereRefused result (WantsMemory bytes.now at) }
@@ -384,8 +384,8 @@ pub fn string_at<'j>(
 #[tactic(auto, using(crate::proofs::FrontTexts::kept_whole, crate::proofs::FrontTexts::kept_front, crate::proofs::FrontTexts::kept_wrong))]
 fn front_text(bytes: &[u8]) -> Result<&str, usize>
     ensures value { (i e : ℕ) → (owned : Bool) → MatchResult result
-        (λ text. as_kept i owned bytes.now e ≡ taken (record { owned = owned; bytes = text.now }) e)
-        (λ n. as_kept i owned bytes.now e ≡ failed invalid_code_point (i + n)) }
+        (λ text. valid_front i owned bytes.now e ≡ taken (record { owned = owned; bytes = text.now }) e)
+        (λ n. valid_front i owned bytes.now e ≡ failed invalid_code_point (i + n)) }
     ensures within { IfErr result (λ n. n ≤ length bytes.now) }
 {
     match simdutf8::compat::from_utf8(bytes) {
@@ -408,8 +408,8 @@ fn borrow_front<'j>(
     end: usize,
 ) -> Result<(CowStr<'j>, usize), Fault>
     requires { (from ≤ to) × (to ≤ length bytes.now) }
-    ensures { Scans (with_end text_seen) result
-        (as_kept from false (slice_range bytes.now from to) end) }
+    ensures { Scans (with_end text_view) result
+        (valid_front from false (slice_range bytes.now from to) end) }
 {
     match front_text(&bytes[from..to]) {
         Ok(text) => Ok((CowStr::Borrowed(text), end)),
@@ -428,8 +428,8 @@ fn own_front<'j>(
     end: usize,
 ) -> Result<(CowStr<'j>, usize), ReadError>
     requires { from + length bytes.now < 2 ^ 64 }
-    ensures { UnlessRefused result (λ r. Scans (with_end text_seen) r
-        (as_kept from true bytes.now end)) }
+    ensures { UnlessRefused result (λ r. Scans (with_end text_view) r
+        (valid_front from true bytes.now end)) }
 {
     match front_text(bytes) {
         Ok(text) => match copy_text(alloc, text) {
@@ -454,7 +454,7 @@ fn decode_front<'j>(
     requires within { at < length bytes.now }
     requires stop { to ≡ scan_stop bytes.now (at + 1) }
     requires backslash { slice_get bytes.now to ≡ Some 92 }
-    ensures { UnlessRefused result (λ r. Scans (with_end text_seen) r
+    ensures { UnlessRefused result (λ r. Scans (with_end text_view) r
         (string_at kept bytes.now at)) }
 {
     match decode_from(tape, bytes, at + 1, to) {
@@ -475,7 +475,7 @@ pub fn string_front_at<'j>(
     at: usize,
 ) -> Result<(CowStr<'j>, usize), ReadError>
     requires { at < length bytes.now }
-    ensures value { UnlessRefused result (λ r. Scans (with_end text_seen) r
+    ensures value { UnlessRefused result (λ r. Scans (with_end text_view) r
         (string_at kept bytes.now at)) }
     ensures advances { IfOk result (λ x. (at < x.1) × (x.1 ≤ length bytes.now)) }
     ensures memory { WhereRefused result (WantsMemory bytes.now at) }

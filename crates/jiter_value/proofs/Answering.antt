@@ -3,7 +3,7 @@ use Rattle.std.proofs.Common.{◌≡◌, inl, inr, ℕ, ◌<◌, Bool, true, fal
 use Rattle.std.proofs.lemmas.List.{length-reverse}
 use Rattle.std.specs.Prelude.{reverse, slice_get, Option, Some, None, Ok, Err}
 use Rattle.jiter_scan.specs.Kind.{Kind, fault_kind}
-use Rattle.jiter_scan.specs.Mode.{is_active}
+use Rattle.jiter_scan.specs.PartialMode.{is_active}
 use Rattle.jiter_scan.specs.Scanned.{taken, failed}
 use Rattle.jiter_scan.specs.declared.errors.JsonError.{JsonError}
 use Rattle.jiter_scan.specs.declared.partial_mode.PartialMode.{PartialMode}

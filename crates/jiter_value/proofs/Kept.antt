@@ -13,7 +13,7 @@ use Rattle.jiter_steps.specs.Answer.{value_form}
 use Rattle.jiter_steps.specs.Tree.{Text, Tree, array, object, items_of, members_of}
 use Rattle.jiter_steps.specs.Literal.{start_of}
 use Rattle.jiter_steps.specs.Step.{more, closed, stuck, step, array_first, array_step, object_first, object_step, object_colon}
-use Rattle.jiter_steps.specs.StringDecoder.{text_seen}
+use Rattle.jiter_steps.specs.StringDecoder.{text_view}
 use Rattle.jiter_steps.specs.StringReading.{whole, string_at}
 use Rattle.jiter_steps.specs.Read.{Reading, done, fault, value_at}
 use Rattle.jiter_steps.specs.Frames.{Frame, items_frame, members_frame, resolved, resume, value_in, array_in, object_in, value_from, key_from, items_from, members_from}
@@ -47,11 +47,11 @@ last-split (y ∷ ys) h =
     let within : n < length xs = omega arith in
     (get_or xs n y, sym (take_all (n + 1) xs (omega arith)) ∙ take_more xs n y within)
 
-last_key_of-append : (x : Member) (xs : List Member) (m : Member) → last_key_of x (xs ++ m ∷ []) ≡ text_seen m.0
+last_key_of-append : (x : Member) (xs : List Member) (m : Member) → last_key_of x (xs ++ m ∷ []) ≡ text_view m.0
 last_key_of-append x [] m = refl
 last_key_of-append x (y ∷ ys) m = last_key_of-append y ys m
 
-last_key-append : (xs : List Member) (m : Member) → last_key (xs ++ m ∷ []) ≡ text_seen m.0
+last_key-append : (xs : List Member) (m : Member) → last_key (xs ++ m ∷ []) ≡ text_view m.0
 last_key-append [] m = refl
 last_key-append (x ∷ xs) m = last_key_of-append x xs m
 
@@ -62,7 +62,7 @@ front-append xs m =
 
 -- an object that awaits the value of this key
 pub value-frames : (o : Open) (os : List Open) (es : List JsonValue) (before : List Member) (key : CowStr Global) (old : JsonValue) → o.base ≤ length before
-    → frames awaits.Value (o ∷ os) es (before ++ (key, old) ∷ []) ≡ members_frame (map member_view (drop o.base before)) (text_seen key) ∷ frames o.outer os es (take o.base before)
+    → frames awaits.Value (o ∷ os) es (before ++ (key, old) ∷ []) ≡ members_frame (map member_view (drop o.base before)) (text_view key) ∷ frames o.outer os es (take o.base before)
 value-frames o os es before key old h =
     let m : Member = (key, old) in
     let dropped : drop o.base (before ++ m ∷ []) ≡ drop o.base before ++ m ∷ [] = drop-append-le o.base before (m ∷ []) h in
@@ -104,7 +104,7 @@ module _ (p : Settings) (t : List ℕ) where
   put-value [] es before key old root v e h = absurd h
   put-value (o ∷ os) es before key old root v e h =
       let le : o.base ≤ length before = omega (arith, h.0, length-append before ((key, old) ∷ [])) in
-      let part : map member_view (drop o.base before) ++ (text_seen key, view v) ∷ [] ≡ map member_view (drop o.base (before ++ (key, v) ∷ [])) =
+      let part : map member_view (drop o.base before) ++ (text_view key, view v) ∷ [] ≡ map member_view (drop o.base (before ++ (key, v) ∷ [])) =
       sym (map_push member_view (drop o.base before) (key, v)) ∙ ap (map member_view) (sym (drop-append-le o.base before ((key, v) ∷ []) le)) in
       let rest : take o.base before ≡ take o.base (before ++ (key, v) ∷ []) = sym (take-append-le o.base before ((key, v) ∷ []) le) in
       ap (λ fs. resume (rules p) t fs (done (view v) e)) (value-frames o os es before key old le) ∙ ap₂ (λ xs ys. members_from (rules p) t (frames o.outer os es ys) xs e) part rest
@@ -183,7 +183,7 @@ module _ (p : Settings) (t : List ℕ) where
   fault-value [] es before key old k x stop b ok = absurd b
   fault-value (o ∷ os) es before key old k x stop b ok =
       ap (λ fs. resume (rules p) t fs (fault k x stop)) (value-frames o os es before key old b.0)
-      ∙ resume-forgiven (rules p) t (members_frame (map member_view (drop o.base before)) (text_seen key)) (frames o.outer os es (take o.base before)) k x stop ok
+      ∙ resume-forgiven (rules p) t (members_frame (map member_view (drop o.base before)) (text_view key)) (frames o.outer os es (take o.base before)) k x stop ok
 
   pub fault-root : (os : List Open) (es : List JsonValue) (ms : List Member) (x : Reading Tree) → HaveBases awaits.Root os (length es) (length ms) → resume (rules p) t (frames awaits.Root os es ms) x ≡ x
   fault-root [] es ms x b = refl
@@ -248,11 +248,11 @@ module _ (p : Settings) (t : List ℕ) where
     object-stuck j k is s bad = object-begins (rules p) t good any fs i (stuck k j) low is s ∙ step-stuck (rules p) t (object_in (rules p) t (length fs)) fs [] (stuck k j) k j (kept k j bad) bad
 
   -- A key begins.
-  pub key-opens : (os : List Open) (es : List JsonValue) (ms : List Member) (j : ℕ) (k : CowStr Global) (e m : ℕ) → HaveKeyBase os (length es) (length ms) → j < length t → string_at whole t j ≡ taken (text_seen k) e
+  pub key-opens : (os : List Open) (es : List JsonValue) (ms : List Member) (j : ℕ) (k : CowStr Global) (e m : ℕ) → HaveKeyBase os (length es) (length ms) → j < length t → string_at whole t j ≡ taken (text_view k) e
       → object_colon t e ≡ taken tt m → key_in p t os es ms j ≡ value_from (rules p) t (frames awaits.Value os es (ms ++ (k, Null) ∷ [])) m
   key-opens [] es ms j k e m b h v s = absurd b
   key-opens (o ∷ os) es ms j k e m b h v s =
-      key-value (rules p) t good (frames o.outer os es (take o.base ms)) (map member_view (drop o.base ms)) j e m (text_seen k) h v s
+      key-value (rules p) t good (frames o.outer os es (take o.base ms)) (map member_view (drop o.base ms)) j e m (text_view k) h v s
       ∙ ap (λ fs. value_from (rules p) t fs m) (sym (value-frames o os es ms k Null b.0))
 
   pub key-limit : (os : List Open) (es : List JsonValue) (ms : List Member) (j : ℕ) (k : Text) (e m : ℕ) → HaveKeyBase os (length es) (length ms) → j < length t → string_at whole t j ≡ taken k e

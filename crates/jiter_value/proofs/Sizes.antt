@@ -5,7 +5,7 @@ use Rattle.std.specs.declared.alloc.Global.{Global}
 use Rattle.std.specs.declared.borrow.CowStr.{CowStr}
 use Rattle.std.proofs.lemmas.List.{reverse-append, map_push, drop-append-le, take-append-le}
 use Rattle.jiter_steps.specs.Tree.{Text, Tree, array, object, items_of, members_of}
-use Rattle.jiter_steps.specs.StringDecoder.{text_seen}
+use Rattle.jiter_steps.specs.StringDecoder.{text_view}
 use Rattle.jiter_value.specs.Value.{view}
 use Rattle.jiter_value.specs.declared.value.JsonValue.{JsonValue}
 use Rattle.jiter_value.specs.declared.stacks.Open.{Open}
@@ -37,10 +37,10 @@ pub put-value-size : (os : List Open) (es : List JsonValue) (before : List Membe
 put-value-size [] es before key old root v h = absurd h
 put-value-size (o ∷ os) es before key old root v h =
     let le : o.base ≤ length before = omega (arith, h.0, length-append before ((key, old) ∷ [])) in
-    let part : map member_view (drop o.base (before ++ (key, v) ∷ [])) ≡ map member_view (drop o.base before) ++ (text_seen key, view v) ∷ [] =
+    let part : map member_view (drop o.base (before ++ (key, v) ∷ [])) ≡ map member_view (drop o.base before) ++ (text_view key, view v) ∷ [] =
     ap (map member_view) (drop-append-le o.base before ((key, v) ∷ []) le) ∙ map_push member_view (drop o.base before) (key, v) in
     let rest : take o.base (before ++ (key, v) ∷ []) ≡ take o.base before = take-append-le o.base before ((key, v) ∷ []) le in
-    let grown : members_size (map member_view (drop o.base (before ++ (key, v) ∷ []))) ≡ members_size (map member_view (drop o.base before)) + suc (size (view v)) = ap members_size part ∙ members_size-push (map member_view (drop o.base before)) (text_seen key, view v) in
+    let grown : members_size (map member_view (drop o.base (before ++ (key, v) ∷ []))) ≡ members_size (map member_view (drop o.base before)) + suc (size (view v)) = ap members_size part ∙ members_size-push (map member_view (drop o.base before)) (text_view key, view v) in
     let outer : frames_size (frames o.outer os es (take o.base (before ++ (key, v) ∷ []))) ≡ frames_size (frames o.outer os es (take o.base before)) = ap (λ ys. frames_size (frames o.outer os es ys)) rest in
     let was : frames_size (frames awaits.Value (o ∷ os) es (before ++ (key, old) ∷ [])) ≡ suc (suc (members_size (map member_view (drop o.base before)))) + frames_size (frames o.outer os es (take o.base before)) = ap frames_size (value-frames o os es before key old le) in
     omega (arith, grown, outer, was)

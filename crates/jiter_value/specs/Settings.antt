@@ -1,7 +1,7 @@
 -- How a document is read, and what its reading answers.
 use Rattle.std.specs.Prelude.{ℕ, Bool, if◌then◌else◌, List}
 use Rattle.jiter_scan.specs.Kind.{Kind, is_forgiven}
-use Rattle.jiter_scan.specs.Mode.{is_active}
+use Rattle.jiter_scan.specs.PartialMode.{is_active}
 use Rattle.jiter_scan.specs.declared.partial_mode.PartialMode.{PartialMode}
 use Rattle.jiter_steps.specs.Tree.{Text, Tree}
 use Rattle.jiter_steps.specs.Read.{Rules, Reading}

@@ -5,7 +5,7 @@ use Rattle.std.specs.declared.borrow.CowStr.{CowStr}
 use Rattle.jiter_scan.specs.Kind.{Kind, eof_list, eof_object}
 use Rattle.jiter_steps.specs.Tree.{Text, Tree, array, object, items_of, members_of}
 use Rattle.jiter_steps.specs.Read.{Reading, done, fault, if_forgiven}
-use Rattle.jiter_steps.specs.StringDecoder.{text_seen}
+use Rattle.jiter_steps.specs.StringDecoder.{text_view}
 use Rattle.jiter_steps.specs.Frames.{Frame, items_frame, members_frame, resume, value_from, key_from, items_from, members_from}
 use Rattle.jiter_value.specs.Settings.{rules}
 use Rattle.jiter_value.specs.Value.{view}
@@ -21,10 +21,10 @@ Member = CowStr Global × JsonValue
 
 -- a member, by its key's text and its value's tree
 abbrev pub member_view : Member → Text × Tree
-member_view m = (text_seen m.0, view m.1)
+member_view m = (text_view m.0, view m.1)
 
 abbrev pub last_key_of : Member → List Member → Text
-last_key_of m [] = text_seen m.0
+last_key_of m [] = text_view m.0
 last_key_of m (n ∷ ms) = last_key_of n ms
 
 -- the key of the last member

@@ -9,7 +9,7 @@ use Rattle.jiter_steps.specs.Tree.{Tree, null, boolean, int, big, float, string,
 use Rattle.jiter_steps.specs.Blank.{past_blanks}
 use Rattle.jiter_steps.specs.Literal.{start_of}
 use Rattle.jiter_steps.specs.Step.{Step, more, closed, stuck, step, array_first, object_first}
-use Rattle.jiter_steps.specs.StringDecoder.{text_seen, WantsMemory}
+use Rattle.jiter_steps.specs.StringDecoder.{text_view, WantsMemory}
 use Rattle.jiter_steps.specs.Read.{Reading, done, fault}
 use Rattle.jiter_steps.specs.declared.parse.Start.{Start}
 use Rattle.jiter_steps.specs.declared.parse.Start.TheVariants as start
@@ -19,16 +19,16 @@ use Rattle.jiter_value.specs.declared.value.JsonValue.TheOpen.{JsonValue-F}
 -- members whose values are seen as their trees already
 abbrev pub members_seen : List (CowStr Global × Tree) → Members
 members_seen [] = no_members
-members_seen (m ∷ ms) = member (text_seen m.0) m.1 (members_seen ms)
+members_seen (m ∷ ms) = member (text_view m.0) m.1 (members_seen ms)
 
 -- one level, with each value inside seen as its tree already
 abbrev pub view_step : JsonValue-F Tree → Tree
 view_step JsonValue-F.Null = null
 view_step (JsonValue-F.Bool b) = boolean b
 view_step (JsonValue-F.Int z) = int z
-view_step (JsonValue-F.BigInt s) = big (text_seen s)
-view_step (JsonValue-F.Float s) = float (text_seen s)
-view_step (JsonValue-F.Str s) = string (text_seen s)
+view_step (JsonValue-F.BigInt s) = big (text_view s)
+view_step (JsonValue-F.Float s) = float (text_view s)
+view_step (JsonValue-F.Str s) = string (text_view s)
 view_step (JsonValue-F.Array v) = array (items_of v.items)
 view_step (JsonValue-F.Object v) = object (members_seen v.items)
 

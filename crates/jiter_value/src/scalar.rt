@@ -1,6 +1,6 @@
 //! The scalars of a document as values.
 ghost use Rattle.std.specs.Prelude.{◌≡◌, ◌≢◌, ◌<◌, ℕ, IfOk, OnOk, length, slice_index};
-ghost use Rattle.jiter_scan.specs.NumberView.{number_view};
+ghost use Rattle.jiter_scan.specs.NumberDecoder.{number_view};
 ghost use Rattle.jiter_steps.specs.Literal.{literal_tree, start_of};
 ghost use Rattle.jiter_steps.specs.Node.{number_tree};
 ghost use Rattle.jiter_steps.specs.Read.{scalar_at, value_at};

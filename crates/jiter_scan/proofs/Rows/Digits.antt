@@ -1,16 +1,16 @@
 -- Runs of digits and their values, by computation.
 use Rattle.std.proofs.Common.{◌≡◌, ℕ, List, [], ◌∷◌, ◌++◌, refl, codes, map}
 use Rattle.std.specs.Prelude.{replicate, take}
-use Rattle.jiter_scan.specs.Digits.{digit_run, decimal_of}
+use Rattle.jiter_scan.specs.Digits.{digit_run_end, decimal_of}
 
 abbrev runs : List (List ℕ × ℕ × ℕ)
 runs =
     (codes "12,34", 0, 2) ∷
-    (codes "12345]", 2, 3) ∷
-    (codes "-123", 1, 3) ∷
+    (codes "12345]", 2, 5) ∷
+    (codes "-123", 1, 4) ∷
     (codes "x1", 0, 0) ∷
-    (codes "12", 2, 0) ∷
-    (codes "/0:9", 1, 1) ∷
+    (codes "12", 2, 2) ∷
+    (codes "/0:9", 1, 2) ∷
     (codes "1234567890123456", 0, 16) ∷
     (codes "12345678" ++ replicate 8 47, 0, 8) ∷
     (codes "12," ++ replicate 13 255, 0, 2) ∷
@@ -18,9 +18,8 @@ runs =
     (codes "123456789]" ++ replicate 6 58, 0, 9) ∷
     []
 
-lengths_of_runs : map (λ r. digit_run r.0 r.1) runs ≡ map (λ r. r.2) runs
-unfolding digit_run
-lengths_of_runs = refl
+ends_of_runs : map (λ r. digit_run_end r.0 r.1) runs ≡ map (λ r. r.2) runs
+ends_of_runs = refl
 
 abbrev digits : List (List ℕ × ℕ)
 digits =

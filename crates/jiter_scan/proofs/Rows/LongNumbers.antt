@@ -3,8 +3,8 @@ use Rattle.std.proofs.Common.{◌≡◌, ℕ, true, false, Bool, List, [], ◌�
 use Rattle.std.specs.Prelude.{replicate}
 use Rattle.jiter_scan.specs.Kind.{number_out_of_range}
 use Rattle.jiter_scan.specs.Scanned.{Scanned, taken, failed}
-use Rattle.jiter_scan.specs.Number.{Number, float, is_number_text}
-use Rattle.jiter_scan.specs.NumberReading.{number_at, int_alone}
+use Rattle.jiter_scan.specs.Number.{Number, float}
+use Rattle.jiter_scan.specs.NumberReading.{number_at, int_alone, is_number_text}
 use Rattle.jiter_scan.proofs.Computed.{computed_numbers}
 
 abbrev numbers : List (List ℕ × Scanned Number)
@@ -32,5 +32,5 @@ texts =
     []
 
 texts_tested : map (λ r. is_number_text false r.0) texts ≡ map (λ r. r.1) texts
-unfolding is_number_text
+unfolding computed_numbers
 texts_tested = refl

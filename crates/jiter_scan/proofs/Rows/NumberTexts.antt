@@ -1,6 +1,7 @@
 -- Bytes that are a number's text, and bytes that are none, by computation.
 use Rattle.std.proofs.Common.{◌≡◌, ℕ, true, false, Bool, List, [], ◌∷◌, refl, codes, map}
-use Rattle.jiter_scan.specs.Number.{is_number_text}
+use Rattle.jiter_scan.specs.NumberReading.{is_number_text}
+use Rattle.jiter_scan.proofs.Computed.{computed_numbers}
 
 abbrev without_names : List (List ℕ × Bool)
 without_names =
@@ -40,7 +41,7 @@ without_names =
     []
 
 without_names_tested : map (λ r. is_number_text false r.0) without_names ≡ map (λ r. r.1) without_names
-unfolding is_number_text
+unfolding computed_numbers
 without_names_tested = refl
 
 abbrev with_names : List (List ℕ × Bool)
@@ -55,5 +56,5 @@ with_names =
     []
 
 with_names_tested : map (λ r. is_number_text true r.0) with_names ≡ map (λ r. r.1) with_names
-unfolding is_number_text
+unfolding computed_numbers
 with_names_tested = refl

@@ -1,5 +1,5 @@
 -- Numbers that are to be the whole text, by computation.
-use Rattle.std.proofs.Common.{◌≡◌, ℕ, pos, negsuc, true, false, Bool, List, [], ◌∷◌, refl, codes, map}
+use Rattle.std.proofs.Common.{◌≡◌, ℕ, pos, negsuc, true, false, List, [], ◌∷◌, refl, codes, map}
 use Rattle.jiter_scan.specs.Kind.{eof_value, expected_ident, expected_value, invalid_number}
 use Rattle.jiter_scan.specs.Scanned.{Scanned, taken, failed}
 use Rattle.jiter_scan.specs.Number.{Number, integer, big, float}

@@ -1,5 +1,5 @@
 //! Rows of numbers alone, of integers alone, and of numbers that something follows.
-use crate::errors::{JsonError, JsonErrorType, JsonResult};
+use crate::errors::{FaultKind, JsonErrorType, JsonResult};
 use crate::number_decoder::{Integer, NumberAny, NumberInt, int_at, number_at};
 use std::alloc::{AllocError, Global};
 use std::test::*;
@@ -22,14 +22,6 @@ fn big(text: &str) -> JsonResult<NumberAny> {
 
 fn float(text: &str) -> JsonResult<NumberAny> {
     Ok(NumberAny::Float(text))
-}
-
-fn refused<'j>(error_type: JsonErrorType, index: usize) -> JsonResult<NumberAny<'j>> {
-    Err(JsonError { error_type, index })
-}
-
-fn refused_int<'j>(error_type: JsonErrorType, index: usize) -> JsonResult<NumberInt<'j>> {
-    Err(JsonError { error_type, index })
 }
 
 // The front, so many times the digit, and the back.
@@ -64,35 +56,55 @@ fn integers_and_floats(rt: HostRuntime) {
     }
 }
 
+// The kind and the index that this text is refused with.
+fn refusal(text: &[u8], allow_inf_nan: bool) -> Option<(JsonErrorType, usize)> {
+    match NumberAny::from_bytes(text, allow_inf_nan) {
+        Ok(_) => None,
+        Err(error) => Some((error.error_type, error.index)),
+    }
+}
+
 #[test]
 fn refused_numbers(rt: HostRuntime) {
-    for (text, wanted) in [
-        (b"01".as_slice(), refused(JsonErrorType::InvalidNumber, 1)),
-        (b"0.", refused(JsonErrorType::EofWhileParsingValue, 2)),
-        (b"1e", refused(JsonErrorType::EofWhileParsingValue, 2)),
-        (b"1e+x", refused(JsonErrorType::InvalidNumber, 3)),
-        (b"-01", refused(JsonErrorType::InvalidNumber, 2)),
-        (b"NaN", refused(JsonErrorType::ExpectedSomeValue, 0)),
-        (b"I", refused(JsonErrorType::ExpectedSomeValue, 0)),
-        (b"", refused(JsonErrorType::InvalidNumber, 0)),
-        (b" 1", refused(JsonErrorType::InvalidNumber, 0)),
-        (b"1x", refused(JsonErrorType::InvalidNumber, 1)),
+    for (text, kind, index) in [
+        (b"01".as_slice(), JsonErrorType::InvalidNumber, 1),
+        (b"0.", JsonErrorType::EofWhileParsingValue, 2),
+        (b"1e", JsonErrorType::EofWhileParsingValue, 2),
+        (b"1e+x", JsonErrorType::InvalidNumber, 3),
+        (b"-01", JsonErrorType::InvalidNumber, 2),
+        (b"NaN", JsonErrorType::ExpectedSomeValue, 0),
+        (b"I", JsonErrorType::ExpectedSomeValue, 0),
+        (b"", JsonErrorType::InvalidNumber, 0),
+        (b" 1", JsonErrorType::InvalidNumber, 0),
+        (b"1x", JsonErrorType::InvalidNumber, 1),
     ] {
-        assert_eq!(rt; NumberAny::from_bytes(text, false), wanted);
+        match refusal(text, false) {
+            Some((found, place)) => {
+                assert_eq!(rt; found, kind);
+                assert_eq!(rt; place, index);
+            }
+            None => panic!(rt; "the text is refused"),
+        }
     }
 }
 
 #[test]
 fn names(rt: HostRuntime) {
-    for (text, wanted) in [
-        (b"NaN".as_slice(), float("NaN")),
-        (b"Infinity", float("Infinity")),
-        (b"-Infinity", float("-Infinity")),
-        (b"-NaN", refused(JsonErrorType::InvalidNumber, 1)),
-        (b"Infinit", refused(JsonErrorType::EofWhileParsingValue, 7)),
-        (b"Infinitx", refused(JsonErrorType::ExpectedSomeIdent, 7)),
+    for text in ["NaN", "Infinity", "-Infinity"] {
+        assert_eq!(rt; NumberAny::from_bytes(text.as_bytes(), true), float(text));
+    }
+    for (text, kind, index) in [
+        (b"-NaN".as_slice(), JsonErrorType::InvalidNumber, 1),
+        (b"Infinit", JsonErrorType::EofWhileParsingValue, 7),
+        (b"Infinitx", JsonErrorType::ExpectedSomeIdent, 7),
     ] {
-        assert_eq!(rt; NumberAny::from_bytes(text, true), wanted);
+        match refusal(text, true) {
+            Some((found, place)) => {
+                assert_eq!(rt; found, kind);
+                assert_eq!(rt; place, index);
+            }
+            None => panic!(rt; "the text is refused"),
+        }
     }
 }
 
@@ -108,11 +120,6 @@ fn integers_alone(rt: HostRuntime) {
             b"-9223372036854775809",
             Ok(NumberInt::BigInt("-9223372036854775809")),
         ),
-        (b"1.", refused_int(JsonErrorType::InvalidNumber, 1)),
-        (b"12x", refused_int(JsonErrorType::InvalidNumber, 2)),
-        (b"-", refused_int(JsonErrorType::EofWhileParsingValue, 1)),
-        (b"-I", refused_int(JsonErrorType::InvalidNumber, 1)),
-        (b"NaN", refused_int(JsonErrorType::InvalidNumber, 0)),
     ] {
         assert_eq!(rt; NumberInt::from_bytes(text), wanted);
     }
@@ -120,6 +127,26 @@ fn integers_alone(rt: HostRuntime) {
         NumberInt::try_from(b"-7".as_slice()),
         Ok(NumberInt::Int(-7))
     );
+}
+
+#[test]
+fn refused_integers(rt: HostRuntime) {
+    for (text, kind, index) in [
+        (b"1.".as_slice(), JsonErrorType::InvalidNumber, 1),
+        (b"12x", JsonErrorType::InvalidNumber, 2),
+        (b"-", JsonErrorType::EofWhileParsingValue, 1),
+        (b"-I", JsonErrorType::InvalidNumber, 1),
+        (b"NaN", JsonErrorType::InvalidNumber, 0),
+    ] {
+        assert!(rt; NumberInt::try_from(text).is_err());
+        match NumberInt::from_bytes(text) {
+            Ok(_) => panic!(rt; "the text is refused"),
+            Err(error) => {
+                assert_eq!(rt; error.error_type, kind);
+                assert_eq!(rt; error.index, index);
+            }
+        }
+    }
 }
 
 #[test]
@@ -132,16 +159,19 @@ fn digit_limit(rt: HostRuntime) -> Result<(), Fail> {
     for (front, back, index) in [("", ".5", 4301), ("-", ".5", 4302), ("", "", 4301)] {
         let text = spelled(rt.alloc(), front, b'1', 4301, back)?;
         assert_eq!(rt;
-            NumberAny::from_bytes(&text, false),
-            refused(JsonErrorType::NumberOutOfRange, index)
+            refusal(&text, false),
+            Some((JsonErrorType::NumberOutOfRange, index))
         );
     }
     for count in [4301, 4302, 9000] {
         let digits = spelled(rt.alloc(), "", b'1', count, "")?;
-        assert_eq!(rt;
-            NumberInt::from_bytes(&digits),
-            refused_int(JsonErrorType::NumberOutOfRange, 4301)
-        );
+        match NumberInt::from_bytes(&digits) {
+            Ok(_) => panic!(rt; "the digits are too many"),
+            Err(error) => {
+                assert_eq!(rt; error.error_type, JsonErrorType::NumberOutOfRange);
+                assert_eq!(rt; error.index, 4301);
+            }
+        }
     }
     Ok(())
 }
@@ -233,5 +263,56 @@ fn unlike_numbers_are_unequal(rt: HostRuntime) {
         (big_number("1"), NumberAny::Float("1")),
     ] {
         assert!(rt; left != right);
+    }
+}
+
+// Ten million bytes go through each loop, with no stack that grows and within the time of a test.
+const MANY: usize = 10_000_000;
+
+#[test]
+fn ten_million_digits_of_an_integer(rt: HostRuntime) -> Result<(), Fail> {
+    let digits = spelled(rt.alloc(), "", b'7', MANY, "")?;
+    assert_eq!(rt;
+        refusal(&digits, false),
+        Some((JsonErrorType::NumberOutOfRange, 4301))
+    );
+    Ok(())
+}
+
+#[test]
+fn ten_million_digits_of_a_fraction(rt: HostRuntime) -> Result<(), Fail> {
+    let text = spelled(rt.alloc(), "-0.", b'7', MANY, "")?;
+    match NumberAny::from_bytes(&text, false) {
+        Ok(NumberAny::Float(found)) => assert_eq!(rt; found.len(), MANY + 3),
+        _ => panic!(rt; "a float"),
+    }
+    Ok(())
+}
+
+#[test]
+fn a_fault_behind_ten_million_digits(rt: HostRuntime) -> Result<(), Fail> {
+    let text = spelled(rt.alloc(), "1e", b'7', MANY, "x")?;
+    assert_eq!(rt;
+        refusal(&text, false),
+        Some((JsonErrorType::InvalidNumber, MANY + 2))
+    );
+    assert_eq!(rt; number_end(&text), Some(MANY + 2));
+    Ok(())
+}
+
+#[test]
+fn faults_at_a_place(rt: HostRuntime) {
+    for (text, kind, index) in [
+        (b"[-".as_slice(), FaultKind::EofWhileParsingValue, 2),
+        (b"[01", FaultKind::InvalidNumber, 2),
+        (b"[N", FaultKind::ExpectedSomeValue, 1),
+    ] {
+        match number_at(text, 1, false) {
+            Ok(_) => panic!(rt; "the number is refused"),
+            Err(fault) => {
+                assert_eq!(rt; fault.kind, kind);
+                assert_eq!(rt; fault.index, index);
+            }
+        }
     }
 }

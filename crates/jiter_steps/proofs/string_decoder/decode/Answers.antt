@@ -2,7 +2,7 @@ use Rattle.std.proofs.Common.{◌≡◌, ◌++◌, arith}
 use Rattle.std.specs.Prelude.{slice_range}
 use Rattle.std.specs.Char.{encode_utf8}
 use Rattle.std.proofs.lemmas.Grind.{common_steps}
-use Rattle.jiter_steps.specs.StringDecoder.{stop_seen}
+use Rattle.jiter_steps.specs.StringDecoder.{stop_view}
 use Rattle.jiter_steps.proofs.PlainRuns.{decode_more, decode_over}
 use Rattle.jiter_steps.proofs.string_decoder.decode.Goals as goal
 
@@ -27,7 +27,7 @@ returns-in-End-clause-text c =
     let l = c.loop-c in
     let t = c.args.bytes.now in
     let tape : c.extend.new.bytes.items ≡ l.tape.items ++ slice_range t l.at c.plain_end-to.result = grind (arith, common_steps) in
-    let m = decode_over t c.args.tape.now.items l.tape.items c.extend.new.bytes.items c.args.from l.at c.plain_end-to.result (stop_seen c.in-End.ending) l.invariant.text l.invariant.stop l.invariant.within c.plain_end-to.ensures.stop tape c.in-End.ensures in
+    let m = decode_over t c.args.tape.now.items l.tape.items c.extend.new.bytes.items c.args.from l.at c.plain_end-to.result (stop_view c.in-End.ending) l.invariant.text l.invariant.stop l.invariant.within c.plain_end-to.ensures.stop tape c.in-End.ensures in
     m.0
 
 pub returns-in-End-clause-stop : goal.returns-in-End-clause-stop
@@ -35,5 +35,5 @@ returns-in-End-clause-stop c =
     let l = c.loop-c in
     let t = c.args.bytes.now in
     let tape : c.extend.new.bytes.items ≡ l.tape.items ++ slice_range t l.at c.plain_end-to.result = grind (arith, common_steps) in
-    let m = decode_over t c.args.tape.now.items l.tape.items c.extend.new.bytes.items c.args.from l.at c.plain_end-to.result (stop_seen c.in-End.ending) l.invariant.text l.invariant.stop l.invariant.within c.plain_end-to.ensures.stop tape c.in-End.ensures in
+    let m = decode_over t c.args.tape.now.items l.tape.items c.extend.new.bytes.items c.args.from l.at c.plain_end-to.result (stop_view c.in-End.ending) l.invariant.text l.invariant.stop l.invariant.within c.plain_end-to.ensures.stop tape c.in-End.ensures in
     m.1

@@ -1,7 +1,7 @@
 use Rattle.std.proofs.Common.{◌≡◌, ◌+◌, ◌≤◌, ◌∙◌, false, sym, ap, length, arith}
 use Rattle.std.specs.Prelude.{slice_get, slice_range, Some, None}
 use Rattle.jiter_scan.proofs.Standing.{get-none}
-use Rattle.jiter_steps.specs.StringReading.{as_kept}
+use Rattle.jiter_steps.specs.StringReading.{valid_front}
 use Rattle.jiter_steps.proofs.FrontSteps.{front-advances, front-none, front-quote, front-control}
 use Rattle.jiter_steps.proofs.string_decoder.string_front_at.Goals as goal
 
@@ -12,7 +12,7 @@ returns-in-Ok-clause-value c =
     let to = c.plain_end-to.result in
     let none : slice_get t to ≡ None = cc in
     let end : length t ≡ to = omega (arith, get-none t to none, c.plain_end-to.ensures.within) in
-    front-none t a.at c.requires to c.plain_end-to.ensures.stop none ∙ ap (as_kept (a.at + 1) false (slice_range t (a.at + 1) to)) end ∙ c.in-Ok.ensures
+    front-none t a.at c.requires to c.plain_end-to.ensures.stop none ∙ ap (valid_front (a.at + 1) false (slice_range t (a.at + 1) to)) end ∙ c.in-Ok.ensures
 
 pub returns-in-Err-clause-value : goal.returns-in-Err-clause-value
 returns-in-Err-clause-value c =
@@ -21,7 +21,7 @@ returns-in-Err-clause-value c =
     let to = c.plain_end-to.result in
     let none : slice_get t to ≡ None = cc in
     let end : length t ≡ to = omega (arith, get-none t to none, c.plain_end-to.ensures.within) in
-    front-none t a.at c.requires to c.plain_end-to.ensures.stop none ∙ ap (as_kept (a.at + 1) false (slice_range t (a.at + 1) to)) end ∙ c.in-Err.ensures
+    front-none t a.at c.requires to c.plain_end-to.ensures.stop none ∙ ap (valid_front (a.at + 1) false (slice_range t (a.at + 1) to)) end ∙ c.in-Err.ensures
 
 pub returns-in-Ok-borrow_front-clause-value : goal.returns-in-Ok-borrow_front-clause-value
 returns-in-Ok-borrow_front-clause-value c =

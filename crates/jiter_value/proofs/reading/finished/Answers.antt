@@ -1,6 +1,6 @@
 use Rattle.std.proofs.Common.{◌≡◌, ◌∙◌, sym, true, false}
 use Rattle.jiter_scan.specs.Kind.{fault_kind}
-use Rattle.jiter_scan.specs.Mode.{is_active}
+use Rattle.jiter_scan.specs.PartialMode.{is_active}
 use Rattle.jiter_value.specs.Value.{view}
 use Rattle.jiter_value.proofs.Answering.{answered-front, answered-end, answered-trailing}
 use Rattle.jiter_value.proofs.reading.finished.Goals as goal

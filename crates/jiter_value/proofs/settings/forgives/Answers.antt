@@ -1,6 +1,6 @@
 use Rattle.std.proofs.Common.{◌≡◌, ◌≢◌, ◌⊎◌, inl, inr, false, true, cond, refl, ap, sym, ◌∙◌}
 use Rattle.jiter_scan.specs.Kind.{Kind, fault_kind, is_forgiven}
-use Rattle.jiter_scan.specs.Mode.{is_active}
+use Rattle.jiter_scan.specs.PartialMode.{is_active}
 use Rattle.jiter_scan.specs.declared.errors.FaultKind.{FaultKind}
 use Rattle.jiter_scan.specs.declared.errors.FaultKind.TheVariants.{EofWhileParsingList, EofWhileParsingObject, EofWhileParsingString, EofWhileParsingValue, ExpectedListCommaOrEnd, ExpectedObjectCommaOrEnd}
 use Rattle.jiter_scan.specs.declared.partial_mode.PartialMode.{PartialMode}

@@ -4,7 +4,7 @@ use Rattle.jiter_scan.specs.Kind.{fault_kind}
 use Rattle.jiter_scan.specs.Scanned.{taken, failed}
 use Rattle.jiter_steps.specs.Frames.{value_from}
 use Rattle.jiter_steps.specs.Step.{object_colon}
-use Rattle.jiter_steps.specs.StringDecoder.{text_seen}
+use Rattle.jiter_steps.specs.StringDecoder.{text_view}
 use Rattle.jiter_steps.specs.StringReading.{string_at, whole}
 use Rattle.jiter_value.specs.Settings.{rules}
 use Rattle.jiter_value.specs.Stacks.{frames, HaveBases, key_fault}
@@ -23,10 +23,10 @@ returns-then-len-gt-NESTING_LIMIT-clause-reaches c =
     let i = a.parser.now.index in
     let e = c.string.new.self.index in
     let m = c.object_colon.new.self.index in
-    let v : string_at whole t i ≡ taken (text_seen c.in-Ok.key) e = scalar-taken i (string_at whole t i) (text_seen c.in-Ok.key) e c.in-Ok.ensures.value in
+    let v : string_at whole t i ≡ taken (text_view c.in-Ok.key) e = scalar-taken i (string_at whole t i) (text_view c.in-Ok.key) e c.in-Ok.ensures.value in
     let colon : object_colon t e ≡ taken tt m = subst (λ u. object_colon u e ≡ taken tt m) (ap (λ b. b.now) c.in-Ok.ensures.moves.same) c.in-Ok-object_colon.ensures.value in
     let full : length (reverse s.nest.items) ≡ 201 = omega (arith, length-reverse s.nest.items, c.len.ensures.value, c.if-len-gt-NESTING_LIMIT.true, c.requires.room) in
-    rw c.too_deep.ensures (key-limit a.settings t (reverse s.nest.items) s.items.items s.members.items i (text_seen c.in-Ok.key) e m c.requires.stands c.requires.within v colon full)
+    rw c.too_deep.ensures (key-limit a.settings t (reverse s.nest.items) s.items.items s.members.items i (text_view c.in-Ok.key) e m c.requires.stands c.requires.within v colon full)
 
 pub returns-in_ok-push-in-Ok-object_colon-clause-reaches : goal.returns-in_ok-push-in-Ok-object_colon-clause-reaches
 returns-in_ok-push-in-Ok-object_colon-clause-reaches c =
@@ -40,7 +40,7 @@ returns-in_ok-push-in-Ok-object_colon-clause-reaches c =
     let k = c.in-Ok.key in
     let e = c.string.new.self.index in
     let m = c.object_colon.new.self.index in
-    let v : string_at whole t i ≡ taken (text_seen k) e = scalar-taken i (string_at whole t i) (text_seen k) e c.in-Ok.ensures.value in
+    let v : string_at whole t i ≡ taken (text_view k) e = scalar-taken i (string_at whole t i) (text_view k) e c.in-Ok.ensures.value in
     let same = ap (λ b. b.now) c.in-Ok.ensures.moves.same in
     let colon : object_colon t e ≡ taken tt m = subst (λ u. object_colon u e ≡ taken tt m) same c.in-Ok-object_colon.ensures.value in
     let place : m < length t = subst (λ u. m < length u) same c.in-Ok-object_colon.ensures.inside in
@@ -63,13 +63,13 @@ returns-in-Err-clause-reaches c =
     let j = c.object_colon.new.self.index in
     let f = c.in-Err.fault in
     let k = fault_kind f.kind in
-    let v : string_at whole t i ≡ taken (text_seen c.in-Ok.key) e = scalar-taken i (string_at whole t i) (text_seen c.in-Ok.key) e c.in-Ok.ensures.value in
+    let v : string_at whole t i ≡ taken (text_view c.in-Ok.key) e = scalar-taken i (string_at whole t i) (text_view c.in-Ok.key) e c.in-Ok.ensures.value in
     let first = ap (λ b. b.now) c.in-Ok.ensures.moves.same in
     let h = c.in-Err.ensures.value in
     let colon : object_colon t e ≡ failed k f.index = subst (λ u. object_colon u e ≡ failed k f.index) first h.0 in
     let same : c.object_colon.new.self.bytes.now ≡ t = ap (λ b. b.now) c.in-Err.ensures.moves.same ∙ first in
     reaches-along p t c.key_faulted.new.stacks c.key_faulted.new.parser.index c.key_faulted.result _ _
-    (colon-fails p t (reverse s.nest.items) s.items.items s.members.items i (text_seen c.in-Ok.key) e f.index k c.requires.stands c.requires.within v colon ∙ ap (key_fault p t s k f.index) (sym h.1))
+    (colon-fails p t (reverse s.nest.items) s.items.items s.members.items i (text_view c.in-Ok.key) e f.index k c.requires.stands c.requires.within v colon ∙ ap (key_fault p t s k f.index) (sym h.1))
     (subst (λ u. Reaches p u c.key_faulted.new.stacks c.key_faulted.new.parser.index c.key_faulted.result (key_fault p u s k f.index j)) same c.key_faulted.ensures.reaches)
 
 pub returns-in-Err-Fault-clause-reaches : goal.returns-in-Err-Fault-clause-reaches

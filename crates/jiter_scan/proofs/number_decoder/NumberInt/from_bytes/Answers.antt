@@ -1,9 +1,12 @@
 use Rattle.jiter_scan.specs.NumberReading.{int_alone}
-use Rattle.jiter_scan.specs.NumberView.{int_view}
+use Rattle.jiter_scan.specs.NumberDecoder.{int_view}
 use Rattle.jiter_scan.proofs.NumberBounds.{int_alone-within}
 use Rattle.jiter_scan.proofs.Scanning.{AnswersAlone-fault}
 use Rattle.jiter_scan.proofs.number_decoder.NumberInt.from_bytes.Goals as goal
 
 pub returns-in-Err : goal.returns-in-Err
 returns-in-Err c =
-    record { value = AnswersAlone-fault int_view c.args.bytes.now (int_alone c.args.bytes.now) c.in-Err.fault c.from.result (int_alone-within c.args.bytes.now) c.in-Err.ensures c.from.ensures }
+    record {
+      value = AnswersAlone-fault int_view c.args.bytes.now (int_alone c.args.bytes.now) c.in-Err.fault c.from.result
+          (int_alone-within c.args.bytes.now) c.in-Err.ensures c.from.ensures;
+    }

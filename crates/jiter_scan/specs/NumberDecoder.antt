@@ -1,5 +1,6 @@
 -- The numbers of the code, as values, and what a function of the code says of a number that it read.
 use Rattle.std.specs.Prelude.{◌≡◌, ◌⊎◌, ◌+◌, ◌-◌, ◌^◌, ◌<◌, ◌≤◌, ℕ, min, List, slice_get, Some}
+use Rattle.jiter_scan.specs.Ascii as ascii
 use Rattle.jiter_scan.specs.Digits.{decimal_of}
 use Rattle.jiter_scan.specs.Number.{Number, integer, big, float}
 use Rattle.jiter_scan.specs.NumberReading as reading
@@ -36,4 +37,4 @@ magnitude_of w = min (decimal_of w) (2 ^ 64 - 1)
 
 -- nothing, or a minus, stands from i to before j
 abbrev pub IsMinusTo : List ℕ → ℕ → ℕ → Type 0
-IsMinusTo t i j = (j ≡ i) ⊎ ((j ≡ i + 1) × (slice_get t i ≡ Some 45))
+IsMinusTo t i j = (j ≡ i) ⊎ ((j ≡ i + 1) × (slice_get t i ≡ Some ascii.minus))

@@ -10,7 +10,7 @@ use Rattle.jiter_scan.specs.Kind.{Kind, invalid_escape, lone_surrogate, end_of_h
 use Rattle.jiter_steps.specs.Escape.{short_escape, is_hex, unit_of, is_high, is_low, pair_of}
 use Rattle.jiter_scan.specs.Stands.{Stands}
 use Rattle.jiter_steps.specs.Piece.{IsUnit, IsEscape}
-use Rattle.jiter_steps.specs.StringReading.{closed, unclosed, cut, wrong, Found, part, over, bad_digit, unit_at, few, hex_digits_or, hex_digits_at, behind, unit_then, paired, second_u, second, single, numbered, short, escaped, plain, unquoted, found, found_at}
+use Rattle.jiter_steps.specs.StringReading.{closed, unclosed, cut, wrong, Place, part, over, bad_digit, unit_at, few, hex_digits_or, hex_digits_at, behind, unit_then, surrogate_pair, behind_high_backslash, behind_high, single, unicode_escape, short, behind_backslash, plain, escape_or_plain, place_by, place_at}
 use Rattle.jiter_scan.proofs.Choices.{if_case}
 use Rattle.jiter_scan.proofs.Standing.{stands-append}
 use Rattle.jiter_steps.proofs.StringStand.{stands-more, got}
@@ -40,7 +40,7 @@ pub record EscapeAt (t : List ℕ) (i : ℕ) (bs : List ℕ) (j : ℕ) : Type 0 
 abbrev pub IsPlaceKind : Kind → Type 0
 IsPlaceKind k = (k ≡ invalid_escape) ⊎ ((k ≡ lone_surrogate) ⊎ ((k ≡ end_of_hex_escape) ⊎ (k ≡ control_character)))
 
-abbrev pub Explains : List ℕ → ℕ → Found → Type 0
+abbrev pub Explains : List ℕ → ℕ → Place → Type 0
 Explains t i (part bs false j) = ByteAt t i bs j
 Explains t i (part bs true j) = EscapeAt t i bs j
 Explains t i (over (closed e)) = (slice_get t i ≡ Some 34) × (e ≡ i + 1)
@@ -57,8 +57,8 @@ abbrev BadOrHex : List ℕ → ℕ → Option ℕ → Type 0
 BadOrHex t i None = HexAt t i
 BadOrHex t i (Some k) = (i ≤ k) × (k < i + 4)
 
-bad_digit-explained : (t : List ℕ) (i : ℕ) → i + 4 ≤ length t → BadOrHex t i (bad_digit t i)
-bad_digit-explained t i within =
+bad_digit-explains : (t : List ℕ) (i : ℕ) → i + 4 ≤ length t → BadOrHex t i (bad_digit t i)
+bad_digit-explains t i within =
     let third = if is_hex (slice_index t (i + 3)) then None else Some (i + 3) in
     let last = if is_hex (slice_index t (i + 2)) then third else Some (i + 2) in
     let two = if is_hex (slice_index t (i + 1)) then last else Some (i + 1) in
@@ -70,11 +70,11 @@ bad_digit-explained t i within =
     (λ e. (omega arith, omega arith)))
     (λ e. (omega arith, omega arith))
 
-pub hex_digits_at-case : (P : Found → Type 0) (t : List ℕ) (i : ℕ) (next : ℕ → Found) → P (over cut) → ((k : ℕ) → i ≤ k → k < length t → P (over (wrong invalid_escape k))) → (HexAt t i → P (next (unit_at t i)))
+pub hex_digits_at-case : (P : Place → Type 0) (t : List ℕ) (i : ℕ) (next : ℕ → Place) → P (over cut) → ((k : ℕ) → i ≤ k → k < length t → P (over (wrong invalid_escape k))) → (HexAt t i → P (next (unit_at t i)))
     → P (behind next (hex_digits_at t i))
 hex_digits_at-case P t i next none wrong_at good =
     if_case (λ d. P (behind next d)) (nat_lt (length t) (i + 4)) few (hex_digits_or (bad_digit t i) (unit_at t i)) (λ e. none) (λ e.
-    let within : i + 4 ≤ length t = ltb-false (length t) (i + 4) e in by within (bad_digit t i) (bad_digit-explained t i within)) where
+    let within : i + 4 ≤ length t = ltb-false (length t) (i + 4) e in by within (bad_digit t i) (bad_digit-explains t i within)) where
       by : i + 4 ≤ length t → (x : Option ℕ) → BadOrHex t i x → P (behind next (hex_digits_or x (unit_at t i)))
       by within None h = good h
       by within (Some k) h = wrong_at k h.0 (omega arith)
@@ -122,9 +122,9 @@ at-most-four : (c o j : ℕ) → o + 6 ≤ j → o + length (encode_utf8 c) ≤ 
 at-most-four c o j h = let long = length-encode c in let most = len_utf8_bounds c in omega (arith, most.1)
 
 module _ (t : List ℕ) (o : ℕ) (slash : slice_get t o ≡ Some 92) where
-  paired-explained : (high i : ℕ) → i ≡ o + 7 → slice_get t (o + 1) ≡ Some 117 → slice_get t (o + 6) ≡ Some 92 → slice_get t i ≡ Some 117 → is_high high ≡ true → HexAt t (o + 2) → unit_at t (o + 2) ≡ high
-      → HexAt t (i + 1) → Explains t o (paired high (i + 1 + 4) (unit_at t (i + 1)))
-  paired-explained high i at u s2 u2 hi hx me y =
+  surrogate_pair-explains : (high i : ℕ) → i ≡ o + 7 → slice_get t (o + 1) ≡ Some 117 → slice_get t (o + 6) ≡ Some 92 → slice_get t i ≡ Some 117 → is_high high ≡ true → HexAt t (o + 2) → unit_at t (o + 2) ≡ high
+      → HexAt t (i + 1) → Explains t o (surrogate_pair high (i + 1 + 4) (unit_at t (i + 1)))
+  surrogate_pair-explains high i at u s2 u2 hi hx me y =
       let low = unit_at t (i + 1) in
       if_case (Explains t o) (is_low low) (part (encode_utf8 (pair_of high low)) true (i + 1 + 4)) (over (wrong lone_surrogate (i + 1 + 4 - 1))) (λ lo. record {
         character = pair_of high low;
@@ -152,26 +152,26 @@ module _ (t : List ℕ) (o : ℕ) (slash : slice_get t o ≡ Some 92) where
       })
       (λ no. (omega arith, omega (arith, y.within), inr (inl refl)))
 
-  second_u-explained : (high i : ℕ) → i ≡ o + 7 → slice_get t (o + 1) ≡ Some 117 → slice_get t (o + 6) ≡ Some 92 → is_high high ≡ true → HexAt t (o + 2) → unit_at t (o + 2) ≡ high
-      → (x : Option ℕ) → slice_get t i ≡ x → Explains t o (second_u t high i x)
-  second_u-explained high i at u s2 hi hx me None e = slash
-  second_u-explained high i at u s2 hi hx me (Some b) e =
+  behind_high_backslash-explains : (high i : ℕ) → i ≡ o + 7 → slice_get t (o + 1) ≡ Some 117 → slice_get t (o + 6) ≡ Some 92 → is_high high ≡ true → HexAt t (o + 2) → unit_at t (o + 2) ≡ high
+      → (x : Option ℕ) → slice_get t i ≡ x → Explains t o (behind_high_backslash t high i x)
+  behind_high_backslash-explains high i at u s2 hi hx me None e = slash
+  behind_high_backslash-explains high i at u s2 hi hx me (Some b) e =
       let inside = slice_get_within t i b e in
-      if_case (Explains t o) (b == 117) (unit_then t (i + 1) (paired high)) (over (wrong end_of_hex_escape i))
-      (λ q. hex_digits_at-case (Explains t o) t (i + 1) (paired high (i + 1 + 4)) slash (λ k lo up. (omega arith, up, inl refl)) (λ y. paired-explained high i at u s2 (e ∙ ap Some (eqb-true b 117 q)) hi hx me y))
+      if_case (Explains t o) (b == 117) (unit_then t (i + 1) (surrogate_pair high)) (over (wrong end_of_hex_escape i))
+      (λ q. hex_digits_at-case (Explains t o) t (i + 1) (surrogate_pair high (i + 1 + 4)) slash (λ k lo up. (omega arith, up, inl refl)) (λ y. surrogate_pair-explains high i at u s2 (e ∙ ap Some (eqb-true b 117 q)) hi hx me y))
       (λ q. (omega arith, inside, inr (inr (inl refl))))
 
-  second-explained : (high i : ℕ) → i ≡ o + 6 → slice_get t (o + 1) ≡ Some 117 → is_high high ≡ true → HexAt t (o + 2) → unit_at t (o + 2) ≡ high
-      → (x : Option ℕ) → slice_get t i ≡ x → Explains t o (second t high i x)
-  second-explained high i at u hi hx me None e = slash
-  second-explained high i at u hi hx me (Some b) e =
+  behind_high-explains : (high i : ℕ) → i ≡ o + 6 → slice_get t (o + 1) ≡ Some 117 → is_high high ≡ true → HexAt t (o + 2) → unit_at t (o + 2) ≡ high
+      → (x : Option ℕ) → slice_get t i ≡ x → Explains t o (behind_high t high i x)
+  behind_high-explains high i at u hi hx me None e = slash
+  behind_high-explains high i at u hi hx me (Some b) e =
       let inside = slice_get_within t i b e in
-      if_case (Explains t o) (b == 92) (second_u t high (i + 1) (slice_get t (i + 1))) (over (wrong end_of_hex_escape i))
-      (λ q. second_u-explained high (i + 1) (omega arith) u (subst (λ k. slice_get t k ≡ Some 92) at (e ∙ ap Some (eqb-true b 92 q))) hi hx me (slice_get t (i + 1)) refl)
+      if_case (Explains t o) (b == 92) (behind_high_backslash t high (i + 1) (slice_get t (i + 1))) (over (wrong end_of_hex_escape i))
+      (λ q. behind_high_backslash-explains high (i + 1) (omega arith) u (subst (λ k. slice_get t k ≡ Some 92) at (e ∙ ap Some (eqb-true b 92 q))) hi hx me (slice_get t (i + 1)) refl)
       (λ q. (omega arith, inside, inr (inr (inl refl))))
 
-  single-explained : (j : ℕ) → j ≡ o + 6 → slice_get t (o + 1) ≡ Some 117 → HexAt t (o + 2) → (u : ℕ) → unit_at t (o + 2) ≡ u → is_high u ≡ false → Explains t o (single j u)
-  single-explained j at uu hx u me hi =
+  single-explains : (j : ℕ) → j ≡ o + 6 → slice_get t (o + 1) ≡ Some 117 → HexAt t (o + 2) → (u : ℕ) → unit_at t (o + 2) ≡ u → is_high u ≡ false → Explains t o (single j u)
+  single-explains j at uu hx u me hi =
       if_case (Explains t o) (is_low u) (over (wrong lone_surrogate (j - 1))) (part (encode_utf8 u) true j)
       (λ lo. (omega arith, omega (arith, hx.within), inr (inl refl)))
       (λ lo.
@@ -190,13 +190,13 @@ module _ (t : List ℕ) (o : ℕ) (slash : slice_get t o ≡ Some 92) where
         within = omega (arith, hx.within);
       })
 
-  numbered-explained : (j : ℕ) → j ≡ o + 6 → slice_get t (o + 1) ≡ Some 117 → HexAt t (o + 2) → (u : ℕ) → unit_at t (o + 2) ≡ u → Explains t o (numbered t j u)
-  numbered-explained j at uu hx u me =
-      if_case (Explains t o) (is_high u) (second t u j (slice_get t j)) (single j u) (λ hi. second-explained u j at uu hi hx me (slice_get t j) refl) (λ hi. single-explained j at uu hx u me hi)
+  unicode_escape-explains : (j : ℕ) → j ≡ o + 6 → slice_get t (o + 1) ≡ Some 117 → HexAt t (o + 2) → (u : ℕ) → unit_at t (o + 2) ≡ u → Explains t o (unicode_escape t j u)
+  unicode_escape-explains j at uu hx u me =
+      if_case (Explains t o) (is_high u) (behind_high t u j (slice_get t j)) (single j u) (λ hi. behind_high-explains u j at uu hi hx me (slice_get t j) refl) (λ hi. single-explains j at uu hx u me hi)
 
-  short-explained : (i b : ℕ) → i ≡ o + 1 → slice_get t i ≡ Some b → (x : Option ℕ) → short_escape b ≡ x → Explains t o (short i x)
-  short-explained i b at e None me = (omega arith, slice_get_within t i b e, inl refl)
-  short-explained i b at e (Some c) me =
+  short-explains : (i b : ℕ) → i ≡ o + 1 → slice_get t i ≡ Some b → (x : Option ℕ) → short_escape b ≡ x → Explains t o (short i x)
+  short-explains i b at e None me = (omega arith, slice_get_within t i b e, inl refl)
+  short-explains i b at e (Some c) me =
       let inside = slice_get_within t i b e in record {
         character = c;
         bytes = 92 ∷ b ∷ [];
@@ -210,22 +210,22 @@ module _ (t : List ℕ) (o : ℕ) (slash : slice_get t o ≡ Some 92) where
         within = omega arith;
       }
 
-  escaped-explained : (i : ℕ) → i ≡ o + 1 → (x : Option ℕ) → slice_get t i ≡ x → Explains t o (escaped t i x)
-  escaped-explained i at None e = slash
-  escaped-explained i at (Some b) e =
+  behind_backslash-explains : (i : ℕ) → i ≡ o + 1 → (x : Option ℕ) → slice_get t i ≡ x → Explains t o (behind_backslash t i x)
+  behind_backslash-explains i at None e = slash
+  behind_backslash-explains i at (Some b) e =
       let next : i + 1 ≡ o + 2 = omega arith in
-      if_case (Explains t o) (b == 117) (unit_then t (i + 1) (numbered t)) (short i (short_escape b))
-      (λ q. hex_digits_at-case (Explains t o) t (i + 1) (numbered t (i + 1 + 4)) slash (λ k lo up. (omega arith, up, inl refl))
-      (λ y. numbered-explained (i + 1 + 4) (omega arith) (subst (λ k. slice_get t k ≡ Some 117) at (e ∙ ap Some (eqb-true b 117 q))) (subst (HexAt t) next y) (unit_at t (i + 1)) (ap (unit_at t) (sym next))))
-      (λ q. short-explained i b at e (short_escape b) refl)
+      if_case (Explains t o) (b == 117) (unit_then t (i + 1) (unicode_escape t)) (short i (short_escape b))
+      (λ q. hex_digits_at-case (Explains t o) t (i + 1) (unicode_escape t (i + 1 + 4)) slash (λ k lo up. (omega arith, up, inl refl))
+      (λ y. unicode_escape-explains (i + 1 + 4) (omega arith) (subst (λ k. slice_get t k ≡ Some 117) at (e ∙ ap Some (eqb-true b 117 q))) (subst (HexAt t) next y) (unit_at t (i + 1)) (ap (unit_at t) (sym next))))
+      (λ q. short-explains i b at e (short_escape b) refl)
 
-pub explained : (t : List ℕ) (i : ℕ) → Explains t i (found_at t i)
-unfolding found_at
-explained t i = by (slice_get t i) refl where
-  by : (x : Option ℕ) → slice_get t i ≡ x → Explains t i (found t i x)
+pub place_at-explains : (t : List ℕ) (i : ℕ) → Explains t i (place_at t i)
+unfolding place_at
+place_at-explains t i = by (slice_get t i) refl where
+  by : (x : Option ℕ) → slice_get t i ≡ x → Explains t i (place_by t i x)
   by None e = e
   by (Some b) e =
-      if_case (Explains t i) (b == 34) (over (closed (i + 1))) (unquoted t i b) (λ q. (e ∙ ap Some (eqb-true b 34 q), refl)) (λ q.
-      if_case (Explains t i) (b == 92) (escaped t (i + 1) (slice_get t (i + 1))) (plain i b) (λ s. escaped-explained t i (e ∙ ap Some (eqb-true b 92 s)) (i + 1) refl (slice_get t (i + 1)) refl) (λ s.
+      if_case (Explains t i) (b == 34) (over (closed (i + 1))) (escape_or_plain t i b) (λ q. (e ∙ ap Some (eqb-true b 34 q), refl)) (λ q.
+      if_case (Explains t i) (b == 92) (behind_backslash t (i + 1) (slice_get t (i + 1))) (plain i b) (λ s. behind_backslash-explains t i (e ∙ ap Some (eqb-true b 92 s)) (i + 1) refl (slice_get t (i + 1)) refl) (λ s.
       if_case (Explains t i) (nat_lt b 32) (over (wrong control_character i)) (part (b ∷ []) false (i + 1)) (λ c. (omega arith, slice_get_within t i b e, inr (inr (inr refl))))
       (λ c. record { byte = b; here = e; is = refl; printed = ltb-false b 32 c; no_quote = eqb-false b 34 q; no_backslash = eqb-false b 92 s; ends = refl })))

@@ -1,0 +1,15 @@
+-- Worked rows on the definitions, by computation.
+mod Computed
+mod Trees
+mod Strings
+mod DamagedStrings
+mod Literals
+mod Steps
+mod Colons
+mod Answers
+mod Depth
+mod PartialAnswers
+mod CutAnywhere
+mod CutNumbers
+mod Skips
+mod Growing
