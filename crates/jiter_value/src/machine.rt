@@ -139,3 +139,6 @@ impl<'j> Machine<'j> {
         }
     }
 }
+
+#[cfg(test)]
+mod tests;
