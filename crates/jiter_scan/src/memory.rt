@@ -1,7 +1,8 @@
 //! What grows: the few requests for memory that the parser makes. Each answers, where it is refused, with
 //! the evidence of it, and nothing outside this module can make that evidence.
-ghost use Rattle.std.specs.Prelude.{◌≡◌, ◌+◌, ◌<◌, ◌≤◌, ◌∷◌, ◌++◌, [], IfOk, OnOk, OnErr, decimal, length, string_bytes, string_capacity, string_len, vec_capacity, vec_len};
+ghost use Rattle.std.specs.Prelude.{◌≡◌, ◌+◌, ◌<◌, ◌≤◌, ◌∷◌, ◌++◌, [], take, drop, IfOk, OnOk, OnErr, decimal, length, string_bytes, string_capacity, string_len, vec_capacity, vec_len};
 
+use smallvec::SmallVec;
 use std::alloc::{AllocError, Global};
 
 /// The evidence that a request for memory was refused.
@@ -27,6 +28,32 @@ pub fn push<T: Drop>(items: &mut Vec<T>, item: T) -> Result<(), Refused>
     match items.push(item) {
         Ok(()) => Ok(()),
         Err(_) => Err(Refused { error: AllocError }),
+    }
+}
+
+/// Appends an item to a vector that keeps its first ones in place.
+pub fn push_small<T: Drop + Default, const N: usize>(
+    items: &mut SmallVec<T, N>,
+    item: T,
+) -> Result<(), Refused>
+    ensures ok { OnOk result (items.new.items ≡ items.old.items ++ item ∷ []) }
+    ensures err { OnErr result (items.new.items ≡ items.old.items) }
+{
+    match items.push(item) {
+        Ok(()) => Ok(()),
+        Err(_) => Err(Refused { error: AllocError }),
+    }
+}
+
+/// Takes the items from the index `at` on.
+pub fn split_off<T: Drop>(items: &mut Vec<T>, at: usize) -> Result<Vec<T>, Refused>
+    requires { at ≤ vec_len items.old }
+    ensures rest { OnOk result (items.new.items ≡ take at items.old.items) }
+    ensures part { IfOk result (λ part. part.items ≡ drop at items.old.items) }
+{
+    match items.split_off(at) {
+        Ok(part) => Ok(part),
+        Err(error) => Err(Refused { error }),
     }
 }
 

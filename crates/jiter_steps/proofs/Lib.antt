@@ -10,6 +10,8 @@ pub mod DecodeSteps
 pub mod Documents
 pub mod Firsts
 pub mod Front
+pub mod FrontSteps
+pub mod FrontTexts
 pub mod Fused
 pub mod Growth
 pub mod Instances
@@ -23,6 +25,7 @@ pub mod Places
 pub mod PlainRuns
 pub mod Prefixes
 pub mod ReadFront
+pub mod Resumed
 pub mod RowSteps
 pub mod ScalarLaws
 pub mod Sound

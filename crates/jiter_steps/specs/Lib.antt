@@ -13,3 +13,4 @@ pub mod Node
 pub mod Cut
 pub mod Answer
 pub mod Extends
+pub mod Frames

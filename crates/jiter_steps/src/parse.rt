@@ -9,11 +9,11 @@ ghost use Rattle.jiter_steps.specs.Literal.{start_of, word_of, literal_at};
 ghost use Rattle.jiter_steps.specs.Step.{step, array_first, array_comma, array_step, object_first, object_comma, object_step, colon, value_first, object_colon, document_end};
 ghost use Rattle.jiter_steps.specs.Read.{scalar_at};
 ghost use Rattle.jiter_steps.specs.ReadError.{WhereRefused};
-ghost use Rattle.jiter_steps.specs.StringReading.{string_at, whole};
+ghost use Rattle.jiter_steps.specs.StringReading.{string_at, whole, kept};
 ghost use Rattle.jiter_steps.specs.StringDecoder.{text_view, WantsMemory};
 
 use crate::read_error::ReadError;
-use crate::string_decoder::string_at;
+use crate::string_decoder::{string_at, string_front_at};
 use jiter_scan::NumberAny;
 use jiter_scan::errors::{Fault, FaultKind};
 use jiter_scan::number_decoder::number_at;
@@ -399,6 +399,26 @@ impl<'j> Parser<'j> {
         ensures memory { WhereRefused result (WantsMemory self.old.bytes.now self.old.index) }
     {
         match string_at(alloc, tape, self.bytes, self.index) {
+            Ok((text, end)) => {
+                self.index = end;
+                Ok(text)
+            }
+            Err(error) => Err(error),
+        }
+    }
+
+    /// The same of a string that the end of the input may cut: as far as its whole characters go.
+    #[inline(always)]
+    pub fn string_front(&mut self, alloc: Global, tape: &mut Vec<u8>) -> Result<CowStr<'j>, ReadError>
+        requires { self.old.index < length self.old.bytes.now }
+        ensures moves { Moves self.old self.new }
+        ensures value { Gives text_view result self.new.index
+            (scalar_at self.old.index (string_at kept self.old.bytes.now self.old.index)) }
+        ensures ahead { OnOk result (self.old.index < self.new.index) }
+        ensures place { OnErr result (self.new.index ≡ self.old.index) }
+        ensures memory { WhereRefused result (WantsMemory self.old.bytes.now self.old.index) }
+    {
+        match string_front_at(alloc, tape, self.bytes, self.index) {
             Ok((text, end)) => {
                 self.index = end;
                 Ok(text)

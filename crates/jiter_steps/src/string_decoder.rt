@@ -1,11 +1,12 @@
 //! Reading a string (RFC 8259, 7 and 8.1): its own bytes where it has no backslash, or else its text decoded.
-ghost use Rattle.std.specs.Prelude.{◌≡◌, ◌+◌, ◌^◌, ◌<◌, ◌≤◌, ◌++◌, length, true, false, slice_get, slice_range, IfOk, IfSome, Some, None};
+ghost use Rattle.std.specs.Prelude.{◌≡◌, ℕ, Bool, ◌+◌, ◌^◌, ◌<◌, ◌≤◌, ◌++◌, length, true, false, slice_get, slice_range, IfOk, IfErr, IfSome, MatchResult, Some, None};
 ghost use Rattle.std.specs.Char.{digit_value, encode_utf8};
 ghost use Rattle.jiter_scan.specs.Scan.{is_stop, scan_stop};
-ghost use Rattle.jiter_scan.specs.Scanned.{Scans, with_end};
+ghost use Rattle.jiter_scan.specs.Kind.{invalid_code_point};
+ghost use Rattle.jiter_scan.specs.Scanned.{Scans, with_end, taken, failed};
 ghost use Rattle.jiter_steps.specs.Escape.{short_escape, is_hex, is_high, is_low};
 ghost use Rattle.jiter_steps.specs.ReadError.{UnlessRefused, WhereRefused};
-ghost use Rattle.jiter_steps.specs.StringReading.{hex_digits_at, place_at, unit_then, behind_backslash, unicode_escape, behind_high, behind_high_backslash, surrogate_pair, body_at, if_utf8, whole, string_at};
+ghost use Rattle.jiter_steps.specs.StringReading.{hex_digits_at, place_at, unit_then, behind_backslash, unicode_escape, behind_high, behind_high_backslash, surrogate_pair, body_at, if_utf8, valid_front, whole, kept, string_at};
 ghost use Rattle.jiter_steps.specs.StringDecoder.{text_view, digits_view, IfNumber, place_view, stop_view, WantsMemory};
 ghost use Rattle.jiter_steps.specs.declared.string_decoder.AtStop.TheVariants as at_stop;
 ghost use Rattle.jiter_steps.specs.declared.string_decoder.Ending.TheVariants as ending;
@@ -371,6 +372,125 @@ pub fn string_at<'j>(
             Err(fault) => Err(ReadError::Fault(fault)),
         },
         Some(b'\\') => decode_text(alloc, tape, bytes, at, to),
+        Some(_) => Err(ReadError::Fault(Fault {
+            kind: FaultKind::ControlCharacterWhileParsingString,
+            index: to,
+        })),
+    }
+}
+
+// The bytes as a text, without an unfinished character at their end; or how many are right before one that is
+// wrong.
+#[tactic(auto, using(crate::proofs::FrontTexts::kept_whole, crate::proofs::FrontTexts::kept_front, crate::proofs::FrontTexts::kept_wrong))]
+fn front_text(bytes: &[u8]) -> Result<&str, usize>
+    ensures value { (i e : ℕ) → (owned : Bool) → MatchResult result
+        (λ text. valid_front i owned bytes.now e ≡ taken (record { owned = owned; bytes = text.now }) e)
+        (λ n. valid_front i owned bytes.now e ≡ failed invalid_code_point (i + n)) }
+    ensures within { IfErr result (λ n. n ≤ length bytes.now) }
+{
+    match simdutf8::compat::from_utf8(bytes) {
+        Ok(text) => Ok(text),
+        Err(e) => match e.error_len() {
+            None => match simdutf8::compat::from_utf8(&bytes[..e.valid_up_to()]) {
+                Ok(text) => Ok(text),
+                Err(_) => unreachable!(),
+            },
+            Some(_) => Err(e.valid_up_to()),
+        },
+    }
+}
+
+// The text of the bytes between, of a string that may be cut.
+fn borrow_front<'j>(
+    bytes: &'j [u8],
+    from: usize,
+    to: usize,
+    end: usize,
+) -> Result<(CowStr<'j>, usize), Fault>
+    requires { (from ≤ to) × (to ≤ length bytes.now) }
+    ensures { Scans (with_end text_view) result
+        (valid_front from false (slice_range bytes.now from to) end) }
+{
+    match front_text(&bytes[from..to]) {
+        Ok(text) => Ok((CowStr::Borrowed(text), end)),
+        Err(right) => Err(Fault {
+            kind: FaultKind::InvalidUnicodeCodePoint,
+            index: from + right,
+        }),
+    }
+}
+
+// The decoded bytes, of a content that begins at `from` and may be cut, as a text of their own.
+fn own_front<'j>(
+    alloc: Global,
+    bytes: &[u8],
+    from: usize,
+    end: usize,
+) -> Result<(CowStr<'j>, usize), ReadError>
+    requires { from + length bytes.now < 2 ^ 64 }
+    ensures { UnlessRefused result (λ r. Scans (with_end text_view) r
+        (valid_front from true bytes.now end)) }
+{
+    match front_text(bytes) {
+        Ok(text) => match copy_text(alloc, text) {
+            Ok(own) => Ok((CowStr::Owned(own), end)),
+            Err(refused) => Err(ReadError::Memory(refused)),
+        },
+        Err(right) => Err(ReadError::Fault(Fault {
+            kind: FaultKind::InvalidUnicodeCodePoint,
+            index: from + right,
+        })),
+    }
+}
+
+// The text of a string that may be cut, whose plain bytes end at `to`, with a backslash.
+fn decode_front<'j>(
+    alloc: Global,
+    tape: &mut Vec<u8>,
+    bytes: &'j [u8],
+    at: usize,
+    to: usize,
+) -> Result<(CowStr<'j>, usize), ReadError>
+    requires within { at < length bytes.now }
+    requires stop { to ≡ scan_stop bytes.now (at + 1) }
+    requires backslash { slice_get bytes.now to ≡ Some 92 }
+    ensures { UnlessRefused result (λ r. Scans (with_end text_view) r
+        (string_at kept bytes.now at)) }
+{
+    match decode_from(tape, bytes, at + 1, to) {
+        Ok(Ending::Closed(end)) => own_front(alloc, tape.as_slice(), at + 1, end),
+        Ok(Ending::Wrong(fault)) => Err(ReadError::Fault(fault)),
+        Ok(Ending::Unclosed) => own_front(alloc, tape.as_slice(), at + 1, bytes.len()),
+        Ok(Ending::Cut) => own_front(alloc, tape.as_slice(), at + 1, bytes.len()),
+        Err(refused) => Err(ReadError::Memory(refused)),
+    }
+}
+
+/// The same of a string that the end of the input may cut: its text goes as far as whole characters do, and
+/// its end is then the length.
+pub fn string_front_at<'j>(
+    alloc: Global,
+    tape: &mut Vec<u8>,
+    bytes: &'j [u8],
+    at: usize,
+) -> Result<(CowStr<'j>, usize), ReadError>
+    requires { at < length bytes.now }
+    ensures value { UnlessRefused result (λ r. Scans (with_end text_view) r
+        (string_at kept bytes.now at)) }
+    ensures advances { IfOk result (λ x. (at < x.1) × (x.1 ≤ length bytes.now)) }
+    ensures memory { WhereRefused result (WantsMemory bytes.now at) }
+{
+    let to = plain_end(bytes, at + 1);
+    match byte_at(bytes, to) {
+        None => match borrow_front(bytes, at + 1, to, to) {
+            Ok(text) => Ok(text),
+            Err(fault) => Err(ReadError::Fault(fault)),
+        },
+        Some(b'"') => match borrow_front(bytes, at + 1, to, to + 1) {
+            Ok(text) => Ok(text),
+            Err(fault) => Err(ReadError::Fault(fault)),
+        },
+        Some(b'\\') => decode_front(alloc, tape, bytes, at, to),
         Some(_) => Err(ReadError::Fault(Fault {
             kind: FaultKind::ControlCharacterWhileParsingString,
             index: to,

@@ -4,8 +4,8 @@ use Rattle.std.specs.declared.alloc.Global.{Global}
 use Rattle.std.specs.declared.borrow.CowStr.{CowStr}
 use Rattle.jiter_steps.specs.Tree.{array, object, member, items_of, members_of}
 use Rattle.jiter_steps.specs.StringDecoder.{text_view}
-use Rattle.jiter_value.specs.Value.{view, views, member_views}
-use Rattle.jiter_value.specs.Read.{member_view}
+use Rattle.jiter_value.specs.Value.{view, member_views}
+use Rattle.jiter_value.specs.Stacks.{member_view}
 use Rattle.jiter_value.specs.declared.value.JsonValue.{JsonValue, Array, Object, the_lemmas}
 
 pub member_views_is : (ms : List (CowStr Global × JsonValue)) → member_views ms ≡ members_of (map member_view ms)

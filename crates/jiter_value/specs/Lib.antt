@@ -1,2 +1,8 @@
 pub mod Value
-pub mod Read
+pub mod Settings
+pub mod Stacks
+pub mod Size
+pub mod Turns
+pub mod Reading
+pub mod Machine
+pub mod Turned

@@ -1,43 +1,15 @@
-use Rattle.std.proofs.Common.{◌≡◌, ◌∙◌, inr, sym, ap, subst, true, arith}
-use Rattle.jiter_scan.specs.Kind.{is_end_kind}
 use Rattle.jiter_steps.proofs.Documents.{one_node}
-use Rattle.jiter_value.proofs.Parsed.{found, only-value, cut-value, no-document, fault-within, cut-fault}
+use Rattle.jiter_value.proofs.Parsed.{parse-found, parse-only, parse-early}
 use Rattle.jiter_value.proofs.value.JsonValue.parse.Goals as goal
 
-pub returns-in-Ok-clause-found : goal.returns-in-Ok-clause-found
-returns-in-Ok-clause-found c = found c.args.allow_inf_nan c.args.bytes.now c.in-Ok.value (rw c.new-parser.ensures.same at c.in-Ok.ensures.value)
+pub returns-clause-found : goal.returns-clause-found
+returns-clause-found c = parse-found c.args.allow_inf_nan c.args.bytes.now c.parse_with_config.result c.parse_with_config.ensures.answer
 
-pub returns-in-Ok-clause-only : goal.returns-in-Ok-clause-only
-returns-in-Ok-clause-only c = only-value c.args.allow_inf_nan c.args.bytes.now c.in-Ok.value (rw c.new-parser.ensures.same at c.in-Ok.ensures.value)
+pub returns-clause-only : goal.returns-clause-only
+returns-clause-only c = parse-only c.args.allow_inf_nan c.args.bytes.now c.parse_with_config.result c.parse_with_config.ensures.answer
 
-pub returns-in-Ok-clause-one : goal.returns-in-Ok-clause-one
-returns-in-Ok-clause-one c = one_node c.args.allow_inf_nan c.args.bytes.now
+pub returns-clause-one : goal.returns-clause-one
+returns-clause-one c = one_node c.args.allow_inf_nan c.args.bytes.now
 
-pub returns-in-Ok-clause-early : goal.returns-in-Ok-clause-early
-returns-in-Ok-clause-early c = cut-value c.args.allow_inf_nan c.args.bytes.now c.in-Ok.value (rw c.new-parser.ensures.same at c.in-Ok.ensures.value)
-
-pub returns-in-Err-Fault-clause-only : goal.returns-in-Err-Fault-clause-only
-returns-in-Err-Fault-clause-only c =
-    let read = rw (c.in-Err-Fault.field-0-is, c.new-parser.ensures.same) at c.in-Err-Fault.ensures.value in
-    λ n d. absurd (no-document c.args.allow_inf_nan c.args.bytes.now c.in-Err-Fault.fault _ read n d)
-
-pub returns-in-Err-Fault-clause-one : goal.returns-in-Err-Fault-clause-one
-returns-in-Err-Fault-clause-one c = one_node c.args.allow_inf_nan c.args.bytes.now
-
-pub returns-in-Err-Fault-clause-index : goal.returns-in-Err-Fault-clause-index
-returns-in-Err-Fault-clause-index c =
-    let read = rw (c.in-Err-Fault.field-0-is, c.new-parser.ensures.same) at c.in-Err-Fault.ensures.value in
-    rw c.from.ensures.1 (fault-within c.args.allow_inf_nan c.args.bytes.now c.in-Err-Fault.fault _ read).within
-
-pub returns-in-Err-Fault-clause-ends : goal.returns-in-Err-Fault-clause-ends
-returns-in-Err-Fault-clause-ends c =
-    let read = rw (c.in-Err-Fault.field-0-is, c.new-parser.ensures.same) at c.in-Err-Fault.ensures.value in
-    rw (c.from.ensures.0, c.from.ensures.1) (fault-within c.args.allow_inf_nan c.args.bytes.now c.in-Err-Fault.fault _ read).ends
-
-pub returns-in-Err-Fault-clause-early : goal.returns-in-Err-Fault-clause-early
-returns-in-Err-Fault-clause-early c =
-    let read = rw (c.in-Err-Fault.field-0-is, c.new-parser.ensures.same) at c.in-Err-Fault.ensures.value in
-    λ cut. inr (rw c.from.ensures.0 (cut-fault c.args.allow_inf_nan c.args.bytes.now c.in-Err-Fault.fault _ read cut))
-
-pub returns-in-Err-Memory-clause-one : goal.returns-in-Err-Memory-clause-one
-returns-in-Err-Memory-clause-one c = one_node c.args.allow_inf_nan c.args.bytes.now
+pub returns-clause-early : goal.returns-clause-early
+returns-clause-early c = parse-early c.args.allow_inf_nan c.args.bytes.now c.parse_with_config.result c.parse_with_config.ensures.answer
