@@ -7,7 +7,7 @@ use Rattle.std.specs.declared.borrow.CowStr.{CowStr}
 use Rattle.jiter_steps.specs.Tree.{Text, Tree, items_of, members_of}
 use Rattle.jiter_value.specs.Value.{view, views, member_views}
 use Rattle.jiter_value.specs.declared.value.JsonValue.{JsonValue}
-use Rattle.jiter_value.specs.Read.{member_view}
+use Rattle.jiter_value.specs.Stacks.{member_view}
 use Rattle.jiter_value.proofs.Views.{member_views_is}
 use Rattle.look.specs.Print.{comma, print_text, print_of, print_items, print_more_items, print_members}
 use Rattle.look.specs.Print.{print_more_members}
