@@ -17,10 +17,11 @@ use Rattle.jiter_value.specs.declared.value.JsonValue.{JsonValue}
 abbrev pub member_view : CowStr Global × JsonValue → Text × Tree
 member_view m = (text_view m.0, view m.1)
 
--- the array and the object that begin at i, with this room for containers inside
+-- the array that begins at i, with this room for containers inside
 abbrev pub array_at : Bool → ℕ → ℕ → List ℕ → Container Tree Tree
 array_at names room i t = array_of (whole_trees names) (inside_at (whole_trees names) t room) t i
 
+-- the same of an object
 abbrev pub object_at : Bool → ℕ → ℕ → List ℕ → Container (Text × Tree) Tree
 object_at names room i t = object_of (whole_trees names) (inside_at (whole_trees names) t room) t i
 
@@ -28,10 +29,11 @@ object_at names room i t = object_of (whole_trees names) (inside_at (whole_trees
 abbrev pub member_at : Bool → List ℕ → ℕ → ℕ → Reading (Text × Tree)
 member_at names t room i = behind_key (inside_at (whole_trees names) t room) t i ((whole_trees names).key t i)
 
--- What was returned of a whole text is this reading, unless memory was refused; a fault leaves the reader at i.
+-- What was returned of a whole text is this reading; a fault leaves the reader at i.
 abbrev pub ReadsWhole : Result JsonValue Fault → ℕ → Reading Tree → Type 0
 ReadsWhole (Ok v) i r = (e : ℕ) × (r ≡ done (view v) e)
 ReadsWhole (Err f) i r = r ≡ fault (fault_kind f.kind) f.index i
 
+-- The same, unless memory was refused.
 abbrev pub GivesWhole : Result JsonValue ReadError → ℕ → Reading Tree → Type 0
 GivesWhole result i r = UnlessRefused result (λ x. ReadsWhole x i r)

@@ -62,10 +62,7 @@ fn read_literal<'j>(parser: &mut Parser<'j>, literal: Literal) -> Result<JsonVal
 }
 
 #[tactic(auto, using(crate::proofs::Turns::seen_done, crate::proofs::Turns::seen_fault))]
-fn read_number<'j>(
-    parser: &mut Parser<'j>,
-    allow_inf_nan: bool,
-) -> Result<JsonValue<'j>, ReadError>
+fn read_number<'j>(parser: &mut Parser<'j>, allow_inf_nan: bool) -> Result<JsonValue<'j>, ReadError>
     requires { parser.old.index < length parser.old.bytes.now }
     ensures moves { Moves parser.old parser.new }
     ensures value { Gives view result parser.new.index (scalar_at parser.old.index

@@ -21,14 +21,16 @@ decreases-read_object l = 4 * l.room + 2
 
 abbrev pub invariant-read_array-loop-more : goal.invariant-read_array-loop-more
 invariant-read_array-loop-more l =
-    Turn l.allow_inf_nan (array_at l.allow_inf_nan l.room l.fn.parser.index) view l.fn.parser l.parser l.items.items l.more
+    Turn l.allow_inf_nan
+    (array_at l.allow_inf_nan l.room l.fn.parser.index) view l.fn.parser l.parser l.items.items l.more
 
 abbrev pub decreases-read_array-loop-more : goal.decreases-read_array-loop-more
 decreases-read_array-loop-more l = length l.parser.bytes.now - l.parser.index + (if l.more then 1 else 0)
 
 abbrev pub invariant-read_object-loop-more : goal.invariant-read_object-loop-more
 invariant-read_object-loop-more l =
-    Turn l.allow_inf_nan (object_at l.allow_inf_nan l.room l.fn.parser.index) member_view l.fn.parser l.parser l.members.items l.more
+    Turn l.allow_inf_nan
+    (object_at l.allow_inf_nan l.room l.fn.parser.index) member_view l.fn.parser l.parser l.members.items l.more
 
 abbrev pub decreases-read_object-loop-more : goal.decreases-read_object-loop-more
 decreases-read_object-loop-more l = length l.parser.bytes.now - l.parser.index + (if l.more then 1 else 0)

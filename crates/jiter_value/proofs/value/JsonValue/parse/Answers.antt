@@ -1,20 +1,24 @@
-use Rattle.std.proofs.Common.{◌≡◌, ◌∙◌, inr, sym, ap, subst, true, arith}
-use Rattle.jiter_scan.specs.Kind.{is_end_kind}
+use Rattle.std.proofs.Common.{inr}
 use Rattle.jiter_steps.proofs.Documents.{one_node}
 use Rattle.jiter_value.proofs.Parsed.{found, only-value, cut-value, no-document, fault-within, cut-fault}
 use Rattle.jiter_value.proofs.value.JsonValue.parse.Goals as goal
 
 pub returns-in-Ok-clause-found : goal.returns-in-Ok-clause-found
-returns-in-Ok-clause-found c = found c.args.allow_inf_nan c.args.bytes.now c.in-Ok.value (rw c.new-parser.ensures.same at c.in-Ok.ensures.value)
+returns-in-Ok-clause-found c =
+    found c.args.allow_inf_nan c.args.bytes.now c.in-Ok.value (rw c.new-parser.ensures.same at c.in-Ok.ensures.value)
 
 pub returns-in-Ok-clause-only : goal.returns-in-Ok-clause-only
-returns-in-Ok-clause-only c = only-value c.args.allow_inf_nan c.args.bytes.now c.in-Ok.value (rw c.new-parser.ensures.same at c.in-Ok.ensures.value)
+returns-in-Ok-clause-only c =
+    only-value c.args.allow_inf_nan c.args.bytes.now c.in-Ok.value
+    (rw c.new-parser.ensures.same at c.in-Ok.ensures.value)
 
 pub returns-in-Ok-clause-one : goal.returns-in-Ok-clause-one
 returns-in-Ok-clause-one c = one_node c.args.allow_inf_nan c.args.bytes.now
 
 pub returns-in-Ok-clause-early : goal.returns-in-Ok-clause-early
-returns-in-Ok-clause-early c = cut-value c.args.allow_inf_nan c.args.bytes.now c.in-Ok.value (rw c.new-parser.ensures.same at c.in-Ok.ensures.value)
+returns-in-Ok-clause-early c =
+    cut-value c.args.allow_inf_nan c.args.bytes.now c.in-Ok.value
+    (rw c.new-parser.ensures.same at c.in-Ok.ensures.value)
 
 pub returns-in-Err-Fault-clause-only : goal.returns-in-Err-Fault-clause-only
 returns-in-Err-Fault-clause-only c =
@@ -32,7 +36,8 @@ returns-in-Err-Fault-clause-index c =
 pub returns-in-Err-Fault-clause-ends : goal.returns-in-Err-Fault-clause-ends
 returns-in-Err-Fault-clause-ends c =
     let read = rw (c.in-Err-Fault.field-0-is, c.new-parser.ensures.same) at c.in-Err-Fault.ensures.value in
-    rw (c.from.ensures.0, c.from.ensures.1) (fault-within c.args.allow_inf_nan c.args.bytes.now c.in-Err-Fault.fault _ read).ends
+    rw (c.from.ensures.0, c.from.ensures.1)
+    (fault-within c.args.allow_inf_nan c.args.bytes.now c.in-Err-Fault.fault _ read).ends
 
 pub returns-in-Err-Fault-clause-early : goal.returns-in-Err-Fault-clause-early
 returns-in-Err-Fault-clause-early c =
