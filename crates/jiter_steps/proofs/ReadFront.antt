@@ -13,10 +13,9 @@ use Rattle.jiter_steps.specs.Read.{Reading, done, fault, Rules, Container, scala
 use Rattle.jiter_steps.specs.Step.{array_first, object_first, object_colon}
 use Rattle.jiter_steps.specs.declared.parse.Literal.{Literal}
 use Rattle.jiter_steps.specs.declared.parse.Start.{Start}
-use Rattle.jiter_steps.proofs.SpelledParts.{start_is, node-starts, begins-value, nodes_list, members_list, IsItem, IsMember, items-parts, members-parts}
+use Rattle.jiter_steps.proofs.SpelledParts.{start_is, node-starts, begins-value, nodes_list, members_list, IsItem, IsMember, items-parts, members-parts, behind-ahead, key-ahead, node-ahead}
 use Rattle.jiter_steps.proofs.CutParts.{ReadTo, CutParts, ReadsFront, array-cuts, object-cuts, colon-cut, value_first-cut, container-whole, parts-cut}
 use Rattle.jiter_steps.proofs.Front.{front-get, front-index, front-blank, front-behind}
-use Rattle.jiter_steps.proofs.NodeParts.{behind-ahead, key-ahead, node-ahead}
 use Rattle.jiter_steps.proofs.Parts.{Parts}
 use Rattle.jiter_steps.proofs.RowSteps.{ItemAt, KeyBegins, array-delimits, object-delimits, object_colon-taken}
 use Rattle.jiter_steps.proofs.ScalarLaws.{EndsNumber}
