@@ -1,5 +1,5 @@
 -- A later cut of a document goes on where an earlier one stopped.
-use Rattle.std.proofs.Common.{◌≡◌, ◌⊎◌, inl, inr, ℕ, zero, suc, ◌+◌, ◌<◌, ◌≤◌, Bool, true, Option, Some, None, List, [], ◌∷◌, ◌++◌, refl, sym, ap, ap₂, ◌∙◌, subst, arith, nat_le, min, if◌then◌else◌, slice_range, append-nil}
+use Rattle.std.proofs.Common.{◌≡◌, ◌⊎◌, inl, inr, ℕ, zero, suc, ◌+◌, ◌<◌, ◌≤◌, Bool, Option, Some, None, List, [], ◌∷◌, ◌++◌, refl, sym, ap, ap₂, ◌∙◌, subst, arith, nat_le, min, if◌then◌else◌, slice_range, append-nil}
 use Rattle.std.specs.Str.{encode_utf8_all}
 use Rattle.std.proofs.lemmas.Bool.{cases_lt, le-leb, lt-leb, leb-true, leb-false}
 use Rattle.std.proofs.lemmas.List.{map-append}
@@ -157,7 +157,8 @@ module _ (names : Bool) (t : List ℕ) (mode : PartialMode) where
   node-late k (grammar.array b e ns) h le = late b k _ le
   node-late k (grammar.object b e ms) h le = late b k _ le
 
-  parts-late : {P S : Type 0} (s : Sequence P S) (room k i : ℕ) (ps : List P) (e : ℕ) → InOrder names t room s.value i ps e
+  parts-late : {P S : Type 0} (s : Sequence P S) (room k i : ℕ) (ps : List P) (e : ℕ)
+      → InOrder names t room s.value i ps e
       → k ≤ i → left s k ps ≡ s.none
   parts-late s room k i [] e h le = refl
   parts-late s room k i (p ∷ ps) e h le =
@@ -180,13 +181,14 @@ module _ (names : Bool) (t : List ℕ) (mode : PartialMode) where
 
     whole-below : (room : ℕ) → WholeBelow room
     whole-below zero n h d le = absurd (omega arith)
-    whole-below (suc room) (grammar.literal l b e) h d le = if-true (nat_le e k) (Some (literal_tree l)) None (le-leb e k le)
+    whole-below (suc room) (grammar.literal l b e) h d le =
+        if-true (nat_le e k) (Some (literal_tree l)) None (le-leb e k le)
     whole-below (suc room) (grammar.number b e) h d le =
         let order = node-ahead names t (grammar.number b e) h in
         let all : min k e ≡ e = omega arith in
         reached b k _ (omega arith) ∙ ap (λ m. cut_number names (slice_range t b m)) all
         ∙ if-true (is_number_text names (slice_range t b e)) (Some (value_of t (grammar.number b e))) None
-            ((number_text-decides names (slice_range t b e)).1 h.text)
+        ((number_text-decides names (slice_range t b e)).1 h.text)
     whole-below (suc room) (grammar.string ps b e) h d le =
         let order = node-ahead names t (grammar.string ps b e) h in
         reached b k _ (omega arith) ∙ if-true (nat_le e k) (Some (tree.string (text_at t ps b e))) _ (le-leb e k le)
@@ -208,7 +210,8 @@ module _ (names : Bool) (t : List ℕ) (mode : PartialMode) where
   module _ (k l : ℕ) (later : k ≤ l) where
     abbrev GrowsBelow : ℕ → Type 0
     GrowsBelow room =
-        (n : Node) → Spells names t n → nesting n < room → CutsNoNumber k n → Grows (cut names t n k mode) (cut names t n l mode)
+        (n : Node) → Spells names t n → nesting n < room → CutsNoNumber k n
+        → Grows (cut names t n k mode) (cut names t n l mode)
 
     whole-grows : (n : Node) → Spells names t n → end n ≤ k → Grows (cut names t n k mode) (cut names t n l mode)
     whole-grows n h all =
@@ -241,7 +244,8 @@ module _ (names : Bool) (t : List ℕ) (mode : PartialMode) where
       last-grows p (Some v) (Some w) r h = s.last p v w r h
 
       -- a part that k cuts is the last one; one that ends by k stays as it is
-      part-grows : (p : P) (ps : List P) (e : ℕ) → Spells names t (s.value p) → InOrder names t room s.value (end (s.value p)) ps e
+      part-grows : (p : P) (ps : List P) (e : ℕ) → Spells names t (s.value p)
+          → InOrder names t room s.value (end (s.value p)) ps e
           → Grows (cut names t (s.value p) k mode) (cut names t (s.value p) l mode) → PartsGrow ps → PartsGrow (p ∷ ps)
       part-grows p ps e h order here rest = by (cases_lt k (end (s.value p))) where
         at_l : S
@@ -258,7 +262,8 @@ module _ (names : Bool) (t : List ℕ) (mode : PartialMode) where
             (subst (λ y. s.Goes (s.put p (Some v) (left s k ps)) (s.put p y (left s l ps)))
             (sym (node-whole l (s.value p) h (omega arith))) (s.more p v (left s k ps) (left s l ps) rest))
 
-      parts-grow : GrowsBelow room → (i e : ℕ) (ps : List P) → InOrder names t room s.value i ps e → CutsNone s.value ps → PartsGrow ps
+      parts-grow : GrowsBelow room → (i e : ℕ) (ps : List P) → InOrder names t room s.value i ps e
+          → CutsNone s.value ps → PartsGrow ps
       parts-grow all i e [] h c = s.from_none s.none
       parts-grow all i e (p ∷ ps) h c =
           part-grows p ps e h.1 h.3 (all (s.value p) h.1 h.2 c.0) (parts-grow all (end (s.value p)) e ps h.3 c.1)
@@ -316,7 +321,8 @@ module _ (names : Bool) (t : List ℕ) (mode : PartialMode) where
         (subst (ExtendsItems (left in_array k (nodes_list ns))) (sym (items-left l ns)) grown))
     grows-below (suc room) (grammar.object b e ms) h d c =
         let order = members-order names t room ms (b + 1) e h.1 (omega arith) in
-        let grown = parts-grow in_object room (grows-below room) (b + 1) e (members_list ms) order (cuts-members ms c) in
+        let none = cuts-members ms c in
+        let grown = parts-grow in_object room (grows-below room) (b + 1) e (members_list ms) order none in
         begun-grows b (tree.object (cut_members names t ms k mode)) (tree.object (cut_members names t ms l mode))
         (subst (λ x. ExtendsMembers x (cut_members names t ms l mode)) (sym (members-left k ms))
         (subst (ExtendsMembers (left in_object k (members_list ms))) (sym (members-left l ms)) grown))
@@ -327,4 +333,5 @@ pub cut-grows : (names : Bool) (t : List ℕ) (mode : PartialMode) (n : Node) (k
     → cut names t n k mode ≡ Some v → cut names t n l mode ≡ Some w → Extends v w
 cut-grows names t mode n k l v w h c later at_k at_l =
     subst (Grows (Some v)) at_l
-    (subst (λ x. Grows x (cut names t n l mode)) at_k (grows-below names t mode k l later (suc (nesting n)) n h (omega arith) c))
+    (subst (λ x. Grows x (cut names t n l mode)) at_k
+    (grows-below names t mode k l later (suc (nesting n)) n h (omega arith) c))

@@ -284,7 +284,8 @@ module _ (names : Bool) (t : List ℕ) where
     abbrev pub InOrder : {P : Type 0} → (P → Node) → ℕ → List P → ℕ → Type 0
     InOrder value i [] e = i < e
     InOrder value i (p ∷ ps) e =
-        (i ≤ begin (value p)) × Spells names t (value p) × (nesting (value p) < room) × InOrder value (end (value p)) ps e
+        (i ≤ begin (value p)) × Spells names t (value p) × (nesting (value p) < room)
+        × InOrder value (end (value p)) ps e
 
     abbrev ItemsOrder : ℕ → Nodes → ℕ → Type 0
     ItemsOrder i ns e = InOrder (λ n. n) i (nodes_list ns) e
@@ -292,7 +293,8 @@ module _ (names : Bool) (t : List ℕ) where
     abbrev MembersOrder : ℕ → NodeMembers → ℕ → Type 0
     MembersOrder i ms e = InOrder (λ m. m.1) i (members_list ms) e
 
-    more_items-order : (ns : Nodes) (i e : ℕ) → SpellsMoreItems names t i ns e → nesting_of ns < room → ItemsOrder i ns e
+    more_items-order : (ns : Nodes) (i e : ℕ) → SpellsMoreItems names t i ns e → nesting_of ns < room
+        → ItemsOrder i ns e
     more_items-order no_nodes i e h d = behind-ahead i 93 e h
     more_items-order (node n ns) i e h d =
         let before = behind-ahead i 44 h.0 h.1 in
@@ -352,5 +354,6 @@ module _ (names : Bool) (t : List ℕ) where
   pub node-ahead : (n : Node) → Spells names t n → begin n < end n
   node-ahead n h = ahead (suc (nesting n)) n h (omega arith)
 
-  pub order-ahead : (room : ℕ) {P : Type 0} (value : P → Node) (ps : List P) (i e : ℕ) → InOrder room value i ps e → i < e
+  pub order-ahead : (room : ℕ) {P : Type 0} (value : P → Node) (ps : List P) (i e : ℕ) → InOrder room value i ps e
+      → i < e
   order-ahead room value ps i e h = order-after room (λ n spelled d. node-ahead n spelled) value ps i e h
