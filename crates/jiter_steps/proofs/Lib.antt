@@ -12,7 +12,6 @@ pub mod Front
 pub mod Fused
 pub mod Growth
 pub mod Instances
-pub mod NodeParts
 pub mod NodeRules
 pub mod Nodes
 pub mod NodesFront
