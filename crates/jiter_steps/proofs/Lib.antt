@@ -18,6 +18,7 @@ pub mod NodesFront
 pub mod NumberCut
 pub mod Parts
 pub mod Pieces
+pub mod Pins
 pub mod Places
 pub mod PlainRuns
 pub mod Prefixes

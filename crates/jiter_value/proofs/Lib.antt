@@ -1,3 +1,4 @@
 pub mod Views
 pub mod Turns
 pub mod Parsed
+pub mod Pins
