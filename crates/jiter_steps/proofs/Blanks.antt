@@ -3,7 +3,8 @@ use Rattle.std.proofs.Common.{◌≡◌, ℕ, ◌+◌, ◌<◌, ◌≤◌, true,
 use Rattle.jiter_scan.proofs.Runs.{run_end-passing, run_end-stopping, run_end-past, run_end-ahead, run_end-within}
 use Rattle.jiter_steps.specs.Blank.{is_blank, past_blanks}
 
-pub past_blanks-blank : (t : List ℕ) (i : ℕ) → i < length t → is_blank (get_or t i 0) ≡ true → past_blanks t i ≡ past_blanks t (i + 1)
+pub past_blanks-blank : (t : List ℕ) (i : ℕ) → i < length t → is_blank (get_or t i 0) ≡ true
+    → past_blanks t i ≡ past_blanks t (i + 1)
 unfolding past_blanks
 past_blanks-blank = run_end-passing is_blank
 

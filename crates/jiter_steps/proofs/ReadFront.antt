@@ -13,10 +13,9 @@ use Rattle.jiter_steps.specs.Read.{Reading, done, fault, Rules, Container, scala
 use Rattle.jiter_steps.specs.Step.{array_first, object_first, object_colon}
 use Rattle.jiter_steps.specs.declared.parse.Literal.{Literal}
 use Rattle.jiter_steps.specs.declared.parse.Start.{Start}
-use Rattle.jiter_steps.proofs.SpelledParts.{start_is, node-starts, begins-value, nodes_list, members_list, IsItem, IsMember, items-parts, members-parts}
-use Rattle.jiter_steps.proofs.CutParts.{CutParts, ReadsFront, array-cuts, object-cuts, colon-cut, value_first-cut, container-whole, parts-cut}
+use Rattle.jiter_steps.proofs.SpelledParts.{start_is, node-starts, begins-value, nodes_list, members_list, IsItem, IsMember, items-parts, members-parts, behind-ahead, key-ahead, node-ahead}
+use Rattle.jiter_steps.proofs.CutParts.{ReadTo, CutParts, ReadsFront, array-cuts, object-cuts, colon-cut, value_first-cut, container-whole, parts-cut}
 use Rattle.jiter_steps.proofs.Front.{front-get, front-index, front-blank, front-behind}
-use Rattle.jiter_steps.proofs.NodeParts.{behind-ahead, key-ahead, node-ahead}
 use Rattle.jiter_steps.proofs.Parts.{Parts}
 use Rattle.jiter_steps.proofs.RowSteps.{ItemAt, KeyBegins, array-delimits, object-delimits, object_colon-taken}
 use Rattle.jiter_steps.proofs.ScalarLaws.{EndsNumber}
@@ -29,7 +28,7 @@ module _ {K A : Type 0} (r : Rules K A) (names : Bool) (t : List ℕ) (k : ℕ) 
 
   -- a node is read as it is seen, if it ends by k; or it is cut
   abbrev pub Reads : Node → Reading A → Type 0
-  Reads n x = (end n ≤ k → x ≡ done (see n) (end n)) × (k < end n → IsCut n x)
+  Reads n x = ReadTo t k within see IsCut n (end n) x
 
   abbrev pub see_member : Key × Node → K × A
   see_member m = (see_key m.0, see m.1)
@@ -92,18 +91,12 @@ module _ {K A : Type 0} (r : Rules K A) (names : Bool) (t : List ℕ) (k : ℕ) 
       item-ahead : (j : ℕ) (n : Node) (e : ℕ) → IsItem names t room j n e → j < e
       item-ahead j n e is = omega (arith, node-ahead names t n is.spelled, is.begins, is.ends)
 
-      item-reads : InnerReads → (j : ℕ) (n : Node) (e : ℕ) → IsItem names t room j n e → j < k → Reads n (inner j)
+      item-reads : InnerReads → (j : ℕ) (n : Node) (e : ℕ) → IsItem names t room j n e → j < k
+          → ReadTo t k within see IsCut n e (inner j)
       item-reads all j n e is lt =
           let quiet = subst (EndsNumber t) (sym is.ends) is.quiet in
-          subst (λ i. Reads n (inner i)) is.begins (all n is.spelled is.limit quiet (omega (arith, is.begins)))
-
-      item-whole : InnerReads → (j : ℕ) (n : Node) (e : ℕ) → IsItem names t room j n e → j < k → e ≤ k
-          → inner j ≡ done (see n) e
-      item-whole all j n e is lt le =
-          (item-reads all j n e is lt).0 (omega (arith, is.ends)) ∙ ap (done (see n)) is.ends
-
-      item-cut : InnerReads → (j : ℕ) (n : Node) (e : ℕ) → IsItem names t room j n e → j < k → k < e → IsCut n (inner j)
-      item-cut all j n e is lt gt = (item-reads all j n e is lt).1 (omega (arith, is.ends))
+          let read = all n is.spelled is.limit quiet (omega (arith, is.begins)) in
+          subst (λ f. ReadTo t k within see IsCut n f (inner j)) is.ends (subst (λ i. Reads n (inner i)) is.begins read)
 
       items-front : InnerReads → (b : ℕ) → ReadsFront t k within (array b) see IsCut 93 ItemAt (IsItem names t room)
       items-front all b = record {
@@ -111,8 +104,7 @@ module _ {K A : Type 0} (r : Rules K A) (names : Bool) (t : List ℕ) (k : ℕ) 
         ends = array-cuts t k within;
         begins = item-front;
         ahead = item-ahead;
-        whole = item-whole all;
-        cut = item-cut all;
+        reads = item-reads all;
       }
 
       -- members
@@ -135,24 +127,13 @@ module _ {K A : Type 0} (r : Rules K A) (names : Bool) (t : List ℕ) (k : ℕ) 
           omega (arith, is.begins, key-ahead names t m.0 (begin m.1) is.key, item-ahead (begin m.1) m.1 e is.value)
 
       -- a member whose value begins before the cut
-      value-read : (m : Key × Node) (e : ℕ) → IsMember names t room m.0.begin m e → begin m.1 < k
+      value-read : (m : Key × Node) → SpellsKey t m.0 (begin m.1) → Spells names t m.1 → begin m.1 < k
           → MemberAt m.0.begin ≡ with_key (see_key m.0) (inner (begin m.1))
-      value-read m e is lt =
-          let h = is.key in
+      value-read m h s lt =
           let order = behind-ahead names t m.0.end 58 h.colon h.behind in
           let key = rules.key m.0 h.string (omega (arith, h.blanks.ordered)) in
-          let colon = colon-read m.0 m.1 h is.value.spelled lt in
+          let colon = colon-read m.0 m.1 h s lt in
           member-value r u inner m.0.begin m.0.end (begin m.1) (see_key m.0) (inner (begin m.1)) key colon refl
-
-      here : (j : ℕ) (m : Key × Node) (e : ℕ) → IsMember names t room j m e → IsMember names t room m.0.begin m e
-      here j m e is = record { begins = refl; key = is.key; value = is.value }
-
-      member-whole : InnerReads → (j : ℕ) (m : Key × Node) (e : ℕ) → IsMember names t room j m e → j < k → e ≤ k
-          → MemberAt j ≡ done (see_member m) e
-      member-whole all j m e is lt le =
-          let begun : begin m.1 < k = omega (arith, item-ahead (begin m.1) m.1 e is.value) in
-          ap MemberAt (sym is.begins) ∙ value-read m e (here j m e is) begun
-          ∙ ap (with_key (see_key m.0)) (item-whole all (begin m.1) m.1 e is.value begun le)
 
       -- between its key and its value
       colon-short : (m : Key × Node) → SpellsKey t m.0 (begin m.1) → m.0.end ≤ k → k ≤ begin m.1
@@ -169,18 +150,29 @@ module _ {K A : Type 0} (r : Rules K A) (names : Bool) (t : List ℕ) (k : ℕ) 
         by (inr at) =
             stops eof_value refl (value_first-cut t k within m.0.end h.colon (begin m.1) h.behind at h.blanks ge)
 
-      member-cut : InnerReads → (j : ℕ) (m : Key × Node) (e : ℕ) → IsMember names t room j m e → j < k → k < e
-          → IsCutMember m (MemberAt j)
-      member-cut all j m e is lt gt =
-          subst (λ i. IsCutMember m (MemberAt i)) is.begins (by (cases_lt k m.0.end) (cases_lt (begin m.1) k)) where
-            by : (k < m.0.end) ⊎ (m.0.end ≤ k) → (begin m.1 < k) ⊎ (k ≤ begin m.1) → IsCutMember m (MemberAt m.0.begin)
-            by (inl past) place =
+      member-reads : InnerReads → (j : ℕ) (m : Key × Node) (e : ℕ) → IsMember names t room j m e → j < k
+          → ReadTo t k within see_member IsCutMember m e (MemberAt j)
+      member-reads all j m e is lt =
+          subst (λ i. ReadTo t k within see_member IsCutMember m e (MemberAt i)) is.begins (whole, cut) where
+            value : begin m.1 < k → ReadTo t k within see IsCut m.1 e (inner (begin m.1))
+            value begun = item-reads all (begin m.1) m.1 e is.value begun
+
+            whole : e ≤ k → MemberAt m.0.begin ≡ done (see_member m) e
+            whole le =
+                let begun : begin m.1 < k = omega (arith, item-ahead (begin m.1) m.1 e is.value) in
+                value-read m is.key is.value.spelled begun ∙ ap (with_key (see_key m.0)) ((value begun).0 le)
+
+            by : k < e → (k < m.0.end) ⊎ (m.0.end ≤ k) → (begin m.1 < k) ⊎ (k ≤ begin m.1)
+                → IsCutMember m (MemberAt m.0.begin)
+            by gt (inl past) place =
                 let key = rules.key-cut m.0 is.key.string (omega (arith, is.begins)) past in
                 inl (member-key r u inner m.0.begin k eof_string key)
-            by (inr le) (inr ge) = colon-short m is.key le ge
-            by (inr le) (inl begun) =
-                let cut = item-cut all (begin m.1) m.1 e is.value begun gt in
-                inr (inr (inner (begin m.1), value-read m e (here j m e is) begun, cut))
+            by gt (inr le) (inr ge) = colon-short m is.key le ge
+            by gt (inr le) (inl begun) =
+                inr (inr (inner (begin m.1), value-read m is.key is.value.spelled begun, (value begun).1 gt))
+
+            cut : k < e → IsCutMember m (MemberAt m.0.begin)
+            cut gt = by gt (cases_lt k m.0.end) (cases_lt (begin m.1) k)
 
       members-front : InnerReads → (b : ℕ)
           → ReadsFront t k within (object b) see_member IsCutMember 125 KeyBegins (IsMember names t room)
@@ -189,8 +181,7 @@ module _ {K A : Type 0} (r : Rules K A) (names : Bool) (t : List ℕ) (k : ℕ) 
         ends = object-cuts t k within;
         begins = λ j lt h. front-get t k within j 34 lt h;
         ahead = member-ahead;
-        whole = member-whole all;
-        cut = member-cut all;
+        reads = member-reads all;
       }
 
       -- a container of these parts
