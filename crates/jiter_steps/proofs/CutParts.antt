@@ -131,7 +131,8 @@ module _ (t : List ℕ) (k : ℕ) (within : k ≤ length t) where
             (omega arith, omega arith)
 
         first-whole : (so_far : List Q) (m e : ℕ) (p : P) (ps : List P) (x : First m p ps e) → e ≤ k
-            → Behind (so_far ++ seen p ∷ []) (step u c.next x.end) ≡ done (c.build e ((so_far ++ seen p ∷ []) ++ map seen ps)) e
+            → Behind (so_far ++ seen p ∷ []) (step u c.next x.end)
+            ≡ done (c.build e ((so_far ++ seen p ∷ []) ++ map seen ps)) e
             → At so_far x.begin ≡ done (c.build e (so_far ++ map seen (p ∷ ps))) e
         first-whole so_far m e p ps x le rest =
             let order = before m e p ps x le in

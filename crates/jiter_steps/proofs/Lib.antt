@@ -15,12 +15,12 @@ pub mod FrontTexts
 pub mod Fused
 pub mod Growth
 pub mod Instances
-pub mod NodeParts
 pub mod NodeRules
 pub mod NodesFront
 pub mod NumberCut
 pub mod Parts
 pub mod Pieces
+pub mod Pins
 pub mod Places
 pub mod PlainRuns
 pub mod Prefixes

@@ -1,5 +1,5 @@
 -- The parts of a container, one behind another: a container that is read is built of such parts.
-use Rattle.std.proofs.Common.{◌≡◌, ℕ, zero, suc, ◌+◌, ◌<◌, false, cond, List, [], ◌∷◌, ◌++◌, length, refl, sym, ap, ◌∙◌, subst, arith, append-nil, append_assoc}
+use Rattle.std.proofs.Common.{◌≡◌, ℕ, zero, suc, ◌+◌, ◌<◌, false, cond, List, [], ◌∷◌, ◌++◌, length, refl, sym, subst, arith, append_assoc}
 use Rattle.jiter_scan.specs.Kind.{Kind}
 use Rattle.jiter_steps.specs.Blank.{IsBlank}
 use Rattle.jiter_steps.specs.Node.{StandsBehind}
@@ -7,7 +7,7 @@ use Rattle.jiter_steps.specs.Read.{Reading, done, fault, Rules, Container, if_fo
 use Rattle.jiter_steps.specs.Step.{Step, more, closed, stuck, step}
 use Rattle.jiter_steps.proofs.Bounds.{Within}
 use Rattle.jiter_steps.proofs.RowSteps.{PartBehind, Behind, StepIs, Delimits}
-use Rattle.jiter_steps.proofs.Values.{Goes, parts-part}
+use Rattle.jiter_steps.proofs.Values.{Goes}
 
 module _ {P : Type 0} (t : List ℕ) (closer : ℕ) (Begins : ℕ → Type 0) (IsPart : ℕ → P → ℕ → Type 0) where
   -- the part p behind blanks from i on, and the rest behind it

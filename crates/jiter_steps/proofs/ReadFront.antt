@@ -13,10 +13,9 @@ use Rattle.jiter_steps.specs.Read.{Reading, done, fault, Rules, Container, scala
 use Rattle.jiter_steps.specs.Step.{array_first, object_first, object_colon}
 use Rattle.jiter_steps.specs.declared.parse.Literal.{Literal}
 use Rattle.jiter_steps.specs.declared.parse.Start.{Start}
-use Rattle.jiter_steps.proofs.SpelledParts.{start_is, node-starts, begins-value, nodes_list, members_list, IsItem, IsMember, items-parts, members-parts}
+use Rattle.jiter_steps.proofs.SpelledParts.{start_is, node-starts, begins-value, nodes_list, members_list, IsItem, IsMember, items-parts, members-parts, behind-ahead, key-ahead, node-ahead}
 use Rattle.jiter_steps.proofs.CutParts.{ReadTo, CutParts, ReadsFront, array-cuts, object-cuts, colon-cut, value_first-cut, container-whole, parts-cut}
 use Rattle.jiter_steps.proofs.Front.{front-get, front-index, front-blank, front-behind}
-use Rattle.jiter_steps.proofs.NodeParts.{behind-ahead, key-ahead, node-ahead}
 use Rattle.jiter_steps.proofs.Parts.{Parts}
 use Rattle.jiter_steps.proofs.RowSteps.{ItemAt, KeyBegins, array-delimits, object-delimits, object_colon-taken}
 use Rattle.jiter_steps.proofs.ScalarLaws.{EndsNumber}
@@ -153,25 +152,27 @@ module _ {K A : Type 0} (r : Rules K A) (names : Bool) (t : List ℕ) (k : ℕ) 
 
       member-reads : InnerReads → (j : ℕ) (m : Key × Node) (e : ℕ) → IsMember names t room j m e → j < k
           → ReadTo t k within see_member IsCutMember m e (MemberAt j)
-      member-reads all j m e is lt = subst (λ i. ReadTo t k within see_member IsCutMember m e (MemberAt i)) is.begins (whole, cut) where
-        value : begin m.1 < k → ReadTo t k within see IsCut m.1 e (inner (begin m.1))
-        value begun = item-reads all (begin m.1) m.1 e is.value begun
+      member-reads all j m e is lt =
+          subst (λ i. ReadTo t k within see_member IsCutMember m e (MemberAt i)) is.begins (whole, cut) where
+            value : begin m.1 < k → ReadTo t k within see IsCut m.1 e (inner (begin m.1))
+            value begun = item-reads all (begin m.1) m.1 e is.value begun
 
-        whole : e ≤ k → MemberAt m.0.begin ≡ done (see_member m) e
-        whole le =
-            let begun : begin m.1 < k = omega (arith, item-ahead (begin m.1) m.1 e is.value) in
-            value-read m is.key is.value.spelled begun ∙ ap (with_key (see_key m.0)) ((value begun).0 le)
+            whole : e ≤ k → MemberAt m.0.begin ≡ done (see_member m) e
+            whole le =
+                let begun : begin m.1 < k = omega (arith, item-ahead (begin m.1) m.1 e is.value) in
+                value-read m is.key is.value.spelled begun ∙ ap (with_key (see_key m.0)) ((value begun).0 le)
 
-        by : k < e → (k < m.0.end) ⊎ (m.0.end ≤ k) → (begin m.1 < k) ⊎ (k ≤ begin m.1) → IsCutMember m (MemberAt m.0.begin)
-        by gt (inl past) place =
-            let key = rules.key-cut m.0 is.key.string (omega (arith, is.begins)) past in
-            inl (member-key r u inner m.0.begin k eof_string key)
-        by gt (inr le) (inr ge) = colon-short m is.key le ge
-        by gt (inr le) (inl begun) =
-            inr (inr (inner (begin m.1), value-read m is.key is.value.spelled begun, (value begun).1 gt))
+            by : k < e → (k < m.0.end) ⊎ (m.0.end ≤ k) → (begin m.1 < k) ⊎ (k ≤ begin m.1)
+                → IsCutMember m (MemberAt m.0.begin)
+            by gt (inl past) place =
+                let key = rules.key-cut m.0 is.key.string (omega (arith, is.begins)) past in
+                inl (member-key r u inner m.0.begin k eof_string key)
+            by gt (inr le) (inr ge) = colon-short m is.key le ge
+            by gt (inr le) (inl begun) =
+                inr (inr (inner (begin m.1), value-read m is.key is.value.spelled begun, (value begun).1 gt))
 
-        cut : k < e → IsCutMember m (MemberAt m.0.begin)
-        cut gt = by gt (cases_lt k m.0.end) (cases_lt (begin m.1) k)
+            cut : k < e → IsCutMember m (MemberAt m.0.begin)
+            cut gt = by gt (cases_lt k m.0.end) (cases_lt (begin m.1) k)
 
       members-front : InnerReads → (b : ℕ)
           → ReadsFront t k within (object b) see_member IsCutMember 125 KeyBegins (IsMember names t room)

@@ -1,5 +1,5 @@
 -- What the grammar spells of a container is parts that stand one behind another; and what a value begins with.
-use Rattle.std.proofs.Common.{◌≡◌, ◌≢◌, ℕ, suc, ◌+◌, ◌-◌, ◌<◌, ◌≤◌, ◌⊎◌, inl, inr, Bool, true, false, List, [], ◌∷◌, length, drop, take, refl, sym, ap, ◌∙◌, subst, arith, ◌==◌, IfSome}
+use Rattle.std.proofs.Common.{◌≡◌, ◌≢◌, ℕ, zero, suc, ◌+◌, ◌-◌, ◌<◌, ◌≤◌, ◌⊎◌, inl, inr, Bool, true, false, List, [], ◌∷◌, length, drop, take, refl, sym, ap, ◌∙◌, subst, arith, ◌==◌, IfSome}
 use Rattle.std.specs.Prelude.{slice_get, slice_index, slice_range, Some}
 use Rattle.std.proofs.lemmas.List.{drop_more}
 use Rattle.std.proofs.lemmas.Option.{slice_get_within, slice_get-get_or, slice_get_past, get_or_from_slice_get}
@@ -11,12 +11,14 @@ use Rattle.jiter_scan.specs.Scanned.{taken}
 use Rattle.jiter_scan.proofs.NumberLaws.{continues_number}
 use Rattle.jiter_steps.specs.Answer.{seen_as}
 use Rattle.jiter_steps.specs.Blank.{is_blank, IsBlankByte, IsBlank}
-use Rattle.jiter_scan.proofs.Standing.{stands-within}
+use Rattle.jiter_scan.specs.Stands.{Stands}
+use Rattle.jiter_scan.proofs.Standing.{stands-length, stands-within}
 use Rattle.jiter_steps.specs.Literal.{word_of, start_of}
 use Rattle.jiter_steps.specs.Node as grammar
 use Rattle.jiter_steps.specs.Node.{Key, Node, Nodes, no_nodes, node, NodeMembers, no_members, member, begin, end, StandsBehind, SpellsNumber, SpellsKey, Spells, SpellsItems, SpellsMoreItems, SpellsMembers, SpellsMoreMembers, nesting, nesting_of, nesting_of_members, nesting_round, nesting_round_members}
 use Rattle.jiter_steps.specs.Piece.{SpellsString}
 use Rattle.jiter_steps.specs.StringReading.{whole, string_at}
+use Rattle.jiter_steps.specs.declared.parse.Literal.{Literal}
 use Rattle.jiter_steps.specs.declared.parse.Literal.TheVariants as literal
 use Rattle.jiter_steps.specs.declared.parse.Start.{Start}
 use Rattle.jiter_steps.specs.declared.parse.Start.TheVariants as start
@@ -266,3 +268,92 @@ module _ (names : Bool) (t : List ℕ) where
       let room = nesting_round_members ms in
       parts-within 125 (KeyBegins t) (IsMember names t room) (members_list ms) (b + 1) e
       (members-parts room ms (b + 1) e h.1 (omega arith))
+
+  -- A node ends behind its begin.
+  pub behind-ahead : (i c e : ℕ) → StandsBehind t i c e → i < e
+  behind-ahead i c e h = omega (arith, h.blanks.ordered, h.ends)
+
+  -- from a key to its value
+  pub key-ahead : (key : Key) (j : ℕ) → SpellsKey t key j → key.begin < j
+  key-ahead key j h =
+      let string = laws.string-ordered key.begin key.end key.pieces h.string in
+      omega (arith, string.0, behind-ahead key.end 58 h.colon h.behind, h.blanks.ordered)
+
+  module _ (room : ℕ) where
+    -- the values of these parts stand one behind another, from i to before e
+    abbrev pub InOrder : {P : Type 0} → (P → Node) → ℕ → List P → ℕ → Type 0
+    InOrder value i [] e = i < e
+    InOrder value i (p ∷ ps) e =
+        (i ≤ begin (value p)) × Spells names t (value p) × (nesting (value p) < room)
+        × InOrder value (end (value p)) ps e
+
+    abbrev ItemsOrder : ℕ → Nodes → ℕ → Type 0
+    ItemsOrder i ns e = InOrder (λ n. n) i (nodes_list ns) e
+
+    abbrev MembersOrder : ℕ → NodeMembers → ℕ → Type 0
+    MembersOrder i ms e = InOrder (λ m. m.1) i (members_list ms) e
+
+    more_items-order : (ns : Nodes) (i e : ℕ) → SpellsMoreItems names t i ns e → nesting_of ns < room
+        → ItemsOrder i ns e
+    more_items-order no_nodes i e h d = behind-ahead i 93 e h
+    more_items-order (node n ns) i e h d =
+        let before = behind-ahead i 44 h.0 h.1 in
+        (omega (arith, h.2.ordered), h.3, omega arith, more_items-order ns (end n) e h.4 (omega arith))
+
+    pub items-order : (ns : Nodes) (i e : ℕ) → SpellsItems names t i ns e → nesting_round ns ≤ room → ItemsOrder i ns e
+    items-order no_nodes i e h d = behind-ahead i 93 e h
+    items-order (node n ns) i e h d = (h.0.ordered, h.1, omega arith, more_items-order ns (end n) e h.2 (omega arith))
+
+    more_members-order : (ms : NodeMembers) (i e : ℕ) → SpellsMoreMembers names t i ms e → nesting_of_members ms < room
+        → MembersOrder i ms e
+    more_members-order no_members i e h d = behind-ahead i 125 e h
+    more_members-order (member key n ms) i e h d =
+        let before = behind-ahead i 44 h.0 h.1 in
+        let value = key-ahead key (begin n) h.3 in
+        (omega (arith, h.2.ordered), h.4, omega arith, more_members-order ms (end n) e h.5 (omega arith))
+
+    pub members-order : (ms : NodeMembers) (i e : ℕ) → SpellsMembers names t i ms e → nesting_round_members ms ≤ room
+        → MembersOrder i ms e
+    members-order no_members i e h d = behind-ahead i 125 e h
+    members-order (member key n ms) i e h d =
+        let value = key-ahead key (begin n) h.1 in
+        (omega (arith, h.0.ordered), h.2, omega arith, more_members-order ms (end n) e h.3 (omega arith))
+
+    abbrev Ahead : Type 0
+    Ahead = (n : Node) → Spells names t n → nesting n < room → begin n < end n
+
+    order-after : Ahead → {P : Type 0} (value : P → Node) (ps : List P) (i e : ℕ) → InOrder value i ps e → i < e
+    order-after all value [] i e h = h
+    order-after all value (p ∷ ps) i e h =
+        let here = all (value p) h.1 h.2 in
+        let rest = order-after all value ps (end (value p)) e h.3 in
+        omega (arith, h.0)
+
+  number-ahead : (b e : ℕ) → SpellsNumber names t b e → (b ≡ e) ⊎ (b ≢ e) → b < e
+  number-ahead b e h (inl same) =
+      absurd (laws.number-not_empty (subst (IsNumberText names) (slice-empty t b e (sym same)) h.text))
+  number-ahead b e h (inr apart) = omega (arith, h.ordered)
+
+  word-ahead : (l : Literal) (b e : ℕ) → Stands t b e (word_of l) → b < e
+  word-ahead literal.Null b e h = let after = stands-length t b e (word_of literal.Null) h in omega arith
+  word-ahead literal.True b e h = let after = stands-length t b e (word_of literal.True) h in omega arith
+  word-ahead literal.False b e h = let after = stands-length t b e (word_of literal.False) h in omega arith
+
+  ahead : (room : ℕ) → Ahead room
+  ahead zero n h d = absurd (omega arith)
+  ahead (suc room) (grammar.literal l b e) h d = word-ahead l b e h
+  ahead (suc room) (grammar.number b e) h d = number-ahead b e h (cases_eq b e)
+  ahead (suc room) (grammar.string ps b e) h d = (laws.string-ordered b e ps h).0
+  ahead (suc room) (grammar.array b e ns) h d =
+      let order = items-order room ns (b + 1) e h.1 (omega arith) in
+      omega (arith, order-after room (ahead room) (λ n. n) (nodes_list ns) (b + 1) e order)
+  ahead (suc room) (grammar.object b e ms) h d =
+      let order = members-order room ms (b + 1) e h.1 (omega arith) in
+      omega (arith, order-after room (ahead room) (λ m. m.1) (members_list ms) (b + 1) e order)
+
+  pub node-ahead : (n : Node) → Spells names t n → begin n < end n
+  node-ahead n h = ahead (suc (nesting n)) n h (omega arith)
+
+  pub order-ahead : (room : ℕ) {P : Type 0} (value : P → Node) (ps : List P) (i e : ℕ) → InOrder room value i ps e
+      → i < e
+  order-ahead room value ps i e h = order-after room (λ n spelled d. node-ahead n spelled) value ps i e h
