@@ -9,6 +9,7 @@ pub mod Firsts
 pub mod Front
 pub mod Fused
 pub mod Growth
+pub mod Halting
 pub mod Instances
 pub mod NodeRules
 pub mod Nodes
