@@ -3,6 +3,7 @@ pub mod Blanks
 pub mod Bodies
 pub mod Bounds
 pub mod Complete
+pub mod CutLaw
 pub mod CutLists
 pub mod CutParts
 pub mod Documents
