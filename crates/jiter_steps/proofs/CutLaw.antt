@@ -2,46 +2,44 @@
 -- the front answers exactly what the cut leaves of the document, with the marks of its texts, and never a fault.
 -- The front is read along the node (ReadFront): what ends by the cut is read whole, and what the cut falls into leaves
 -- what `Leaves` says, a scalar by its own laws and a container by induction over its parts.
-use Rattle.std.proofs.Common.{◌≡◌, ◌≢◌, ◌⊎◌, inl, inr, ℕ, ◌+◌, ◌<◌, ◌≤◌, Bool, true, false, cond, Option, Some, None, List, [], ◌∷◌, ◌++◌, length, map, take, min, refl, sym, ap, ap₂, ◌∙◌, subst, arith, nat_le, if◌then◌else◌, IfSome, append-nil, append_assoc}
+use Rattle.std.proofs.Common.{◌≡◌, ◌≢◌, ◌⊎◌, inl, inr, ℕ, ◌+◌, ◌<◌, ◌≤◌, Bool, true, false, Option, Some, None, List, [], ◌∷◌, ◌++◌, length, take, refl, sym, ap, ap₂, ◌∙◌, subst, arith, if◌then◌else◌, IfSome, append-nil, append_assoc}
 use Rattle.std.specs.Prelude.{slice_get, slice_range}
 use Rattle.std.specs.List.{filter_map, cons_option}
-use Rattle.std.proofs.lemmas.Bool.{cases_lt, le-leb, lt-leb}
+use Rattle.std.proofs.lemmas.Bool.{cases_lt}
 use Rattle.std.proofs.lemmas.List.{take_all}
-use Rattle.jiter_scan.specs.Kind.{Kind, is_end_kind, is_forgiven}
-use Rattle.jiter_scan.specs.Number.{Number, number_value, IsNumberText}
+use Rattle.jiter_scan.specs.Kind.{Kind, is_forgiven}
+use Rattle.jiter_scan.specs.Number.{Number, number_value}
 use Rattle.jiter_scan.specs.NumberReading.{number_at, is_number_text}
-use Rattle.jiter_scan.specs.PartialMode.{allows_trailing_strings}
+use Rattle.jiter_scan.specs.PartialMode.{is_active, allows_trailing_strings}
 use Rattle.jiter_scan.specs.Scanned.{Scanned, taken, failed}
 use Rattle.jiter_scan.specs.Stands.{Stands}
 use Rattle.jiter_scan.specs.Word.{Extent}
 use Rattle.jiter_scan.specs.declared.partial_mode.PartialMode.{PartialMode}
-use Rattle.jiter_scan.proofs.Choices.{if-true, if-false, failed-taken}
-use Rattle.jiter_scan.proofs.NumberLaws.{continues_number}
-use Rattle.jiter_scan.proofs.NumberTests.{number_text-decides}
-use Rattle.jiter_steps.specs.Answer.{seen_as, value_form, partial_trees, answer, partial_answer}
-use Rattle.jiter_steps.specs.Cut.{cut, cut_number, cut_string}
+use Rattle.jiter_scan.proofs.Choices.{if_case, if-true, if-false}
+use Rattle.jiter_steps.specs.Answer.{seen_as, value_form, partial_trees, answer, partial_answer, answer_in}
+use Rattle.jiter_steps.specs.Cut.{cut, cut_number, cut_string, IsBegunContainer}
 use Rattle.jiter_steps.specs.Literal.{word_of, start_of, literal_at, literal_tree}
 use Rattle.jiter_steps.specs.Node as grammar
 use Rattle.jiter_steps.specs.Node.{Key, Node, Nodes, NodeMembers, begin, end, SpellsNumber, Spells, nesting, nesting_round, nesting_round_members, nesting_limit, text_at, number_tree, value_of, values_of, IsContainer, IsDocument}
-use Rattle.jiter_steps.specs.Piece.{Piece, SpellsString, pieces_to}
-use Rattle.jiter_steps.specs.Read.{Reading, done, fault, Rules, Container, scalar_at, with_key, if_forgiven, follow, parts_at, container_at, array_of, object_of, value_at}
-use Rattle.jiter_steps.specs.Step.{Step, stuck, step, array_first, object_first}
+use Rattle.jiter_steps.specs.Piece.{Piece, SpellsString}
+use Rattle.jiter_steps.specs.Read.{Reading, done, fault, Rules, Container, scalar_at, with_key, if_forgiven, follow, parts_at, container_at, array_of, object_of}
+use Rattle.jiter_steps.specs.Step.{Step, stuck, step}
 use Rattle.jiter_steps.specs.StringReading.{whole, kept, string_at}
 use Rattle.jiter_steps.specs.Tree as tree
 use Rattle.jiter_steps.specs.Tree.{Text, Tree, items_of, members_of}
 use Rattle.jiter_steps.specs.declared.parse.Literal.{Literal}
 use Rattle.jiter_steps.specs.declared.parse.Start.TheVariants as start
 use Rattle.jiter_steps.proofs.Answered.{front-begins}
-use Rattle.jiter_steps.proofs.CutLists.{keyed, kept_item, kept_member, array-left, object-left, none-late}
+use Rattle.jiter_steps.proofs.CutNodes.{keyed, kept_item, kept_member, literal-left, number-left, left_string, string-left, array-left, object-left, none-late}
 use Rattle.jiter_steps.proofs.CutParts.{EndsInput, CutParts}
 use Rattle.jiter_steps.proofs.Documents.{key_text, IsRead, values-of, members-of, answer-of, answer-is}
-use Rattle.jiter_steps.proofs.Front.{front-length, front-get, front-past, front-blank, front-if, front-range, front-stands, front-word, number-front}
+use Rattle.jiter_steps.proofs.Front.{front-length, front-get, front-past, front-blank, front-stands, front-word}
 use Rattle.jiter_steps.proofs.Growth.{node-late, node-whole}
 use Rattle.jiter_steps.proofs.Halting.{Halts, StuckAt, end-forgiven, array-halts, object-halts}
 use Rattle.jiter_steps.proofs.Instances.{trees-advances}
 use Rattle.jiter_steps.proofs.Nodes.{blank-passed}
-use Rattle.jiter_steps.proofs.NumberCut.{CutAt, number_at-cut}
-use Rattle.jiter_steps.proofs.ReadFront.{Reads, see_member, member_value, IsCutBefore, IsCutMember, CutRules, value_at-front}
+use Rattle.jiter_steps.proofs.NumberCutLaws.{CutNumber, number_at-before, number_at-cuts}
+use Rattle.jiter_steps.proofs.ReadFront.{IsCutMember, CutRules, value_at-front}
 use Rattle.jiter_steps.proofs.ScalarLaws.{ScalarLaws, scalar-laws, EndsNumber}
 use Rattle.jiter_steps.proofs.SpelledParts.{start_is, begins-value, begin-within, node-within, ends-end, nodes_list, members_list, nodes-listed, members-listed, InOrder, items-order, members-order}
 use Rattle.jiter_steps.proofs.StringCutLaws.{string_at-cut, string_at-cut_whole, string_at-before}
@@ -199,56 +197,35 @@ module _ (names : Bool) (t : List ℕ) (k : ℕ) (within : k ≤ length t) (mode
   literal-reads l b e h lt = (
     λ le. ap (LiteralOf l b) (laws.literal-complete l b e (front-stands t k within b e (word_of l) h le)),
     λ gt.
-        let none = if-false (nat_le e k) (Some (literal_tree l)) None (lt-leb e k gt) in
+        let none = literal-left names t k mode l b e gt in
         let short = front-word t k within (word_of l) b e h (omega arith) gt in
         subst (λ o. Leaves front o (LiteralOf l b (literal_at front l b))) (sym none)
         (subst (λ x. Leaves front None (LiteralOf l b x)) (sym short)
         (refl, begin-halts (grammar.literal l b e) h lt)),
   )
 
-  quiet-front : (i : ℕ) → EndsNumber t i → EndsNumber front i
-  quiet-front i q = front-if t k within (λ c. continues_number c ≡ false) i q
-
-  -- a number is read up to the cut exactly where its bytes up to there are a number's text
-  number-leaves : (b : ℕ) (x : Scanned Number) → b < k → Halts front b → number_at names front b ≡ x → CutAt k x
+  number-leaves : (b : ℕ) (x : Scanned Number) → Halts front b → CutNumber names t k within b x
       → Leaves front (cut_number names (slice_range t b k)) (NumberOf b x)
-  number-leaves b (taken n e) lt halts is at =
-      let same = front-range t k within b k (omega arith) (omega arith) in
-      let read = is ∙ ap (taken n) at in
-      let sound = laws.number-sound b k n read in
-      let text = (number_text-decides names (slice_range t b k)).1 (subst (IsNumberText names) same sound.0) in
+  number-leaves b (taken n e) halts h =
+      let w = slice_range t b k in
       subst (λ o. Leaves front o (done (number_tree n) e))
-      (sym (if-true (is_number_text names (slice_range t b k)) _ None text))
-      (ap number_tree (sound.1 ∙ ap number_value same), subst (Halts front) (sym at) cut-halts)
-  number-leaves b (failed kind j) lt halts is early =
-      by (is_number_text names (slice_range t b k)) refl where
-        same : slice_range front b k ≡ slice_range t b k
-        same = front-range t k within b k (omega arith) (omega arith)
-
-        by : (y : Bool) → is_number_text names (slice_range t b k) ≡ y
-            → Leaves front (if y then Some (number_tree (number_value (slice_range t b k))) else None) (fault kind j b)
-        by true e =
-            let text = subst (IsNumberText names) (sym same) ((number_text-decides names (slice_range t b k)).0 e) in
-            let none = subst (λ o. IfSome o (λ c. continues_number c ≡ false))
-            (sym (front-past t k within k (omega arith))) tt in
-            let whole = laws.number-complete b k (omega arith) (omega (arith, front-length t k within)) text none in
-            absurd (failed-taken kind j (number_value (slice_range front b k)) k (sym is ∙ whole))
-        by false e = (end-forgiven kind early, halts)
+      (sym (if-true (is_number_text names w) (Some (number_tree (number_value w))) None h.0))
+      (ap number_tree h.1, subst (Halts front) (sym h.2) cut-halts)
+  number-leaves b (failed kind j) halts h =
+      let w = slice_range t b k in
+      subst (λ o. Leaves front o (fault kind j b))
+      (sym (if-false (is_number_text names w) (Some (number_tree (number_value w))) None h.0))
+      (end-forgiven kind h.1, halts)
 
   number-reads : (b e : ℕ) → SpellsNumber names t b e → EndsNumber t e → b < k
       → ReadsSo (grammar.number b e) (NumberOf b (number_at names front b))
   number-reads b e h q lt = (
-    λ le. let g = number-front t k within names b e h le in
-        ap (NumberOf b) (laws.number-complete b e g.ordered g.within g.text (quiet-front e q))
-        ∙ ap (λ w. done (number_tree (number_value w)) e) (front-range t k within b e h.ordered le),
+    λ le. ap (NumberOf b) (number_at-before names t k within b e h q le),
     λ gt.
-        let begun = if-false (nat_le k b) None (cut_number names (slice_range t b (min k e))) (lt-leb k b lt) in
-        let short : min k e ≡ k = omega arith in
-        let read = (scalar-laws names t).number-complete b e h.ordered h.within h.text q in
         subst (λ o. Leaves front o (NumberOf b (number_at names front b)))
-        (sym (begun ∙ ap (λ m. cut_number names (slice_range t b m)) short))
-        (number-leaves b (number_at names front b) lt (begin-halts (grammar.number b e) h lt) refl
-        (number_at-cut t k within names b e (number_value (slice_range t b e)) (omega arith) gt read)),
+        (sym (number-left names t k mode b e lt gt))
+        (number-leaves b (number_at names front b) (begin-halts (grammar.number b e) h lt)
+        (number_at-cuts names t k within b e h q lt gt)),
   )
 
   text-whole : (ps : List Piece) (b e : ℕ) → SpellsString t b ps e → e ≤ k → (keeps : Bool)
@@ -257,7 +234,7 @@ module _ (names : Bool) (t : List ℕ) (k : ℕ) (within : k ≤ length t) (mode
   text-whole ps b e h le false = (string_at-before t k within b e ps h le).0
 
   text-leaves : (ps : List Piece) (b e : ℕ) → SpellsString t b ps e → b < k → k < e → (keeps : Bool)
-      → Leaves front (if keeps then Some (cut_string t ps b k) else None)
+      → Leaves front (left_string names t k mode ps b keeps)
       (StringOf b (string_at (if keeps then kept else whole) front b))
   text-leaves ps b e h lt gt true =
       subst (λ x. Leaves front (Some (cut_string t ps b k)) (StringOf b x)) (sym (string_at-cut t k within b e ps h lt gt))
@@ -271,12 +248,8 @@ module _ (names : Bool) (t : List ℕ) (k : ℕ) (within : k ≤ length t) (mode
   text-reads ps b e h lt = (
     λ le. ap (StringOf b) (text-whole ps b e h le (allows_trailing_strings mode)),
     λ gt.
-        let left : Option Tree =
-        if allows_trailing_strings mode then Some (cut_string t ps b k) else None in
-        let begun = if-false (nat_le k b) None (if nat_le e k then Some (tree.string (text_at t ps b e)) else left)
-        (lt-leb k b lt) in
-        let unended = if-false (nat_le e k) (Some (tree.string (text_at t ps b e))) left (lt-leb e k gt) in
-        subst (λ o. Leaves front o (StringOf b (string_at (value_form mode) front b))) (sym (begun ∙ unended))
+        subst (λ o. Leaves front o (StringOf b (string_at (value_form mode) front b)))
+        (sym (string-left names t k mode ps b e lt gt))
         (text-leaves ps b e h lt gt (allows_trailing_strings mode)),
   )
 
@@ -373,20 +346,21 @@ module _ (names : Bool) (t : List ℕ) (k : ℕ) (within : k ≤ length t) (mode
   container-cut (grammar.array b e ns) is lt = (_, array-left names t k mode b e ns lt)
   container-cut (grammar.object b e ms) is lt = (_, object-left names t k mode b e ms lt)
 
-  -- the cut is answered
-  abbrev AnswersCut : Node → Type 0
-  AnswersCut n = (v : Tree) × (e : ℕ) × (partial_answer names mode front ≡ done v e) × (cut names t n k mode ≡ Some v)
-
   left-answered : (v : Tree) (x : Reading Tree) → Leaves front (Some v) x → (e : ℕ) × (x ≡ done v e)
   left-answered v (done w p) h = (p, ap (λ a. done a p) h.0)
   left-answered v (fault kind i stop) h = absurd h
 
-  answers-cut : (n : Node) → IsDocument names t n → IsContainer n → begin n < k → AnswersCut n
-  answers-cut n d is lt = by (cases_lt k (end n)) where
+  -- the cut is answered
+  abbrev IsCutBy : Node → Reading Tree → Type 0
+  IsCutBy n x = (v : Tree) × (e : ℕ) × (x ≡ done v e) × (cut names t n k mode ≡ Some v)
+
+  document-cut : (n : Node) → IsDocument names t n → IsContainer n → begin n < k
+      → IsCutBy n (partial_answer names mode front)
+  document-cut n d is lt = by (cases_lt k (end n)) where
     reads : ReadsSo n (partial_answer names mode front)
     reads = document-reads n d lt
 
-    by : (k < end n) ⊎ (end n ≤ k) → AnswersCut n
+    by : (k < end n) ⊎ (end n ≤ k) → IsCutBy n (partial_answer names mode front)
     by (inr le) = (value_of t n, end n, reads.0 le, node-whole names t mode k n d.spelled le)
     by (inl gt) =
         let left = container-cut n is lt in
@@ -399,7 +373,7 @@ module _ (names : Bool) (t : List ℕ) (k : ℕ) (within : k ≤ length t) (mode
 pub cut-law : (names : Bool) (t : List ℕ) (n : Node) (k : ℕ) (mode : PartialMode) → IsDocument names t n
     → IsContainer n → begin n < k → k ≤ length t
     → (v : Tree) × (e : ℕ) × (partial_answer names mode (take k t) ≡ done v e) × (cut names t n k mode ≡ Some v)
-cut-law names t n k mode d is lt within = answers-cut names t k within mode n d is lt
+cut-law names t n k mode d is lt within = document-cut names t k within mode n d is lt
 
 -- What a document stands for is answered in a partial mode too, with its end.
 pub partial_answer-of : (names : Bool) (t : List ℕ) (mode : PartialMode) (n : Node) → IsDocument names t n
@@ -410,9 +384,36 @@ partial_answer-of names t mode n d =
     subst (λ u. partial_answer names mode u ≡ done (value_of t n) (end n)) (take_all (length t) t (omega arith))
     (reads.0 (node-within names t n d.spelled))
 
--- What is answered with partial reading off is answered in every mode.
+-- As a parse in this mode answers. The cut of a front:
+abbrev pub AnswersCut : (names : Bool) (u : List ℕ) → PartialMode → IsBegunContainer names u → Reading Tree
+    → Type 0
+AnswersCut names u mode f (done v e) = cut names f.text f.node f.place mode ≡ Some v
+AnswersCut names u mode f (fault k i stop) = ⊥
+
+pub answer_in-cut : (names : Bool) (u : List ℕ) (mode : PartialMode) (f : IsBegunContainer names u)
+    → is_active mode ≡ true → AnswersCut names u mode f (answer_in names mode u)
+answer_in-cut names u mode f active =
+    let law = cut-law names f.text f.node f.place mode f.document f.container f.begun f.within in
+    let read = if-true (is_active mode) (partial_answer names mode u) (answer names u) active
+    ∙ ap (partial_answer names mode) f.is ∙ law.2 in
+    subst (AnswersCut names u mode f) (sym read) law.3
+
+-- the value of a document, in every mode:
+pub answer_in-of : (names : Bool) (t : List ℕ) (mode : PartialMode) (n : Node) → IsDocument names t n
+    → answer_in names mode t ≡ done (value_of t n) (end n)
+answer_in-of names t mode n d =
+    if_case (λ x. x ≡ done (value_of t n) (end n)) (is_active mode) (partial_answer names mode t) (answer names t)
+    (λ e. partial_answer-of names t mode n d) (λ e. answer-of names t n d)
+
+-- and what is accepted with partial reading off.
 pub partial_answer-accepts : (names : Bool) (t : List ℕ) (mode : PartialMode) (v : Tree) (e : ℕ)
     → answer names t ≡ done v e → partial_answer names mode t ≡ done v e
 partial_answer-accepts names t mode v e h =
     let read = subst (IsRead names t) h (answer-is names t) in
     partial_answer-of names t mode read.0 read.1 ∙ sym (answer-of names t read.0 read.1) ∙ h
+
+pub answer_in-accepts : (names : Bool) (t : List ℕ) (mode : PartialMode) (v : Tree) (e : ℕ)
+    → answer names t ≡ done v e → answer_in names mode t ≡ done v e
+answer_in-accepts names t mode v e h =
+    if_case (λ x. x ≡ done v e) (is_active mode) (partial_answer names mode t) (answer names t)
+    (λ active. partial_answer-accepts names t mode v e h) (λ off. h)

@@ -1,13 +1,13 @@
 -- Where a partial reading halts in a container that the text leaves open: no container round it takes a byte there.
-use Rattle.std.proofs.Common.{◌≡◌, ◌≢◌, ℕ, ◌<◌, ◌≤◌, ◌==◌, Bool, true, false, cond, List, length, refl, ap, ap₂, ◌∙◌, subst, sym, arith, IfSome}
+use Rattle.std.proofs.Common.{◌≡◌, ◌≢◌, ℕ, ◌==◌, Bool, true, false, cond, List, refl, ap, ap₂, ◌∙◌, subst, sym, arith, IfSome}
 use Rattle.std.specs.Prelude.{◌||◌, slice_get, Option, Some, None}
 use Rattle.std.proofs.lemmas.Bool.{eqb-true}
 use Rattle.std.proofs.lemmas.Option.{slice_get_within}
 use Rattle.jiter_scan.specs.Kind.{Kind, is_end_kind, is_forgiven, eof_list, eof_object, expected_list_comma_or_end, expected_object_comma_or_end}
 use Rattle.jiter_scan.proofs.Standing.{get-none}
-use Rattle.jiter_steps.specs.Blank.{is_blank, past_blanks, IsBlank}
+use Rattle.jiter_steps.specs.Blank.{is_blank, IsBlank}
 use Rattle.jiter_steps.specs.Literal.{start_of}
-use Rattle.jiter_steps.specs.Step.{Step, closed, stuck, step, array_comma, array_step, object_comma, object_step}
+use Rattle.jiter_steps.specs.Step.{Step, stuck, step, array_step, object_step}
 use Rattle.jiter_steps.specs.declared.parse.Start.TheVariants as start
 use Rattle.jiter_steps.proofs.Blanks.{past_blanks-end}
 use Rattle.jiter_steps.proofs.RowSteps.{row-at}

@@ -4,7 +4,7 @@ pub mod Bodies
 pub mod Bounds
 pub mod Complete
 pub mod CutLaw
-pub mod CutLists
+pub mod CutNodes
 pub mod CutParts
 pub mod Documents
 pub mod Firsts
@@ -17,6 +17,7 @@ pub mod NodeRules
 pub mod Nodes
 pub mod NodesFront
 pub mod NumberCut
+pub mod NumberCutLaws
 pub mod Parts
 pub mod Pieces
 pub mod PlacesExplained

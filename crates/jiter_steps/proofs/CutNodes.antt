@@ -1,15 +1,19 @@
--- What a cut leaves of the parts of a container, as lists: the cuts that there are.
-use Rattle.std.proofs.Common.{◌≡◌, ℕ, ◌<◌, ◌≤◌, Bool, Option, Some, None, List, [], ◌∷◌, refl, sym, ap, ap₂, ◌∙◌, arith, nat_le, if◌then◌else◌}
+-- What a cut leaves of a node that k falls into, and of the parts of a container: the cuts that there are, as a list.
+use Rattle.std.proofs.Common.{◌≡◌, ℕ, ◌<◌, ◌≤◌, Bool, min, Option, Some, None, List, [], ◌∷◌, refl, ap, ap₂, ◌∙◌, arith, nat_le, if◌then◌else◌, slice_range}
 use Rattle.std.specs.List.{filter_map, cons_option}
 use Rattle.std.specs.Option.{option_map}
 use Rattle.std.proofs.lemmas.Bool.{lt-leb}
+use Rattle.jiter_scan.specs.PartialMode.{allows_trailing_strings}
 use Rattle.jiter_scan.specs.declared.partial_mode.PartialMode.{PartialMode}
 use Rattle.jiter_scan.proofs.Choices.{if-false}
-use Rattle.jiter_steps.specs.Cut.{cut, cut_items, cut_members, with_item, with_member}
+use Rattle.jiter_steps.specs.Cut.{cut, cut_number, cut_string, cut_items, cut_members, with_item, with_member}
+use Rattle.jiter_steps.specs.Literal.{literal_tree}
 use Rattle.jiter_steps.specs.Node as grammar
-use Rattle.jiter_steps.specs.Node.{Key, Node, Nodes, no_nodes, node, NodeMembers, no_members, member, begin, end, Spells}
+use Rattle.jiter_steps.specs.Node.{Key, Node, Nodes, no_nodes, node, NodeMembers, no_members, member, begin, end, Spells, text_at}
+use Rattle.jiter_steps.specs.Piece.{Piece}
 use Rattle.jiter_steps.specs.Tree as tree
 use Rattle.jiter_steps.specs.Tree.{Text, Tree, items_of, members_of}
+use Rattle.jiter_steps.specs.declared.parse.Literal.{Literal}
 use Rattle.jiter_steps.proofs.Documents.{key_text}
 use Rattle.jiter_steps.proofs.SpelledParts.{nodes_list, members_list, InOrder, node-ahead}
 
@@ -46,7 +50,29 @@ module _ (names : Bool) (t : List ℕ) (k : ℕ) (mode : PartialMode) where
       ap (with_member (key_text t key) (cut names t n k mode)) (members-listed ms)
       ∙ with-member (key_text t key) (cut names t n k mode) (filter_map kept_member (members_list ms))
 
-  -- A container that is begun by k has a cut.
+  -- A node that is begun before k and does not end by it.
+  pub literal-left : (l : Literal) (b e : ℕ) → k < e → cut names t (grammar.literal l b e) k mode ≡ None
+  literal-left l b e gt = if-false (nat_le e k) (Some (literal_tree l)) None (lt-leb e k gt)
+
+  pub number-left : (b e : ℕ) → b < k → k < e
+      → cut names t (grammar.number b e) k mode ≡ cut_number names (slice_range t b k)
+  number-left b e lt gt =
+      let short : min k e ≡ k = omega arith in
+      if-false (nat_le k b) None (cut_number names (slice_range t b (min k e))) (lt-leb k b lt)
+      ∙ ap (λ m. cut_number names (slice_range t b m)) short
+
+  -- a string, by whether it is kept
+  abbrev pub left_string : List Piece → ℕ → Bool → Option Tree
+  left_string ps b keeps = if keeps then Some (cut_string t ps b k) else None
+
+  pub string-left : (ps : List Piece) (b e : ℕ) → b < k → k < e
+      → cut names t (grammar.string ps b e) k mode ≡ left_string ps b (allows_trailing_strings mode)
+  string-left ps b e lt gt =
+      let all : Tree = tree.string (text_at t ps b e) in
+      let left = left_string ps b (allows_trailing_strings mode) in
+      if-false (nat_le k b) None (if nat_le e k then Some all else left) (lt-leb k b lt)
+      ∙ if-false (nat_le e k) (Some all) left (lt-leb e k gt)
+
   pub array-left : (b e : ℕ) (ns : Nodes) → b < k
       → cut names t (grammar.array b e ns) k mode
       ≡ Some (tree.array (items_of (filter_map kept_item (nodes_list ns))))
