@@ -2,7 +2,7 @@
 -- the front answers exactly what the cut leaves of the document, with the marks of its texts, and never a fault.
 -- The front is read along the node (ReadFront): what ends by the cut is read whole, and what the cut falls into leaves
 -- what `Leaves` says, a scalar by its own laws and a container by induction over its parts.
-use Rattle.std.proofs.Common.{◌≡◌, ◌≢◌, ◌⊎◌, inl, inr, ℕ, ◌+◌, ◌<◌, ◌≤◌, Bool, true, false, Option, Some, None, List, [], ◌∷◌, ◌++◌, length, take, refl, sym, ap, ap₂, ◌∙◌, subst, arith, if◌then◌else◌, IfSome, append-nil, append_assoc}
+use Rattle.std.proofs.Common.{◌≡◌, ◌⊎◌, inl, inr, ℕ, ◌+◌, ◌<◌, ◌≤◌, Bool, true, false, Option, Some, None, List, [], ◌∷◌, ◌++◌, length, take, refl, sym, ap, ap₂, ◌∙◌, subst, arith, if◌then◌else◌, append-nil, append_assoc}
 use Rattle.std.specs.Prelude.{slice_get, slice_range}
 use Rattle.std.specs.List.{filter_map, cons_option}
 use Rattle.std.proofs.lemmas.Bool.{cases_lt}
@@ -18,7 +18,7 @@ use Rattle.jiter_scan.specs.declared.partial_mode.PartialMode.{PartialMode}
 use Rattle.jiter_scan.proofs.Choices.{if_case, if-true, if-false}
 use Rattle.jiter_steps.specs.Answer.{seen_as, value_form, partial_trees, answer, partial_answer, answer_in}
 use Rattle.jiter_steps.specs.Cut.{cut, cut_number, cut_string, IsBegunContainer}
-use Rattle.jiter_steps.specs.Literal.{word_of, start_of, literal_at, literal_tree}
+use Rattle.jiter_steps.specs.Literal.{word_of, literal_at, literal_tree}
 use Rattle.jiter_steps.specs.Node as grammar
 use Rattle.jiter_steps.specs.Node.{Key, Node, Nodes, NodeMembers, begin, end, SpellsNumber, Spells, nesting, nesting_round, nesting_round_members, nesting_limit, text_at, number_tree, value_of, values_of, IsContainer, IsDocument}
 use Rattle.jiter_steps.specs.Piece.{Piece, SpellsString}
@@ -28,20 +28,19 @@ use Rattle.jiter_steps.specs.StringReading.{whole, kept, string_at}
 use Rattle.jiter_steps.specs.Tree as tree
 use Rattle.jiter_steps.specs.Tree.{Text, Tree, items_of, members_of}
 use Rattle.jiter_steps.specs.declared.parse.Literal.{Literal}
-use Rattle.jiter_steps.specs.declared.parse.Start.TheVariants as start
 use Rattle.jiter_steps.proofs.Answered.{front-begins}
-use Rattle.jiter_steps.proofs.CutNodes.{keyed, kept_item, kept_member, literal-left, number-left, left_string, string-left, array-left, object-left, none-late}
+use Rattle.jiter_steps.proofs.CutNodes.{under_key, cut_item, cut_member, literal-left, number-left, cut_string_if, string-left, array-left, object-left, none-late}
 use Rattle.jiter_steps.proofs.CutParts.{EndsInput, CutParts}
 use Rattle.jiter_steps.proofs.Documents.{key_text, IsRead, values-of, members-of, answer-of, answer-is}
-use Rattle.jiter_steps.proofs.Front.{front-length, front-get, front-past, front-blank, front-stands, front-word}
+use Rattle.jiter_steps.proofs.Front.{front-length, front-get, front-blank, front-stands, front-word}
 use Rattle.jiter_steps.proofs.Growth.{node-late, node-whole}
-use Rattle.jiter_steps.proofs.Halting.{Halts, StuckAt, end-forgiven, array-halts, object-halts}
+use Rattle.jiter_steps.proofs.Halting.{Halts, StuckAt, end-forgiven, byte-halts, cut-halts, begin-halts, array-halts, object-halts}
 use Rattle.jiter_steps.proofs.Instances.{trees-advances}
 use Rattle.jiter_steps.proofs.Nodes.{blank-passed}
 use Rattle.jiter_steps.proofs.NumberCutLaws.{CutNumber, number_at-before, number_at-cuts}
 use Rattle.jiter_steps.proofs.ReadFront.{IsCutMember, CutRules, value_at-front}
 use Rattle.jiter_steps.proofs.ScalarLaws.{ScalarLaws, scalar-laws, EndsNumber}
-use Rattle.jiter_steps.proofs.SpelledParts.{start_is, begins-value, begin-within, node-within, ends-end, nodes_list, members_list, nodes-listed, members-listed, InOrder, items-order, members-order}
+use Rattle.jiter_steps.proofs.SpelledParts.{begins-value, begin-within, node-within, ends-end, nodes_list, members_list, nodes-listed, members-listed, InOrder, items-order, members-order}
 use Rattle.jiter_steps.proofs.StringCutLaws.{string_at-cut, string_at-cut_whole, string_at-before}
 use Rattle.jiter_steps.proofs.Values.{Goes, parts-part, parts-fault}
 
@@ -53,14 +52,6 @@ Leaves u (Some v) (done w p) = (w ≡ v) × Halts u p
 Leaves u None (fault kind i stop) = (is_forgiven kind ≡ true) × Halts u stop
 Leaves u o x = ⊥
 
--- a node begins a value
-node-begins : (n : Node) → start_is n ≢ start.Nothing
-node-begins (grammar.literal l b e) h = cc
-node-begins (grammar.number b e) h = cc
-node-begins (grammar.string ps b e) h = cc
-node-begins (grammar.array b e ns) h = cc
-node-begins (grammar.object b e ms) h = cc
-
 module _ (names : Bool) (t : List ℕ) (k : ℕ) (within : k ≤ length t) (mode : PartialMode) where
   abbrev front : List ℕ
   front = take k t
@@ -68,21 +59,90 @@ module _ (names : Bool) (t : List ℕ) (k : ℕ) (within : k ≤ length t) (mode
   abbrev rules : Rules Text Tree
   rules = partial_trees names mode
 
-  -- Where the reading halts: at the cut, and at a value's first byte.
-  cut-halts : Halts front k
-  cut-halts = subst (λ o. IfSome o (λ c. start_of c ≢ start.Nothing)) (sym (front-past t k within k (omega arith))) tt
+  abbrev IsCut : Node → Reading Tree → Type 0
+  IsCut n x = Leaves front (cut names t n k mode) x
 
-  byte-halts : (p c : ℕ) → slice_get front p ≡ Some c → start_of c ≢ start.Nothing → Halts front p
-  byte-halts p c here h = subst (λ o. IfSome o (λ c. start_of c ≢ start.Nothing)) (sym here) h
+  -- The reading x of a node that is begun: its value if it ends by k, or what the cut leaves.
+  abbrev Reads : Node → Reading Tree → Type 0
+  Reads n x = (end n ≤ k → x ≡ done (value_of t n) (end n)) × (k < end n → IsCut n x)
 
-  begin-halts : (n : Node) → Spells names t n → begin n < k → Halts front (begin n)
-  begin-halts n h lt =
-      let first = begins-value names t n h in
-      byte-halts (begin n) first.byte (front-get t k within (begin n) first.byte lt first.here)
-      (λ e. node-begins n (sym first.starts ∙ e))
+  -- Scalars. One that is cut has no cut or is read up to k, and else the reading stands at its first byte.
+  laws : ScalarLaws names front
+  laws = scalar-laws names front
 
-  -- A container of which each part is kept so: as it is seen if it ends by k, not at all if it begins behind k, and as
-  -- its reading leaves it if k cuts it.
+  abbrev LiteralOf : Literal → ℕ → Extent → Reading Tree
+  LiteralOf l b x = scalar_at b (seen_as (λ v e. literal_tree l) x)
+
+  abbrev NumberOf : ℕ → Scanned Number → Reading Tree
+  NumberOf b x = scalar_at b (seen_as (λ n e. number_tree n) x)
+
+  abbrev StringOf : ℕ → Scanned Text → Reading Tree
+  StringOf b x = scalar_at b (seen_as (λ s e. tree.string s) x)
+
+  literal-reads : (l : Literal) (b e : ℕ) → Stands t b e (word_of l) → b < k
+      → Reads (grammar.literal l b e) (LiteralOf l b (literal_at front l b))
+  literal-reads l b e h lt = (
+    λ le. ap (LiteralOf l b) (laws.literal-complete l b e (front-stands t k within b e (word_of l) h le)),
+    λ gt.
+        let none = literal-left names t k mode l b e gt in
+        let short = front-word t k within (word_of l) b e h (omega arith) gt in
+        subst (λ o. Leaves front o (LiteralOf l b (literal_at front l b))) (sym none)
+        (subst (λ x. Leaves front None (LiteralOf l b x)) (sym short)
+        (refl, begin-halts names t k within (grammar.literal l b e) h lt)),
+  )
+
+  number-leaves : (b : ℕ) (x : Scanned Number) → Halts front b → CutNumber names t k within b x
+      → Leaves front (cut_number names (slice_range t b k)) (NumberOf b x)
+  number-leaves b (taken n e) halts h =
+      let w = slice_range t b k in
+      subst (λ o. Leaves front o (done (number_tree n) e))
+      (sym (if-true (is_number_text names w) (Some (number_tree (number_value w))) None h.0))
+      (ap number_tree h.1, subst (Halts front) (sym h.2) (cut-halts t k within))
+  number-leaves b (failed kind j) halts h =
+      let w = slice_range t b k in
+      subst (λ o. Leaves front o (fault kind j b))
+      (sym (if-false (is_number_text names w) (Some (number_tree (number_value w))) None h.0))
+      (end-forgiven kind h.1, halts)
+
+  number-reads : (b e : ℕ) → SpellsNumber names t b e → EndsNumber t e → b < k
+      → Reads (grammar.number b e) (NumberOf b (number_at names front b))
+  number-reads b e h q lt = (
+    λ le. ap (NumberOf b) (number_at-before names t k within b e h q le),
+    λ gt.
+        subst (λ o. Leaves front o (NumberOf b (number_at names front b)))
+        (sym (number-left names t k mode b e lt gt))
+        (number-leaves b (number_at names front b) (begin-halts names t k within (grammar.number b e) h lt)
+        (number_at-cuts names t k within b e h q lt gt)),
+  )
+
+  text-whole : (ps : List Piece) (b e : ℕ) → SpellsString t b ps e → e ≤ k → (keeps : Bool)
+      → string_at (if keeps then kept else whole) front b ≡ taken (text_at t ps b e) e
+  text-whole ps b e h le true = (string_at-before t k within b e ps h le).1
+  text-whole ps b e h le false = (string_at-before t k within b e ps h le).0
+
+  text-leaves : (ps : List Piece) (b e : ℕ) → SpellsString t b ps e → b < k → k < e → (keeps : Bool)
+      → Leaves front (cut_string_if names t k mode ps b keeps)
+      (StringOf b (string_at (if keeps then kept else whole) front b))
+  text-leaves ps b e h lt gt true =
+      subst (λ x. Leaves front (Some (cut_string t ps b k)) (StringOf b x))
+      (sym (string_at-cut t k within b e ps h lt gt))
+      (refl, (cut-halts t k within))
+  text-leaves ps b e h lt gt false =
+      subst (λ x. Leaves front None (StringOf b x)) (sym (string_at-cut_whole t k within b e ps h lt gt).0)
+      (refl, begin-halts names t k within (grammar.string ps b e) h lt)
+
+  text-reads : (ps : List Piece) (b e : ℕ) → SpellsString t b ps e → b < k
+      → Reads (grammar.string ps b e) (StringOf b (string_at (value_form mode) front b))
+  text-reads ps b e h lt = (
+    λ le. ap (StringOf b) (text-whole ps b e h le (allows_trailing_strings mode)),
+    λ gt.
+        subst (λ o. Leaves front o (StringOf b (string_at (value_form mode) front b)))
+        (sym (string-left names t k mode ps b e lt gt))
+        (text-leaves ps b e h lt gt (allows_trailing_strings mode)),
+  )
+
+  -- Containers. A part is kept so: as it is seen if it ends by k, not at all if it begins behind k, and as its reading
+  -- leaves it if k cuts it.
   record Keeps {P Q : Type 0} (c : Container Q Tree) (value : P → Node) (seen : P → Q)
       (IsCut : P → Reading Q → Type 0) (kept : P → Option Q) : Type 0 where
     goes : Goes c front
@@ -120,7 +180,7 @@ module _ (names : Bool) (t : List ℕ) (k : ℕ) (within : k ≤ length t) (mode
         → Closes (qs ++ filter_map kept ps) (Behind qs s)
     input-closes qs ps s h none =
         subst (λ l. Closes l (Behind qs s)) (sym (ap (λ l. qs ++ l) none ∙ append-nil qs))
-        (stuck-closes qs k s (h.0, h.1, end-forgiven h.0 h.2) cut-halts)
+        (stuck-closes qs k s (h.0, h.1, end-forgiven h.0 h.2) (cut-halts t k within))
 
     -- a part that is cut is the last one
     part-closes : (qs : List Q) (ps : List P) (j : ℕ) (o : Option Q) (x : Reading Q) → j < length front
@@ -173,118 +233,38 @@ module _ (names : Bool) (t : List ℕ) (k : ℕ) (within : k ≤ length t) (mode
         subst (λ o. Leaves front o (container_at rules c front b)) (sym (is closes.0))
         (subst (Leaves front (Some (c.build closes.0 (filter_map kept ps)))) (sym closes.1) (refl, closes.2))
 
-  abbrev IsCut : Node → Reading Tree → Type 0
-  IsCut n x = Leaves front (cut names t n k mode) x
-
-  abbrev ReadsSo : Node → Reading Tree → Type 0
-  ReadsSo n x = (end n ≤ k → x ≡ done (value_of t n) (end n)) × (k < end n → IsCut n x)
-
-  -- Scalars that k cuts.
-  laws : ScalarLaws names front
-  laws = scalar-laws names front
-
-  abbrev LiteralOf : Literal → ℕ → Extent → Reading Tree
-  LiteralOf l b x = scalar_at b (seen_as (λ v e. literal_tree l) x)
-
-  abbrev NumberOf : ℕ → Scanned Number → Reading Tree
-  NumberOf b x = scalar_at b (seen_as (λ n e. number_tree n) x)
-
-  abbrev StringOf : ℕ → Scanned Text → Reading Tree
-  StringOf b x = scalar_at b (seen_as (λ s e. tree.string s) x)
-
-  literal-reads : (l : Literal) (b e : ℕ) → Stands t b e (word_of l) → b < k
-      → ReadsSo (grammar.literal l b e) (LiteralOf l b (literal_at front l b))
-  literal-reads l b e h lt = (
-    λ le. ap (LiteralOf l b) (laws.literal-complete l b e (front-stands t k within b e (word_of l) h le)),
-    λ gt.
-        let none = literal-left names t k mode l b e gt in
-        let short = front-word t k within (word_of l) b e h (omega arith) gt in
-        subst (λ o. Leaves front o (LiteralOf l b (literal_at front l b))) (sym none)
-        (subst (λ x. Leaves front None (LiteralOf l b x)) (sym short)
-        (refl, begin-halts (grammar.literal l b e) h lt)),
-  )
-
-  number-leaves : (b : ℕ) (x : Scanned Number) → Halts front b → CutNumber names t k within b x
-      → Leaves front (cut_number names (slice_range t b k)) (NumberOf b x)
-  number-leaves b (taken n e) halts h =
-      let w = slice_range t b k in
-      subst (λ o. Leaves front o (done (number_tree n) e))
-      (sym (if-true (is_number_text names w) (Some (number_tree (number_value w))) None h.0))
-      (ap number_tree h.1, subst (Halts front) (sym h.2) cut-halts)
-  number-leaves b (failed kind j) halts h =
-      let w = slice_range t b k in
-      subst (λ o. Leaves front o (fault kind j b))
-      (sym (if-false (is_number_text names w) (Some (number_tree (number_value w))) None h.0))
-      (end-forgiven kind h.1, halts)
-
-  number-reads : (b e : ℕ) → SpellsNumber names t b e → EndsNumber t e → b < k
-      → ReadsSo (grammar.number b e) (NumberOf b (number_at names front b))
-  number-reads b e h q lt = (
-    λ le. ap (NumberOf b) (number_at-before names t k within b e h q le),
-    λ gt.
-        subst (λ o. Leaves front o (NumberOf b (number_at names front b)))
-        (sym (number-left names t k mode b e lt gt))
-        (number-leaves b (number_at names front b) (begin-halts (grammar.number b e) h lt)
-        (number_at-cuts names t k within b e h q lt gt)),
-  )
-
-  text-whole : (ps : List Piece) (b e : ℕ) → SpellsString t b ps e → e ≤ k → (keeps : Bool)
-      → string_at (if keeps then kept else whole) front b ≡ taken (text_at t ps b e) e
-  text-whole ps b e h le true = (string_at-before t k within b e ps h le).1
-  text-whole ps b e h le false = (string_at-before t k within b e ps h le).0
-
-  text-leaves : (ps : List Piece) (b e : ℕ) → SpellsString t b ps e → b < k → k < e → (keeps : Bool)
-      → Leaves front (left_string names t k mode ps b keeps)
-      (StringOf b (string_at (if keeps then kept else whole) front b))
-  text-leaves ps b e h lt gt true =
-      subst (λ x. Leaves front (Some (cut_string t ps b k)) (StringOf b x)) (sym (string_at-cut t k within b e ps h lt gt))
-      (refl, cut-halts)
-  text-leaves ps b e h lt gt false =
-      subst (λ x. Leaves front None (StringOf b x)) (sym (string_at-cut_whole t k within b e ps h lt gt).0)
-      (refl, begin-halts (grammar.string ps b e) h lt)
-
-  text-reads : (ps : List Piece) (b e : ℕ) → SpellsString t b ps e → b < k
-      → ReadsSo (grammar.string ps b e) (StringOf b (string_at (value_form mode) front b))
-  text-reads ps b e h lt = (
-    λ le. ap (StringOf b) (text-whole ps b e h le (allows_trailing_strings mode)),
-    λ gt.
-        subst (λ o. Leaves front o (StringOf b (string_at (value_form mode) front b)))
-        (sym (string-left names t k mode ps b e lt gt))
-        (text-leaves ps b e h lt gt (allows_trailing_strings mode)),
-  )
-
   -- Members that k cuts.
-  keyed-leaves : (key : Text) (o : Option Tree) (y : Reading Tree) → Leaves front o y
-      → Leaves front (keyed key o) (with_key key y)
-  keyed-leaves key (Some v) (done w p) h = (ap (λ a. (key, a)) h.0, h.1)
-  keyed-leaves key None (fault kind i stop) h = h
-  keyed-leaves key (Some v) (fault kind i stop) h = absurd h
-  keyed-leaves key None (done w p) h = absurd h
+  under_key-leaves : (key : Text) (o : Option Tree) (y : Reading Tree) → Leaves front o y
+      → Leaves front (under_key key o) (with_key key y)
+  under_key-leaves key (Some v) (done w p) h = (ap (λ a. (key, a)) h.0, h.1)
+  under_key-leaves key None (fault kind i stop) h = h
+  under_key-leaves key (Some v) (fault kind i stop) h = absurd h
+  under_key-leaves key None (done w p) h = absurd h
 
   key-halts : (p : ℕ) → (p ≡ k) ⊎ (slice_get front p ≡ Some 34) → Halts front p
-  key-halts p (inl at) = subst (Halts front) (sym at) cut-halts
-  key-halts p (inr quote) = byte-halts p 34 quote (λ e. cc)
+  key-halts p (inl at) = subst (Halts front) (sym at) (cut-halts t k within)
+  key-halts p (inr quote) = byte-halts front p 34 quote (λ e. cc)
 
   member-leaves : (m : Key × Node) (x : Reading (Text × Tree)) → Spells names t m.1
       → IsCutMember rules names t k within (key_text t) (value_of t) IsCut m x
-      → Leaves front (kept_member names t k mode m) x
+      → Leaves front (cut_member names t k mode m) x
   member-leaves m x h (inl before) =
-      subst (λ o. Leaves front (keyed (key_text t m.0) o) x) (sym (node-late names t mode k m.1 h before.unread))
+      subst (λ o. Leaves front (under_key (key_text t m.0) o) x) (sym (node-late names t mode k m.1 h before.unread))
       (subst (Leaves front None) (sym before.is)
       (end-forgiven before.kind before.early, key-halts before.stop before.stands))
   member-leaves m x h (inr (y, is, cuts)) =
-      subst (Leaves front (kept_member names t k mode m)) (sym is)
-      (keyed-leaves (key_text t m.0) (cut names t m.1 k mode) y cuts)
+      subst (Leaves front (cut_member names t k mode m)) (sym is)
+      (under_key-leaves (key_text t m.0) (cut names t m.1 k mode) y cuts)
 
-  abbrev seen_member : Key × Node → Text × Tree
-  seen_member m = (key_text t m.0, value_of t m.1)
+  abbrev see_member : Key × Node → Text × Tree
+  see_member m = (key_text t m.0, value_of t m.1)
 
   abbrev CutsMember : Key × Node → Reading (Text × Tree) → Type 0
   CutsMember m x = IsCutMember rules names t k within (key_text t) (value_of t) IsCut m x
 
   -- Both kinds of containers keep their parts so.
   items-keep : (inner : ℕ → Reading Tree) (b : ℕ) → Goes (array_of rules inner front b) front
-      → Keeps (array_of rules inner front b) (λ n. n) (value_of t) IsCut (kept_item names t k mode)
+      → Keeps (array_of rules inner front b) (λ n. n) (value_of t) IsCut (cut_item names t k mode)
   items-keep inner b goes = record {
     goes = goes;
     halts = array-halts front;
@@ -294,12 +274,12 @@ module _ (names : Bool) (t : List ℕ) (k : ℕ) (within : k ≤ length t) (mode
   }
 
   members-keep : (inner : ℕ → Reading Tree) (b : ℕ) → Goes (object_of rules inner front b) front
-      → Keeps (object_of rules inner front b) (λ m. m.1) seen_member CutsMember (kept_member names t k mode)
+      → Keeps (object_of rules inner front b) (λ m. m.1) see_member CutsMember (cut_member names t k mode)
   members-keep inner b goes = record {
     goes = goes;
     halts = object-halts front;
-    ends = λ m h le. ap (keyed (key_text t m.0)) (node-whole names t mode k m.1 h le);
-    late = λ m h ge. ap (keyed (key_text t m.0)) (node-late names t mode k m.1 h ge);
+    ends = λ m h le. ap (under_key (key_text t m.0)) (node-whole names t mode k m.1 h le);
+    late = λ m h ge. ap (under_key (key_text t m.0)) (node-late names t mode k m.1 h ge);
     leaves = member-leaves;
   }
 
@@ -315,26 +295,26 @@ module _ (names : Bool) (t : List ℕ) (k : ℕ) (within : k ≤ length t) (mode
         ap tree.object (sym (members-of t (members_list ms)) ∙ ap (grammar.members_of t) (members-listed ms));
     array-cut = λ inner b e ns h lt goes parts.
         let room = nesting_round ns in
-        container-leaves (array_of rules inner front b) (λ n. n) (value_of t) IsCut (kept_item names t k mode)
+        container-leaves (array_of rules inner front b) (λ n. n) (value_of t) IsCut (cut_item names t k mode)
         (items-keep inner b goes) b (b + 1) e room (nodes_list ns) (cut names t (grammar.array b e ns) k mode)
         (items-order names t room ns (b + 1) e h.1 (omega arith)) parts (λ p. array-left names t k mode b e ns lt);
     object-cut = λ inner b e ms h lt goes parts.
         let room = nesting_round_members ms in
-        container-leaves (object_of rules inner front b) (λ m. m.1) seen_member CutsMember (kept_member names t k mode)
+        container-leaves (object_of rules inner front b) (λ m. m.1) see_member CutsMember (cut_member names t k mode)
         (members-keep inner b goes) b (b + 1) e room (members_list ms) (cut names t (grammar.object b e ms) k mode)
         (members-order names t room ms (b + 1) e h.1 (omega arith)) parts
         (λ p. object-left names t k mode b e ms lt);
   }
 
   -- A document that is begun before the cut: whole if it ends by k, or its cut.
-  document-reads : (n : Node) → IsDocument names t n → begin n < k → ReadsSo n (partial_answer names mode front)
+  document-reads : (n : Node) → IsDocument names t n → begin n < k → Reads n (partial_answer names mode front)
   document-reads n d lt =
       let first = begins-value names t n d.spelled in
       let here = front-get t k within (begin n) first.byte lt first.here in
       let blanks = front-blank t k within 0 (begin n) d.before (omega arith) in
       let at = blank-passed front 0 (begin n) first.byte blanks here first.no_blank in
       let begins = front-begins rules front (begin n) at (omega (arith, front-length t k within)) in
-      subst (ReadsSo n) (sym begins)
+      subst (Reads n) (sym begins)
       (value_at-front rules names t k within (key_text t) (value_of t) IsCut
       (trees-advances front is_forgiven (value_form mode) names) cut-rules n nesting_limit d.spelled d.limit
       (ends-end t (end n) d.after) lt)
@@ -357,7 +337,7 @@ module _ (names : Bool) (t : List ℕ) (k : ℕ) (within : k ≤ length t) (mode
   document-cut : (n : Node) → IsDocument names t n → IsContainer n → begin n < k
       → IsCutBy n (partial_answer names mode front)
   document-cut n d is lt = by (cases_lt k (end n)) where
-    reads : ReadsSo n (partial_answer names mode front)
+    reads : Reads n (partial_answer names mode front)
     reads = document-reads n d lt
 
     by : (k < end n) ⊎ (end n ≤ k) → IsCutBy n (partial_answer names mode front)

@@ -21,34 +21,34 @@ with-item : (o : Option Tree) (vs : List Tree) → with_item o (items_of vs) ≡
 with-item None vs = refl
 with-item (Some v) vs = refl
 
-abbrev pub keyed : Text → Option Tree → Option (Text × Tree)
-keyed key o = option_map (λ v. (key, v)) o
+abbrev pub under_key : Text → Option Tree → Option (Text × Tree)
+under_key key o = option_map (λ v. (key, v)) o
 
 with-member : (key : Text) (o : Option Tree) (ms : List (Text × Tree))
-    → with_member key o (members_of ms) ≡ members_of (cons_option (keyed key o) ms)
+    → with_member key o (members_of ms) ≡ members_of (cons_option (under_key key o) ms)
 with-member key None ms = refl
 with-member key (Some v) ms = refl
 
 module _ (names : Bool) (t : List ℕ) (k : ℕ) (mode : PartialMode) where
   -- an item's cut, and a member's
-  abbrev pub kept_item : Node → Option Tree
-  kept_item n = cut names t n k mode
+  abbrev pub cut_item : Node → Option Tree
+  cut_item n = cut names t n k mode
 
-  abbrev pub kept_member : Key × Node → Option (Text × Tree)
-  kept_member m = keyed (key_text t m.0) (cut names t m.1 k mode)
+  abbrev pub cut_member : Key × Node → Option (Text × Tree)
+  cut_member m = under_key (key_text t m.0) (cut names t m.1 k mode)
 
-  items-listed : (ns : Nodes) → cut_items names t ns k mode ≡ items_of (filter_map kept_item (nodes_list ns))
+  items-listed : (ns : Nodes) → cut_items names t ns k mode ≡ items_of (filter_map cut_item (nodes_list ns))
   items-listed no_nodes = refl
   items-listed (node n ns) =
       ap (with_item (cut names t n k mode)) (items-listed ns)
-      ∙ with-item (cut names t n k mode) (filter_map kept_item (nodes_list ns))
+      ∙ with-item (cut names t n k mode) (filter_map cut_item (nodes_list ns))
 
   members-listed : (ms : NodeMembers)
-      → cut_members names t ms k mode ≡ members_of (filter_map kept_member (members_list ms))
+      → cut_members names t ms k mode ≡ members_of (filter_map cut_member (members_list ms))
   members-listed no_members = refl
   members-listed (member key n ms) =
       ap (with_member (key_text t key) (cut names t n k mode)) (members-listed ms)
-      ∙ with-member (key_text t key) (cut names t n k mode) (filter_map kept_member (members_list ms))
+      ∙ with-member (key_text t key) (cut names t n k mode) (filter_map cut_member (members_list ms))
 
   -- A node that is begun before k and does not end by it.
   pub literal-left : (l : Literal) (b e : ℕ) → k < e → cut names t (grammar.literal l b e) k mode ≡ None
@@ -62,27 +62,27 @@ module _ (names : Bool) (t : List ℕ) (k : ℕ) (mode : PartialMode) where
       ∙ ap (λ m. cut_number names (slice_range t b m)) short
 
   -- a string, by whether it is kept
-  abbrev pub left_string : List Piece → ℕ → Bool → Option Tree
-  left_string ps b keeps = if keeps then Some (cut_string t ps b k) else None
+  abbrev pub cut_string_if : List Piece → ℕ → Bool → Option Tree
+  cut_string_if ps b keeps = if keeps then Some (cut_string t ps b k) else None
 
   pub string-left : (ps : List Piece) (b e : ℕ) → b < k → k < e
-      → cut names t (grammar.string ps b e) k mode ≡ left_string ps b (allows_trailing_strings mode)
+      → cut names t (grammar.string ps b e) k mode ≡ cut_string_if ps b (allows_trailing_strings mode)
   string-left ps b e lt gt =
       let all : Tree = tree.string (text_at t ps b e) in
-      let left = left_string ps b (allows_trailing_strings mode) in
+      let left = cut_string_if ps b (allows_trailing_strings mode) in
       if-false (nat_le k b) None (if nat_le e k then Some all else left) (lt-leb k b lt)
       ∙ if-false (nat_le e k) (Some all) left (lt-leb e k gt)
 
   pub array-left : (b e : ℕ) (ns : Nodes) → b < k
       → cut names t (grammar.array b e ns) k mode
-      ≡ Some (tree.array (items_of (filter_map kept_item (nodes_list ns))))
+      ≡ Some (tree.array (items_of (filter_map cut_item (nodes_list ns))))
   array-left b e ns lt =
       if-false (nat_le k b) None (Some (tree.array (cut_items names t ns k mode))) (lt-leb k b lt)
       ∙ ap (λ x. Some (tree.array x)) (items-listed ns)
 
   pub object-left : (b e : ℕ) (ms : NodeMembers) → b < k
       → cut names t (grammar.object b e ms) k mode
-      ≡ Some (tree.object (members_of (filter_map kept_member (members_list ms))))
+      ≡ Some (tree.object (members_of (filter_map cut_member (members_list ms))))
   object-left b e ms lt =
       if-false (nat_le k b) None (Some (tree.object (cut_members names t ms k mode))) (lt-leb k b lt)
       ∙ ap (λ x. Some (tree.object x)) (members-listed ms)

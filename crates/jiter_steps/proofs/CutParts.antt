@@ -181,7 +181,8 @@ module _ (t : List ℕ) (k : ℕ) (within : k ≤ length t) where
         by : (k < h.0) ⊎ (h.0 ≤ k) → (h.2.end ≤ k → CutParts c.next h.2.end ps) → CutParts c.next i (p ∷ ps)
         by (inl gt) rest =
             let later = front.value-begins h.2.begin p h.2.end h.2.is in
-            inl (front.ends.next-cut i h.1.at h.1.blanks le (omega (arith, h.1.ends)), omega (arith, h.2.blanks.ordered))
+            let ends = front.ends.next-cut i h.1.at h.1.blanks le (omega (arith, h.1.ends)) in
+            inl (ends, omega (arith, h.2.blanks.ordered))
         by (inr comma) rest =
             first-cut c.next i h.0 e p ps h.2 (λ past. front.ends.comma-cut i h.0 h.2.begin h.1 comma h.2.blanks past)
             (more-next i h.0 e p ps h.2 h.1) rest

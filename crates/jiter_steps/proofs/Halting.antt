@@ -1,5 +1,5 @@
 -- Where a partial reading halts in a container that the text leaves open: no container round it takes a byte there.
-use Rattle.std.proofs.Common.{◌≡◌, ◌≢◌, ℕ, ◌==◌, Bool, true, false, cond, List, refl, ap, ap₂, ◌∙◌, subst, sym, arith, IfSome}
+use Rattle.std.proofs.Common.{◌≡◌, ◌≢◌, ℕ, ◌<◌, ◌≤◌, ◌==◌, Bool, true, false, cond, List, length, take, refl, ap, ap₂, ◌∙◌, subst, sym, arith, IfSome}
 use Rattle.std.specs.Prelude.{◌||◌, slice_get, Option, Some, None}
 use Rattle.std.proofs.lemmas.Bool.{eqb-true}
 use Rattle.std.proofs.lemmas.Option.{slice_get_within}
@@ -7,10 +7,14 @@ use Rattle.jiter_scan.specs.Kind.{Kind, is_end_kind, is_forgiven, eof_list, eof_
 use Rattle.jiter_scan.proofs.Standing.{get-none}
 use Rattle.jiter_steps.specs.Blank.{is_blank, IsBlank}
 use Rattle.jiter_steps.specs.Literal.{start_of}
+use Rattle.jiter_steps.specs.Node as grammar
+use Rattle.jiter_steps.specs.Node.{Node, begin, Spells}
 use Rattle.jiter_steps.specs.Step.{Step, stuck, step, array_step, object_step}
 use Rattle.jiter_steps.specs.declared.parse.Start.TheVariants as start
 use Rattle.jiter_steps.proofs.Blanks.{past_blanks-end}
+use Rattle.jiter_steps.proofs.Front.{front-get, front-past}
 use Rattle.jiter_steps.proofs.RowSteps.{row-at}
+use Rattle.jiter_steps.proofs.SpelledParts.{start_is, begins-value}
 
 -- at the end of the text, or at a byte that begins a value: it is no blank, comma or closer
 abbrev pub Halts : List ℕ → ℕ → Type 0
@@ -45,6 +49,30 @@ begins-no_blank c h =
 past-tests : (a b : Bool) (x y z : Step) → a ≡ false → b ≡ false → cond a x (cond b y z) ≡ z
 past-tests a b x y z h g = ap (λ v. cond v x (cond b y z)) h ∙ ap (λ v. cond v y z) g
 
+-- a node begins a value
+node-begins : (n : Node) → start_is n ≢ start.Nothing
+node-begins (grammar.literal l b e) h = cc
+node-begins (grammar.number b e) h = cc
+node-begins (grammar.string ps b e) h = cc
+node-begins (grammar.array b e ns) h = cc
+node-begins (grammar.object b e ms) h = cc
+
+pub byte-halts : (t : List ℕ) (p c : ℕ) → slice_get t p ≡ Some c → start_of c ≢ start.Nothing → Halts t p
+byte-halts t p c here h = subst (λ o. IfSome o (λ c. start_of c ≢ start.Nothing)) (sym here) h
+
+-- A reading of the front halts at the cut, and at a value's first byte.
+module _ (t : List ℕ) (k : ℕ) (within : k ≤ length t) where
+  pub cut-halts : Halts (take k t) k
+  cut-halts = subst (λ o. IfSome o (λ c. start_of c ≢ start.Nothing)) (sym (front-past t k within k (omega arith))) tt
+
+pub begin-halts : (names : Bool) (t : List ℕ) (k : ℕ) (within : k ≤ length t) (n : Node) → Spells names t n
+    → begin n < k → Halts (take k t) (begin n)
+begin-halts names t k within n h lt =
+    let first = begins-value names t n h in
+    byte-halts (take k t) (begin n) first.byte (front-get t k within (begin n) first.byte lt first.here)
+    (λ e. node-begins n (sym first.starts ∙ e))
+
+-- There a step between parts is stuck.
 module _ (t : List ℕ) where
   row-halts : (row : ℕ → Option ℕ → Step) → ((p : ℕ) → StuckAt p (row p None))
       → ((p c : ℕ) → start_of c ≢ start.Nothing → StuckAt p (row p (Some c)))

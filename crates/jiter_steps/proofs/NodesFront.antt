@@ -54,7 +54,8 @@ module _ (t : List ℕ) (k : ℕ) (within : k ≤ length t) where
   -- A container whose front goes so, and which forgives nothing.
   module _ {K P Q A : Type 0} (r : Rules K A) (strict : (kind : Kind) → r.forgives kind ≡ false) (c : Container Q A)
       (goes : Goes c u)
-      (value : P → Node) (seen : P → Q) (IsCut : P → Reading Q → Type 0) (short : (p : P) (x : Reading Q) → IsCut p x → CutShort k x)
+      (value : P → Node) (seen : P → Q) (IsCut : P → Reading Q → Type 0)
+      (short : (p : P) (x : Reading Q) → IsCut p x → CutShort k x)
       (ends : Cuts t k within c.first c.next) where
     abbrev At : List Q → ℕ → Reading A
     At qs j = parts_at r c u (length u) qs j

@@ -112,7 +112,8 @@ module _ {K A : Type 0} (r : Rules K A) (names : Bool) (t : List ℕ) (k : ℕ) 
           let read = all n is.spelled is.limit quiet (omega (arith, is.begins)) in
           subst (λ f. ReadTo t k within see IsCut n f (inner j)) is.ends (subst (λ i. Reads n (inner i)) is.begins read)
 
-      items-front : InnerReads → (b : ℕ) → ReadsFront t k within (array b) (λ n. n) see IsCut 93 ItemAt (IsItem names t room)
+      items-front : InnerReads → (b : ℕ)
+          → ReadsFront t k within (array b) (λ n. n) see IsCut 93 ItemAt (IsItem names t room)
       items-front all b = record {
         delimits = array-delimits u;
         ends = array-cuts t k within;
@@ -227,11 +228,13 @@ module _ {K A : Type 0} (r : Rules K A) (names : Bool) (t : List ℕ) (k : ℕ) 
           → (CutParts t k within c value seen Cut c.first (begin n + 1) ps → IsCut n (container_at r c u (begin n)))
           → Reads n (container_at r c u (begin n))
       container-reads c value seen Cut closer Begins IsPart reads goes n ps parts lt build cut = (
-        λ le. container-whole t k within c value seen Cut closer Begins IsPart reads r goes ps (begin n) (end n) parts le
+        λ le.
+            container-whole t k within c value seen Cut closer Begins IsPart reads r goes ps (begin n) (end n) parts le
             ∙ ap (λ a. done a (end n)) build,
         λ gt.
             let before : begin n + 1 ≤ k = omega arith in
-            cut (parts-cut t k within c value seen Cut closer Begins IsPart reads ps (begin n + 1) (end n) parts before gt),
+            cut
+            (parts-cut t k within c value seen Cut closer Begins IsPart reads ps (begin n + 1) (end n) parts before gt),
       )
 
       -- a value, by what it begins with
@@ -250,8 +253,9 @@ module _ {K A : Type 0} (r : Rules K A) (names : Bool) (t : List ℕ) (k : ℕ) 
           (rules.array b e ns) (rules.array-cut inner b e ns h lt goes)
       value-reads all (grammar.object b e ms) h d q lt =
           let goes = object_of-goes r u good inner inner-within b in
-          container-reads (object b) member_value see_member IsCutMember 125 KeyBegins (IsMember names t room) (members-front all b)
-          goes (grammar.object b e ms) (members_list ms) (members-parts names t room ms (b + 1) e h.1 d) lt
+          container-reads (object b) member_value see_member IsCutMember 125 KeyBegins (IsMember names t room)
+          (members-front all b) goes
+          (grammar.object b e ms) (members_list ms) (members-parts names t room ms (b + 1) e h.1 d) lt
           (rules.object b e ms) (rules.object-cut inner b e ms h lt goes)
 
       begun-reads : InnerReads → (n : Node) → Spells names t n → nesting n ≤ room → EndsNumber t (end n) → begin n < k
