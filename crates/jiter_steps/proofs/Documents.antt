@@ -23,7 +23,7 @@ use Rattle.jiter_steps.proofs.SpelledParts.{begins-value, ends-end}
 use Rattle.jiter_steps.proofs.Fused.{mapped, scanned_as, pairs, Leads, whole_answer-mapped}
 use Rattle.jiter_steps.proofs.NodeRules.{nodes, nodes_of, node_members_of, key_of}
 use Rattle.jiter_steps.proofs.Pieces.{pieces_from}
-use Rattle.jiter_steps.proofs.Nodes.{blank-passed, blank-to_end, passed-blank, at_length}
+use Rattle.jiter_steps.proofs.Blanks.{blank-passed, blank-to_end, passed-blank, at_length}
 use Rattle.jiter_steps.proofs.ScalarLaws.{ScalarLaws, scalar-laws}
 use Rattle.jiter_steps.proofs.Sound.{Sound, value_at-sound}
 

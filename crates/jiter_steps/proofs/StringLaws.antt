@@ -12,12 +12,12 @@ use Rattle.jiter_scan.proofs.Scanning.{ScalarWithin, FaultAt}
 use Rattle.jiter_steps.specs.Tree.{Text}
 use Rattle.jiter_steps.specs.Piece.{Piece, SpellsString, characters, text_of}
 use Rattle.jiter_steps.specs.Node.{has_backslash, text_at}
-use Rattle.jiter_steps.specs.StringReading.{Stop, closed, unclosed, cut, wrong, body_at, Form, whole, kept, raw, raw_kept, checked, shortened, as_kept, between, ended, content_at, string_at}
+use Rattle.jiter_steps.specs.StringReading.{Stop, closed, unclosed, cut, wrong, body_at, Form, whole, kept, raw, raw_kept, if_utf8, valid_front_by, valid_front, between, text_in_form, content_at, string_at}
 use Rattle.jiter_scan.proofs.Choices.{if_case}
 use Rattle.jiter_steps.proofs.Bounds.{fault-end, fault-byte}
 use Rattle.jiter_steps.proofs.Pieces.{pieces_from}
 use Rattle.jiter_steps.proofs.StringStand.{pieces-ahead}
-use Rattle.jiter_steps.proofs.PlacesExplained.{IsPlaceKind}
+use Rattle.jiter_steps.proofs.Places.{IsPlaceKind}
 use Rattle.jiter_steps.proofs.Bodies.{StopWithin, body_at-within, body_at-long}
 use Rattle.jiter_steps.proofs.StringComplete.{string-complete, pieces-read}
 use Rattle.jiter_steps.proofs.StringSound.{string-sound, closed-text, pieces-unique}
@@ -40,36 +40,36 @@ module _ (t : List ℕ) (i : ℕ) (inside : i < length t) where
   code-within : (n : ℕ) → i + 1 + n ≤ length t → ScalarWithin {A = Text} t i (failed invalid_code_point (i + 1 + n))
   code-within n h = (omega arith, fault-byte t invalid_code_point (i + 1 + n) (λ m. cc) refl h)
 
-  checked-within : (o : Bool) (bs : List ℕ) (e : ℕ) → i + 1 + length bs ≤ length t → i < e → e ≤ length t → ScalarWithin t i (checked (i + 1) o bs e)
-  checked-within o bs e h l m =
+  if_utf8-within : (o : Bool) (bs : List ℕ) (e : ℕ) → i + 1 + length bs ≤ length t → i < e → e ≤ length t → ScalarWithin t i (if_utf8 (i + 1) o bs e)
+  if_utf8-within o bs e h l m =
       if_case (ScalarWithin t i) (utf8_valid_len bs == length bs) (taken (record { owned = o; bytes = bs }) e) (failed invalid_code_point (i + 1 + utf8_valid_len bs))
       (λ q. (l, m)) (λ q. code-within (utf8_valid_len bs) (omega (arith, utf8_valid_len_le bs)))
 
-  kept-within : (o : Bool) (bs : List ℕ) (e : ℕ) → i + 1 + length bs ≤ length t → i < e → e ≤ length t → ScalarWithin t i (as_kept (i + 1) o bs e)
+  kept-within : (o : Bool) (bs : List ℕ) (e : ℕ) → i + 1 + length bs ≤ length t → i < e → e ≤ length t → ScalarWithin t i (valid_front (i + 1) o bs e)
   kept-within o bs e h l m = by (utf8_error_len (drop (utf8_valid_len bs) bs)) where
-    by : (x : Option ℕ) → ScalarWithin t i (shortened (i + 1) o bs e x)
+    by : (x : Option ℕ) → ScalarWithin t i (valid_front_by (i + 1) o bs e x)
     by None = (l, m)
     by (Some n) = code-within (utf8_valid_len bs) (omega (arith, utf8_valid_len_le bs))
 
-  ended-within : (form : Form) (bs : List ℕ) (o : Bool) (s : Stop) → i + 1 + length bs ≤ length t → StopWithin t (i + 1) s → ScalarWithin t i (ended form t (i + 1) bs o s)
-  ended-within form bs o (wrong k j) h w = (omega (arith, w.0), place-fault t k j (omega (arith, w.1)) w.2)
-  ended-within whole bs o (closed e) h w = checked-within o bs e h (omega (arith, w.0)) w.1
-  ended-within kept bs o (closed e) h w = kept-within o bs e h (omega (arith, w.0)) w.1
-  ended-within raw bs o (closed e) h w = (omega (arith, w.0), w.1)
-  ended-within raw_kept bs o (closed e) h w = (omega (arith, w.0), w.1)
-  ended-within whole bs o unclosed h w = end-within
-  ended-within kept bs o unclosed h w = kept-within o bs (length t) h inside (omega arith)
-  ended-within raw bs o unclosed h w = end-within
-  ended-within raw_kept bs o unclosed h w = (inside, omega arith)
-  ended-within whole bs o cut h w = end-within
-  ended-within kept bs o cut h w = kept-within o bs (length t) h inside (omega arith)
-  ended-within raw bs o cut h w = end-within
-  ended-within raw_kept bs o cut h w = end-within
+  text_in_form-within : (form : Form) (bs : List ℕ) (o : Bool) (s : Stop) → i + 1 + length bs ≤ length t → StopWithin t (i + 1) s → ScalarWithin t i (text_in_form form t (i + 1) bs o s)
+  text_in_form-within form bs o (wrong k j) h w = (omega (arith, w.0), place-fault t k j (omega (arith, w.1)) w.2)
+  text_in_form-within whole bs o (closed e) h w = if_utf8-within o bs e h (omega (arith, w.0)) w.1
+  text_in_form-within kept bs o (closed e) h w = kept-within o bs e h (omega (arith, w.0)) w.1
+  text_in_form-within raw bs o (closed e) h w = (omega (arith, w.0), w.1)
+  text_in_form-within raw_kept bs o (closed e) h w = (omega (arith, w.0), w.1)
+  text_in_form-within whole bs o unclosed h w = end-within
+  text_in_form-within kept bs o unclosed h w = kept-within o bs (length t) h inside (omega arith)
+  text_in_form-within raw bs o unclosed h w = end-within
+  text_in_form-within raw_kept bs o unclosed h w = (inside, omega arith)
+  text_in_form-within whole bs o cut h w = end-within
+  text_in_form-within kept bs o cut h w = kept-within o bs (length t) h inside (omega arith)
+  text_in_form-within raw bs o cut h w = end-within
+  text_in_form-within raw_kept bs o cut h w = end-within
 
 -- a string ends behind its begin; a fault stands in the text, or at its end
 pub string_at-within : (form : Form) (t : List ℕ) (i : ℕ) → i < length t → ScalarWithin t i (string_at form t i)
 unfolding content_at
-string_at-within form t i h = let b = body_at t (i + 1) in ended-within t i h form b.bytes b.owned b.stop (body_at-long t (i + 1) (omega arith)) (body_at-within t (i + 1))
+string_at-within form t i h = let b = body_at t (i + 1) in text_in_form-within t i h form b.bytes b.owned b.stop (body_at-long t (i + 1) (omega arith)) (body_at-within t (i + 1))
 
 -- ---- the grammar
 -- where a string lies
@@ -131,7 +131,7 @@ same-kind : (s r : Scanned Text) (k l : Kind) (i j : ℕ) → s ≡ failed k i �
 same-kind s r k l i j p q h = cc
 
 module _ (t : List ℕ) (i : ℕ) where
-  code-raw : (bs : List ℕ) (o : Bool) (s : Stop) (j : ℕ) → StopWithin t i s → ended whole t i bs o s ≡ failed invalid_code_point j → (e : ℕ) × (ended raw t i bs o s ≡ taken (between t i (e - 1)) e)
+  code-raw : (bs : List ℕ) (o : Bool) (s : Stop) (j : ℕ) → StopWithin t i s → text_in_form whole t i bs o s ≡ failed invalid_code_point j → (e : ℕ) × (text_in_form raw t i bs o s ≡ taken (between t i (e - 1)) e)
   code-raw bs o (wrong k x) j w h = absurd (place-no_code k w.2 (same-kind _ _ k invalid_code_point x j refl refl h))
   code-raw bs o unclosed j w h = let no : eof_string ≡ invalid_code_point = same-kind _ _ eof_string invalid_code_point (length t) j refl refl h in absurd (cc)
   code-raw bs o cut j w h = let no : eof_string ≡ invalid_code_point = same-kind _ _ eof_string invalid_code_point (length t) j refl refl h in absurd (cc)

@@ -1,12 +1,20 @@
 -- The numbers of escapes (RFC 8259, 7).
 use Rattle.std.specs.Prelude.{ℕ, ◌+◌, ◌-◌, ◌*◌, ◌==◌, ◌&&◌, Bool, if◌then◌else◌, Option, Some, None, nat_le, nat_lt}
 use Rattle.std.specs.Char.{digit_value, is_digit}
+use Rattle.jiter_scan.specs.Ascii as ascii
 
 -- what a backslash and the byte b stand for, other than `\u`
 abbrev pub short_escape : ℕ → Option ℕ
 short_escape b =
-    if b == 34 then Some 34 else (if b == 92 then Some 92 else (if b == 47 then Some 47 else (if b == 98 then Some 8
-    else (if b == 102 then Some 12 else (if b == 110 then Some 10 else (if b == 114 then Some 13 else (if b == 116 then Some 9 else None)))))))
+    if b == ascii.quote then Some ascii.quote
+    else (if b == ascii.backslash then Some ascii.backslash
+    else (if b == ascii.slash then Some ascii.slash
+    else (if b == ascii.small_b then Some ascii.backspace
+    else (if b == ascii.small_f then Some ascii.form_feed
+    else (if b == ascii.small_n then Some ascii.line_feed
+    else (if b == ascii.small_r then Some ascii.carriage_return
+    else (if b == ascii.small_t then Some ascii.tab
+    else None)))))))
 
 -- the number that four hex digits spell, of either case
 abbrev pub unit_of : ℕ → ℕ → ℕ → ℕ → ℕ

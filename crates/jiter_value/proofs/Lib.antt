@@ -1,3 +1,6 @@
-pub mod Views
-pub mod Turns
+pub mod Answering
+pub mod Kept
 pub mod Parsed
+pub mod Reached
+pub mod Sizes
+pub mod Views

@@ -3,13 +3,13 @@ ghost use Rattle.std.specs.Prelude.{◌≡◌, ◌≤◌, ◌⊎◌, IfOk, IfErr
 ghost use Rattle.jiter_scan.specs.Kind.{kind_of, is_end_kind};
 ghost use Rattle.jiter_steps.specs.Blank.{past_blanks};
 ghost use Rattle.jiter_steps.specs.Node.{Node, IsDocument, IsCutContainer, value_of};
-ghost use Rattle.jiter_steps.specs.Answer.{answer};
-ghost use Rattle.jiter_value.specs.View.{view};
-ghost use Rattle.jiter_value.specs.Answers.{Answers, MayGrow, error_of};
+ghost use Rattle.jiter_steps.specs.Answer.{answer, answer_in};
+ghost use Rattle.jiter_value.specs.Value.{view, Answers, MayGrow};
 
-use crate::read::read_whole;
-use jiter_scan::{JsonError, JsonErrorType};
-use jiter_steps::fault::Refusal;
+use crate::reading::{error_at, read_whole};
+use crate::settings::Settings;
+use jiter_scan::{JsonError, JsonErrorType, PartialMode};
+use jiter_steps::parse::Parser;
 use std::alloc::Global;
 use std::borrow::CowStr;
 
@@ -57,6 +57,9 @@ impl<'j> JsonValue<'j> {
         // A document is answered with its value, unless memory is refused.
         ensures only { (n : Node) → IsDocument allow_inf_nan bytes.now n → MatchResult result
             (λ v. view v ≡ value_of bytes.now n) (λ e. e.error_type ≡ JsonErrorType.OutOfMemory) }
+        // At most one node is spelled.
+        ensures one { (n m : Node) → IsDocument allow_inf_nan bytes.now n
+            → IsDocument allow_inf_nan bytes.now m → n ≡ m }
         // Which fault it is: the first one of a reading from the left.
         ensures first { Answers result (answer allow_inf_nan bytes.now) }
 
@@ -76,24 +79,40 @@ impl<'j> JsonValue<'j> {
         ensures place { IfErr result (λ e. e.error_type ≡ JsonErrorType.OutOfMemory
             → past_blanks bytes.now 0 ≤ e.index) }
     {
-        match read_whole(alloc, bytes, allow_inf_nan) {
-            Ok((value, _)) => Ok(value),
-            Err(refusal) => Err(error_of(refusal)),
-        }
+        JsonValue::parse_with_config(alloc, bytes, allow_inf_nan, PartialMode::Off)
     }
-}
 
-fn error_of(refusal: Refusal) -> JsonError
-    ensures { result ≡ error_of refusal }
-{
-    match refusal {
-        Refusal::Fault(fault) => JsonError {
-            error_type: fault.kind,
-            index: fault.index,
-        },
-        Refusal::Memory(index) => JsonError {
-            error_type: JsonErrorType::OutOfMemory,
-            index,
-        },
+    /// What [`JsonValue::parse`] answers, with partial reading as asked. In a partial mode a document that was
+    /// cut is read as far as it goes: each container is closed where a fault of its end or of its commas
+    /// stands, and what follows the value is not looked at. With `TrailingStrings` a cut string is kept.
+    pub fn parse_with_config(
+        alloc: Global,
+        bytes: &'j [u8],
+        allow_inf_nan: bool,
+        allow_partial: PartialMode,
+    ) -> Result<JsonValue<'j>, JsonError>
+        // The reading from the left, in this mode.
+        ensures answer { Answers result (answer_in allow_inf_nan allow_partial bytes.now) }
+
+        // Where faults stand.
+        ensures index { IfErr result (λ e. e.index ≤ length bytes.now) }
+        ensures ends { IfErr result (λ e. is_end_kind (kind_of e.error_type) ≡ true
+            → e.index ≡ length bytes.now) }
+
+        // Memory may be the answer only where the value's first bytes ask for some, and from its first byte on.
+        ensures memory { IfErr result (λ e. e.error_type ≡ JsonErrorType.OutOfMemory
+            → MayGrow bytes.now) }
+        ensures place { IfErr result (λ e. e.error_type ≡ JsonErrorType.OutOfMemory
+            → past_blanks bytes.now 0 ≤ e.index) }
+    {
+        let settings = Settings {
+            allow_inf_nan,
+            mode: allow_partial,
+        };
+        let mut parser = Parser::new(bytes);
+        match read_whole(alloc, &mut parser, settings) {
+            Ok(value) => Ok(value),
+            Err(error) => Err(error_at(error, parser.index)),
+        }
     }
 }
