@@ -5,6 +5,8 @@ pub mod Bodies
 pub mod Bounds
 pub mod Complete
 pub mod Computed
+pub mod CutLaw
+pub mod CutNodes
 pub mod CutParts
 pub mod DecodeSteps
 pub mod Documents
@@ -14,10 +16,12 @@ pub mod FrontSteps
 pub mod FrontTexts
 pub mod Fused
 pub mod Growth
+pub mod Halting
 pub mod Instances
 pub mod NodeRules
 pub mod NodesFront
 pub mod NumberCut
+pub mod NumberCutLaws
 pub mod Parts
 pub mod Pieces
 pub mod Pins
