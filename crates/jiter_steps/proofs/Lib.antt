@@ -1,4 +1,5 @@
 pub mod Agree
+pub mod AgreeNumbers
 pub mod Answered
 pub mod Blanks
 pub mod Bodies
