@@ -1,5 +1,6 @@
 pub mod Agree
 pub mod AgreeNumbers
+pub mod AgreeStrings
 pub mod Answered
 pub mod Blanks
 pub mod Bodies
