@@ -47,7 +47,7 @@ module _ (t u : List ℕ) (m : ℕ) (same : AgreeTo t u m) where
   still : (i : ℕ) (x : Extent) → i < length t → (Shown t m x → i ≤ m) → Same i x x
   still i x lt h s = (h s, lt, refl)
 
-  then-same : (i : ℕ) (x y : Extent) (f g : ℕ → Extent) → Same i x y → ((j : ℕ) → Same j (f j) (g j)) → Same i (extent_then x f) (extent_then y g)
+  pub then-same : (i : ℕ) (x y : Extent) (f g : ℕ → Extent) → Same i x y → ((j : ℕ) → Same j (f j) (g j)) → Same i (extent_then x f) (extent_then y g)
   then-same i (taken w j) y f g h all s =
       let r = all j s in
       let q = h (r.0, r.1) in

@@ -1,5 +1,7 @@
 pub mod Agree
 pub mod AgreeNumbers
+pub mod AgreeReadings
+pub mod AgreeSteps
 pub mod AgreeStrings
 pub mod Answered
 pub mod Blanks
