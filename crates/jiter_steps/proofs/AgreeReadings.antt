@@ -28,6 +28,11 @@ abbrev pub ShownReading : {A : Type 0} → List ℕ → ℕ → Reading A → Ty
 ShownReading t m (done a e) = (e ≤ m) × (e < length t)
 ShownReading t m (fault k j stop) = (j ≤ m) × IsOfByte k
 
+-- a fault of a byte at or before m
+abbrev pub ShownFault : {A : Type 0} → ℕ → Reading A → Type 0
+ShownFault m (done a e) = ⊥
+ShownFault m (fault k j stop) = (j ≤ m) × IsOfByte k
+
 abbrev pub IsFault : {A : Type 0} → Reading A → Type 0
 IsFault (done a e) = ⊥
 IsFault (fault k j stop) = Unit {0}
@@ -215,17 +220,12 @@ module _ (t u : List ℕ) (m : ℕ) (same : AgreeTo t u m) where
           let begun = ap (λ j. if_begun r u j (slice_get u j)) place ∙ ap (if_begun r u i) (same i c v.0 here) in
           (v.0, subst (Meets (value_at r t nesting_limit i)) (sym begun) v.1)
 
-      -- a fault of a byte at or before m
-      abbrev pub ShownFault : Reading A → Type 0
-      ShownFault (done a e) = ⊥
-      ShownFault (fault k j stop) = (j ≤ m) × IsOfByte k
-
       to_end-fault : (y : Reading A) → IsFault y → IsFault (to_end u y)
       to_end-fault (done a e) h = absurd h
       to_end-fault (fault k j stop) h = tt
 
       trailing-fault : (a : A) (e : ℕ) (y : Reading A) → ((e ≤ m) × (e < length t) → y ≡ done a e)
-          → (j : ℕ) (o : Option ℕ) → past_blanks t e ≡ j → slice_get t j ≡ o → ShownFault (if_last a e j o) → IsFault (to_end u y)
+          → (j : ℕ) (o : Option ℕ) → past_blanks t e ≡ j → slice_get t j ≡ o → ShownFault m (if_last a e j o) → IsFault (to_end u y)
       trailing-fault a e y all j None at here shown = absurd shown
       trailing-fault a e y all j (Some c) at here shown =
           let after = past_blanks-after t e in
@@ -235,12 +235,12 @@ module _ (t u : List ℕ) (m : ℕ) (same : AgreeTo t u m) where
           let last = ap (λ k. if_last a e k (slice_get u k)) place ∙ ap (if_last a e j) (same j c shown.0 here) in
           subst IsFault (sym (ap (to_end u) is ∙ last)) tt
 
-      end-stays : (x y : Reading A) → (ShownReading t m x → Meets x y) → ShownFault (to_end t x) → IsFault (to_end u y)
+      end-stays : (x y : Reading A) → (ShownReading t m x → Meets x y) → ShownFault m (to_end t x) → IsFault (to_end u y)
       end-stays (done a e) y all shown = trailing-fault a e y all (past_blanks t e) (slice_get t (past_blanks t e)) refl refl shown
       end-stays (fault k j stop) y all shown = to_end-fault y (all shown)
 
       -- A fault of a byte at or before m is a fault in the other text.
-      pub whole_answer-stays : ShownFault (whole_answer r t) → IsFault (whole_answer r u)
+      pub whole_answer-stays : ShownFault m (whole_answer r t) → IsFault (whole_answer r u)
       unfolding whole_answer front_answer
       whole_answer-stays =
           end-stays (front_answer r t) (front_answer r u)

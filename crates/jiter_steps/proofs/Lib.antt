@@ -9,6 +9,7 @@ pub mod Bodies
 pub mod Bounds
 pub mod Complete
 pub mod CutParts
+pub mod Dead
 pub mod Documents
 pub mod Firsts
 pub mod Front
