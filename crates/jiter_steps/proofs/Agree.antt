@@ -1,6 +1,6 @@
 -- Two texts that agree up to a place: runs, ranges and blanks that end no later are the same in both.
-use Rattle.std.proofs.Common.{◌≡◌, ◌≢◌, ◌⊎◌, inl, inr, ℕ, ◌+◌, ◌-◌, ◌<◌, ◌≤◌, Bool, true, false, List, [], ◌∷◌, length, refl, sym, ap, ◌∙◌, subst, arith}
-use Rattle.std.specs.Prelude.{slice_get, slice_index, slice_range, Option, Some, None}
+use Rattle.std.proofs.Common.{◌≡◌, ◌≢◌, ◌⊎◌, inl, inr, ℕ, ◌+◌, ◌-◌, ◌<◌, ◌≤◌, Bool, false, List, [], ◌∷◌, length, sym, ap, ◌∙◌, subst, arith}
+use Rattle.std.specs.Prelude.{slice_get, slice_index, slice_range, Some}
 use Rattle.std.proofs.lemmas.Bool.{cases_lt, true≢false}
 use Rattle.std.proofs.lemmas.Option.{slice_get_within, slice_get-get_or, get_or_from_slice_get}
 use Rattle.jiter_scan.specs.Kind.{Kind, is_end_kind, invalid_code_point}
@@ -8,7 +8,7 @@ use Rattle.jiter_scan.specs.Scan.{run_end}
 use Rattle.jiter_scan.specs.Stands.{Stands}
 use Rattle.jiter_scan.proofs.Runs.{run_end-ahead, run_end-within, run_end-passes, run_end-stops}
 use Rattle.jiter_scan.proofs.Standing.{stands-length, stands-slice, slice-stands}
-use Rattle.jiter_steps.specs.Blank.{is_blank, past_blanks, IsBlankByte, IsBlank}
+use Rattle.jiter_steps.specs.Blank.{past_blanks, IsBlankByte, IsBlank}
 use Rattle.jiter_steps.proofs.Blanks.{past_blanks-after}
 use Rattle.jiter_steps.proofs.Nodes.{blank-passed, passed-blank, no_blank-behind}
 
@@ -62,7 +62,7 @@ module _ (t u : List ℕ) (m : ℕ) (same : AgreeTo t u m) where
     by (inl more) =
         let passes = run_end-passes test u i e (omega (arith, run_end-ahead test t i)) more in
         absurd (true≢false (sym passes ∙ ap test (index-same e le lt) ∙ stops))
-    by (inr ge) = 
+    by (inr ge) =
         let ahead = run_end-ahead test t i in
         let long = run-long test i (e - i) (omega arith) (omega arith) (omega arith) in omega arith
 

@@ -1,18 +1,18 @@
 -- Words and numbers in two texts that agree up to a place.
-use Rattle.std.proofs.Common.{◌≡◌, ℕ, ◌+◌, ◌<◌, ◌≤◌, Bool, true, false, ◌||◌, List, [], ◌∷◌, length, refl, sym, ap, ◌∙◌, arith}
-use Rattle.std.specs.Prelude.{slice_get, slice_range, Option, Some, None, ◌==◌, if◌then◌else◌, nat_le, codes}
-use Rattle.std.proofs.lemmas.Bool.{true≢false, leb-true, leb-false, le-leb}
+use Rattle.std.proofs.Common.{◌≡◌, ℕ, ◌+◌, ◌<◌, ◌≤◌, Bool, true, false, ◌||◌, List, [], ◌∷◌, length, refl, ap, ◌∙◌, arith}
+use Rattle.std.specs.Prelude.{slice_get, Option, Some, None, ◌==◌, if◌then◌else◌, nat_le, codes}
+use Rattle.std.proofs.lemmas.Bool.{true≢false, leb-false}
 use Rattle.std.proofs.lemmas.Option.{slice_get_within}
 use Rattle.std.proofs.lemmas.Bool.Decides.{nat_tests}
 use Rattle.jiter_scan.specs.Digits.{is_digit, digit_run_end}
-use Rattle.jiter_scan.specs.Kind.{Kind, eof_value, expected_ident, expected_value, invalid_number, number_out_of_range}
-use Rattle.jiter_scan.specs.Number.{Number, digit_limit, number_value}
+use Rattle.jiter_scan.specs.Kind.{expected_ident, expected_value, invalid_number, number_out_of_range}
+use Rattle.jiter_scan.specs.Number.{digit_limit, number_value}
 use Rattle.jiter_scan.specs.NumberReading.{extent_then, digits_from, behind_zero, within_limit, whole_from, whole_at, fraction_from, fraction_at, power_from, exponent_from, exponent_at, decimal_at, behind_minus, name_at, extent_from, number_extent, with_value, number_at}
 use Rattle.jiter_scan.specs.Scanned.{Scanned, taken, failed}
 use Rattle.jiter_scan.specs.Word.{Extent, byte_then, word_at}
 use Rattle.jiter_scan.proofs.Choices.{if-false}
 use Rattle.jiter_scan.proofs.NumberLaws.{number_at-within}
-use Rattle.jiter_scan.proofs.Runs.{run_end-ahead, run_end-within, run_end-more}
+use Rattle.jiter_scan.proofs.Runs.{run_end-ahead}
 use Rattle.jiter_scan.proofs.Scanning.{ScalarWithin}
 use Rattle.jiter_scan.proofs.Standing.{get-none}
 use Rattle.jiter_steps.proofs.Agree.{AgreeTo, IsOfByte, range-same, run-long, run-same}

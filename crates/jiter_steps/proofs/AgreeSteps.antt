@@ -5,7 +5,6 @@ use Rattle.std.proofs.lemmas.Bool.{true≢false}
 use Rattle.std.proofs.lemmas.Option.{slice_get_within}
 use Rattle.jiter_scan.specs.Kind.{Kind, expected_colon, expected_list_comma_or_end, expected_object_comma_or_end, key_must_be_a_string, trailing_comma}
 use Rattle.jiter_scan.specs.Scanned.{taken, failed}
-use Rattle.jiter_scan.proofs.Standing.{get-none}
 use Rattle.jiter_steps.specs.Blank.{past_blanks}
 use Rattle.jiter_steps.specs.Step.{Step, more, closed, stuck, step, array_first, array_comma, array_step, object_first, object_comma, object_step, colon, value_first, object_colon}
 use Rattle.jiter_steps.proofs.Agree.{AgreeTo, IsOfByte, past_blanks-same}
@@ -85,7 +84,7 @@ module _ (t u : List ℕ) (m : ℕ) (same : AgreeTo t u m) where
   -- behind parts: the closer, or a comma and the step behind it
   behind-same : (closer : ℕ) (k : Kind) (comma : ℕ → Option ℕ → Step) → ((i : ℕ) → SameStep (ShownStep m) i (step t comma i) (step u comma i))
       → (j c : ℕ) → SameHere (ShownStep m) j (cond (c == closer) (closed (j + 1)) (cond (c == 44) (step t comma (j + 1)) (stuck k j)))
-        (cond (c == closer) (closed (j + 1)) (cond (c == 44) (step u comma (j + 1)) (stuck k j)))
+      (cond (c == closer) (closed (j + 1)) (cond (c == 44) (step u comma (j + 1)) (stuck k j)))
   behind-same closer k comma all j c =
       either-same (ShownStep m) j (c == closer) (closed (j + 1)) _ (closed (j + 1)) _ (λ s. (omega arith, refl))
       (either-same (ShownStep m) j (c == 44) _ (stuck k j) _ (stuck k j) (λ s. let r = all (j + 1) s in (omega (arith, r.0), r.2)) (λ s. (s.0, refl)))

@@ -1,17 +1,17 @@
 -- Strings in two texts that agree up to a place.
-use Rattle.std.proofs.Common.{◌≡◌, ◌⊎◌, inl, inr, ℕ, zero, suc, ◌+◌, ◌-◌, ◌<◌, ◌≤◌, ◌||◌, Bool, true, false, List, [], ◌∷◌, ◌++◌, length, refl, sym, ap, ◌∙◌, subst, arith}
+use Rattle.std.proofs.Common.{◌≡◌, ◌⊎◌, inl, inr, ℕ, zero, suc, ◌+◌, ◌-◌, ◌<◌, ◌≤◌, Bool, true, false, List, [], ◌∷◌, length, refl, sym, ap, ◌∙◌, subst, arith}
 use Rattle.std.specs.Prelude.{slice_get, slice_index, Option, Some, None, ◌==◌, if◌then◌else◌, nat_lt}
 use Rattle.std.specs.Char.{encode_utf8}
 use Rattle.std.specs.Str.Lossy.{utf8_valid_len}
 use Rattle.std.proofs.lemmas.Bool.{ltb-false, le-ltb, true≢false}
-use Rattle.std.proofs.lemmas.Option.{slice_get_within, none-some}
-use Rattle.jiter_scan.specs.Kind.{Kind, invalid_code_point, invalid_escape, lone_surrogate, end_of_hex_escape, control_character, eof_string}
+use Rattle.std.proofs.lemmas.Option.{none-some}
+use Rattle.jiter_scan.specs.Kind.{invalid_code_point, invalid_escape, lone_surrogate, end_of_hex_escape, control_character}
 use Rattle.jiter_scan.specs.Scanned.{Scanned, taken, failed}
 use Rattle.jiter_scan.proofs.Choices.{if_case, if-false}
 use Rattle.jiter_steps.specs.Escape.{short_escape, is_hex, unit_of, is_high, is_low, pair_of}
-use Rattle.jiter_steps.specs.StringReading.{Stop, closed, unclosed, cut, wrong, Found, part, over, bad_digit, unit_at, HexDigits, number, bad, few, hex_digits_or, hex_digits_at, behind, unit_then, paired, second_u, second, single, numbered, short, escaped, plain, unquoted, found, found_at, Body, before, joined, body_at, whole, checked, ended, content_at, string_at}
+use Rattle.jiter_steps.specs.StringReading.{Stop, closed, unclosed, cut, wrong, Found, part, over, bad_digit, unit_at, HexDigits, few, hex_digits_or, hex_digits_at, behind, unit_then, paired, second_u, second, single, numbered, short, escaped, plain, found, found_at, Body, before, joined, body_at, whole, ended, content_at, string_at}
 use Rattle.jiter_steps.specs.Tree.{Text}
-use Rattle.jiter_steps.proofs.Agree.{AgreeTo, IsOfByte, index-same, within-too}
+use Rattle.jiter_steps.proofs.Agree.{AgreeTo, index-same, within-too}
 use Rattle.jiter_steps.proofs.AgreeNumbers.{Shown}
 use Rattle.jiter_steps.proofs.Bodies.{part-ahead, body_at-is, body_at-found, found-end}
 use Rattle.jiter_steps.proofs.PlacesExplained.{Explains, explained}

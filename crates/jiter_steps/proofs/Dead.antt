@@ -1,6 +1,6 @@
 -- Where a fault of a byte is answered, no document begins with the bytes up to its index.
 use Rattle.std.proofs.Common.{◌≡◌, ◌≢◌, ℕ, ◌+◌, ◌<◌, ◌≤◌, Bool, false, List, ◌++◌, length, take, refl, sym, ap, ◌∙◌, subst, arith, length-append}
-use Rattle.std.specs.Prelude.{slice_get, Some}
+use Rattle.std.specs.Prelude.{Some}
 use Rattle.std.proofs.lemmas.List.{get_or-take, get_or_append_left, length-take}
 use Rattle.std.proofs.lemmas.Option.{slice_get_within, slice_get-get_or, get_or_from_slice_get}
 use Rattle.jiter_scan.specs.Kind.{Kind, is_end_kind, invalid_code_point}
@@ -8,13 +8,12 @@ use Rattle.jiter_scan.specs.NumberReading.{number_at}
 use Rattle.jiter_scan.specs.Scanned.{Scanned, taken, failed}
 use Rattle.jiter_steps.specs.Answer.{seen_as, whole_trees, nothing_forgiven, answer}
 use Rattle.jiter_steps.specs.FirstFault.{BeginsNoDocument}
-use Rattle.jiter_steps.specs.Literal.{literal_at, literal_tree, word_of}
-use Rattle.jiter_steps.specs.Node.{Node, number_tree, IsDocument}
-use Rattle.jiter_steps.specs.Read.{Reading, fault, whole_answer}
+use Rattle.jiter_steps.specs.Literal.{literal_at, word_of}
+use Rattle.jiter_steps.specs.Node.{Node, IsDocument}
+use Rattle.jiter_steps.specs.Read.{fault}
 use Rattle.jiter_steps.specs.StringReading.{whole, string_at}
-use Rattle.jiter_steps.specs.Tree.{Tree, string}
 use Rattle.jiter_steps.specs.declared.parse.Literal.{Literal}
-use Rattle.jiter_steps.proofs.Agree.{AgreeTo, IsOfByte}
+use Rattle.jiter_steps.proofs.Agree.{AgreeTo}
 use Rattle.jiter_steps.proofs.AgreeNumbers.{Shown, word-same, number-same}
 use Rattle.jiter_steps.proofs.AgreeReadings.{IsFault, KeepsScalars, ShownFault, whole_answer-stays}
 use Rattle.jiter_steps.proofs.AgreeStrings.{IsRefused, SameOrFault, string-same}
