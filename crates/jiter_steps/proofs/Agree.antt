@@ -38,10 +38,13 @@ module _ (t u : List ℕ) (m : ℕ) (same : AgreeTo t u m) where
       (same i c (omega arith) h.0, stands-too (i + 1) j w le h.1)
 
   pub range-same : (i j : ℕ) → i ≤ j → j ≤ m + 1 → j ≤ length t → slice_range u i j ≡ slice_range t i j
-  range-same i j le lm lt = sym (slice-stands u i j (slice_range t i j) (stands-too i j (slice_range t i j) lm (stands-slice t i j le lt)))
+  range-same i j le lm lt =
+      let w = slice_range t i j in
+      sym (slice-stands u i j w (stands-too i j w lm (stands-slice t i j le lt)))
 
   -- a run of n bytes or more
-  pub run-long : (test : ℕ → Bool) (i n : ℕ) → i ≤ length t → i + n ≤ m + 1 → i + n ≤ run_end test t i → i + n ≤ run_end test u i
+  pub run-long : (test : ℕ → Bool) (i n : ℕ) → i ≤ length t → i + n ≤ m + 1 → i + n ≤ run_end test t i
+      → i + n ≤ run_end test u i
   run-long test i n lt le long = by (cases_lt (run_end test u i) (i + n)) where
     by : (run_end test u i < i + n) ⊎ (i + n ≤ run_end test u i) → i + n ≤ run_end test u i
     by (inr ge) = ge

@@ -73,7 +73,8 @@ module _ (t u : List ℕ) (m : ℕ) (same : AgreeTo t u m) where
       (λ b lt. either-same i (b == c) _ _ _ _ (later i _ _ (word-same w (i + 1))) (failed-here i expected_ident lt))
 
   -- digits
-  run-taken : (i : ℕ) → i < length t → Same {A = Unit {0}} i (taken tt (digit_run_end t i)) (taken tt (digit_run_end u i))
+  run-taken : (i : ℕ) → i < length t
+      → Same {A = Unit {0}} i (taken tt (digit_run_end t i)) (taken tt (digit_run_end u i))
   run-taken i lt s =
       let ahead = run_end-ahead is_digit t i in
       let run = run-same t u m same is_digit i (digit_run_end t i) refl s.0 s.1 in
@@ -102,7 +103,8 @@ module _ (t u : List ℕ) (m : ℕ) (same : AgreeTo t u m) where
     limited : List ℕ → Bool → Extent
     limited l b = if b then taken tt (digit_run_end l i) else failed number_out_of_range (i + (digit_limit + 1))
 
-    by : (b : Bool) → nat_le (digit_run_end t i) (i + digit_limit) ≡ b → Same i (limited t b) (within_limit i (digit_run_end u i))
+    by : (b : Bool) → nat_le (digit_run_end t i) (i + digit_limit) ≡ b
+        → Same i (limited t b) (within_limit i (digit_run_end u i))
     by true le s =
         let run = run-taken i lt s in
         let here = run-same t u m same is_digit i (digit_run_end t i) refl s.0 s.1 in

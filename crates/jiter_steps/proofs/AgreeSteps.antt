@@ -5,6 +5,7 @@ use Rattle.std.proofs.lemmas.Bool.{true≢false}
 use Rattle.std.proofs.lemmas.Option.{slice_get_within}
 use Rattle.jiter_scan.specs.Kind.{Kind, expected_colon, expected_list_comma_or_end, expected_object_comma_or_end, key_must_be_a_string, trailing_comma}
 use Rattle.jiter_scan.specs.Scanned.{taken, failed}
+use Rattle.jiter_scan.specs.Word.{Extent}
 use Rattle.jiter_steps.specs.Blank.{past_blanks}
 use Rattle.jiter_steps.specs.Step.{Step, more, closed, stuck, step, array_first, array_comma, array_step, object_first, object_comma, object_step, colon, value_first, object_colon}
 use Rattle.jiter_steps.proofs.Agree.{AgreeTo, IsOfByte, past_blanks-same}
@@ -49,8 +50,8 @@ module _ (t u : List ℕ) (m : ℕ) (same : AgreeTo t u m) where
       → (i : ℕ) → SameStep ShownOf i (step t f i) (step u f i)
   row-same ShownOf f none some = step-same ShownOf f f none (λ j c lt s. (some j c s, refl))
 
-  either-same : {A : Type 0} (ShownOf : A → Type 0) (j : ℕ) (b : Bool) (x y x' y' : A) → SameHere ShownOf j x x' → SameHere ShownOf j y y'
-      → SameHere ShownOf j (cond b x y) (cond b x' y')
+  either-same : {A : Type 0} (ShownOf : A → Type 0) (j : ℕ) (b : Bool) (x y x' y' : A) → SameHere ShownOf j x x'
+      → SameHere ShownOf j y y' → SameHere ShownOf j (cond b x y) (cond b x' y')
   either-same ShownOf j true x y x' y' p q = p
   either-same ShownOf j false x y x' y' p q = q
 
@@ -82,12 +83,17 @@ module _ (t u : List ℕ) (m : ℕ) (same : AgreeTo t u m) where
       (either (At j) (c == 125) (stuck trailing_comma j) (stuck key_must_be_a_string j) (λ s. s.0) (λ s. s.0)))
 
   -- behind parts: the closer, or a comma and the step behind it
-  behind-same : (closer : ℕ) (k : Kind) (comma : ℕ → Option ℕ → Step) → ((i : ℕ) → SameStep (ShownStep m) i (step t comma i) (step u comma i))
-      → (j c : ℕ) → SameHere (ShownStep m) j (cond (c == closer) (closed (j + 1)) (cond (c == 44) (step t comma (j + 1)) (stuck k j)))
-      (cond (c == closer) (closed (j + 1)) (cond (c == 44) (step u comma (j + 1)) (stuck k j)))
+  abbrev at_closer : List ℕ → ℕ → Kind → (ℕ → Option ℕ → Step) → ℕ → ℕ → Step
+  at_closer l closer k comma j c =
+      cond (c == closer) (closed (j + 1)) (cond (c == 44) (step l comma (j + 1)) (stuck k j))
+
+  behind-same : (closer : ℕ) (k : Kind) (comma : ℕ → Option ℕ → Step)
+      → ((i : ℕ) → SameStep (ShownStep m) i (step t comma i) (step u comma i))
+      → (j c : ℕ) → SameHere (ShownStep m) j (at_closer t closer k comma j c) (at_closer u closer k comma j c)
   behind-same closer k comma all j c =
       either-same (ShownStep m) j (c == closer) (closed (j + 1)) _ (closed (j + 1)) _ (λ s. (omega arith, refl))
-      (either-same (ShownStep m) j (c == 44) _ (stuck k j) _ (stuck k j) (λ s. let r = all (j + 1) s in (omega (arith, r.0), r.2)) (λ s. (s.0, refl)))
+      (either-same (ShownStep m) j (c == 44) _ (stuck k j) _ (stuck k j)
+      (λ s. let r = all (j + 1) s in (omega (arith, r.0), r.2)) (λ s. (s.0, refl)))
 
   pub array_step-same : (i : ℕ) → SameStep (ShownStep m) i (step t (array_step t) i) (step u (array_step u) i)
   array_step-same =
@@ -103,7 +109,10 @@ module _ (t u : List ℕ) (m : ℕ) (same : AgreeTo t u m) where
   colon-same : (i : ℕ) → SameStep (Shown t m) i (step t colon i) (step u colon i)
   colon-same =
       row-same (Shown t m) colon (λ j s. true≢false s.1.0)
-      (λ j c. either (λ x. Shown t m x → j ≤ m) (c == 58) (taken tt (j + 1)) (failed expected_colon j) (behind j) (λ s. s.0)) where
+      (λ j c. either (Here j) (c == 58) (taken tt (j + 1)) (failed expected_colon j) (behind j) (λ s. s.0)) where
+        Here : ℕ → Extent → Type 0
+        Here j x = Shown t m x → j ≤ m
+
         behind : (j : ℕ) → (j + 1 ≤ m) × (j + 1 < length t) → j ≤ m
         behind j s = omega (arith, s.0)
 
@@ -112,4 +121,5 @@ module _ (t u : List ℕ) (m : ℕ) (same : AgreeTo t u m) where
 
   pub object_colon-same : (i : ℕ) → SameStep (Shown t m) i (object_colon t i) (object_colon u i)
   object_colon-same i =
-      then-same t u m same i (step t colon i) (step u colon i) (step t value_first) (step u value_first) (colon-same i) value_first-same
+      then-same t u m same i (step t colon i) (step u colon i) (step t value_first) (step u value_first) (colon-same i)
+      value_first-same

@@ -251,6 +251,10 @@ abbrev pub SameOrFault : {A : Type 0} → Scanned A → Scanned A → Type 0
 SameOrFault (taken a e) y = y ≡ taken a e
 SameOrFault (failed k j) y = IsRefused y
 
+-- so for the reading x, which begins at i, and the reading y of the other text
+abbrev pub SameScalar : {A : Type 0} → List ℕ → ℕ → ℕ → Scanned A → Scanned A → Type 0
+SameScalar t m i x y = Shown t m x → (i ≤ m) × SameOrFault x y
+
 module _ (t u : List ℕ) (m : ℕ) (same : AgreeTo t u m) where
   ended-cut : (i : ℕ) (b : Body) → b.stop ≡ cut → IsRefused (ended whole u i b.bytes b.owned b.stop)
   ended-cut i b e = subst (λ s. IsRefused (ended whole u i b.bytes b.owned s)) (sym e) tt
@@ -274,8 +278,8 @@ module _ (t u : List ℕ) (m : ℕ) (same : AgreeTo t u m) where
 
   -- what is shown of a string with this body
   body-shown : (i : ℕ) (b : Body) (s : Stop) → b.stop ≡ s
-      → (ShownStop m s → (i ≤ m) × Ends t u m same b (body_at u i)) → Shown t m (ended whole t i b.bytes b.owned s)
-      → (i ≤ m) × SameOrFault (ended whole t i b.bytes b.owned s) (content_at whole u i)
+      → (ShownStop m s → (i ≤ m) × Ends t u m same b (body_at u i))
+      → SameScalar t m i (ended whole t i b.bytes b.owned s) (content_at whole u i)
   unfolding content_at
   body-shown i b unclosed e ends shown = absurd (true≢false shown.1.0)
   body-shown i b cut e ends shown = absurd (true≢false shown.1.0)
@@ -289,13 +293,12 @@ module _ (t u : List ℕ) (m : ℕ) (same : AgreeTo t u m) where
         ap (λ (d : Body). ended whole u i d.bytes d.owned d.stop) h ∙ ap (ended whole u i b.bytes b.owned) is
     again (inr h) = absurd (subst IsWrong is h.0)
 
-    by : (valid : Bool) → (utf8_valid_len b.bytes == length b.bytes) ≡ valid → Shown t m (if_valid i b e valid)
-        → (i ≤ m) × SameOrFault (if_valid i b e valid) (content_at whole u i)
+    by : (valid : Bool) → (utf8_valid_len b.bytes == length b.bytes) ≡ valid
+        → SameScalar t m i (if_valid i b e valid) (content_at whole u i)
     by true h shown = let r = ends shown.0 in (r.0, again r.1 ∙ ap (if_valid i b e) h)
     by false h shown = absurd (shown.1.1 refl)
 
-  pub string-same : (i : ℕ) → Shown t m (string_at whole t i)
-      → (i ≤ m) × SameOrFault (string_at whole t i) (string_at whole u i)
+  pub string-same : (i : ℕ) → SameScalar t m i (string_at whole t i) (string_at whole u i)
   unfolding content_at
   string-same i shown =
       let b = body_at t (i + 1) in

@@ -16,7 +16,7 @@ use Rattle.jiter_steps.specs.declared.parse.Literal.{Literal}
 use Rattle.jiter_steps.proofs.Agree.{AgreeTo}
 use Rattle.jiter_steps.proofs.AgreeNumbers.{Shown, word-same, number-same}
 use Rattle.jiter_steps.proofs.AgreeReadings.{IsFault, KeepsScalars, ShownFault, whole_answer-stays}
-use Rattle.jiter_steps.proofs.AgreeStrings.{IsRefused, SameOrFault, string-same}
+use Rattle.jiter_steps.proofs.AgreeStrings.{IsRefused, SameOrFault, SameScalar, string-same}
 use Rattle.jiter_steps.proofs.Documents.{answer-of}
 use Rattle.jiter_steps.proofs.Instances.{trees-advances}
 
@@ -30,18 +30,18 @@ same-or-fault (taken a e) y h = h
 same-or-fault (failed k j) y h = subst IsRefused (sym h) tt
 
 module _ (t u : List ℕ) (m : ℕ) (same : AgreeTo t u m) where
-  seen-same : {A B : Type 0} (f : A → ℕ → B) (i : ℕ) (x y : Scanned A) → (Shown t m x → (i ≤ m) × SameOrFault x y)
-      → Shown t m (seen_as f x) → (i ≤ m) × SameOrFault (seen_as f x) (seen_as f y)
-  seen-same f i (taken a e) y h shown = let at = h shown in (at.0, ap (seen_as f) at.1)
-  seen-same f i (failed k j) y h shown = let at = h shown in (at.0, refused-seen f y at.1)
+  seen-same : {A B : Type 0} (f : A → ℕ → B) (i : ℕ) (x y : Scanned A) → SameScalar t m i x y
+      → SameScalar t m i (seen_as f x) (seen_as f y)
+  seen-same f i (taken a e) y h = λ shown. let at = h shown in (at.0, ap (seen_as f) at.1)
+  seen-same f i (failed k j) y h = λ shown. let at = h shown in (at.0, refused-seen f y at.1)
 
   module _ (names : Bool) where
-    literal-kept : (l : Literal) (i : ℕ) → Shown t m (literal_at t l i) → (i ≤ m) × SameOrFault (literal_at t l i) (literal_at u l i)
+    literal-kept : (l : Literal) (i : ℕ) → SameScalar t m i (literal_at t l i) (literal_at u l i)
     literal-kept l i shown =
         let at = word-same t u m same (word_of l) i shown in
         (at.0, same-or-fault (literal_at t l i) (literal_at u l i) at.2)
 
-    number-kept : (i : ℕ) → i < length t → Shown t m (number_at names t i) → (i ≤ m) × SameOrFault (number_at names t i) (number_at names u i)
+    number-kept : (i : ℕ) → i < length t → SameScalar t m i (number_at names t i) (number_at names u i)
     number-kept i lt shown =
         let at = number-same t u m same names i lt shown in
         (at.0, same-or-fault (number_at names t i) (number_at names u i) at.2)
@@ -55,7 +55,8 @@ module _ (t u : List ℕ) (m : ℕ) (same : AgreeTo t u m) where
     }
 
 -- A fault of a byte at or before m is a fault of the other text.
-answer-stays : (names : Bool) (t u : List ℕ) (m : ℕ) → AgreeTo t u m → ShownFault m (answer names t) → IsFault (answer names u)
+answer-stays : (names : Bool) (t u : List ℕ) (m : ℕ) → AgreeTo t u m → ShownFault m (answer names t)
+    → IsFault (answer names u)
 answer-stays names t u m same =
     whole_answer-stays t u m same (whole_trees names) (λ k. refl) (trees-advances t nothing_forgiven whole names)
     (trees-advances u nothing_forgiven whole names) (trees-keep t u m same names)
@@ -67,15 +68,16 @@ front-agrees t i rest j c le e =
     let front = take (i + 1) t in
     let short : j < length front = omega (arith, length-take (i + 1) t) in
     slice_get-get_or (front ++ rest) j 0 (omega (arith, length-append front rest))
-    ∙ ap Some (get_or_append_left front rest 0 j short ∙ get_or-take (i + 1) t j 0 (omega arith) ∙ get_or_from_slice_get t j c 0 e)
+    ∙ ap Some (get_or_append_left front rest 0 j short)
+    ∙ ap Some (get_or-take (i + 1) t j 0 (omega arith) ∙ get_or_from_slice_get t j c 0 e)
 
 no-document : (names : Bool) (u : List ℕ) (n : Node) → IsFault (answer names u) → IsDocument names u n → ⊥
 no-document names u n h d = subst IsFault (answer-of names u n d) h
 
 -- Where a fault is answered that is neither one of the input's end nor one of UTF-8, no document begins with the bytes
 -- of the text up to and including the one at the fault's index.
-pub dead : (names : Bool) (t : List ℕ) (k : Kind) (i stop : ℕ) → answer names t ≡ fault k i stop → is_end_kind k ≡ false → k ≢ invalid_code_point
-    → BeginsNoDocument names (take (i + 1) t)
+pub dead : (names : Bool) (t : List ℕ) (k : Kind) (i stop : ℕ) → answer names t ≡ fault k i stop
+    → is_end_kind k ≡ false → k ≢ invalid_code_point → BeginsNoDocument names (take (i + 1) t)
 dead names t k i stop is byte utf8 rest n d =
     let u = take (i + 1) t ++ rest in
     let shown = subst (ShownFault i) (sym is) (omega arith, (byte, utf8)) in
