@@ -9,10 +9,9 @@ use Rattle.jiter_scan.specs.Kind.{Kind, expected_ident, expected_value, invalid_
 use Rattle.jiter_scan.specs.Number.{digit_limit, number_value}
 use Rattle.jiter_scan.specs.NumberReading.{extent_then, digits_from, behind_zero, within_limit, whole_from, whole_at}
 use Rattle.jiter_scan.specs.NumberReading.{fraction_from, fraction_at, power_from, exponent_from, exponent_at, decimal_at}
-use Rattle.jiter_scan.specs.NumberReading.{behind_minus, name_at, extent_from, number_extent, with_value, number_at}
+use Rattle.jiter_scan.specs.NumberReading.{behind_minus, extent_from, number_extent, with_value, number_at}
 use Rattle.jiter_scan.specs.Scanned.{Scanned, taken, failed}
 use Rattle.jiter_scan.specs.Word.{Extent, byte_then, word_at}
-use Rattle.jiter_scan.proofs.Choices.{if-false}
 use Rattle.jiter_scan.proofs.NumberLaws.{number_at-within}
 use Rattle.jiter_scan.proofs.Runs.{run_end-ahead}
 use Rattle.jiter_scan.proofs.Scanning.{ScalarWithin}

@@ -101,7 +101,8 @@ module _ (t u : List ℕ) (m : ℕ) (same : AgreeTo t u m) where
       next-stays : (go : List P → ℕ → Reading A) (parts : List P) (i : ℕ) (s z : Step)
           → ((j : ℕ) → j < length t → Stays j (go parts j) (PartsToo parts j)) → Ahead t i s
           → (ShownStep m s → (i ≤ m) × (i < length t) × (z ≡ s))
-          → StaysAhead i (follow r (go parts) (λ e. c.build e parts) s) (follow r (PartsToo parts) (λ e. d.build e parts) z)
+          → StaysAhead i (follow r (go parts) (λ e. c.build e parts) s)
+          (follow r (PartsToo parts) (λ e. d.build e parts) z)
       next-stays go parts i s z all ahead here =
           follow-stays i (go parts) (PartsToo parts) (λ e. c.build e parts) (λ e. d.build e parts) s z
           (λ e. keeps.build e parts) ahead here all
@@ -124,7 +125,8 @@ module _ (t u : List ℕ) (m : ℕ) (same : AgreeTo t u m) where
           let is = parts-part r u d goes_too i e parts p z (within-too t u m same i at.0 lt) at.1 refl in
           (at.0, subst (Meets (follow r (go more_parts) (λ e. c.build e more_parts) s)) (sym is) rest.2)
 
-      parts-stays : (n : ℕ) (parts : List P) (i : ℕ) → i < length t → Stays i (parts_at r c t n parts i) (PartsToo parts i)
+      parts-stays : (n : ℕ) (parts : List P) (i : ℕ) → i < length t
+          → Stays i (parts_at r c t n parts i) (PartsToo parts i)
       unfolding parts_at
       parts-stays zero parts i lt = λ shown. absurd (true≢false shown.1.0)
       parts-stays (suc n) parts i lt =
@@ -221,7 +223,8 @@ module _ (t u : List ℕ) (m : ℕ) (same : AgreeTo t u m) where
           build = λ e ps. refl;
         }
 
-        value_with-stays : (s : Start) → i < length t → Stays i (value_with r inner t i s) (value_with r inner_too u i s)
+        value_with-stays : (s : Start) → i < length t
+            → Stays i (value_with r inner t i s) (value_with r inner_too u i s)
         value_with-stays start.Array lt =
             container-stays items items_too (array_of-goes r t good inner within i)
             (array_of-goes r u good_too inner_too within_too i) items-keep i lt
@@ -288,7 +291,8 @@ module _ (t u : List ℕ) (m : ℕ) (same : AgreeTo t u m) where
           let last = ap (λ k. if_last a e k (slice_get u k)) place ∙ ap (if_last a e j) (same j c shown.0 here) in
           subst IsFault (sym (ap (to_end u) is ∙ last)) tt
 
-      end-stays : (x y : Reading A) → (ShownReading t m x → Meets x y) → ShownFault m (to_end t x) → IsFault (to_end u y)
+      end-stays : (x y : Reading A) → (ShownReading t m x → Meets x y) → ShownFault m (to_end t x)
+          → IsFault (to_end u y)
       end-stays (done a e) y all =
           trailing-fault a e y all (past_blanks t e) (slice_get t (past_blanks t e)) refl refl
       end-stays (fault k j stop) y all = λ shown. to_end-fault y (all shown)

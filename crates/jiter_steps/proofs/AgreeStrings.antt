@@ -264,11 +264,11 @@ module _ (t u : List ℕ) (m : ℕ) (same : AgreeTo t u m) where
   wrong-ends i b d w (inr h) = ended-cut i d h.1
   wrong-ends i b d w (inl e) = subst (λ (d : Body). IsRefused (ended whole u i d.bytes d.owned d.stop)) (sym e)
       (by b.stop w) where
-    by : (s : Stop) → IsWrong s → IsRefused (ended whole u i b.bytes b.owned s)
-    by (closed e) w = absurd w
-    by unclosed w = absurd w
-    by cut w = absurd w
-    by (wrong k j) w = tt
+        by : (s : Stop) → IsWrong s → IsRefused (ended whole u i b.bytes b.owned s)
+        by (closed e) w = absurd w
+        by unclosed w = absurd w
+        by cut w = absurd w
+        by (wrong k j) w = tt
 
   -- a string of this body, if it is UTF-8
   abbrev if_valid : ℕ → Body → ℕ → Bool → Scanned Text

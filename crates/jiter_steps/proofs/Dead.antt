@@ -1,5 +1,5 @@
 -- Where a fault of a byte is answered, no document begins with the bytes up to its index.
-use Rattle.std.proofs.Common.{◌≡◌, ◌≢◌, ℕ, ◌+◌, ◌<◌, ◌≤◌, Bool, false, List, ◌++◌, length, take, refl, sym, ap, ◌∙◌, subst, arith, length-append}
+use Rattle.std.proofs.Common.{◌≡◌, ◌≢◌, ℕ, ◌+◌, ◌<◌, Bool, false, List, ◌++◌, length, take, refl, sym, ap, ◌∙◌, subst, arith, length-append}
 use Rattle.std.specs.Prelude.{Some}
 use Rattle.std.proofs.lemmas.List.{get_or-take, get_or_append_left, length-take}
 use Rattle.std.proofs.lemmas.Option.{slice_get_within, slice_get-get_or, get_or_from_slice_get}
@@ -14,7 +14,7 @@ use Rattle.jiter_steps.specs.Read.{fault}
 use Rattle.jiter_steps.specs.StringReading.{whole, string_at}
 use Rattle.jiter_steps.specs.declared.parse.Literal.{Literal}
 use Rattle.jiter_steps.proofs.Agree.{AgreeTo}
-use Rattle.jiter_steps.proofs.AgreeNumbers.{Shown, word-same, number-same}
+use Rattle.jiter_steps.proofs.AgreeNumbers.{word-same, number-same}
 use Rattle.jiter_steps.proofs.AgreeReadings.{IsFault, KeepsScalars, ShownFault, whole_answer-stays}
 use Rattle.jiter_steps.proofs.AgreeStrings.{IsRefused, SameOrFault, SameScalar, string-same}
 use Rattle.jiter_steps.proofs.Documents.{answer-of}
