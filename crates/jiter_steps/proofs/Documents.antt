@@ -18,7 +18,8 @@ use Rattle.jiter_steps.specs.Tree.{Text, Tree, items_of}
 use Rattle.jiter_steps.specs.Tree as tree
 use Rattle.jiter_steps.specs.declared.parse.Literal.{Literal}
 use Rattle.jiter_steps.proofs.Blanks.{past_blanks-bound}
-use Rattle.jiter_steps.proofs.Complete.{begins-value, ends-end, value_at-complete}
+use Rattle.jiter_steps.proofs.Complete.{value_at-complete}
+use Rattle.jiter_steps.proofs.SpelledParts.{begins-value, ends-end}
 use Rattle.jiter_steps.proofs.Fused.{mapped, scanned_as, pairs, Leads, whole_answer-mapped}
 use Rattle.jiter_steps.proofs.NodeRules.{nodes, nodes_of, node_members_of, key_of}
 use Rattle.jiter_steps.proofs.Pieces.{pieces_from}

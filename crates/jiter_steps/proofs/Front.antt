@@ -1,16 +1,17 @@
 -- The front of a text: its bytes, blanks and steps before the place k.
-use Rattle.std.proofs.Common.{◌≡◌, ◌⊎◌, inl, inr, ℕ, zero, suc, ◌+◌, ◌-◌, ◌<◌, ◌≤◌, cond, List, [], ◌∷◌, length, take, drop, refl, sym, ap, ◌∙◌, subst, arith}
+use Rattle.std.proofs.Common.{◌≡◌, ◌⊎◌, inl, inr, ℕ, zero, suc, ◌+◌, ◌-◌, ◌<◌, ◌≤◌, Bool, cond, List, [], ◌∷◌, length, take, drop, refl, sym, ap, ◌∙◌, subst, arith}
 use Rattle.std.specs.Prelude.{slice_get, slice_index, slice_range, Option, Some, None, IfSome}
 use Rattle.std.proofs.lemmas.Bool.{cases_lt, eq-eqb}
 use Rattle.std.proofs.lemmas.List.{get_or-take, length-take-le, drop-take}
 use Rattle.std.proofs.lemmas.Option.{slice_get-get_or, slice_get_past}
 use Rattle.jiter_scan.specs.Kind.{eof_value, expected_ident}
+use Rattle.jiter_scan.specs.Number.{IsNumberText}
 use Rattle.jiter_scan.specs.Scanned.{failed}
 use Rattle.jiter_scan.specs.Stands.{Stands}
 use Rattle.jiter_scan.specs.Word.{byte_then, word_at}
 use Rattle.jiter_scan.proofs.Standing.{stands-length}
 use Rattle.jiter_steps.specs.Blank.{past_blanks, IsBlankByte, IsBlank}
-use Rattle.jiter_steps.specs.Node.{StandsBehind}
+use Rattle.jiter_steps.specs.Node.{StandsBehind, SpellsNumber}
 use Rattle.jiter_steps.specs.Step.{step}
 use Rattle.jiter_steps.proofs.Blanks.{past_blanks-end}
 use Rattle.jiter_steps.proofs.Nodes.{blank-to_end}
@@ -23,7 +24,9 @@ module _ (t : List ℕ) (k : ℕ) (within : k ≤ length t) where
   front-length = length-take-le k t within
 
   pub front-same : (i : ℕ) → i < k → slice_get u i ≡ slice_get t i
-  front-same i h = slice_get-get_or u i 0 (omega (arith, front-length)) ∙ ap Some (get_or-take k t i 0 h) ∙ sym (slice_get-get_or t i 0 (omega arith))
+  front-same i h =
+      slice_get-get_or u i 0 (omega (arith, front-length)) ∙ ap Some (get_or-take k t i 0 h)
+      ∙ sym (slice_get-get_or t i 0 (omega arith))
 
   pub front-get : (i c : ℕ) → i < k → slice_get t i ≡ Some c → slice_get u i ≡ Some c
   front-get i c h e = front-same i h ∙ e
@@ -42,7 +45,8 @@ module _ (t : List ℕ) (k : ℕ) (within : k ≤ length t) where
   front-range i j le h =
       let whole : i + (k - i) ≡ k = omega arith in
       let part : (j - i) + (k - j) ≡ k - i = omega arith in
-      ap (λ n. take (j - i) (drop i (take n t))) (sym whole) ∙ ap (take (j - i)) (drop-take i (k - i) t) ∙ taken-twice (j - i) (k - i) (drop i t) (omega arith) where
+      ap (λ n. take (j - i) (drop i (take n t))) (sym whole) ∙ ap (take (j - i)) (drop-take i (k - i) t)
+      ∙ taken-twice (j - i) (k - i) (drop i t) (omega arith) where
         taken-twice : (n m : ℕ) (l : List ℕ) → n ≤ m → take n (take m l) ≡ take n l
         taken-twice zero m l h = refl
         taken-twice (suc n) zero l h = absurd (omega arith)
@@ -52,37 +56,61 @@ module _ (t : List ℕ) (k : ℕ) (within : k ≤ length t) where
   -- bytes that stand before k
   pub front-stands : (i j : ℕ) (w : List ℕ) → Stands t i j w → j ≤ k → Stands u i j w
   front-stands i j [] h le = h
-  front-stands i j (c ∷ w) h le = let after = stands-length t (i + 1) j w h.1 in (front-get i c (omega arith) h.0, front-stands (i + 1) j w h.1 le)
+  front-stands i j (c ∷ w) h le =
+      let after = stands-length t (i + 1) j w h.1 in
+      (front-get i c (omega arith) h.0, front-stands (i + 1) j w h.1 le)
+
+  pub number-front : (names : Bool) (b e : ℕ) → SpellsNumber names t b e → e ≤ k → SpellsNumber names u b e
+  number-front names b e h le = record {
+    ordered = h.ordered;
+    within = omega (arith, front-length);
+    text = subst (IsNumberText names) (sym (front-range b e h.ordered le)) h.text;
+  }
 
   -- a word that is cut ends too early
   pub front-word : (w : List ℕ) (i j : ℕ) → Stands t i j w → i ≤ k → k < j → word_at u w i ≡ failed eof_value k
   unfolding word_at
   front-word [] i j h le lt = absurd (omega arith)
   front-word (c ∷ w) i j h le lt = by (cases_lt i k) (λ more. front-word w (i + 1) j h.1 more lt) where
-    by : (i < k) ⊎ (k ≤ i) → (i + 1 ≤ k → word_at u w (i + 1) ≡ failed eof_value k) → byte_then (word_at u w (i + 1)) c i (slice_get u i) ≡ failed eof_value k
+    by : (i < k) ⊎ (k ≤ i) → (i + 1 ≤ k → word_at u w (i + 1) ≡ failed eof_value k)
+        → byte_then (word_at u w (i + 1)) c i (slice_get u i) ≡ failed eof_value k
     by (inl here) go =
-        ap (byte_then (word_at u w (i + 1)) c i) (front-get i c here h.0) ∙ ap (λ y. cond y (word_at u w (i + 1)) (failed expected_ident i)) (eq-eqb c c refl) ∙ go (omega arith)
-    by (inr past) go = let at : i ≡ k = omega arith in ap (byte_then (word_at u w (i + 1)) c i) (front-past i past) ∙ ap (failed eof_value) at
+        ap (byte_then (word_at u w (i + 1)) c i) (front-get i c here h.0)
+        ∙ ap (λ y. cond y (word_at u w (i + 1)) (failed expected_ident i)) (eq-eqb c c refl) ∙ go (omega arith)
+    by (inr past) go =
+        let at : i ≡ k = omega arith in
+        ap (byte_then (word_at u w (i + 1)) c i) (front-past i past) ∙ ap (failed eof_value) at
 
   pub front-index : (i : ℕ) → i < k → slice_index u i ≡ slice_index t i
   front-index i h = get_or-take k t i 0 h
 
   -- blanks before k
   pub front-blank : (i j : ℕ) → IsBlank t i j → j ≤ k → IsBlank u i j
-  front-blank i j b le = record { ordered = b.ordered; within = omega (arith, front-length); each = λ m l h. subst IsBlankByte (sym (front-index m (omega arith))) (b.each m l h) }
+  front-blank i j b le = record {
+    ordered = b.ordered;
+    within = omega (arith, front-length);
+    each = λ m l h. subst IsBlankByte (sym (front-index m (omega arith))) (b.each m l h);
+  }
 
   -- and blanks that are cut
   pub cut-blank : (i j : ℕ) → IsBlank t i j → i ≤ k → k ≤ j → IsBlank u i (length u)
-  cut-blank i j b le ge =
-      record { ordered = omega (arith, front-length); within = omega arith; each = λ m l h. let lt : m < k = omega (arith, front-length) in subst IsBlankByte (sym (front-index m lt)) (b.each m l (omega arith)) }
+  cut-blank i j b le ge = record {
+    ordered = omega (arith, front-length);
+    within = omega arith;
+    each = λ m l h.
+        let lt : m < k = omega (arith, front-length) in
+        subst IsBlankByte (sym (front-index m lt)) (b.each m l (omega arith));
+  }
 
   pub front-behind : (i c e : ℕ) → StandsBehind t i c e → e ≤ k → StandsBehind u i c e
   front-behind i c e h le =
       let at : h.at < k = omega (arith, h.ends) in
-      record { at = h.at; blanks = front-blank i h.at h.blanks (omega arith); here = front-get h.at c at h.here; ends = h.ends }
+      let blanks = front-blank i h.at h.blanks (omega arith) in
+      record { at = h.at; blanks = blanks; here = front-get h.at c at h.here; ends = h.ends }
 
   -- Steps: where the text ends in the blanks, the row is at the end of input.
-  pub row-cut : {A : Type 0} (row : ℕ → Option ℕ → A) (i j : ℕ) → IsBlank t i j → i ≤ k → k ≤ j → step u row i ≡ row k None
+  pub row-cut : {A : Type 0} (row : ℕ → Option ℕ → A) (i j : ℕ) → IsBlank t i j → i ≤ k → k ≤ j
+      → step u row i ≡ row k None
   row-cut row i j b le ge =
       let last : past_blanks u i ≡ k = blank-to_end u i (cut-blank i j b le ge) ∙ front-length in
       ap (λ m. row m (slice_get u m)) last ∙ ap (row k) (front-past k (omega arith))

@@ -16,19 +16,20 @@ pub mod Front
 pub mod Fused
 pub mod Growth
 pub mod Instances
-pub mod NodeParts
 pub mod NodeRules
 pub mod Nodes
+pub mod NodesFront
 pub mod NumberCut
 pub mod Parts
 pub mod Pieces
 pub mod PlacesExplained
 pub mod Prefixes
+pub mod ReadFront
 pub mod RowSteps
 mod Rows
 pub mod ScalarLaws
 pub mod Sound
-pub mod SpellsFront
+pub mod SpelledParts
 pub mod StringComplete
 pub mod StringCut
 pub mod StringCutLaws

@@ -6,7 +6,7 @@ use Rattle.std.proofs.lemmas.Option.{slice_get-get_or}
 use Rattle.jiter_scan.specs.Digits.{is_digit, digit_run_end}
 use Rattle.jiter_scan.specs.Kind.{Kind, is_end_kind, expected_ident, expected_value, invalid_number, number_out_of_range}
 use Rattle.jiter_scan.specs.Number.{Number, number_value, digit_limit}
-use Rattle.jiter_scan.specs.NumberReading.{extent_then, digits_from, behind_zero, within_limit, whole_from, whole_at, fraction_from, fraction_at, power_from, exponent_from, exponent_at, decimal_at, behind_minus, name_at, extent_from, number_extent, with_value, number_at}
+use Rattle.jiter_scan.specs.NumberReading.{extent_then, digits_from, behind_zero, within_limit, whole_from, whole_at, fraction_from, fraction_at, power_from, exponent_from, exponent_at, decimal_at, behind_minus, extent_from, number_extent, with_value, number_at}
 use Rattle.jiter_scan.specs.Scanned.{Scanned, taken, failed}
 use Rattle.jiter_scan.specs.Word.{Extent, byte_then, word_at}
 use Rattle.jiter_scan.proofs.Choices.{failed-taken, same_taken, if-true, if-false}
@@ -32,7 +32,8 @@ module _ (t : List ℕ) (k : ℕ) (within : k ≤ length t) where
   u = take k t
 
   -- what a byte decides
-  by_byte : (F G : Option ℕ → Extent) (i : ℕ) → i ≤ k → ((c : ℕ) → i < k → slice_get t i ≡ Some c → InFront k (F (Some c)) (G (Some c))) → (i ≡ k → CutAt k (G None))
+  by_byte : (F G : Option ℕ → Extent) (i : ℕ) → i ≤ k
+      → ((c : ℕ) → i < k → slice_get t i ≡ Some c → InFront k (F (Some c)) (G (Some c))) → (i ≡ k → CutAt k (G None))
       → InFront k (F (slice_get t i)) (G (slice_get u i))
   by_byte F G i le go last = by (cases_lt i k) where
     by : (i < k) ⊎ (k ≤ i) → InFront k (F (slice_get t i)) (G (slice_get u i))
@@ -40,9 +41,11 @@ module _ (t : List ℕ) (k : ℕ) (within : k ≤ length t) where
         let here = slice_get-get_or t i 0 (omega arith) in
         subst (λ o. InFront k (F (slice_get t i)) (G o)) (sym (front-same t k within i lt ∙ here))
         (subst (λ o. InFront k (F o) (G (Some (get_or t i 0)))) (sym here) (go (get_or t i 0) lt here))
-    by (inr ge) = subst (λ o. InFront k (F (slice_get t i)) (G o)) (sym (front-past t k within i ge)) (inr (last (omega arith)))
+    by (inr ge) =
+        subst (λ o. InFront k (F (slice_get t i)) (G o)) (sym (front-past t k within i ge)) (inr (last (omega arith)))
 
-  by_test : (b : Bool) (x x' y y' : Extent) → InFront k x y → InFront k x' y' → InFront k (if b then x else x') (if b then y else y')
+  by_test : (b : Bool) (x x' y y' : Extent) → InFront k x y → InFront k x' y'
+      → InFront k (if b then x else x') (if b then y else y')
   by_test true x x' y y' p q = p
   by_test false x x' y y' p q = q
 
@@ -53,14 +56,18 @@ module _ (t : List ℕ) (k : ℕ) (within : k ≤ length t) where
   end-front i le = inl (refl, le)
 
   -- a part, and what follows
-  then-front : (x y : Extent) (f g : ℕ → Extent) → InFront k x y → ((j : ℕ) → j ≤ k → InFront k (f j) (g j)) → CutAt k (g k) → InFront k (extent_then x f) (extent_then y g)
+  then-front : (x y : Extent) (f g : ℕ → Extent) → InFront k x y → ((j : ℕ) → j ≤ k → InFront k (f j) (g j))
+      → CutAt k (g k) → InFront k (extent_then x f) (extent_then y g)
   then-front x (taken v e) f g (inl p) go last = subst (λ z. InFront k (extent_then z f) (g e)) (sym p.0) (go e p.1)
   then-front x (failed kind j) f g (inl p) go last = inl (ap (λ z. extent_then z f) p.0, tt)
   then-front x (taken v e) f g (inr p) go last = inr (subst (λ m. CutAt k (g m)) (sym p) last)
   then-front x (failed kind j) f g (inr p) go last = inr p
 
   run_end-cut : (n i : ℕ) → i + n ≡ k → digit_run_end u i ≡ min (digit_run_end t i) k
-  run_end-cut zero i h = let none = run_end-past is_digit u i (omega (arith, front-length t k within)) in let ahead = run_end-ahead is_digit t i in omega arith
+  run_end-cut zero i h =
+      let none = run_end-past is_digit u i (omega (arith, front-length t k within)) in
+      let ahead = run_end-ahead is_digit t i in
+      omega arith
   run_end-cut (suc n) i h = digit (is_digit (get_or t i 0)) refl (run_end-cut n (i + 1) (omega arith)) where
     here : slice_get t i ≡ Some (get_or t i 0)
     here = slice_get-get_or t i 0 (omega arith)
@@ -68,7 +75,8 @@ module _ (t : List ℕ) (k : ℕ) (within : k ≤ length t) where
     there : slice_get u i ≡ Some (get_or t i 0)
     there = front-same t k within i (omega arith) ∙ here
 
-    digit : (y : Bool) → is_digit (get_or t i 0) ≡ y → digit_run_end u (i + 1) ≡ min (digit_run_end t (i + 1)) k → digit_run_end u i ≡ min (digit_run_end t i) k
+    digit : (y : Bool) → is_digit (get_or t i 0) ≡ y → digit_run_end u (i + 1) ≡ min (digit_run_end t (i + 1)) k
+        → digit_run_end u i ≡ min (digit_run_end t i) k
     digit true d go =
         let a = run_end-more is_digit t i (get_or t i 0) here d in
         let b = run_end-more is_digit u i (get_or t i 0) there d in
@@ -80,7 +88,8 @@ module _ (t : List ℕ) (k : ℕ) (within : k ≤ length t) where
 
   run-front : (i : ℕ) → i ≤ k → InFront k (taken tt (digit_run_end t i)) (taken tt (digit_run_end u i))
   run-front i le = by (cases_lt k (digit_run_end t i)) (run_end-cut (k - i) i (omega arith)) where
-    by : (k < digit_run_end t i) ⊎ (digit_run_end t i ≤ k) → digit_run_end u i ≡ min (digit_run_end t i) k → InFront k (taken tt (digit_run_end t i)) (taken tt (digit_run_end u i))
+    by : (k < digit_run_end t i) ⊎ (digit_run_end t i ≤ k) → digit_run_end u i ≡ min (digit_run_end t i) k
+        → InFront k (taken tt (digit_run_end t i)) (taken tt (digit_run_end u i))
     by (inl past) is = inr (omega arith)
     by (inr all) is = inl (ap (taken tt) (omega arith), omega arith)
 
@@ -97,32 +106,37 @@ module _ (t : List ℕ) (k : ℕ) (within : k ≤ length t) where
 
   limit-front : (i : ℕ) → i ≤ k → InFront k (within_limit i (digit_run_end t i)) (within_limit i (digit_run_end u i))
   limit-front i le =
-      by (cases_lt k (digit_run_end t i)) (cases_lt (i + digit_limit) (digit_run_end u i)) (run_end-cut (k - i) i (omega arith)) where
-    many : Extent
-    many = failed number_out_of_range (i + (digit_limit + 1))
+      by (cases_lt k (digit_run_end t i)) (cases_lt (i + digit_limit) (digit_run_end u i))
+      (run_end-cut (k - i) i (omega arith)) where
+        many : Extent
+        many = failed number_out_of_range (i + (digit_limit + 1))
 
-    fits : (e : ℕ) → e ≤ i + digit_limit → within_limit i e ≡ taken tt e
-    fits e few = if-true (nat_le e (i + digit_limit)) (taken tt e) many (le-leb e (i + digit_limit) few)
+        fits : (e : ℕ) → e ≤ i + digit_limit → within_limit i e ≡ taken tt e
+        fits e few = if-true (nat_le e (i + digit_limit)) (taken tt e) many (le-leb e (i + digit_limit) few)
 
-    exceeds : (e : ℕ) → i + digit_limit < e → within_limit i e ≡ many
-    exceeds e lt = if-false (nat_le e (i + digit_limit)) (taken tt e) many (lt-leb e (i + digit_limit) lt)
+        exceeds : (e : ℕ) → i + digit_limit < e → within_limit i e ≡ many
+        exceeds e lt = if-false (nat_le e (i + digit_limit)) (taken tt e) many (lt-leb e (i + digit_limit) lt)
 
-    by : (k < digit_run_end t i) ⊎ (digit_run_end t i ≤ k) → (i + digit_limit < digit_run_end u i) ⊎ (digit_run_end u i ≤ i + digit_limit)
-        → digit_run_end u i ≡ min (digit_run_end t i) k → InFront k (within_limit i (digit_run_end t i)) (within_limit i (digit_run_end u i))
-    by x (inl long) is =
-        subst (λ z. InFront k (within_limit i (digit_run_end t i)) z) (sym (exceeds (digit_run_end u i) long))
-        (inl (exceeds (digit_run_end t i) (omega arith), tt))
-    by (inl past) (inr few) is =
-        subst (λ z. InFront k (within_limit i (digit_run_end t i)) z) (sym (fits (digit_run_end u i) few)) (inr (omega arith))
-    by (inr all) (inr few) is =
-        let same : digit_run_end t i ≡ digit_run_end u i = omega arith in
-        subst (λ z. InFront k (within_limit i (digit_run_end t i)) z) (sym (fits (digit_run_end u i) few))
-        (inl (ap (within_limit i) same ∙ fits (digit_run_end u i) few, omega arith))
+        by : (k < digit_run_end t i) ⊎ (digit_run_end t i ≤ k)
+            → (i + digit_limit < digit_run_end u i) ⊎ (digit_run_end u i ≤ i + digit_limit)
+            → digit_run_end u i ≡ min (digit_run_end t i) k
+            → InFront k (within_limit i (digit_run_end t i)) (within_limit i (digit_run_end u i))
+        by x (inl long) is =
+            subst (λ z. InFront k (within_limit i (digit_run_end t i)) z) (sym (exceeds (digit_run_end u i) long))
+            (inl (exceeds (digit_run_end t i) (omega arith), tt))
+        by (inl past) (inr few) is =
+            subst (λ z. InFront k (within_limit i (digit_run_end t i)) z) (sym (fits (digit_run_end u i) few))
+            (inr (omega arith))
+        by (inr all) (inr few) is =
+            let same : digit_run_end t i ≡ digit_run_end u i = omega arith in
+            subst (λ z. InFront k (within_limit i (digit_run_end t i)) z) (sym (fits (digit_run_end u i) few))
+            (inl (ap (within_limit i) same ∙ fits (digit_run_end u i) few, omega arith))
 
   whole-front : (i : ℕ) → i ≤ k → InFront k (whole_at t i) (whole_at u i)
   whole-front i le =
       by_byte (whole_from t i) (whole_from u i) i le
-      (λ c lt e. by_test (c == 48) _ _ _ _ (zero-front (i + 1) (omega arith)) (by_test (is_digit c) _ _ _ _ (limit-front i le) (fault-front invalid_number i)))
+      (λ c lt e. by_test (c == 48) _ _ _ _ (zero-front (i + 1) (omega arith))
+      (by_test (is_digit c) _ _ _ _ (limit-front i le) (fault-front invalid_number i)))
       (λ at. refl)
 
   -- a fraction, or none
@@ -135,25 +149,29 @@ module _ (t : List ℕ) (k : ℕ) (within : k ≤ length t) where
   power-front : (i : ℕ) → i ≤ k → InFront k (power_from t i (slice_get t i)) (power_from u i (slice_get u i))
   power-front i le =
       by_byte (power_from t i) (power_from u i) i le
-      (λ c lt e. by_test ((c == 43) || (c == 45)) _ _ _ _ (digits-front (i + 1) (omega arith)) (by_test (is_digit c) _ _ _ _ (run-front i le) (fault-front invalid_number i)))
+      (λ c lt e. by_test ((c == 43) || (c == 45)) _ _ _ _ (digits-front (i + 1) (omega arith))
+      (by_test (is_digit c) _ _ _ _ (run-front i le) (fault-front invalid_number i)))
       (λ at. refl)
 
   exponent-front : (i : ℕ) → i ≤ k → InFront k (exponent_at t i) (exponent_at u i)
   exponent-front i le =
       by_byte (exponent_from t i) (exponent_from u i) i le
-      (λ c lt e. by_test ((c == 101) || (c == 69)) _ _ _ _ (power-front (i + 1) (omega arith)) (end-front i le)) (λ at. at)
+      (λ c lt e. by_test ((c == 101) || (c == 69)) _ _ _ _ (power-front (i + 1) (omega arith)) (end-front i le))
+      (λ at. at)
 
   exponent-last : CutAt k (exponent_at u k)
   exponent-last = subst (λ o. CutAt k (exponent_from u k o)) (sym (front-past t k within k (omega arith))) refl
 
   fraction-last : CutAt k (extent_then (fraction_at u k) (λ m. exponent_at u m))
   fraction-last =
-      subst (λ o. CutAt k (extent_then (fraction_from u k o) (λ m. exponent_at u m))) (sym (front-past t k within k (omega arith))) exponent-last
+      subst (λ o. CutAt k (extent_then (fraction_from u k o) (λ m. exponent_at u m)))
+      (sym (front-past t k within k (omega arith))) exponent-last
 
   decimal-front : (i : ℕ) → i ≤ k → InFront k (decimal_at t i) (decimal_at u i)
   decimal-front i le =
       then-front (whole_at t i) (whole_at u i) _ _ (whole-front i le)
-      (λ j here. then-front (fraction_at t j) (fraction_at u j) _ _ (fraction-front j here) (λ m there. exponent-front m there) exponent-last)
+      (λ j here. then-front (fraction_at t j) (fraction_at u j) _ _ (fraction-front j here)
+      (λ m there. exponent-front m there) exponent-last)
       fraction-last
 
   -- names
@@ -161,18 +179,22 @@ module _ (t : List ℕ) (k : ℕ) (within : k ≤ length t) where
   unfolding word_at
   word-front [] i le = end-front i le
   word-front (c ∷ w) i le = after (λ lt. word-front w (i + 1) (omega arith)) where
-    after : (i < k → InFront k (word_at t w (i + 1)) (word_at u w (i + 1))) → InFront k (word_at t (c ∷ w) i) (word_at u (c ∷ w) i)
+    after : (i < k → InFront k (word_at t w (i + 1)) (word_at u w (i + 1)))
+        → InFront k (word_at t (c ∷ w) i) (word_at u (c ∷ w) i)
     after rest =
         by_byte (byte_then (word_at t w (i + 1)) c i) (byte_then (word_at u w (i + 1)) c i) i le
         (λ b lt e. by_test (b == c) _ _ _ _ (rest lt) (fault-front expected_ident i)) (λ at. refl)
 
-  name-front : (names : Bool) (w : List ℕ) (kind : Kind) (i : ℕ) → i ≤ k → InFront k (if names then word_at t w i else failed kind i) (if names then word_at u w i else failed kind i)
+  name-front : (names : Bool) (w : List ℕ) (kind : Kind) (i : ℕ) → i ≤ k
+      → InFront k (if names then word_at t w i else failed kind i) (if names then word_at u w i else failed kind i)
   name-front names w kind i le = by_test names _ _ _ _ (word-front w i le) (fault-front kind i)
 
-  signed-front : (names : Bool) (i : ℕ) → i ≤ k → InFront k (behind_minus names t i (slice_get t i)) (behind_minus names u i (slice_get u i))
+  signed-front : (names : Bool) (i : ℕ) → i ≤ k
+      → InFront k (behind_minus names t i (slice_get t i)) (behind_minus names u i (slice_get u i))
   signed-front names i le =
       by_byte (behind_minus names t i) (behind_minus names u i) i le
-      (λ c lt e. by_test (c == 73) _ _ _ _ (name-front names (codes "Infinity") invalid_number i le) (decimal-front i le)) (λ at. refl)
+      (λ c lt e. by_test (c == 73) _ _ _ _ (name-front names (codes "Infinity") invalid_number i le)
+      (decimal-front i le)) (λ at. refl)
 
   extent-front : (names : Bool) (i : ℕ) → i ≤ k → InFront k (number_extent names t i) (number_extent names u i)
   extent-front names i le =
@@ -187,13 +209,17 @@ module _ (t : List ℕ) (k : ℕ) (within : k ≤ length t) where
   with_value-end i e n (failed kind j) h = absurd (failed-taken kind j n e h)
 
   with_value-cut : (i e : ℕ) (x y : Extent) → k < e → x ≡ taken tt e → InFront k x y → CutAt k (with_value u i y)
-  with_value-cut i e x (taken w f) lt is (inl p) = let end = (same_taken tt w e f (sym is ∙ p.0)).1 in absurd (omega (arith, p.1))
+  with_value-cut i e x (taken w f) lt is (inl p) =
+      let end = (same_taken tt w e f (sym is ∙ p.0)).1 in
+      absurd (omega (arith, p.1))
   with_value-cut i e x (failed kind j) lt is (inl p) = absurd (failed-taken kind j tt e (sym p.0 ∙ is))
   with_value-cut i e x (taken w f) lt is (inr p) = p
   with_value-cut i e x (failed kind j) lt is (inr p) = p
 
   -- A number that ends behind k is read in the front up to k, or the input ends too early.
-  pub number_at-cut : (names : Bool) (i e : ℕ) (n : Number) → i ≤ k → k < e → number_at names t i ≡ taken n e → CutAt k (number_at names u i)
+  pub number_at-cut : (names : Bool) (i e : ℕ) (n : Number) → i ≤ k → k < e → number_at names t i ≡ taken n e
+      → CutAt k (number_at names u i)
   unfolding number_at
   number_at-cut names i e n le lt h =
-      with_value-cut i e (number_extent names t i) (number_extent names u i) lt (with_value-end i e n (number_extent names t i) h) (extent-front names i le)
+      with_value-cut i e (number_extent names t i) (number_extent names u i) lt
+      (with_value-end i e n (number_extent names t i) h) (extent-front names i le)

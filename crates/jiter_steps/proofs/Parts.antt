@@ -1,5 +1,5 @@
--- The parts of a container, one behind another: those that a text has, and those that are read. They are the same.
-use Rattle.std.proofs.Common.{◌≡◌, ℕ, zero, suc, ◌+◌, ◌<◌, false, cond, List, [], ◌∷◌, ◌++◌, length, refl, sym, ap, ◌∙◌, subst, arith, append-nil, append_assoc}
+-- The parts of a container, one behind another: a container that is read is built of such parts.
+use Rattle.std.proofs.Common.{◌≡◌, ℕ, zero, suc, ◌+◌, ◌<◌, false, cond, List, [], ◌∷◌, ◌++◌, length, refl, sym, subst, arith, append_assoc}
 use Rattle.jiter_scan.specs.Kind.{Kind}
 use Rattle.jiter_steps.specs.Blank.{IsBlank}
 use Rattle.jiter_steps.specs.Node.{StandsBehind}
@@ -7,7 +7,7 @@ use Rattle.jiter_steps.specs.Read.{Reading, done, fault, Rules, Container, if_fo
 use Rattle.jiter_steps.specs.Step.{Step, more, closed, stuck, step}
 use Rattle.jiter_steps.proofs.Bounds.{Within}
 use Rattle.jiter_steps.proofs.RowSteps.{PartBehind, Behind, StepIs, Delimits}
-use Rattle.jiter_steps.proofs.Values.{Goes, parts-part}
+use Rattle.jiter_steps.proofs.Values.{Goes}
 
 module _ {P : Type 0} (t : List ℕ) (closer : ℕ) (Begins : ℕ → Type 0) (IsPart : ℕ → P → ℕ → Type 0) where
   -- the part p behind blanks from i on, and the rest behind it
@@ -118,34 +118,3 @@ module _ {K P A : Type 0} (r : Rules K A) (t : List ℕ) (c : Container P A) (cl
     -- A container that is read is built of parts that stand one behind another.
     pub container_at-built : (i : ℕ) → i < length t → BuiltOf (i + 1) (container_at r c t i)
     container_at-built i h = bracket-built (i + 1) (step t c.first (i + 1)) (delimits.first-is (i + 1) (omega arith))
-
-  module _ (delimits : Delimits t c.first c.next closer Begins) (goes : Goes c t) where
-    -- behind these parts
-    abbrev BehindParts : List P → Step → Reading A
-    BehindParts ps s = follow r (parts_at r c t (length t) ps) (λ e. c.build e ps) s
-
-    one-part : (ps : List P) (p : P) (i m : ℕ) → Begins i → Reads c i p m
-        → parts_at r c t (length t) ps i ≡ BehindParts (ps ++ p ∷ []) (step t c.next m)
-    one-part ps p i m at is = parts-part r t c goes i m ps p _ (delimits.within i at) is refl
-
-    -- A container whose parts stand one behind another is read, where each of them is.
-    module _ (IsPart : ℕ → P → ℕ → Type 0) (each : (i : ℕ) (p : P) (e : ℕ) → IsPart i p e → Reads c i p e) where
-      more-read : (so_far ps : List P) (i e : ℕ) → MoreParts t closer Begins IsPart ps i e
-          → BehindParts so_far (step t c.next i) ≡ done (c.build e (so_far ++ ps)) e
-      more-read so_far [] i e h =
-          ap (BehindParts so_far) (delimits.next-closed i e h)
-          ∙ ap (λ l. done (c.build e l) e) (sym (append-nil so_far))
-      more-read so_far (p ∷ ps) i e h =
-          let x = h.2 in
-          ap (BehindParts so_far) (delimits.next-more i h.0 x.begin h.1 x.blanks x.begins)
-          ∙ one-part so_far p x.begin x.end x.begins (each x.begin p x.end x.is)
-          ∙ more-read (so_far ++ p ∷ []) ps x.end e x.rest
-          ∙ ap (λ l. done (c.build e l) e) (append_assoc so_far (p ∷ []) ps)
-
-      pub container_at-read : (ps : List P) (i e : ℕ) → Parts t closer Begins IsPart ps (i + 1) e
-          → container_at r c t i ≡ done (c.build e ps) e
-      container_at-read [] i e h = ap (BehindParts []) (delimits.first-closed (i + 1) e h)
-      container_at-read (p ∷ ps) i e h =
-          ap (BehindParts []) (delimits.first-more (i + 1) h.begin h.blanks h.begins)
-          ∙ one-part [] p h.begin h.end h.begins (each h.begin p h.end h.is)
-          ∙ more-read (p ∷ []) ps h.end e h.rest

@@ -32,7 +32,8 @@ module _ (t : List ℕ) (k : ℕ) (within : k ≤ length t) where
   same x b h e = front-get t k within x b h e
 
   char-cut : (i j c : ℕ) → SpellsChar t i j c → j ≤ k → SpellsChar u i j c
-  char-cut i j c s l = record { bytes = s.bytes; stands = front-stands t k within i j s.bytes s.stands l; piece = s.piece }
+  char-cut i j c s l =
+      record { bytes = s.bytes; stands = front-stands t k within i j s.bytes s.stands l; piece = s.piece }
 
   -- the input ends at k, within or before a character
   record EndsAt (i : ℕ) : Type 0 where
@@ -42,23 +43,42 @@ module _ (t : List ℕ) (k : ℕ) (within : k ≤ length t) where
     stop : ((body_at u i).stop ≡ unclosed) ⊎ ((body_at u i).stop ≡ cut)
 
   any-front : IsFront []
-  any-front = record { c = 65; more = encode_utf8 65; scalar = refl; is = refl; some = let l = lead 65 refl in subst (λ x. 0 < length x) (sym l.is) (omega arith) }
+  any-front = record {
+    c = 65;
+    more = encode_utf8 65;
+    scalar = refl;
+    is = refl;
+    some = let l = lead 65 refl in subst (λ x. 0 < length x) (sym l.is) (omega arith);
+  }
 
   ends-here : (i : ℕ) → k ≤ i → EndsAt i
   ends-here i h =
       let b = body_at-found u i (over unclosed) (found-end u i (omega (arith, long))) in
-      record { rest = []; front = any-front; bytes = ap (λ (x : Body). x.bytes) b; stop = inl (ap (λ (x : Body). x.stop) b) }
+      record {
+        rest = [];
+        front = any-front;
+        bytes = ap (λ (x : Body). x.bytes) b;
+        stop = inl (ap (λ (x : Body). x.stop) b);
+      }
 
   ends-cut : (i : ℕ) → found_at u i ≡ over cut → EndsAt i
   ends-cut i e =
       let b = body_at-found u i (over cut) e in
-      record { rest = []; front = any-front; bytes = ap (λ (x : Body). x.bytes) b; stop = inr (ap (λ (x : Body). x.stop) b) }
+      record {
+        rest = [];
+        front = any-front;
+        bytes = ap (λ (x : Body). x.bytes) b;
+        stop = inr (ap (λ (x : Body). x.stop) b);
+      }
 
   -- a plain character's front
-  front-split : (i j : ℕ) (w : List ℕ) → Stands t i j w → i ≤ k → k < j → (v : List ℕ) × (more : List ℕ) × (w ≡ v ++ more) × Stands u i k v × (0 < length more)
+  front-split : (i j : ℕ) (w : List ℕ) → Stands t i j w → i ≤ k → k < j → (v : List ℕ) × (more : List ℕ)
+      × (w ≡ v ++ more) × Stands u i k v × (0 < length more)
   front-split i j [] h l m = absurd (omega (arith, h))
   front-split i j (b ∷ w) h l m = elim (cases_lt i k) [
-    | inl lt ↦ let r = front-split (i + 1) j w h.1 (omega arith) m in (b ∷ r.0, r.1, ap (λ x. b ∷ x) r.2, (same i b lt h.0, r.3), r.4)
+    | inl lt ↦
+        let r = front-split (i + 1) j w h.1 (omega arith) m in
+        (b ∷ r.0, r.1, ap (λ x. b ∷ x) r.2, (same i b lt h.0, r.3), r.4)
     | inr ge ↦ ([], b ∷ w, refl, (let e : i ≡ k = omega arith in e), (let e : 0 < suc (length w) = omega arith in e))
   ]
 
@@ -81,20 +101,26 @@ module _ (t : List ℕ) (k : ℕ) (within : k ≤ length t) where
       }
 
   digits-few : (x : ℕ) → k < x + 4 → hex_digits_at u x ≡ few
-  digits-few x h = if-true (nat_lt (length u) (x + 4)) few (hex_digits_or (bad_digit u x) (unit_at u x)) (lt-ltb (length u) (x + 4) (omega (arith, long)))
+  digits-few x h =
+      if-true (nat_lt (length u) (x + 4)) few (hex_digits_or (bad_digit u x) (unit_at u x))
+      (lt-ltb (length u) (x + 4) (omega (arith, long)))
 
   -- an escape's front
   unit-ends : (i e n : ℕ) → UnitAt t i e n → i < k → k < i + 6 → found_at u i ≡ over cut
   unit-ends i e n x l m = found-backslash u i (same i 92 l x.slash) ∙ elim (cases_lt (i + 1) k) [
-    | inl lt ↦ ap (escaped u (i + 1)) (same (i + 1) 117 lt x.letter) ∙ ap (behind (numbered u (i + 1 + 1 + 4))) (digits-few (i + 1 + 1) (omega arith))
+    | inl lt ↦ ap (escaped u (i + 1)) (same (i + 1) 117 lt x.letter)
+        ∙ ap (behind (numbered u (i + 1 + 1 + 4))) (digits-few (i + 1 + 1) (omega arith))
     | inr ge ↦ ap (escaped u (i + 1)) (slice_get_past u (i + 1) (omega (arith, long)))
   ]
 
   escape-ends : (i j c : ℕ) (p : List ℕ) → IsEscape p c → Stands t i j p → i < k → k < j → found_at u i ≡ over cut
   escape-ends i j c p (inl is) s l m =
       let h : Stands t i j (92 ∷ is.sign ∷ []) = subst (Stands t i j) is.is s in
-      found-backslash u i (same i 92 l h.0) ∙ ap (escaped u (i + 1)) (slice_get_past u (i + 1) (omega (arith, long, h.1.1)))
-  escape-ends i j c p (inr (inl is)) s l m = let x = unit-at t i j c p is.0 s in unit-ends i j c x l (omega (arith, x.ends))
+      found-backslash u i (same i 92 l h.0) ∙ ap (escaped u (i + 1))
+      (slice_get_past u (i + 1) (omega (arith, long, h.1.1)))
+  escape-ends i j c p (inr (inl is)) s l m =
+      let x = unit-at t i j c p is.0 s in
+      unit-ends i j c x l (omega (arith, x.ends))
   escape-ends i j c p (inr (inr is)) s l m =
       let h = stands-split t i j is.front is.back (subst (Stands t i j) is.is s) in
       let x = unit-at t i h.0 is.high is.front is.first h.1 in
@@ -109,12 +135,14 @@ module _ (t : List ℕ) (k : ℕ) (within : k ≤ length t) where
             ∙ if-true (is_high is.high) (second u is.high o (slice_get u o)) (single o is.high) is.is_high
             ∙ second-ends o j is.high is.low y ge (omega (arith, y.ends))
       ] where
-        second-ends : (o j high low : ℕ) → UnitAt t o j low → o ≤ k → k < o + 6 → second u high o (slice_get u o) ≡ over cut
+        second-ends : (o j high low : ℕ) → UnitAt t o j low → o ≤ k → k < o + 6
+            → second u high o (slice_get u o) ≡ over cut
         second-ends o j high low y ge m = elim (cases_lt o k) [
           | inr none ↦ ap (second u high o) (slice_get_past u o (omega (arith, long)))
           | inl some ↦ ap (second u high o) (same o 92 some y.slash) ∙ elim (cases_lt (o + 1) k) [
             | inr none ↦ ap (second_u u high (o + 1)) (slice_get_past u (o + 1) (omega (arith, long)))
-            | inl more ↦ ap (second_u u high (o + 1)) (same (o + 1) 117 more y.letter) ∙ ap (behind (paired high (o + 1 + 1 + 4))) (digits-few (o + 1 + 1) (omega arith))
+            | inl more ↦ ap (second_u u high (o + 1)) (same (o + 1) 117 more y.letter)
+                ∙ ap (behind (paired high (o + 1 + 1 + 4))) (digits-few (o + 1 + 1) (omega arith))
           ]
         ]
 
@@ -122,7 +150,11 @@ module _ (t : List ℕ) (k : ℕ) (within : k ≤ length t) where
   char-ends i j c s l m = by s.piece where
     by : IsPiece s.bytes c → EndsAt i
     by (inl p) = plain-ends i j c s.bytes p s.stands l m
-    by (inr x) = elim (cases_lt i k) [ inl lt ↦ ends-cut i (escape-ends i j c s.bytes x s.stands lt m) | inr ge ↦ ends-here i ge ]
+    by (inr x) =
+        elim (cases_lt i k) [
+          | inl lt ↦ ends-cut i (escape-ends i j c s.bytes x s.stands lt m)
+          | inr ge ↦ ends-here i ge
+        ]
 
   record CutAt (i : ℕ) (ps : List Piece) : Type 0 where
     rest : List ℕ
@@ -132,20 +164,32 @@ module _ (t : List ℕ) (k : ℕ) (within : k ≤ length t) where
     scalars : all_scalars (characters (pieces_to k ps)) ≡ true
 
   pieces-cut : (ps : List Piece) (i q : ℕ) → SpellsPieces t i ps q → i ≤ k → k ≤ q → CutAt i ps
-  pieces-cut [] i q s l m = let e = ends-here i (omega (arith, s)) in record { rest = e.rest; front = e.front; bytes = e.bytes; stop = e.stop; scalars = refl }
+  pieces-cut [] i q s l m =
+      let e = ends-here i (omega (arith, s)) in
+      record { rest = e.rest; front = e.front; bytes = e.bytes; stop = e.stop; scalars = refl }
   pieces-cut (p ∷ ps) i q s l m = elim (cases_lt k p.end) [
     | inl lt ↦
         let e = char-ends i p.end p.character s.0 l lt in
         let none : [] ≡ pieces_to k (p ∷ ps) = sym (if-false (nat_le p.end k) (p ∷ pieces_to k ps) [] (no p.end lt)) in
-        record { rest = e.rest; front = e.front; bytes = e.bytes ∙ ap (λ x. text_of x ++ e.rest) none; stop = e.stop; scalars = subst (λ x. all_scalars (characters x) ≡ true) none refl }
+        record {
+          rest = e.rest;
+          front = e.front;
+          bytes = e.bytes ∙ ap (λ x. text_of x ++ e.rest) none;
+          stop = e.stop;
+          scalars = subst (λ x. all_scalars (characters x) ≡ true) none refl;
+        }
     | inr ge ↦
         let x = char-read u i p.end p.character (char-cut i p.end p.character s.0 ge) in
         let r = pieces-cut ps p.end q s.1 ge m in
-        let some : p ∷ pieces_to k ps ≡ pieces_to k (p ∷ ps) = sym (if-true (nat_le p.end k) (p ∷ pieces_to k ps) [] (le-leb p.end k ge)) in
+        let some : p ∷ pieces_to k ps ≡ pieces_to k (p ∷ ps) =
+        sym (if-true (nat_le p.end k) (p ∷ pieces_to k ps) [] (le-leb p.end k ge)) in
         record {
           rest = r.rest;
           front = r.front;
-          bytes = ap (λ (b : Body). b.bytes) x.1 ∙ ap (λ l. encode_utf8 p.character ++ l) r.bytes ∙ sym (append_assoc (encode_utf8 p.character) (text_of (pieces_to k ps)) r.rest) ∙ ap (λ y. text_of y ++ r.rest) some;
+          bytes =
+              ap (λ (b : Body). b.bytes) x.1 ∙ ap (λ l. encode_utf8 p.character ++ l) r.bytes
+              ∙ sym (append_assoc (encode_utf8 p.character) (text_of (pieces_to k ps)) r.rest)
+              ∙ ap (λ y. text_of y ++ r.rest) some;
           stop = subst (λ (z : Stop). (z ≡ unclosed) ⊎ (z ≡ cut)) (sym (ap (λ (b : Body). b.stop) x.1)) r.stop;
           scalars = subst (λ y. all_scalars (characters y) ≡ true) some (ap₂ (λ (a b : Bool). a && b) x.2 r.scalars);
         }
@@ -153,7 +197,8 @@ module _ (t : List ℕ) (k : ℕ) (within : k ≤ length t) where
     no : (e : ℕ) → k < e → nat_le e k ≡ false
     no e h = grind (arith, nat_tests)
 
-  pub kept-cut : (i e : ℕ) (ps : List Piece) → SpellsString t i ps e → i < k → k < e → (o : Bool) × (string_at kept u i ≡ taken (record { owned = o; bytes = text_of (pieces_to k ps) }) k)
+  pub kept-cut : (i e : ℕ) (ps : List Piece) → SpellsString t i ps e → i < k → k < e → (o : Bool)
+      × (string_at kept u i ≡ taken (record { owned = o; bytes = text_of (pieces_to k ps) }) k)
   unfolding content_at
   kept-cut i e ps s l m =
       let c = pieces-cut ps (i + 1) s.close s.spelled (omega arith) (omega (arith, s.ends)) in
@@ -161,16 +206,25 @@ module _ (t : List ℕ) (k : ℕ) (within : k ≤ length t) where
       let text = text_of (pieces_to k ps) in
       let utf8 : IsUtf8 text = (characters (pieces_to k ps), (c.scalars, refl)) in
       let kept_so : as_kept (i + 1) b.owned b.bytes (length u) ≡ taken (record { owned = b.owned; bytes = text }) k =
-      ap (λ l. as_kept (i + 1) b.owned l (length u)) c.bytes ∙ ap (shortened (i + 1) b.owned (text ++ c.rest) (length u)) (tail-unfinished text c.rest utf8 c.front)
-      ∙ ap₂ (λ (l : List ℕ) (n : ℕ). taken (record { owned = b.owned; bytes = l }) n) (tail-taken text c.rest utf8 c.front) long in
-      (b.owned, elim c.stop [ inl x ↦ ap (ended kept u (i + 1) b.bytes b.owned) x ∙ kept_so | inr x ↦ ap (ended kept u (i + 1) b.bytes b.owned) x ∙ kept_so ])
+      ap (λ l. as_kept (i + 1) b.owned l (length u)) c.bytes
+      ∙ ap (shortened (i + 1) b.owned (text ++ c.rest) (length u)) (tail-unfinished text c.rest utf8 c.front)
+      ∙ ap₂ (λ (l : List ℕ) (n : ℕ). taken (record { owned = b.owned; bytes = l }) n)
+      (tail-taken text c.rest utf8 c.front) long in (
+        b.owned,
+        elim c.stop [
+          | inl x ↦ ap (ended kept u (i + 1) b.bytes b.owned) x ∙ kept_so
+          | inr x ↦ ap (ended kept u (i + 1) b.bytes b.owned) x ∙ kept_so
+        ],
+      )
 
-  open-whole : (bs : List ℕ) (o : Bool) (s : Stop) → (s ≡ unclosed) ⊎ (s ≡ cut) → (i : ℕ) → (ended whole u i bs o s ≡ failed eof_string (length u)) × (ended raw u i bs o s ≡ failed eof_string (length u))
+  open-whole : (bs : List ℕ) (o : Bool) (s : Stop) → (s ≡ unclosed) ⊎ (s ≡ cut) → (i : ℕ)
+      → (ended whole u i bs o s ≡ failed eof_string (length u)) × (ended raw u i bs o s ≡ failed eof_string (length u))
   open-whole bs o s (inl h) i = (ap (ended whole u i bs o) h, ap (ended raw u i bs o) h)
   open-whole bs o s (inr h) i = (ap (ended whole u i bs o) h, ap (ended raw u i bs o) h)
 
   -- and where it isn't kept, the end of input is the fault
-  pub whole-cut : (i e : ℕ) (ps : List Piece) → SpellsString t i ps e → i < k → k < e → (string_at whole u i ≡ failed eof_string k) × (string_at raw u i ≡ failed eof_string k)
+  pub whole-cut : (i e : ℕ) (ps : List Piece) → SpellsString t i ps e → i < k → k < e
+      → (string_at whole u i ≡ failed eof_string k) × (string_at raw u i ≡ failed eof_string k)
   unfolding content_at
   whole-cut i e ps s l m =
       let c = pieces-cut ps (i + 1) s.close s.spelled (omega arith) (omega (arith, s.ends)) in
@@ -180,7 +234,8 @@ module _ (t : List ℕ) (k : ℕ) (within : k ≤ length t) where
 
   pieces-kept : (ps : List Piece) (i q : ℕ) → SpellsPieces t i ps q → q ≤ k → SpellsPieces u i ps q
   pieces-kept [] i q h l = h
-  pieces-kept (p ∷ ps) i q h l = (char-cut i p.end p.character h.0 (omega (arith, pieces-ahead t ps p.end q h.1)), pieces-kept ps p.end q h.1 l)
+  pieces-kept (p ∷ ps) i q h l =
+      (char-cut i p.end p.character h.0 (omega (arith, pieces-ahead t ps p.end q h.1)), pieces-kept ps p.end q h.1 l)
 
   -- a string that ends before the cut is spelled as it was
   pub string-still : (i e : ℕ) (ps : List Piece) → SpellsString t i ps e → e ≤ k → SpellsString u i ps e

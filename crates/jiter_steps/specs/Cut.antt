@@ -1,4 +1,5 @@
--- What is left of a document when its text ends before the place k. It speaks of a finished derivation, and not of reading.
+-- What is left of a document when its text ends before the place k. It speaks of a finished derivation, and not of
+-- reading.
 use Rattle.std.specs.Prelude.{ℕ, Bool, Option, Some, None, List, nat_le, min, if◌then◌else◌, slice_range}
 use Rattle.jiter_scan.specs.Number.{number_value}
 use Rattle.jiter_scan.specs.NumberReading.{is_number_text}
@@ -27,7 +28,8 @@ abbrev pub with_member : Text → Option Tree → Members → Members
 with_member key None members = members
 with_member key (Some v) members = tree.member key v members
 
--- A value that is not reached is none. A container keeps the cuts of its items that there are, and the members whose value has one.
+-- A value that is not reached is none. A container keeps the cuts of its items that there are, and the members whose
+-- value has one.
 abbrev mutual
   pub cut : Bool → List ℕ → Node → ℕ → PartialMode → Option Tree
   cut names t (grammar.literal l b e) k mode = if nat_le e k then Some (literal_tree l) else None
@@ -36,8 +38,10 @@ abbrev mutual
       if nat_le k b then None
       else (if nat_le e k then Some (tree.string (text_at t ps b e))
       else (if allows_trailing_strings mode then Some (cut_string t ps b k) else None))
-  cut names t (grammar.array b e ns) k mode = if nat_le k b then None else Some (tree.array (cut_items names t ns k mode))
-  cut names t (grammar.object b e ms) k mode = if nat_le k b then None else Some (tree.object (cut_members names t ms k mode))
+  cut names t (grammar.array b e ns) k mode =
+      if nat_le k b then None else Some (tree.array (cut_items names t ns k mode))
+  cut names t (grammar.object b e ms) k mode =
+      if nat_le k b then None else Some (tree.object (cut_members names t ms k mode))
 
   pub cut_items : Bool → List ℕ → Nodes → ℕ → PartialMode → Items
   cut_items names t no_nodes k mode = tree.no_items
@@ -45,4 +49,5 @@ abbrev mutual
 
   pub cut_members : Bool → List ℕ → NodeMembers → ℕ → PartialMode → Members
   cut_members names t no_members k mode = tree.no_members
-  cut_members names t (member key n ms) k mode = with_member (text_at t key.pieces key.begin key.end) (cut names t n k mode) (cut_members names t ms k mode)
+  cut_members names t (member key n ms) k mode =
+      with_member (text_at t key.pieces key.begin key.end) (cut names t n k mode) (cut_members names t ms k mode)

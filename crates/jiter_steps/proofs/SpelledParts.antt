@@ -1,0 +1,359 @@
+-- What the grammar spells of a container is parts that stand one behind another; and what a value begins with.
+use Rattle.std.proofs.Common.{◌≡◌, ◌≢◌, ℕ, zero, suc, ◌+◌, ◌-◌, ◌<◌, ◌≤◌, ◌⊎◌, inl, inr, Bool, true, false, List, [], ◌∷◌, length, drop, take, refl, sym, ap, ◌∙◌, subst, arith, ◌==◌, IfSome}
+use Rattle.std.specs.Prelude.{slice_get, slice_index, slice_range, Some}
+use Rattle.std.proofs.lemmas.List.{drop_more}
+use Rattle.std.proofs.lemmas.Option.{slice_get_within, slice_get-get_or, slice_get_past, get_or_from_slice_get}
+use Rattle.std.proofs.lemmas.Bool.{cases_eq}
+use Rattle.std.proofs.lemmas.Bool.Decides.{nat_tests}
+use Rattle.jiter_scan.specs.Number.{IsNumberText}
+use Rattle.jiter_scan.specs.NumberReading.{begins_number}
+use Rattle.jiter_scan.specs.Scanned.{taken}
+use Rattle.jiter_scan.proofs.NumberLaws.{continues_number}
+use Rattle.jiter_steps.specs.Answer.{seen_as}
+use Rattle.jiter_steps.specs.Blank.{is_blank, IsBlankByte, IsBlank}
+use Rattle.jiter_scan.specs.Stands.{Stands}
+use Rattle.jiter_scan.proofs.Standing.{stands-length, stands-within}
+use Rattle.jiter_steps.specs.Literal.{word_of, start_of}
+use Rattle.jiter_steps.specs.Node as grammar
+use Rattle.jiter_steps.specs.Node.{Key, Node, Nodes, no_nodes, node, NodeMembers, no_members, member, begin, end, StandsBehind, SpellsNumber, SpellsKey, Spells, SpellsItems, SpellsMoreItems, SpellsMembers, SpellsMoreMembers, nesting, nesting_of, nesting_of_members, nesting_round, nesting_round_members}
+use Rattle.jiter_steps.specs.Piece.{SpellsString}
+use Rattle.jiter_steps.specs.StringReading.{whole, string_at}
+use Rattle.jiter_steps.specs.declared.parse.Literal.{Literal}
+use Rattle.jiter_steps.specs.declared.parse.Literal.TheVariants as literal
+use Rattle.jiter_steps.specs.declared.parse.Start.{Start}
+use Rattle.jiter_steps.specs.declared.parse.Start.TheVariants as start
+use Rattle.jiter_steps.proofs.NodeRules.{nodes_of, node_members_of, key_of}
+use Rattle.jiter_steps.proofs.Parts.{MoreParts, Parts}
+use Rattle.jiter_steps.proofs.RowSteps.{ItemAt, KeyBegins}
+use Rattle.jiter_steps.proofs.ScalarLaws.{ScalarLaws, scalar-laws, EndsNumber}
+
+-- what kind of value a node is
+abbrev pub start_is : Node → Start
+start_is (grammar.literal l b e) = start.Literal l
+start_is (grammar.number b e) = start.Number
+start_is (grammar.string ps b e) = start.String
+start_is (grammar.array b e ns) = start.Array
+start_is (grammar.object b e ms) = start.Object
+
+-- the byte at i begins a value of this kind
+pub record BeginsValue (t : List ℕ) (i : ℕ) (s : Start) : Type 0 where
+  pub byte : ℕ
+  pub here : slice_get t i ≡ Some byte
+  pub starts : start_of byte ≡ s
+  pub no_blank : is_blank byte ≡ false
+  pub no_closer : (byte == 93) ≡ false
+
+number-starts : (c : ℕ) → begins_number c ≡ true → start_of c ≡ start.Number
+number-starts c e = grind (arith, nat_tests, e)
+
+number-no_blank : (c : ℕ) → begins_number c ≡ true → is_blank c ≡ false
+number-no_blank c e = grind (arith, nat_tests, e)
+
+number-no_closer : (c : ℕ) → begins_number c ≡ true → (c == 93) ≡ false
+number-no_closer c e = grind (arith, nat_tests, e)
+
+blank-ends : (c : ℕ) → IsBlankByte c → continues_number c ≡ false
+blank-ends c (inl e) = ap continues_number e
+blank-ends c (inr (inl e)) = ap continues_number e
+blank-ends c (inr (inr (inl e))) = ap continues_number e
+blank-ends c (inr (inr (inr e))) = ap continues_number e
+
+pub slice-empty : (t : List ℕ) (b e : ℕ) → e ≡ b → slice_range t b e ≡ []
+slice-empty t b e h = let none : e - b ≡ 0 = omega arith in ap (λ k. take k (drop b t)) none
+
+slice-first : (t : List ℕ) (b e : ℕ) → b < e → e ≤ length t
+    → slice_range t b e ≡ slice_index t b ∷ slice_range t (b + 1) e
+slice-first t b e h le =
+    let n : e - b ≡ suc (e - (b + 1)) = omega arith in
+    ap (λ k. take k (drop b t)) n ∙ ap (take (suc (e - (b + 1)))) (drop_more t b 0 (omega arith))
+
+module _ (t : List ℕ) where
+  -- a number does not go on at i
+  ends-get : (i c : ℕ) → slice_get t i ≡ Some c → continues_number c ≡ false → EndsNumber t i
+  ends-get i c e h = subst (λ o. IfSome o (λ b. continues_number b ≡ false)) (sym e) h
+
+  ends-blank : (i j : ℕ) → IsBlank t i j → i < j → EndsNumber t i
+  ends-blank i j b lt =
+      ends-get i (slice_index t i) (slice_get-get_or t i 0 (omega (arith, b.within)))
+      (blank-ends _ (b.each i (omega arith) lt))
+
+  ends-behind : (i sign e : ℕ) → continues_number sign ≡ false → StandsBehind t i sign e → EndsNumber t i
+  ends-behind i sign e quiet h = by (cases_eq i h.at) where
+    by : (i ≡ h.at) ⊎ (i ≢ h.at) → EndsNumber t i
+    by (inl same) = ends-get i sign (ap (slice_get t) same ∙ h.here) quiet
+    by (inr apart) = ends-blank i h.at h.blanks (omega (arith, h.blanks.ordered))
+
+  pub ends-end : (i : ℕ) → IsBlank t i (length t) → EndsNumber t i
+  ends-end i h = by (cases_eq i (length t)) where
+    by : (i ≡ length t) ⊎ (i ≢ length t) → EndsNumber t i
+    by (inl same) = subst (λ o. IfSome o (λ b. continues_number b ≡ false)) (sym (slice_get_past t i (omega arith))) tt
+    by (inr apart) = ends-blank i (length t) h (omega (arith, h.ordered))
+
+-- what follows a part ends a number
+more_parts-quiet : {P : Type 0} (t : List ℕ) (closer : ℕ) (Begins : ℕ → Type 0) (IsPart : ℕ → P → ℕ → Type 0)
+    → continues_number closer ≡ false
+    → (ps : List P) (i e : ℕ) → MoreParts t closer Begins IsPart ps i e → EndsNumber t i
+more_parts-quiet t closer Begins IsPart quiet [] i e h = ends-behind t i closer e quiet h
+more_parts-quiet t closer Begins IsPart quiet (p ∷ ps) i e h = ends-behind t i 44 h.0 refl h.1
+
+-- nodes as a list, members too
+abbrev pub nodes_list : Nodes → List Node
+nodes_list no_nodes = []
+nodes_list (node n ns) = n ∷ nodes_list ns
+
+abbrev pub members_list : NodeMembers → List (Key × Node)
+members_list no_members = []
+members_list (member k n ms) = (k, n) ∷ members_list ms
+
+pub nodes-listed : (ns : Nodes) → nodes_of (nodes_list ns) ≡ ns
+nodes-listed no_nodes = refl
+nodes-listed (node n ns) = ap (node n) (nodes-listed ns)
+
+pub members-listed : (ms : NodeMembers) → node_members_of (members_list ms) ≡ ms
+members-listed no_members = refl
+members-listed (member k n ms) = ap (member k n) (members-listed ms)
+
+-- the text spells n from i to e as an item: there is room, and behind it no number goes on
+pub record IsItem (names : Bool) (t : List ℕ) (room i : ℕ) (n : Node) (e : ℕ) : Type 0 where
+  pub spelled : Spells names t n
+  pub begins : begin n ≡ i
+  pub ends : end n ≡ e
+  pub limit : nesting n < room
+  pub quiet : EndsNumber t e
+
+-- a key from i on, its colon, and its value as an item
+pub record IsMember (names : Bool) (t : List ℕ) (room i : ℕ) (m : Key × Node) (e : ℕ) : Type 0 where
+  pub begins : m.0.begin ≡ i
+  pub key : SpellsKey t m.0 (begin m.1)
+  pub value : IsItem names t room (begin m.1) m.1 e
+
+module _ (names : Bool) (t : List ℕ) where
+  laws : ScalarLaws names t
+  laws = scalar-laws names t
+
+  -- what a value's first byte says
+  number-begins : (b e : ℕ) → SpellsNumber names t b e → (b ≡ e) ⊎ (b ≢ e) → BeginsValue t b start.Number
+  number-begins b e h (inl same) =
+      absurd (laws.number-not_empty (subst (IsNumberText names) (slice-empty t b e (sym same)) h.text))
+  number-begins b e h (inr apart) =
+      let lt : b < e = omega (arith, h.ordered) in
+      let first = laws.number-begins (slice_index t b) (slice_range t (b + 1) e)
+      (subst (IsNumberText names) (slice-first t b e lt h.within) h.text) in
+      record {
+        byte = slice_index t b;
+        here = slice_get-get_or t b 0 (omega (arith, h.within));
+        starts = number-starts (slice_index t b) first;
+        no_blank = number-no_blank (slice_index t b) first;
+        no_closer = number-no_closer (slice_index t b) first;
+      }
+
+  pub begins-value : (n : Node) → Spells names t n → BeginsValue t (begin n) (start_is n)
+  begins-value (grammar.literal literal.Null b e) h =
+      record { byte = 110; here = h.0; starts = refl; no_blank = refl; no_closer = refl }
+  begins-value (grammar.literal literal.True b e) h =
+      record { byte = 116; here = h.0; starts = refl; no_blank = refl; no_closer = refl }
+  begins-value (grammar.literal literal.False b e) h =
+      record { byte = 102; here = h.0; starts = refl; no_blank = refl; no_closer = refl }
+  begins-value (grammar.number b e) h = number-begins b e h (cases_eq b e)
+  begins-value (grammar.string ps b e) h =
+      record { byte = 34; here = h.opens; starts = refl; no_blank = refl; no_closer = refl }
+  begins-value (grammar.array b e ns) h =
+      record { byte = 91; here = h.0; starts = refl; no_blank = refl; no_closer = refl }
+  begins-value (grammar.object b e ms) h =
+      record { byte = 123; here = h.0; starts = refl; no_blank = refl; no_closer = refl }
+
+  pub node-starts : (n : Node) → Spells names t n → start_of (slice_index t (begin n)) ≡ start_is n
+  node-starts n h =
+      let first = begins-value n h in ap start_of (get_or_from_slice_get t (begin n) first.byte 0 first.here)
+      ∙ first.starts
+
+  -- where an item begins
+  item-begins : (n : Node) → Spells names t n → ItemAt t (begin n)
+  item-begins n h =
+      let first = begins-value n h in
+      record { byte = first.byte; here = first.here; no_blank = first.no_blank; no_closer = first.no_closer }
+
+  pub key-taken : (k : Key) → SpellsString t k.begin k.pieces k.end
+      → seen_as (key_of t k.begin) (string_at whole t k.begin) ≡ taken k k.end
+  key-taken k h =
+      ap (seen_as (key_of t k.begin)) (laws.string-complete k.begin k.end k.pieces h)
+      ∙ ap (λ ps. taken (record { pieces = ps; begin = k.begin; end = k.end }) k.end)
+      (laws.pieces-again k.begin k.end k.pieces h)
+
+  -- the parts of a container, by the grammar
+  module _ (room : ℕ) where
+    abbrev MoreItems : List Node → ℕ → ℕ → Type 0
+    MoreItems ns i e = MoreParts t 93 (ItemAt t) (IsItem names t room) ns i e
+
+    abbrev MoreMembers : List (Key × Node) → ℕ → ℕ → Type 0
+    MoreMembers ms i e = MoreParts t 125 (KeyBegins t) (IsMember names t room) ms i e
+
+    abbrev pub Items : List Node → ℕ → ℕ → Type 0
+    Items ns i e = Parts t 93 (ItemAt t) (IsItem names t room) ns i e
+
+    abbrev pub Members : List (Key × Node) → ℕ → ℕ → Type 0
+    Members ms i e = Parts t 125 (KeyBegins t) (IsMember names t room) ms i e
+
+    is_item : (n : Node) → Spells names t n → nesting n < room → EndsNumber t (end n)
+        → IsItem names t room (begin n) n (end n)
+    is_item n h d q = record { spelled = h; begins = refl; ends = refl; limit = d; quiet = q }
+
+    item-first : (n : Node) (ns : List Node) (i e : ℕ) → IsBlank t i (begin n) → Spells names t n → nesting n < room
+        → MoreItems ns (end n) e → Items (n ∷ ns) i e
+    item-first n ns i e blanks h d rest =
+        let quiet = more_parts-quiet t 93 (ItemAt t) (IsItem names t room) refl ns (end n) e rest in
+        let is = is_item n h d quiet in
+        record { begin = begin n; end = end n; blanks = blanks; begins = item-begins n h; is = is; rest = rest }
+
+    more_items-parts : (ns : Nodes) (i e : ℕ) → SpellsMoreItems names t i ns e → nesting_of ns < room
+        → MoreItems (nodes_list ns) i e
+    more_items-parts no_nodes i e h d = h
+    more_items-parts (node n ns) i e h d =
+        let rest = more_items-parts ns (end n) e h.4 (omega arith) in
+        (h.0, h.1, item-first n (nodes_list ns) h.0 e h.2 h.3 (omega arith) rest)
+
+    pub items-parts : (ns : Nodes) (i e : ℕ) → SpellsItems names t i ns e → nesting_round ns ≤ room
+        → Items (nodes_list ns) i e
+    items-parts no_nodes i e h d = h
+    items-parts (node n ns) i e h d =
+        item-first n (nodes_list ns) i e h.0 h.1 (omega arith) (more_items-parts ns (end n) e h.2 (omega arith))
+
+    member-first : (k : Key) (n : Node) (ms : List (Key × Node)) (i e : ℕ) → IsBlank t i k.begin
+        → SpellsKey t k (begin n) → Spells names t n → nesting n < room → MoreMembers ms (end n) e
+        → Members ((k, n) ∷ ms) i e
+    member-first k n ms i e blanks key h d rest =
+        let quiet = more_parts-quiet t 125 (KeyBegins t) (IsMember names t room) refl ms (end n) e rest in
+        let value = is_item n h d quiet in
+        let is : IsMember names t room k.begin (k, n) (end n) = record { begins = refl; key = key; value = value } in
+        record { begin = k.begin; end = end n; blanks = blanks; begins = key.string.opens; is = is; rest = rest }
+
+    more_members-parts : (ms : NodeMembers) (i e : ℕ) → SpellsMoreMembers names t i ms e → nesting_of_members ms < room
+        → MoreMembers (members_list ms) i e
+    more_members-parts no_members i e h d = h
+    more_members-parts (member k n ms) i e h d =
+        let rest = more_members-parts ms (end n) e h.5 (omega arith) in
+        (h.0, h.1, member-first k n (members_list ms) h.0 e h.2 h.3 h.4 (omega arith) rest)
+
+    pub members-parts : (ms : NodeMembers) (i e : ℕ) → SpellsMembers names t i ms e → nesting_round_members ms ≤ room
+        → Members (members_list ms) i e
+    members-parts no_members i e h d = h
+    members-parts (member k n ms) i e h d =
+        member-first k n (members_list ms) i e h.0 h.1 h.2 (omega arith)
+        (more_members-parts ms (end n) e h.3 (omega arith))
+
+  -- What is spelled lies within the text.
+  more-within : {P : Type 0} (closer : ℕ) (Begins : ℕ → Type 0) (IsPart : ℕ → P → ℕ → Type 0) (ps : List P) (i e : ℕ)
+      → MoreParts t closer Begins IsPart ps i e → e ≤ length t
+  more-within closer Begins IsPart [] i e h = let last = slice_get_within t h.at closer h.here in omega (arith, h.ends)
+  more-within closer Begins IsPart (p ∷ ps) i e h = more-within closer Begins IsPart ps h.2.end e h.2.rest
+
+  parts-within : {P : Type 0} (closer : ℕ) (Begins : ℕ → Type 0) (IsPart : ℕ → P → ℕ → Type 0) (ps : List P) (i e : ℕ)
+      → Parts t closer Begins IsPart ps i e → e ≤ length t
+  parts-within closer Begins IsPart [] i e h = more-within closer Begins IsPart [] i e h
+  parts-within closer Begins IsPart (p ∷ ps) i e h = more-within closer Begins IsPart ps h.end e h.rest
+
+  pub begin-within : (n : Node) → Spells names t n → begin n < length t
+  begin-within n h = let first = begins-value n h in slice_get_within t (begin n) first.byte first.here
+
+  pub node-within : (n : Node) → Spells names t n → end n ≤ length t
+  node-within (grammar.literal l b e) h =
+      stands-within t b e (word_of l) (omega (arith, begin-within (grammar.literal l b e) h)) h
+  node-within (grammar.number b e) h = h.within
+  node-within (grammar.string ps b e) h = (laws.string-ordered b e ps h).1
+  node-within (grammar.array b e ns) h =
+      let room = nesting_round ns in
+      parts-within 93 (ItemAt t) (IsItem names t room) (nodes_list ns) (b + 1) e
+      (items-parts room ns (b + 1) e h.1 (omega arith))
+  node-within (grammar.object b e ms) h =
+      let room = nesting_round_members ms in
+      parts-within 125 (KeyBegins t) (IsMember names t room) (members_list ms) (b + 1) e
+      (members-parts room ms (b + 1) e h.1 (omega arith))
+
+  -- A node ends behind its begin.
+  pub behind-ahead : (i c e : ℕ) → StandsBehind t i c e → i < e
+  behind-ahead i c e h = omega (arith, h.blanks.ordered, h.ends)
+
+  -- from a key to its value
+  pub key-ahead : (key : Key) (j : ℕ) → SpellsKey t key j → key.begin < j
+  key-ahead key j h =
+      let string = laws.string-ordered key.begin key.end key.pieces h.string in
+      omega (arith, string.0, behind-ahead key.end 58 h.colon h.behind, h.blanks.ordered)
+
+  module _ (room : ℕ) where
+    -- the values of these parts stand one behind another, from i to before e
+    abbrev pub InOrder : {P : Type 0} → (P → Node) → ℕ → List P → ℕ → Type 0
+    InOrder value i [] e = i < e
+    InOrder value i (p ∷ ps) e =
+        (i ≤ begin (value p)) × Spells names t (value p) × (nesting (value p) < room)
+        × InOrder value (end (value p)) ps e
+
+    abbrev ItemsOrder : ℕ → Nodes → ℕ → Type 0
+    ItemsOrder i ns e = InOrder (λ n. n) i (nodes_list ns) e
+
+    abbrev MembersOrder : ℕ → NodeMembers → ℕ → Type 0
+    MembersOrder i ms e = InOrder (λ m. m.1) i (members_list ms) e
+
+    more_items-order : (ns : Nodes) (i e : ℕ) → SpellsMoreItems names t i ns e → nesting_of ns < room
+        → ItemsOrder i ns e
+    more_items-order no_nodes i e h d = behind-ahead i 93 e h
+    more_items-order (node n ns) i e h d =
+        let before = behind-ahead i 44 h.0 h.1 in
+        (omega (arith, h.2.ordered), h.3, omega arith, more_items-order ns (end n) e h.4 (omega arith))
+
+    pub items-order : (ns : Nodes) (i e : ℕ) → SpellsItems names t i ns e → nesting_round ns ≤ room → ItemsOrder i ns e
+    items-order no_nodes i e h d = behind-ahead i 93 e h
+    items-order (node n ns) i e h d = (h.0.ordered, h.1, omega arith, more_items-order ns (end n) e h.2 (omega arith))
+
+    more_members-order : (ms : NodeMembers) (i e : ℕ) → SpellsMoreMembers names t i ms e → nesting_of_members ms < room
+        → MembersOrder i ms e
+    more_members-order no_members i e h d = behind-ahead i 125 e h
+    more_members-order (member key n ms) i e h d =
+        let before = behind-ahead i 44 h.0 h.1 in
+        let value = key-ahead key (begin n) h.3 in
+        (omega (arith, h.2.ordered), h.4, omega arith, more_members-order ms (end n) e h.5 (omega arith))
+
+    pub members-order : (ms : NodeMembers) (i e : ℕ) → SpellsMembers names t i ms e → nesting_round_members ms ≤ room
+        → MembersOrder i ms e
+    members-order no_members i e h d = behind-ahead i 125 e h
+    members-order (member key n ms) i e h d =
+        let value = key-ahead key (begin n) h.1 in
+        (omega (arith, h.0.ordered), h.2, omega arith, more_members-order ms (end n) e h.3 (omega arith))
+
+    abbrev Ahead : Type 0
+    Ahead = (n : Node) → Spells names t n → nesting n < room → begin n < end n
+
+    order-after : Ahead → {P : Type 0} (value : P → Node) (ps : List P) (i e : ℕ) → InOrder value i ps e → i < e
+    order-after all value [] i e h = h
+    order-after all value (p ∷ ps) i e h =
+        let here = all (value p) h.1 h.2 in
+        let rest = order-after all value ps (end (value p)) e h.3 in
+        omega (arith, h.0)
+
+  number-ahead : (b e : ℕ) → SpellsNumber names t b e → (b ≡ e) ⊎ (b ≢ e) → b < e
+  number-ahead b e h (inl same) =
+      absurd (laws.number-not_empty (subst (IsNumberText names) (slice-empty t b e (sym same)) h.text))
+  number-ahead b e h (inr apart) = omega (arith, h.ordered)
+
+  word-ahead : (l : Literal) (b e : ℕ) → Stands t b e (word_of l) → b < e
+  word-ahead literal.Null b e h = let after = stands-length t b e (word_of literal.Null) h in omega arith
+  word-ahead literal.True b e h = let after = stands-length t b e (word_of literal.True) h in omega arith
+  word-ahead literal.False b e h = let after = stands-length t b e (word_of literal.False) h in omega arith
+
+  ahead : (room : ℕ) → Ahead room
+  ahead zero n h d = absurd (omega arith)
+  ahead (suc room) (grammar.literal l b e) h d = word-ahead l b e h
+  ahead (suc room) (grammar.number b e) h d = number-ahead b e h (cases_eq b e)
+  ahead (suc room) (grammar.string ps b e) h d = (laws.string-ordered b e ps h).0
+  ahead (suc room) (grammar.array b e ns) h d =
+      let order = items-order room ns (b + 1) e h.1 (omega arith) in
+      omega (arith, order-after room (ahead room) (λ n. n) (nodes_list ns) (b + 1) e order)
+  ahead (suc room) (grammar.object b e ms) h d =
+      let order = members-order room ms (b + 1) e h.1 (omega arith) in
+      omega (arith, order-after room (ahead room) (λ m. m.1) (members_list ms) (b + 1) e order)
+
+  pub node-ahead : (n : Node) → Spells names t n → begin n < end n
+  node-ahead n h = ahead (suc (nesting n)) n h (omega arith)
+
+  pub order-ahead : (room : ℕ) {P : Type 0} (value : P → Node) (ps : List P) (i e : ℕ) → InOrder room value i ps e
+      → i < e
+  order-ahead room value ps i e h = order-after room (λ n spelled d. node-ahead n spelled) value ps i e h
