@@ -1,5 +1,5 @@
 -- Two texts that agree up to a place: runs, ranges and blanks that end no later are the same in both.
-use Rattle.std.proofs.Common.{◌≡◌, ◌≢◌, ◌⊎◌, inl, inr, ℕ, ◌+◌, ◌-◌, ◌<◌, ◌≤◌, Bool, false, List, [], ◌∷◌, length, sym, ap, ◌∙◌, subst, arith}
+use Rattle.std.proofs.Common.{◌≡◌, ◌≢◌, ◌⊎◌, inl, inr, ℕ, ◌+◌, ◌-◌, ◌<◌, ◌≤◌, Bool, true, false, cond, List, [], ◌∷◌, length, sym, ap, ◌∙◌, subst, arith}
 use Rattle.std.specs.Prelude.{slice_get, slice_index, slice_range, Some}
 use Rattle.std.proofs.lemmas.Bool.{cases_lt, true≢false}
 use Rattle.std.proofs.lemmas.Option.{slice_get_within, slice_get-get_or, get_or_from_slice_get}
@@ -19,6 +19,12 @@ AgreeTo t u m = (j c : ℕ) → j ≤ m → slice_get t j ≡ Some c → slice_g
 -- a fault of a byte at its index, or before it: the input goes on, and its UTF-8 is not in question
 abbrev pub IsOfByte : Kind → Type 0
 IsOfByte k = (is_end_kind k ≡ false) × (k ≢ invalid_code_point)
+
+-- what holds of both arms of two choices by one test
+pub both : {A : Type 0} (R : A → A → Type 0) (b : Bool) (x y x' y' : A) → R x x' → R y y'
+    → R (cond b x y) (cond b x' y')
+both R true x y x' y' p q = p
+both R false x y x' y' p q = q
 
 module _ (t u : List ℕ) (m : ℕ) (same : AgreeTo t u m) where
   pub here-too : (i : ℕ) → i ≤ m → i < length t → slice_get u i ≡ Some (slice_index t i)

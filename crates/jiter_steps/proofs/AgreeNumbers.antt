@@ -16,7 +16,7 @@ use Rattle.jiter_scan.proofs.NumberLaws.{number_at-within}
 use Rattle.jiter_scan.proofs.Runs.{run_end-ahead}
 use Rattle.jiter_scan.proofs.Scanning.{ScalarWithin}
 use Rattle.jiter_scan.proofs.Standing.{get-none}
-use Rattle.jiter_steps.proofs.Agree.{AgreeTo, IsOfByte, range-same, run-long, run-same}
+use Rattle.jiter_steps.proofs.Agree.{AgreeTo, IsOfByte, both, range-same, run-long, run-same}
 
 -- an end at or before m, where the text goes on; or a fault of a byte there
 abbrev pub Shown : {A : Type 0} → List ℕ → ℕ → Scanned A → Type 0
@@ -38,10 +38,8 @@ module _ (t u : List ℕ) (m : ℕ) (same : AgreeTo t u m) where
   failed-here : (i : ℕ) (k : Kind) → i < length t → Same {A = Unit {0}} i (failed k i) (failed k i)
   failed-here i k lt s = (s.0, lt, refl)
 
-  either-same : (i : ℕ) (b : Bool) (x y x' y' : Extent) → Same i x x' → Same i y y'
-      → Same i (if b then x else y) (if b then x' else y')
-  either-same i true x y x' y' p q = p
-  either-same i false x y x' y' p q = q
+  abbrev SameExtent : ℕ → Extent → Extent → Type 0
+  SameExtent i x y = Same i x y
 
   -- what a byte decides
   byte-same : (f g : Option ℕ → Extent) (i : ℕ) → (length t ≤ i → Shown t m (f None) → ⊥)
@@ -69,7 +67,7 @@ module _ (t u : List ℕ) (m : ℕ) (same : AgreeTo t u m) where
   word-same (c ∷ w) i =
       byte-same (byte_then (word_at t w (i + 1)) c i) (byte_then (word_at u w (i + 1)) c i) i
       (λ past s. true≢false s.1.0)
-      (λ b lt. either-same i (b == c) _ _ _ _ (later i _ _ (word-same w (i + 1))) (failed-here i expected_ident lt))
+      (λ b lt. both (SameExtent i) (b == c) _ _ _ _ (later i _ _ (word-same w (i + 1))) (failed-here i expected_ident lt))
 
   -- digits
   run-taken : (i : ℕ) → i < length t
@@ -80,7 +78,7 @@ module _ (t u : List ℕ) (m : ℕ) (same : AgreeTo t u m) where
       (omega (arith, s.0), lt, ap (taken tt) run)
 
   digit-same : (i c : ℕ) → i < length t → Same i (digits_from t i (Some c)) (digits_from u i (Some c))
-  digit-same i c lt = either-same i (is_digit c) _ _ _ _ (run-taken i lt) (failed-here i invalid_number lt)
+  digit-same i c lt = both (SameExtent i) (is_digit c) _ _ _ _ (run-taken i lt) (failed-here i invalid_number lt)
 
   digits-same : (i : ℕ) → Same i (digits_from t i (slice_get t i)) (digits_from u i (slice_get u i))
   digits-same i = byte-same (digits_from t i) (digits_from u i) i (λ past s. true≢false s.1.0) (digit-same i)
@@ -88,7 +86,7 @@ module _ (t u : List ℕ) (m : ℕ) (same : AgreeTo t u m) where
   zero-same : (i : ℕ) → Same i (behind_zero i (slice_get t i)) (behind_zero i (slice_get u i))
   zero-same i =
       byte-same (behind_zero i) (behind_zero i) i (λ past s. omega (arith, s.1))
-      (λ c lt. either-same i (is_digit c) _ _ _ _ (failed-here i invalid_number lt) (taken-here i lt))
+      (λ c lt. both (SameExtent i) (is_digit c) _ _ _ _ (failed-here i invalid_number lt) (taken-here i lt))
 
   -- the integer part, unless it is too long
   too_long : (i : ℕ) → i + digit_limit < digit_run_end t i → i + (digit_limit + 1) ≤ m → i ≤ length t
@@ -115,23 +113,23 @@ module _ (t u : List ℕ) (m : ℕ) (same : AgreeTo t u m) where
   whole-same : (i : ℕ) → Same i (whole_at t i) (whole_at u i)
   whole-same i =
       byte-same (whole_from t i) (whole_from u i) i (λ past s. true≢false s.1.0)
-      (λ c lt. either-same i (c == 48) _ _ _ _ (later i _ _ (zero-same (i + 1)))
-      (either-same i (is_digit c) _ _ _ _ (limit-same i lt) (failed-here i invalid_number lt)))
+      (λ c lt. both (SameExtent i) (c == 48) _ _ _ _ (later i _ _ (zero-same (i + 1)))
+      (both (SameExtent i) (is_digit c) _ _ _ _ (limit-same i lt) (failed-here i invalid_number lt)))
 
   fraction-same : (i : ℕ) → Same i (fraction_at t i) (fraction_at u i)
   fraction-same i =
       byte-same (fraction_from t i) (fraction_from u i) i (λ past s. omega (arith, s.1))
-      (λ c lt. either-same i (c == 46) _ _ _ _ (later i _ _ (digits-same (i + 1))) (taken-here i lt))
+      (λ c lt. both (SameExtent i) (c == 46) _ _ _ _ (later i _ _ (digits-same (i + 1))) (taken-here i lt))
 
   power-same : (i : ℕ) → Same i (power_from t i (slice_get t i)) (power_from u i (slice_get u i))
   power-same i =
       byte-same (power_from t i) (power_from u i) i (λ past s. true≢false s.1.0)
-      (λ c lt. either-same i ((c == 43) || (c == 45)) _ _ _ _ (later i _ _ (digits-same (i + 1))) (digit-same i c lt))
+      (λ c lt. both (SameExtent i) ((c == 43) || (c == 45)) _ _ _ _ (later i _ _ (digits-same (i + 1))) (digit-same i c lt))
 
   exponent-same : (i : ℕ) → Same i (exponent_at t i) (exponent_at u i)
   exponent-same i =
       byte-same (exponent_from t i) (exponent_from u i) i (λ past s. omega (arith, s.1))
-      (λ c lt. either-same i ((c == 101) || (c == 69)) _ _ _ _ (later i _ _ (power-same (i + 1))) (taken-here i lt))
+      (λ c lt. both (SameExtent i) ((c == 101) || (c == 69)) _ _ _ _ (later i _ _ (power-same (i + 1))) (taken-here i lt))
 
   decimal-same : (i : ℕ) → Same i (decimal_at t i) (decimal_at u i)
   decimal-same i =
@@ -141,21 +139,21 @@ module _ (t u : List ℕ) (m : ℕ) (same : AgreeTo t u m) where
   -- signs and names
   name-same : (names : Bool) (w : List ℕ) (k : Kind) (i : ℕ) → i < length t
       → Same i (if names then word_at t w i else failed k i) (if names then word_at u w i else failed k i)
-  name-same names w k i lt = either-same i names _ _ _ _ (word-same w i) (failed-here i k lt)
+  name-same names w k i lt = both (SameExtent i) names _ _ _ _ (word-same w i) (failed-here i k lt)
 
   minus-same : (names : Bool) (i : ℕ)
       → Same i (behind_minus names t i (slice_get t i)) (behind_minus names u i (slice_get u i))
   minus-same names i =
       byte-same (behind_minus names t i) (behind_minus names u i) i (λ past s. true≢false s.1.0)
       (λ c lt.
-      either-same i (c == 73) _ _ _ _ (name-same names (codes "Infinity") invalid_number i lt) (decimal-same i))
+      both (SameExtent i) (c == 73) _ _ _ _ (name-same names (codes "Infinity") invalid_number i lt) (decimal-same i))
 
   extent-same : (names : Bool) (i : ℕ) → Same i (number_extent names t i) (number_extent names u i)
   extent-same names i =
       byte-same (extent_from names t i) (extent_from names u i) i (λ past s. true≢false s.1.0)
-      (λ c lt. either-same i (c == 45) _ _ _ _ (later i _ _ (minus-same names (i + 1)))
-      (either-same i (c == 78) _ _ _ _ (name-same names (codes "NaN") expected_value i lt)
-      (either-same i (c == 73) _ _ _ _ (name-same names (codes "Infinity") expected_value i lt) (decimal-same i))))
+      (λ c lt. both (SameExtent i) (c == 45) _ _ _ _ (later i _ _ (minus-same names (i + 1)))
+      (both (SameExtent i) (c == 78) _ _ _ _ (name-same names (codes "NaN") expected_value i lt)
+      (both (SameExtent i) (c == 73) _ _ _ _ (name-same names (codes "Infinity") expected_value i lt) (decimal-same i))))
 
   -- the number, from its extent
   value-same : (i : ℕ) (x y : Extent) → ScalarWithin t i (with_value t i x) → Same i x y

@@ -8,7 +8,7 @@ use Rattle.jiter_scan.specs.Scanned.{taken, failed}
 use Rattle.jiter_scan.specs.Word.{Extent}
 use Rattle.jiter_steps.specs.Blank.{past_blanks}
 use Rattle.jiter_steps.specs.Step.{Step, more, closed, stuck, step, array_first, array_comma, array_step, object_first, object_comma, object_step, colon, value_first, object_colon}
-use Rattle.jiter_steps.proofs.Agree.{AgreeTo, IsOfByte, past_blanks-same}
+use Rattle.jiter_steps.proofs.Agree.{AgreeTo, IsOfByte, both, past_blanks-same}
 use Rattle.jiter_steps.proofs.AgreeNumbers.{Shown, then-same}
 use Rattle.jiter_steps.proofs.Blanks.{past_blanks-after}
 use Rattle.jiter_steps.proofs.Bounds.{either}
@@ -50,11 +50,6 @@ module _ (t u : List ℕ) (m : ℕ) (same : AgreeTo t u m) where
       → (i : ℕ) → SameStep ShownOf i (step t f i) (step u f i)
   row-same ShownOf f none some = step-same ShownOf f f none (λ j c lt s. (some j c s, refl))
 
-  either-same : {A : Type 0} (ShownOf : A → Type 0) (j : ℕ) (b : Bool) (x y x' y' : A) → SameHere ShownOf j x x'
-      → SameHere ShownOf j y y' → SameHere ShownOf j (cond b x y) (cond b x' y')
-  either-same ShownOf j true x y x' y' p q = p
-  either-same ShownOf j false x y x' y' p q = q
-
   -- behind brackets
   abbrev At : ℕ → Step → Type 0
   At j s = ShownStep m s → j ≤ m
@@ -91,8 +86,8 @@ module _ (t u : List ℕ) (m : ℕ) (same : AgreeTo t u m) where
       → ((i : ℕ) → SameStep (ShownStep m) i (step t comma i) (step u comma i))
       → (j c : ℕ) → SameHere (ShownStep m) j (at_closer t closer k comma j c) (at_closer u closer k comma j c)
   behind-same closer k comma all j c =
-      either-same (ShownStep m) j (c == closer) (closed (j + 1)) _ (closed (j + 1)) _ (λ s. (omega arith, refl))
-      (either-same (ShownStep m) j (c == 44) _ (stuck k j) _ (stuck k j)
+      both (SameHere (ShownStep m) j) (c == closer) (closed (j + 1)) _ (closed (j + 1)) _ (λ s. (omega arith, refl))
+      (both (SameHere (ShownStep m) j) (c == 44) _ (stuck k j) _ (stuck k j)
       (λ s. let r = all (j + 1) s in (omega (arith, r.0), r.2)) (λ s. (s.0, refl)))
 
   pub array_step-same : (i : ℕ) → SameStep (ShownStep m) i (step t (array_step t) i) (step u (array_step u) i)

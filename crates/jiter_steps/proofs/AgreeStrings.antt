@@ -15,7 +15,7 @@ use Rattle.jiter_steps.specs.StringReading.{unit_then, paired, second_u, second,
 use Rattle.jiter_steps.specs.StringReading.{found, found_at, Body, before, joined, body_at}
 use Rattle.jiter_steps.specs.StringReading.{whole, ended, content_at, string_at}
 use Rattle.jiter_steps.specs.Tree.{Text}
-use Rattle.jiter_steps.proofs.Agree.{AgreeTo, index-same, within-too}
+use Rattle.jiter_steps.proofs.Agree.{AgreeTo, both, index-same, within-too}
 use Rattle.jiter_steps.proofs.AgreeNumbers.{Shown}
 use Rattle.jiter_steps.proofs.Bodies.{part-ahead, body_at-is, body_at-found, found-end}
 use Rattle.jiter_steps.proofs.PlacesExplained.{Explains, explained}
@@ -57,11 +57,6 @@ module _ (m : ℕ) where
   earlier : (i j : ℕ) (f g : Found) → i ≤ j → Same m j f g → Same m i f g
   earlier i j f g le h s = let r = h s in (omega (arith, r.0), r.1)
 
-  either-same : (i : ℕ) (b : Bool) (x y x' y' : Found) → Same m i x x' → Same m i y y'
-      → Same m i (if b then x else y) (if b then x' else y')
-  either-same i true x y x' y' p q = p
-  either-same i false x y x' y' p q = q
-
   -- finds that end at j, and faults at or behind j - 1
   part-still : (bytes : List ℕ) (owned : Bool) (j : ℕ) → Same m j (part bytes owned j) (part bytes owned j)
   part-still bytes owned j = still j (part bytes owned j) (λ s. omega arith)
@@ -72,12 +67,12 @@ module _ (m : ℕ) where
   -- rows that do not ask the text
   paired-same : (high j low : ℕ) → Same m j (paired high j low) (paired high j low)
   paired-same high j low =
-      either-same j (is_low low) _ _ _ _ (part-still (encode_utf8 (pair_of high low)) true j)
+      both (Same m j) (is_low low) _ _ _ _ (part-still (encode_utf8 (pair_of high low)) true j)
       (wrong-still lone_surrogate (j - 1) j (omega arith))
 
   single-same : (j u : ℕ) → Same m j (single j u) (single j u)
   single-same j u =
-      either-same j (is_low u) _ _ _ _ (wrong-still lone_surrogate (j - 1) j (omega arith))
+      both (Same m j) (is_low u) _ _ _ _ (wrong-still lone_surrogate (j - 1) j (omega arith))
       (part-still (encode_utf8 u) true j)
 
   short-same : (i : ℕ) (o : Option ℕ) → Same m (i + 1) (short i o) (short i o)
@@ -86,7 +81,7 @@ module _ (m : ℕ) where
 
   plain-same : (i b : ℕ) → Same m (i + 1) (plain i b) (plain i b)
   plain-same i b =
-      either-same (i + 1) (nat_lt b 32) _ _ _ _ (wrong-still control_character i (i + 1) (omega arith))
+      both (Same m (i + 1)) (nat_lt b 32) _ _ _ _ (wrong-still control_character i (i + 1) (omega arith))
       (part-still (b ∷ []) false (i + 1))
 
 module _ (t u : List ℕ) (m : ℕ) (same : AgreeTo t u m) where
@@ -171,25 +166,25 @@ module _ (t u : List ℕ) (m : ℕ) (same : AgreeTo t u m) where
   second_u-same : (high i : ℕ) → Same m (i + 1) (second_u t high i (slice_get t i)) (second_u u high i (slice_get u i))
   second_u-same high i =
       byte-same (second_u t high i) (second_u u high i) i (λ s. s)
-      (λ c. either-same m (i + 1) (c == 117) _ _ _ _
+      (λ c. both (Same m (i + 1)) (c == 117) _ _ _ _
       (unit-same (i + 1) (paired high) (paired high) (paired-same m high (i + 1 + 4)))
       (wrong-still m end_of_hex_escape i (i + 1) (omega arith)))
 
   second-same : (high i : ℕ) → Same m (i + 1) (second t high i (slice_get t i)) (second u high i (slice_get u i))
   second-same high i =
       byte-same (second t high i) (second u high i) i (λ s. s)
-      (λ c. either-same m (i + 1) (c == 92) _ _ _ _
+      (λ c. both (Same m (i + 1)) (c == 92) _ _ _ _
       (earlier m (i + 1) (i + 1 + 1) _ _ (omega arith) (second_u-same high (i + 1)))
       (wrong-still m end_of_hex_escape i (i + 1) (omega arith)))
 
   numbered-same : (j x : ℕ) → Same m j (numbered t j x) (numbered u j x)
   numbered-same j x =
-      either-same m j (is_high x) _ _ _ _ (earlier m j (j + 1) _ _ (omega arith) (second-same x j)) (single-same m j x)
+      both (Same m j) (is_high x) _ _ _ _ (earlier m j (j + 1) _ _ (omega arith) (second-same x j)) (single-same m j x)
 
   escaped-same : (i : ℕ) → Same m (i + 1) (escaped t i (slice_get t i)) (escaped u i (slice_get u i))
   escaped-same i =
       byte-same (escaped t i) (escaped u i) i (λ s. s)
-      (λ c. either-same m (i + 1) (c == 117) _ _ _ _
+      (λ c. both (Same m (i + 1)) (c == 117) _ _ _ _
       (unit-same (i + 1) (numbered t) (numbered u) (numbered-same (i + 1 + 4)))
       (short-same m i (short_escape c)))
 
@@ -197,8 +192,8 @@ module _ (t u : List ℕ) (m : ℕ) (same : AgreeTo t u m) where
   unfolding found_at
   found-same i =
       byte-same (found t i) (found u i) i (λ s. s)
-      (λ c. either-same m (i + 1) (c == 34) _ _ _ _ (still m (i + 1) (over (closed (i + 1))) (λ s. omega arith))
-      (either-same m (i + 1) (c == 92) _ _ _ _
+      (λ c. both (Same m (i + 1)) (c == 34) _ _ _ _ (still m (i + 1) (over (closed (i + 1))) (λ s. omega arith))
+      (both (Same m (i + 1)) (c == 92) _ _ _ _
       (earlier m (i + 1) (i + 1 + 1) _ _ (omega arith) (escaped-same (i + 1))) (plain-same m i c)))
 
   -- bodies
