@@ -1,3 +1,4 @@
+pub mod Agree
 pub mod Answered
 pub mod Blanks
 pub mod Bodies

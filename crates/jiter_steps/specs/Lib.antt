@@ -10,3 +10,4 @@ pub mod Node
 pub mod Cut
 pub mod Answer
 pub mod Extends
+pub mod FirstFault
