@@ -27,6 +27,7 @@ pub mod Prefixes
 pub mod ReadFront
 pub mod RowSteps
 mod Rows
+pub mod SameFront
 pub mod ScalarLaws
 pub mod Sound
 pub mod SpelledParts
