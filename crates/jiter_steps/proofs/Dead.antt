@@ -13,10 +13,10 @@ use Rattle.jiter_steps.specs.Node.{Node, IsDocument}
 use Rattle.jiter_steps.specs.Read.{fault}
 use Rattle.jiter_steps.specs.StringReading.{whole, string_at}
 use Rattle.jiter_steps.specs.declared.parse.Literal.{Literal}
-use Rattle.jiter_steps.proofs.Agree.{AgreeTo}
-use Rattle.jiter_steps.proofs.AgreeNumbers.{word-same, number-same}
-use Rattle.jiter_steps.proofs.AgreeReadings.{IsFault, KeepsScalars, ShownFault, whole_answer-stays}
-use Rattle.jiter_steps.proofs.AgreeStrings.{IsRefused, SameOrFault, SameScalar, string-same}
+use Rattle.jiter_steps.proofs.SameFront.{SameBefore}
+use Rattle.jiter_steps.proofs.SameNumbers.{word-same, number-same}
+use Rattle.jiter_steps.proofs.SameReadings.{IsFault, KeepsScalars, ShownFault, whole_answer-stays}
+use Rattle.jiter_steps.proofs.SameStrings.{IsRefused, SameOrFault, SameScalar, string-same}
 use Rattle.jiter_steps.proofs.Documents.{answer-of}
 use Rattle.jiter_steps.proofs.Instances.{trees-advances}
 
@@ -29,7 +29,7 @@ same-or-fault : {A : Type 0} (x y : Scanned A) → y ≡ x → SameOrFault x y
 same-or-fault (taken a e) y h = h
 same-or-fault (failed k j) y h = subst IsRefused (sym h) tt
 
-module _ (t u : List ℕ) (m : ℕ) (same : AgreeTo t u m) where
+module _ (t u : List ℕ) (m : ℕ) (same : SameBefore t u m) where
   seen-same : {A B : Type 0} (f : A → ℕ → B) (i : ℕ) (x y : Scanned A) → SameScalar t m i x y
       → SameScalar t m i (seen_as f x) (seen_as f y)
   seen-same f i (taken a e) y h = λ shown. let at = h shown in (at.0, ap (seen_as f) at.1)
@@ -54,22 +54,21 @@ module _ (t u : List ℕ) (m : ℕ) (same : AgreeTo t u m) where
       key = λ i lt. string-same t u m same i;
     }
 
--- A fault of a byte at or before m is a fault of the other text.
-answer-stays : (names : Bool) (t u : List ℕ) (m : ℕ) → AgreeTo t u m → ShownFault m (answer names t)
+-- A fault of a byte before m is a fault of the other text.
+answer-stays : (names : Bool) (t u : List ℕ) (m : ℕ) → SameBefore t u m → ShownFault m (answer names t)
     → IsFault (answer names u)
 answer-stays names t u m same =
     whole_answer-stays t u m same (whole_trees names) (λ k. refl) (trees-advances t nothing_forgiven whole names)
     (trees-advances u nothing_forgiven whole names) (trees-keep t u m same names)
 
--- a text agrees with its front and whatever follows it
-front-agrees : (t : List ℕ) (i : ℕ) (rest : List ℕ) → AgreeTo t (take (i + 1) t ++ rest) i
-front-agrees t i rest j c le e =
+-- a front of a text, with whatever follows it
+front-same : (t : List ℕ) (k : ℕ) (rest : List ℕ) → SameBefore t (take k t ++ rest) k
+front-same t k rest j c le e =
     let lt = slice_get_within t j c e in
-    let front = take (i + 1) t in
-    let short : j < length front = omega (arith, length-take (i + 1) t) in
+    let front = take k t in
+    let short : j < length front = omega (arith, length-take k t) in
     slice_get-get_or (front ++ rest) j 0 (omega (arith, length-append front rest))
-    ∙ ap Some (get_or_append_left front rest 0 j short)
-    ∙ ap Some (get_or-take (i + 1) t j 0 (omega arith) ∙ get_or_from_slice_get t j c 0 e)
+    ∙ ap Some (get_or_append_left front rest 0 j short ∙ get_or-take k t j 0 le ∙ get_or_from_slice_get t j c 0 e)
 
 no-document : (names : Bool) (u : List ℕ) (n : Node) → IsFault (answer names u) → IsDocument names u n → ⊥
 no-document names u n h d = subst IsFault (answer-of names u n d) h
@@ -80,5 +79,5 @@ pub dead : (names : Bool) (t : List ℕ) (k : Kind) (i stop : ℕ) → answer na
     → is_end_kind k ≡ false → k ≢ invalid_code_point → BeginsNoDocument names (take (i + 1) t)
 dead names t k i stop is byte utf8 rest n d =
     let u = take (i + 1) t ++ rest in
-    let shown = subst (ShownFault i) (sym is) (omega arith, (byte, utf8)) in
-    no-document names u n (answer-stays names t u i (front-agrees t i rest) shown) d
+    let shown = subst (ShownFault (i + 1)) (sym is) (omega arith, (byte, utf8)) in
+    no-document names u n (answer-stays names t u (i + 1) (front-same t (i + 1) rest) shown) d

@@ -1,8 +1,3 @@
-pub mod Agree
-pub mod AgreeNumbers
-pub mod AgreeReadings
-pub mod AgreeSteps
-pub mod AgreeStrings
 pub mod Answered
 pub mod Blanks
 pub mod Bodies
@@ -28,6 +23,11 @@ pub mod ReadFront
 pub mod RowSteps
 mod Rows
 pub mod SameFront
+pub mod SameNumbers
+pub mod SameReadings
+pub mod SameRuns
+pub mod SameSteps
+pub mod SameStrings
 pub mod ScalarLaws
 pub mod Sound
 pub mod SpelledParts

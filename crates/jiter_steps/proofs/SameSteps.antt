@@ -1,5 +1,5 @@
--- The steps of containers in two texts that agree up to a place.
-use Rattle.std.proofs.Common.{◌≡◌, ℕ, ◌+◌, ◌<◌, ◌≤◌, ◌==◌, Bool, true, false, cond, List, length, refl, ap, ◌∙◌, arith}
+-- The steps of containers in two texts with the same bytes before a place.
+use Rattle.std.proofs.Common.{◌≡◌, ℕ, ◌+◌, ◌<◌, ◌==◌, cond, List, length, refl, ap, ◌∙◌, arith}
 use Rattle.std.specs.Prelude.{slice_get, Option, Some, None}
 use Rattle.std.proofs.lemmas.Bool.{true≢false}
 use Rattle.std.proofs.lemmas.Option.{slice_get_within}
@@ -8,25 +8,26 @@ use Rattle.jiter_scan.specs.Scanned.{taken, failed}
 use Rattle.jiter_scan.specs.Word.{Extent}
 use Rattle.jiter_steps.specs.Blank.{past_blanks}
 use Rattle.jiter_steps.specs.Step.{Step, more, closed, stuck, step, array_first, array_comma, array_step, object_first, object_comma, object_step, colon, value_first, object_colon}
-use Rattle.jiter_steps.proofs.Agree.{AgreeTo, IsOfByte, both, past_blanks-same}
-use Rattle.jiter_steps.proofs.AgreeNumbers.{Shown, then-same}
+use Rattle.jiter_steps.proofs.SameFront.{SameBefore}
+use Rattle.jiter_steps.proofs.SameRuns.{IsOfByte, both, past_blanks-same}
+use Rattle.jiter_steps.proofs.SameNumbers.{Shown, then-same}
 use Rattle.jiter_steps.proofs.Blanks.{past_blanks-after}
 use Rattle.jiter_steps.proofs.Bounds.{either}
 
--- a place at or before m, or a fault of a byte there
+-- a place before m, or a fault of a byte there
 abbrev pub ShownStep : ℕ → Step → Type 0
-ShownStep m (more j) = j ≤ m
-ShownStep m (closed e) = e ≤ m
-ShownStep m (stuck k j) = (j ≤ m) × IsOfByte k
+ShownStep m (more j) = j < m
+ShownStep m (closed e) = e < m
+ShownStep m (stuck k j) = (j < m) × IsOfByte k
 
-module _ (t u : List ℕ) (m : ℕ) (same : AgreeTo t u m) where
+module _ (t u : List ℕ) (m : ℕ) (same : SameBefore t u m) where
   -- what is shown of a step from i is what it is in the other text
   abbrev pub SameStep : {A : Type 0} → (A → Type 0) → ℕ → A → A → Type 0
-  SameStep ShownOf i x y = ShownOf x → (i ≤ m) × (i < length t) × (y ≡ x)
+  SameStep ShownOf i x y = ShownOf x → (i < m) × (i < length t) × (y ≡ x)
 
   -- so at the byte behind the blanks
   abbrev SameHere : {A : Type 0} → (A → Type 0) → ℕ → A → A → Type 0
-  SameHere ShownOf j x y = ShownOf x → (j ≤ m) × (y ≡ x)
+  SameHere ShownOf j x y = ShownOf x → (j < m) × (y ≡ x)
 
   step-same : {A : Type 0} (ShownOf : A → Type 0) (f g : ℕ → Option ℕ → A) → ((j : ℕ) → ShownOf (f j None) → ⊥)
       → ((j c : ℕ) → j < length t → SameHere ShownOf j (f j (Some c)) (g j (Some c)))
@@ -46,13 +47,13 @@ module _ (t u : List ℕ) (m : ℕ) (same : AgreeTo t u m) where
 
   -- a row that does not ask the text
   row-same : {A : Type 0} (ShownOf : A → Type 0) (f : ℕ → Option ℕ → A) → ((j : ℕ) → ShownOf (f j None) → ⊥)
-      → ((j c : ℕ) → ShownOf (f j (Some c)) → j ≤ m)
+      → ((j c : ℕ) → ShownOf (f j (Some c)) → j < m)
       → (i : ℕ) → SameStep ShownOf i (step t f i) (step u f i)
   row-same ShownOf f none some = step-same ShownOf f f none (λ j c lt s. (some j c s, refl))
 
   -- behind brackets
   abbrev At : ℕ → Step → Type 0
-  At j s = ShownStep m s → j ≤ m
+  At j s = ShownStep m s → j < m
 
   pub array_first-same : (i : ℕ) → SameStep (ShownStep m) i (step t array_first i) (step u array_first i)
   array_first-same =
@@ -106,9 +107,9 @@ module _ (t u : List ℕ) (m : ℕ) (same : AgreeTo t u m) where
       row-same (Shown t m) colon (λ j s. true≢false s.1.0)
       (λ j c. either (Here j) (c == 58) (taken tt (j + 1)) (failed expected_colon j) (behind j) (λ s. s.0)) where
         Here : ℕ → Extent → Type 0
-        Here j x = Shown t m x → j ≤ m
+        Here j x = Shown t m x → j < m
 
-        behind : (j : ℕ) → (j + 1 ≤ m) × (j + 1 < length t) → j ≤ m
+        behind : (j : ℕ) → (j + 1 < m) × (j + 1 < length t) → j < m
         behind j s = omega (arith, s.0)
 
   value_first-same : (i : ℕ) → SameStep (Shown t m) i (step t value_first i) (step u value_first i)

@@ -1,5 +1,5 @@
--- Values in two texts that agree up to a place: what one reading shows of the bytes up to there, the other meets too.
-use Rattle.std.proofs.Common.{◌≡◌, ℕ, zero, suc, ◌+◌, ◌<◌, ◌≤◌, false, cond, List, [], ◌∷◌, ◌++◌, length, refl, sym, ap, ◌∙◌, subst, arith}
+-- Values in two texts with the same bytes before a place: what one reading shows of the bytes up to there, the other meets too.
+use Rattle.std.proofs.Common.{◌≡◌, ℕ, zero, suc, ◌+◌, ◌<◌, false, cond, List, [], ◌∷◌, ◌++◌, length, refl, sym, ap, ◌∙◌, subst, arith}
 use Rattle.std.specs.Prelude.{slice_get, slice_index, Option, Some, None}
 use Rattle.std.proofs.lemmas.Bool.{true≢false}
 use Rattle.std.proofs.lemmas.Option.{slice_get_within}
@@ -15,23 +15,24 @@ use Rattle.jiter_steps.specs.Read.{Reading, done, fault, Rules, Container, scala
 use Rattle.jiter_steps.specs.declared.parse.Literal.{Literal}
 use Rattle.jiter_steps.specs.declared.parse.Start.{Start}
 use Rattle.jiter_steps.specs.declared.parse.Start.TheVariants as start
-use Rattle.jiter_steps.proofs.Agree.{AgreeTo, IsOfByte, index-same, within-too, past_blanks-same}
-use Rattle.jiter_steps.proofs.AgreeNumbers.{Shown}
-use Rattle.jiter_steps.proofs.AgreeSteps.{ShownStep, SameStep, array_first-same, array_step-same, object_first-same, object_step-same, object_colon-same}
-use Rattle.jiter_steps.proofs.AgreeStrings.{IsRefused, SameScalar}
+use Rattle.jiter_steps.proofs.SameFront.{SameBefore, index-same}
+use Rattle.jiter_steps.proofs.SameRuns.{IsOfByte, within-too, past_blanks-same}
+use Rattle.jiter_steps.proofs.SameNumbers.{Shown}
+use Rattle.jiter_steps.proofs.SameSteps.{ShownStep, SameStep, array_first-same, array_step-same, object_first-same, object_step-same, object_colon-same}
+use Rattle.jiter_steps.proofs.SameStrings.{IsRefused, SameScalar}
 use Rattle.jiter_steps.proofs.Blanks.{past_blanks-after}
 use Rattle.jiter_steps.proofs.Bounds.{Ahead, ExtentAhead, Within, object_colon-ahead}
 use Rattle.jiter_steps.proofs.Values.{Advances, AllWithin, Goes, parts-fault, parts-part, array_of-goes, object_of-goes, inside_at-within}
 
--- an end at or before m, where the text goes on; or a fault of a byte there
+-- an end before m, where the text goes on; or a fault of a byte there
 abbrev pub ShownReading : {A : Type 0} → List ℕ → ℕ → Reading A → Type 0
-ShownReading t m (done a e) = (e ≤ m) × (e < length t)
-ShownReading t m (fault k j stop) = (j ≤ m) × IsOfByte k
+ShownReading t m (done a e) = (e < m) × (e < length t)
+ShownReading t m (fault k j stop) = (j < m) × IsOfByte k
 
--- a fault of a byte at or before m
+-- a fault of a byte before m
 abbrev pub ShownFault : {A : Type 0} → ℕ → Reading A → Type 0
 ShownFault m (done a e) = ⊥
-ShownFault m (fault k j stop) = (j ≤ m) × IsOfByte k
+ShownFault m (fault k j stop) = (j < m) × IsOfByte k
 
 abbrev pub IsFault : {A : Type 0} → Reading A → Type 0
 IsFault (done a e) = ⊥
@@ -49,14 +50,14 @@ pub record KeepsScalars {K A : Type 0} (r : Rules K A) (t u : List ℕ) (m : ℕ
   pub text : (i : ℕ) → i < length t → SameScalar t m i (r.text t i) (r.text u i)
   pub key : (i : ℕ) → i < length t → SameScalar t m i (r.key t i) (r.key u i)
 
-module _ (t u : List ℕ) (m : ℕ) (same : AgreeTo t u m) where
+module _ (t u : List ℕ) (m : ℕ) (same : SameBefore t u m) where
   -- what is shown of the reading x, which begins at i, the reading y of the other text meets
   abbrev pub Stays : {A : Type 0} → ℕ → Reading A → Reading A → Type 0
-  Stays i x y = ShownReading t m x → (i ≤ m) × Meets x y
+  Stays i x y = ShownReading t m x → (i < m) × Meets x y
 
   -- so where x goes on from i, and a byte stands there
   abbrev StaysAhead : {A : Type 0} → ℕ → Reading A → Reading A → Type 0
-  StaysAhead i x y = ShownReading t m x → (i ≤ m) × (i < length t) × Meets x y
+  StaysAhead i x y = ShownReading t m x → (i < m) × (i < length t) × Meets x y
 
   -- the steps and the parts of two containers, one of each text
   pub record Keeps {P A : Type 0} (c d : Container P A) : Type 0 where
@@ -70,7 +71,7 @@ module _ (t u : List ℕ) (m : ℕ) (same : AgreeTo t u m) where
     unforgiven close k i stop = ap (λ b. cond b (done (close stop) stop) (fault k i stop)) (strict k)
 
     follow-stays : (i : ℕ) (f g : ℕ → Reading A) (close shut : ℕ → A) (s z : Step) → ((e : ℕ) → shut e ≡ close e)
-        → Ahead t i s → (ShownStep m s → (i ≤ m) × (i < length t) × (z ≡ s))
+        → Ahead t i s → (ShownStep m s → (i < m) × (i < length t) × (z ≡ s))
         → ((j : ℕ) → j < length t → Stays j (f j) (g j)) → StaysAhead i (follow r f close s) (follow r g shut z)
     follow-stays i f g close shut (more j) z built ahead here all = λ shown.
         let rest = all j ahead.1 shown in
@@ -100,7 +101,7 @@ module _ (t u : List ℕ) (m : ℕ) (same : AgreeTo t u m) where
       -- behind these parts
       next-stays : (go : List P → ℕ → Reading A) (parts : List P) (i : ℕ) (s z : Step)
           → ((j : ℕ) → j < length t → Stays j (go parts j) (PartsToo parts j)) → Ahead t i s
-          → (ShownStep m s → (i ≤ m) × (i < length t) × (z ≡ s))
+          → (ShownStep m s → (i < m) × (i < length t) × (z ≡ s))
           → StaysAhead i (follow r (go parts) (λ e. c.build e parts) s)
           (follow r (PartsToo parts) (λ e. d.build e parts) z)
       next-stays go parts i s z all ahead here =
@@ -164,7 +165,7 @@ module _ (t u : List ℕ) (m : ℕ) (same : AgreeTo t u m) where
 
     module _ (inner inner_too : ℕ → Reading A) (all : (i : ℕ) → i < length t → Stays i (inner i) (inner_too i)) where
       colon-stays : (key : K) (e : ℕ) (x y : Extent) → ExtentAhead t e 0 x
-          → (Shown t m x → (e ≤ m) × (e < length t) × (y ≡ x))
+          → (Shown t m x → (e < m) × (e < length t) × (y ≡ x))
           → StaysAhead e (behind_colon key inner x) (behind_colon key inner_too y)
       colon-stays key e (taken w j) y ahead here = λ shown.
           let lt : j < length t = omega (arith, ahead.1) in
@@ -279,7 +280,7 @@ module _ (t u : List ℕ) (m : ℕ) (same : AgreeTo t u m) where
       to_end-fault (done a e) h = absurd h
       to_end-fault (fault k j stop) h = tt
 
-      trailing-fault : (a : A) (e : ℕ) (y : Reading A) → ((e ≤ m) × (e < length t) → y ≡ done a e)
+      trailing-fault : (a : A) (e : ℕ) (y : Reading A) → ((e < m) × (e < length t) → y ≡ done a e)
           → (j : ℕ) (o : Option ℕ) → past_blanks t e ≡ j → slice_get t j ≡ o → ShownFault m (if_last a e j o)
           → IsFault (to_end u y)
       trailing-fault a e y all j None at here shown = absurd shown
@@ -297,7 +298,7 @@ module _ (t u : List ℕ) (m : ℕ) (same : AgreeTo t u m) where
           trailing-fault a e y all (past_blanks t e) (slice_get t (past_blanks t e)) refl refl
       end-stays (fault k j stop) y all = λ shown. to_end-fault y (all shown)
 
-      -- A fault of a byte at or before m is a fault in the other text.
+      -- A fault of a byte before m is a fault in the other text.
       pub whole_answer-stays : ShownFault m (whole_answer r t) → IsFault (whole_answer r u)
       unfolding whole_answer front_answer
       whole_answer-stays =

@@ -1,4 +1,4 @@
--- Strings in two texts that agree up to a place.
+-- Strings in two texts with the same bytes before a place.
 use Rattle.std.proofs.Common.{◌≡◌, ◌⊎◌, inl, inr, ℕ, zero, suc, ◌+◌, ◌-◌, ◌<◌, ◌≤◌, Bool, true, false, List, [], ◌∷◌, length, refl, sym, ap, ◌∙◌, subst, arith}
 use Rattle.std.specs.Prelude.{slice_get, slice_index, Option, Some, None, ◌==◌, if◌then◌else◌, nat_lt}
 use Rattle.std.specs.Char.{encode_utf8}
@@ -15,20 +15,21 @@ use Rattle.jiter_steps.specs.StringReading.{unit_then, paired, second_u, second,
 use Rattle.jiter_steps.specs.StringReading.{found, found_at, Body, before, joined, body_at}
 use Rattle.jiter_steps.specs.StringReading.{whole, ended, content_at, string_at}
 use Rattle.jiter_steps.specs.Tree.{Text}
-use Rattle.jiter_steps.proofs.Agree.{AgreeTo, both, index-same, within-too}
-use Rattle.jiter_steps.proofs.AgreeNumbers.{Shown}
+use Rattle.jiter_steps.proofs.SameFront.{SameBefore, index-same}
+use Rattle.jiter_steps.proofs.SameRuns.{both, within-too}
+use Rattle.jiter_steps.proofs.SameNumbers.{Shown}
 use Rattle.jiter_steps.proofs.Bodies.{part-ahead, body_at-is, body_at-found, found-end}
 use Rattle.jiter_steps.proofs.PlacesExplained.{Explains, explained}
 
--- a part or a quote that ends at or before m, or a fault of a place there
+-- a part or a quote that ends before m, or a fault of a place there
 abbrev ShownStop : ℕ → Stop → Type 0
-ShownStop m (closed e) = e ≤ m
+ShownStop m (closed e) = e < m
 ShownStop m unclosed = ⊥
 ShownStop m cut = ⊥
-ShownStop m (wrong k j) = j ≤ m
+ShownStop m (wrong k j) = j < m
 
 abbrev ShownFound : ℕ → Found → Type 0
-ShownFound m (part bytes owned e) = e ≤ m
+ShownFound m (part bytes owned e) = e < m
 ShownFound m (over s) = ShownStop m s
 
 abbrev IsWrong : Stop → Type 0
@@ -48,10 +49,10 @@ finds-itself (over s) = inl refl
 
 -- what is shown of f, which looks at each byte before i, is what g finds
 abbrev Same : ℕ → ℕ → Found → Found → Type 0
-Same m i f g = ShownFound m f → (i ≤ m + 1) × Finds f g
+Same m i f g = ShownFound m f → (i ≤ m) × Finds f g
 
 module _ (m : ℕ) where
-  still : (i : ℕ) (f : Found) → (ShownFound m f → i ≤ m + 1) → Same m i f f
+  still : (i : ℕ) (f : Found) → (ShownFound m f → i ≤ m) → Same m i f f
   still i f h s = (h s, finds-itself f)
 
   earlier : (i j : ℕ) (f g : Found) → i ≤ j → Same m j f g → Same m i f g
@@ -84,7 +85,7 @@ module _ (m : ℕ) where
       both (Same m (i + 1)) (nat_lt b 32) _ _ _ _ (wrong-still control_character i (i + 1) (omega arith))
       (part-still (b ∷ []) false (i + 1))
 
-module _ (t u : List ℕ) (m : ℕ) (same : AgreeTo t u m) where
+module _ (t u : List ℕ) (m : ℕ) (same : SameBefore t u m) where
   -- what a byte decides
   byte-same : (f g : Option ℕ → Found) (i : ℕ) → (ShownFound m (f None) → ⊥)
       → ((c : ℕ) → Same m (i + 1) (f (Some c)) (g (Some c))) → Same m (i + 1) (f (slice_get t i)) (g (slice_get u i))
@@ -97,12 +98,12 @@ module _ (t u : List ℕ) (m : ℕ) (same : AgreeTo t u m) where
 
   -- the first byte from p on that is no hex digit
   abbrev SameBad : ℕ → Option ℕ → Option ℕ → Type 0
-  SameBad p x y = (k : ℕ) → k ≤ m → x ≡ Some k → (p ≤ k) × (y ≡ Some k)
+  SameBad p x y = (k : ℕ) → k < m → x ≡ Some k → (p ≤ k) × (y ≡ Some k)
 
   digit-same : (p q : ℕ) (x y : Option ℕ) → p ≤ q → p < length t → SameBad q x y
       → SameBad p (if is_hex (slice_index t p) then x else Some p) (if is_hex (slice_index u p) then y else Some p)
   digit-same p q x y le lt rest k lk = by (is_hex (slice_index t p)) refl where
-    there : (b : Bool) → is_hex (slice_index t p) ≡ b → p ≤ m
+    there : (b : Bool) → is_hex (slice_index t p) ≡ b → p < m
         → (if is_hex (slice_index u p) then y else Some p) ≡ (if b then y else Some p)
     there b h lp = ap (λ (c : Bool). if c then y else Some p) (ap is_hex (index-same t u m same p lp lt) ∙ h)
 
@@ -128,7 +129,7 @@ module _ (t u : List ℕ) (m : ℕ) (same : AgreeTo t u m) where
   hex-read : (i : ℕ) → i + 4 ≤ length u → hex_digits_at u i ≡ hex_digits_or (bad_digit u i) (unit_at u i)
   hex-read i le = if-false (nat_lt (length u) (i + 4)) few _ (le-ltb (length u) (i + 4) le)
 
-  good-same : (i : ℕ) → i + 4 ≤ length t → i + 4 ≤ m + 1
+  good-same : (i : ℕ) → i + 4 ≤ length t → i + 4 ≤ m
       → hex_digits_at u i ≡ hex_digits_or (bad_digit t i) (unit_at t i)
   good-same i within le =
       let there = λ (n : ℕ) (lt : n < i + 4). index-same t u m same n (omega arith) (omega arith) in
@@ -202,7 +203,7 @@ module _ (t u : List ℕ) (m : ℕ) (same : AgreeTo t u m) where
 
   -- what is shown of the body from i on, the other text's body ends like
   abbrev SameBody : ℕ → Body → Type 0
-  SameBody i b = ShownStop m b.stop → (i ≤ m) × Ends b (body_at u i)
+  SameBody i b = ShownStop m b.stop → (i < m) × Ends b (body_at u i)
 
   joined-ends : (bytes : List ℕ) (owned : Bool) (b d : Body) → Ends b d
       → Ends (before bytes owned b) (before bytes owned d)
@@ -248,9 +249,9 @@ SameOrFault (failed k j) y = IsRefused y
 
 -- so for the reading x, which begins at i, and the reading y of the other text
 abbrev pub SameScalar : {A : Type 0} → List ℕ → ℕ → ℕ → Scanned A → Scanned A → Type 0
-SameScalar t m i x y = Shown t m x → (i ≤ m) × SameOrFault x y
+SameScalar t m i x y = Shown t m x → (i < m) × SameOrFault x y
 
-module _ (t u : List ℕ) (m : ℕ) (same : AgreeTo t u m) where
+module _ (t u : List ℕ) (m : ℕ) (same : SameBefore t u m) where
   ended-cut : (i : ℕ) (b : Body) → b.stop ≡ cut → IsRefused (ended whole u i b.bytes b.owned b.stop)
   ended-cut i b e = subst (λ s. IsRefused (ended whole u i b.bytes b.owned s)) (sym e) tt
 
@@ -273,7 +274,7 @@ module _ (t u : List ℕ) (m : ℕ) (same : AgreeTo t u m) where
 
   -- what is shown of a string with this body
   body-shown : (i : ℕ) (b : Body) (s : Stop) → b.stop ≡ s
-      → (ShownStop m s → (i ≤ m) × Ends t u m same b (body_at u i))
+      → (ShownStop m s → (i < m) × Ends t u m same b (body_at u i))
       → SameScalar t m i (ended whole t i b.bytes b.owned s) (content_at whole u i)
   unfolding content_at
   body-shown i b unclosed e ends shown = absurd (true≢false shown.1.0)

@@ -1,4 +1,4 @@
--- Words and numbers in two texts that agree up to a place.
+-- Words and numbers in two texts with the same bytes before a place.
 use Rattle.std.proofs.Common.{◌≡◌, ℕ, ◌+◌, ◌<◌, ◌≤◌, Bool, true, false, ◌||◌, List, [], ◌∷◌, length, refl, ap, ◌∙◌, arith}
 use Rattle.std.specs.Prelude.{slice_get, Option, Some, None, ◌==◌, if◌then◌else◌, nat_le, codes}
 use Rattle.std.proofs.lemmas.Bool.{true≢false, leb-false}
@@ -16,17 +16,18 @@ use Rattle.jiter_scan.proofs.NumberLaws.{number_at-within}
 use Rattle.jiter_scan.proofs.Runs.{run_end-ahead}
 use Rattle.jiter_scan.proofs.Scanning.{ScalarWithin}
 use Rattle.jiter_scan.proofs.Standing.{get-none}
-use Rattle.jiter_steps.proofs.Agree.{AgreeTo, IsOfByte, both, range-same, run-long, run-same}
+use Rattle.jiter_steps.proofs.SameFront.{SameBefore, range-same}
+use Rattle.jiter_steps.proofs.SameRuns.{IsOfByte, both, run-long, run-same}
 
--- an end at or before m, where the text goes on; or a fault of a byte there
+-- an end before m, where the text goes on; or a fault of a byte there
 abbrev pub Shown : {A : Type 0} → List ℕ → ℕ → Scanned A → Type 0
-Shown t m (taken a e) = (e ≤ m) × (e < length t)
-Shown t m (failed k j) = (j ≤ m) × IsOfByte k
+Shown t m (taken a e) = (e < m) × (e < length t)
+Shown t m (failed k j) = (j < m) × IsOfByte k
 
-module _ (t u : List ℕ) (m : ℕ) (same : AgreeTo t u m) where
+module _ (t u : List ℕ) (m : ℕ) (same : SameBefore t u m) where
   -- What is shown of the reading x, which begins at i, is what the reading y of the other text gives.
   abbrev pub Same : {A : Type 0} → ℕ → Scanned A → Scanned A → Type 0
-  Same i x y = Shown t m x → (i ≤ m) × (i < length t) × (y ≡ x)
+  Same i x y = Shown t m x → (i < m) × (i < length t) × (y ≡ x)
 
   later : (i : ℕ) (x y : Extent) → Same (i + 1) x y → Same i x y
   later i x y h s = let r = h s in (omega (arith, r.0), omega (arith, r.1), r.2)
@@ -89,7 +90,7 @@ module _ (t u : List ℕ) (m : ℕ) (same : AgreeTo t u m) where
       (λ c lt. both (SameExtent i) (is_digit c) _ _ _ _ (failed-here i invalid_number lt) (taken-here i lt))
 
   -- the integer part, unless it is too long
-  too_long : (i : ℕ) → i + digit_limit < digit_run_end t i → i + (digit_limit + 1) ≤ m → i ≤ length t
+  too_long : (i : ℕ) → i + digit_limit < digit_run_end t i → i + (digit_limit + 1) < m → i ≤ length t
       → nat_le (digit_run_end u i) (i + digit_limit) ≡ false
   too_long i long le lt =
       let more = run-long t u m same is_digit i (digit_limit + 1) lt (omega arith) (omega arith) in
