@@ -68,7 +68,8 @@ module _ (t u : List ℕ) (m : ℕ) (same : SameBefore t u m) where
   word-same (c ∷ w) i =
       byte-same (byte_then (word_at t w (i + 1)) c i) (byte_then (word_at u w (i + 1)) c i) i
       (λ past s. true≢false s.1.0)
-      (λ b lt. both (SameExtent i) (b == c) _ _ _ _ (later i _ _ (word-same w (i + 1))) (failed-here i expected_ident lt))
+      (λ b lt. both (SameExtent i) (b == c) _ _ _ _ (later i _ _ (word-same w (i + 1)))
+      (failed-here i expected_ident lt))
 
   -- digits
   run-taken : (i : ℕ) → i < length t
@@ -125,12 +126,14 @@ module _ (t u : List ℕ) (m : ℕ) (same : SameBefore t u m) where
   power-same : (i : ℕ) → Same i (power_from t i (slice_get t i)) (power_from u i (slice_get u i))
   power-same i =
       byte-same (power_from t i) (power_from u i) i (λ past s. true≢false s.1.0)
-      (λ c lt. both (SameExtent i) ((c == 43) || (c == 45)) _ _ _ _ (later i _ _ (digits-same (i + 1))) (digit-same i c lt))
+      (λ c lt. both (SameExtent i) ((c == 43) || (c == 45)) _ _ _ _ (later i _ _ (digits-same (i + 1)))
+      (digit-same i c lt))
 
   exponent-same : (i : ℕ) → Same i (exponent_at t i) (exponent_at u i)
   exponent-same i =
       byte-same (exponent_from t i) (exponent_from u i) i (λ past s. omega (arith, s.1))
-      (λ c lt. both (SameExtent i) ((c == 101) || (c == 69)) _ _ _ _ (later i _ _ (power-same (i + 1))) (taken-here i lt))
+      (λ c lt. both (SameExtent i) ((c == 101) || (c == 69)) _ _ _ _ (later i _ _ (power-same (i + 1)))
+      (taken-here i lt))
 
   decimal-same : (i : ℕ) → Same i (decimal_at t i) (decimal_at u i)
   decimal-same i =
@@ -154,7 +157,8 @@ module _ (t u : List ℕ) (m : ℕ) (same : SameBefore t u m) where
       byte-same (extent_from names t i) (extent_from names u i) i (λ past s. true≢false s.1.0)
       (λ c lt. both (SameExtent i) (c == 45) _ _ _ _ (later i _ _ (minus-same names (i + 1)))
       (both (SameExtent i) (c == 78) _ _ _ _ (name-same names (codes "NaN") expected_value i lt)
-      (both (SameExtent i) (c == 73) _ _ _ _ (name-same names (codes "Infinity") expected_value i lt) (decimal-same i))))
+      (both (SameExtent i) (c == 73) _ _ _ _ (name-same names (codes "Infinity") expected_value i lt)
+      (decimal-same i))))
 
   -- the number, from its extent
   value-same : (i : ℕ) (x y : Extent) → ScalarWithin t i (with_value t i x) → Same i x y

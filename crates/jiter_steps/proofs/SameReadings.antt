@@ -1,4 +1,4 @@
--- Values in two texts with the same bytes before a place: what one reading shows of the bytes up to there, the other meets too.
+-- Values in two texts with the same bytes before a place: what one reading shows of these bytes, the other meets too.
 use Rattle.std.proofs.Common.{◌≡◌, ℕ, zero, suc, ◌+◌, ◌<◌, false, cond, List, [], ◌∷◌, ◌++◌, length, refl, sym, ap, ◌∙◌, subst, arith}
 use Rattle.std.specs.Prelude.{slice_get, slice_index, Option, Some, None}
 use Rattle.std.proofs.lemmas.Bool.{true≢false}

@@ -8,6 +8,8 @@ use Rattle.jiter_scan.specs.Kind.{invalid_code_point, control_character, key_mus
 use Rattle.jiter_scan.specs.Kind.{trailing_comma, trailing_characters, end_of_hex_escape, recursion_limit}
 use Rattle.jiter_steps.specs.Read.{Reading, done, fault}
 use Rattle.jiter_steps.specs.Answer.{answer}
+use Rattle.jiter_steps.specs.FirstFault.{BeginsNoDocument}
+use Rattle.jiter_steps.proofs.Dead.{dead}
 use Rattle.jiter_steps.proofs.Rows.Trees.{times}
 use Rattle.jiter_steps.proofs.Rows.Computed.{computed_readings}
 
@@ -86,3 +88,20 @@ gone_on_answer = refl
 gone_on_document : map (λ r. is_document (take (r.2 + 1) r.0 ++ r.3)) gone_on ≡ map (λ r. true) gone_on
 unfolding computed_readings
 gone_on_document = refl
+
+-- By the law, of one row.
+comma_gone_wrong : answer false (codes "[1,]") ≡ fault trailing_comma 3 3
+unfolding computed_readings
+comma_gone_wrong = refl
+
+no_document_begins : BeginsNoDocument false (codes "[1,]")
+no_document_begins = dead false (codes "[1,]") trailing_comma 3 3 comma_gone_wrong refl (λ e. cc)
+
+-- Names decide: without them no document begins with `N`, and with them one does.
+no_name : fault_of (answer false (codes "N")) ≡ Some (expected_value, 0)
+unfolding computed_readings
+no_name = refl
+
+a_name : map (λ t. fault_of (answer true t)) (codes "N" ∷ codes "NaN" ∷ []) ≡ Some (eof_value, 1) ∷ None ∷ []
+unfolding computed_readings
+a_name = refl
