@@ -1,4 +1,3 @@
-mod Rows
 pub mod Answered
 pub mod Blanks
 pub mod Bodies
@@ -8,6 +7,7 @@ pub mod Computed
 pub mod CutLaw
 pub mod CutNodes
 pub mod CutParts
+pub mod Dead
 pub mod DecodeSteps
 pub mod Documents
 pub mod Firsts
@@ -31,6 +31,13 @@ pub mod Prefixes
 pub mod ReadFront
 pub mod Resumed
 pub mod RowSteps
+mod Rows
+pub mod SameFront
+pub mod SameNumbers
+pub mod SameReadings
+pub mod SameRuns
+pub mod SameSteps
+pub mod SameStrings
 pub mod ScalarLaws
 pub mod Sound
 pub mod SpelledParts
