@@ -4,6 +4,7 @@ pub mod Blanks
 pub mod Bodies
 pub mod Bounds
 pub mod Complete
+pub mod Completions
 pub mod CutParts
 pub mod Documents
 pub mod Firsts
@@ -34,6 +35,7 @@ pub mod StringLaws
 pub mod StringMarks
 pub mod StringSound
 pub mod StringStand
+pub mod StuckSteps
 pub mod Tails
 pub mod Utf8Shape
 pub mod Values
