@@ -16,6 +16,7 @@ pub mod NodeRules
 pub mod Nodes
 pub mod NodesFront
 pub mod NumberCut
+pub mod OpenNumbers
 pub mod OpenParts
 pub mod Parts
 pub mod Pieces
