@@ -14,6 +14,7 @@ pub record CanClose (t : List ℕ) (x : ℕ) (Is : List ℕ → Type 0) : Type 0
   pub closers : List ℕ
   pub is_filler : IsFiller filler
   pub are_closers : AreClosers closers
+  pub within : x ≤ length t
   pub is : Is (take x t ++ (filler ++ closers))
 
 -- a text keeps its bytes where others are put behind them

@@ -18,6 +18,7 @@ pub mod NodesFront
 pub mod NumberCut
 pub mod OpenNumbers
 pub mod OpenParts
+pub mod OpenReadings
 pub mod Parts
 pub mod Pieces
 pub mod PlacesExplained

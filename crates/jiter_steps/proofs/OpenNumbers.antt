@@ -2,6 +2,7 @@
 use Rattle.std.proofs.Common.{◌≡◌, ◌⊎◌, inl, inr, ℕ, ◌+◌, ◌<◌, ◌≤◌, Bool, true, false, cond, ◌||◌, List, [], ◌∷◌, ◌++◌, length, take, refl, sym, ap, ◌∙◌, subst, arith, append-nil, append_assoc}
 use Rattle.std.specs.Prelude.{slice_get, slice_range, Option, Some, None, ◌==◌, nat_le, codes}
 use Rattle.std.proofs.lemmas.Bool.{false≢true, eqb-true, or_cases}
+use Rattle.std.proofs.lemmas.Option.{slice_get_within}
 use Rattle.jiter_scan.specs.Digits.{is_digit, digit_run_end}
 use Rattle.jiter_scan.specs.Kind.{Kind, expected_ident, expected_value, invalid_number, number_out_of_range}
 use Rattle.jiter_scan.specs.Number.{Number, IsMinus, IsWhole, IsFraction, IsSign, IsExponent, IsDecimal, IsNumberText, digit_limit}
@@ -11,7 +12,7 @@ use Rattle.jiter_scan.specs.Stands.{Stands}
 use Rattle.jiter_scan.specs.Word.{Extent, byte_then, word_at}
 use Rattle.jiter_scan.proofs.Choices.{if_case}
 use Rattle.jiter_scan.proofs.NumberSound.{whole_from-sound, fraction_from-sound}
-use Rattle.jiter_scan.proofs.Standing.{stands-length, stands-append, slice-stands}
+use Rattle.jiter_scan.proofs.Standing.{stands-length, stands-append, slice-stands, slice-one}
 use Rattle.jiter_steps.specs.FirstFault.{IsFiller, can_go_on}
 use Rattle.jiter_steps.specs.Node.{SpellsNumber}
 use Rattle.jiter_steps.proofs.Bounds.{either}
@@ -32,7 +33,7 @@ IsZero f = (f ≡ []) ⊎ (f ≡ codes "0")
 abbrev WholePart : List ℕ → Type 0
 WholePart w = IsWhole w × (length w ≤ digit_limit)
 
-then-live : (At : ℕ → Type 0) (x : Extent) (next : ℕ → Extent) → LiveIs At x
+pub then-live : (At : ℕ → Type 0) (x : Extent) (next : ℕ → Extent) → LiveIs At x
     → ((e : ℕ) → x ≡ taken tt e → LiveIs At (next e)) → LiveIs At (extent_then x next)
 then-live At (taken u e) next h all = all e refl
 then-live At (failed k j) next h all = h
@@ -40,6 +41,25 @@ then-live At (failed k j) next h all = h
 pub seen-live : {A : Type 0} (At : ℕ → Type 0) (x : Scanned A) (k : Kind) (j : ℕ) → LiveIs At x → x ≡ failed k j
     → can_go_on k ≡ true → At j
 seen-live At x k j h e = subst (LiveIs At) e h
+
+-- a zero is a number
+pub zero-number : (names : Bool) (u : List ℕ) (x : ℕ) → slice_get u x ≡ Some 48 → SpellsNumber names u x (x + 1)
+zero-number names u x h =
+    let inside = slice_get_within u x 48 h in
+    record { ordered = omega arith; within = omega arith; text = inl (subst IsDecimal (sym (slice-one u x 48 h)) zero) } where
+      zero : IsDecimal (codes "0")
+      zero = record {
+        minus = [];
+        whole = codes "0";
+        fraction = [];
+        exponent = [];
+        is = refl;
+        is_minus = inl refl;
+        is_whole = ((refl, tt), inl refl);
+        limit = omega arith;
+        is_fraction = tt;
+        is_exponent = inl refl;
+      }
 
 module _ (t : List ℕ) where
   -- the bytes from p to j are so, or with a zero behind them
@@ -317,7 +337,7 @@ module _ (t : List ℕ) where
       inl (subst IsDecimal (slice-stands u i (x + length f) (h.front ++ f) all) h.is) in
       let spelled : SpellsNumber names u i (x + length f) =
       record { ordered = omega arith; within = omega arith; text = text } in
-      (omega arith, record { filler = f; closers = []; is_filler = zero-filler f h.zero; are_closers = tt; is = subst (SpellsNumber names u i) at_end spelled })
+      (omega arith, record { filler = f; closers = []; is_filler = zero-filler f h.zero; are_closers = tt; within = within; is = subst (SpellsNumber names u i) at_end spelled })
 
   -- A number whose fault can go on.
   pub number-open : (names : Bool) (i j : ℕ) (k : Kind) → j ≤ length t → number_at names t i ≡ failed k j

@@ -24,6 +24,10 @@ closers-more : (cs : List ℕ) (closer : ℕ) → AreClosers (closer ∷ []) →
 closers-more [] closer h all = h
 closers-more (c ∷ cs) closer h all = (all.0, closers-more cs closer h all.1)
 
+-- with a filler and closers behind x, something stands from i to the text's end
+abbrev pub CanEndHere : {P : Type 0} → (List ℕ → ℕ → P → ℕ → Type 0) → List ℕ → ℕ → ℕ → Type 0
+CanEndHere {P} Is t i x = (i ≤ x) × CanClose t x (λ u. (p : P) × Is u i p (length u))
+
 module _ {P : Type 0} (closer : ℕ) (IsPart : List ℕ → ℕ → P → ℕ → Type 0) where
   abbrev pub MorePartsOf : List ℕ → List P → ℕ → ℕ → Type 0
   MorePartsOf u ps i e = MoreParts u closer Anywhere (IsPart u) ps i e
@@ -31,11 +35,7 @@ module _ {P : Type 0} (closer : ℕ) (IsPart : List ℕ → ℕ → P → ℕ �
   abbrev pub PartsOf : List ℕ → List P → ℕ → ℕ → Type 0
   PartsOf u ps i e = Parts u closer Anywhere (IsPart u) ps i e
 
-  -- with a filler and closers behind x, some part stands from i to the text's end
-  abbrev pub CanEndPart : List ℕ → ℕ → ℕ → Type 0
-  CanEndPart t i x = (i ≤ x) × CanClose t x (λ u. (p : P) × IsPart u i p (length u))
-
-  -- and parts and the closer, behind a bracket
+  -- parts and the closer, behind a bracket
   abbrev pub CanEnd : List ℕ → ℕ → ℕ → Type 0
   CanEnd t b x = (b ≤ x) × CanClose t x (λ u. (ps : List P) × PartsOf u ps b (length u))
 
@@ -44,10 +44,10 @@ module _ {P : Type 0} (closer : ℕ) (IsPart : List ℕ → ℕ → P → ℕ �
     pub is_closer : AreClosers (closer ∷ [])
     pub too : (u v : List ℕ) (i e : ℕ) (p : P) → SameBefore u v e → IsPart u i p e → IsPart v i p e
     pub is : (i e : ℕ) (p : P) → Begins i → c.part i ≡ done p e → IsPart t i p e
-    pub begun : (i x stop : ℕ) (k : Kind) → Begins i → c.part i ≡ fault k x stop → can_go_on k ≡ true → CanEndPart t i x
+    pub begun : (i x stop : ℕ) (k : Kind) → Begins i → c.part i ≡ fault k x stop → can_go_on k ≡ true → CanEndHere IsPart t i x
     pub filler : List ℕ
     pub is_filler : IsFiller filler
-    pub fills : (x : ℕ) → x ≤ length t → (p : P) × IsPart (take x t ++ (filler ++ [])) x p (x + length filler)
+    pub fills : (i e : ℕ) (q : P) → IsPart t i q e → (x : ℕ) → x ≤ length t → (p : P) × IsPart (take x t ++ (filler ++ [])) x p (x + length filler)
 
 module _ {K P A : Type 0} (r : Rules K A) (strict : (k : Kind) → r.forgives k ≡ false) (t : List ℕ) (c : Container P A)
     (closer : ℕ) (Begins : ℕ → Type 0) (IsPart : List ℕ → ℕ → P → ℕ → Type 0)
@@ -103,6 +103,7 @@ module _ {K P A : Type 0} (r : Rules K A) (strict : (k : Kind) → r.forgives k 
           closers = closers ++ closer ∷ [];
           is_filler = is_filler;
           are_closers = closers-more closers closer grows.is_closer are_closers;
+          within = within;
           is = subst (λ w. (qs : List P) × PartsOf closer IsPart w qs b (length w)) text (ps ++ p ∷ [], all);
         },
       )
@@ -113,7 +114,7 @@ module _ {K P A : Type 0} (r : Rules K A) (strict : (k : Kind) → r.forgives k 
       let long : length (take x t) ≡ x = length-take-le x t h.within in
       let blanks = blanks-too t (take x t) x (taken-same t x h.within) b x (omega arith) h in
       let ends = ends-behind (take x t) b closer (subst (IsBlank (take x t) b) (sym long) blanks) in
-      (h.ordered, record { filler = []; closers = closer ∷ []; is_filler = inl refl; are_closers = grows.is_closer; is = ([], ends) })
+      (h.ordered, record { filler = []; closers = closer ∷ []; is_filler = inl refl; are_closers = grows.is_closer; within = h.within; is = ([], ends) })
 
   -- at a fault that can go on the container can be closed
   abbrev pub Open : ℕ → Reading A → Type 0
@@ -142,7 +143,7 @@ module _ {K P A : Type 0} (r : Rules K A) (strict : (k : Kind) → r.forgives k 
   stuck-behind b i m x ps p so le is (inr h) =
       let w = grows.filler in
       let within = h.2.within in
-      let part = grows.fills x within in
+      let part = grows.fills i m p is x within in
       let long = taken-length t x within (w ++ []) in
       let size = ap length (append-nil w) in
       let blanks = no-blanks (take x t ++ (w ++ [])) (x + length w) (length (take x t ++ (w ++ []))) (omega arith) (omega arith) in
@@ -167,7 +168,7 @@ module _ {K P A : Type 0} (r : Rules K A) (strict : (k : Kind) → r.forgives k 
       (delimits.next-is m w.1)
   part-open b i ps next go at so (fault k x stop) is w =
       fault-open b (λ e. c.build e ps) k x stop (λ live. by (grows.begun i x stop k at is live)) where
-        by : CanEndPart closer IsPart t i x → CanEnd closer IsPart t b x
+        by : CanEndHere IsPart t i x → CanEnd closer IsPart t b x
         by (le, part) =
             let u = take x t ++ (part.filler ++ part.closers) in
             close-part b i x (length u) ps part.is.0 part.filler part.closers so le w.2.within part.is_filler
