@@ -1,11 +1,12 @@
 -- Texts whose end is other bytes: a front, a filler and closers.
-use Rattle.std.proofs.Common.{◌≡◌, ℕ, ◌+◌, ◌-◌, ◌<◌, ◌≤◌, List, [], ◌∷◌, ◌++◌, length, take, refl, sym, ap, ◌∙◌, subst, arith, length-append}
+use Rattle.std.proofs.Common.{◌≡◌, ℕ, ◌+◌, ◌-◌, ◌<◌, ◌≤◌, Bool, true, List, [], ◌∷◌, ◌++◌, length, take, refl, sym, ap, ◌∙◌, subst, arith, length-append}
 use Rattle.std.specs.Prelude.{slice_get, Some}
 use Rattle.std.proofs.lemmas.List.{get_or-take, get_or_append_left, get_or-append-add, length-take-le}
 use Rattle.std.proofs.lemmas.Option.{slice_get_within, slice_get-get_or, get_or_from_slice_get}
 use Rattle.jiter_steps.specs.Blank.{IsBlank}
-use Rattle.jiter_steps.specs.FirstFault.{IsFiller, AreClosers}
+use Rattle.jiter_steps.specs.FirstFault.{IsFiller, AreClosers, can_go_on}
 use Rattle.jiter_steps.specs.Node.{StandsBehind}
+use Rattle.jiter_steps.specs.Read.{Reading, done, fault}
 use Rattle.jiter_steps.proofs.SameFront.{SameBefore, blanks-too}
 
 -- with some filler and closers behind the bytes before x the text is so
@@ -16,6 +17,26 @@ pub record CanClose (t : List ℕ) (x : ℕ) (Is : List ℕ → Type 0) : Type 0
   pub are_closers : AreClosers closers
   pub within : x ≤ length t
   pub is : Is (take x t ++ (filler ++ closers))
+
+pub close-map : (t : List ℕ) (x : ℕ) (Is Then : List ℕ → Type 0)
+    → ((w : List ℕ) → x ≤ length t → Is (take x t ++ w) → Then (take x t ++ w)) → CanClose t x Is → CanClose t x Then
+close-map t x Is Then all h = record {
+  filler = h.filler;
+  closers = h.closers;
+  is_filler = h.is_filler;
+  are_closers = h.are_closers;
+  within = h.within;
+  is = all (h.filler ++ h.closers) h.within h.is;
+}
+
+-- at a fault that can go on
+abbrev pub OpenTo : {A : Type 0} → (ℕ → Type 0) → Reading A → Type 0
+OpenTo At (done a e) = Unit {0}
+OpenTo At (fault k x stop) = can_go_on k ≡ true → At x
+
+pub open-map : {A : Type 0} (At Then : ℕ → Type 0) → ((x : ℕ) → At x → Then x) → (y : Reading A) → OpenTo At y → OpenTo Then y
+open-map At Then all (done a e) h = tt
+open-map At Then all (fault k x stop) h = λ live. all x (h live)
 
 -- a text keeps its bytes where others are put behind them
 pub longer-same : (a b : List ℕ) (k : ℕ) → SameBefore a (a ++ b) k
@@ -61,3 +82,6 @@ module _ (t : List ℕ) (x : ℕ) (within : x ≤ length t) where
   taken-behind w n c e =
       let long = length-take-le x t within in
       ap (λ m. slice_get (take x t ++ w) (m + n)) (sym long) ∙ behind-front (take x t) w n c e
+
+  pub taken-first : (w : List ℕ) (c : ℕ) → slice_get w 0 ≡ Some c → slice_get (take x t ++ w) x ≡ Some c
+  taken-first w c e = ap (slice_get (take x t ++ w)) (omega arith) ∙ taken-behind w 0 c e

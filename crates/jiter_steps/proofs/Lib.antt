@@ -1,4 +1,5 @@
 pub mod Agree
+pub mod Alive
 pub mod Answered
 pub mod Blanks
 pub mod Bodies

@@ -16,7 +16,7 @@ use Rattle.jiter_scan.proofs.Standing.{stands-length, stands-append, slice-stand
 use Rattle.jiter_steps.specs.FirstFault.{IsFiller, can_go_on}
 use Rattle.jiter_steps.specs.Node.{SpellsNumber}
 use Rattle.jiter_steps.proofs.Bounds.{either}
-use Rattle.jiter_steps.proofs.Completions.{CanClose, taken-length, taken-behind, front-same}
+use Rattle.jiter_steps.proofs.Completions.{CanClose, taken-length, taken-first, front-same}
 use Rattle.jiter_steps.proofs.RowSteps.{tested}
 use Rattle.jiter_steps.proofs.SameFront.{stands-too}
 
@@ -321,7 +321,7 @@ module _ (t : List ℕ) where
   zero-stands x within f (inl e) = subst (λ f. Stands (take x t ++ (f ++ [])) x (x + length f) f) (sym e) (omega arith)
   zero-stands x within f (inr e) =
       subst (λ f. Stands (take x t ++ (f ++ [])) x (x + length f) f) (sym e)
-      (ap (slice_get (take x t ++ codes "0")) (omega arith) ∙ taken-behind t x within (codes "0") 0 48 refl, refl)
+      (taken-first t x within (codes "0") 48 refl, refl)
 
   number-ends : (names : Bool) (i x : ℕ) → x ≤ length t → Unfinished IsDecimal i x → CanEndNumber names i x
   number-ends names i x within h =

@@ -9,7 +9,7 @@ use Rattle.jiter_steps.specs.Node.{StandsBehind}
 use Rattle.jiter_steps.specs.Read.{Reading, done, fault, Rules, Container, if_forgiven, follow, behind_part, parts_at, container_at}
 use Rattle.jiter_steps.specs.Step.{Step, more, closed, stuck, step}
 use Rattle.jiter_steps.proofs.Bounds.{Within}
-use Rattle.jiter_steps.proofs.Completions.{CanClose, longer-same, no-blanks, ends-behind, taken-length, taken-same, front-same}
+use Rattle.jiter_steps.proofs.Completions.{CanClose, OpenTo, longer-same, no-blanks, ends-behind, taken-length, taken-same, front-same}
 use Rattle.jiter_steps.proofs.Parts.{MoreParts, Parts}
 use Rattle.jiter_steps.proofs.RowSteps.{PartBehind, Behind, StepIs, Delimits}
 use Rattle.jiter_steps.proofs.SameFront.{SameBefore, same-sooner, blanks-too, behind-too}
@@ -117,9 +117,8 @@ module _ {K P A : Type 0} (r : Rules K A) (strict : (k : Kind) → r.forgives k 
       (h.ordered, record { filler = []; closers = closer ∷ []; is_filler = inl refl; are_closers = grows.is_closer; within = h.within; is = ([], ends) })
 
   -- at a fault that can go on the container can be closed
-  abbrev pub Open : ℕ → Reading A → Type 0
-  Open b (done a e) = Unit {0}
-  Open b (fault k x stop) = can_go_on k ≡ true → CanEnd closer IsPart t b x
+  abbrev Open : ℕ → Reading A → Type 0
+  Open b x = OpenTo (CanEnd closer IsPart t b) x
 
   fault-open : (b : ℕ) (close : ℕ → A) (k : Kind) (x stop : ℕ) → (can_go_on k ≡ true → CanEnd closer IsPart t b x)
       → Open b (if_forgiven r close k x stop)
@@ -190,6 +189,6 @@ module _ {K P A : Type 0} (r : Rules K A) (strict : (k : Kind) → r.forgives k 
       fault-open b (λ e. c.build e []) k x x (λ live. close-bracket b x (sticks.first-stuck b x k within step))
 
   -- A container that is not read to its end can be closed.
-  pub container_at-open : (i : ℕ) → i < length t → Open (i + 1) (container_at r c t i)
+  pub container_at-open : (i : ℕ) → i < length t → OpenTo (CanEnd closer IsPart t (i + 1)) (container_at r c t i)
   container_at-open i h =
       bracket-open (i + 1) (omega arith) (step t c.first (i + 1)) refl (delimits.first-is (i + 1) (omega arith))
