@@ -1,4 +1,3 @@
-pub mod Agree
 pub mod Alive
 pub mod Answered
 pub mod Blanks
@@ -7,6 +6,7 @@ pub mod Bounds
 pub mod Complete
 pub mod Completions
 pub mod CutParts
+pub mod Dead
 pub mod Documents
 pub mod Firsts
 pub mod Front
@@ -28,6 +28,11 @@ pub mod ReadFront
 pub mod RowSteps
 mod Rows
 pub mod SameFront
+pub mod SameNumbers
+pub mod SameReadings
+pub mod SameRuns
+pub mod SameSteps
+pub mod SameStrings
 pub mod ScalarLaws
 pub mod Sound
 pub mod SpelledParts

@@ -1,5 +1,5 @@
 -- Two texts with the same bytes before a place: what the grammar spells there in the one it spells in the other.
-use Rattle.std.proofs.Common.{◌≡◌, ◌⊎◌, inl, inr, ℕ, zero, suc, ◌+◌, ◌<◌, ◌≤◌, Bool, List, [], ◌∷◌, length, sym, subst, arith}
+use Rattle.std.proofs.Common.{◌≡◌, ℕ, zero, suc, ◌+◌, ◌<◌, ◌≤◌, Bool, List, [], ◌∷◌, length, sym, subst, arith}
 use Rattle.std.specs.Prelude.{slice_get, slice_index, slice_range, Some}
 use Rattle.std.proofs.lemmas.Option.{slice_get_within, slice_get-get_or, get_or_from_slice_get}
 use Rattle.jiter_scan.specs.Number.{IsNumberText}
@@ -21,10 +21,10 @@ pub same-sooner : (t u : List ℕ) (i k : ℕ) → i ≤ k → SameBefore t u k 
 same-sooner t u i k le same j c lt e = same j c (omega arith) e
 
 module _ (t u : List ℕ) (k : ℕ) (same : SameBefore t u k) where
-  here-too : (i : ℕ) → i < k → i < length t → slice_get u i ≡ Some (slice_index t i)
+  pub here-too : (i : ℕ) → i < k → i < length t → slice_get u i ≡ Some (slice_index t i)
   here-too i lt h = same i (slice_index t i) lt (slice_get-get_or t i 0 h)
 
-  index-same : (i : ℕ) → i < k → i < length t → slice_index u i ≡ slice_index t i
+  pub index-same : (i : ℕ) → i < k → i < length t → slice_index u i ≡ slice_index t i
   index-same i lt h = get_or_from_slice_get u i (slice_index t i) 0 (here-too i lt h)
 
   pub place-too : (i : ℕ) → i ≤ k → i ≤ length t → i ≤ length u
