@@ -1,8 +1,10 @@
+pub mod Alive
 pub mod Answered
 pub mod Blanks
 pub mod Bodies
 pub mod Bounds
 pub mod Complete
+pub mod Completions
 pub mod Computed
 pub mod CutLaw
 pub mod CutNodes
@@ -22,6 +24,9 @@ pub mod NodeRules
 pub mod NodesFront
 pub mod NumberCut
 pub mod NumberCutLaws
+pub mod OpenNumbers
+pub mod OpenParts
+pub mod OpenReadings
 pub mod Parts
 pub mod Pieces
 pub mod Pins
@@ -50,6 +55,7 @@ pub mod StringLaws
 pub mod StringMarks
 pub mod StringSound
 pub mod StringStand
+pub mod StuckSteps
 pub mod Tails
 pub mod Utf8Shape
 pub mod Values
