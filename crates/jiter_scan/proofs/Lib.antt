@@ -15,3 +15,7 @@ pub mod Computed
 pub mod Pins
 mod Rows
 pub mod NumberTests
+pub mod Lanes
+pub mod Chunks
+pub mod PlainRuns
+pub mod DigitWords
