@@ -4,6 +4,7 @@ use Rattle.jiter_scan.specs.Ascii as ascii
 use Rattle.jiter_scan.specs.Kind.{Kind, kind_text}
 use Rattle.jiter_scan.specs.declared.errors.LinePosition.{LinePosition}
 
+-- a line feed
 abbrev pub is_newline : ℕ → Bool
 is_newline b = nat_eq b ascii.line_feed
 

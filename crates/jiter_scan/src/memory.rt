@@ -1,6 +1,6 @@
 //! What grows: the few requests for memory that the parser makes. Each answers, where it is refused, with
 //! the evidence of it, and nothing outside this module can make that evidence.
-ghost use Rattle.std.specs.Prelude.{◌≡◌, ◌∷◌, ◌++◌, [], IfOk, OnOk, OnErr, decimal, string_bytes};
+ghost use Rattle.std.specs.Prelude.{◌≡◌, ◌+◌, ◌<◌, ◌≤◌, ◌∷◌, ◌++◌, [], IfOk, OnOk, OnErr, decimal, length, string_bytes, string_capacity, string_len, vec_capacity, vec_len};
 
 use std::alloc::{AllocError, Global};
 
@@ -22,6 +22,7 @@ impl From<Refused> for AllocError {
 pub fn push<T: Drop>(items: &mut Vec<T>, item: T) -> Result<(), Refused>
     ensures ok { OnOk result (items.new.items ≡ items.old.items ++ item ∷ []) }
     ensures err { OnErr result (items.new.items ≡ items.old.items) }
+    ensures full { OnErr result (vec_capacity items.old ≤ vec_len items.old) }
 {
     match items.push(item) {
         Ok(()) => Ok(()),
@@ -33,6 +34,7 @@ pub fn push<T: Drop>(items: &mut Vec<T>, item: T) -> Result<(), Refused>
 pub fn extend(bytes: &mut Vec<u8>, more: &[u8]) -> Result<(), Refused>
     ensures ok { OnOk result (bytes.new.items ≡ bytes.old.items ++ more.now) }
     ensures err { OnErr result (bytes.new.items ≡ bytes.old.items) }
+    ensures full { OnErr result (vec_capacity bytes.old < vec_len bytes.old + length more.now) }
 {
     match bytes.extend_from_slice(more) {
         Ok(()) => Ok(()),
@@ -54,6 +56,7 @@ pub fn copy_text(alloc: Global, text: &str) -> Result<String, Refused>
 pub fn push_text(text: &mut String, more: &str) -> Result<(), Refused>
     ensures ok { OnOk result (string_bytes text.new ≡ string_bytes text.old ++ more.now) }
     ensures err { OnErr result (string_bytes text.new ≡ string_bytes text.old) }
+    ensures full { OnErr result (string_capacity text.old < string_len text.old + length more.now) }
 {
     match text.push_str(more) {
         Ok(()) => Ok(()),
