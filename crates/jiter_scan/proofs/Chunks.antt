@@ -1,13 +1,14 @@
 -- Runs of bytes that pass a test, seen a chunk at a time.
-use Rattle.std.proofs.Common.{◌≡◌, ℕ, ◌+◌, ◌*◌, ◌<◌, ◌≤◌, Bool, true, false, not, ◌&&◌, cond, eqb, List, [], ◌∷◌, length, drop, refl, sym, ap, ◌∙◌, arith, inl, inr, suc}
+use Rattle.std.proofs.Common.{◌≡◌, ℕ, ◌+◌, ◌*◌, ◌<◌, ◌≤◌, Bool, true, false, not, ◌&&◌, cond, eqb, List, [], ◌∷◌, length, drop, take, refl, sym, ap, ◌∙◌, arith, inl, inr, zero, suc}
 use Rattle.std.proofs.lemmas.Simd.{chunk-drop, length-chunk, trailing_mask_l}
 use Rattle.std.proofs.lemmas.List.Folds.{prefix_len-append}
 use Rattle.std.proofs.lemmas.Bool.{eq-eqb, ne_eqb, cases_eq, false≢true}
 use Rattle.std.specs.List.{prefix_len, list_all}
 use lib.Lanes.{chunk}
 use lib.Count.{count_trailing_zeros}
-use Rattle.jiter_scan.specs.Scan.{run_end}
+use Rattle.jiter_scan.specs.Scan.{run_end, Pass}
 use Rattle.jiter_scan.specs.Simd.{failing}
+use Rattle.jiter_scan.proofs.Runs.{run_end-passes, run_end-passing}
 
 twice-zero : (m : ℕ) → eqb m 0 ≡ eqb (0 + 2 * m) 0
 twice-zero m = elim (cases_eq m 0) [ inl z ↦ eq-eqb _ _ z ∙ sym (eq-eqb _ _ (omega arith)) | inr n ↦ ne_eqb _ _ n ∙ sym (ne_eqb _ _ (λ (e : 0 + 2 * m ≡ 0). n (omega arith))) ]
@@ -80,3 +81,37 @@ module _ (test : ℕ → Bool) where
     pub run_end-inside : i + n ≤ length t → n ≤ 64 → 0 < failing test (chunk i n t) → run_end test t i ≡ i + count_trailing_zeros 64 (failing test (chunk i n t))
     run_end-inside room short some =
         ap (λ k. i + k) (prefix_len-inside (one_fails some) ∙ prefix_len-failing (chunk i n t) (omega (arith, length-chunk i n t room)) some)
+
+  -- the first n pass where no more than the first to fail stand behind them
+  pub prefix_len-pass : (n : ℕ) (w : List ℕ) → n ≤ prefix_len test w → Pass test (take n w)
+  prefix_len-pass zero w h = tt
+  prefix_len-pass (suc n) [] h = tt
+  prefix_len-pass (suc n) (c ∷ w) h = by (test c) refl h (prefix_len-pass n w) where
+    by : (b : Bool) → test c ≡ b → suc n ≤ cond b (1 + prefix_len test w) 0 → (n ≤ prefix_len test w → Pass test (take n w))
+        → (test c ≡ true) × Pass test (take n w)
+    by true e k go = (e, go (omega arith))
+    by false e k go = absurd (omega arith)
+
+  -- bytes with the same front
+  pub prefix_len-front : (n : ℕ) (u v : List ℕ) → take n u ≡ take n v → n ≤ prefix_len test u → n ≤ prefix_len test v
+  prefix_len-front zero u v e h = omega arith
+  prefix_len-front (suc n) [] v e h = absurd (omega arith)
+  prefix_len-front (suc n) (c ∷ u) [] e h = absurd (cc)
+  prefix_len-front (suc n) (c ∷ u) (d ∷ v) e h =
+      let same : c ≡ d = cc in
+      let rest : take n u ≡ take n v = cc in
+      by (test c) (test d) (ap test same) h (prefix_len-front n u v rest) where
+        by : (a b : Bool) → a ≡ b → suc n ≤ cond a (1 + prefix_len test u) 0 → (n ≤ prefix_len test u → n ≤ prefix_len test v)
+            → suc n ≤ cond b (1 + prefix_len test v) 0
+        by true true e k go = omega (arith, go (omega arith))
+        by false b e k go = absurd (omega arith)
+        by true false e k go = absurd (false≢true (sym e))
+
+  -- from a place within a run it has the same end
+  pub run_end-on : (t : List ℕ) (i n : ℕ) → i + n ≤ run_end test t i → i + n ≤ length t → run_end test t (i + n) ≡ run_end test t i
+  run_end-on t i zero h within = let same : i + 0 ≡ i = omega arith in ap (run_end test t) same
+  run_end-on t i (suc n) h within =
+      let before = run_end-on t i n (omega arith) (omega arith) in
+      let passes = run_end-passes test t i (i + n) (omega arith) (omega arith) in
+      let place : i + suc n ≡ i + n + 1 = omega arith in
+      ap (run_end test t) place ∙ sym (run_end-passing test t (i + n) (omega arith) passes) ∙ before

@@ -19,3 +19,4 @@ pub mod Lanes
 pub mod Chunks
 pub mod PlainRuns
 pub mod DigitWords
+pub mod Magnitudes

@@ -1,5 +1,5 @@
 //! Strings and digits sixteen bytes at a time: where plain bytes end, where digits end, and what they write.
-ghost use Rattle.std.specs.Prelude.{◌≡◌, ◌↔◌, ℕ, List, ◌+◌, ◌*◌, ◌^◌, ◌<◌, ◌≤◌, ◌&&◌, IsTrue, length, take, drop, map, nat_le};
+ghost use Rattle.std.specs.Prelude.{◌≡◌, ◌↔◌, ℕ, List, ◌+◌, ◌*◌, ◌^◌, ◌<◌, ◌≤◌, ◌&&◌, IsTrue, length, take, drop, map, nat_le, slice_range};
 ghost use Rattle.std.specs.Int.{w64, trailing_zeros};
 ghost use Rattle.std.specs.Int.Digits.{number_from_digits, AllBelowBase};
 ghost use Rattle.std.specs.Simd.Lanes.{number_l};
@@ -140,6 +140,23 @@ fn is_digit(byte: u8) -> bool
     byte.is_ascii_digit()
 }
 
+// The sixteen bytes at a place, zeros behind the end of the input.
+#[inline(always)]
+pub(crate) fn chunk_at(bytes: &[u8], at: usize) -> [u8; 16]
+    requires { at ≤ length bytes.now }
+    ensures { (n : ℕ) → n ≤ 16 → at + n ≤ length bytes.now
+        → take n result ≡ slice_range bytes.now at (at + n) }
+{
+    if bytes.len() - at >= 16 {
+        u8x16::from_slice(&bytes[at..]).to_array()
+    } else {
+        let rest = &bytes[at..];
+        let mut chunk = [0; 16];
+        chunk[..rest.len()].copy_from_slice(rest);
+        chunk
+    }
+}
+
 /// How many of sixteen bytes are digits, from the first on.
 #[inline(always)]
 pub fn digit_count(chunk: [u8; 16]) -> usize
@@ -236,12 +253,11 @@ static TENS: [u64; 9] = [
     100_000_000,
 ];
 
-// Digits behind others.
+// A number with as many digits more.
 #[inline(always)]
-fn joined(front: u64, back: u64, count: usize) -> u64
-    requires front { front < 100000000 }
-    requires back { back < 100000000 }
+pub(crate) fn joined(front: u64, back: u64, count: usize) -> u64
     requires most { count ≤ 8 }
+    requires fits { front * 10 ^ count + back < 2 ^ 64 }
     ensures { result ≡ front * 10 ^ count + back }
 {
     front * TENS[count] + back
