@@ -60,6 +60,18 @@ fn both(a: bool, b: bool) -> bool
     a & b
 }
 
+// The answer where the first of these stops, in a chunk at `i`, ends the scan.
+#[inline(always)]
+fn first_stop(i: usize, found: u64, high: u64, clean: bool) -> (usize, bool)
+    requires { i + trailing_zeros w64 found < 2 ^ 64 }
+    ensures stop { result.0 ≡ i + trailing_zeros w64 found }
+    ensures ascii { result.1
+        ≡ (clean && nat_le (trailing_zeros w64 found) (trailing_zeros w64 high)) }
+{
+    let count = found.trailing_zeros();
+    (i + count as usize, both(clean, is_clear_below(high, count)))
+}
+
 // The scan from `from` on byte by byte, where the bytes before it were ASCII or not.
 #[inline(always)]
 fn scan_bytes(bytes: &[u8], from: usize, ascii: bool) -> (usize, bool)
@@ -94,9 +106,7 @@ fn scan_far(bytes: &[u8], from: usize, ascii: bool) -> (usize, bool)
         let found = stops(v);
         let high = highs(v);
         if found != 0 {
-            let count = found.trailing_zeros();
-            let end = i + count as usize;
-            return (end, both(clean, is_clear_below(high, count)));
+            return first_stop(i, found, high, clean);
         }
         clean = both(clean, high == 0);
         i += 16;
@@ -123,9 +133,7 @@ pub fn scan_string(bytes: &[u8], from: usize) -> (usize, bool)
         let found = stops(v);
         let high = highs(v);
         if found != 0 {
-            let count = found.trailing_zeros();
-            let end = i + count as usize;
-            return (end, both(clean, is_clear_below(high, count)));
+            return first_stop(i, found, high, clean);
         }
         clean = both(clean, high == 0);
         i += 16;
@@ -278,3 +286,6 @@ pub fn digit_word(chunk: [u8; 16], count: usize) -> u64
         joined(eight_digits(low), first_digits(high, count - 8), count - 8)
     }
 }
+
+#[cfg(test)]
+mod tests;

@@ -29,8 +29,8 @@ returns-then-found-ne0-clause-ascii c =
     let same = ap₂ (λ s h. leb (count_trailing_zeros 64 s) (count_trailing_zeros 64 h)) (sym found.ensures) (sym c.highs-high.ensures) in
     let run = run_end-inside is_plain c.args.bytes.now c.loop-i.i 16 (omega arith) (omega arith) (omega (arith, found.ensures)) in
     let count = ap (count_trailing_zeros 64) found.ensures in
-    IsAsciiTo-iff c.args.bytes.now c.args.from _ c.both.result (omega arith)
-    (c.both.ensures ∙ ap (λ b. c.loop-i.clean && b) (c.is_clear_below.ensures ∙ sym (here ∙ same)) ∙ sym c.loop-i.invariant.ascii)
+    IsAsciiTo-iff c.args.bytes.now c.args.from _ c.first_stop.result.1 (omega arith)
+    (c.first_stop.ensures.ascii ∙ ap (λ b. c.loop-i.clean && b) (sym (here ∙ same)) ∙ sym c.loop-i.invariant.ascii)
 
 pub loop-i-preserved : goal.loop-i-preserved
 loop-i-preserved c =
@@ -53,3 +53,10 @@ returns-clause-ascii c =
 pub returns-then-bytes-from-lt64-clause-ascii : goal.returns-then-bytes-from-lt64-clause-ascii
 returns-then-bytes-from-lt64-clause-ascii c =
     IsAsciiTo-iff c.args.bytes.now c.args.from c.scan_far.result.0 c.scan_far.result.1 c.scan_far.ensures.stop c.scan_far.ensures.ascii
+
+pub first_stop-requires : goal.first_stop-requires
+first_stop-requires c =
+    let found = c.stops-found in
+    let run = run_end-inside is_plain c.args.bytes.now c.loop-i.i 16 (omega arith) (omega arith) (omega (arith, found.ensures)) in
+    let count = ap (count_trailing_zeros 64) found.ensures in
+    omega (arith, run_end-within is_plain c.args.bytes.now c.loop-i.i c.loop-i.invariant.within)
