@@ -1,7 +1,7 @@
 -- Runs of bytes that pass a test, seen a chunk at a time.
-use Rattle.std.proofs.Common.{◌≡◌, ℕ, ◌+◌, ◌*◌, ◌<◌, ◌≤◌, Bool, true, false, not, ◌&&◌, cond, eqb, List, [], ◌∷◌, length, drop, take, refl, sym, ap, ◌∙◌, arith, inl, inr, zero, suc}
+use Rattle.std.proofs.Common.{◌≡◌, ℕ, ◌+◌, ◌*◌, ◌<◌, ◌≤◌, Bool, true, false, not, ◌&&◌, cond, eqb, List, [], ◌∷◌, length, drop, take, refl, sym, ap, ap₂, take-add, drop-drop, ◌∙◌, arith, inl, inr, zero, suc}
 use Rattle.std.proofs.lemmas.Simd.{chunk-drop, length-chunk, trailing_mask_l}
-use Rattle.std.proofs.lemmas.List.Folds.{prefix_len-append}
+use Rattle.std.proofs.lemmas.List.Folds.{prefix_len-append, list_all-append}
 use Rattle.std.proofs.lemmas.Bool.{eq-eqb, ne_eqb, cases_eq, false≢true}
 use Rattle.std.specs.List.{prefix_len, list_all}
 use lib.Lanes.{chunk}
@@ -68,6 +68,12 @@ module _ (test : ℕ → Bool) where
         let c = chunk i n t in
         split ∙ ap (λ b. cond b (length c + prefix_len test (drop (i + n) t)) (prefix_len test c)) (ne_eqb _ _ (λ (e : prefix_len test c ≡ length c). omega (arith, prefix_len-some c some)))
 
+    -- both halves of a chunk
+    pub list_all-halves : list_all test (chunk i (n + n) t) ≡ (list_all test (chunk i n t) && list_all test (chunk (i + n) n t))
+    list_all-halves =
+        ap (list_all test) (take-add n n (drop i t)) ∙ list_all-append test (chunk i n t) (take n (drop n (drop i t)))
+        ∙ ap (λ l. list_all test (chunk i n t) && list_all test (take n l)) (drop-drop n i t)
+
     -- the same by the bits of a mask
     pub none_fails : failing test (chunk i n t) ≡ 0 → list_all test (chunk i n t) ≡ true
     none_fails e = list_all-failing-zero (chunk i n t) e
@@ -81,6 +87,13 @@ module _ (test : ℕ → Bool) where
     pub run_end-inside : i + n ≤ length t → n ≤ 64 → 0 < failing test (chunk i n t) → run_end test t i ≡ i + count_trailing_zeros 64 (failing test (chunk i n t))
     run_end-inside room short some =
         ap (λ k. i + k) (prefix_len-inside (one_fails some) ∙ prefix_len-failing (chunk i n t) (omega (arith, length-chunk i n t room)) some)
+
+  -- a chunk of 64 by its four parts
+  pub list_all-four : (t : List ℕ) (i : ℕ) → list_all test (chunk i 64 t)
+      ≡ ((list_all test (chunk i 16 t) && list_all test (chunk (i + 16) 16 t)) && (list_all test (chunk (i + 32) 16 t) && list_all test (chunk (i + 48) 16 t)))
+  list_all-four t i =
+      let place : i + 32 + 16 ≡ i + 48 = omega arith in
+      list_all-halves t i 32 ∙ ap₂ (λ a b. a && b) (list_all-halves t i 16) (list_all-halves t (i + 32) 16 ∙ ap (λ k. list_all test (chunk (i + 32) 16 t) && list_all test (chunk k 16 t)) place)
 
   -- the first n pass where no more than the first to fail stand behind them
   pub prefix_len-pass : (n : ℕ) (w : List ℕ) → n ≤ prefix_len test w → Pass test (take n w)

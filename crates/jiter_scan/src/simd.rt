@@ -2,10 +2,11 @@
 ghost use Rattle.std.specs.Prelude.{◌≡◌, ◌↔◌, ℕ, List, ◌+◌, ◌*◌, ◌^◌, ◌<◌, ◌≤◌, ◌&&◌, IsTrue, length, take, drop, map, nat_le, slice_range};
 ghost use Rattle.std.specs.Int.{w64, trailing_zeros};
 ghost use Rattle.std.specs.Int.Digits.{number_from_digits, AllBelowBase};
-ghost use Rattle.std.specs.Simd.Lanes.{number_l};
+ghost use Rattle.std.specs.List.{list_all};
+ghost use Rattle.std.specs.Simd.Lanes.{chunk, number_l};
 ghost use Rattle.jiter_scan.specs.Digits.{is_digit, digit_run_end, decimal_of};
 ghost use Rattle.jiter_scan.specs.Scan.{is_stop, is_plain, is_ascii, scan_stop, IsAsciiTo};
-ghost use Rattle.jiter_scan.specs.Simd.{digits_end, ascii_from, failing, less_zero, IsEightBytes};
+ghost use Rattle.jiter_scan.specs.Simd.{digits_end, ascii_from, failing, is_no_mark, is_no_control, less_zero, IsEightBytes};
 
 use std::simd::prelude::*;
 
@@ -93,8 +94,8 @@ fn scan_bytes(bytes: &[u8], from: usize, ascii: bool) -> (usize, bool)
 }
 
 // The same sixteen bytes at a time.
-#[inline(never)]
-fn scan_far(bytes: &[u8], from: usize, ascii: bool) -> (usize, bool)
+#[inline(always)]
+fn scan_chunks(bytes: &[u8], from: usize, ascii: bool) -> (usize, bool)
     requires { from ≤ length bytes.now }
     ensures stop { result.0 ≡ scan_stop bytes.now from }
     ensures ascii { result.1 ≡ (ascii && ascii_from bytes.now from) }
@@ -112,6 +113,86 @@ fn scan_far(bytes: &[u8], from: usize, ascii: bool) -> (usize, bool)
         i += 16;
     }
     scan_bytes(bytes, i, clean)
+}
+
+// In each lane FF hex where a quote or a backslash stands, else 0.
+#[inline(always)]
+fn marks(v: u8x16) -> u8x16
+    ensures { list_all is_ascii result ≡ list_all is_no_mark v }
+{
+    let found = v.simd_eq(u8x16::splat(b'"')) | v.simd_eq(u8x16::splat(b'\\'));
+    found.select(u8x16::splat(0xff), u8x16::splat(0))
+}
+
+// In each lane FF hex where a byte below the blank stands, else 0.
+#[inline(always)]
+fn controls(v: u8x16) -> u8x16
+    ensures { list_all is_ascii result ≡ list_all is_no_control v }
+{
+    let found = v.simd_lt(u8x16::splat(b' '));
+    found.select(u8x16::splat(0xff), u8x16::splat(0))
+}
+
+// The lesser byte in each lane.
+#[inline(always)]
+fn lesser(a: u8x16, b: u8x16) -> u8x16
+    ensures { list_all is_no_control result
+        ≡ (list_all is_no_control a && list_all is_no_control b) }
+{
+    a.simd_min(b)
+}
+
+// The greater byte in each lane.
+#[inline(always)]
+fn greater(a: u8x16, b: u8x16) -> u8x16
+    ensures { list_all is_ascii result ≡ (list_all is_ascii a && list_all is_ascii b) }
+{
+    a.simd_max(b)
+}
+
+// Whether all bytes of a vector are below 80 hex.
+#[inline(always)]
+fn is_low(v: u8x16) -> bool
+    ensures { result ≡ list_all is_ascii v }
+{
+    highs(v) == 0
+}
+
+// Whether none of the 64 bytes at a place stops, and whether they are below 80 hex.
+#[inline(always)]
+fn is_plain_chunk(bytes: &[u8], i: usize) -> (bool, bool)
+    requires { i + 64 ≤ length bytes.now }
+    ensures plain { result.0 ≡ list_all is_plain (chunk i 64 bytes.now) }
+    ensures ascii { result.1 ≡ list_all is_ascii (chunk i 64 bytes.now) }
+{
+    let a = u8x16::from_slice(&bytes[i..]);
+    let b = u8x16::from_slice(&bytes[i + 16..]);
+    let c = u8x16::from_slice(&bytes[i + 32..]);
+    let d = u8x16::from_slice(&bytes[i + 48..]);
+    let marked = greater(greater(marks(a), marks(b)), greater(marks(c), marks(d)));
+    let controlled = controls(lesser(lesser(a, b), lesser(c, d)));
+    let highest = greater(greater(a, b), greater(c, d));
+    (is_low(greater(marked, controlled)), is_low(highest))
+}
+
+// The same 64 bytes at a time.
+#[inline(never)]
+fn scan_far(bytes: &[u8], from: usize, ascii: bool) -> (usize, bool)
+    requires { from ≤ length bytes.now }
+    ensures stop { result.0 ≡ scan_stop bytes.now from }
+    ensures ascii { result.1 ≡ (ascii && ascii_from bytes.now from) }
+{
+    let mut i = from;
+    let mut clean = ascii;
+    while bytes.len() - i >= 64 {
+        let (plain, low) = is_plain_chunk(bytes, i);
+        if !plain {
+            break;
+        }
+        clean = both(clean, low);
+        i += 64;
+    }
+    scan_chunks(bytes, i, clean)
 }
 
 /// The first quote, backslash or control byte from a byte index on, or the length; and whether all bytes
