@@ -25,15 +25,19 @@ pub lanes_alone : (v : List ℕ) → v ≡ map (λ x. x) v
 lanes_alone [] = refl
 lanes_alone (x ∷ v) = ap (λ r. x ∷ r) (lanes_alone v)
 
-each-byte : (f : ℕ → ℕ) (test : ℕ → Bool) → agree_below (λ x. top 7 (f x)) (λ c. not (test c)) 256 ≡ true → (v : List ℕ) → Each1 (Fits w8) v → map (top 7) (map f v) ≡ map (λ c. not (test c)) v
+each-byte : (f : ℕ → ℕ) (test : ℕ → Bool) → agree_below (λ x. top 7 (f x)) (λ c. not (test c)) 256 ≡ true
+    → (v : List ℕ) → Each1 (Fits w8) v → map (top 7) (map f v) ≡ map (λ c. not (test c)) v
 each-byte f test all [] fits = refl
-each-byte f test all (x ∷ v) fits = ap₂ (λ a b. a ∷ b) (agree_below_at (λ y. top 7 (f y)) (λ c. not (test c)) 256 x all fits.0.fits) (each-byte f test all v fits.1)
+each-byte f test all (x ∷ v) fits = ap₂ (λ a b. a ∷ b)
+    (agree_below_at (λ y. top 7 (f y)) (λ c. not (test c)) 256 x all fits.0.fits) (each-byte f test all v fits.1)
 
 -- what `to_bitmask` gives of lanes whose top bit is set where the byte fails the test
-pub failing-lanes : (f : ℕ → ℕ) (test : ℕ → Bool) (v z : List ℕ) → length v ≡ 16 → Each1 (Fits w8) v → z ≡ map f v → agree_below (λ x. top 7 (f x)) (λ c. not (test c)) 256 ≡ true
+pub failing-lanes : (f : ℕ → ℕ) (test : ℕ → Bool) (v z : List ℕ) → length v ≡ 16 → Each1 (Fits w8) v → z ≡ map f v
+    → agree_below (λ x. top 7 (f x)) (λ c. not (test c)) 256 ≡ true
     → mask_l (map (top 7) z) % 2 ^ 64 ≡ failing test v
 failing-lanes f test v z long fits e all =
-    ap (λ l. mask_l l % 2 ^ 64) (ap (map (top 7)) e ∙ each-byte f test all v fits) ∙ mask_l-mod (map (λ c. not (test c)) v) 64 (omega (arith, length-map v (λ c. not (test c))))
+    ap (λ l. mask_l l % 2 ^ 64) (ap (map (top 7)) e ∙ each-byte f test all v fits)
+    ∙ mask_l-mod (map (λ c. not (test c)) v) 64 (omega (arith, length-map v (λ c. not (test c))))
 
 -- what `select` gives of all ones and none, by the same bit
 pub list_all-chosen : (f : ℕ → ℕ) (test : ℕ → Bool) (v z : List ℕ) → length v ≡ 16 → Each1 (Fits w8) v → z ≡ map f v
@@ -41,12 +45,15 @@ pub list_all-chosen : (f : ℕ → ℕ) (test : ℕ → Bool) (v z : List ℕ) �
     → list_all is_ascii (sel_l (map (top 7) z) (replicate 16 255) (replicate 16 0)) ≡ list_all test v
 list_all-chosen f test v z long fits e all =
     ap (λ l. list_all is_ascii (sel_l (map (top 7) l) (replicate 16 255) (replicate 16 0))) e
-    ∙ ap (λ n. list_all is_ascii (sel_l (map (top 7) (map f v)) (replicate n 255) (replicate n 0))) (sym long) ∙ each v fits
+    ∙ ap (λ n. list_all is_ascii (sel_l (map (top 7) (map f v)) (replicate n 255) (replicate n 0))) (sym long)
+    ∙ each v fits
   where
     each : (w : List ℕ) → Each1 (Fits w8) w
-        → list_all is_ascii (sel_l (map (top 7) (map f w)) (replicate (length w) 255) (replicate (length w) 0)) ≡ list_all test w
+        → list_all is_ascii (sel_l (map (top 7) (map f w)) (replicate (length w) 255) (replicate (length w) 0))
+        ≡ list_all test w
     each [] h = refl
-    each (x ∷ w) h = ap₂ (λ a b. a && b) (agree_below_at (λ y. is_ascii (cond (top 7 (f y)) 255 0)) test 256 x all h.0.fits) (each w h.1)
+    each (x ∷ w) h = ap₂ (λ a b. a && b)
+        (agree_below_at (λ y. is_ascii (cond (top 7 (f y)) 255 0)) test 256 x all h.0.fits) (each w h.1)
 
 -- two tests of two bytes, and of those behind them
 pub and-swap : (a b c d : Bool) → ((a && b) && (c && d)) ≡ ((a && c) && (b && d))
@@ -69,7 +76,8 @@ greater-byte x y = by (ltb x y) refl where
 
 -- no lesser byte is one where none of both is
 pub list_all-lesser : (v w : List ℕ) → length v ≡ length w
-    → list_all is_no_control (sel_l (map (top 7) (zip2 if_less v w)) v w) ≡ (list_all is_no_control v && list_all is_no_control w)
+    → list_all is_no_control (sel_l (map (top 7) (zip2 if_less v w)) v w)
+    ≡ (list_all is_no_control v && list_all is_no_control w)
 list_all-lesser [] [] h = refl
 list_all-lesser [] (y ∷ w) h = absurd (omega arith)
 list_all-lesser (x ∷ v) [] h = absurd (omega arith)
@@ -102,12 +110,14 @@ list_all-plain (c ∷ v) =
 -- the same of four vectors
 pub list_all-plain-four : (a b c d : List ℕ)
     → (((list_all is_no_mark a && list_all is_no_mark b) && (list_all is_no_mark c && list_all is_no_mark d))
-        && ((list_all is_no_control a && list_all is_no_control b) && (list_all is_no_control c && list_all is_no_control d)))
+    && ((list_all is_no_control a && list_all is_no_control b)
+    && (list_all is_no_control c && list_all is_no_control d)))
     ≡ ((list_all is_plain a && list_all is_plain b) && (list_all is_plain c && list_all is_plain d))
 list_all-plain-four a b c d =
     let both : Bool → Bool → Bool = λ x y. x && y in
-    let two = λ (u v : List ℕ). and-swap (list_all is_no_mark u) (list_all is_no_mark v) (list_all is_no_control u) (list_all is_no_control v)
-        ∙ ap₂ both (sym (list_all-plain u)) (sym (list_all-plain v)) in
+    let two = λ (u v : List ℕ). and-swap (list_all is_no_mark u) (list_all is_no_mark v) (list_all is_no_control u)
+    (list_all is_no_control v)
+    ∙ ap₂ both (sym (list_all-plain u)) (sym (list_all-plain v)) in
     and-swap (list_all is_no_mark a && list_all is_no_mark b) (list_all is_no_mark c && list_all is_no_mark d)
     (list_all is_no_control a && list_all is_no_control b) (list_all is_no_control c && list_all is_no_control d)
     ∙ ap₂ both (two a b) (two c d)

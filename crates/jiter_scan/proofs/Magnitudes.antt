@@ -13,7 +13,8 @@ use Rattle.jiter_scan.proofs.Chunks.{prefix_len-front, prefix_len-pass, run_end-
 use Rattle.jiter_scan.proofs.Digits.{decimal_of-append, decimal_of-below, decimal_of-above}
 
 -- a range in two
-slice_range-split : (t : List ℕ) (i j k : ℕ) → i ≤ j → j ≤ k → slice_range t i k ≡ slice_range t i j ++ slice_range t j k
+slice_range-split : (t : List ℕ) (i j k : ℕ) → i ≤ j → j ≤ k → slice_range t i k
+    ≡ slice_range t i j ++ slice_range t j k
 slice_range-split t i j k low high =
     let count : k - i ≡ (j - i) + (k - j) = omega arith in
     let place : i + (j - i) ≡ j = omega arith in
@@ -50,16 +51,19 @@ module _ (t : List ℕ) where
     long = omega (arith, length-take (e - i) (drop i t), length-drop i t)
 
     are_digits : AreDigits (slice_range t i e)
-    are_digits = let counted : e - i ≤ prefix_len is_digit (drop i t) = omega arith in prefix_len-pass is_digit (e - i) (drop i t) counted
+    are_digits = let counted : e - i ≤ prefix_len is_digit (drop i t) =
+        omega arith in prefix_len-pass is_digit (e - i) (drop i t) counted
 
     -- at most nineteen digits
     pub decimal_of-nineteen : e - i ≤ 19 → decimal_of (slice_range t i e) < 10 ^ 19
     decimal_of-nineteen few =
         let most : 10 ^ (e - i) ≤ 10 ^ 19 = pow-le-pow_right {n = 10} (omega arith) {i = e - i} {j = 19} few in
-        let below = subst (λ n. decimal_of (slice_range t i e) < 10 ^ n) long (decimal_of-below (slice_range t i e) are_digits) in
+        let below = subst (λ n. decimal_of (slice_range t i e) < 10 ^ n) long
+        (decimal_of-below (slice_range t i e) are_digits) in
         omega arith
 
-    pub magnitude_of-short : (m : ℕ) → e - i ≤ 19 → m ≡ decimal_of (slice_range t i e) → m ≡ magnitude_of (slice_range t i e)
+    pub magnitude_of-short : (m : ℕ) → e - i ≤ 19 → m ≡ decimal_of (slice_range t i e) → m
+        ≡ magnitude_of (slice_range t i e)
     magnitude_of-short m few is = omega (arith, decimal_of-nineteen few)
 
     -- twenty digits or more, of which the first is no zero
@@ -70,17 +74,22 @@ module _ (t : List ℕ) where
         let rest = slice_range t (i + 1) e in
         let whole : slice_range t i e ≡ get_or t i 0 ∷ rest =
         slice_range-split t i (i + 1) e (omega arith) (omega arith) ∙ ap (λ w. w ++ rest) one in
-        let count : length rest ≡ e - (i + 1) = omega (arith, length-take (e - (i + 1)) (drop (i + 1) t), length-drop (i + 1) t) in
-        let least : 10 ^ 19 ≤ 10 ^ length rest = pow-le-pow_right {n = 10} (omega arith) {i = 19} {j = length rest} (omega arith) in
+        let count : length rest ≡ e - (i + 1) =
+        omega (arith, length-take (e - (i + 1)) (drop (i + 1) t), length-drop (i + 1) t) in
+        let least : 10 ^ 19 ≤ 10 ^ length rest =
+        pow-le-pow_right {n = 10} (omega arith) {i = 19} {j = length rest} (omega arith) in
         let above : 10 ^ length rest ≤ decimal_of (slice_range t i e) =
         subst (λ w. 10 ^ length rest ≤ decimal_of w) (sym whole) (decimal_of-above (get_or t i 0) rest first) in
         omega arith
 
   -- the word of sixteen, and those behind them
   pub decimal_of-joined : (i e : ℕ) → i + 16 ≤ e → e ≤ length t
-      → decimal_of (slice_range t i (i + 16)) * 10 ^ (e - i - 16) + decimal_of (slice_range t (i + 16) e) ≡ decimal_of (slice_range t i e)
+      → decimal_of (slice_range t i (i + 16)) * 10 ^ (e - i - 16) + decimal_of (slice_range t (i + 16) e)
+      ≡ decimal_of (slice_range t i e)
   decimal_of-joined i e many within =
       let back = slice_range t (i + 16) e in
-      let count : length back ≡ e - i - 16 = omega (arith, length-take (e - (i + 16)) (drop (i + 16) t), length-drop (i + 16) t) in
-      sym (ap decimal_of (slice_range-split t i (i + 16) e (omega arith) many) ∙ decimal_of-append (slice_range t i (i + 16)) back
+      let count : length back ≡ e - i - 16 =
+      omega (arith, length-take (e - (i + 16)) (drop (i + 16) t), length-drop (i + 16) t) in
+      sym (ap decimal_of (slice_range-split t i (i + 16) e (omega arith) many)
+      ∙ decimal_of-append (slice_range t i (i + 16)) back
       ∙ ap (λ n. decimal_of (slice_range t i (i + 16)) * 10 ^ n + decimal_of back) count)

@@ -35,7 +35,8 @@ ascii-front (suc r) [] h = absurd (omega arith)
 ascii-front (suc r) (c ∷ w) h = front-step (is_ascii c) r _ _ (ascii-front r w (omega arith))
 
 -- where no bit of the mask is set, 64 stands for the length
-front-mask : (w : List ℕ) (r : ℕ) → length w ≤ 64 → r ≤ length w → leb r (prefix_len is_ascii w) ≡ leb r (count_trailing_zeros 64 (failing is_ascii w))
+front-mask : (w : List ℕ) (r : ℕ) → length w ≤ 64 → r ≤ length w → leb r (prefix_len is_ascii w)
+    ≡ leb r (count_trailing_zeros 64 (failing is_ascii w))
 unfolding count_trailing_zeros
 front-mask w r short le =
     elim (cases_eq (failing is_ascii w) 0) [
@@ -48,7 +49,8 @@ front-mask w r short le =
 
 module _ (t : List ℕ) (i n : ℕ) where
   -- a chunk without a stop
-  pub ascii_from-through : i + n ≤ length t → list_all is_plain (chunk i n t) ≡ true → ascii_from t i ≡ (list_all is_ascii (chunk i n t) && ascii_from t (i + n))
+  pub ascii_from-through : i + n ≤ length t → list_all is_plain (chunk i n t) ≡ true → ascii_from t i
+      ≡ (list_all is_ascii (chunk i n t) && ascii_from t (i + n))
   ascii_from-through room plain =
       let m = prefix_len is_plain (drop (i + n) t) in
       ap (λ k. list_all is_ascii (take k (drop i t))) (prefix_len-through is_plain t i n room plain)
@@ -56,12 +58,15 @@ module _ (t : List ℕ) (i n : ℕ) where
       ∙ list_all-append is_ascii (chunk i n t) (take m (drop n (drop i t)))
       ∙ ap (λ l. list_all is_ascii (chunk i n t) && list_all is_ascii (take m l)) (drop-drop n i t)
 
-  pub ascii_from-through-mask : i + n ≤ length t → failing is_plain (chunk i n t) ≡ 0 → ascii_from t i ≡ (eqb (failing is_ascii (chunk i n t)) 0 && ascii_from t (i + n))
-  ascii_from-through-mask room none = ascii_from-through room (none_fails is_plain t i n none) ∙ ap (λ b. b && ascii_from t (i + n)) (list_all-failing is_ascii (chunk i n t))
+  pub ascii_from-through-mask : i + n ≤ length t → failing is_plain (chunk i n t) ≡ 0 → ascii_from t i
+      ≡ (eqb (failing is_ascii (chunk i n t)) 0 && ascii_from t (i + n))
+  ascii_from-through-mask room none = ascii_from-through room (none_fails is_plain t i n none)
+      ∙ ap (λ b. b && ascii_from t (i + n)) (list_all-failing is_ascii (chunk i n t))
 
   -- a chunk with one: by the lowest bits of both masks
   pub ascii_from-inside : i + n ≤ length t → n ≤ 64 → 0 < failing is_plain (chunk i n t)
-      → ascii_from t i ≡ leb (count_trailing_zeros 64 (failing is_plain (chunk i n t))) (count_trailing_zeros 64 (failing is_ascii (chunk i n t)))
+      → ascii_from t i ≡ leb (count_trailing_zeros 64 (failing is_plain (chunk i n t)))
+      (count_trailing_zeros 64 (failing is_ascii (chunk i n t)))
   ascii_from-inside room short some =
       let c = chunk i n t in
       let r = prefix_len is_plain c in
@@ -71,10 +76,12 @@ module _ (t : List ℕ) (i n : ℕ) where
       ∙ ap (list_all is_ascii) (sym (take-take r n (drop i t) (omega arith)))
       ∙ ascii-front r c within
       ∙ front-mask c r (omega arith) within
-      ∙ ap (λ k. leb k (count_trailing_zeros 64 (failing is_ascii c))) (prefix_len-failing is_plain c (omega arith) some)
+      ∙ ap (λ k. leb k (count_trailing_zeros 64 (failing is_ascii c)))
+      (prefix_len-failing is_plain c (omega arith) some)
 
 -- one byte that is no stop
-pub ascii_from-byte : (t : List ℕ) (i : ℕ) → i < length t → is_stop (get_or t i 0) ≡ false → ascii_from t i ≡ (is_ascii (get_or t i 0) && ascii_from t (i + 1))
+pub ascii_from-byte : (t : List ℕ) (i : ℕ) → i < length t → is_stop (get_or t i 0) ≡ false → ascii_from t i
+    ≡ (is_ascii (get_or t i 0) && ascii_from t (i + 1))
 ascii_from-byte t i within goes =
     let e : drop i t ≡ get_or t i 0 ∷ drop (i + 1) t = rw add-one (drop-cons t i 0 within) in
     let n = prefix_len is_plain (drop (i + 1) t) in
@@ -90,8 +97,13 @@ ascii_from-stop t i stop =
     ap (λ k. list_all is_ascii (take k (drop i t))) none
 
 -- the answer, in words
-pub IsAsciiTo-iff : (t : List ℕ) (i e : ℕ) (b : Bool) → e ≡ scan_stop t i → b ≡ ascii_from t i → IsTrue b ↔ IsAsciiTo t i e
+pub IsAsciiTo-iff : (t : List ℕ) (i e : ℕ) (b : Bool) → e ≡ scan_stop t i → b ≡ ascii_from t i
+    → IsTrue b ↔ IsAsciiTo t i e
 IsAsciiTo-iff t i e b stop is =
     let count : prefix_len is_plain (drop i t) ≡ e - i = omega arith in
-    let all : b ≡ list_all is_ascii (slice_range t i e) = is ∙ ap (λ k. list_all is_ascii (take k (drop i t))) count in
-    (λ h. AllPass-from_list_all is_ascii (slice_range t i e) (sym all ∙ h), λ h. all ∙ list_all-from_AllPass is_ascii (slice_range t i e) h)
+    let all : b ≡ list_all is_ascii (slice_range t i e) =
+    is ∙ ap (λ k. list_all is_ascii (take k (drop i t))) count in (
+      λ h. AllPass-from_list_all is_ascii (slice_range t i e) (sym all ∙ h),
+      λ h. all
+          ∙ list_all-from_AllPass is_ascii (slice_range t i e) h,
+    )

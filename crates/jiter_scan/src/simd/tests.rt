@@ -164,7 +164,11 @@ fn digits_are_counted_and_read(rt: HostRuntime) {
 fn words_leave_out_what_stands_behind_their_digits(rt: HostRuntime) {
     for (chunk, count, value) in [
         (*b"12345678////////", 8, 12345678),
-        (*b"12,\xff\xff\xff\xff\xff\xff\xff\xff\xff\xff\xff\xff\xff", 2, 12),
+        (
+            *b"12,\xff\xff\xff\xff\xff\xff\xff\xff\xff\xff\xff\xff\xff",
+            2,
+            12,
+        ),
         (*b"12,abcdefghijklm", 2, 12),
         (*b"12,3456789012345", 2, 12),
         (*b"1234567890123456", 16, 1234567890123456),

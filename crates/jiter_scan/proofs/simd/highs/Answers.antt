@@ -8,4 +8,5 @@ pub returns : goal.returns
 returns c =
     let v = c.args.v in
     let long = c.fits-v.0 in
-    failing-lanes _ is_ascii v _ long c.fits-v.1 (zip2_of_maps if_at_most (λ _. 128) (λ x. x) v (splat_is_map v 16 128 long) (lanes_alone v)) refl
+    failing-lanes _ is_ascii v _ long c.fits-v.1
+    (zip2_of_maps if_at_most (λ _. 128) (λ x. x) v (splat_is_map v 16 128 long) (lanes_alone v)) refl

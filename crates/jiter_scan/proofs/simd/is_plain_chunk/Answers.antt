@@ -11,10 +11,12 @@ returns-clause-plain c =
     let i = c.args.i in
     let both : Bool → Bool → Bool = λ x y. x && y in
     let marked = c.greater-marked.ensures ∙ ap₂ both (c.greater.ensures ∙ ap₂ both c.marks.ensures c.marks-2.ensures)
-        (c.greater-2.ensures ∙ ap₂ both c.marks-3.ensures c.marks-4.ensures) in
-    let controlled = c.controls-controlled.ensures ∙ c.lesser-3.ensures ∙ ap₂ both c.lesser.ensures c.lesser-2.ensures in
+    (c.greater-2.ensures ∙ ap₂ both c.marks-3.ensures c.marks-4.ensures) in
+    let controlled =
+    c.controls-controlled.ensures ∙ c.lesser-3.ensures ∙ ap₂ both c.lesser.ensures c.lesser-2.ensures in
     c.is_low.ensures ∙ c.greater-5.ensures ∙ ap₂ both marked controlled
-    ∙ list_all-plain-four (chunk i 16 t) (chunk (i + 16) 16 t) (chunk (i + 32) 16 t) (chunk (i + 48) 16 t) ∙ sym (list_all-four is_plain t i)
+    ∙ list_all-plain-four (chunk i 16 t) (chunk (i + 16) 16 t) (chunk (i + 32) 16 t) (chunk (i + 48) 16 t)
+    ∙ sym (list_all-four is_plain t i)
 
 pub returns-clause-ascii : goal.returns-clause-ascii
 returns-clause-ascii c =

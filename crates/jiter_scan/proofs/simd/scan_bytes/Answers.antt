@@ -13,20 +13,24 @@ loop-i-preserved c =
     let run = run_end-passing is_plain t i c.loop-i-test.true (ap not goes) in
     record {
       stop = omega arith;
-      ascii = c.loop-i.invariant.ascii ∙ ap (λ b. c.loop-i.clean && b) (ascii_from-byte t i c.loop-i-test.true goes) ∙ sym (and-assoc c.loop-i.clean (is_ascii (get_or t i 0)) (ascii_from t (i + 1)))
+      ascii = c.loop-i.invariant.ascii ∙ ap (λ b. c.loop-i.clean && b) (ascii_from-byte t i c.loop-i-test.true goes)
+          ∙ sym (and-assoc c.loop-i.clean (is_ascii (get_or t i 0)) (ascii_from t (i + 1)))
           ∙ ap (λ b. b && ascii_from t (i + 1)) (sym c.both-clean.ensures);
       within = omega arith;
     }
 
 pub returns-then-is_stop-clause-stop : goal.returns-then-is_stop-clause-stop
 returns-then-is_stop-clause-stop c =
-    let here = run_end-stopping is_plain c.args.bytes.now c.loop-i.i c.loop-i-test.true (ap not (sym c.is_stop.ensures ∙ c.if-is_stop.true)) in
+    let here = run_end-stopping is_plain c.args.bytes.now c.loop-i.i c.loop-i-test.true
+    (ap not (sym c.is_stop.ensures ∙ c.if-is_stop.true)) in
     omega arith
 
 pub returns-then-is_stop-clause-ascii : goal.returns-then-is_stop-clause-ascii
 returns-then-is_stop-clause-ascii c =
-    let here = run_end-stopping is_plain c.args.bytes.now c.loop-i.i c.loop-i-test.true (ap not (sym c.is_stop.ensures ∙ c.if-is_stop.true)) in
-    sym (c.loop-i.invariant.ascii ∙ ap (λ b. c.loop-i.clean && b) (ascii_from-stop c.args.bytes.now c.loop-i.i here) ∙ and-true c.loop-i.clean)
+    let here = run_end-stopping is_plain c.args.bytes.now c.loop-i.i c.loop-i-test.true
+    (ap not (sym c.is_stop.ensures ∙ c.if-is_stop.true)) in
+    sym (c.loop-i.invariant.ascii ∙ ap (λ b. c.loop-i.clean && b) (ascii_from-stop c.args.bytes.now c.loop-i.i here)
+    ∙ and-true c.loop-i.clean)
 
 pub returns-clause-stop : goal.returns-clause-stop
 returns-clause-stop c = omega (arith, run_end-past is_plain c.args.bytes.now c.loop-i.i c.loop-i-test.false)
@@ -34,4 +38,5 @@ returns-clause-stop c = omega (arith, run_end-past is_plain c.args.bytes.now c.l
 pub returns-clause-ascii : goal.returns-clause-ascii
 returns-clause-ascii c =
     let here = run_end-past is_plain c.args.bytes.now c.loop-i.i c.loop-i-test.false in
-    sym (c.loop-i.invariant.ascii ∙ ap (λ b. c.loop-i.clean && b) (ascii_from-stop c.args.bytes.now c.loop-i.i here) ∙ and-true c.loop-i.clean)
+    sym (c.loop-i.invariant.ascii ∙ ap (λ b. c.loop-i.clean && b) (ascii_from-stop c.args.bytes.now c.loop-i.i here)
+    ∙ and-true c.loop-i.clean)

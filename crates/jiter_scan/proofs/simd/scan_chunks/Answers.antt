@@ -10,15 +10,18 @@ use Rattle.jiter_scan.proofs.simd.scan_chunks.Goals as goal
 pub returns-then-found-ne0-clause-stop : goal.returns-then-found-ne0-clause-stop
 returns-then-found-ne0-clause-stop c =
     let found = c.stops-found in
-    let run = run_end-inside is_plain c.args.bytes.now c.loop-i.i 16 (omega arith) (omega arith) (omega (arith, found.ensures)) in
+    let run = run_end-inside is_plain c.args.bytes.now c.loop-i.i 16 (omega arith) (omega arith)
+    (omega (arith, found.ensures)) in
     let count = ap (count_trailing_zeros 64) found.ensures in
     omega arith
 
 pub returns-then-found-ne0-clause-ascii : goal.returns-then-found-ne0-clause-ascii
 returns-then-found-ne0-clause-ascii c =
     let found = c.stops-found in
-    let here = ascii_from-inside c.args.bytes.now c.loop-i.i 16 (omega arith) (omega arith) (omega (arith, found.ensures)) in
-    let same = ap₂ (λ s h. leb (count_trailing_zeros 64 s) (count_trailing_zeros 64 h)) (sym found.ensures) (sym c.highs-high.ensures) in
+    let here =
+    ascii_from-inside c.args.bytes.now c.loop-i.i 16 (omega arith) (omega arith) (omega (arith, found.ensures)) in
+    let same = ap₂ (λ s h. leb (count_trailing_zeros 64 s) (count_trailing_zeros 64 h)) (sym found.ensures)
+    (sym c.highs-high.ensures) in
     c.first_stop.ensures.ascii ∙ ap (λ b. c.loop-i.clean && b) (sym (here ∙ same)) ∙ sym c.loop-i.invariant.ascii
 
 pub loop-i-preserved : goal.loop-i-preserved
@@ -29,14 +32,17 @@ loop-i-preserved c =
     let low = ascii_from-through-mask t i 16 (omega arith) (omega (arith, c.stops-found.ensures)) in
     record {
       stop = omega arith;
-      ascii = c.loop-i.invariant.ascii ∙ ap (λ b. c.loop-i.clean && b) (low ∙ ap (λ m. eqb m 0 && ascii_from t (i + 16)) (sym c.highs-high.ensures))
-          ∙ sym (and-assoc c.loop-i.clean (eqb c.highs-high.result 0) (ascii_from t (i + 16))) ∙ ap (λ b. b && ascii_from t (i + 16)) (sym c.both-clean.ensures);
+      ascii = c.loop-i.invariant.ascii
+          ∙ ap (λ b. c.loop-i.clean && b) (low ∙ ap (λ m. eqb m 0 && ascii_from t (i + 16)) (sym c.highs-high.ensures))
+          ∙ sym (and-assoc c.loop-i.clean (eqb c.highs-high.result 0) (ascii_from t (i + 16)))
+          ∙ ap (λ b. b && ascii_from t (i + 16)) (sym c.both-clean.ensures);
       within = omega arith;
     }
 
 pub first_stop-requires : goal.first_stop-requires
 first_stop-requires c =
     let found = c.stops-found in
-    let run = run_end-inside is_plain c.args.bytes.now c.loop-i.i 16 (omega arith) (omega arith) (omega (arith, found.ensures)) in
+    let run = run_end-inside is_plain c.args.bytes.now c.loop-i.i 16 (omega arith) (omega arith)
+    (omega (arith, found.ensures)) in
     let count = ap (count_trailing_zeros 64) found.ensures in
     omega (arith, run_end-within is_plain c.args.bytes.now c.loop-i.i c.loop-i.invariant.within)

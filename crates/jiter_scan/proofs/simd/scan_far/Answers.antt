@@ -17,7 +17,9 @@ loop-i-preserved c =
     let rest = ascii_from t (i + 64) in
     record {
       stop = omega arith;
-      ascii = c.loop-i.invariant.ascii ∙ ap (λ b. c.loop-i.clean && b) (ascii_from-through t i 64 (omega arith) plain ∙ ap (λ b. b && rest) (sym found.ensures.ascii))
+      ascii = c.loop-i.invariant.ascii
+          ∙ ap (λ b. c.loop-i.clean && b)
+          (ascii_from-through t i 64 (omega arith) plain ∙ ap (λ b. b && rest) (sym found.ensures.ascii))
           ∙ sym (and-assoc c.loop-i.clean found.result.1 rest) ∙ ap (λ b. b && rest) (sym c.both-clean.ensures);
       within = omega arith;
     }

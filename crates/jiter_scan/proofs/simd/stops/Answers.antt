@@ -10,4 +10,5 @@ returns c =
     let v = c.args.v in
     let long = c.fits-v.0 in
     let marks = zip2_of_maps bit_or _ _ v (zip2_splat if_equal v 16 34 long) (zip2_splat if_equal v 16 92 long) in
-    failing-lanes _ is_plain v _ long c.fits-v.1 (zip2_of_maps bit_or _ _ v marks (zip2_splat if_less v 16 32 long)) refl
+    failing-lanes _ is_plain v _ long c.fits-v.1
+    (zip2_of_maps bit_or _ _ v marks (zip2_splat if_less v 16 32 long)) refl
