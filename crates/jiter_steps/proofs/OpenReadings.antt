@@ -1,4 +1,4 @@
--- A value whose reading meets a fault that can go on can be ended behind the bytes before it.
+-- A value whose reading meets a fault that can go on can be text_in_form behind the bytes before it.
 use Rattle.std.proofs.Common.{◌≡◌, inl, inr, ℕ, zero, suc, ◌+◌, ◌<◌, ◌≤◌, Bool, true, false, List, [], ◌∷◌, ◌++◌, length, take, refl, sym, ap, ◌∙◌, subst, arith, codes}
 use Rattle.std.specs.Prelude.{slice_get, slice_index, Option, Some, None, ◌==◌}
 use Rattle.std.specs.Str.{chars}
@@ -20,7 +20,7 @@ use Rattle.jiter_steps.specs.Node.{Key, Node, begin, end, StandsBehind, SpellsNu
 use Rattle.jiter_steps.specs.Piece.{SpellsString}
 use Rattle.jiter_steps.specs.Read.{Reading, done, fault, Container, scalar_at, with_key, behind_colon, behind_key, value_with, inside_at, value_at}
 use Rattle.jiter_steps.specs.Step.{step, colon, value_first, object_colon}
-use Rattle.jiter_steps.specs.StringReading.{Stop, closed, unclosed, cut, wrong, whole, body_at, ended, content_at, string_at}
+use Rattle.jiter_steps.specs.StringReading.{Stop, closed, unclosed, cut, wrong, whole, body_at, text_in_form, content_at, string_at}
 use Rattle.jiter_steps.specs.Tree.{Text}
 use Rattle.jiter_steps.specs.declared.parse.Start.{Start}
 use Rattle.jiter_steps.specs.declared.parse.Start.TheVariants as start
@@ -32,7 +32,7 @@ use Rattle.jiter_steps.proofs.OpenNumbers.{LiveIs, then-live, word-live, zero-nu
 use Rattle.jiter_steps.proofs.OpenParts.{Anywhere, CanEndHere, PartsOf, CanEnd, Grows, container_at-open}
 use Rattle.jiter_steps.proofs.Parts.{Grammar, parts-are}
 use Rattle.jiter_steps.proofs.Pieces.{pieces_from}
-use Rattle.jiter_steps.proofs.PlacesExplained.{IsPlaceKind}
+use Rattle.jiter_steps.proofs.Places.{IsPlaceKind}
 use Rattle.jiter_steps.proofs.RowSteps.{ByteAt, ItemAt, KeyBegins, PartBehind, Behind, ExtentIs, array-delimits, object-delimits, object_colon-is}
 use Rattle.jiter_steps.proofs.SameFront.{SameBefore, same-sooner, place-too, key-too, spells-too}
 use Rattle.jiter_steps.proofs.Sound.{array-byte, object-byte, byte-here, IsNodeAt, IsItemAt, IsMemberAt, InsideSound, array, object, array-goes, object-goes, ItemsAre, MoreItemsAre, MembersAre, MoreMembersAre, items-grammar, members-grammar, item-read, member-read, inside_at-sound}
@@ -40,7 +40,7 @@ use Rattle.jiter_steps.proofs.ScalarLaws.{ScalarLaws, scalar-laws}
 use Rattle.jiter_steps.proofs.SpelledParts.{key-ahead, node-ahead}
 use Rattle.jiter_steps.proofs.StuckSteps.{array-sticks, object-sticks}
 
--- at a fault that can go on, something like this can be ended
+-- at a fault that can go on, something like this can be text_in_form
 abbrev pub OpenAs : {P A : Type 0} → (List ℕ → ℕ → P → ℕ → Type 0) → List ℕ → ℕ → Reading A → Type 0
 OpenAs Is t i x = OpenTo (CanEndHere Is t i) x
 
@@ -52,18 +52,18 @@ place-dead k (inr (inr (inl e))) = ap can_go_on e
 place-dead k (inr (inr (inr e))) = ap can_go_on e
 
 module _ (t : List ℕ) (At : ℕ → Type 0) where
-  ended-live : (i : ℕ) (bs : List ℕ) (o : Bool) (s : Stop) → StopWithin t i s → LiveIs At (ended whole t i bs o s)
-  ended-live i bs o (wrong k j) w = λ live. absurd (false≢true (sym (place-dead k w.2) ∙ live))
-  ended-live i bs o (closed e) w =
+  text_in_form-live : (i : ℕ) (bs : List ℕ) (o : Bool) (s : Stop) → StopWithin t i s → LiveIs At (text_in_form whole t i bs o s)
+  text_in_form-live i bs o (wrong k j) w = λ live. absurd (false≢true (sym (place-dead k w.2) ∙ live))
+  text_in_form-live i bs o (closed e) w =
       either (LiveIs At) (utf8_valid_len bs == length bs) (taken (record { owned = o; bytes = bs }) e)
       (failed invalid_code_point (i + utf8_valid_len bs)) tt (λ live. absurd (false≢true live))
-  ended-live i bs o unclosed w = λ live. absurd (false≢true live)
-  ended-live i bs o cut w = λ live. absurd (false≢true live)
+  text_in_form-live i bs o unclosed w = λ live. absurd (false≢true live)
+  text_in_form-live i bs o cut w = λ live. absurd (false≢true live)
 
   string-live : (i : ℕ) → LiveIs At (string_at whole t i)
   unfolding content_at
   string-live i =
-      let b = body_at t (i + 1) in ended-live (i + 1) b.bytes b.owned b.stop (body_at-within t (i + 1))
+      let b = body_at t (i + 1) in text_in_form-live (i + 1) b.bytes b.owned b.stop (body_at-within t (i + 1))
 
   colon-live : (j : ℕ) (o : Option ℕ) → LiveIs At (colon j o)
   colon-live j None = λ live. absurd (false≢true live)
@@ -314,6 +314,6 @@ module _ (names : Bool) where
   inside_at-open t (suc room) i h =
       room-inside t room i _ (value_with-open t room (inside_at-open t room) i h (start_of (slice_index t i)) refl)
 
-  -- Where a value's reading meets a fault that can go on, the value can be ended.
+  -- Where a value's reading meets a fault that can go on, the value can be text_in_form.
   pub value_at-open : (t : List ℕ) (room i : ℕ) → i < length t → OpenAs (IsValue room) t i (value_at (nodes names) t room i)
   value_at-open t room i h = value_with-open t room (inside_at-open t room) i h (start_of (slice_index t i)) refl
