@@ -36,7 +36,7 @@ use Rattle.jiter_steps.proofs.Front.{front-length, front-get, front-blank, front
 use Rattle.jiter_steps.proofs.Growth.{node-late, node-whole}
 use Rattle.jiter_steps.proofs.Halting.{Halts, StuckAt, end-forgiven, byte-halts, cut-halts, begin-halts, array-halts, object-halts}
 use Rattle.jiter_steps.proofs.Instances.{trees-advances}
-use Rattle.jiter_steps.proofs.Nodes.{blank-passed}
+use Rattle.jiter_steps.proofs.Blanks.{blank-passed}
 use Rattle.jiter_steps.proofs.NumberCutLaws.{CutNumber, number_at-before, number_at-cuts}
 use Rattle.jiter_steps.proofs.ReadFront.{IsCutMember, CutRules, value_at-front}
 use Rattle.jiter_steps.proofs.ScalarLaws.{ScalarLaws, scalar-laws, EndsNumber}
