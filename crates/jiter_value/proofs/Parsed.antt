@@ -21,16 +21,21 @@ use Rattle.jiter_value.proofs.Answering.{answer_in-within}
 
 -- a container that is cut ends too early
 cut-early : (names : Bool) (t : List ℕ) → IsCutContainer names t → EndsEarly (answer names t)
-cut-early names t c = subst (λ u. EndsEarly (answer names u)) (sym c.is) (prefix-refused names c.text c.node c.place c.document c.container c.before_end)
+cut-early names t c =
+    subst (λ u. EndsEarly (answer names u)) (sym c.is)
+    (prefix-refused names c.text c.node c.place c.document c.container c.before_end)
 
 -- With partial reading off.
 module _ (names : Bool) (t : List ℕ) where
-  pub parse-found : (r : Result JsonValue JsonError) → Answers r (answer names t) → IfOk r (λ v. (n : Node) × IsDocument names t n × (value_of t n ≡ view v))
+  pub parse-found : (r : Result JsonValue JsonError) → Answers r (answer names t)
+      → IfOk r (λ v. (n : Node) × IsDocument names t n × (value_of t n ≡ view v))
   parse-found (Ok v) h = let read = subst (IsRead names t) h.1 (answer-is names t) in (read.0, read.1, read.2)
   parse-found (Err e) h = tt
 
-  pub parse-only : (r : Result JsonValue JsonError) → Answers r (answer names t) → (n : Node) → IsDocument names t n → MatchResult r (λ v. view v ≡ value_of t n) (λ e. e.error_type ≡ OutOfMemory)
-  parse-only (Ok v) h n d = let read = subst (IsRead names t) h.1 (answer-is names t) in sym read.2 ∙ sym (ap (value_of t) (read.3 n d))
+  pub parse-only : (r : Result JsonValue JsonError) → Answers r (answer names t) → (n : Node) → IsDocument names t n
+      → MatchResult r (λ v. view v ≡ value_of t n) (λ e. e.error_type ≡ OutOfMemory)
+  parse-only (Ok v) h n d =
+      let read = subst (IsRead names t) h.1 (answer-is names t) in sym read.2 ∙ sym (ap (value_of t) (read.3 n d))
   parse-only (Err e) (inl m) n d = m
   parse-only (Err e) (inr h) n d = absurd (subst (IsRead names t) h.1 (answer-is names t) n d)
 
@@ -45,10 +50,15 @@ module _ (names : Bool) (t : List ℕ) (mode : PartialMode) (i : ℕ) (e : JsonE
   fault-at : (k : Kind) (x : ℕ) → answer_in names mode t ≡ fault k x i → FaultAt t k x
   fault-at k x h = let w = subst (Within t 0) h (answer_in-within names t mode) in w.2
 
-  pub error-index : (x : ReadError) → IsErrorOf x i e → GivesWhole (Err x) i (answer_in names mode t) → i ≤ length t → e.index ≤ length t
-  error-index (error.Fault f) is h le = subst (λ j. j ≤ length t) (sym is.1) (fault-at (fault_kind f.kind) f.index h).within
+  pub error-index : (x : ReadError) → IsErrorOf x i e → GivesWhole (Err x) i (answer_in names mode t) → i ≤ length t
+      → e.index ≤ length t
+  error-index (error.Fault f) is h le =
+      subst (λ j. j ≤ length t) (sym is.1) (fault-at (fault_kind f.kind) f.index h).within
   error-index (error.Memory m) is h le = subst (λ j. j ≤ length t) (sym (ap (λ e. e.index) is)) le
 
-  pub error-ends : (x : ReadError) → IsErrorOf x i e → GivesWhole (Err x) i (answer_in names mode t) → is_end_kind (kind_of e.error_type) ≡ true → e.index ≡ length t
-  error-ends (error.Fault f) is h k = is.1 ∙ (fault-at (fault_kind f.kind) f.index h).ends (ap is_end_kind (sym is.0) ∙ k)
-  error-ends (error.Memory m) is h k = let other = ap (λ e. is_end_kind (kind_of e.error_type)) (sym is) ∙ k in absurd (cc)
+  pub error-ends : (x : ReadError) → IsErrorOf x i e → GivesWhole (Err x) i (answer_in names mode t)
+      → is_end_kind (kind_of e.error_type) ≡ true → e.index ≡ length t
+  error-ends (error.Fault f) is h k =
+      is.1 ∙ (fault-at (fault_kind f.kind) f.index h).ends (ap is_end_kind (sym is.0) ∙ k)
+  error-ends (error.Memory m) is h k =
+      let other = ap (λ e. is_end_kind (kind_of e.error_type)) (sym is) ∙ k in absurd (cc)
