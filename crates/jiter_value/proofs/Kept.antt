@@ -69,7 +69,7 @@ pub value-frames : (o : Open) (os : List Open) (es : List JsonValue) (before : L
 value-frames o os es before key old h =
     let m : Member = (key, old) in
     let dropped : drop o.base (before ++ m ∷ []) ≡ drop o.base before ++ m ∷ [] = drop-append-le o.base before
-        (m ∷ []) h in
+    (m ∷ []) h in
     let kept : take o.base (before ++ m ∷ []) ≡ take o.base before = take-append-le o.base before (m ∷ []) h in
     ap₂
     (λ part rest. members_frame (map member_view (front part)) (last_key part) ∷ frames o.outer os es rest) dropped kept
@@ -104,7 +104,7 @@ module _ (p : Settings) (t : List ℕ) where
   put-item [] es ms root v e h = absurd h
   put-item (o ∷ os) es ms root v e h =
       let part : map view (drop o.base es) ++ view v ∷ [] ≡ map view (drop o.base (es ++ v ∷ [])) = sym
-          (map_push view (drop o.base es) v) ∙ ap (map view) (sym (drop-append-le o.base es (v ∷ []) h.0)) in
+      (map_push view (drop o.base es) v) ∙ ap (map view) (sym (drop-append-le o.base es (v ∷ []) h.0)) in
       let rest : take o.base es ≡ take o.base (es ++ v ∷ []) = sym (take-append-le o.base es (v ∷ []) h.0) in
       ap₂ (λ xs ys. items_from (rules p) t (frames o.outer os ys ms) xs e) part rest
 
@@ -117,7 +117,7 @@ module _ (p : Settings) (t : List ℕ) where
       sym (map_push member_view (drop o.base before) (key, v))
       ∙ ap (map member_view) (sym (drop-append-le o.base before ((key, v) ∷ []) le)) in
       let rest : take o.base before ≡ take o.base (before ++ (key, v) ∷ []) = sym
-          (take-append-le o.base before ((key, v) ∷ []) le) in
+      (take-append-le o.base before ((key, v) ∷ []) le) in
       ap (λ fs. resume (rules p) t fs (done (view v) e)) (value-frames o os es before key old le)
       ∙ ap₂ (λ xs ys. members_from (rules p) t (frames o.outer os es ys) xs e) part rest
 
@@ -286,7 +286,7 @@ module _ (p : Settings) (t : List ℕ) where
         → value_from (rules p) t fs i ≡ key_in p t (o ∷ os) es ms j
     object-opens j o eq is s =
         let none : [] ≡ map member_view (drop (length ms) ms) = sym
-            (ap (map member_view) (drop_all (length ms) ms (omega arith))) in
+        (ap (map member_view) (drop_all (length ms) ms (omega arith))) in
         let same : ms ≡ take (length ms) ms = sym (take_all (length ms) ms (omega arith)) in
         object-begins (rules p) t good any fs i (more j) low is s
         ∙ ap₂ (λ xs ys. key_from (rules p) t (frames a os es ys) xs j) none same
@@ -325,7 +325,7 @@ module _ (p : Settings) (t : List ℕ) where
       let fs = frames o.outer os es (take o.base ms) in
       let f : Frame Text Tree = members_frame (map member_view (drop o.base ms)) k in
       let d : suc (length fs) ≡ 201 = omega
-          (arith, full, length-frames o.outer os (length es) o.base es (take o.base ms) b.1) in
+      (arith, full, length-frames o.outer os (length es) o.base es (take o.base ms) b.1) in
       key-value (rules p) t good fs (map member_view (drop o.base ms)) j e m k h v s
       ∙ ap (λ n. resume (rules p) t (f ∷ fs) (value_in (rules p) t n m)) d
       ∙ ap (resume (rules p) t (f ∷ fs)) (value_in-limit (rules p) t m)
