@@ -20,3 +20,4 @@ pub mod Chunks
 pub mod PlainRuns
 pub mod DigitWords
 pub mod Magnitudes
+pub mod ShortNumbers

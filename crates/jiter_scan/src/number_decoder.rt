@@ -337,7 +337,7 @@ fn integer_of<'j>(
 }
 
 // Behind a fraction, if one stands at `at`, and an exponent, if one follows.
-fn tail_end(bytes: &[u8], at: usize) -> Result<usize, Fault>
+pub(crate) fn tail_end(bytes: &[u8], at: usize) -> Result<usize, Fault>
     requires { at ≤ length bytes.now }
     ensures value { Scans (taken tt) result (extent_then (fraction_at bytes.now at) (exponent_at bytes.now)) }
     ensures place { IfOk result (λ e. (at ≤ e) × (e ≤ length bytes.now)) }
@@ -465,7 +465,7 @@ pub fn number_at<'j>(
     }
 }
 
-fn is_float_sign(byte: u8) -> bool
+pub(crate) fn is_float_sign(byte: u8) -> bool
     ensures { result ≡ is_float_sign byte }
 {
     matches!(byte, b'.' | b'e' | b'E')

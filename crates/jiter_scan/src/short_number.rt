@@ -1,0 +1,57 @@
+//! Short numbers that do not stand near the end of the input, by one load, with the answer in registers.
+ghost use Rattle.std.specs.Prelude.{◌≡◌, ◌<◌, ◌≤◌, IfSome, length};
+ghost use Rattle.jiter_scan.specs.NumberReading.{extent_then, fraction_at, exponent_at};
+ghost use Rattle.jiter_scan.specs.Scanned.{taken};
+ghost use Rattle.jiter_scan.specs.ShortNumber.{IsShort};
+
+use crate::number_decoder::{is_float_sign, tail_end};
+use crate::simd::{chunk_at, digit_count, digit_word};
+
+/// What stands at a number's first digit.
+#[derive(Debug, Clone, Copy, PartialEq, Eq)]
+pub enum Short {
+    /// An integer: its magnitude, and the place behind it.
+    Int(u64, usize),
+    /// A number with a point or an exponent: the place behind it.
+    Float(usize),
+    /// Anything else: a long number, one near the end of the input, or a fault.
+    Other,
+}
+
+// Behind the fraction and the exponent that stand at `at`, if they are well formed.
+#[inline(never)]
+fn float_end(bytes: &[u8], at: usize) -> Option<usize>
+    requires { at ≤ length bytes.now }
+    ensures end { IfSome result
+        (λ e. extent_then (fraction_at bytes.now at) (exponent_at bytes.now) ≡ taken tt e) }
+    ensures place { IfSome result (λ e. e ≤ length bytes.now) }
+{
+    match tail_end(bytes, at) {
+        Ok(end) => Some(end),
+        Err(_) => None,
+    }
+}
+
+/// The number whose first digit stands at a byte index, if it is short: a minus is read before.
+#[inline(always)]
+pub fn short_at(bytes: &[u8], at: usize) -> Short
+    requires { at ≤ length bytes.now }
+    ensures { IsShort bytes.now at result }
+{
+    if bytes.len() - at < 32 {
+        return Short::Other;
+    }
+    let chunk = chunk_at(bytes, at);
+    let count = digit_count(chunk);
+    if count == 0 || count > 15 || bytes[at] == b'0' && count != 1 {
+        return Short::Other;
+    }
+    let end = at + count;
+    if !is_float_sign(bytes[end]) {
+        return Short::Int(digit_word(chunk, count), end);
+    }
+    match float_end(bytes, end) {
+        Some(behind) if behind > end => Short::Float(behind),
+        _ => Short::Other,
+    }
+}
