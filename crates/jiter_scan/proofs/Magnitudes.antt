@@ -59,7 +59,7 @@ module _ (t : List ℕ) where
     decimal_of-few k few =
         let most : 10 ^ (e - i) ≤ 10 ^ k = pow-le-pow_right {n = 10} (omega arith) {i = e - i} {j = k} few in
         let below = subst (λ n. decimal_of (slice_range t i e) < 10 ^ n) long
-            (decimal_of-below (slice_range t i e) are_digits) in
+        (decimal_of-below (slice_range t i e) are_digits) in
         omega arith
 
     pub magnitude_of-short : (m : ℕ) → e - i ≤ 19 → m ≡ decimal_of (slice_range t i e) → m

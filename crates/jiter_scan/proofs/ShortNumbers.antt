@@ -25,9 +25,9 @@ module _ (t : List ℕ) where
       → take (n + 1) chunk ≡ slice_range t i (i + (n + 1)) → digit_run_end t i ≡ i + n
   run_end-counted chunk i n counted front more =
       let here : n ≤ prefix_len is_digit (drop i t) =
-          prefix_len-front is_digit n chunk (drop i t) (front ∙ slice_range-count t i n) (omega arith) in
+      prefix_len-front is_digit n chunk (drop i t) (front ∙ slice_range-count t i n) (omega arith) in
       let over : n + 1 ≤ prefix_len is_digit (drop i t) → n + 1 ≤ prefix_len is_digit (drop 0 chunk) =
-          λ h. prefix_len-front is_digit (n + 1) (drop i t) chunk (sym (more ∙ slice_range-count t i (n + 1))) h in
+      λ h. prefix_len-front is_digit (n + 1) (drop i t) chunk (sym (more ∙ slice_range-count t i (n + 1))) h in
       elim (cases_lt (prefix_len is_digit (drop i t)) (n + 1)) [
         | inl no_more ↦ omega arith
         | inr longer ↦ let found = over longer in absurd (omega arith)
@@ -74,9 +74,9 @@ module _ (t : List ℕ) where
       let point : (c == 46) ≡ false = grind (arith, nat_tests) in
       let letter : ((c == 101) || (c == 69)) ≡ false = grind (arith, nat_tests) in
       let fraction : fraction_at t e ≡ taken tt e =
-          ap (fraction_from t e) here ∙ if-false (c == 46) (digits_from t (e + 1) (slice_get t (e + 1))) (taken tt e) point in
+      ap (fraction_from t e) here ∙ if-false (c == 46) (digits_from t (e + 1) (slice_get t (e + 1))) (taken tt e) point in
       let exponent : exponent_at t e ≡ taken tt e =
-          ap (exponent_from t e) here ∙ if-false ((c == 101) || (c == 69)) (power_from t (e + 1) (slice_get t (e + 1))) (taken tt e) letter in
+      ap (exponent_from t e) here ∙ if-false ((c == 101) || (c == 69)) (power_from t (e + 1) (slice_get t (e + 1))) (taken tt e) letter in
       ap (λ x. extent_then x (λ j. extent_then (fraction_at t j) (λ k. exponent_at t k))) whole
       ∙ ap (λ x. extent_then x (λ k. exponent_at t k)) fraction ∙ exponent
 

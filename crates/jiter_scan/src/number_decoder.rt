@@ -10,6 +10,7 @@ ghost use Rattle.jiter_scan.specs.NumberReading.{extent_then, digits_from, behin
 ghost use Rattle.jiter_scan.specs.NumberDecoder.{int_view, number_view, integer_view, EndsWithin, magnitude_of, IsMinusTo};
 
 use crate::errors::{Fault, FaultKind, JsonError, JsonResult, fault_at};
+use crate::short_number::{Short, short_at};
 use crate::simd::{chunk_at, digit_run_end, digit_word, digits_end, joined};
 use crate::text::ascii_text;
 use crate::word::{byte_at, word_end};
@@ -346,8 +347,9 @@ pub(crate) fn tail_end(bytes: &[u8], at: usize) -> Result<usize, Fault>
     exponent_end(bytes, end)
 }
 
-// The decimal number that begins at `from`, its minus apart at `at`.
-fn read_decimal<'j>(
+// The decimal number that begins at `from`, its minus apart at `at`, part by part.
+#[inline(never)]
+fn read_long_decimal<'j>(
     bytes: &'j [u8],
     from: usize,
     at: usize,
@@ -365,6 +367,30 @@ fn read_decimal<'j>(
         NumberAny::Float(ascii_text(&bytes[from..end]))
     };
     Ok((number, end))
+}
+
+// The decimal number that begins at `from`, its minus apart at `at`.
+fn read_decimal<'j>(
+    bytes: &'j [u8],
+    from: usize,
+    at: usize,
+) -> Result<(NumberAny<'j>, usize), Fault>
+    requires within { at ≤ length bytes.now }
+    requires minus { IsMinusTo bytes.now from at }
+    ensures value { Scans (with_end number_view) result (with_value bytes.now from (decimal_at bytes.now at)) }
+    ensures place { IfOk result (λ x. (at < x.1) × (x.1 ≤ length bytes.now)) }
+{
+    match short_at(bytes, at) {
+        Short::Int(magnitude, end) => {
+            let number = integer_of(bytes, from, at, end, magnitude);
+            Ok((NumberAny::Int(number), end))
+        }
+        Short::Float(end) => {
+            let text = ascii_text(&bytes[from..end]);
+            Ok((NumberAny::Float(text), end))
+        }
+        Short::Other => read_long_decimal(bytes, from, at),
+    }
 }
 
 // The name at `at`, as a number that begins at `from`.

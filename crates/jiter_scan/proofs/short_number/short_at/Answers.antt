@@ -14,7 +14,7 @@ returns-then-not-is_float_sign c =
     let n = c.digit_count-count.result in
     let run = digits-counted t chunk.result i n c.digit_count-count.ensures (omega arith) (omega arith) chunk.ensures in
     let whole = whole_at-counted t chunk.result i n c.digit_count-count.ensures (omega arith) (omega arith) chunk.ensures
-        (omega arith) c.if-count-ne1.either in
+    (omega arith) c.if-count-ne1.either in
     let value = c.digit_word.ensures ∙ ap decimal_of (chunk.ensures n (omega arith) (omega arith)) in
     record {
       whole = whole;
@@ -33,7 +33,7 @@ returns-in-Some c =
     let chunk = c.chunk_at-chunk in
     let n = c.digit_count-count.result in
     let whole = whole_at-counted t chunk.result i n c.digit_count-count.ensures (omega arith) (omega arith) chunk.ensures
-        (omega arith) c.if-count-ne1.either in
+    (omega arith) c.if-count-ne1.either in
     let end = c.in-Some.behind in
     record {
       decimal = decimal_at-tail t i (i + n) end whole c.in-Some.ensures.end;
