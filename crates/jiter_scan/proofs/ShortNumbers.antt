@@ -33,6 +33,14 @@ module _ (t : List ℕ) where
         | inr longer ↦ let found = over longer in absurd (omega arith)
       ]
 
+  -- digits of a chunk are digits of the text
+  pub digits-of_chunk : (chunk : List ℕ) (i n : ℕ) → n ≤ digit_run_end chunk 0 → take n chunk ≡ slice_range t i (i + n)
+      → i + n ≤ digit_run_end t i
+  digits-of_chunk chunk i n counted front =
+      let here : n ≤ prefix_len is_digit (drop i t) =
+          prefix_len-front is_digit n chunk (drop i t) (front ∙ slice_range-count t i n) (omega arith) in
+      omega arith
+
   no_digit : (i e : ℕ) → digit_run_end t i ≡ e → NoDigit (slice_get t e)
   no_digit i e run = by (slice_get t e) refl where
     by : (o : Option ℕ) → slice_get t e ≡ o → NoDigit o
@@ -67,6 +75,13 @@ module _ (t : List ℕ) where
       by : ((get_or t i 0 ≡ 48) × (n ≡ 1)) ⊎ (get_or t i 0 ≢ 48) → (i + n ≡ i + 1) ⊎ (get_or t i 0 ≢ 48)
       by (inl zero) = let one = zero.1 in inl (ap (λ k. i + k) one)
       by (inr other) = inr other
+
+  -- digits that end in the second chunk
+  pub digits-in_two : (back : List ℕ) (i n : ℕ) → n ≡ digit_run_end back 0 → n ≤ 15 → i + 32 ≤ length t
+      → ((m : ℕ) → m ≤ 16 → i + 16 + m ≤ length t → take m back ≡ slice_range t (i + 16) (i + 16 + m))
+      → i + 16 ≤ digit_run_end t i → digit_run_end t i ≡ i + 16 + n
+  digits-in_two back i n counted few room front run =
+      sym (run_end-on is_digit t i 16 run (omega arith)) ∙ digits-counted back (i + 16) n counted few (omega arith) front
 
   -- no point and no exponent behind it
   pub decimal_at-whole : (i e c : ℕ) → whole_at t i ≡ taken tt e → slice_get t e ≡ Some c → is_float_sign c ≡ false → decimal_at t i ≡ taken tt e

@@ -176,7 +176,8 @@ fn read_zero(bytes: &[u8], at: usize) -> Result<(u64, usize), Fault>
 }
 
 // The magnitude of the digits from `at` to before `end`, or the least of twenty digits.
-fn digits_magnitude(bytes: &[u8], at: usize, end: usize) -> u64
+#[inline(always)]
+pub(crate) fn digits_magnitude(bytes: &[u8], at: usize, end: usize) -> u64
     requires some { at < end }
     requires digits { (end ≤ digit_run_end bytes.now at) × (end ≤ length bytes.now) }
     requires first { ascii.digit_zero < slice_index bytes.now at }

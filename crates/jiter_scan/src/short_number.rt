@@ -1,10 +1,11 @@
 //! Short numbers that do not stand near the end of the input, by one load, with the answer in registers.
-ghost use Rattle.std.specs.Prelude.{◌≡◌, ◌<◌, ◌≤◌, IfSome, length};
+ghost use Rattle.std.specs.Prelude.{◌≡◌, ◌<◌, ◌≤◌, ◌+◌, IfSome, length};
+ghost use Rattle.jiter_scan.specs.Digits.{digit_run_end};
 ghost use Rattle.jiter_scan.specs.NumberReading.{extent_then, fraction_at, exponent_at};
 ghost use Rattle.jiter_scan.specs.Scanned.{taken};
 ghost use Rattle.jiter_scan.specs.ShortNumber.{IsShort};
 
-use crate::number_decoder::{is_float_sign, tail_end};
+use crate::number_decoder::{digits_magnitude, is_float_sign, tail_end};
 use crate::simd::{chunk_at, digit_count, digit_word};
 
 /// What stands at a number's first digit.
@@ -32,6 +33,26 @@ fn float_end(bytes: &[u8], at: usize) -> Option<usize>
     }
 }
 
+// The integer of sixteen to eighteen digits at `at`.
+#[inline(always)]
+fn two_words_at(bytes: &[u8], at: usize) -> Short
+    requires room { at + 32 ≤ length bytes.now }
+    requires digits { at + 16 ≤ digit_run_end bytes.now at }
+    ensures { IsShort bytes.now at result }
+{
+    let back = chunk_at(bytes, at + 16);
+    let more = digit_count(back);
+    if more > 2 || bytes[at] <= b'0' {
+        return Short::Other;
+    }
+    let end = at + 16 + more;
+    if is_float_sign(bytes[end]) {
+        return Short::Other;
+    }
+    let magnitude = digits_magnitude(bytes, at, end);
+    Short::Int(magnitude, end)
+}
+
 /// The number whose first digit stands at a byte index, if it is short: a minus is read before.
 #[inline(always)]
 pub fn short_at(bytes: &[u8], at: usize) -> Short
@@ -43,6 +64,9 @@ pub fn short_at(bytes: &[u8], at: usize) -> Short
     }
     let chunk = chunk_at(bytes, at);
     let count = digit_count(chunk);
+    if count == 16 {
+        return two_words_at(bytes, at);
+    }
     if count == 0 || count > 15 || bytes[at] == b'0' && count != 1 {
         return Short::Other;
     }

@@ -3,7 +3,7 @@ use Rattle.std.proofs.lemmas.Option.{slice_get-get_or}
 use Rattle.jiter_scan.specs.Digits.{decimal_of}
 use Rattle.jiter_scan.proofs.Magnitudes.{decimal_of-few, magnitude_of-short}
 use Rattle.jiter_scan.proofs.NumberValues.{number_value-tail}
-use Rattle.jiter_scan.proofs.ShortNumbers.{digits-counted, whole_at-counted, decimal_at-whole, decimal_at-tail}
+use Rattle.jiter_scan.proofs.ShortNumbers.{digits-counted, digits-of_chunk, whole_at-counted, decimal_at-whole, decimal_at-tail}
 use Rattle.jiter_scan.proofs.short_number.short_at.Goals as goal
 
 pub returns-then-not-is_float_sign : goal.returns-then-not-is_float_sign
@@ -41,3 +41,8 @@ returns-in-Some c =
       some = omega arith;
       within = c.in-Some.ensures.place;
     }
+
+pub two_words_at-requires-clause-digits : goal.two_words_at-requires-clause-digits
+two_words_at-requires-clause-digits c =
+    let chunk = c.chunk_at-chunk in
+    digits-of_chunk c.args.bytes.now chunk.result c.args.at 16 (omega (arith, c.digit_count-count.ensures)) (chunk.ensures 16 (omega arith) (omega arith))
