@@ -5,13 +5,14 @@ use Rattle.std.specs.List.{prefix_len}
 use Rattle.std.proofs.lemmas.Bool.{cases_lt}
 use Rattle.std.proofs.lemmas.Bool.Decides.{nat_tests}
 use Rattle.std.proofs.lemmas.List.{length-take}
-use Rattle.std.proofs.lemmas.Option.{slice_get-get_or}
+use Rattle.std.proofs.lemmas.Option.{slice_get-get_or, slice_get_within, get_or_from_slice_get}
 use Rattle.jiter_scan.specs.Digits.{is_digit, digit_run_end}
 use Rattle.jiter_scan.specs.Number.{IsWhole, IsDigits, float, number_value}
 use Rattle.jiter_scan.specs.NumberReading.{extent_then, whole_at, fraction_at, exponent_at, decimal_at, fraction_from, exponent_from, digits_from, power_from, is_float_sign}
-use Rattle.jiter_scan.specs.Scanned.{taken}
+use Rattle.jiter_scan.specs.Scanned.{taken, failed}
+use Rattle.jiter_scan.specs.Kind.{invalid_number}
 use Rattle.jiter_scan.specs.Stands.{Stands}
-use Rattle.jiter_scan.proofs.Choices.{if-false}
+use Rattle.jiter_scan.proofs.Choices.{if-false, if-true}
 use Rattle.jiter_scan.proofs.Chunks.{prefix_len-front, prefix_len-pass, run_end-on}
 use Rattle.jiter_scan.proofs.Magnitudes.{slice_range-count}
 use Rattle.jiter_scan.proofs.NumberComplete.{whole_at-complete}
@@ -99,3 +100,17 @@ module _ (t : List ℕ) where
   pub decimal_at-tail : (i k e : ℕ) → whole_at t i ≡ taken tt k → extent_then (fraction_at t k) (exponent_at t) ≡ taken tt e → decimal_at t i ≡ taken tt e
   decimal_at-tail i k e whole tail =
       ap (λ x. extent_then x (λ j. extent_then (fraction_at t j) (λ k. exponent_at t k))) whole ∙ tail
+
+  -- a point, digits, and no exponent behind them
+  pub tail-fraction : (i e b c : ℕ) → slice_get t i ≡ Some 46 → digit_run_end t (i + 1) ≡ e → i + 1 < e → slice_get t (i + 1) ≡ Some b
+      → slice_get t e ≡ Some c → ((c == 101) || (c == 69)) ≡ false → extent_then (fraction_at t i) (exponent_at t) ≡ taken tt e
+  tail-fraction i e b c point run some first here no_letter =
+      let inside = slice_get_within t (i + 1) b first in
+      let digit : is_digit b ≡ true =
+          ap is_digit (sym (get_or_from_slice_get t (i + 1) b 0 first)) ∙ run_end-passes is_digit t (i + 1) (i + 1) (omega arith) (omega arith) in
+      let fraction : fraction_at t i ≡ taken tt e =
+          ap (fraction_from t i) point ∙ ap (digits_from t (i + 1)) first
+          ∙ if-true (is_digit b) (taken tt (digit_run_end t (i + 1))) (failed invalid_number (i + 1)) digit ∙ ap (taken tt) run in
+      let exponent : exponent_at t e ≡ taken tt e =
+          ap (exponent_from t e) here ∙ if-false ((c == 101) || (c == 69)) (power_from t (e + 1) (slice_get t (e + 1))) (taken tt e) no_letter in
+      ap (λ x. extent_then x (λ k. exponent_at t k)) fraction ∙ exponent

@@ -1,5 +1,6 @@
 //! Short numbers that do not stand near the end of the input, by one load, with the answer in registers.
-ghost use Rattle.std.specs.Prelude.{◌≡◌, ◌<◌, ◌≤◌, ◌+◌, IfSome, length};
+ghost use Rattle.std.specs.Prelude.{◌≡◌, ◌==◌, ◌||◌, ◌<◌, ◌≤◌, ◌+◌, IfSome, length};
+ghost use Rattle.jiter_scan.specs.Ascii as ascii;
 ghost use Rattle.jiter_scan.specs.Digits.{digit_run_end};
 ghost use Rattle.jiter_scan.specs.NumberReading.{extent_then, fraction_at, exponent_at};
 ghost use Rattle.jiter_scan.specs.Scanned.{taken};
@@ -31,6 +32,35 @@ fn float_end(bytes: &[u8], at: usize) -> Option<usize>
         Ok(end) => Some(end),
         Err(_) => None,
     }
+}
+
+fn is_exponent_letter(byte: u8) -> bool
+    ensures { result ≡ ((byte == ascii.small_e) || (byte == ascii.capital_e)) }
+{
+    byte == b'e' || byte == b'E'
+}
+
+// The same, at once where there is a point, few digits and no exponent.
+#[inline(always)]
+fn short_float_end(bytes: &[u8], at: usize) -> Option<usize>
+    requires { at < length bytes.now }
+    ensures end { IfSome result
+        (λ e. extent_then (fraction_at bytes.now at) (exponent_at bytes.now) ≡ taken tt e) }
+    ensures place { IfSome result (λ e. e ≤ length bytes.now) }
+{
+    if bytes.len() - at < 32 || bytes[at] != b'.' {
+        return float_end(bytes, at);
+    }
+    let chunk = chunk_at(bytes, at + 1);
+    let count = digit_count(chunk);
+    if count == 0 || count > 15 {
+        return float_end(bytes, at);
+    }
+    let end = at + 1 + count;
+    if is_exponent_letter(bytes[end]) {
+        return float_end(bytes, at);
+    }
+    Some(end)
 }
 
 // The integer of sixteen to eighteen digits at `at`.
@@ -74,7 +104,7 @@ pub fn short_at(bytes: &[u8], at: usize) -> Short
     if !is_float_sign(bytes[end]) {
         return Short::Int(digit_word(chunk, count), end);
     }
-    match float_end(bytes, end) {
+    match short_float_end(bytes, end) {
         Some(behind) if behind > end => Short::Float(behind),
         _ => Short::Other,
     }
