@@ -39,7 +39,7 @@ module _ (t : List ℕ) where
       → i + n ≤ digit_run_end t i
   digits-of_chunk chunk i n counted front =
       let here : n ≤ prefix_len is_digit (drop i t) =
-          prefix_len-front is_digit n chunk (drop i t) (front ∙ slice_range-count t i n) (omega arith) in
+      prefix_len-front is_digit n chunk (drop i t) (front ∙ slice_range-count t i n) (omega arith) in
       omega arith
 
   no_digit : (i e : ℕ) → digit_run_end t i ≡ e → NoDigit (slice_get t e)
@@ -107,10 +107,10 @@ module _ (t : List ℕ) where
   tail-fraction i e b c point run some first here no_letter =
       let inside = slice_get_within t (i + 1) b first in
       let digit : is_digit b ≡ true =
-          ap is_digit (sym (get_or_from_slice_get t (i + 1) b 0 first)) ∙ run_end-passes is_digit t (i + 1) (i + 1) (omega arith) (omega arith) in
+      ap is_digit (sym (get_or_from_slice_get t (i + 1) b 0 first)) ∙ run_end-passes is_digit t (i + 1) (i + 1) (omega arith) (omega arith) in
       let fraction : fraction_at t i ≡ taken tt e =
-          ap (fraction_from t i) point ∙ ap (digits_from t (i + 1)) first
-          ∙ if-true (is_digit b) (taken tt (digit_run_end t (i + 1))) (failed invalid_number (i + 1)) digit ∙ ap (taken tt) run in
+      ap (fraction_from t i) point ∙ ap (digits_from t (i + 1)) first
+      ∙ if-true (is_digit b) (taken tt (digit_run_end t (i + 1))) (failed invalid_number (i + 1)) digit ∙ ap (taken tt) run in
       let exponent : exponent_at t e ≡ taken tt e =
-          ap (exponent_from t e) here ∙ if-false ((c == 101) || (c == 69)) (power_from t (e + 1) (slice_get t (e + 1))) (taken tt e) no_letter in
+      ap (exponent_from t e) here ∙ if-false ((c == 101) || (c == 69)) (power_from t (e + 1) (slice_get t (e + 1))) (taken tt e) no_letter in
       ap (λ x. extent_then x (λ k. exponent_at t k)) fraction ∙ exponent

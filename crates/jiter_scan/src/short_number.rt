@@ -7,7 +7,7 @@ ghost use Rattle.jiter_scan.specs.Scanned.{taken};
 ghost use Rattle.jiter_scan.specs.ShortNumber.{IsShort};
 
 use crate::number_decoder::{digits_magnitude, is_float_sign, tail_end};
-use crate::simd::{chunk_at, digit_count, digit_word};
+use crate::simd::{digit_count, digit_word, full_chunk_at};
 
 /// What stands at a number's first digit.
 #[derive(Debug, Clone, Copy, PartialEq, Eq)]
@@ -51,7 +51,7 @@ fn short_float_end(bytes: &[u8], at: usize) -> Option<usize>
     if bytes.len() - at < 32 || bytes[at] != b'.' {
         return float_end(bytes, at);
     }
-    let chunk = chunk_at(bytes, at + 1);
+    let chunk = full_chunk_at(bytes, at + 1);
     let count = digit_count(chunk);
     if count == 0 || count > 15 {
         return float_end(bytes, at);
@@ -70,7 +70,7 @@ fn two_words_at(bytes: &[u8], at: usize) -> Short
     requires digits { at + 16 ≤ digit_run_end bytes.now at }
     ensures { IsShort bytes.now at result }
 {
-    let back = chunk_at(bytes, at + 16);
+    let back = full_chunk_at(bytes, at + 16);
     let more = digit_count(back);
     if more > 2 || bytes[at] <= b'0' {
         return Short::Other;
@@ -92,7 +92,7 @@ pub fn short_at(bytes: &[u8], at: usize) -> Short
     if bytes.len() - at < 32 {
         return Short::Other;
     }
-    let chunk = chunk_at(bytes, at);
+    let chunk = full_chunk_at(bytes, at);
     let count = digit_count(chunk);
     if count == 16 {
         return two_words_at(bytes, at);
@@ -109,3 +109,6 @@ pub fn short_at(bytes: &[u8], at: usize) -> Short
         _ => Short::Other,
     }
 }
+
+#[cfg(test)]
+mod tests;

@@ -10,7 +10,7 @@ pub returns-then-not-is_float_sign : goal.returns-then-not-is_float_sign
 returns-then-not-is_float_sign c =
     let t = c.args.bytes.now in
     let i = c.args.at in
-    let chunk = c.chunk_at-chunk in
+    let chunk = c.full_chunk_at-chunk in
     let n = c.digit_count-count.result in
     let run = digits-counted t chunk.result i n c.digit_count-count.ensures (omega arith) (omega arith) chunk.ensures in
     let whole = whole_at-counted t chunk.result i n c.digit_count-count.ensures (omega arith) (omega arith) chunk.ensures
@@ -30,7 +30,7 @@ pub returns-in-Some : goal.returns-in-Some
 returns-in-Some c =
     let t = c.args.bytes.now in
     let i = c.args.at in
-    let chunk = c.chunk_at-chunk in
+    let chunk = c.full_chunk_at-chunk in
     let n = c.digit_count-count.result in
     let whole = whole_at-counted t chunk.result i n c.digit_count-count.ensures (omega arith) (omega arith) chunk.ensures
     (omega arith) c.if-count-ne1.either in
@@ -44,5 +44,5 @@ returns-in-Some c =
 
 pub two_words_at-requires-clause-digits : goal.two_words_at-requires-clause-digits
 two_words_at-requires-clause-digits c =
-    let chunk = c.chunk_at-chunk in
+    let chunk = c.full_chunk_at-chunk in
     digits-of_chunk c.args.bytes.now chunk.result c.args.at 16 (omega (arith, c.digit_count-count.ensures)) (chunk.ensures 16 (omega arith) (omega arith))

@@ -6,8 +6,8 @@ use Rattle.jiter_scan.proofs.short_number.two_words_at.Goals as goal
 
 pub digits_magnitude-magnitude-requires-clause-digits : goal.digits_magnitude-magnitude-requires-clause-digits
 digits_magnitude-magnitude-requires-clause-digits c =
-    let run = digits-in_two c.args.bytes.now c.chunk_at-back.result c.args.at c.digit_count-more.result c.digit_count-more.ensures
-        (omega arith) c.requires.room c.chunk_at-back.ensures c.requires.digits in
+    let run = digits-in_two c.args.bytes.now c.full_chunk_at-back.result c.args.at c.digit_count-more.result c.digit_count-more.ensures
+    (omega arith) c.requires.room c.full_chunk_at-back.ensures c.requires.digits in
     (omega arith, omega arith)
 
 pub returns : goal.returns
@@ -16,8 +16,8 @@ returns c =
     let i = c.args.at in
     let n = c.digit_count-more.result in
     let e = i + 16 + n in
-    let run = digits-in_two t c.chunk_at-back.result i n c.digit_count-more.ensures (omega arith) c.requires.room
-        c.chunk_at-back.ensures c.requires.digits in
+    let run = digits-in_two t c.full_chunk_at-back.result i n c.digit_count-more.ensures (omega arith) c.requires.room
+    c.full_chunk_at-back.ensures c.requires.digits in
     let first : get_or t i 0 ≢ 48 = λ (zero : get_or t i 0 ≡ 48). omega arith in
     let whole = whole_at-run t i e run (omega arith) (omega arith) (omega arith) (inr first) in
     record {
