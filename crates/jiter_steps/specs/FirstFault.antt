@@ -1,7 +1,8 @@
 -- Where a text goes wrong, by the grammar alone: no document begins so, or some document begins so and has little more.
 use Rattle.std.specs.Prelude.{◌≡◌, ◌⊎◌, ℕ, Bool, true, false, List, [], ◌∷◌, ◌++◌, codes}
 use Rattle.jiter_scan.specs.Ascii as ascii
-use Rattle.jiter_scan.specs.Kind.{Kind, eof_list, expected_list_comma_or_end, expected_object_comma_or_end, expected_value}
+use Rattle.jiter_scan.specs.Kind.{Kind, eof_list, expected_list_comma_or_end, expected_object_comma_or_end}
+use Rattle.jiter_scan.specs.Kind.{expected_value}
 use Rattle.jiter_scan.specs.Kind.{invalid_number, key_must_be_a_string, trailing_comma, trailing_characters}
 use Rattle.jiter_steps.specs.Node.{Node, IsDocument}
 
