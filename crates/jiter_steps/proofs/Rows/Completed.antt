@@ -1,25 +1,34 @@
 -- Which texts can be completed before their fault, by computation: each kind that can go on, and for each other kind a
 -- text that cannot.
 use Rattle.std.proofs.Common.{◌≡◌, ◌≢◌, ◌⊎◌, inl, inr, ℕ, suc, ◌+◌, Bool, true, false, ◌&&◌, List, [], ◌∷◌, ◌++◌, length}
-use Rattle.std.proofs.Common.{take, drop, refl, sym, ap, ◌∙◌, subst, codes, map, append_assoc, append-nil}
-use Rattle.std.specs.Prelude.{Some, replicate}
+use Rattle.std.proofs.Common.{take, drop, refl, sym, ap, ◌∙◌, subst, arith, ◌≤◌, codes, map, append_assoc, append-nil}
+use Rattle.std.specs.Prelude.{Some, replicate, slice_range}
 use Rattle.std.proofs.lemmas.Bool.{false≢true}
-use Rattle.std.proofs.lemmas.List.{take-append-drop}
+use Rattle.std.proofs.lemmas.List.{take-append-drop, take_all}
 use Rattle.jiter_scan.specs.Kind.{Kind, is_end_kind, eof_list, eof_object, eof_string, eof_value, expected_colon}
 use Rattle.jiter_scan.specs.Kind.{expected_list_comma_or_end, expected_object_comma_or_end, expected_ident}
 use Rattle.jiter_scan.specs.Kind.{expected_value, invalid_escape, invalid_number, number_out_of_range}
-use Rattle.jiter_scan.specs.Kind.{invalid_code_point, key_must_be_a_string, lone_surrogate}
+use Rattle.jiter_scan.specs.Kind.{invalid_code_point, control_character, key_must_be_a_string, lone_surrogate}
 use Rattle.jiter_scan.specs.Kind.{trailing_comma, trailing_characters, end_of_hex_escape, recursion_limit}
-use Rattle.jiter_steps.specs.Answer.{answer}
+use Rattle.jiter_scan.specs.Scanned.{failed}
+use Rattle.jiter_scan.specs.Stands.{Stands}
+use Rattle.jiter_scan.proofs.Standing.{stands-slice}
+use Rattle.jiter_steps.specs.Answer.{seen_as, whole_trees, answer}
 use Rattle.jiter_steps.specs.FirstFault.{BeginsNoDocument, AreClosers, IsFiller, can_go_on, CanBeCompleted}
 use Rattle.jiter_steps.specs.Node.{Node, IsDocument}
-use Rattle.jiter_steps.specs.Read.{Reading, done, fault}
-use Rattle.jiter_steps.specs.Tree.{Tree}
+use Rattle.jiter_steps.specs.Read.{Reading, done, fault, scalar_at}
+use Rattle.jiter_steps.specs.StringReading.{Body, before, over, unclosed, whole, ended, content_at, string_at}
+use Rattle.jiter_steps.specs.Tree.{Text, Tree}
+use Rattle.jiter_steps.specs.Tree as tree
+use Rattle.jiter_steps.proofs.Answered.{whole-fault}
+use Rattle.jiter_steps.proofs.Blanks.{past_blanks-other}
+use Rattle.jiter_steps.proofs.Bodies.{body_at-found, found-end}
 use Rattle.jiter_steps.proofs.Dead.{dead}
 use Rattle.jiter_steps.proofs.Documents.{answer-of}
 use Rattle.jiter_steps.proofs.Rows.Computed.{computed_readings}
 use Rattle.jiter_steps.proofs.Rows.FirstFault.{fault_of, is_document}
 use Rattle.jiter_steps.proofs.Rows.Trees.{times}
+use Rattle.jiter_steps.proofs.StringComplete.{IsPrinted, ArePrinted, bytes-read}
 
 -- a text, its fault's kind and index, and the filler and the closers that complete the bytes before the index
 abbrev Row : Type 0
@@ -183,3 +192,65 @@ not_completed_kind = refl
 not_completed_nowhere : map (λ r. is_nowhere (take r.2 r.0)) not_completed ≡ map (λ r. true) not_completed
 unfolding computed_readings
 not_completed_nowhere = refl
+
+abbrev NoneCompleted : List (List ℕ × Kind × ℕ) → Type 0
+NoneCompleted [] = Unit {0}
+NoneCompleted (r ∷ rows) = (CanBeCompleted false (take r.2 r.0) → ⊥) × NoneCompleted rows
+
+none_completed-from : (rows : List (List ℕ × Kind × ℕ))
+    → map (λ r. is_nowhere (take r.2 r.0)) rows ≡ map (λ r. true) rows → NoneCompleted rows
+none_completed-from [] h = tt
+none_completed-from (r ∷ rows) h = (nowhere-sound (take r.2 r.0) (cc), none_completed-from rows (cc))
+
+none_completed : NoneCompleted not_completed
+none_completed = none_completed-from not_completed not_completed_nowhere
+
+-- A control character: behind a quote that no other follows no string ends, and two quotes are a whole string.
+open_string-reads : (w : List ℕ) → ArePrinted w
+    → string_at whole (34 ∷ w) 0 ≡ failed eof_string (length (34 ∷ w))
+unfolding content_at
+open_string-reads w printed =
+    let t = 34 ∷ w in
+    let range : slice_range t 1 (1 + length w) ≡ w = ap (λ n. take n w) (omega arith) ∙ take_all (length w) w (omega arith) in
+    let stands = subst (Stands t 1 (1 + length w)) range (stands-slice t 1 (1 + length w) (omega arith) (omega arith)) in
+    let last = body_at-found t (1 + length w) (over unclosed) (found-end t (1 + length w) (omega arith)) in
+    let body = bytes-read t 1 (1 + length w) w printed stands ∙ ap (before w false) last in
+    ap (λ (b : Body). ended whole t 1 b.bytes b.owned b.stop) body
+
+open_string-none : (w : List ℕ) (n : Node) → ArePrinted w → IsDocument false (34 ∷ w) n → ⊥
+open_string-none w n printed d =
+    let t = 34 ∷ w in
+    let names = false in
+    let start = past_blanks-other t 0 (omega arith) refl in
+    let value = ap (λ x. scalar_at 0 (seen_as (λ (s : Text) (e : ℕ). tree.string s) x)) (open_string-reads w printed) in
+    let fault_is = whole-fault (whole_trees false) t 0 eof_string (length t) 0 start (omega arith) value in
+    let clash = sym fault_is ∙ answer-of false t n d in
+    cc
+
+closers-printed : (cs : List ℕ) → AreClosers cs → ArePrinted cs
+closers-printed [] h = tt
+closers-printed (c ∷ cs) h = (by h.0, closers-printed cs h.1) where
+  by : ((c ≡ 93) ⊎ (c ≡ 125)) → IsPrinted c
+  by (inl e) = record { printed = omega arith; no_quote = λ q. omega arith; no_backslash = λ q. omega arith }
+  by (inr e) = record { printed = omega arith; no_quote = λ q. omega arith; no_backslash = λ q. omega arith }
+
+control_answer : fault_of (answer false (34 ∷ 31 ∷ [])) ≡ Some (control_character, 1)
+unfolding computed_readings
+control_answer = refl
+
+quotes-dead : is_dead (34 ∷ codes "\"\":0") ≡ true
+unfolding computed_readings
+quotes-dead = refl
+
+quote_completed : CanBeCompleted false (34 ∷ []) → ⊥
+quote_completed c = by c.filler c.closers c.node c.is_filler c.are_closers c.document where
+  by : (w cs : List ℕ) (n : Node) → IsFiller w → AreClosers cs → IsDocument false (34 ∷ (w ++ cs)) n → ⊥
+  by w cs n (inl e) all d =
+      open_string-none cs n (closers-printed cs all) (subst (λ v. IsDocument false (34 ∷ (v ++ cs)) n) e d)
+  by w cs n (inr (inl e)) all d =
+      let zero : IsPrinted 48 =
+      record { printed = omega arith; no_quote = λ q. omega arith; no_backslash = λ q. omega arith } in
+      open_string-none (48 ∷ cs) n (zero, closers-printed cs all)
+      (subst (λ v. IsDocument false (34 ∷ (v ++ cs)) n) e d)
+  by w cs n (inr (inr e)) all d =
+      begins-dead (34 ∷ []) (codes "\"\":0") cs n quotes-dead (subst (λ v. IsDocument false (34 ∷ (v ++ cs)) n) e d)
