@@ -1,7 +1,6 @@
 -- Where a fault that can go on is answered, the bytes before its index can be completed to a document.
 use Rattle.std.proofs.Common.{◌≡◌, inl, ℕ, Bool, true, List, [], ◌++◌, length, take, refl, sym, subst, arith}
 use Rattle.std.specs.Prelude.{slice_get, Option, Some, None}
-use Rattle.std.proofs.lemmas.Bool.{false≢true}
 use Rattle.std.proofs.lemmas.Option.{slice_get_within}
 use Rattle.jiter_scan.specs.Kind.{Kind}
 use Rattle.jiter_steps.specs.Answer.{answer}

@@ -1,12 +1,12 @@
 -- A number that is refused can be ended by a zero or as it stands, unless the input ends or digits are too many.
-use Rattle.std.proofs.Common.{◌≡◌, ◌⊎◌, inl, inr, ℕ, ◌+◌, ◌<◌, ◌≤◌, Bool, true, false, cond, ◌||◌, List, [], ◌∷◌}
+use Rattle.std.proofs.Common.{◌≡◌, ◌⊎◌, inl, inr, ℕ, ◌+◌, ◌≤◌, Bool, true, false, cond, ◌||◌, List, [], ◌∷◌}
 use Rattle.std.proofs.Common.{◌++◌, length, take, refl, sym, ap, ◌∙◌, subst, arith, append-nil, append_assoc}
-use Rattle.std.specs.Prelude.{slice_get, slice_range, Option, Some, None, ◌==◌, nat_le, codes}
+use Rattle.std.specs.Prelude.{slice_get, Option, Some, None, ◌==◌, nat_le, codes}
 use Rattle.std.proofs.lemmas.Bool.{false≢true, eqb-true, or_cases}
 use Rattle.std.proofs.lemmas.Option.{slice_get_within}
 use Rattle.jiter_scan.specs.Digits.{is_digit, digit_run_end}
 use Rattle.jiter_scan.specs.Kind.{Kind, expected_ident, expected_value, invalid_number, number_out_of_range}
-use Rattle.jiter_scan.specs.Number.{IsMinus, IsWhole, IsFraction, IsSign, IsExponent, IsDecimal, IsNumberText}
+use Rattle.jiter_scan.specs.Number.{IsMinus, IsWhole, IsFraction, IsSign, IsExponent, IsDecimal}
 use Rattle.jiter_scan.specs.Number.{digit_limit}
 use Rattle.jiter_scan.specs.NumberReading.{extent_then, digits_from, behind_zero, within_limit, whole_from, whole_at}
 use Rattle.jiter_scan.specs.NumberReading.{fraction_from, fraction_at, power_from, exponent_from, exponent_at}
