@@ -1,5 +1,5 @@
--- Worked rows on the reader, by computation.
-mod States
+-- Worked rows on the reader, by computation: tables of a call's replies to readers.
+mod Tables
 mod Scalars
 mod NumberBytes
 mod Containers

@@ -7,12 +7,14 @@ use Rattle.jiter_scan.specs.Word.{Extent}
 use Rattle.jiter_scan.specs.NumberReading.{extent_then}
 
 -- what holds of both choices holds of the choice
-pub if_case : {A : Type 0} (P : A → Type 0) (b : Bool) (x y : A) → (b ≡ true → P x) → (b ≡ false → P y) → P (if b then x else y)
+pub if_case : {A : Type 0} (P : A → Type 0) (b : Bool) (x y : A) → (b ≡ true → P x) → (b ≡ false → P y)
+    → P (if b then x else y)
 if_case P true x y p q = p refl
 if_case P false x y p q = q refl
 
 -- what a choice gives, one of the two gives
-pub if_gives : {A P : Type 0} (b : Bool) (x y z : A) → (if b then x else y) ≡ z → (b ≡ true → x ≡ z → P) → (b ≡ false → y ≡ z → P) → P
+pub if_gives : {A P : Type 0} (b : Bool) (x y z : A) → (if b then x else y) ≡ z → (b ≡ true → x ≡ z → P)
+    → (b ≡ false → y ≡ z → P) → P
 if_gives true x y z h p q = p refl h
 if_gives false x y z h p q = q refl h
 
@@ -31,6 +33,7 @@ pub same_taken : {A : Type 0} (a b : A) (i j : ℕ) → taken a i ≡ taken b j 
 same_taken a b i j h = (cc, cc)
 
 -- where a part and what follows are read, the part ends somewhere
-pub extent_then-taken : (x : Extent) (next : ℕ → Extent) (u : Unit {0}) (e : ℕ) → extent_then x next ≡ taken u e → (j : ℕ) × (x ≡ taken tt j) × (next j ≡ taken u e)
+pub extent_then-taken : (x : Extent) (next : ℕ → Extent) (u : Unit {0}) (e : ℕ) → extent_then x next ≡ taken u e
+    → (j : ℕ) × (x ≡ taken tt j) × (next j ≡ taken u e)
 extent_then-taken (taken v j) next u e h = (j, refl, h)
 extent_then-taken (failed k j) next u e h = absurd (failed-taken k j u e h)

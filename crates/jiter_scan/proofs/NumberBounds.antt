@@ -21,18 +21,23 @@ Reaches t i n (taken u e) = (i + n ≤ e) × (e ≤ length t)
 Reaches t i n (failed k j) = (i ≤ j) × FaultAt t k j
 
 module _ (t : List ℕ) where
-  fault-reaches : (i n j : ℕ) (k : Kind) → k ≢ out_of_memory → is_end_kind k ≡ false → i ≤ j → j ≤ length t → Reaches t i n (failed k j)
+  fault-reaches : (i n j : ℕ) (k : Kind) → k ≢ out_of_memory → is_end_kind k ≡ false → i ≤ j → j ≤ length t
+      → Reaches t i n (failed k j)
   fault-reaches i n j k m e a b = (a, record { within = b; ends = λ h. absurd (false≢true (sym e ∙ h)); bytes = m })
 
-  end-reaches : (i n : ℕ) (k : Kind) → k ≢ out_of_memory → i ≤ length t → slice_get t i ≡ None → Reaches t i n (failed k i)
-  end-reaches i n k m le e = let past = get-none t i e in (omega arith, record { within = le; ends = λ h. omega arith; bytes = m })
+  end-reaches : (i n : ℕ) (k : Kind) → k ≢ out_of_memory → i ≤ length t → slice_get t i ≡ None
+      → Reaches t i n (failed k i)
+  end-reaches i n k m le e =
+      let past = get-none t i e in (omega arith, record { within = le; ends = λ h. omega arith; bytes = m })
 
   farther : (i n j m : ℕ) (x : Extent) → i ≤ j → i + n ≤ j + m → Reaches t j m x → Reaches t i n x
   farther i n j m (taken u e) p q h = (omega (arith, h.0), h.1)
   farther i n j m (failed k e) p q h = (omega (arith, h.0), h.1)
 
-  extent_then-reaches : (i n : ℕ) (x : Extent) (next : ℕ → Extent) → Reaches t i n x → ((j : ℕ) → j ≤ length t → Reaches t j 0 (next j)) → Reaches t i n (extent_then x next)
-  extent_then-reaches i n (taken u e) next h go = farther i n e 0 (next e) (omega (arith, h.0)) (omega (arith, h.0)) (go e h.1)
+  extent_then-reaches : (i n : ℕ) (x : Extent) (next : ℕ → Extent) → Reaches t i n x
+      → ((j : ℕ) → j ≤ length t → Reaches t j 0 (next j)) → Reaches t i n (extent_then x next)
+  extent_then-reaches i n (taken u e) next h go =
+      farther i n e 0 (next e) (omega (arith, h.0)) (omega (arith, h.0)) (go e h.1)
   extent_then-reaches i n (failed k j) next h go = h
 
   digits_from-reaches : (i : ℕ) (o : Option ℕ) → slice_get t i ≡ o → i ≤ length t → Reaches t i 1 (digits_from t i o)
@@ -40,7 +45,8 @@ module _ (t : List ℕ) where
   digits_from-reaches i (Some c) s le =
       let run = run_end-within is_digit t i le in
       if_case (Reaches t i 1) (is_digit c) (taken tt (digit_run_end t i)) (failed invalid_number i)
-      (λ d. let more = run_end-more is_digit t i c s d in (omega (arith, run_end-ahead is_digit t (i + 1)), run)) (λ d. fault-reaches i 1 i invalid_number (λ e. cc) refl (omega arith) le)
+      (λ d. let more = run_end-more is_digit t i c s d in (omega (arith, run_end-ahead is_digit t (i + 1)), run))
+      (λ d. fault-reaches i 1 i invalid_number (λ e. cc) refl (omega arith) le)
 
   behind_zero-reaches : (i : ℕ) (o : Option ℕ) → i + 1 ≤ length t → Reaches t i 1 (behind_zero (i + 1) o)
   behind_zero-reaches i None le = (omega arith, le)
@@ -50,42 +56,54 @@ module _ (t : List ℕ) where
 
   within_limit-reaches : (i e : ℕ) → i < e → e ≤ length t → Reaches t i 1 (within_limit i e)
   within_limit-reaches i e some le =
-      if_case (Reaches t i 1) (nat_le e (i + digit_limit)) (taken tt e) (failed number_out_of_range (i + (digit_limit + 1)))
-      (λ h. (omega arith, le)) (λ h. let long = leb-false e (i + digit_limit) h in fault-reaches i 1 (i + (digit_limit + 1)) number_out_of_range (λ e. cc) refl (omega arith) (omega arith))
+      if_case (Reaches t i 1) (nat_le e (i + digit_limit)) (taken tt e)
+      (failed number_out_of_range (i + (digit_limit + 1)))
+      (λ h. (omega arith, le))
+      (λ h. let long = leb-false e (i + digit_limit) h in fault-reaches i 1 (i + (digit_limit + 1))
+      number_out_of_range (λ e. cc) refl (omega arith) (omega arith))
 
   whole_from-reaches : (i : ℕ) (o : Option ℕ) → slice_get t i ≡ o → i ≤ length t → Reaches t i 1 (whole_from t i o)
   whole_from-reaches i None s le = end-reaches i 1 eof_value (λ e. cc) le s
   whole_from-reaches i (Some c) s le =
       let lt = slice_get_within t i c s in
       let run = run_end-within is_digit t i le in
-      if_case (Reaches t i 1) (c == 48) (behind_zero (i + 1) (slice_get t (i + 1))) (if is_digit c then within_limit i (digit_run_end t i) else failed invalid_number i)
+      if_case (Reaches t i 1) (c == 48) (behind_zero (i + 1) (slice_get t (i + 1)))
+      (if is_digit c then within_limit i (digit_run_end t i) else failed invalid_number i)
       (λ z. behind_zero-reaches i (slice_get t (i + 1)) (omega arith))
       (λ z. if_case (Reaches t i 1) (is_digit c) (within_limit i (digit_run_end t i)) (failed invalid_number i)
-      (λ d. let more = run_end-more is_digit t i c s d in within_limit-reaches i (digit_run_end t i) (omega (arith, run_end-ahead is_digit t (i + 1))) run)
+      (λ d. let more = run_end-more is_digit t i c s d in within_limit-reaches i (digit_run_end t i)
+      (omega (arith, run_end-ahead is_digit t (i + 1))) run)
       (λ d. fault-reaches i 1 i invalid_number (λ e. cc) refl (omega arith) le))
 
-  fraction_from-reaches : (i : ℕ) (o : Option ℕ) → slice_get t i ≡ o → i ≤ length t → Reaches t i 0 (fraction_from t i o)
+  fraction_from-reaches : (i : ℕ) (o : Option ℕ) → slice_get t i ≡ o → i ≤ length t
+      → Reaches t i 0 (fraction_from t i o)
   fraction_from-reaches i None s le = (omega arith, le)
   fraction_from-reaches i (Some c) s le =
       let lt = slice_get_within t i c s in
       if_case (Reaches t i 0) (c == 46) (digits_from t (i + 1) (slice_get t (i + 1))) (taken tt i)
-      (λ p. farther i 0 (i + 1) 1 (digits_from t (i + 1) (slice_get t (i + 1))) (omega arith) (omega arith) (digits_from-reaches (i + 1) (slice_get t (i + 1)) refl (omega arith)))
+      (λ p. farther i 0 (i + 1) 1 (digits_from t (i + 1) (slice_get t (i + 1))) (omega arith) (omega arith)
+      (digits_from-reaches (i + 1) (slice_get t (i + 1)) refl (omega arith)))
       (λ p. (omega arith, le))
 
   power_from-reaches : (i : ℕ) (o : Option ℕ) → slice_get t i ≡ o → i ≤ length t → Reaches t i 0 (power_from t i o)
   power_from-reaches i None s le = end-reaches i 0 eof_value (λ e. cc) le s
   power_from-reaches i (Some c) s le =
       let lt = slice_get_within t i c s in
-      if_case (Reaches t i 0) ((c == 43) || (c == 45)) (digits_from t (i + 1) (slice_get t (i + 1))) (digits_from t i (Some c))
-      (λ p. farther i 0 (i + 1) 1 (digits_from t (i + 1) (slice_get t (i + 1))) (omega arith) (omega arith) (digits_from-reaches (i + 1) (slice_get t (i + 1)) refl (omega arith)))
-      (λ p. farther i 0 i 1 (digits_from t i (Some c)) (omega arith) (omega arith) (digits_from-reaches i (Some c) s le))
+      if_case (Reaches t i 0) ((c == 43) || (c == 45)) (digits_from t (i + 1) (slice_get t (i + 1)))
+      (digits_from t i (Some c))
+      (λ p. farther i 0 (i + 1) 1 (digits_from t (i + 1) (slice_get t (i + 1))) (omega arith) (omega arith)
+      (digits_from-reaches (i + 1) (slice_get t (i + 1)) refl (omega arith)))
+      (λ p. farther i 0 i 1 (digits_from t i (Some c)) (omega arith) (omega arith)
+      (digits_from-reaches i (Some c) s le))
 
-  exponent_from-reaches : (i : ℕ) (o : Option ℕ) → slice_get t i ≡ o → i ≤ length t → Reaches t i 0 (exponent_from t i o)
+  exponent_from-reaches : (i : ℕ) (o : Option ℕ) → slice_get t i ≡ o → i ≤ length t
+      → Reaches t i 0 (exponent_from t i o)
   exponent_from-reaches i None s le = (omega arith, le)
   exponent_from-reaches i (Some c) s le =
       let lt = slice_get_within t i c s in
       if_case (Reaches t i 0) ((c == 101) || (c == 69)) (power_from t (i + 1) (slice_get t (i + 1))) (taken tt i)
-      (λ p. farther i 0 (i + 1) 0 (power_from t (i + 1) (slice_get t (i + 1))) (omega arith) (omega arith) (power_from-reaches (i + 1) (slice_get t (i + 1)) refl (omega arith)))
+      (λ p. farther i 0 (i + 1) 0 (power_from t (i + 1) (slice_get t (i + 1))) (omega arith) (omega arith)
+      (power_from-reaches (i + 1) (slice_get t (i + 1)) refl (omega arith)))
       (λ p. (omega arith, le))
 
   pub whole_at-reaches : (i : ℕ) → i ≤ length t → Reaches t i 1 (whole_at t i)
@@ -99,8 +117,10 @@ module _ (t : List ℕ) where
 
   pub decimal_at-reaches : (i : ℕ) → i ≤ length t → Reaches t i 1 (decimal_at t i)
   decimal_at-reaches i le =
-      extent_then-reaches i 1 (whole_at t i) (λ j. extent_then (fraction_at t j) (λ k. exponent_at t k)) (whole_at-reaches i le)
-      (λ j lj. extent_then-reaches j 0 (fraction_at t j) (λ k. exponent_at t k) (fraction_at-reaches j lj) (λ k lk. exponent_at-reaches k lk))
+      extent_then-reaches i 1 (whole_at t i) (λ j. extent_then (fraction_at t j) (λ k. exponent_at t k))
+      (whole_at-reaches i le)
+      (λ j lj. extent_then-reaches j 0 (fraction_at t j) (λ k. exponent_at t k) (fraction_at-reaches j lj)
+      (λ k lk. exponent_at-reaches k lk))
 
   word-reaches : (w : List ℕ) (i n : ℕ) (x : Extent) → n ≤ length w → WordWithin t w i x → Reaches t i n x
   word-reaches w i n (taken u e) le h = (omega (arith, h.0), h.1)
@@ -109,28 +129,36 @@ module _ (t : List ℕ) where
   word_at-reaches : (w : List ℕ) (i : ℕ) → 1 ≤ length w → i ≤ length t → Reaches t i 1 (word_at t w i)
   word_at-reaches w i some le = word-reaches w i 1 (word_at t w i) some (word_at-within t w i le)
 
-  name_at-reaches : (names : Bool) (w : List ℕ) (i : ℕ) → 1 ≤ length w → i ≤ length t → Reaches t i 1 (name_at names t w i)
+  name_at-reaches : (names : Bool) (w : List ℕ) (i : ℕ) → 1 ≤ length w → i ≤ length t
+      → Reaches t i 1 (name_at names t w i)
   name_at-reaches true w i some le = word_at-reaches w i some le
   name_at-reaches false w i some le = fault-reaches i 1 i expected_value (λ e. cc) refl (omega arith) le
 
-  infinity-reaches : (names : Bool) (i : ℕ) → i ≤ length t → Reaches t i 1 (if names then word_at t (codes "Infinity") i else failed invalid_number i)
+  infinity-reaches : (names : Bool) (i : ℕ) → i ≤ length t
+      → Reaches t i 1 (if names then word_at t (codes "Infinity") i else failed invalid_number i)
   infinity-reaches true i le = word_at-reaches (codes "Infinity") i (omega arith) le
   infinity-reaches false i le = fault-reaches i 1 i invalid_number (λ e. cc) refl (omega arith) le
 
-  behind_minus-reaches : (names : Bool) (i : ℕ) (o : Option ℕ) → slice_get t i ≡ o → i ≤ length t → Reaches t i 1 (behind_minus names t i o)
+  behind_minus-reaches : (names : Bool) (i : ℕ) (o : Option ℕ) → slice_get t i ≡ o → i ≤ length t
+      → Reaches t i 1 (behind_minus names t i o)
   behind_minus-reaches names i None s le = end-reaches i 1 eof_value (λ e. cc) le s
   behind_minus-reaches names i (Some c) s le =
-      if_case (Reaches t i 1) (c == 73) (if names then word_at t (codes "Infinity") i else failed invalid_number i) (decimal_at t i)
+      if_case (Reaches t i 1) (c == 73) (if names then word_at t (codes "Infinity") i else failed invalid_number i)
+      (decimal_at t i)
       (λ p. infinity-reaches names i le) (λ p. decimal_at-reaches i le)
 
-  extent_from-reaches : (names : Bool) (i : ℕ) (o : Option ℕ) → slice_get t i ≡ o → i ≤ length t → Reaches t i 1 (extent_from names t i o)
+  extent_from-reaches : (names : Bool) (i : ℕ) (o : Option ℕ) → slice_get t i ≡ o → i ≤ length t
+      → Reaches t i 1 (extent_from names t i o)
   extent_from-reaches names i None s le = end-reaches i 1 eof_value (λ e. cc) le s
   extent_from-reaches names i (Some c) s le =
       let lt = slice_get_within t i c s in
       if_case (Reaches t i 1) (c == 45) (behind_minus names t (i + 1) (slice_get t (i + 1)))
-      (if c == 78 then name_at names t (codes "NaN") i else (if c == 73 then name_at names t (codes "Infinity") i else decimal_at t i))
-      (λ p. farther i 1 (i + 1) 1 (behind_minus names t (i + 1) (slice_get t (i + 1))) (omega arith) (omega arith) (behind_minus-reaches names (i + 1) (slice_get t (i + 1)) refl (omega arith)))
-      (λ p. if_case (Reaches t i 1) (c == 78) (name_at names t (codes "NaN") i) (if c == 73 then name_at names t (codes "Infinity") i else decimal_at t i)
+      (if c == 78 then name_at names t (codes "NaN") i else
+      (if c == 73 then name_at names t (codes "Infinity") i else decimal_at t i))
+      (λ p. farther i 1 (i + 1) 1 (behind_minus names t (i + 1) (slice_get t (i + 1))) (omega arith) (omega arith)
+      (behind_minus-reaches names (i + 1) (slice_get t (i + 1)) refl (omega arith)))
+      (λ p. if_case (Reaches t i 1) (c == 78) (name_at names t (codes "NaN") i)
+      (if c == 73 then name_at names t (codes "Infinity") i else decimal_at t i)
       (λ q. name_at-reaches names (codes "NaN") i (omega arith) le)
       (λ q. if_case (Reaches t i 1) (c == 73) (name_at names t (codes "Infinity") i) (decimal_at t i)
       (λ r. name_at-reaches names (codes "Infinity") i (omega arith) le) (λ r. decimal_at-reaches i le)))
@@ -141,13 +169,15 @@ module _ (t : List ℕ) where
   integer_or_float-within : (i e : ℕ) (o : Option ℕ) → e ≤ length t → Within t (integer_or_float t i e o)
   integer_or_float-within i e None h = h
   integer_or_float-within i e (Some c) h =
-      if_case (Within t) (is_float_sign c) (taken float_seen e) (taken (whole (number_value (slice_range t i e))) e) (λ _. h) (λ _. h)
+      if_case (Within t) (is_float_sign c) (taken float_seen e) (taken (whole (number_value (slice_range t i e))) e)
+      (λ _. h) (λ _. h)
 
   integer_behind-within : (i j : ℕ) (x : Extent) → Reaches t j 1 x → Within t (integer_behind t i x)
   integer_behind-within i j (taken u e) h = integer_or_float-within i e (slice_get t e) h.1
   integer_behind-within i j (failed k e) h = h.1
 
-  integer_behind_minus-within : (i : ℕ) (o : Option ℕ) → slice_get t (i + 1) ≡ o → i + 1 ≤ length t → Within t (integer_behind_minus t i o)
+  integer_behind_minus-within : (i : ℕ) (o : Option ℕ) → slice_get t (i + 1) ≡ o → i + 1 ≤ length t
+      → Within t (integer_behind_minus t i o)
   integer_behind_minus-within i None s le = (end-reaches (i + 1) 0 eof_value (λ e. cc) le s).1
   integer_behind_minus-within i (Some c) s le =
       if_case (Within t) (c == 73) (taken float_seen (i + 1)) (integer_behind t i (whole_at t (i + 1)))
@@ -157,14 +187,16 @@ module _ (t : List ℕ) where
   integer_from-within i None s le = (end-reaches i 0 eof_value (λ e. cc) le s).1
   integer_from-within i (Some c) s le =
       let lt = slice_get_within t i c s in
-      if_case (Within t) (c == 45) (integer_behind_minus t i (slice_get t (i + 1))) (if (c == 78) || (c == 73) then taken float_seen i else integer_behind t i (whole_at t i))
+      if_case (Within t) (c == 45) (integer_behind_minus t i (slice_get t (i + 1)))
+      (if (c == 78) || (c == 73) then taken float_seen i else integer_behind t i (whole_at t i))
       (λ _. integer_behind_minus-within i (slice_get t (i + 1)) refl (omega arith))
       (λ _. if_case (Within t) ((c == 78) || (c == 73)) (taken float_seen i) (integer_behind t i (whole_at t i))
       (λ _. le) (λ _. integer_behind-within i i (whole_at t i) (whole_at-reaches i le)))
 
   alone-within : (x : Scanned Number) → Within t x → Within t (alone t x)
   alone-within (taken n e) h =
-      if_case (Within t) (length t == e) (taken n e) (failed invalid_number e) (λ _. h) (λ _. (fault-reaches 0 0 e invalid_number (λ e. cc) refl (omega arith) h).1)
+      if_case (Within t) (length t == e) (taken n e) (failed invalid_number e) (λ _. h)
+      (λ _. (fault-reaches 0 0 e invalid_number (λ e. cc) refl (omega arith) h).1)
   alone-within (failed k j) h = h
 
   integer_alone-within : (x : Scanned Integer) → Within t x → Within t (integer_alone x)
@@ -175,7 +207,8 @@ module _ (t : List ℕ) where
   if_number-within : (o : Option ℕ) (x : Scanned Number) → Within t x → Within t (if_number o x)
   if_number-within None x h = (fault-reaches 0 0 0 invalid_number (λ e. cc) refl (omega arith) (omega arith)).1
   if_number-within (Some c) x h =
-      if_case (Within t) (begins_number c) x (failed invalid_number 0) (λ _. h) (λ _. (fault-reaches 0 0 0 invalid_number (λ e. cc) refl (omega arith) (omega arith)).1)
+      if_case (Within t) (begins_number c) x (failed invalid_number 0) (λ _. h)
+      (λ _. (fault-reaches 0 0 0 invalid_number (λ e. cc) refl (omega arith) (omega arith)).1)
 
   with_value-inside : (i : ℕ) (x : Extent) → Reaches t i 1 x → Within t (with_value t i x)
   with_value-inside i (taken u e) h = h.1
@@ -188,7 +221,8 @@ module _ (t : List ℕ) where
 -- a number takes a byte or more, and no step leaves the text
 pub number_at-within : (names : Bool) (t : List ℕ) (i : ℕ) → i < length t → ScalarWithin t i (number_at names t i)
 unfolding number_at
-number_at-within names t i lt = with_value-within t i (number_extent names t i) (number_extent-reaches t names i (omega arith))
+number_at-within names t i lt =
+    with_value-within t i (number_extent names t i) (number_extent-reaches t names i (omega arith))
 
 -- an integer ends within the text, and so does a float that is seen
 pub int_at-within : (t : List ℕ) (i : ℕ) → i ≤ length t → Within t (int_at t i)
@@ -200,9 +234,11 @@ pub number_alone-within : (names : Bool) (t : List ℕ) → Within t (number_alo
 unfolding number_at
 number_alone-within names t =
     if_number-within t (slice_get t 0) (alone t (number_at names t 0))
-    (alone-within t (number_at names t 0) (with_value-inside t 0 (number_extent names t 0) (number_extent-reaches t names 0 (omega arith))))
+    (alone-within t (number_at names t 0)
+    (with_value-inside t 0 (number_extent names t 0) (number_extent-reaches t names 0 (omega arith))))
 
 pub int_alone-within : (t : List ℕ) → Within t (int_alone t)
 int_alone-within t =
     if_number-within t (slice_get t 0) (alone t (integer_alone (int_at t 0)))
-    (alone-within t (integer_alone (int_at t 0)) (integer_alone-within t (int_at t 0) (int_at-within t 0 (omega arith))))
+    (alone-within t (integer_alone (int_at t 0))
+    (integer_alone-within t (int_at t 0) (int_at-within t 0 (omega arith))))

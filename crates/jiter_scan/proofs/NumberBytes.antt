@@ -23,7 +23,8 @@ use Rattle.jiter_scan.proofs.WordLaws.{word_at-sound}
 
 -- a letter of `NaN` and `Infinity`
 abbrev pub is_name_byte : ℕ → Bool
-is_name_byte c = (c == 78) || (c == 97) || (c == 73) || (c == 110) || (c == 102) || (c == 105) || (c == 116) || (c == 121)
+is_name_byte c =
+    (c == 78) || (c == 97) || (c == 73) || (c == 110) || (c == 102) || (c == 105) || (c == 116) || (c == 121)
 
 -- a digit, a sign, a point, an exponent's letter, or a letter of a name
 abbrev pub is_number_byte : ℕ → Bool
@@ -42,7 +43,8 @@ pub record IsPlainByte (c : ℕ) : Type 0 where
   pub no_left_brace : c ≢ 123
   pub no_right_brace : c ≢ 125
 
-number_byte-range : (c : ℕ) → is_number_byte c ≡ true → (c ≡ 43) ⊎ (((45 ≤ c) × (c ≤ 46)) ⊎ (((48 ≤ c) × (c ≤ 57)) ⊎ (((65 ≤ c) × (c ≤ 90)) ⊎ ((97 ≤ c) × (c ≤ 122)))))
+number_byte-range : (c : ℕ) → is_number_byte c ≡ true
+    → (c ≡ 43) ⊎ (((45 ≤ c) × (c ≤ 46)) ⊎ (((48 ≤ c) × (c ≤ 57)) ⊎ (((65 ≤ c) × (c ≤ 90)) ⊎ ((97 ≤ c) × (c ≤ 122)))))
 number_byte-range c h = grind (arith, nat_tests)
 
 -- a byte of a number is plain
@@ -63,7 +65,8 @@ number_byte-plain c h =
     }
 
 digit-number_byte : (c : ℕ) → is_digit c ≡ true → is_number_byte c ≡ true
-digit-number_byte c h = ap (λ b. b || (c == 43) || (c == 45) || (c == 46) || (c == 101) || (c == 69) || is_name_byte c) h
+digit-number_byte c h =
+    ap (λ b. b || (c == 43) || (c == 45) || (c == 46) || (c == 101) || (c == 69) || is_name_byte c) h
 
 same-pass : (u w : List ℕ) → u ≡ w → list_all is_number_byte w ≡ true → AllPass is_number_byte u
 same-pass u w e h = subst (AllPass is_number_byte) (sym e) (AllPass-from_list_all is_number_byte w h)
@@ -110,7 +113,8 @@ exponent-pass : (w : List ℕ) → IsExponent w → AllPass is_number_byte w
 exponent-pass w (inl e) = same-pass w [] e refl
 exponent-pass w (inr p) =
     subst (AllPass is_number_byte) (sym p.is)
-    (cons-pass p.letter (p.sign ++ p.digits) (letter-pass p.letter p.is_letter) (append-pass p.sign p.digits (sign-pass p.sign p.is_sign) (some-digits-pass p.digits p.are_digits)))
+    (cons-pass p.letter (p.sign ++ p.digits) (letter-pass p.letter p.is_letter)
+    (append-pass p.sign p.digits (sign-pass p.sign p.is_sign) (some-digits-pass p.digits p.are_digits)))
 
 -- every byte of a number's text is a byte of numbers
 pub number-bytes : (names : Bool) (w : List ℕ) → IsNumberText names w → AllPass is_number_byte w
@@ -118,7 +122,8 @@ number-bytes names w (inl d) =
     subst (AllPass is_number_byte) (sym d.is)
     (append-pass d.minus (d.whole ++ (d.fraction ++ d.exponent)) (minus-pass d.minus d.is_minus)
     (append-pass d.whole (d.fraction ++ d.exponent) (whole-pass d.whole d.is_whole)
-    (append-pass d.fraction d.exponent (fraction-pass d.fraction d.is_fraction) (exponent-pass d.exponent d.is_exponent))))
+    (append-pass d.fraction d.exponent (fraction-pass d.fraction d.is_fraction)
+    (exponent-pass d.exponent d.is_exponent))))
 number-bytes names w (inr (n, inl e)) = same-pass w (codes "NaN") e refl
 number-bytes names w (inr (n, inr (inl e))) = same-pass w (codes "Infinity") e refl
 number-bytes names w (inr (n, inr (inr e))) = same-pass w (codes "-Infinity") e refl
@@ -126,11 +131,14 @@ number-bytes names w (inr (n, inr (inr e))) = same-pass w (codes "-Infinity") e 
 -- each of them is below 80 hex
 pub number-ascii : (names : Bool) (w : List ℕ) → IsNumberText names w → AllPass is_ascii w
 number-ascii names w h =
-    All-weaker (λ c. is_number_byte c ≡ true) (λ c. is_ascii c ≡ true) (λ c b. let p = number_byte-plain c b in lt-ltb c 128 (omega (arith, p.low))) w (number-bytes names w h)
+    All-weaker (λ c. is_number_byte c ≡ true) (λ c. is_ascii c ≡ true)
+    (λ c b. let p = number_byte-plain c b in lt-ltb c 128 (omega (arith, p.low))) w (number-bytes names w h)
 
 pub IsAscii-number : (names : Bool) (w : List ℕ) → IsNumberText names w → IsAscii w
 IsAscii-number names w h =
-    IsAscii-from_all w (All-weaker (λ c. is_number_byte c ≡ true) (λ c. c < 128) (λ c b. let p = number_byte-plain c b in omega (arith, p.low)) w (number-bytes names w h))
+    IsAscii-from_all w
+    (All-weaker (λ c. is_number_byte c ≡ true) (λ c. c < 128)
+    (λ c b. let p = number_byte-plain c b in omega (arith, p.low)) w (number-bytes names w h))
 
 -- a number's text is UTF-8
 pub number-utf8 : (names : Bool) (w : List ℕ) → IsNumberText names w → IsUtf8 w
@@ -139,7 +147,8 @@ number-utf8 names w h = IsUtf8-from_ascii w (IsAscii-number names w h)
 digit-begins : (c : ℕ) → is_digit c ≡ true → begins_number c ≡ true
 digit-begins c h = ap (λ b. b || (c == 45) || (c == 78) || (c == 73)) h
 
-decimal-first : (minus whole rest w : List ℕ) (c : ℕ) → c ∷ w ≡ minus ++ (whole ++ rest) → IsMinus minus → IsWhole whole → begins_number c ≡ true
+decimal-first : (minus whole rest w : List ℕ) (c : ℕ) → c ∷ w ≡ minus ++ (whole ++ rest) → IsMinus minus → IsWhole whole
+    → begins_number c ≡ true
 decimal-first [] [] rest w c e m h = absurd h
 decimal-first [] (d ∷ whole) rest w c e m h = let same : c ≡ d = cc in digit-begins c (ap is_digit same ∙ h.0.0)
 decimal-first (d ∷ minus) whole rest w c e (inl m) h = absurd (cc)
@@ -147,7 +156,8 @@ decimal-first (d ∷ minus) whole rest w c e (inr m) h = let same : c ≡ 45 = c
 
 -- the first byte of a number's text tells that a number begins
 pub number-begins : (names : Bool) (c : ℕ) (w : List ℕ) → IsNumberText names (c ∷ w) → begins_number c ≡ true
-number-begins names c w (inl d) = decimal-first d.minus d.whole (d.fraction ++ d.exponent) w c d.is d.is_minus d.is_whole
+number-begins names c w (inl d) =
+    decimal-first d.minus d.whole (d.fraction ++ d.exponent) w c d.is d.is_minus d.is_whole
 number-begins names c w (inr (n, inl e)) = let same : c ≡ 78 = cc in ap begins_number same
 number-begins names c w (inr (n, inr (inl e))) = let same : c ≡ 73 = cc in ap begins_number same
 number-begins names c w (inr (n, inr (inr e))) = let same : c ≡ 45 = cc in ap begins_number same
@@ -205,7 +215,8 @@ module _ (t : List ℕ) where
       }))
 
   -- a name
-  pub IsAscii-name : (w : List ℕ) (i j e : ℕ) → IsMinusTo t i j → word_at t w j ≡ taken tt e → IsAscii w → IsAscii (slice_range t i e)
+  pub IsAscii-name : (w : List ℕ) (i j e : ℕ) → IsMinusTo t i j → word_at t w j ≡ taken tt e → IsAscii w
+      → IsAscii (slice_range t i e)
   IsAscii-name w i j e minus h ascii =
       let m = minus_to i j minus in
       subst IsAscii (slice-stands t i e (m.0 ++ w) (stands-append t i j e m.0 w m.2 (word_at-sound t w j e tt h)))

@@ -66,31 +66,38 @@ behind_zero-complete j (Some c) n = if-false (is_digit c) (failed invalid_number
 
 module _ (t : List ℕ) where
   -- one digit or more
-  pub digits_from-complete : (i j : ℕ) (w : List ℕ) → Stands t i j w → IsDigits w → NoDigit (slice_get t j) → digits_from t i (slice_get t i) ≡ taken tt j
+  pub digits_from-complete : (i j : ℕ) (w : List ℕ) → Stands t i j w → IsDigits w → NoDigit (slice_get t j)
+      → digits_from t i (slice_get t i) ≡ taken tt j
   digits_from-complete i j [] h d n = absurd d
   digits_from-complete i j (c ∷ w) h d n =
       ap (digits_from t i) h.0 ∙ if-true (is_digit c) (taken tt (digit_run_end t i)) (failed invalid_number i) d.0
       ∙ ap (taken tt) (run_end-complete is_digit t i j (c ∷ w) h d n)
 
-  whole-zero : (i j c : ℕ) (w : List ℕ) → Stands t i j (c ∷ w) → c ≡ 48 → w ≡ [] → NoDigit (slice_get t j) → whole_at t i ≡ taken tt j
+  whole-zero : (i j c : ℕ) (w : List ℕ) → Stands t i j (c ∷ w) → c ≡ 48 → w ≡ [] → NoDigit (slice_get t j)
+      → whole_at t i ≡ taken tt j
   whole-zero i j c w h z none n =
       let at : i + 1 ≡ j = subst (Stands t (i + 1) j) none h.1 in
-      ap (whole_from t i) (h.0 ∙ ap Some z) ∙ behind_zero-complete (i + 1) (slice_get t (i + 1)) (subst (λ k. NoDigit (slice_get t k)) (sym at) n)
+      ap (whole_from t i) (h.0 ∙ ap Some z)
+      ∙ behind_zero-complete (i + 1) (slice_get t (i + 1)) (subst (λ k. NoDigit (slice_get t k)) (sym at) n)
       ∙ ap (taken tt) at
 
-  whole-digits : (i j c : ℕ) (w : List ℕ) → Stands t i j (c ∷ w) → c ≢ 48 → IsDigits (c ∷ w) → length (c ∷ w) ≤ digit_limit → NoDigit (slice_get t j) → whole_at t i ≡ taken tt j
+  whole-digits : (i j c : ℕ) (w : List ℕ) → Stands t i j (c ∷ w) → c ≢ 48 → IsDigits (c ∷ w)
+      → length (c ∷ w) ≤ digit_limit → NoDigit (slice_get t j) → whole_at t i ≡ taken tt j
   whole-digits i j c w h z d l n =
       let run = run_end-complete is_digit t i j (c ∷ w) h d n in
       let long = stands-length t i j (c ∷ w) h in
       let few : digit_run_end t i ≤ i + digit_limit = omega arith in
       ap (whole_from t i) h.0
-      ∙ if-false (c == 48) (behind_zero (i + 1) (slice_get t (i + 1))) (if is_digit c then within_limit i (digit_run_end t i) else failed invalid_number i) (ne_eqb c 48 z)
+      ∙ if-false (c == 48) (behind_zero (i + 1) (slice_get t (i + 1)))
+      (if is_digit c then within_limit i (digit_run_end t i) else failed invalid_number i) (ne_eqb c 48 z)
       ∙ if-true (is_digit c) (within_limit i (digit_run_end t i)) (failed invalid_number i) d.0
-      ∙ if-true (nat_le (digit_run_end t i) (i + digit_limit)) (taken tt (digit_run_end t i)) (failed number_out_of_range (i + (digit_limit + 1))) (le-leb (digit_run_end t i) (i + digit_limit) few)
+      ∙ if-true (nat_le (digit_run_end t i) (i + digit_limit)) (taken tt (digit_run_end t i))
+      (failed number_out_of_range (i + (digit_limit + 1))) (le-leb (digit_run_end t i) (i + digit_limit) few)
       ∙ ap (taken tt) run
 
   -- the integer part
-  pub whole_at-complete : (i j : ℕ) (w : List ℕ) → Stands t i j w → IsWhole w → length w ≤ digit_limit → NoDigit (slice_get t j) → whole_at t i ≡ taken tt j
+  pub whole_at-complete : (i j : ℕ) (w : List ℕ) → Stands t i j w → IsWhole w → length w ≤ digit_limit
+      → NoDigit (slice_get t j) → whole_at t i ≡ taken tt j
   whole_at-complete i j [] h is l n = absurd is
   whole_at-complete i j (c ∷ w) h is l n = by (cases_eq c 48) is.1 where
     by : (c ≡ 48) ⊎ (c ≢ 48) → (w ≡ []) ⊎ (c ≢ 48) → whole_at t i ≡ taken tt j
@@ -103,96 +110,128 @@ module _ (t : List ℕ) where
   fraction-none i (Some c) n = if-false (c == 46) (digits_from t (i + 1) (slice_get t (i + 1))) (taken tt i) n.1
 
   -- the fraction
-  pub fraction_at-complete : (i j : ℕ) (w : List ℕ) → Stands t i j w → IsFraction w → IfSome (slice_get t j) NoPoint → fraction_at t i ≡ taken tt j
-  fraction_at-complete i j [] h is n = fraction-none i (slice_get t i) (subst (λ k. IfSome (slice_get t k) NoPoint) (sym h) n) ∙ ap (taken tt) h
+  pub fraction_at-complete : (i j : ℕ) (w : List ℕ) → Stands t i j w → IsFraction w → IfSome (slice_get t j) NoPoint
+      → fraction_at t i ≡ taken tt j
+  fraction_at-complete i j [] h is n =
+      fraction-none i (slice_get t i) (subst (λ k. IfSome (slice_get t k) NoPoint) (sym h) n) ∙ ap (taken tt) h
   fraction_at-complete i j (c ∷ w) h is n =
-      ap (fraction_from t i) (h.0 ∙ ap Some is.0) ∙ digits_from-complete (i + 1) j w h.1 is.1 (IfSome_then (slice_get t j) n (λ c p. p.0))
+      ap (fraction_from t i) (h.0 ∙ ap Some is.0)
+      ∙ digits_from-complete (i + 1) j w h.1 is.1 (IfSome_then (slice_get t j) n (λ c p. p.0))
 
   unsigned : (c : ℕ) → is_digit c ≡ true → ((c == 43) || (c == 45)) ≡ false
   unsigned c d =
       let b = digit-bounds c d in
       ap (λ x. x || (c == 45)) (ne_eqb c 43 (λ e. omega arith)) ∙ ne_eqb c 45 (λ e. omega arith)
 
-  power-signed : (i j s : ℕ) (digits : List ℕ) → ((s == 43) || (s == 45)) ≡ true → Stands t i j (s ∷ digits) → IsDigits digits → NoDigit (slice_get t j) → power_from t i (slice_get t i) ≡ taken tt j
+  power-signed : (i j s : ℕ) (digits : List ℕ) → ((s == 43) || (s == 45)) ≡ true → Stands t i j (s ∷ digits)
+      → IsDigits digits → NoDigit (slice_get t j) → power_from t i (slice_get t i) ≡ taken tt j
   power-signed i j s digits is h d n =
-      ap (power_from t i) h.0 ∙ if-true ((s == 43) || (s == 45)) (digits_from t (i + 1) (slice_get t (i + 1))) (digits_from t i (Some s)) is
+      ap (power_from t i) h.0
+      ∙ if-true ((s == 43) || (s == 45)) (digits_from t (i + 1) (slice_get t (i + 1))) (digits_from t i (Some s)) is
       ∙ digits_from-complete (i + 1) j digits h.1 d n
 
-  power-unsigned : (i j : ℕ) (digits : List ℕ) → Stands t i j digits → IsDigits digits → NoDigit (slice_get t j) → power_from t i (slice_get t i) ≡ taken tt j
+  power-unsigned : (i j : ℕ) (digits : List ℕ) → Stands t i j digits → IsDigits digits → NoDigit (slice_get t j)
+      → power_from t i (slice_get t i) ≡ taken tt j
   power-unsigned i j [] h d n = absurd d
   power-unsigned i j (c ∷ w) h d n =
-      ap (power_from t i) h.0 ∙ if-false ((c == 43) || (c == 45)) (digits_from t (i + 1) (slice_get t (i + 1))) (digits_from t i (Some c)) (unsigned c d.0)
+      ap (power_from t i) h.0
+      ∙ if-false ((c == 43) || (c == 45)) (digits_from t (i + 1) (slice_get t (i + 1))) (digits_from t i (Some c))
+      (unsigned c d.0)
       ∙ ap (digits_from t i) (sym h.0) ∙ digits_from-complete i j (c ∷ w) h d n
 
   -- the sign and the digits of an exponent
-  pub power_from-complete : (i j : ℕ) (sign digits : List ℕ) → IsSign sign → IsDigits digits → Stands t i j (sign ++ digits) → NoDigit (slice_get t j) → power_from t i (slice_get t i) ≡ taken tt j
-  power_from-complete i j sign digits (inl s) d h n = power-unsigned i j digits (subst (λ x. Stands t i j (x ++ digits)) s h) d n
-  power_from-complete i j sign digits (inr (inl s)) d h n = power-signed i j 43 digits refl (subst (λ x. Stands t i j (x ++ digits)) s h) d n
-  power_from-complete i j sign digits (inr (inr s)) d h n = power-signed i j 45 digits refl (subst (λ x. Stands t i j (x ++ digits)) s h) d n
+  pub power_from-complete : (i j : ℕ) (sign digits : List ℕ) → IsSign sign → IsDigits digits
+      → Stands t i j (sign ++ digits) → NoDigit (slice_get t j) → power_from t i (slice_get t i) ≡ taken tt j
+  power_from-complete i j sign digits (inl s) d h n =
+      power-unsigned i j digits (subst (λ x. Stands t i j (x ++ digits)) s h) d n
+  power_from-complete i j sign digits (inr (inl s)) d h n =
+      power-signed i j 43 digits refl (subst (λ x. Stands t i j (x ++ digits)) s h) d n
+  power_from-complete i j sign digits (inr (inr s)) d h n =
+      power-signed i j 45 digits refl (subst (λ x. Stands t i j (x ++ digits)) s h) d n
 
   exponent-none : (i : ℕ) (o : Option ℕ) → IfSome o NoPart → exponent_from t i o ≡ taken tt i
   exponent-none i None n = refl
-  exponent-none i (Some c) n = if-false ((c == 101) || (c == 69)) (power_from t (i + 1) (slice_get t (i + 1))) (taken tt i) n.2
+  exponent-none i (Some c) n =
+      if-false ((c == 101) || (c == 69)) (power_from t (i + 1) (slice_get t (i + 1))) (taken tt i) n.2
 
-  exponent-letter : (i c : ℕ) → (c ≡ 101) ⊎ (c ≡ 69) → exponent_from t i (Some c) ≡ power_from t (i + 1) (slice_get t (i + 1))
+  exponent-letter : (i c : ℕ) → (c ≡ 101) ⊎ (c ≡ 69)
+      → exponent_from t i (Some c) ≡ power_from t (i + 1) (slice_get t (i + 1))
   exponent-letter i c (inl e) = ap (λ x. exponent_from t i (Some x)) e
   exponent-letter i c (inr e) = ap (λ x. exponent_from t i (Some x)) e
 
   -- the exponent
-  pub exponent_at-complete : (i j : ℕ) (w : List ℕ) → Stands t i j w → IsExponent w → IfSome (slice_get t j) NoPart → exponent_at t i ≡ taken tt j
+  pub exponent_at-complete : (i j : ℕ) (w : List ℕ) → Stands t i j w → IsExponent w → IfSome (slice_get t j) NoPart
+      → exponent_at t i ≡ taken tt j
   exponent_at-complete i j w h (inl none) n =
       let at : i ≡ j = subst (Stands t i j) none h in
       exponent-none i (slice_get t i) (subst (λ k. IfSome (slice_get t k) NoPart) (sym at) n) ∙ ap (taken tt) at
   exponent_at-complete i j w h (inr p) n =
       let s : Stands t i j (p.letter ∷ (p.sign ++ p.digits)) = subst (Stands t i j) p.is h in
       ap (exponent_from t i) s.0 ∙ exponent-letter i p.letter p.is_letter
-      ∙ power_from-complete (i + 1) j p.sign p.digits p.is_sign p.are_digits s.1 (IfSome_then (slice_get t j) n (λ c q. q.0))
+      ∙ power_from-complete (i + 1) j p.sign p.digits p.is_sign p.are_digits s.1
+      (IfSome_then (slice_get t j) n (λ c q. q.0))
 
   -- the parts behind a minus
-  pub decimal_at-complete : (i e : ℕ) (whole fraction exponent : List ℕ) → IsWhole whole → length whole ≤ digit_limit → IsFraction fraction → IsExponent exponent
+  pub decimal_at-complete : (i e : ℕ) (whole fraction exponent : List ℕ) → IsWhole whole → length whole ≤ digit_limit
+      → IsFraction fraction → IsExponent exponent
       → Stands t i e (whole ++ (fraction ++ exponent)) → EndsNumber (slice_get t e) → decimal_at t i ≡ taken tt e
   decimal_at-complete i e whole fraction exponent w l f x h n =
       let a = stands-split t i e whole (fraction ++ exponent) h in
       let b = stands-split t a.0 e fraction exponent a.2 in
       let behind : IfSome (slice_get t e) NoPart = IfSome_then (slice_get t e) n no_part in
-      let k : IfSome (slice_get t b.0) NoPoint = stands-next t NoPoint b.0 e exponent b.2 (exponent-first exponent x) (IfSome_then (slice_get t e) behind (λ c p. (p.0, p.1))) in
-      let j : NoDigit (slice_get t a.0) = stands-next t (λ c. is_digit c ≡ false) a.0 b.0 fraction b.1 (fraction-first fraction f) (IfSome_then (slice_get t b.0) k (λ c p. p.0)) in
-      ap (λ y. extent_then y (λ j. extent_then (fraction_at t j) (λ k. exponent_at t k))) (whole_at-complete i a.0 whole a.1 w l j)
+      let k : IfSome (slice_get t b.0) NoPoint =
+      stands-next t NoPoint b.0 e exponent b.2 (exponent-first exponent x)
+      (IfSome_then (slice_get t e) behind (λ c p. (p.0, p.1))) in
+      let j : NoDigit (slice_get t a.0) =
+      stands-next t (λ c. is_digit c ≡ false) a.0 b.0 fraction b.1 (fraction-first fraction f)
+      (IfSome_then (slice_get t b.0) k (λ c p. p.0)) in
+      ap (λ y. extent_then y (λ j. extent_then (fraction_at t j) (λ k. exponent_at t k)))
+      (whole_at-complete i a.0 whole a.1 w l j)
       ∙ ap (λ y. extent_then y (λ k. exponent_at t k)) (fraction_at-complete a.0 b.0 fraction b.1 f k)
       ∙ exponent_at-complete b.0 e exponent b.2 x behind
 
-  whole-first : (i e : ℕ) (w rest : List ℕ) → IsWhole w → Stands t i e (w ++ rest) → (c : ℕ) × (slice_get t i ≡ Some c) × (is_digit c ≡ true)
+  whole-first : (i e : ℕ) (w rest : List ℕ) → IsWhole w → Stands t i e (w ++ rest)
+      → (c : ℕ) × (slice_get t i ≡ Some c) × (is_digit c ≡ true)
   whole-first i e [] rest is h = absurd is
   whole-first i e (c ∷ w) rest is h = (c, h.0, is.0.0)
 
   extent-digit : (names : Bool) (i c : ℕ) → is_digit c ≡ true → extent_from names t i (Some c) ≡ decimal_at t i
   extent-digit names i c d =
       let b = digit-bounds c d in
-      if-false (c == 45) (behind_minus names t (i + 1) (slice_get t (i + 1))) (if c == 78 then name_at names t (codes "NaN") i else (if c == 73 then name_at names t (codes "Infinity") i else decimal_at t i)) (ne_eqb c 45 (λ e. omega arith))
-      ∙ if-false (c == 78) (name_at names t (codes "NaN") i) (if c == 73 then name_at names t (codes "Infinity") i else decimal_at t i) (ne_eqb c 78 (λ e. omega arith))
+      if-false (c == 45) (behind_minus names t (i + 1) (slice_get t (i + 1)))
+      (if c == 78 then name_at names t (codes "NaN") i else
+      (if c == 73 then name_at names t (codes "Infinity") i else decimal_at t i))
+      (ne_eqb c 45 (λ e. omega arith))
+      ∙ if-false (c == 78) (name_at names t (codes "NaN") i)
+      (if c == 73 then name_at names t (codes "Infinity") i else decimal_at t i) (ne_eqb c 78 (λ e. omega arith))
       ∙ if-false (c == 73) (name_at names t (codes "Infinity") i) (decimal_at t i) (ne_eqb c 73 (λ e. omega arith))
 
   signed-digit : (names : Bool) (i c : ℕ) → is_digit c ≡ true → behind_minus names t i (Some c) ≡ decimal_at t i
   signed-digit names i c d =
       let b = digit-bounds c d in
-      if-false (c == 73) (if names then word_at t (codes "Infinity") i else failed invalid_number i) (decimal_at t i) (ne_eqb c 73 (λ e. omega arith))
+      if-false (c == 73) (if names then word_at t (codes "Infinity") i else failed invalid_number i) (decimal_at t i)
+      (ne_eqb c 73 (λ e. omega arith))
 
-  extent-decimal : (names : Bool) (i e : ℕ) (w : List ℕ) → Stands t i e w → IsDecimal w → EndsNumber (slice_get t e) → number_extent names t i ≡ taken tt e
+  extent-decimal : (names : Bool) (i e : ℕ) (w : List ℕ) → Stands t i e w → IsDecimal w → EndsNumber (slice_get t e)
+      → number_extent names t i ≡ taken tt e
   extent-decimal names i e w h d n = by d.is_minus where
     all : Stands t i e (d.minus ++ (d.whole ++ (d.fraction ++ d.exponent)))
     all = subst (Stands t i e) d.is h
 
     by : IsMinus d.minus → number_extent names t i ≡ taken tt e
     by (inl m) =
-        let s : Stands t i e (d.whole ++ (d.fraction ++ d.exponent)) = subst (λ x. Stands t i e (x ++ (d.whole ++ (d.fraction ++ d.exponent)))) m all in
+        let s : Stands t i e (d.whole ++ (d.fraction ++ d.exponent)) =
+        subst (λ x. Stands t i e (x ++ (d.whole ++ (d.fraction ++ d.exponent)))) m all in
         let f = whole-first i e d.whole (d.fraction ++ d.exponent) d.is_whole s in
         ap (extent_from names t i) f.1 ∙ extent-digit names i f.0 f.2
         ∙ decimal_at-complete i e d.whole d.fraction d.exponent d.is_whole d.limit d.is_fraction d.is_exponent s n
     by (inr m) =
-        let s : Stands t i e (45 ∷ (d.whole ++ (d.fraction ++ d.exponent))) = subst (λ x. Stands t i e (x ++ (d.whole ++ (d.fraction ++ d.exponent)))) m all in
+        let s : Stands t i e (45 ∷ (d.whole ++ (d.fraction ++ d.exponent))) =
+        subst (λ x. Stands t i e (x ++ (d.whole ++ (d.fraction ++ d.exponent)))) m all in
         let f = whole-first (i + 1) e d.whole (d.fraction ++ d.exponent) d.is_whole s.1 in
         ap (extent_from names t i) s.0 ∙ ap (behind_minus names t (i + 1)) f.1 ∙ signed-digit names (i + 1) f.0 f.2
-        ∙ decimal_at-complete (i + 1) e d.whole d.fraction d.exponent d.is_whole d.limit d.is_fraction d.is_exponent s.1 n
+        ∙ decimal_at-complete (i + 1) e d.whole d.fraction d.exponent d.is_whole d.limit d.is_fraction d.is_exponent s.1
+        n
 
   extent-name : (i e : ℕ) (w : List ℕ) → Stands t i e w → IsName w → number_extent true t i ≡ taken tt e
   extent-name i e w h (inl is) =
@@ -203,15 +242,19 @@ module _ (t : List ℕ) where
       ap (extent_from true t i) s.0 ∙ word_at-complete t (codes "Infinity") i e s
   extent-name i e w h (inr (inr is)) =
       let s : Stands t i e (codes "-Infinity") = subst (Stands t i e) is h in
-      ap (extent_from true t i) s.0 ∙ ap (behind_minus true t (i + 1)) s.1.0 ∙ word_at-complete t (codes "Infinity") (i + 1) e s.1
+      ap (extent_from true t i) s.0 ∙ ap (behind_minus true t (i + 1)) s.1.0
+      ∙ word_at-complete t (codes "Infinity") (i + 1) e s.1
 
   -- all of a number
-  pub number_extent-complete : (names : Bool) (i e : ℕ) (w : List ℕ) → Stands t i e w → IsNumberText names w → EndsNumber (slice_get t e) → number_extent names t i ≡ taken tt e
+  pub number_extent-complete : (names : Bool) (i e : ℕ) (w : List ℕ) → Stands t i e w → IsNumberText names w
+      → EndsNumber (slice_get t e) → number_extent names t i ≡ taken tt e
   number_extent-complete names i e w h (inl d) n = extent-decimal names i e w h d n
   number_extent-complete names i e w h (inr x) n = ap (λ b. number_extent b t i) x.0 ∙ extent-name i e w h x.1
 
 -- a number's text is read whole, where the byte behind it does not go on it
-pub number_at-complete : (names : Bool) (t : List ℕ) (i e : ℕ) → i ≤ e → e ≤ length t → IsNumberText names (slice_range t i e) → IfSome (slice_get t e) (λ c. continues_number c ≡ false)
+pub number_at-complete : (names : Bool) (t : List ℕ) (i e : ℕ) → i ≤ e → e ≤ length t
+    → IsNumberText names (slice_range t i e) → IfSome (slice_get t e) (λ c. continues_number c ≡ false)
     → number_at names t i ≡ taken (number_value (slice_range t i e)) e
 unfolding number_at
-number_at-complete names t i e p q is n = ap (with_value t i) (number_extent-complete t names i e (slice_range t i e) (stands-slice t i e p q) is n)
+number_at-complete names t i e p q is n =
+    ap (with_value t i) (number_extent-complete t names i e (slice_range t i e) (stands-slice t i e p q) is n)

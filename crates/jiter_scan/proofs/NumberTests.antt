@@ -20,7 +20,8 @@ module _ (names : Bool) (w : List ℕ) where
   read : (x : Extent) → number_extent names w 0 ≡ x → takes_all (length w) x ≡ true → IsNumberText names w
   read (taken u e) is h =
       let all : length w ≡ e = eqb-true (length w) e h in
-      subst (IsNumberText names) (ap (slice_range w 0) (sym all) ∙ whole) (extent_from-sound w names 0 e u (slice_get w 0) refl is)
+      subst (IsNumberText names) (ap (slice_range w 0) (sym all) ∙ whole)
+      (extent_from-sound w names 0 e u (slice_get w 0) refl is)
   read (failed k j) is h = absurd (false≢true h)
 
   -- The test is true exactly of the texts of numbers.
@@ -29,7 +30,10 @@ module _ (names : Bool) (w : List ℕ) where
   number_text-decides = (
     read (number_extent names w 0) refl,
     λ h.
-        let none = subst (λ o. IfSome o (λ c. continues_number c ≡ false)) (sym (slice_get_past w (length w) (omega arith))) tt in
+        let none =
+        subst (λ o. IfSome o (λ c. continues_number c ≡ false)) (sym (slice_get_past w (length w) (omega arith)))
+        tt in
         let stands = subst (Stands w 0 (length w)) whole (stands-slice w 0 (length w) (omega arith) (omega arith)) in
-        ap (takes_all (length w)) (number_extent-complete w names 0 (length w) w stands h none) ∙ eq-eqb (length w) (length w) refl,
+        ap (takes_all (length w)) (number_extent-complete w names 0 (length w) w stands h none)
+        ∙ eq-eqb (length w) (length w) refl,
   )

@@ -1,5 +1,5 @@
 -- What a number's text stands for.
-use Rattle.std.proofs.Common.{◌≡◌, ◌≢◌, ◌⊎◌, inl, inr, ℕ, ◌-◌, ◌^◌, ◌<◌, ◌≤◌, ◌==◌, ◌||◌, min, Bool, true, false, cond, length, List, [], ◌∷◌, ◌++◌, refl, sym, ap, ◌∙◌, subst, slice_range, arith, nat_le, nat_lt, pos}
+use Rattle.std.proofs.Common.{◌≡◌, ◌≢◌, ◌⊎◌, inl, inr, ℕ, ◌^◌, ◌<◌, ◌≤◌, ◌==◌, ◌||◌, min, Bool, true, false, cond, length, List, [], ◌∷◌, ◌++◌, refl, sym, ap, ◌∙◌, subst, slice_range, arith, nat_le, nat_lt, pos}
 use Rattle.std.specs.Prelude.{Some, slice_get}
 use Rattle.std.specs.List.{list_any}
 use Rattle.std.proofs.lemmas.Bool.{cases_lt, or_right}
@@ -33,25 +33,27 @@ not_below n h = grind (arith, nat_tests)
 above : (n : ℕ) → 2 ^ 63 < n → nat_le n (2 ^ 63) ≡ false
 above n h = grind (arith, nat_tests)
 
--- the greatest number of 64 bits stands for all greater ones
-positive_value-min : (w : List ℕ) (n : ℕ) → positive_value w (min n (2 ^ 64 - 1)) ≡ positive_value w n
+-- the least number of twenty digits stands for all greater ones
+positive_value-min : (w : List ℕ) (n : ℕ) → positive_value w (min n (10 ^ 19)) ≡ positive_value w n
 positive_value-min w n =
-    elim (cases_lt n (2 ^ 64)) [
-      | inl small ↦ let same : min n (2 ^ 64 - 1) ≡ n = omega arith in ap (positive_value w) same
+    elim (cases_lt n (10 ^ 19)) [
+      | inl small ↦ let same : min n (10 ^ 19) ≡ n = omega arith in ap (positive_value w) same
       | inr great ↦
-          let one : nat_lt (min n (2 ^ 64 - 1)) (2 ^ 63) ≡ false = not_below (min n (2 ^ 64 - 1)) (omega arith) in
+          let one : nat_lt (min n (10 ^ 19)) (2 ^ 63) ≡ false = not_below (min n (10 ^ 19)) (omega arith) in
           let other : nat_lt n (2 ^ 63) ≡ false = not_below n (omega arith) in
-          ap (λ (b : Bool). cond b (integer (pos (min n (2 ^ 64 - 1)))) (big w)) one ∙ sym (ap (λ (b : Bool). cond b (integer (pos n)) (big w)) other)
+          ap (λ (b : Bool). cond b (integer (pos (min n (10 ^ 19)))) (big w)) one
+          ∙ sym (ap (λ (b : Bool). cond b (integer (pos n)) (big w)) other)
     ]
 
-negative_value-min : (w : List ℕ) (n : ℕ) → negative_value w (min n (2 ^ 64 - 1)) ≡ negative_value w n
+negative_value-min : (w : List ℕ) (n : ℕ) → negative_value w (min n (10 ^ 19)) ≡ negative_value w n
 negative_value-min w n =
-    elim (cases_lt n (2 ^ 64)) [
-      | inl small ↦ let same : min n (2 ^ 64 - 1) ≡ n = omega arith in ap (negative_value w) same
+    elim (cases_lt n (10 ^ 19)) [
+      | inl small ↦ let same : min n (10 ^ 19) ≡ n = omega arith in ap (negative_value w) same
       | inr great ↦
-          let one : nat_le (min n (2 ^ 64 - 1)) (2 ^ 63) ≡ false = above (min n (2 ^ 64 - 1)) (omega arith) in
+          let one : nat_le (min n (10 ^ 19)) (2 ^ 63) ≡ false = above (min n (10 ^ 19)) (omega arith) in
           let other : nat_le n (2 ^ 63) ≡ false = above n (omega arith) in
-          ap (λ (b : Bool). cond b (integer (minus_of (min n (2 ^ 64 - 1)))) (big w)) one ∙ sym (ap (λ (b : Bool). cond b (integer (minus_of n)) (big w)) other)
+          ap (λ (b : Bool). cond b (integer (minus_of (min n (10 ^ 19)))) (big w)) one
+          ∙ sym (ap (λ (b : Bool). cond b (integer (minus_of n)) (big w)) other)
     ]
 
 -- digits alone
@@ -59,8 +61,11 @@ number_value-digits : (w : List ℕ) → IsWhole w → number_value w ≡ positi
 unfolding number_value
 number_value-digits [] h = absurd h
 number_value-digits (c ∷ cs) h =
-    ap (λ (b : Bool). cond (cond b false true) (integral_value (c ∷ cs)) (float (c ∷ cs))) (digits-no_float (c ∷ cs) h.0)
-    ∙ ap (λ (b : Bool). cond b (negative_value (c ∷ cs) (decimal_of cs)) (positive_value (c ∷ cs) (decimal_of (c ∷ cs)))) (digit-no_minus c h.0.0)
+    ap (λ (b : Bool). cond (cond b false true) (integral_value (c ∷ cs)) (float (c ∷ cs)))
+    (digits-no_float (c ∷ cs) h.0)
+    ∙ ap
+    (λ (b : Bool). cond b (negative_value (c ∷ cs) (decimal_of cs)) (positive_value (c ∷ cs) (decimal_of (c ∷ cs))))
+    (digit-no_minus c h.0.0)
     ∙ sym (positive_value-min (c ∷ cs) (decimal_of (c ∷ cs)))
 
 -- a minus and digits
@@ -68,7 +73,8 @@ number_value-minus : (w : List ℕ) → IsWhole w → number_value (45 ∷ w) �
 unfolding number_value
 number_value-minus [] h = absurd h
 number_value-minus (c ∷ cs) h =
-    ap (λ (b : Bool). cond (cond b false true) (integral_value (45 ∷ c ∷ cs)) (float (45 ∷ c ∷ cs))) (digits-no_float (c ∷ cs) h.0)
+    ap (λ (b : Bool). cond (cond b false true) (integral_value (45 ∷ c ∷ cs)) (float (45 ∷ c ∷ cs)))
+    (digits-no_float (c ∷ cs) h.0)
     ∙ sym (negative_value-min (45 ∷ c ∷ cs) (decimal_of (c ∷ cs)))
 
 any-float : (u v : List ℕ) (c : ℕ) → is_float_byte c ≡ true → list_any is_float_byte (u ++ c ∷ v) ≡ true
@@ -78,7 +84,8 @@ any-float (d ∷ u) v c h = or_right (is_float_byte d) (list_any is_float_byte (
 -- a byte that only a float has
 number_value-float : (u v : List ℕ) (c : ℕ) → is_float_byte c ≡ true → number_value (u ++ c ∷ v) ≡ float (u ++ c ∷ v)
 unfolding number_value
-number_value-float u v c h = ap (λ (b : Bool). cond (cond b false true) (integral_value (u ++ c ∷ v)) (float (u ++ c ∷ v))) (any-float u v c h)
+number_value-float u v c h =
+    ap (λ (b : Bool). cond (cond b false true) (integral_value (u ++ c ∷ v)) (float (u ++ c ∷ v))) (any-float u v c h)
 
 -- a fraction or an exponent shows a float
 data Tail (w : List ℕ) : Type 0 where
@@ -94,36 +101,47 @@ tail [] x p (inr e) = a_tail e.letter (e.sign ++ e.digits) e.is (by e.is_letter)
 tail (c ∷ f) x p q = a_tail c (f ++ x) refl (ap is_float_byte p.0)
 
 module _ (t : List ℕ) where
-  float_at : (i j e c : ℕ) (v : List ℕ) → i ≤ j → j ≤ length t → Stands t j e (c ∷ v) → is_float_byte c ≡ true → number_value (slice_range t i e) ≡ float (slice_range t i e)
+  float_at : (i j e c : ℕ) (v : List ℕ) → i ≤ j → j ≤ length t → Stands t j e (c ∷ v) → is_float_byte c ≡ true
+      → number_value (slice_range t i e) ≡ float (slice_range t i e)
   float_at i j e c v low high s is =
-      let all = slice-stands t i e (slice_range t i j ++ c ∷ v) (stands-append t i j e (slice_range t i j) (c ∷ v) (stands-slice t i j low high) s) in
+      let all =
+      slice-stands t i e (slice_range t i j ++ c ∷ v)
+      (stands-append t i j e (slice_range t i j) (c ∷ v) (stands-slice t i j low high) s) in
       subst (λ w. number_value w ≡ float w) all (number_value-float (slice_range t i j) v c is)
 
   -- the text of a number with a fraction or an exponent, which stands from j on
-  pub number_value-tail : (i j e : ℕ) → i ≤ j → j < e → j ≤ length t → extent_then (fraction_at t j) (exponent_at t) ≡ taken tt e → number_value (slice_range t i e) ≡ float (slice_range t i e)
+  pub number_value-tail : (i j e : ℕ) → i ≤ j → j < e → j ≤ length t
+      → extent_then (fraction_at t j) (exponent_at t) ≡ taken tt e
+      → number_value (slice_range t i e) ≡ float (slice_range t i e)
   number_value-tail i j e low some high h =
       let b = extent_then-taken (fraction_at t j) (exponent_at t) tt e h in
       let f = fraction_from-sound t j b.0 tt (slice_get t j) refl b.1 in
       let x = exponent_from-sound t b.0 e tt (slice_get t b.0) refl b.2 in
       by (f.0 ++ x.0) (stands-append t j b.0 e f.0 x.0 f.1 x.1) (tail f.0 x.0 f.2 x.2) where
         by : (w : List ℕ) → Stands t j e w → Tail w → number_value (slice_range t i e) ≡ float (slice_range t i e)
-        by w s (no_tail none) = let long = stands-length t j e w s in let short = ap (λ v. length v) none in absurd (omega arith)
+        by w s (no_tail none) =
+            let long = stands-length t j e w s in let short = ap (λ v. length v) none in absurd (omega arith)
         by w s (a_tail c v is first) = float_at i j e c v low high (subst (Stands t j e) is s) first
 
   -- the text of a name, which stands from j on
-  pub number_value-name : (w : List ℕ) (i j e : ℕ) → i ≤ j → j ≤ length t → word_at t w j ≡ taken tt e → 0 < length w → ((c : ℕ) → slice_get t j ≡ Some c → is_float_byte c ≡ true) → number_value (slice_range t i e) ≡ float (slice_range t i e)
+  pub number_value-name : (w : List ℕ) (i j e : ℕ) → i ≤ j → j ≤ length t → word_at t w j ≡ taken tt e → 0 < length w
+      → ((c : ℕ) → slice_get t j ≡ Some c → is_float_byte c ≡ true)
+      → number_value (slice_range t i e) ≡ float (slice_range t i e)
   number_value-name [] i j e low high h some first = absurd (omega arith)
-  number_value-name (c ∷ v) i j e low high h some first = let s = word_at-sound t (c ∷ v) j e tt h in float_at i j e c v low high s (first c s.0)
+  number_value-name (c ∷ v) i j e low high h some first =
+      let s = word_at-sound t (c ∷ v) j e tt h in float_at i j e c v low high s (first c s.0)
 
   -- the integer from i to before e, whose digits begin at j
-  pub integer_value-positive : (i j e m : ℕ) → i ≡ j → whole_at t j ≡ taken tt e → m ≡ magnitude_of (slice_range t j e) → positive_value (slice_range t i e) m ≡ number_value (slice_range t i e)
+  pub integer_value-positive : (i j e m : ℕ) → i ≡ j → whole_at t j ≡ taken tt e → m ≡ magnitude_of (slice_range t j e)
+      → positive_value (slice_range t i e) m ≡ number_value (slice_range t i e)
   integer_value-positive i j e m same h value =
       let w = whole_from-sound t j e tt (slice_get t j) refl h in
       let digits = subst IsWhole (slice-stands t j e w.0 w.1) w.2 in
       subst (λ k. positive_value (slice_range t k e) m ≡ number_value (slice_range t k e)) (sym same)
       (ap (positive_value (slice_range t j e)) value ∙ sym (number_value-digits (slice_range t j e) digits))
 
-  pub integer_value-negative : (i j e m : ℕ) → IsMinusTo t i j → i ≢ j → whole_at t j ≡ taken tt e → m ≡ magnitude_of (slice_range t j e) → negative_value (slice_range t i e) m ≡ number_value (slice_range t i e)
+  pub integer_value-negative : (i j e m : ℕ) → IsMinusTo t i j → i ≢ j → whole_at t j ≡ taken tt e
+      → m ≡ magnitude_of (slice_range t j e) → negative_value (slice_range t i e) m ≡ number_value (slice_range t i e)
   integer_value-negative i j e m (inl none) other h value = absurd (other (sym none))
   integer_value-negative i j e m (inr (same, at)) other h value =
       let w = whole_from-sound t j e tt (slice_get t j) refl h in

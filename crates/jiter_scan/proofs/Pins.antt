@@ -127,7 +127,8 @@ SameScan seen (Err e) (Err f) = (e.kind ≡ f.kind) × (e.index ≡ f.index)
 abbrev pub Takes : {X A : Type 0} → (X → Scanned A) → Type 0
 Takes {X} seen = (x : X) (k : Kind) (j : ℕ) → seen x ≡ failed k j → ⊥
 
-pub Scans-pins : {X A : Type 0} (seen : X → Scanned A) (s : Scanned A) (r q : Result X Fault) → Takes seen → Scans seen r s → Scans seen q s → SameScan seen r q
+pub Scans-pins : {X A : Type 0} (seen : X → Scanned A) (s : Scanned A) (r q : Result X Fault) → Takes seen
+    → Scans seen r s → Scans seen q s → SameScan seen r q
 Scans-pins seen s (Ok x) (Ok y) takes h g = sym h ∙ g
 Scans-pins seen s (Ok x) (Err f) takes h g = takes x (fault_kind f.kind) f.index (sym h ∙ g)
 Scans-pins seen s (Err e) (Ok y) takes h g = takes y (fault_kind e.kind) e.index (sym g ∙ h)
@@ -142,7 +143,8 @@ SameAlone view (Ok x) (Err f) = ⊥
 SameAlone view (Err e) (Ok y) = ⊥
 SameAlone view (Err e) (Err f) = (e.error_type ≡ f.error_type) × (e.index ≡ f.index)
 
-pub AnswersAlone-pins : {X A : Type 0} (view : X → A) (t : List ℕ) (s : Scanned A) (r q : Result X JsonError) → AnswersAlone view t r s → AnswersAlone view t q s → SameAlone view r q
+pub AnswersAlone-pins : {X A : Type 0} (view : X → A) (t : List ℕ) (s : Scanned A) (r q : Result X JsonError)
+    → AnswersAlone view t r s → AnswersAlone view t q s → SameAlone view r q
 AnswersAlone-pins view t s (Ok x) (Ok y) h g = cc
 AnswersAlone-pins view t s (Ok x) (Err f) h g = cc
 AnswersAlone-pins view t s (Err e) (Ok y) h g = cc

@@ -32,7 +32,8 @@ module _ (test : ℕ → Bool) (t : List ℕ) where
   -- and ends at any other, or at the end
   pub run_end-here : (i : ℕ) (o : Option ℕ) → slice_get t i ≡ o → Stops test o → run_end test t i ≡ i
   run_end-here i None h n = run_end-past i (get-none t i h)
-  run_end-here i (Some c) h n = run_end-stopping i (slice_get_within t i c h) (ap test (get_or_from_slice_get t i c 0 h) ∙ n)
+  run_end-here i (Some c) h n =
+      run_end-stopping i (slice_get_within t i c h) (ap test (get_or_from_slice_get t i c 0 h) ∙ n)
 
   pub run_end-ahead : (i : ℕ) → i ≤ run_end test t i
   run_end-ahead i = omega arith
@@ -45,7 +46,8 @@ module _ (test : ℕ → Bool) (t : List ℕ) where
   pub run_end-passes : (i k : ℕ) → i ≤ k → k < run_end test t i → test (get_or t k 0) ≡ true
   run_end-passes i k low high =
       let place : i + (k - i) ≡ k = omega arith in
-      ap test (sym (get_or-drop i t (k - i) 0 ∙ ap (λ j. get_or t j 0) place)) ∙ prefix_len_passes test (drop i t) (k - i) 0 (omega arith)
+      ap test (sym (get_or-drop i t (k - i) 0 ∙ ap (λ j. get_or t j 0) place))
+      ∙ prefix_len_passes test (drop i t) (k - i) 0 (omega arith)
 
   -- the byte behind it does not
   pub run_end-stops : (i c : ℕ) → slice_get t (run_end test t i) ≡ Some c → test c ≡ false
@@ -59,7 +61,9 @@ module _ (test : ℕ → Bool) (t : List ℕ) where
   pub run_end-sound : (n i : ℕ) → run_end test t i ≡ i + n → (w : List ℕ) × Stands t i (i + n) w × Pass test w
   run_end-sound zero i h = ([], omega arith, tt)
   run_end-sound (suc n) i h = by (slice_get t i) refl (λ k e. run_end-sound n k e) where
-    by : (o : Option ℕ) → slice_get t i ≡ o → ((k : ℕ) → run_end test t k ≡ k + n → (w : List ℕ) × Stands t k (k + n) w × Pass test w) → (w : List ℕ) × Stands t i (i + suc n) w × Pass test w
+    by : (o : Option ℕ) → slice_get t i ≡ o
+        → ((k : ℕ) → run_end test t k ≡ k + n → (w : List ℕ) × Stands t k (k + n) w × Pass test w)
+        → (w : List ℕ) × Stands t i (i + suc n) w × Pass test w
     by None e go = let none = run_end-here i None e tt in absurd (omega arith)
     by (Some c) e go = split (test c) refl where
       split : (b : Bool) → test c ≡ b → (w : List ℕ) × Stands t i (i + suc n) w × Pass test w
@@ -70,8 +74,10 @@ module _ (test : ℕ → Bool) (t : List ℕ) where
           (c ∷ r.0, (e, subst (λ k. Stands t (i + 1) k r.0) (omega arith) r.1), (d, r.2))
 
   -- bytes that pass and that none follows are a run
-  pub run_end-complete : (i j : ℕ) (w : List ℕ) → Stands t i j w → Pass test w → Stops test (slice_get t j) → run_end test t i ≡ j
-  run_end-complete i j [] h d n = run_end-here i (slice_get t i) refl (subst (λ k. Stops test (slice_get t k)) (sym h) n) ∙ h
+  pub run_end-complete : (i j : ℕ) (w : List ℕ) → Stands t i j w → Pass test w → Stops test (slice_get t j)
+      → run_end test t i ≡ j
+  run_end-complete i j [] h d n =
+      run_end-here i (slice_get t i) refl (subst (λ k. Stops test (slice_get t k)) (sym h) n) ∙ h
   run_end-complete i j (c ∷ w) h d n = run_end-more i c h.0 d.0 ∙ run_end-complete (i + 1) j w h.1 d.1 n
 
 -- the end, or a byte that is no digit

@@ -18,7 +18,10 @@ Within t (taken a e) = e ≤ length t
 Within t (failed k j) = FaultAt t k j
 
 -- a public call that hands on a fault of a reading within the text
-pub AnswersAlone-fault : {X A : Type 0} (view : X → A) (t : List ℕ) (s : Scanned A) (f : Fault) (e : JsonError) → Within t s → s ≡ failed (fault_kind f.kind) f.index → (kind_of e.error_type ≡ fault_kind f.kind) × (e.index ≡ f.index) → AnswersAlone view t (Err e) s
+pub AnswersAlone-fault : {X A : Type 0} (view : X → A) (t : List ℕ) (s : Scanned A) (f : Fault) (e : JsonError)
+    → Within t s → s ≡ failed (fault_kind f.kind) f.index
+    → (kind_of e.error_type ≡ fault_kind f.kind) × (e.index ≡ f.index) → AnswersAlone view t (Err e) s
 AnswersAlone-fault view t s f e law is same =
-    let found : s ≡ failed (kind_of e.error_type) e.index = is ∙ sym (ap (λ k. failed k e.index) same.0 ∙ ap (λ j. failed (fault_kind f.kind) j) same.1) in
+    let found : s ≡ failed (kind_of e.error_type) e.index =
+    is ∙ sym (ap (λ k. failed k e.index) same.0 ∙ ap (λ j. failed (fault_kind f.kind) j) same.1) in
     (found, subst (Within t) found law)

@@ -35,12 +35,16 @@ module _ (t : List ℕ) where
   stands-take : (n i : ℕ) → i + n ≤ length t → Stands t i (i + n) (take n (drop i t))
   stands-take zero i h = omega arith
   stands-take (suc n) i h =
-      let rest : Stands t (i + 1) (i + suc n) (take n (drop (i + 1) t)) = subst (λ k. Stands t (i + 1) k (take n (drop (i + 1) t))) (omega arith) (stands-take n (i + 1) (omega arith)) in
-      subst (λ l. Stands t i (i + suc n) (take (suc n) l)) (sym (drop_more t i 0 (omega arith))) (slice_get-get_or t i 0 (omega arith), rest)
+      let rest : Stands t (i + 1) (i + suc n) (take n (drop (i + 1) t)) =
+      subst (λ k. Stands t (i + 1) k (take n (drop (i + 1) t))) (omega arith)
+      (stands-take n (i + 1) (omega arith)) in
+      subst (λ l. Stands t i (i + suc n) (take (suc n) l)) (sym (drop_more t i 0 (omega arith)))
+      (slice_get-get_or t i 0 (omega arith), rest)
 
   -- the bytes of a range stand there
   pub stands-slice : (i j : ℕ) → i ≤ j → j ≤ length t → Stands t i j (slice_range t i j)
-  stands-slice i j le h = subst (λ k. Stands t i k (slice_range t i j)) (omega arith) (stands-take (j - i) i (omega arith))
+  stands-slice i j le h =
+      subst (λ k. Stands t i k (slice_range t i j)) (omega arith) (stands-take (j - i) i (omega arith))
 
   take-stands : (i j : ℕ) (w : List ℕ) → Stands t i j w → w ≡ take (length w) (drop i t)
   take-stands i j [] h = refl
@@ -62,7 +66,8 @@ module _ (t : List ℕ) where
   slice-one i c h = sym (slice-stands i (i + 1) (c ∷ []) (h, refl))
 
   -- the byte at the front of a word, or the one behind an empty word
-  pub stands-next : (P : ℕ → Type 0) (i j : ℕ) (w : List ℕ) → Stands t i j w → First w P → IfSome (slice_get t j) P → IfSome (slice_get t i) P
+  pub stands-next : (P : ℕ → Type 0) (i j : ℕ) (w : List ℕ) → Stands t i j w → First w P → IfSome (slice_get t j) P
+      → IfSome (slice_get t i) P
   stands-next P i j [] h f p = subst (λ k. IfSome (slice_get t k) P) (sym h) p
   stands-next P i j (c ∷ w) h f p = subst (λ o. IfSome o P) (sym h.0) f
 

@@ -1,7 +1,8 @@
 -- A word is read just where its bytes stand.
-use Rattle.std.proofs.Common.{◌≡◌, ℕ, ◌+◌, ◌≤◌, List, [], ◌∷◌, length, refl, ap, ◌∙◌, arith}
+use Rattle.std.proofs.Common.{◌≡◌, ℕ, ◌+◌, ◌<◌, ◌≤◌, ◌≢◌, Bool, cond, List, [], ◌∷◌, length, drop, get_or, refl, ap, ◌∙◌, arith}
 use Rattle.std.specs.Prelude.{slice_get, Option, Some, None, ◌==◌}
-use Rattle.std.proofs.lemmas.Bool.{eqb-true, eq-eqb, false≢true}
+use Rattle.std.proofs.lemmas.List.{drop_more, drop_all}
+use Rattle.std.proofs.lemmas.Bool.{eqb-true, eq-eqb, ne_eqb, false≢true}
 use Rattle.std.proofs.lemmas.Option.{slice_get_within}
 use Rattle.jiter_scan.specs.Kind.{eof_value, expected_ident}
 use Rattle.jiter_scan.specs.Scanned.{taken, failed}
@@ -25,30 +26,70 @@ module _ (t : List ℕ) where
   unfolding word_at
   word_at-within [] i le = (omega arith, le)
   word_at-within (c ∷ w) i le = by (slice_get t i) refl (λ lt. word_at-within w (i + 1) lt) where
-    by : (o : Option ℕ) → slice_get t i ≡ o → (i + 1 ≤ length t → WordWithin t w (i + 1) (word_at t w (i + 1))) → WordWithin t (c ∷ w) i (byte_then (word_at t w (i + 1)) c i o)
-    by None e go = let past = get-none t i e in (omega arith, record { within = le; ends = λ k. omega arith; bytes = λ k. cc })
+    by : (o : Option ℕ) → slice_get t i ≡ o → (i + 1 ≤ length t → WordWithin t w (i + 1) (word_at t w (i + 1)))
+        → WordWithin t (c ∷ w) i (byte_then (word_at t w (i + 1)) c i o)
+    by None e go =
+        let past = get-none t i e in (omega arith, record { within = le; ends = λ k. omega arith; bytes = λ k. cc })
     by (Some b) e go =
         let lt = slice_get_within t i b e in
         if_case (WordWithin t (c ∷ w) i) (b == c) (word_at t w (i + 1)) (failed expected_ident i)
-        (λ s. later w c i (word_at t w (i + 1)) (go (omega arith))) (λ s. (omega arith, record { within = le; ends = λ k. absurd (false≢true k); bytes = λ k. cc }))
+        (λ s. later w c i (word_at t w (i + 1)) (go (omega arith)))
+        (λ s. (omega arith, record { within = le; ends = λ k. absurd (false≢true k); bytes = λ k. cc }))
 
   -- a word that stands is read
   pub word_at-complete : (w : List ℕ) (i e : ℕ) → Stands t i e w → word_at t w i ≡ taken tt e
   unfolding word_at
   word_at-complete [] i e h = ap (taken tt) h
   word_at-complete (c ∷ w) i e h =
-      ap (byte_then (word_at t w (i + 1)) c i) h.0 ∙ if-true (c == c) (word_at t w (i + 1)) (failed expected_ident i) (eq-eqb c c refl) ∙ word_at-complete w (i + 1) e h.1
+      ap (byte_then (word_at t w (i + 1)) c i) h.0
+      ∙ if-true (c == c) (word_at t w (i + 1)) (failed expected_ident i) (eq-eqb c c refl)
+      ∙ word_at-complete w (i + 1) e h.1
 
   -- a word that is read stands
   pub word_at-sound : (w : List ℕ) (i e : ℕ) (u : Unit {0}) → word_at t w i ≡ taken u e → Stands t i e w
   unfolding word_at
   word_at-sound [] i e u h = (same_taken tt u i e h).1
   word_at-sound (c ∷ w) i e u h = by (slice_get t i) refl h (λ g. word_at-sound w (i + 1) e u g) where
-    by : (o : Option ℕ) → slice_get t i ≡ o → byte_then (word_at t w (i + 1)) c i o ≡ taken u e → (word_at t w (i + 1) ≡ taken u e → Stands t (i + 1) e w) → Stands t i e (c ∷ w)
+    by : (o : Option ℕ) → slice_get t i ≡ o → byte_then (word_at t w (i + 1)) c i o ≡ taken u e
+        → (word_at t w (i + 1) ≡ taken u e → Stands t (i + 1) e w) → Stands t i e (c ∷ w)
     by None s h go = absurd (failed-taken eof_value i u e h)
     by (Some b) s h go =
         if_gives (b == c) (word_at t w (i + 1)) (failed expected_ident i) (taken u e) h
         (λ q r. (s ∙ ap Some (eqb-true b c q), go r)) (λ q r. absurd (failed-taken expected_ident i u e r))
 
-  pub word_at-stands : (w : List ℕ) (i e : ℕ) → (Stands t i e w → word_at t w i ≡ taken tt e) × (word_at t w i ≡ taken tt e → Stands t i e w)
+  pub word_at-stands : (w : List ℕ) (i e : ℕ)
+      → (Stands t i e w → word_at t w i ≡ taken tt e) × (word_at t w i ≡ taken tt e → Stands t i e w)
   word_at-stands w i e = (word_at-complete w i e, word_at-sound w i e tt)
+
+-- ---- a byte at a time, by the place in the word
+word_at-step : (t w : List ℕ) (k i : ℕ) → k < length w
+    → word_at t (drop k w) i ≡ byte_then (word_at t (drop (k + 1) w) (i + 1)) (get_or w k 0) i (slice_get t i)
+unfolding word_at
+word_at-step t w k i h = ap (λ v. word_at t v i) (drop_more w k 0 h)
+
+-- where the input ends inside the word
+pub word_at-cut : (t w : List ℕ) (k i : ℕ) → k < length w → slice_get t i ≡ None
+    → word_at t (drop k w) i ≡ failed eof_value i
+word_at-cut t w k i h e =
+    word_at-step t w k i h ∙ ap (byte_then (word_at t (drop (k + 1) w) (i + 1)) (get_or w k 0) i) e
+
+-- at a byte that differs
+pub word_at-other : (t w : List ℕ) (k i b : ℕ) → k < length w → slice_get t i ≡ Some b → b ≢ get_or w k 0
+    → word_at t (drop k w) i ≡ failed expected_ident i
+word_at-other t w k i b h e ne =
+    let rest = word_at t (drop (k + 1) w) (i + 1) in
+    word_at-step t w k i h ∙ ap (byte_then rest (get_or w k 0) i) e
+    ∙ ap (λ (y : Bool). cond y rest (failed expected_ident i)) (ne_eqb _ _ ne)
+
+-- at the word's byte
+pub word_at-same : (t w : List ℕ) (k i b : ℕ) → k < length w → slice_get t i ≡ Some b → b ≡ get_or w k 0
+    → word_at t (drop k w) i ≡ word_at t (drop (k + 1) w) (i + 1)
+word_at-same t w k i b h e same =
+    let rest = word_at t (drop (k + 1) w) (i + 1) in
+    word_at-step t w k i h ∙ ap (byte_then rest (get_or w k 0) i) e
+    ∙ ap (λ (y : Bool). cond y rest (failed expected_ident i)) (eq-eqb _ _ same)
+
+-- behind the word
+pub word_at-end : (t w : List ℕ) (k i : ℕ) → length w ≤ k → word_at t (drop k w) i ≡ taken tt i
+unfolding word_at
+word_at-end t w k i h = ap (λ v. word_at t v i) (drop_all k w h)

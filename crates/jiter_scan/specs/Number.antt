@@ -79,26 +79,31 @@ IsNumberText names w = IsDecimal w ⊎ ((names ≡ true) × IsName w)
 
 -- a byte that only a fraction, an exponent or a name has
 abbrev pub is_float_byte : ℕ → Bool
-is_float_byte c = (c == ascii.point) || (c == ascii.small_e) || (c == ascii.capital_e) || (c == ascii.capital_n) || (c == ascii.capital_i)
+is_float_byte c =
+    (c == ascii.point) || (c == ascii.small_e) || (c == ascii.capital_e) || (c == ascii.capital_n) || (c == ascii.capital_i)
 
 -- neither point, exponent nor name
 abbrev pub is_integral : List ℕ → Bool
 is_integral w = if list_any is_float_byte w then false else true
 
+-- the negative of a magnitude
 abbrev pub minus_of : ℕ → ℤ
 minus_of zero = pos 0
 minus_of (suc n) = negsuc n
 
--- the integer where 64 signed bits hold it, or else its text
+-- the integer of that magnitude where 64 signed bits hold it, or else its text
 abbrev pub positive_value : List ℕ → ℕ → Number
 positive_value w n = if nat_lt n (2 ^ 63) then integer (pos n) else big w
 
+-- its negative, likewise
 abbrev pub negative_value : List ℕ → ℕ → Number
 negative_value w n = if nat_le n (2 ^ 63) then integer (minus_of n) else big w
 
+-- the value of digits, with a minus or none before them
 abbrev pub integral_value : List ℕ → Number
 integral_value [] = big []
-integral_value (c ∷ cs) = if c == ascii.minus then negative_value (c ∷ cs) (decimal_of cs) else positive_value (c ∷ cs) (decimal_of (c ∷ cs))
+integral_value (c ∷ cs) =
+    if c == ascii.minus then negative_value (c ∷ cs) (decimal_of cs) else positive_value (c ∷ cs) (decimal_of (c ∷ cs))
 
 -- What a number's text stands for.
 unfoldable pub number_value : List ℕ → Number

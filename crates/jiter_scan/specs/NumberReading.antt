@@ -26,13 +26,14 @@ behind_zero j (Some c) = if is_digit c then failed invalid_number j else taken t
 abbrev pub within_limit : ℕ → ℕ → Extent
 within_limit i e = if nat_le e (i + digit_limit) then taken tt e else failed number_out_of_range (i + (digit_limit + 1))
 
--- the integer part
+-- the integer part, at the place i of this byte
 abbrev pub whole_from : List ℕ → ℕ → Option ℕ → Extent
 whole_from t i None = failed eof_value i
 whole_from t i (Some c) =
     if c == ascii.digit_zero then behind_zero (i + 1) (slice_get t (i + 1))
     else (if is_digit c then within_limit i (digit_run_end t i) else failed invalid_number i)
 
+-- the integer part at i
 abbrev pub whole_at : List ℕ → ℕ → Extent
 whole_at t i = whole_from t i (slice_get t i)
 
@@ -44,16 +45,21 @@ fraction_from t i (Some c) = if c == ascii.point then digits_from t (i + 1) (sli
 -- the sign of an exponent, or none, and its digits
 abbrev pub power_from : List ℕ → ℕ → Option ℕ → Extent
 power_from t i None = failed eof_value i
-power_from t i (Some c) = if (c == ascii.plus) || (c == ascii.minus) then digits_from t (i + 1) (slice_get t (i + 1)) else digits_from t i (Some c)
+power_from t i (Some c) =
+    if (c == ascii.plus) || (c == ascii.minus) then digits_from t (i + 1) (slice_get t (i + 1)) else digits_from t i
+    (Some c)
 
 -- an exponent, or none
 abbrev pub exponent_from : List ℕ → ℕ → Option ℕ → Extent
 exponent_from t i None = taken tt i
-exponent_from t i (Some c) = if (c == ascii.small_e) || (c == ascii.capital_e) then power_from t (i + 1) (slice_get t (i + 1)) else taken tt i
+exponent_from t i (Some c) =
+    if (c == ascii.small_e) || (c == ascii.capital_e) then power_from t (i + 1) (slice_get t (i + 1)) else taken tt i
 
+-- a fraction at i, or none
 abbrev pub fraction_at : List ℕ → ℕ → Extent
 fraction_at t i = fraction_from t i (slice_get t i)
 
+-- an exponent at i, or none
 abbrev pub exponent_at : List ℕ → ℕ → Extent
 exponent_at t i = exponent_from t i (slice_get t i)
 
@@ -72,6 +78,7 @@ behind_minus names t i (Some c) =
 abbrev pub name_at : Bool → List ℕ → List ℕ → ℕ → Extent
 name_at names t w i = if names then word_at t w i else failed expected_value i
 
+-- a number, at the place i of this byte
 abbrev pub extent_from : Bool → List ℕ → ℕ → Option ℕ → Extent
 extent_from names t i None = failed eof_value i
 extent_from names t i (Some c) =
@@ -84,6 +91,7 @@ extent_from names t i (Some c) =
 abbrev pub number_extent : Bool → List ℕ → ℕ → Extent
 number_extent names t i = extent_from names t i (slice_get t i)
 
+-- what stands from i to there, as a number
 abbrev pub with_value : List ℕ → ℕ → Extent → Scanned Number
 with_value t i (taken u e) = taken (number_value (slice_range t i e)) e
 with_value t i (failed k j) = failed k j
@@ -106,6 +114,7 @@ pub data Integer : Type 0 where
   whole : Number → Integer
   float_seen : Integer
 
+-- a point or the letter of an exponent
 abbrev pub is_float_sign : ℕ → Bool
 is_float_sign c = (c == ascii.point) || (c == ascii.small_e) || (c == ascii.capital_e)
 
@@ -123,8 +132,10 @@ integer_behind t i (failed k j) = failed k j
 -- behind the minus at i
 abbrev pub integer_behind_minus : List ℕ → ℕ → Option ℕ → Scanned Integer
 integer_behind_minus t i None = failed eof_value (i + 1)
-integer_behind_minus t i (Some c) = if c == ascii.capital_i then taken float_seen (i + 1) else integer_behind t i (whole_at t (i + 1))
+integer_behind_minus t i (Some c) =
+    if c == ascii.capital_i then taken float_seen (i + 1) else integer_behind t i (whole_at t (i + 1))
 
+-- an integer, at the place i of this byte
 abbrev pub integer_from : List ℕ → ℕ → Option ℕ → Scanned Integer
 integer_from t i None = failed eof_value i
 integer_from t i (Some c) =
@@ -151,6 +162,7 @@ integer_alone (taken (whole n) e) = taken n e
 integer_alone (taken float_seen j) = failed invalid_number j
 integer_alone (failed k j) = failed k j
 
+-- the reading, if this byte begins a number
 abbrev pub if_number : Option ℕ → Scanned Number → Scanned Number
 if_number None x = failed invalid_number 0
 if_number (Some c) x = if begins_number c then x else failed invalid_number 0

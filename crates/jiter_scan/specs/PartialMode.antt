@@ -15,6 +15,7 @@ allows_trailing_strings Off = false
 allows_trailing_strings On = false
 allows_trailing_strings TrailingStrings = true
 
+-- on or off
 abbrev pub mode_from : Bool → PartialMode
 mode_from true = On
 mode_from false = Off

@@ -1,11 +1,13 @@
-//! What the readers of JSON stand on: the kinds of fault with their texts and places, numbers, and
-//! whether a cut document is read.
+//! What the readers of JSON stand on: the kinds of fault with their texts and places, the requests for
+//! memory, words and numbers, and whether a cut document is read.
 #![tactic(auto)]
 
 pub mod errors;
 pub mod memory;
 pub mod number_decoder;
 pub mod partial_mode;
+pub mod simd;
+pub mod text;
 pub mod word;
 
 pub use errors::{Fault, FaultKind, JsonError, JsonErrorType, JsonResult, LinePosition};

@@ -1,7 +1,8 @@
 //! What grows: the few requests for memory that the parser makes. Each answers, where it is refused, with
 //! the evidence of it, and nothing outside this module can make that evidence.
-ghost use Rattle.std.specs.Prelude.{◌≡◌, ◌∷◌, ◌++◌, [], IfOk, OnOk, OnErr, decimal, string_bytes};
+ghost use Rattle.std.specs.Prelude.{◌≡◌, ◌+◌, ◌<◌, ◌≤◌, ◌∷◌, ◌++◌, [], take, drop, IfOk, OnOk, OnErr, decimal, length, string_bytes, string_capacity, string_len, vec_capacity, vec_len};
 
+use smallvec::SmallVec;
 use std::alloc::{AllocError, Global};
 
 /// The evidence that a request for memory was refused.
@@ -22,6 +23,7 @@ impl From<Refused> for AllocError {
 pub fn push<T: Drop>(items: &mut Vec<T>, item: T) -> Result<(), Refused>
     ensures ok { OnOk result (items.new.items ≡ items.old.items ++ item ∷ []) }
     ensures err { OnErr result (items.new.items ≡ items.old.items) }
+    ensures full { OnErr result (vec_capacity items.old ≤ vec_len items.old) }
 {
     match items.push(item) {
         Ok(()) => Ok(()),
@@ -29,10 +31,37 @@ pub fn push<T: Drop>(items: &mut Vec<T>, item: T) -> Result<(), Refused>
     }
 }
 
+/// Appends an item to a vector that keeps its first ones in place.
+pub fn push_small<T: Drop + Default, const N: usize>(
+    items: &mut SmallVec<T, N>,
+    item: T,
+) -> Result<(), Refused>
+    ensures ok { OnOk result (items.new.items ≡ items.old.items ++ item ∷ []) }
+    ensures err { OnErr result (items.new.items ≡ items.old.items) }
+{
+    match items.push(item) {
+        Ok(()) => Ok(()),
+        Err(_) => Err(Refused { error: AllocError }),
+    }
+}
+
+/// Takes the items from the index `at` on.
+pub fn split_off<T: Drop>(items: &mut Vec<T>, at: usize) -> Result<Vec<T>, Refused>
+    requires { at ≤ vec_len items.old }
+    ensures rest { OnOk result (items.new.items ≡ take at items.old.items) }
+    ensures part { IfOk result (λ part. part.items ≡ drop at items.old.items) }
+{
+    match items.split_off(at) {
+        Ok(part) => Ok(part),
+        Err(error) => Err(Refused { error }),
+    }
+}
+
 /// Appends bytes.
 pub fn extend(bytes: &mut Vec<u8>, more: &[u8]) -> Result<(), Refused>
     ensures ok { OnOk result (bytes.new.items ≡ bytes.old.items ++ more.now) }
     ensures err { OnErr result (bytes.new.items ≡ bytes.old.items) }
+    ensures full { OnErr result (vec_capacity bytes.old < vec_len bytes.old + length more.now) }
 {
     match bytes.extend_from_slice(more) {
         Ok(()) => Ok(()),
@@ -54,6 +83,7 @@ pub fn copy_text(alloc: Global, text: &str) -> Result<String, Refused>
 pub fn push_text(text: &mut String, more: &str) -> Result<(), Refused>
     ensures ok { OnOk result (string_bytes text.new ≡ string_bytes text.old ++ more.now) }
     ensures err { OnErr result (string_bytes text.new ≡ string_bytes text.old) }
+    ensures full { OnErr result (string_capacity text.old < string_len text.old + length more.now) }
 {
     match text.push_str(more) {
         Ok(()) => Ok(()),

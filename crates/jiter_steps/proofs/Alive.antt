@@ -13,7 +13,7 @@ use Rattle.jiter_steps.proofs.Completions.{CanClose, OpenTo, close-map, no-blank
 use Rattle.jiter_steps.proofs.Documents.{answer-value}
 use Rattle.jiter_steps.proofs.Fused.{mapped}
 use Rattle.jiter_steps.proofs.NodeRules.{nodes}
-use Rattle.jiter_steps.proofs.Nodes.{passed-blank}
+use Rattle.jiter_steps.proofs.Blanks.{passed-blank}
 use Rattle.jiter_steps.proofs.OpenNumbers.{no_live}
 use Rattle.jiter_steps.proofs.OpenParts.{CanEndHere}
 use Rattle.jiter_steps.proofs.OpenReadings.{OpenAs, IsValue, value_at-open}

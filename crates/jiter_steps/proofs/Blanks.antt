@@ -1,25 +1,77 @@
--- `past_blanks`, a byte at a time.
-use Rattle.std.proofs.Common.{◌≡◌, ℕ, ◌+◌, ◌<◌, ◌≤◌, true, false, List, length, drop, get_or, arith}
-use Rattle.std.proofs.lemmas.List.Sums.{prefix_len-drop_all, prefix_len-drop_no, prefix_len-drop_yes, prefix_len-le-length}
-use Rattle.std.proofs.lemmas.List.{length-drop}
-use Rattle.jiter_steps.specs.Blank.{is_blank, past_blanks}
+-- Blanks: those that reading passes, and those of the grammar.
+use Rattle.std.proofs.Common.{◌≡◌, ℕ, ◌+◌, ◌-◌, ◌<◌, ◌≤◌, inl, inr, true, false, List, length, drop, get_or, IfSome, ap, sym, ◌∙◌, arith}
+use Rattle.std.specs.Prelude.{slice_get, Option, Some, None}
+use Rattle.std.proofs.lemmas.List.{get_or-drop, length-drop}
+use Rattle.std.proofs.lemmas.List.Sums.{prefix_len_is}
+use Rattle.std.proofs.lemmas.Option.{get_or_from_slice_get}
+use Rattle.std.proofs.lemmas.Bool.Decides.{nat_tests}
+use Rattle.jiter_scan.proofs.Runs.{run_end-passing, run_end-stopping, run_end-past, run_end-within, run_end-ahead, run_end-passes, run_end-stops}
+use Rattle.jiter_scan.proofs.Standing.{get-none}
+use Rattle.jiter_steps.specs.Blank.{is_blank, past_blanks, IsBlankByte, IsBlank}
 
-pub past_blanks-blank : (t : List ℕ) (i : ℕ) → i < length t → is_blank (get_or t i 0) ≡ true → past_blanks t i ≡ past_blanks t (i + 1)
-unfolding past_blanks
-past_blanks-blank t i h e = omega (arith, prefix_len-drop_yes is_blank t i 0 h e)
+blank-is : (c : ℕ) → IsBlankByte c → is_blank c ≡ true
+blank-is c (inl e) = ap is_blank e
+blank-is c (inr (inl e)) = ap is_blank e
+blank-is c (inr (inr (inl e))) = ap is_blank e
+blank-is c (inr (inr (inr e))) = ap is_blank e
 
-pub past_blanks-other : (t : List ℕ) (i : ℕ) → i < length t → is_blank (get_or t i 0) ≡ false → past_blanks t i ≡ i
-unfolding past_blanks
-past_blanks-other t i h e = omega (arith, prefix_len-drop_no is_blank t i 0 h e)
+is-blank : (c : ℕ) → is_blank c ≡ true → IsBlankByte c
+is-blank c h = grind (arith, nat_tests, h)
 
-pub past_blanks-end : (t : List ℕ) (i : ℕ) → length t ≤ i → past_blanks t i ≡ i
-unfolding past_blanks
-past_blanks-end t i h = omega (arith, prefix_len-drop_all is_blank t i h)
+module _ (t : List ℕ) where
+  -- a byte at a time
+  pub past_blanks-blank : (i : ℕ) → i < length t → is_blank (get_or t i 0) ≡ true → past_blanks t i ≡ past_blanks t (i + 1)
+  unfolding past_blanks
+  past_blanks-blank = run_end-passing is_blank t
 
-pub past_blanks-bound : (t : List ℕ) (i : ℕ) → i ≤ length t → past_blanks t i ≤ length t
-unfolding past_blanks
-past_blanks-bound t i h = omega (arith, prefix_len-le-length is_blank (drop i t), length-drop i t)
+  pub past_blanks-other : (i : ℕ) → i < length t → is_blank (get_or t i 0) ≡ false → past_blanks t i ≡ i
+  unfolding past_blanks
+  past_blanks-other = run_end-stopping is_blank t
 
-pub past_blanks-after : (t : List ℕ) (i : ℕ) → i ≤ past_blanks t i
-unfolding past_blanks
-past_blanks-after t i = omega arith
+  pub past_blanks-end : (i : ℕ) → length t ≤ i → past_blanks t i ≡ i
+  unfolding past_blanks
+  past_blanks-end = run_end-past is_blank t
+
+  pub past_blanks-bound : (i : ℕ) → i ≤ length t → past_blanks t i ≤ length t
+  unfolding past_blanks
+  past_blanks-bound = run_end-within is_blank t
+
+  pub past_blanks-after : (i : ℕ) → i ≤ past_blanks t i
+  unfolding past_blanks
+  past_blanks-after = run_end-ahead is_blank t
+
+  -- blanks that stand are passed, up to a byte that is none or the end
+  passes : (i j : ℕ) → IsBlank t i j → (j < length t → is_blank (get_or t j 0) ≡ false) → past_blanks t i ≡ j
+  unfolding past_blanks
+  passes i j b other =
+      let seen : (k m : ℕ) → i + k ≡ m → get_or (drop i t) k 0 ≡ get_or t m 0 = λ k m e. get_or-drop i t k 0 ∙ ap (λ x. get_or t x 0) e in
+      let long = length-drop i t in
+      let n : i + (j - i) ≡ j = omega (arith, b.ordered) in
+      let all = prefix_len_is is_blank (drop i t) (j - i) 0 (omega (arith, b.within, b.ordered))
+      (λ k lt. ap is_blank (seen k (i + k) (omega arith)) ∙ blank-is _ (b.each (i + k) (omega arith) (omega arith)))
+      (λ lt. ap is_blank (seen (j - i) j n) ∙ other (omega arith)) in
+      omega arith
+
+  pub blank-passed : (i j c : ℕ) → IsBlank t i j → slice_get t j ≡ Some c → is_blank c ≡ false → past_blanks t i ≡ j
+  blank-passed i j c b e other = passes i j b (λ h. ap is_blank (get_or_from_slice_get t j c 0 e) ∙ other)
+
+  pub blank-to_end : (i : ℕ) → IsBlank t i (length t) → past_blanks t i ≡ length t
+  blank-to_end i b = passes i (length t) b (λ h. absurd (omega arith))
+
+  -- what is passed is blank, and the byte behind it is not
+  pub passed-blank : (i : ℕ) → i ≤ length t → IsBlank t i (past_blanks t i)
+  unfolding past_blanks
+  passed-blank i h = record {
+    ordered = past_blanks-after i;
+    within = past_blanks-bound i h;
+    each = λ k l lt. is-blank _ (run_end-passes is_blank t i k l lt);
+  }
+
+  pub no_blank-behind : (i : ℕ) (o : Option ℕ) → slice_get t (past_blanks t i) ≡ o → IfSome o (λ c. is_blank c ≡ false)
+  unfolding past_blanks
+  no_blank-behind i None e = tt
+  no_blank-behind i (Some c) e = run_end-stops is_blank t i c e
+
+  -- where no byte is, the text ends
+  pub at_length : (j : ℕ) → j ≤ length t → slice_get t j ≡ None → j ≡ length t
+  at_length j le none = omega (arith, get-none t j none)

@@ -1,58 +1,69 @@
 -- A body, a part at a time.
 use Rattle.std.proofs.Common.{◌≡◌, ℕ, zero, suc, ◌+◌, ◌<◌, ◌≤◌, ◌||◌, Bool, true, false, List, ◌++◌, length, refl, sym, ap, ◌∙◌, subst, arith, append_assoc, length-append}
 use Rattle.std.proofs.lemmas.Option.{slice_get_past, slice_get_within}
-use Rattle.jiter_steps.specs.StringReading.{Stop, closed, unclosed, cut, wrong, Found, part, over, found, found_at, Body, before, joined, body_within, body_at}
-use Rattle.jiter_steps.proofs.PlacesExplained.{IsPlaceKind, Explains, explained}
+use Rattle.jiter_steps.specs.StringReading.{Stop, closed, unclosed, cut, wrong, Place, part, over, place_by, place_at, Body, before, join, body_within, body_at}
+use Rattle.jiter_steps.proofs.Places.{IsPlaceKind, Explains, place_at-explains}
 
 pub before-before : (a b : List ℕ) (o p : Bool) (r : Body) → before a o (before b p r) ≡ before (a ++ b) (o || p) r
-before-before a b true p r = ap (λ l. record { bytes = l; owned = true; stop = r.stop }) (sym (append_assoc a b r.bytes))
-before-before a b false p r = ap (λ l. record { bytes = l; owned = p || r.owned; stop = r.stop }) (sym (append_assoc a b r.bytes))
+before-before a b true p r =
+    ap (λ l. record { bytes = l; owned = true; stop = r.stop }) (sym (append_assoc a b r.bytes))
+before-before a b false p r =
+    ap (λ l. record { bytes = l; owned = p || r.owned; stop = r.stop }) (sym (append_assoc a b r.bytes))
 
 pub part-ahead : (t : List ℕ) (i j : ℕ) (bs : List ℕ) (o : Bool) → Explains t i (part bs o j) → (i < j) × (j ≤ length t)
 part-ahead t i j bs true h = (h.ahead, h.within)
-part-ahead t i j bs false h = let inside = slice_get_within t i h.byte h.here in (omega (arith, h.ends), omega (arith, h.ends))
+part-ahead t i j bs false h =
+    let inside = slice_get_within t i h.byte h.here in (omega (arith, h.ends), omega (arith, h.ends))
 
-pub found-end : (t : List ℕ) (i : ℕ) → length t ≤ i → found_at t i ≡ over unclosed
-unfolding found_at
-found-end t i h = ap (found t i) (slice_get_past t i h)
+pub place_by-end : (t : List ℕ) (i : ℕ) → length t ≤ i → place_at t i ≡ over unclosed
+unfolding place_at
+place_by-end t i h = ap (place_by t i) (slice_get_past t i h)
 
 module _ (t : List ℕ) where
-  enough-joined : (n m i : ℕ) → length t ≤ suc n + i → length t ≤ suc m + i → ((j : ℕ) → length t ≤ n + j → length t ≤ m + j → body_within n t j ≡ body_within m t j)
-      → (f : Found) → Explains t i f → joined (body_within n t) f ≡ joined (body_within m t) f
-  enough-joined n m i p q go (part bs o j) h = let a = part-ahead t i j bs o h in ap (before bs o) (go j (omega arith) (omega arith))
-  enough-joined n m i p q go (over s) h = refl
+  enough-join : (n m i : ℕ) → length t ≤ suc n + i → length t ≤ suc m + i
+      → ((j : ℕ) → length t ≤ n + j → length t ≤ m + j → body_within n t j ≡ body_within m t j)
+      → (f : Place) → Explains t i f → join (body_within n t) f ≡ join (body_within m t) f
+  enough-join n m i p q go (part bs o j) h =
+      let a = part-ahead t i j bs o h in ap (before bs o) (go j (omega arith) (omega arith))
+  enough-join n m i p q go (over s) h = refl
 
   enough : (n m i : ℕ) → length t ≤ n + i → length t ≤ m + i → body_within n t i ≡ body_within m t i
   unfolding body_within
   enough zero zero i p q = refl
-  enough zero (suc m) i p q = sym (ap (joined (body_within m t)) (found-end t i (omega arith)))
-  enough (suc n) zero i p q = ap (joined (body_within n t)) (found-end t i (omega arith))
-  enough (suc n) (suc m) i p q = enough-joined n m i p q (λ j x y. enough n m j x y) (found_at t i) (explained t i)
+  enough zero (suc m) i p q = sym (ap (join (body_within m t)) (place_by-end t i (omega arith)))
+  enough (suc n) zero i p q = ap (join (body_within n t)) (place_by-end t i (omega arith))
+  enough (suc n) (suc m) i p q =
+      enough-join n m i p q (λ j x y. enough n m j x y) (place_at t i) (place_at-explains t i)
 
   -- after this no proof speaks of turns
-  pub body_at-is : (i : ℕ) → body_at t i ≡ joined (body_at t) (found_at t i)
+  pub body_at-is : (i : ℕ) → body_at t i ≡ join (body_at t) (place_at t i)
   unfolding body_at body_within
   body_at-is i = enough (length t) (suc (length t)) i (omega arith) (omega arith)
 
-  pub body_at-found : (i : ℕ) (f : Found) → found_at t i ≡ f → body_at t i ≡ joined (body_at t) f
-  body_at-found i f e = body_at-is i ∙ ap (joined (body_at t)) e
+  pub body_at-place_by : (i : ℕ) (f : Place) → place_at t i ≡ f → body_at t i ≡ join (body_at t) f
+  body_at-place_by i f e = body_at-is i ∙ ap (join (body_at t)) e
 
   part-wide : (i j : ℕ) (bs : List ℕ) (o : Bool) → Explains t i (part bs o j) → i + length bs ≤ j
   part-wide i j bs true h = h.wide
   part-wide i j bs false h = omega (arith, h.ends, ap length h.is)
 
-  long-joined : (n i : ℕ) → length t ≤ suc n + i → i ≤ length t → ((j : ℕ) → length t ≤ n + j → j ≤ length t → j + length (body_at t j).bytes ≤ length t)
-      → (f : Found) → Explains t i f → i + length (joined (body_at t) f).bytes ≤ length t
-  long-joined n i p q go (part bs o j) h =
+  long-join : (n i : ℕ) → length t ≤ suc n + i → i ≤ length t
+      → ((j : ℕ) → length t ≤ n + j → j ≤ length t → j + length (body_at t j).bytes ≤ length t)
+      → (f : Place) → Explains t i f → i + length (join (body_at t) f).bytes ≤ length t
+  long-join n i p q go (part bs o j) h =
       let a = part-ahead t i j bs o h in
       let w = part-wide i j bs o h in
       let r = go j (omega arith) a.1 in
       omega (arith, length-append bs (body_at t j).bytes)
-  long-joined n i p q go (over s) h = omega arith
+  long-join n i p q go (over s) h = omega arith
 
   long : (n i : ℕ) → length t ≤ n + i → i ≤ length t → i + length (body_at t i).bytes ≤ length t
-  long zero i p q = subst (λ (b : Body). i + length b.bytes ≤ length t) (sym (body_at-found i (over unclosed) (found-end t i (omega arith)))) (omega arith)
-  long (suc n) i p q = subst (λ (b : Body). i + length b.bytes ≤ length t) (sym (body_at-is i)) (long-joined n i p q (λ j x y. long n j x y) (found_at t i) (explained t i))
+  long zero i p q =
+      subst (λ (b : Body). i + length b.bytes ≤ length t)
+      (sym (body_at-place_by i (over unclosed) (place_by-end t i (omega arith)))) (omega arith)
+  long (suc n) i p q =
+      subst (λ (b : Body). i + length b.bytes ≤ length t) (sym (body_at-is i))
+      (long-join n i p q (λ j x y. long n j x y) (place_at t i) (place_at-explains t i))
 
   -- a text is no longer than its source
   pub body_at-long : (i : ℕ) → i ≤ length t → i + length (body_at t i).bytes ≤ length t
@@ -78,14 +89,19 @@ stop-over t i cut h = tt
 stop-over t i (wrong k j) h = h
 
 module _ (t : List ℕ) where
-  within-joined : (n i : ℕ) → length t ≤ suc n + i → ((j : ℕ) → length t ≤ n + j → StopWithin t j (body_at t j).stop)
-      → (f : Found) → Explains t i f → StopWithin t i (joined (body_at t) f).stop
-  within-joined n i p go (part bs o j) h = let a = part-ahead t i j bs o h in stop-later t i j a.0 (body_at t j).stop (go j (omega arith))
-  within-joined n i p go (over s) h = stop-over t i s h
+  within-join : (n i : ℕ) → length t ≤ suc n + i → ((j : ℕ) → length t ≤ n + j → StopWithin t j (body_at t j).stop)
+      → (f : Place) → Explains t i f → StopWithin t i (join (body_at t) f).stop
+  within-join n i p go (part bs o j) h =
+      let a = part-ahead t i j bs o h in stop-later t i j a.0 (body_at t j).stop (go j (omega arith))
+  within-join n i p go (over s) h = stop-over t i s h
 
   within : (n i : ℕ) → length t ≤ n + i → StopWithin t i (body_at t i).stop
-  within zero i p = subst (λ (b : Body). StopWithin t i b.stop) (sym (body_at-found t i (over unclosed) (found-end t i (omega arith)))) tt
-  within (suc n) i p = subst (λ (b : Body). StopWithin t i b.stop) (sym (body_at-is t i)) (within-joined n i p (λ j x. within n j x) (found_at t i) (explained t i))
+  within zero i p =
+      subst (λ (b : Body). StopWithin t i b.stop)
+      (sym (body_at-place_by t i (over unclosed) (place_by-end t i (omega arith)))) tt
+  within (suc n) i p =
+      subst (λ (b : Body). StopWithin t i b.stop) (sym (body_at-is t i))
+      (within-join n i p (λ j x. within n j x) (place_at t i) (place_at-explains t i))
 
   pub body_at-within : (i : ℕ) → StopWithin t i (body_at t i).stop
   body_at-within i = within (length t) i (omega arith)

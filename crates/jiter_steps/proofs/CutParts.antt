@@ -7,7 +7,7 @@ use Rattle.jiter_scan.specs.Kind.{Kind, is_end_kind, eof_list, eof_object, eof_v
 use Rattle.jiter_scan.specs.Scanned.{failed}
 use Rattle.jiter_scan.specs.NumberReading.{extent_then}
 use Rattle.jiter_steps.specs.Blank.{IsBlank}
-use Rattle.jiter_steps.specs.Node.{StandsBehind}
+use Rattle.jiter_steps.specs.Node.{Node, begin, end, StandsBehind}
 use Rattle.jiter_steps.specs.Read.{Reading, done, Rules, Container, follow, parts_at, container_at}
 use Rattle.jiter_steps.specs.Step.{Step, more, stuck, step, array_first, array_comma, array_step, object_first, object_comma, object_step, colon, value_first, object_colon}
 use Rattle.jiter_steps.proofs.Front.{front-length, front-blank, front-behind, row-cut, row-end}
@@ -67,21 +67,24 @@ module _ (t : List ℕ) (k : ℕ) (within : k ≤ length t) where
   abbrev pub ReadTo : {P Q : Type 0} → (P → Q) → (P → Reading Q → Type 0) → P → ℕ → Reading Q → Type 0
   ReadTo seen IsCut p e x = (e ≤ k → x ≡ done (seen p) e) × (k < e → IsCut p x)
 
-  module _ {P Q A : Type 0} (c : Container Q A) (seen : P → Q) (IsCut : P → Reading Q → Type 0) where
-    -- From i on, where this row decides: the input ends, or a part begins that is cut, or one that is seen and then
-    -- the rest.
+  module _ {P Q A : Type 0} (c : Container Q A) (value : P → Node) (seen : P → Q) (IsCut : P → Reading Q → Type 0) where
+    -- From i on, where this row decides: the input ends before a value begins, or a part begins whose value does not
+    -- end by k and which is cut, or one that is seen and then the rest.
     abbrev pub CutParts : (ℕ → Option ℕ → Step) → ℕ → List P → Type 0
     CutParts row i [] = EndsInput (step u row i)
     CutParts row i (p ∷ ps) =
-        EndsInput (step u row i)
+        (EndsInput (step u row i) × (k ≤ begin (value p)))
         ⊎ ((j : ℕ) × (step u row i ≡ more j) × (j < k)
-        × (IsCut p (c.part j) ⊎ ((e : ℕ) × (c.part j ≡ done (seen p) e) × CutParts c.next e ps)))
+        × (((k < end (value p)) × IsCut p (c.part j))
+        ⊎ ((end (value p) ≤ k) × (e : ℕ) × (c.part j ≡ done (seen p) e) × CutParts c.next e ps)))
 
     -- How c reads in the front what the text has as parts.
     pub record ReadsFront (closer : ℕ) (Begins : List ℕ → ℕ → Type 0) (IsPart : ℕ → P → ℕ → Type 0) : Type 0 where
       pub delimits : Delimits u c.first c.next closer (Begins u)
       pub ends : Cuts c.first c.next
       pub begins : (j : ℕ) → j < k → Begins t j → Begins u j
+      pub value-begins : (j : ℕ) (p : P) (e : ℕ) → IsPart j p e → j ≤ begin (value p)
+      pub value-ends : (j : ℕ) (p : P) (e : ℕ) → IsPart j p e → end (value p) ≡ e
       pub ahead : (j : ℕ) (p : P) (e : ℕ) → IsPart j p e → j < e
       pub reads : (j : ℕ) (p : P) (e : ℕ) → IsPart j p e → j < k → ReadTo seen IsCut p e (c.part j)
 
@@ -164,16 +167,22 @@ module _ (t : List ℕ) (k : ℕ) (within : k ≤ length t) where
           → (x.end ≤ k → CutParts c.next x.end ps) → CutParts row i (p ∷ ps)
       first-cut row i m e p ps x unread goes rest = by (cases_lt x.begin k) (cases_lt k x.end) where
         by : (x.begin < k) ⊎ (k ≤ x.begin) → (k < x.end) ⊎ (x.end ≤ k) → CutParts row i (p ∷ ps)
-        by (inr past) y = inl (unread past)
-        by (inl lt) (inl gt) = inr (x.begin, goes lt, lt, inl ((front.reads x.begin p x.end x.is lt).1 gt))
+        by (inr past) y = inl (unread past, omega (arith, front.value-begins x.begin p x.end x.is))
+        by (inl lt) (inl gt) =
+            let ends = front.value-ends x.begin p x.end x.is in
+            inr (x.begin, goes lt, lt, inl (omega arith, (front.reads x.begin p x.end x.is lt).1 gt))
         by (inl lt) (inr le) =
-            inr (x.begin, goes lt, lt, inr (x.end, (front.reads x.begin p x.end x.is lt).0 le, rest le))
+            let ends = front.value-ends x.begin p x.end x.is in
+            inr (x.begin, goes lt, lt, inr (omega arith, x.end, (front.reads x.begin p x.end x.is lt).0 le, rest le))
 
       more-cut : (ps : List P) (i e : ℕ) → More ps i e → i ≤ k → k < e → CutParts c.next i ps
       more-cut [] i e h le lt = front.ends.next-cut i h.at h.blanks le (omega (arith, h.ends))
       more-cut (p ∷ ps) i e h le lt = by (cases_lt k h.0) (λ past. more-cut ps h.2.end e h.2.rest past lt) where
         by : (k < h.0) ⊎ (h.0 ≤ k) → (h.2.end ≤ k → CutParts c.next h.2.end ps) → CutParts c.next i (p ∷ ps)
-        by (inl gt) rest = inl (front.ends.next-cut i h.1.at h.1.blanks le (omega (arith, h.1.ends)))
+        by (inl gt) rest =
+            let later = front.value-begins h.2.begin p h.2.end h.2.is in
+            let ends = front.ends.next-cut i h.1.at h.1.blanks le (omega (arith, h.1.ends)) in
+            inl (ends, omega (arith, h.2.blanks.ordered))
         by (inr comma) rest =
             first-cut c.next i h.0 e p ps h.2 (λ past. front.ends.comma-cut i h.0 h.2.begin h.1 comma h.2.blanks past)
             (more-next i h.0 e p ps h.2 h.1) rest

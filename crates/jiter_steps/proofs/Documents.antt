@@ -23,7 +23,7 @@ use Rattle.jiter_steps.proofs.SpelledParts.{begins-value, ends-end}
 use Rattle.jiter_steps.proofs.Fused.{mapped, scanned_as, pairs, Leads, whole_answer-mapped}
 use Rattle.jiter_steps.proofs.NodeRules.{nodes, nodes_of, node_members_of, key_of}
 use Rattle.jiter_steps.proofs.Pieces.{pieces_from}
-use Rattle.jiter_steps.proofs.Nodes.{blank-passed, blank-to_end, passed-blank, at_length}
+use Rattle.jiter_steps.proofs.Blanks.{blank-passed, blank-to_end, passed-blank, at_length}
 use Rattle.jiter_steps.proofs.ScalarLaws.{ScalarLaws, scalar-laws}
 use Rattle.jiter_steps.proofs.Sound.{Sound, value_at-sound}
 
@@ -31,11 +31,11 @@ use Rattle.jiter_steps.proofs.Sound.{Sound, value_at-sound}
 abbrev pub key_text : List ℕ → Key → Text
 key_text t k = text_at t k.pieces k.begin k.end
 
-values-of : (t : List ℕ) (ns : List Node) → values_of t (nodes_of ns) ≡ items_of (map (value_of t) ns)
+pub values-of : (t : List ℕ) (ns : List Node) → values_of t (nodes_of ns) ≡ items_of (map (value_of t) ns)
 values-of t [] = refl
 values-of t (n ∷ ns) = ap (tree.item (value_of t n)) (values-of t ns)
 
-members-of : (t : List ℕ) (ms : List (Key × Node))
+pub members-of : (t : List ℕ) (ms : List (Key × Node))
     → grammar.members_of t (node_members_of ms) ≡ tree.members_of (pairs (key_text t) (value_of t) ms)
 members-of t [] = refl
 members-of t (m ∷ ms) = ap (tree.member (key_text t m.0) (value_of t m.1)) (members-of t ms)

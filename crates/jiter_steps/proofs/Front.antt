@@ -14,7 +14,7 @@ use Rattle.jiter_steps.specs.Blank.{past_blanks, IsBlankByte, IsBlank}
 use Rattle.jiter_steps.specs.Node.{StandsBehind, SpellsNumber}
 use Rattle.jiter_steps.specs.Step.{step}
 use Rattle.jiter_steps.proofs.Blanks.{past_blanks-end}
-use Rattle.jiter_steps.proofs.Nodes.{blank-to_end}
+use Rattle.jiter_steps.proofs.Blanks.{blank-to_end}
 
 module _ (t : List ℕ) (k : ℕ) (within : k ≤ length t) where
   abbrev u : List ℕ

@@ -148,7 +148,7 @@ module _ (names : Bool) (t : List ℕ) (mode : PartialMode) where
   reached : (b k : ℕ) (x : Option Tree) → b < k → (if nat_le k b then None else x) ≡ x
   reached b k x h = if-false (nat_le k b) None x (lt-leb k b h)
 
-  node-late : (k : ℕ) (n : Node) → Spells names t n → k ≤ begin n → cut names t n k mode ≡ None
+  pub node-late : (k : ℕ) (n : Node) → Spells names t n → k ≤ begin n → cut names t n k mode ≡ None
   node-late k (grammar.literal l b e) h le =
       let order = node-ahead names t (grammar.literal l b e) h in
       if-false (nat_le e k) (Some (literal_tree l)) None (lt-leb e k (omega arith))

@@ -54,7 +54,8 @@ module _ (t : List ℕ) (k : ℕ) (within : k ≤ length t) where
   -- A container whose front goes so, and which forgives nothing.
   module _ {K P Q A : Type 0} (r : Rules K A) (strict : (kind : Kind) → r.forgives kind ≡ false) (c : Container Q A)
       (goes : Goes c u)
-      (seen : P → Q) (IsCut : P → Reading Q → Type 0) (short : (p : P) (x : Reading Q) → IsCut p x → CutShort k x)
+      (value : P → Node) (seen : P → Q) (IsCut : P → Reading Q → Type 0)
+      (short : (p : P) (x : Reading Q) → IsCut p x → CutShort k x)
       (ends : Cuts t k within c.first c.next) where
     abbrev At : List Q → ℕ → Reading A
     At qs j = parts_at r c u (length u) qs j
@@ -83,18 +84,18 @@ module _ (t : List ℕ) (k : ℕ) (within : k ≤ length t) where
         (fault-early (λ e. c.build e qs) kind x stop h)
 
     parts-early : (ps : List P) (row : ℕ → Option ℕ → Step) (i : ℕ) (qs : List Q)
-        → CutParts t k within c seen IsCut row i ps → EndsEarly (Behind qs (step u row i))
+        → CutParts t k within c value seen IsCut row i ps → EndsEarly (Behind qs (step u row i))
     parts-early [] row i qs h = input-early qs (step u row i) h
-    parts-early (p ∷ ps) row i qs (inl h) = input-early qs (step u row i) h
+    parts-early (p ∷ ps) row i qs (inl h) = input-early qs (step u row i) h.0
     parts-early (p ∷ ps) row i qs (inr h) = subst (λ s. EndsEarly (Behind qs s)) (sym h.1) (elim h.3 [
-      | inl x ↦ part-early qs h.0 (c.part h.0) h.2 refl (short p (c.part h.0) x)
+      | inl x ↦ part-early qs h.0 (c.part h.0) h.2 refl (short p (c.part h.0) x.1)
       | inr x ↦
           subst EndsEarly
-          (sym (parts-part r u c goes h.0 x.0 qs (seen p) (step u c.next x.0) (in-front h.0 h.2) x.1 refl))
-          (parts-early ps c.next x.0 (qs ++ seen p ∷ []) x.2)
+          (sym (parts-part r u c goes h.0 x.1 qs (seen p) (step u c.next x.1) (in-front h.0 h.2) x.2 refl))
+          (parts-early ps c.next x.1 (qs ++ seen p ∷ []) x.3)
     ])
 
-    container-early : (b : ℕ) (ps : List P) → CutParts t k within c seen IsCut c.first (b + 1) ps
+    container-early : (b : ℕ) (ps : List P) → CutParts t k within c value seen IsCut c.first (b + 1) ps
         → EndsEarly (container_at r c u b)
     container-early b ps h = parts-early ps c.first (b + 1) [] h
 
@@ -133,9 +134,8 @@ module _ (names : Bool) (t : List ℕ) (k : ℕ) (within : k ≤ length t) where
 
   member-short : (m : Key × Node) (x : Reading (Key × Node))
       → IsCutMember (nodes names) names t k within same_key same_node IsCut m x → CutShort k x
-  member-short m x (inl e) = subst (CutShort k) (sym e) refl
-  member-short m x (inr (inl h)) = subst (CutShort k) (sym h.1) h.2
-  member-short m x (inr (inr h)) = subst (CutShort k) (sym h.1) (with_key-short m.0 h.0 (cut-short m.1 h.0 h.2))
+  member-short m x (inl h) = subst (CutShort k) (sym h.is) h.early
+  member-short m x (inr h) = subst (CutShort k) (sym h.1) (with_key-short m.0 h.0 (cut-short m.1 h.0 h.2))
 
   -- scalars
   quiet-front : (i : ℕ) → EndsNumber t i → EndsNumber front i
@@ -194,12 +194,12 @@ module _ (names : Bool) (t : List ℕ) (k : ℕ) (within : k ≤ length t) where
     object = λ b e ms.
         ap (λ l. grammar.object b e (node_members_of l)) (map-id (members_list ms))
         ∙ ap (grammar.object b e) (members-listed ms);
-    array-cut = λ inner b e ns goes parts.
+    array-cut = λ inner b e ns h lt goes parts.
         container-early t k within (nodes names) (λ kind. refl)
-        (array_of (nodes names) inner front b) goes same_node IsCut cut-short
+        (array_of (nodes names) inner front b) goes (λ n. n) same_node IsCut cut-short
         (array-cuts t k within) b (nodes_list ns) parts;
-    object-cut = λ inner b e ms goes parts.
-        container-early t k within (nodes names) (λ kind. refl) (object_of (nodes names) inner front b) goes
+    object-cut = λ inner b e ms h lt goes parts.
+        container-early t k within (nodes names) (λ kind. refl) (object_of (nodes names) inner front b) goes (λ m. m.1)
         (see_member (nodes names) names t k within same_key same_node IsCut)
         (IsCutMember (nodes names) names t k within same_key same_node IsCut) member-short
         (object-cuts t k within) b (members_list ms) parts;

@@ -22,7 +22,7 @@ use Rattle.jiter_steps.specs.Piece.{SpellsString}
 use Rattle.jiter_steps.specs.Read.{Reading, done, fault, scalar_at, with_key, behind_colon, behind_key, value_with}
 use Rattle.jiter_steps.specs.Read.{inside_at, value_at}
 use Rattle.jiter_steps.specs.Step.{step, colon, value_first, object_colon}
-use Rattle.jiter_steps.specs.StringReading.{Stop, closed, unclosed, cut, wrong, whole, body_at, ended, content_at}
+use Rattle.jiter_steps.specs.StringReading.{Stop, closed, unclosed, cut, wrong, whole, body_at, text_in_form, content_at}
 use Rattle.jiter_steps.specs.StringReading.{string_at}
 use Rattle.jiter_steps.specs.Tree.{Text}
 use Rattle.jiter_steps.specs.declared.parse.Start.{Start}
@@ -37,7 +37,7 @@ use Rattle.jiter_steps.proofs.OpenNumbers.{number-open}
 use Rattle.jiter_steps.proofs.OpenParts.{Anywhere, CanEndHere, PartsOf, CanEnd, Grows, container_at-open}
 use Rattle.jiter_steps.proofs.Parts.{parts-are}
 use Rattle.jiter_steps.proofs.Pieces.{pieces_from}
-use Rattle.jiter_steps.proofs.PlacesExplained.{IsPlaceKind}
+use Rattle.jiter_steps.proofs.Places.{IsPlaceKind}
 use Rattle.jiter_steps.proofs.RowSteps.{ByteAt, ItemAt, KeyBegins, PartBehind, Behind, ExtentIs, array-delimits}
 use Rattle.jiter_steps.proofs.RowSteps.{object-delimits, object_colon-is}
 use Rattle.jiter_steps.proofs.SameFront.{SameBefore, place-too, key-too, spells-too}
@@ -60,23 +60,23 @@ place-dead k (inr (inr (inl e))) = ap can_go_on e
 place-dead k (inr (inr (inr e))) = ap can_go_on e
 
 module _ (t : List ℕ) (At : ℕ → Type 0) where
-  ended-live : (i : ℕ) (bs : List ℕ) (o : Bool) (s : Stop) → StopWithin t i s → LiveIs At (ended whole t i bs o s)
-  ended-live i bs o (wrong k j) w = λ live. absurd (false≢true (sym (place-dead k w.2) ∙ live))
-  ended-live i bs o (closed e) w =
+  text_in_form-live : (i : ℕ) (bs : List ℕ) (o : Bool) (s : Stop) → StopWithin t i s → LiveIs At (text_in_form whole t i bs o s)
+  text_in_form-live i bs o (wrong k j) w = λ live. absurd (false≢true (sym (place-dead k w.2) ∙ live))
+  text_in_form-live i bs o (closed e) w =
       either (LiveIs At) (utf8_valid_len bs == length bs) (taken (record { owned = o; bytes = bs }) e)
-      (failed invalid_code_point (i + utf8_valid_len bs)) tt (no_live)
-  ended-live i bs o unclosed w = no_live
-  ended-live i bs o cut w = no_live
+      (failed invalid_code_point (i + utf8_valid_len bs)) tt no_live
+  text_in_form-live i bs o unclosed w = no_live
+  text_in_form-live i bs o cut w = no_live
 
   string-live : (i : ℕ) → LiveIs At (string_at whole t i)
   unfolding content_at
   string-live i =
-      let b = body_at t (i + 1) in ended-live (i + 1) b.bytes b.owned b.stop (body_at-within t (i + 1))
+      let b = body_at t (i + 1) in text_in_form-live (i + 1) b.bytes b.owned b.stop (body_at-within t (i + 1))
 
   colon-live : (j : ℕ) (o : Option ℕ) → LiveIs At (colon j o)
   colon-live j None = no_live
   colon-live j (Some c) =
-      either (LiveIs At) (c == 58) (taken tt (j + 1)) (failed expected_colon j) tt (no_live)
+      either (LiveIs At) (c == 58) (taken tt (j + 1)) (failed expected_colon j) tt no_live
 
   value_first-live : (j : ℕ) (o : Option ℕ) → LiveIs At (value_first j o)
   value_first-live j None = no_live

@@ -12,7 +12,7 @@ use Rattle.jiter_steps.proofs.Fused.{mapped}
 use Rattle.jiter_steps.proofs.NodeRules.{nodes}
 pub use Rattle.jiter_steps.proofs.NodesFront.{EndsEarly}
 use Rattle.jiter_steps.proofs.NodesFront.{container-front}
-use Rattle.jiter_steps.proofs.Nodes.{blank-passed, blank-to_end}
+use Rattle.jiter_steps.proofs.Blanks.{blank-passed, blank-to_end}
 
 module _ (names : Bool) (t : List ℕ) (k : ℕ) (within : k ≤ length t) where
   abbrev front : List ℕ

@@ -1,6 +1,7 @@
 -- The front of a text is read along the node that the whole text spells, by any rules: what ends before the cut is read
 -- whole, and what the cut falls into is cut.
 use Rattle.std.proofs.Common.{◌≡◌, ◌⊎◌, inl, inr, ℕ, zero, suc, ◌+◌, ◌<◌, ◌≤◌, Bool, true, List, length, map, take, refl, sym, ap, ◌∙◌, subst, arith}
+use Rattle.std.specs.Prelude.{slice_get, Some}
 use Rattle.std.proofs.lemmas.Bool.{cases_lt}
 use Rattle.jiter_scan.specs.Kind.{Kind, is_end_kind, eof_object, eof_string, eof_value}
 use Rattle.jiter_scan.specs.Scanned.{taken, failed}
@@ -33,12 +34,21 @@ module _ {K A : Type 0} (r : Rules K A) (names : Bool) (t : List ℕ) (k : ℕ) 
   abbrev pub see_member : Key × Node → K × A
   see_member m = (see_key m.0, see m.1)
 
-  -- a member that is cut: in its key, between its key and its value, or in its value
+  abbrev pub member_value : Key × Node → Node
+  member_value m = m.1
+
+  -- a member that is cut before its value: the input ends, and the reading stands there or at the key's quote
+  pub record IsCutBefore (m : Key × Node) (x : Reading (K × A)) : Type 0 where
+    pub kind : Kind
+    pub stop : ℕ
+    pub is : x ≡ fault kind k stop
+    pub early : is_end_kind kind ≡ true
+    pub unread : k ≤ begin m.1
+    pub stands : (stop ≡ k) ⊎ (slice_get u stop ≡ Some 34)
+
+  -- a member that is cut, before its value or in it
   abbrev pub IsCutMember : Key × Node → Reading (K × A) → Type 0
-  IsCutMember m x =
-      (x ≡ fault eof_string k m.0.begin)
-      ⊎ (((kind : Kind) × (x ≡ fault kind k k) × (is_end_kind kind ≡ true))
-      ⊎ ((y : Reading A) × (x ≡ with_key (see_key m.0) y) × IsCut m.1 y))
+  IsCutMember m x = IsCutBefore m x ⊎ ((y : Reading A) × (x ≡ with_key (see_key m.0) y) × IsCut m.1 y)
 
   -- What the rules make, in the front, of scalars, keys and containers.
   pub record CutRules : Type 0 where
@@ -55,11 +65,15 @@ module _ {K A : Type 0} (r : Rules K A) (names : Bool) (t : List ℕ) (k : ℕ) 
     pub array : (b e : ℕ) (ns : Nodes) → r.array b e (map see (nodes_list ns)) ≡ see (grammar.array b e ns)
     pub object : (b e : ℕ) (ms : NodeMembers)
         → r.object b e (map see_member (members_list ms)) ≡ see (grammar.object b e ms)
-    pub array-cut : (inner : ℕ → Reading A) (b e : ℕ) (ns : Nodes) → Goes (array_of r inner u b) u
-        → CutParts t k within (array_of r inner u b) see IsCut array_first (b + 1) (nodes_list ns)
+    pub array-cut : (inner : ℕ → Reading A) (b e : ℕ) (ns : Nodes) → Spells names t (grammar.array b e ns) → b < k
+        → Goes (array_of r inner u b) u
+        → CutParts t k within (array_of r inner u b) (λ n. n) see IsCut array_first (b + 1) (nodes_list ns)
         → IsCut (grammar.array b e ns) (container_at r (array_of r inner u b) u b)
-    pub object-cut : (inner : ℕ → Reading A) (b e : ℕ) (ms : NodeMembers) → Goes (object_of r inner u b) u
-        → CutParts t k within (object_of r inner u b) see_member IsCutMember object_first (b + 1) (members_list ms)
+    pub object-cut : (inner : ℕ → Reading A) (b e : ℕ) (ms : NodeMembers) → Spells names t (grammar.object b e ms)
+        → b < k
+        → Goes (object_of r inner u b) u
+        → CutParts t k within (object_of r inner u b) member_value see_member IsCutMember object_first (b + 1)
+        (members_list ms)
         → IsCut (grammar.object b e ms) (container_at r (object_of r inner u b) u b)
 
   module _ (good : Advances r u) (rules : CutRules) where
@@ -98,11 +112,14 @@ module _ {K A : Type 0} (r : Rules K A) (names : Bool) (t : List ℕ) (k : ℕ) 
           let read = all n is.spelled is.limit quiet (omega (arith, is.begins)) in
           subst (λ f. ReadTo t k within see IsCut n f (inner j)) is.ends (subst (λ i. Reads n (inner i)) is.begins read)
 
-      items-front : InnerReads → (b : ℕ) → ReadsFront t k within (array b) see IsCut 93 ItemAt (IsItem names t room)
+      items-front : InnerReads → (b : ℕ)
+          → ReadsFront t k within (array b) (λ n. n) see IsCut 93 ItemAt (IsItem names t room)
       items-front all b = record {
         delimits = array-delimits u;
         ends = array-cuts t k within;
         begins = item-front;
+        value-begins = λ j n e is. omega (arith, is.begins);
+        value-ends = λ j n e is. is.ends;
         ahead = item-ahead;
         reads = item-reads all;
       }
@@ -143,7 +160,14 @@ module _ {K A : Type 0} (r : Rules K A) (names : Bool) (t : List ℕ) (k : ℕ) 
             → IsCutMember m (MemberAt m.0.begin)
         stops kind early is =
             let key = rules.key m.0 h.string le in
-            inr (inl (kind, member-colon r u inner m.0.begin m.0.end k (see_key m.0) kind key is, early))
+            inl (record {
+              kind = kind;
+              stop = k;
+              is = member-colon r u inner m.0.begin m.0.end k (see_key m.0) kind key is;
+              early = early;
+              unread = ge;
+              stands = inl refl;
+            })
 
         by : (k < h.colon) ⊎ (h.colon ≤ k) → IsCutMember m (MemberAt m.0.begin)
         by (inl gt) = stops eof_object refl (colon-cut t k within m.0.end h.colon h.behind le gt)
@@ -165,39 +189,52 @@ module _ {K A : Type 0} (r : Rules K A) (names : Bool) (t : List ℕ) (k : ℕ) 
             by : k < e → (k < m.0.end) ⊎ (m.0.end ≤ k) → (begin m.1 < k) ⊎ (k ≤ begin m.1)
                 → IsCutMember m (MemberAt m.0.begin)
             by gt (inl past) place =
-                let key = rules.key-cut m.0 is.key.string (omega (arith, is.begins)) past in
-                inl (member-key r u inner m.0.begin k eof_string key)
+                let begun : m.0.begin < k = omega (arith, is.begins) in
+                let key = rules.key-cut m.0 is.key.string begun past in
+                let behind = behind-ahead names t m.0.end 58 is.key.colon is.key.behind in
+                inl (record {
+                  kind = eof_string;
+                  stop = m.0.begin;
+                  is = member-key r u inner m.0.begin k eof_string key;
+                  early = refl;
+                  unread = omega (arith, is.key.blanks.ordered);
+                  stands = inr (front-get t k within m.0.begin 34 begun is.key.string.opens);
+                })
             by gt (inr le) (inr ge) = colon-short m is.key le ge
             by gt (inr le) (inl begun) =
-                inr (inr (inner (begin m.1), value-read m is.key is.value.spelled begun, (value begun).1 gt))
+                inr (inner (begin m.1), value-read m is.key is.value.spelled begun, (value begun).1 gt)
 
             cut : k < e → IsCutMember m (MemberAt m.0.begin)
             cut gt = by gt (cases_lt k m.0.end) (cases_lt (begin m.1) k)
 
       members-front : InnerReads → (b : ℕ)
-          → ReadsFront t k within (object b) see_member IsCutMember 125 KeyBegins (IsMember names t room)
+          → ReadsFront t k within (object b) member_value see_member IsCutMember 125 KeyBegins (IsMember names t room)
       members-front all b = record {
         delimits = object-delimits u;
         ends = object-cuts t k within;
         begins = λ j lt h. front-get t k within j 34 lt h;
+        value-begins = λ j m e is. omega (arith, is.begins, key-ahead names t m.0 (begin m.1) is.key);
+        value-ends = λ j m e is. is.value.ends;
         ahead = member-ahead;
         reads = member-reads all;
       }
 
       -- a container of these parts
-      container-reads : {P Q : Type 0} (c : Container Q A) (seen : P → Q) (Cut : P → Reading Q → Type 0) (closer : ℕ)
-          (Begins : List ℕ → ℕ → Type 0) (IsPart : ℕ → P → ℕ → Type 0)
-          → ReadsFront t k within c seen Cut closer Begins IsPart → Goes c u
+      container-reads : {P Q : Type 0} (c : Container Q A) (value : P → Node) (seen : P → Q)
+          (Cut : P → Reading Q → Type 0) (closer : ℕ) (Begins : List ℕ → ℕ → Type 0) (IsPart : ℕ → P → ℕ → Type 0)
+          → ReadsFront t k within c value seen Cut closer Begins IsPart → Goes c u
           → (n : Node) (ps : List P) → Parts t closer (Begins t) IsPart ps (begin n + 1) (end n) → begin n < k
           → c.build (end n) (map seen ps) ≡ see n
-          → (CutParts t k within c seen Cut c.first (begin n + 1) ps → IsCut n (container_at r c u (begin n)))
+          → (CutParts t k within c value seen Cut c.first (begin n + 1) ps → IsCut n (container_at r c u (begin n)))
           → Reads n (container_at r c u (begin n))
-      container-reads c seen Cut closer Begins IsPart reads goes n ps parts lt build cut = (
-        λ le. container-whole t k within c seen Cut closer Begins IsPart reads r goes ps (begin n) (end n) parts le
+      container-reads c value seen Cut closer Begins IsPart reads goes n ps parts lt build cut = (
+        λ le.
+            container-whole t k within c value seen Cut closer Begins IsPart reads r goes ps (begin n) (end n) parts le
             ∙ ap (λ a. done a (end n)) build,
         λ gt.
             let before : begin n + 1 ≤ k = omega arith in
-            cut (parts-cut t k within c seen Cut closer Begins IsPart reads ps (begin n + 1) (end n) parts before gt),
+            cut
+            (parts-cut t k within c value seen Cut closer Begins IsPart reads ps (begin n + 1) (end n) parts before gt),
       )
 
       -- a value, by what it begins with
@@ -211,14 +248,15 @@ module _ {K A : Type 0} (r : Rules K A) (names : Bool) (t : List ℕ) (k : ℕ) 
       value-reads all (grammar.string ps b e) h d q lt = rules.text ps b e h lt
       value-reads all (grammar.array b e ns) h d q lt =
           let goes = array_of-goes r u good inner inner-within b in
-          container-reads (array b) see IsCut 93 ItemAt (IsItem names t room) (items-front all b) goes
+          container-reads (array b) (λ n. n) see IsCut 93 ItemAt (IsItem names t room) (items-front all b) goes
           (grammar.array b e ns) (nodes_list ns) (items-parts names t room ns (b + 1) e h.1 d) lt
-          (rules.array b e ns) (rules.array-cut inner b e ns goes)
+          (rules.array b e ns) (rules.array-cut inner b e ns h lt goes)
       value-reads all (grammar.object b e ms) h d q lt =
           let goes = object_of-goes r u good inner inner-within b in
-          container-reads (object b) see_member IsCutMember 125 KeyBegins (IsMember names t room) (members-front all b)
-          goes (grammar.object b e ms) (members_list ms) (members-parts names t room ms (b + 1) e h.1 d) lt
-          (rules.object b e ms) (rules.object-cut inner b e ms goes)
+          container-reads (object b) member_value see_member IsCutMember 125 KeyBegins (IsMember names t room)
+          (members-front all b) goes
+          (grammar.object b e ms) (members_list ms) (members-parts names t room ms (b + 1) e h.1 d) lt
+          (rules.object b e ms) (rules.object-cut inner b e ms h lt goes)
 
       begun-reads : InnerReads → (n : Node) → Spells names t n → nesting n ≤ room → EndsNumber t (end n) → begin n < k
           → Reads n (value_at r u room (begin n))

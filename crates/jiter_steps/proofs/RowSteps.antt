@@ -10,7 +10,7 @@ use Rattle.jiter_scan.specs.NumberReading.{extent_then}
 use Rattle.jiter_steps.specs.Blank.{is_blank, past_blanks, IsBlank}
 use Rattle.jiter_steps.specs.Node.{StandsBehind}
 use Rattle.jiter_steps.specs.Step.{Step, more, closed, stuck, step, array_first, array_comma, array_step, object_first, object_comma, object_step, colon, value_first, object_colon}
-use Rattle.jiter_steps.proofs.Nodes.{blank-passed, passed-blank, no_blank-behind}
+use Rattle.jiter_steps.proofs.Blanks.{blank-passed, passed-blank, no_blank-behind}
 
 -- what a part of a container may begin with: a byte that is no blank
 pub record ByteAt (t : List ℕ) (j : ℕ) : Type 0 where

@@ -1,5 +1,4 @@
 -- Worked rows on the definitions, by computation.
-mod Computed
 mod Trees
 mod Strings
 mod DamagedStrings

@@ -9,7 +9,7 @@ use Rattle.jiter_scan.proofs.Runs.{run_end-ahead, run_end-within, run_end-passes
 use Rattle.jiter_steps.specs.Blank.{past_blanks, IsBlank}
 use Rattle.jiter_steps.proofs.Blanks.{past_blanks-after}
 use Rattle.jiter_steps.proofs.SameFront.{SameBefore, here-too, index-same, blanks-too}
-use Rattle.jiter_steps.proofs.Nodes.{blank-passed, passed-blank, no_blank-behind}
+use Rattle.jiter_steps.proofs.Blanks.{blank-passed, passed-blank, no_blank-behind}
 
 -- a fault of a byte at its index, or before it: the input goes on, and its UTF-8 is not in question
 abbrev pub IsOfByte : Kind → Type 0

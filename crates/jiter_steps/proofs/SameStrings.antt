@@ -9,17 +9,17 @@ use Rattle.jiter_scan.specs.Kind.{Kind, invalid_code_point, invalid_escape, lone
 use Rattle.jiter_scan.specs.Scanned.{Scanned, taken, failed}
 use Rattle.jiter_scan.proofs.Choices.{if_case, if-false}
 use Rattle.jiter_steps.specs.Escape.{short_escape, is_hex, unit_of, is_high, is_low, pair_of}
-use Rattle.jiter_steps.specs.StringReading.{Stop, closed, unclosed, cut, wrong, Found, part, over}
+use Rattle.jiter_steps.specs.StringReading.{Stop, closed, unclosed, cut, wrong, Place, part, over}
 use Rattle.jiter_steps.specs.StringReading.{bad_digit, unit_at, HexDigits, few, hex_digits_or, hex_digits_at, behind}
-use Rattle.jiter_steps.specs.StringReading.{unit_then, paired, second_u, second, single, numbered, short, escaped, plain}
-use Rattle.jiter_steps.specs.StringReading.{found, found_at, Body, before, joined, body_at}
-use Rattle.jiter_steps.specs.StringReading.{whole, ended, content_at, string_at}
+use Rattle.jiter_steps.specs.StringReading.{unit_then, surrogate_pair, behind_high_backslash, behind_high, single, unicode_escape, short, behind_backslash, plain}
+use Rattle.jiter_steps.specs.StringReading.{place_by, place_at, Body, before, join, body_at}
+use Rattle.jiter_steps.specs.StringReading.{whole, text_in_form, content_at, string_at}
 use Rattle.jiter_steps.specs.Tree.{Text}
 use Rattle.jiter_steps.proofs.SameFront.{SameBefore, index-same}
 use Rattle.jiter_steps.proofs.SameRuns.{both, within-too}
 use Rattle.jiter_steps.proofs.SameNumbers.{Shown}
-use Rattle.jiter_steps.proofs.Bodies.{part-ahead, body_at-is, body_at-found, found-end}
-use Rattle.jiter_steps.proofs.PlacesExplained.{Explains, explained}
+use Rattle.jiter_steps.proofs.Bodies.{part-ahead, body_at-is, body_at-place_by, place_by-end}
+use Rattle.jiter_steps.proofs.Places.{Explains, place_at-explains}
 
 -- a part or a quote that ends before m, or a fault of a place there
 abbrev ShownStop : ℕ → Stop → Type 0
@@ -28,7 +28,7 @@ ShownStop m unclosed = ⊥
 ShownStop m cut = ⊥
 ShownStop m (wrong k j) = j < m
 
-abbrev ShownFound : ℕ → Found → Type 0
+abbrev ShownFound : ℕ → Place → Type 0
 ShownFound m (part bytes owned e) = e < m
 ShownFound m (over s) = ShownStop m s
 
@@ -38,24 +38,24 @@ IsWrong unclosed = ⊥
 IsWrong cut = ⊥
 IsWrong (wrong k j) = Unit {0}
 
--- the same is found; or, where a fault is found, that the text ends within the escape
-abbrev Finds : Found → Found → Type 0
+-- the same is place_by; or, where a fault is place_by, that the text ends within the escape
+abbrev Finds : Place → Place → Type 0
 Finds (part bytes owned e) g = g ≡ part bytes owned e
 Finds (over s) g = (g ≡ over s) ⊎ (IsWrong s × (g ≡ over cut))
 
-finds-itself : (f : Found) → Finds f f
+finds-itself : (f : Place) → Finds f f
 finds-itself (part bytes owned e) = refl
 finds-itself (over s) = inl refl
 
 -- what is shown of f, which looks at each byte before i, is what g finds
-abbrev Same : ℕ → ℕ → Found → Found → Type 0
+abbrev Same : ℕ → ℕ → Place → Place → Type 0
 Same m i f g = ShownFound m f → (i ≤ m) × Finds f g
 
 module _ (m : ℕ) where
-  still : (i : ℕ) (f : Found) → (ShownFound m f → i ≤ m) → Same m i f f
+  still : (i : ℕ) (f : Place) → (ShownFound m f → i ≤ m) → Same m i f f
   still i f h s = (h s, finds-itself f)
 
-  earlier : (i j : ℕ) (f g : Found) → i ≤ j → Same m j f g → Same m i f g
+  earlier : (i j : ℕ) (f g : Place) → i ≤ j → Same m j f g → Same m i f g
   earlier i j f g le h s = let r = h s in (omega (arith, r.0), r.1)
 
   -- finds that end at j, and faults at or behind j - 1
@@ -66,8 +66,8 @@ module _ (m : ℕ) where
   wrong-still k i j le = still j (over (wrong k i)) (λ s. omega arith)
 
   -- rows that do not ask the text
-  paired-same : (high j low : ℕ) → Same m j (paired high j low) (paired high j low)
-  paired-same high j low =
+  surrogate_pair-same : (high j low : ℕ) → Same m j (surrogate_pair high j low) (surrogate_pair high j low)
+  surrogate_pair-same high j low =
       both (Same m j) (is_low low) _ _ _ _ (part-still (encode_utf8 (pair_of high low)) true j)
       (wrong-still lone_surrogate (j - 1) j (omega arith))
 
@@ -87,7 +87,7 @@ module _ (m : ℕ) where
 
 module _ (t u : List ℕ) (m : ℕ) (same : SameBefore t u m) where
   -- what a byte decides
-  byte-same : (f g : Option ℕ → Found) (i : ℕ) → (ShownFound m (f None) → ⊥)
+  byte-same : (f g : Option ℕ → Place) (i : ℕ) → (ShownFound m (f None) → ⊥)
       → ((c : ℕ) → Same m (i + 1) (f (Some c)) (g (Some c))) → Same m (i + 1) (f (slice_get t i)) (g (slice_get u i))
   byte-same f g i none some = by (slice_get t i) refl where
     by : (o : Option ℕ) → slice_get t i ≡ o → Same m (i + 1) (f o) (g (slice_get u i))
@@ -141,14 +141,14 @@ module _ (t u : List ℕ) (m : ℕ) (same : SameBefore t u m) where
       hex-read i (omega arith) ∙ (λ k. digits_of i (a k) (b k) (c k) (d k))
 
   -- a byte that is no digit, or a text that ends before the fourth
-  bad-found : (i k : ℕ) (next : ℕ → Found) → bad_digit u i ≡ Some k
+  bad-place_by : (i k : ℕ) (next : ℕ → Place) → bad_digit u i ≡ Some k
       → Finds (over (wrong invalid_escape k)) (behind next (hex_digits_at u i))
-  bad-found i k next e =
+  bad-place_by i k next e =
       let read = hex_digits_or (bad_digit u i) (unit_at u i) in
       if_case (λ d. Finds (over (wrong invalid_escape k)) (behind next d)) (nat_lt (length u) (i + 4)) few read
       (λ q. inr (tt, refl)) (λ q. inl (ap (λ x. behind next (hex_digits_or x (unit_at u i))) e))
 
-  unit-same : (i : ℕ) (f g : ℕ → ℕ → Found) → ((x : ℕ) → Same m (i + 4) (f (i + 4) x) (g (i + 4) x))
+  unit-same : (i : ℕ) (f g : ℕ → ℕ → Place) → ((x : ℕ) → Same m (i + 4) (f (i + 4) x) (g (i + 4) x))
       → Same m i (unit_then t i f) (unit_then u i g)
   unit-same i f g all =
       if_case (λ d. Same m i (behind (f (i + 4)) d) (unit_then u i g)) (nat_lt (length t) (i + 4)) few _
@@ -161,41 +161,41 @@ module _ (t u : List ℕ) (m : ℕ) (same : SameBefore t u m) where
             (omega (arith, r.0), subst (λ d. Finds (f (i + 4) (unit_at t i)) (behind (g (i + 4)) d)) (sym digits) r.1)
         by within (Some k) e s =
             let r = bad-same i within k s e in
-            (omega (arith, r.0, s), bad-found i k (g (i + 4)) r.1)
+            (omega (arith, r.0, s), bad-place_by i k (g (i + 4)) r.1)
 
   -- escapes
-  second_u-same : (high i : ℕ) → Same m (i + 1) (second_u t high i (slice_get t i)) (second_u u high i (slice_get u i))
-  second_u-same high i =
-      byte-same (second_u t high i) (second_u u high i) i (λ s. s)
+  behind_high_backslash-same : (high i : ℕ) → Same m (i + 1) (behind_high_backslash t high i (slice_get t i)) (behind_high_backslash u high i (slice_get u i))
+  behind_high_backslash-same high i =
+      byte-same (behind_high_backslash t high i) (behind_high_backslash u high i) i (λ s. s)
       (λ c. both (Same m (i + 1)) (c == 117) _ _ _ _
-      (unit-same (i + 1) (paired high) (paired high) (paired-same m high (i + 1 + 4)))
+      (unit-same (i + 1) (surrogate_pair high) (surrogate_pair high) (surrogate_pair-same m high (i + 1 + 4)))
       (wrong-still m end_of_hex_escape i (i + 1) (omega arith)))
 
-  second-same : (high i : ℕ) → Same m (i + 1) (second t high i (slice_get t i)) (second u high i (slice_get u i))
-  second-same high i =
-      byte-same (second t high i) (second u high i) i (λ s. s)
+  behind_high-same : (high i : ℕ) → Same m (i + 1) (behind_high t high i (slice_get t i)) (behind_high u high i (slice_get u i))
+  behind_high-same high i =
+      byte-same (behind_high t high i) (behind_high u high i) i (λ s. s)
       (λ c. both (Same m (i + 1)) (c == 92) _ _ _ _
-      (earlier m (i + 1) (i + 1 + 1) _ _ (omega arith) (second_u-same high (i + 1)))
+      (earlier m (i + 1) (i + 1 + 1) _ _ (omega arith) (behind_high_backslash-same high (i + 1)))
       (wrong-still m end_of_hex_escape i (i + 1) (omega arith)))
 
-  numbered-same : (j x : ℕ) → Same m j (numbered t j x) (numbered u j x)
-  numbered-same j x =
-      both (Same m j) (is_high x) _ _ _ _ (earlier m j (j + 1) _ _ (omega arith) (second-same x j)) (single-same m j x)
+  unicode_escape-same : (j x : ℕ) → Same m j (unicode_escape t j x) (unicode_escape u j x)
+  unicode_escape-same j x =
+      both (Same m j) (is_high x) _ _ _ _ (earlier m j (j + 1) _ _ (omega arith) (behind_high-same x j)) (single-same m j x)
 
-  escaped-same : (i : ℕ) → Same m (i + 1) (escaped t i (slice_get t i)) (escaped u i (slice_get u i))
-  escaped-same i =
-      byte-same (escaped t i) (escaped u i) i (λ s. s)
+  behind_backslash-same : (i : ℕ) → Same m (i + 1) (behind_backslash t i (slice_get t i)) (behind_backslash u i (slice_get u i))
+  behind_backslash-same i =
+      byte-same (behind_backslash t i) (behind_backslash u i) i (λ s. s)
       (λ c. both (Same m (i + 1)) (c == 117) _ _ _ _
-      (unit-same (i + 1) (numbered t) (numbered u) (numbered-same (i + 1 + 4)))
+      (unit-same (i + 1) (unicode_escape t) (unicode_escape u) (unicode_escape-same (i + 1 + 4)))
       (short-same m i (short_escape c)))
 
-  found-same : (i : ℕ) → Same m (i + 1) (found_at t i) (found_at u i)
-  unfolding found_at
-  found-same i =
-      byte-same (found t i) (found u i) i (λ s. s)
+  place_by-same : (i : ℕ) → Same m (i + 1) (place_at t i) (place_at u i)
+  unfolding place_at
+  place_by-same i =
+      byte-same (place_by t i) (place_by u i) i (λ s. s)
       (λ c. both (Same m (i + 1)) (c == 34) _ _ _ _ (still m (i + 1) (over (closed (i + 1))) (λ s. omega arith))
       (both (Same m (i + 1)) (c == 92) _ _ _ _
-      (earlier m (i + 1) (i + 1 + 1) _ _ (omega arith) (escaped-same (i + 1))) (plain-same m i c)))
+      (earlier m (i + 1) (i + 1 + 1) _ _ (omega arith) (behind_backslash-same (i + 1))) (plain-same m i c)))
 
   -- bodies
   abbrev Ends : Body → Body → Type 0
@@ -205,34 +205,34 @@ module _ (t u : List ℕ) (m : ℕ) (same : SameBefore t u m) where
   abbrev SameBody : ℕ → Body → Type 0
   SameBody i b = ShownStop m b.stop → (i < m) × Ends b (body_at u i)
 
-  joined-ends : (bytes : List ℕ) (owned : Bool) (b d : Body) → Ends b d
+  join-ends : (bytes : List ℕ) (owned : Bool) (b d : Body) → Ends b d
       → Ends (before bytes owned b) (before bytes owned d)
-  joined-ends bytes owned b d (inl e) = inl (ap (before bytes owned) e)
-  joined-ends bytes owned b d (inr h) = inr h
+  join-ends bytes owned b d (inl e) = inl (ap (before bytes owned) e)
+  join-ends bytes owned b d (inr h) = inr h
 
-  -- where what is found is over, so is the body
-  over-ends : (i : ℕ) (s : Stop) → Finds (over s) (found_at u i) → Ends (joined (body_at t) (over s)) (body_at u i)
-  over-ends i s (inl e) = inl (body_at-found u i (over s) e)
-  over-ends i s (inr h) = inr (h.0, ap (λ (b : Body). b.stop) (body_at-found u i (over cut) h.1))
+  -- where what is place_by is over, so is the body
+  over-ends : (i : ℕ) (s : Stop) → Finds (over s) (place_at u i) → Ends (join (body_at t) (over s)) (body_at u i)
+  over-ends i s (inl e) = inl (body_at-place_by u i (over s) e)
+  over-ends i s (inr h) = inr (h.0, ap (λ (b : Body). b.stop) (body_at-place_by u i (over cut) h.1))
 
-  body-joined : (n i : ℕ) → ((j : ℕ) → length t ≤ n + j → SameBody j (body_at t j)) → length t ≤ suc n + i
-      → (f : Found) → Explains t i f → Same m (i + 1) f (found_at u i) → SameBody i (joined (body_at t) f)
-  body-joined n i go le (over s) x h shown = let r = h shown in (omega (arith, r.0), over-ends i s r.1)
-  body-joined n i go le (part bytes owned j) x h shown =
+  body-join : (n i : ℕ) → ((j : ℕ) → length t ≤ n + j → SameBody j (body_at t j)) → length t ≤ suc n + i
+      → (f : Place) → Explains t i f → Same m (i + 1) f (place_at u i) → SameBody i (join (body_at t) f)
+  body-join n i go le (over s) x h shown = let r = h shown in (omega (arith, r.0), over-ends i s r.1)
+  body-join n i go le (part bytes owned j) x h shown =
       let ahead = part-ahead t i j bytes owned x in
       let rest = go j (omega arith) shown in
       let here = h rest.0 in
-      let is = body_at-found u i (part bytes owned j) here.1 in
-      let ends = joined-ends bytes owned (body_at t j) (body_at u j) rest.1 in
+      let is = body_at-place_by u i (part bytes owned j) here.1 in
+      let ends = join-ends bytes owned (body_at t j) (body_at u j) rest.1 in
       (omega (arith, here.0), subst (Ends (before bytes owned (body_at t j))) (sym is) ends)
 
   body-within : (n i : ℕ) → length t ≤ n + i → SameBody i (body_at t i)
   body-within zero i le =
-      let over_at = body_at-found t i (over unclosed) (found-end t i (omega arith)) in
+      let over_at = body_at-place_by t i (over unclosed) (place_by-end t i (omega arith)) in
       subst (SameBody i) (sym over_at) (λ shown. absurd shown)
   body-within (suc n) i le =
       subst (SameBody i) (sym (body_at-is t i))
-      (body-joined n i (body-within n) le (found_at t i) (explained t i) (found-same i))
+      (body-join n i (body-within n) le (place_at t i) (place_at-explains t i) (place_by-same i))
 
   body-same : (i : ℕ) → SameBody i (body_at t i)
   body-same i = body-within (length t) i (omega arith)
@@ -252,15 +252,15 @@ abbrev pub SameScalar : {A : Type 0} → List ℕ → ℕ → ℕ → Scanned A 
 SameScalar t m i x y = Shown t m x → (i < m) × SameOrFault x y
 
 module _ (t u : List ℕ) (m : ℕ) (same : SameBefore t u m) where
-  ended-cut : (i : ℕ) (b : Body) → b.stop ≡ cut → IsRefused (ended whole u i b.bytes b.owned b.stop)
-  ended-cut i b e = subst (λ s. IsRefused (ended whole u i b.bytes b.owned s)) (sym e) tt
+  text_in_form-cut : (i : ℕ) (b : Body) → b.stop ≡ cut → IsRefused (text_in_form whole u i b.bytes b.owned b.stop)
+  text_in_form-cut i b e = subst (λ s. IsRefused (text_in_form whole u i b.bytes b.owned s)) (sym e) tt
 
   wrong-ends : (i : ℕ) (b d : Body) → IsWrong b.stop → Ends t u m same b d
-      → IsRefused (ended whole u i d.bytes d.owned d.stop)
-  wrong-ends i b d w (inr h) = ended-cut i d h.1
-  wrong-ends i b d w (inl e) = subst (λ (d : Body). IsRefused (ended whole u i d.bytes d.owned d.stop)) (sym e)
+      → IsRefused (text_in_form whole u i d.bytes d.owned d.stop)
+  wrong-ends i b d w (inr h) = text_in_form-cut i d h.1
+  wrong-ends i b d w (inl e) = subst (λ (d : Body). IsRefused (text_in_form whole u i d.bytes d.owned d.stop)) (sym e)
       (by b.stop w) where
-        by : (s : Stop) → IsWrong s → IsRefused (ended whole u i b.bytes b.owned s)
+        by : (s : Stop) → IsWrong s → IsRefused (text_in_form whole u i b.bytes b.owned s)
         by (closed e) w = absurd w
         by unclosed w = absurd w
         by cut w = absurd w
@@ -275,7 +275,7 @@ module _ (t u : List ℕ) (m : ℕ) (same : SameBefore t u m) where
   -- what is shown of a string with this body
   body-shown : (i : ℕ) (b : Body) (s : Stop) → b.stop ≡ s
       → (ShownStop m s → (i < m) × Ends t u m same b (body_at u i))
-      → SameScalar t m i (ended whole t i b.bytes b.owned s) (content_at whole u i)
+      → SameScalar t m i (text_in_form whole t i b.bytes b.owned s) (content_at whole u i)
   unfolding content_at
   body-shown i b unclosed e ends shown = absurd (true≢false shown.1.0)
   body-shown i b cut e ends shown = absurd (true≢false shown.1.0)
@@ -286,7 +286,7 @@ module _ (t u : List ℕ) (m : ℕ) (same : SameBefore t u m) where
     again : Ends t u m same b (body_at u i)
         → content_at whole u i ≡ if_valid i b e (utf8_valid_len b.bytes == length b.bytes)
     again (inl h) =
-        ap (λ (d : Body). ended whole u i d.bytes d.owned d.stop) h ∙ ap (ended whole u i b.bytes b.owned) is
+        ap (λ (d : Body). text_in_form whole u i d.bytes d.owned d.stop) h ∙ ap (text_in_form whole u i b.bytes b.owned) is
     again (inr h) = absurd (subst IsWrong is h.0)
 
     by : (valid : Bool) → (utf8_valid_len b.bytes == length b.bytes) ≡ valid

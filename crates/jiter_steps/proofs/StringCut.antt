@@ -10,14 +10,14 @@ use Rattle.jiter_steps.specs.Escape.{is_high}
 use Rattle.jiter_scan.specs.Stands.{Stands}
 use Rattle.jiter_steps.specs.Piece.{IsPlain, IsEscape, IsPiece, Piece, SpellsChar, SpellsPieces, SpellsString, characters, text_of, pieces_to}
 use Rattle.jiter_scan.specs.Scanned.{taken, failed}
-use Rattle.jiter_steps.specs.StringReading.{Stop, unclosed, cut, over, few, hex_digits_or, bad_digit, unit_at, hex_digits_at, behind, paired, second_u, second, single, numbered, escaped, found_at, Body, before, body_at, kept, shortened, as_kept, ended, content_at, string_at, whole, raw}
+use Rattle.jiter_steps.specs.StringReading.{Stop, unclosed, cut, over, few, hex_digits_or, bad_digit, unit_at, hex_digits_at, behind, surrogate_pair, behind_high_backslash, behind_high, single, unicode_escape, behind_backslash, place_at, Body, before, body_at, kept, valid_front_by, valid_front, text_in_form, content_at, string_at, whole, raw}
 use Rattle.jiter_steps.proofs.Utf8Shape.{lead}
 use Rattle.jiter_scan.proofs.Choices.{if-true, if-false}
 use Rattle.jiter_scan.proofs.Standing.{stands-split}
 use Rattle.jiter_steps.proofs.Front.{front-length, front-get, front-stands}
 use Rattle.jiter_steps.proofs.StringStand.{pieces-ahead}
-use Rattle.jiter_steps.proofs.Bodies.{body_at-found, found-end}
-use Rattle.jiter_steps.proofs.StringComplete.{ArePrinted, plain-printed, bytes-read, char-read, found-backslash, found-number, UnitAt, unit-at}
+use Rattle.jiter_steps.proofs.Bodies.{body_at-place_by, place_by-end}
+use Rattle.jiter_steps.proofs.StringComplete.{ArePrinted, plain-printed, bytes-read, char-read, place_by-backslash, place_by-number, UnitAt, unit-at}
 use Rattle.jiter_scan.specs.Kind.{eof_string}
 use Rattle.jiter_steps.proofs.Tails.{IsFront, tail-unfinished, tail-taken}
 
@@ -53,7 +53,7 @@ module _ (t : List ℕ) (k : ℕ) (within : k ≤ length t) where
 
   ends-here : (i : ℕ) → k ≤ i → EndsAt i
   ends-here i h =
-      let b = body_at-found u i (over unclosed) (found-end u i (omega (arith, long))) in
+      let b = body_at-place_by u i (over unclosed) (place_by-end u i (omega (arith, long))) in
       record {
         rest = [];
         front = any-front;
@@ -61,9 +61,9 @@ module _ (t : List ℕ) (k : ℕ) (within : k ≤ length t) where
         stop = inl (ap (λ (x : Body). x.stop) b);
       }
 
-  ends-cut : (i : ℕ) → found_at u i ≡ over cut → EndsAt i
+  ends-cut : (i : ℕ) → place_at u i ≡ over cut → EndsAt i
   ends-cut i e =
-      let b = body_at-found u i (over cut) e in
+      let b = body_at-place_by u i (over cut) e in
       record {
         rest = [];
         front = any-front;
@@ -91,7 +91,7 @@ module _ (t : List ℕ) (k : ℕ) (within : k ≤ length t) where
       let r = front-split i j (encode_utf8 c) (subst (Stands t i j) is.is s) l m in
       let all = plain-printed c is.printed is.no_quote is.no_backslash (lead c is.scalar) in
       let b = bytes-read u i k r.0 (printed-front r.0 r.1 (subst ArePrinted r.2 all)) r.3 in
-      let e = body_at-found u k (over unclosed) (found-end u k (omega (arith, long))) in
+      let e = body_at-place_by u k (over unclosed) (place_by-end u k (omega (arith, long))) in
       let both = b ∙ ap (before r.0 false) e in
       record {
         rest = r.0;
@@ -106,17 +106,17 @@ module _ (t : List ℕ) (k : ℕ) (within : k ≤ length t) where
       (lt-ltb (length u) (x + 4) (omega (arith, long)))
 
   -- an escape's front
-  unit-ends : (i e n : ℕ) → UnitAt t i e n → i < k → k < i + 6 → found_at u i ≡ over cut
-  unit-ends i e n x l m = found-backslash u i (same i 92 l x.slash) ∙ elim (cases_lt (i + 1) k) [
-    | inl lt ↦ ap (escaped u (i + 1)) (same (i + 1) 117 lt x.letter)
-        ∙ ap (behind (numbered u (i + 1 + 1 + 4))) (digits-few (i + 1 + 1) (omega arith))
-    | inr ge ↦ ap (escaped u (i + 1)) (slice_get_past u (i + 1) (omega (arith, long)))
+  unit-ends : (i e n : ℕ) → UnitAt t i e n → i < k → k < i + 6 → place_at u i ≡ over cut
+  unit-ends i e n x l m = place_by-backslash u i (same i 92 l x.slash) ∙ elim (cases_lt (i + 1) k) [
+    | inl lt ↦ ap (behind_backslash u (i + 1)) (same (i + 1) 117 lt x.letter)
+        ∙ ap (behind (unicode_escape u (i + 1 + 1 + 4))) (digits-few (i + 1 + 1) (omega arith))
+    | inr ge ↦ ap (behind_backslash u (i + 1)) (slice_get_past u (i + 1) (omega (arith, long)))
   ]
 
-  escape-ends : (i j c : ℕ) (p : List ℕ) → IsEscape p c → Stands t i j p → i < k → k < j → found_at u i ≡ over cut
+  escape-ends : (i j c : ℕ) (p : List ℕ) → IsEscape p c → Stands t i j p → i < k → k < j → place_at u i ≡ over cut
   escape-ends i j c p (inl is) s l m =
       let h : Stands t i j (92 ∷ is.sign ∷ []) = subst (Stands t i j) is.is s in
-      found-backslash u i (same i 92 l h.0) ∙ ap (escaped u (i + 1))
+      place_by-backslash u i (same i 92 l h.0) ∙ ap (behind_backslash u (i + 1))
       (slice_get_past u (i + 1) (omega (arith, long, h.1.1)))
   escape-ends i j c p (inr (inl is)) s l m =
       let x = unit-at t i j c p is.0 s in
@@ -131,18 +131,18 @@ module _ (t : List ℕ) (k : ℕ) (within : k ≤ length t) where
         | inl lt ↦ unit-ends i h.0 is.high x l (omega arith)
         | inr ge ↦
             let first = front-stands t k within i h.0 is.front h.1 (omega (arith, at)) in
-            found-number u i h.0 is.high (unit-at u i h.0 is.high is.front is.first first)
-            ∙ if-true (is_high is.high) (second u is.high o (slice_get u o)) (single o is.high) is.is_high
-            ∙ second-ends o j is.high is.low y ge (omega (arith, y.ends))
+            place_by-number u i h.0 is.high (unit-at u i h.0 is.high is.front is.first first)
+            ∙ if-true (is_high is.high) (behind_high u is.high o (slice_get u o)) (single o is.high) is.is_high
+            ∙ behind_high-ends o j is.high is.low y ge (omega (arith, y.ends))
       ] where
-        second-ends : (o j high low : ℕ) → UnitAt t o j low → o ≤ k → k < o + 6
-            → second u high o (slice_get u o) ≡ over cut
-        second-ends o j high low y ge m = elim (cases_lt o k) [
-          | inr none ↦ ap (second u high o) (slice_get_past u o (omega (arith, long)))
-          | inl some ↦ ap (second u high o) (same o 92 some y.slash) ∙ elim (cases_lt (o + 1) k) [
-            | inr none ↦ ap (second_u u high (o + 1)) (slice_get_past u (o + 1) (omega (arith, long)))
-            | inl more ↦ ap (second_u u high (o + 1)) (same (o + 1) 117 more y.letter)
-                ∙ ap (behind (paired high (o + 1 + 1 + 4))) (digits-few (o + 1 + 1) (omega arith))
+        behind_high-ends : (o j high low : ℕ) → UnitAt t o j low → o ≤ k → k < o + 6
+            → behind_high u high o (slice_get u o) ≡ over cut
+        behind_high-ends o j high low y ge m = elim (cases_lt o k) [
+          | inr none ↦ ap (behind_high u high o) (slice_get_past u o (omega (arith, long)))
+          | inl some ↦ ap (behind_high u high o) (same o 92 some y.slash) ∙ elim (cases_lt (o + 1) k) [
+            | inr none ↦ ap (behind_high_backslash u high (o + 1)) (slice_get_past u (o + 1) (omega (arith, long)))
+            | inl more ↦ ap (behind_high_backslash u high (o + 1)) (same (o + 1) 117 more y.letter)
+                ∙ ap (behind (surrogate_pair high (o + 1 + 1 + 4))) (digits-few (o + 1 + 1) (omega arith))
           ]
         ]
 
@@ -205,22 +205,24 @@ module _ (t : List ℕ) (k : ℕ) (within : k ≤ length t) where
       let b = body_at u (i + 1) in
       let text = text_of (pieces_to k ps) in
       let utf8 : IsUtf8 text = (characters (pieces_to k ps), (c.scalars, refl)) in
-      let kept_so : as_kept (i + 1) b.owned b.bytes (length u) ≡ taken (record { owned = b.owned; bytes = text }) k =
-      ap (λ l. as_kept (i + 1) b.owned l (length u)) c.bytes
-      ∙ ap (shortened (i + 1) b.owned (text ++ c.rest) (length u)) (tail-unfinished text c.rest utf8 c.front)
+      let kept_so : valid_front (i + 1) b.owned b.bytes (length u)
+      ≡ taken (record { owned = b.owned; bytes = text }) k =
+      ap (λ l. valid_front (i + 1) b.owned l (length u)) c.bytes
+      ∙ ap (valid_front_by (i + 1) b.owned (text ++ c.rest) (length u)) (tail-unfinished text c.rest utf8 c.front)
       ∙ ap₂ (λ (l : List ℕ) (n : ℕ). taken (record { owned = b.owned; bytes = l }) n)
       (tail-taken text c.rest utf8 c.front) long in (
         b.owned,
         elim c.stop [
-          | inl x ↦ ap (ended kept u (i + 1) b.bytes b.owned) x ∙ kept_so
-          | inr x ↦ ap (ended kept u (i + 1) b.bytes b.owned) x ∙ kept_so
+          | inl x ↦ ap (text_in_form kept u (i + 1) b.bytes b.owned) x ∙ kept_so
+          | inr x ↦ ap (text_in_form kept u (i + 1) b.bytes b.owned) x ∙ kept_so
         ],
       )
 
   open-whole : (bs : List ℕ) (o : Bool) (s : Stop) → (s ≡ unclosed) ⊎ (s ≡ cut) → (i : ℕ)
-      → (ended whole u i bs o s ≡ failed eof_string (length u)) × (ended raw u i bs o s ≡ failed eof_string (length u))
-  open-whole bs o s (inl h) i = (ap (ended whole u i bs o) h, ap (ended raw u i bs o) h)
-  open-whole bs o s (inr h) i = (ap (ended whole u i bs o) h, ap (ended raw u i bs o) h)
+      → (text_in_form whole u i bs o s ≡ failed eof_string (length u))
+      × (text_in_form raw u i bs o s ≡ failed eof_string (length u))
+  open-whole bs o s (inl h) i = (ap (text_in_form whole u i bs o) h, ap (text_in_form raw u i bs o) h)
+  open-whole bs o s (inr h) i = (ap (text_in_form whole u i bs o) h, ap (text_in_form raw u i bs o) h)
 
   -- and where it isn't kept, the end of input is the fault
   pub whole-cut : (i e : ℕ) (ps : List Piece) → SpellsString t i ps e → i < k → k < e

@@ -11,7 +11,7 @@ use Rattle.jiter_scan.proofs.Scanning.{ScalarWithin}
 use Rattle.jiter_steps.specs.Tree.{Text}
 use Rattle.jiter_steps.specs.Piece.{Piece, SpellsString, text_of, pieces_to}
 use Rattle.jiter_steps.specs.Node.{has_backslash, text_at}
-use Rattle.jiter_steps.specs.StringReading.{Stop, closed, unclosed, cut, wrong, body_at, whole, kept, raw, shortened, ended, content_at, string_at}
+use Rattle.jiter_steps.specs.StringReading.{Stop, closed, unclosed, cut, wrong, body_at, whole, kept, raw, valid_front_by, text_in_form, content_at, string_at}
 use Rattle.jiter_steps.proofs.StringMarks.{EndOf, mark-is}
 use Rattle.jiter_steps.proofs.StringCut.{same, string-still, kept-cut, whole-cut}
 use Rattle.jiter_steps.proofs.StringLaws.{string_at-within, string_at-complete, string-ordered, kept-whole}
@@ -27,19 +27,20 @@ pub has_backslash-take : (t : List ℕ) (k i e : ℕ) → i ≤ k → e ≤ k �
 has_backslash-take t k i e l m = ap (list_any (λ c. c == 92)) (slice_range-take t k i e l m)
 
 module _ (t : List ℕ) (i : ℕ) where
-  shortened-text : (bs : List ℕ) (o : Bool) (f : ℕ) (r : Option ℕ) (x : Text) (e : ℕ)
-      → shortened (i + 1) o bs f r ≡ taken x e → (x.owned ≡ o) × (f ≡ e)
-  shortened-text bs o f None x e h =
+  valid_front_by-text : (bs : List ℕ) (o : Bool) (f : ℕ) (r : Option ℕ) (x : Text) (e : ℕ)
+      → valid_front_by (i + 1) o bs f r ≡ taken x e → (x.owned ≡ o) × (f ≡ e)
+  valid_front_by-text bs o f None x e h =
       let text : record { owned = o; bytes = take (utf8_valid_len bs) bs } ≡ x = cc in
       (sym (ap (λ (y : Text). y.owned) text), cc)
-  shortened-text bs o f (Some n) x e h = absurd (cc)
+  valid_front_by-text bs o f (Some n) x e h = absurd (cc)
 
-  kept-text : (bs : List ℕ) (o : Bool) (s : Stop) (x : Text) (e : ℕ) → ended kept t (i + 1) bs o s ≡ taken x e
+  kept-text : (bs : List ℕ) (o : Bool) (s : Stop) (x : Text) (e : ℕ) → text_in_form kept t (i + 1) bs o s ≡ taken x e
       → (x.owned ≡ o) × EndOf t s e
   kept-text bs o (wrong k j) x e h = absurd (cc)
-  kept-text bs o (closed f) x e h = shortened-text bs o f (utf8_error_len (drop (utf8_valid_len bs) bs)) x e h
-  kept-text bs o unclosed x e h = shortened-text bs o (length t) (utf8_error_len (drop (utf8_valid_len bs) bs)) x e h
-  kept-text bs o cut x e h = shortened-text bs o (length t) (utf8_error_len (drop (utf8_valid_len bs) bs)) x e h
+  kept-text bs o (closed f) x e h = valid_front_by-text bs o f (utf8_error_len (drop (utf8_valid_len bs) bs)) x e h
+  kept-text bs o unclosed x e h =
+      valid_front_by-text bs o (length t) (utf8_error_len (drop (utf8_valid_len bs) bs)) x e h
+  kept-text bs o cut x e h = valid_front_by-text bs o (length t) (utf8_error_len (drop (utf8_valid_len bs) bs)) x e h
 
   -- the mark of a text that is kept
   pub kept-mark : (x : Text) (e : ℕ) → slice_get t i ≡ Some 34 → string_at kept t i ≡ taken x e

@@ -1,17 +1,19 @@
 -- Blanks (RFC 8259, 2).
-use Rattle.std.specs.Prelude.{◌≡◌, ◌⊎◌, ℕ, ◌+◌, ◌≤◌, ◌<◌, ◌==◌, ◌||◌, Bool, List, length, drop, slice_index}
-use Rattle.std.specs.List.{prefix_len}
+use Rattle.std.specs.Prelude.{◌≡◌, ◌⊎◌, ℕ, ◌≤◌, ◌<◌, ◌==◌, ◌||◌, Bool, List, length, slice_index}
+use Rattle.jiter_scan.specs.Ascii as ascii
+use Rattle.jiter_scan.specs.Scan.{run_end}
 
 -- space, tab, line feed, carriage return
 abbrev pub is_blank : ℕ → Bool
-is_blank b = (b == 32) || (b == 9) || (b == 10) || (b == 13)
+is_blank b = (b == ascii.space) || (b == ascii.tab) || (b == ascii.line_feed) || (b == ascii.carriage_return)
 
 -- the first place from i on that has no blank, or the length
 unfoldable pub past_blanks : List ℕ → ℕ → ℕ
-past_blanks t i = i + prefix_len is_blank (drop i t)
+past_blanks t i = run_end is_blank t i
 
+-- the same, as a statement
 abbrev pub IsBlankByte : ℕ → Type 0
-IsBlankByte c = (c ≡ 32) ⊎ ((c ≡ 9) ⊎ ((c ≡ 10) ⊎ (c ≡ 13)))
+IsBlankByte c = (c ≡ ascii.space) ⊎ ((c ≡ ascii.tab) ⊎ ((c ≡ ascii.line_feed) ⊎ (c ≡ ascii.carriage_return)))
 
 -- every byte from i to before j is a blank
 pub record IsBlank (t : List ℕ) (i j : ℕ) : Type 0 where

@@ -1,6 +1,6 @@
 -- What is left of a document when its text ends before the place k. It speaks of a finished derivation, and not of
 -- reading.
-use Rattle.std.specs.Prelude.{ℕ, Bool, Option, Some, None, List, nat_le, min, if◌then◌else◌, slice_range}
+use Rattle.std.specs.Prelude.{◌≡◌, ◌<◌, ◌≤◌, length, take, ℕ, Bool, Option, Some, None, List, nat_le, min, if◌then◌else◌, slice_range}
 use Rattle.jiter_scan.specs.Number.{number_value}
 use Rattle.jiter_scan.specs.NumberReading.{is_number_text}
 use Rattle.jiter_scan.specs.PartialMode.{allows_trailing_strings}
@@ -9,7 +9,7 @@ use Rattle.jiter_steps.specs.Literal.{literal_tree}
 use Rattle.jiter_steps.specs.Piece.{Piece, pieces_to}
 use Rattle.jiter_steps.specs.Tree.{Text, Tree, Items, Members}
 use Rattle.jiter_steps.specs.Tree as tree
-use Rattle.jiter_steps.specs.Node.{Node, Nodes, no_nodes, node, NodeMembers, no_members, member, text_at, number_tree}
+use Rattle.jiter_steps.specs.Node.{Node, Nodes, no_nodes, node, NodeMembers, no_members, member, begin, text_at, number_tree, IsContainer, IsDocument}
 use Rattle.jiter_steps.specs.Node as grammar
 
 -- these bytes of a number, where they are a number still
@@ -51,3 +51,14 @@ abbrev mutual
   cut_members names t no_members k mode = tree.no_members
   cut_members names t (member key n ms) k mode =
       with_member (text_at t key.pieces key.begin key.end) (cut names t n k mode) (cut_members names t ms k mode)
+
+-- a front of a document that is an array or an object, which ends before a place behind the first bracket
+pub record IsBegunContainer (names : Bool) (front : List ℕ) : Type 0 where
+  pub text : List ℕ
+  pub node : Node
+  pub place : ℕ
+  pub document : IsDocument names text node
+  pub container : IsContainer node
+  pub begun : begin node < place
+  pub within : place ≤ length text
+  pub is : front ≡ take place text

@@ -5,9 +5,13 @@ pub mod Step
 pub mod Escape
 pub mod Piece
 pub mod StringReading
+pub mod StringDecoder
 pub mod Read
+pub mod ReadError
+pub mod Parse
 pub mod Node
 pub mod Cut
 pub mod Answer
 pub mod Extends
+pub mod Frames
 pub mod FirstFault

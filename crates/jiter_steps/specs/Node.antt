@@ -1,6 +1,7 @@
 -- The grammar of a whole document (RFC 8259, 2 to 5): a text and the nodes that it spells.
 use Rattle.std.specs.Prelude.{◌≡◌, ℕ, suc, ◌+◌, ◌≤◌, ◌<◌, take, ◌==◌, max, Bool, false, List, length, slice_get, slice_range, Some}
 use Rattle.std.specs.List.{list_any}
+use Rattle.jiter_scan.specs.Ascii as ascii
 use Rattle.jiter_scan.specs.Stands.{Stands}
 use Rattle.jiter_scan.specs.Number.{Number, integer, big, float, IsNumberText, number_value}
 use Rattle.jiter_steps.specs.Blank.{IsBlank}
@@ -64,7 +65,7 @@ pub record SpellsNumber (names : Bool) (t : List ℕ) (b e : ℕ) : Type 0 where
 pub record SpellsKey (t : List ℕ) (k : Key) (j : ℕ) : Type 0 where
   pub string : SpellsString t k.begin k.pieces k.end
   pub colon : ℕ
-  pub behind : StandsBehind t k.end 58 colon
+  pub behind : StandsBehind t k.end ascii.colon colon
   pub blanks : IsBlank t colon j
 
 -- The text spells the node. A number may be a name only where names are allowed.
@@ -73,28 +74,28 @@ abbrev mutual
   Spells names t (literal l b e) = Stands t b e (word_of l)
   Spells names t (number b e) = SpellsNumber names t b e
   Spells names t (string ps b e) = SpellsString t b ps e
-  Spells names t (array b e ns) = (slice_get t b ≡ Some 91) × SpellsItems names t (b + 1) ns e
-  Spells names t (object b e ms) = (slice_get t b ≡ Some 123) × SpellsMembers names t (b + 1) ms e
+  Spells names t (array b e ns) = (slice_get t b ≡ Some ascii.left_bracket) × SpellsItems names t (b + 1) ns e
+  Spells names t (object b e ms) = (slice_get t b ≡ Some ascii.left_brace) × SpellsMembers names t (b + 1) ms e
 
   -- the items and `]`, behind `[`
   pub SpellsItems : Bool → List ℕ → ℕ → Nodes → ℕ → Type 0
-  SpellsItems names t i no_nodes e = StandsBehind t i 93 e
+  SpellsItems names t i no_nodes e = StandsBehind t i ascii.right_bracket e
   SpellsItems names t i (node n ns) e = IsBlank t i (begin n) × Spells names t n × SpellsMoreItems names t (end n) ns e
 
   -- commas and further items, and `]`, behind an item
   pub SpellsMoreItems : Bool → List ℕ → ℕ → Nodes → ℕ → Type 0
-  SpellsMoreItems names t i no_nodes e = StandsBehind t i 93 e
-  SpellsMoreItems names t i (node n ns) e = (c : ℕ) × StandsBehind t i 44 c × IsBlank t c (begin n) × Spells names t n × SpellsMoreItems names t (end n) ns e
+  SpellsMoreItems names t i no_nodes e = StandsBehind t i ascii.right_bracket e
+  SpellsMoreItems names t i (node n ns) e = (c : ℕ) × StandsBehind t i ascii.comma c × IsBlank t c (begin n) × Spells names t n × SpellsMoreItems names t (end n) ns e
 
   -- the members and `}`, behind `{`
   pub SpellsMembers : Bool → List ℕ → ℕ → NodeMembers → ℕ → Type 0
-  SpellsMembers names t i no_members e = StandsBehind t i 125 e
+  SpellsMembers names t i no_members e = StandsBehind t i ascii.right_brace e
   SpellsMembers names t i (member k n ms) e = IsBlank t i k.begin × SpellsKey t k (begin n) × Spells names t n × SpellsMoreMembers names t (end n) ms e
 
   -- commas and further members, and `}`, behind a member
   pub SpellsMoreMembers : Bool → List ℕ → ℕ → NodeMembers → ℕ → Type 0
-  SpellsMoreMembers names t i no_members e = StandsBehind t i 125 e
-  SpellsMoreMembers names t i (member k n ms) e = (c : ℕ) × StandsBehind t i 44 c × IsBlank t c k.begin × SpellsKey t k (begin n) × Spells names t n × SpellsMoreMembers names t (end n) ms e
+  SpellsMoreMembers names t i no_members e = StandsBehind t i ascii.right_brace e
+  SpellsMoreMembers names t i (member k n ms) e = (c : ℕ) × StandsBehind t i ascii.comma c × IsBlank t c k.begin × SpellsKey t k (begin n) × Spells names t n × SpellsMoreMembers names t (end n) ms e
 
 -- how deep containers that are not empty stand one inside another
 abbrev mutual
@@ -124,7 +125,7 @@ abbrev mutual
 
 -- a backslash stands between the two places
 abbrev pub has_backslash : List ℕ → ℕ → ℕ → Bool
-has_backslash t i j = list_any (λ c. c == 92) (slice_range t i j)
+has_backslash t i j = list_any (λ c. c == ascii.backslash) (slice_range t i j)
 
 -- the text of these pieces, whose source lies between the two places: its bytes are the input's own where it has no backslash
 abbrev pub text_at : List ℕ → List Piece → ℕ → ℕ → Text

@@ -1,4 +1,7 @@
-//! Stub for laws.
+//! The parts of reading JSON that need no memory of their own: blanks, literals, strings and the steps
+//! between the parts of containers, by a reader that stands at a place.
 #![tactic(auto)]
 
 pub mod parse;
+pub mod read_error;
+pub mod string_decoder;

@@ -1,4 +1,25 @@
-//! Stub.
+//! A reader that stands at a place of the bytes: blanks, literals, numbers, strings, and the steps between
+//! the parts of arrays and objects.
+ghost use Rattle.std.specs.Prelude.{◌≡◌, ◌+◌, ◌≤◌, ◌<◌, IfOk, OnOk, OnErr, IfSome, true, length, slice_get};
+ghost use Rattle.jiter_scan.specs.NumberReading.{number_at};
+ghost use Rattle.jiter_scan.specs.NumberDecoder.{number_view};
+ghost use Rattle.jiter_scan.specs.Scanned.{Scans, taken};
+ghost use Rattle.jiter_steps.specs.Blank.{is_blank, past_blanks};
+ghost use Rattle.jiter_steps.specs.Literal.{start_of, word_of, literal_at};
+ghost use Rattle.jiter_steps.specs.Step.{step, array_first, array_comma, array_step, object_first, object_comma, object_step, colon, value_first, object_colon, document_end};
+ghost use Rattle.jiter_steps.specs.Read.{scalar_at};
+ghost use Rattle.jiter_steps.specs.ReadError.{WhereRefused};
+ghost use Rattle.jiter_steps.specs.StringReading.{string_at, whole, kept};
+ghost use Rattle.jiter_steps.specs.StringDecoder.{text_view, WantsMemory};
+
+use crate::read_error::ReadError;
+use crate::string_decoder::{string_at, string_front_at};
+use jiter_scan::NumberAny;
+use jiter_scan::errors::{Fault, FaultKind};
+use jiter_scan::number_decoder::number_at;
+use jiter_scan::word::{byte_at, word_end};
+use std::alloc::Global;
+use std::borrow::CowStr;
 
 /// A literal name (RFC 8259, 3).
 #[derive(Clone, Copy, Debug, PartialEq, Eq)]
@@ -6,6 +27,18 @@ pub enum Literal {
     Null,
     True,
     False,
+}
+
+impl Literal {
+    fn word(self) -> &'static [u8]
+        ensures { result.now ≡ word_of self }
+    {
+        match self {
+            Literal::Null => b"null",
+            Literal::True => b"true",
+            Literal::False => b"false",
+        }
+    }
 }
 
 /// What a value's first byte says of it.
@@ -18,3 +51,382 @@ pub enum Start {
     Literal(Literal),
     Nothing,
 }
+
+/// What kind of value the byte begins.
+pub fn start_of(byte: u8) -> Start
+    ensures { result ≡ start_of byte }
+{
+    match byte {
+        b'[' => Start::Array,
+        b'{' => Start::Object,
+        b'"' => Start::String,
+        b'n' => Start::Literal(Literal::Null),
+        b't' => Start::Literal(Literal::True),
+        b'f' => Start::Literal(Literal::False),
+        b'0'..=b'9' | b'-' | b'N' | b'I' => Start::Number,
+        _ => Start::Nothing,
+    }
+}
+
+fn is_blank(byte: u8) -> bool
+    ensures { result ≡ is_blank byte }
+{
+    matches!(byte, b' ' | b'\t' | b'\n' | b'\r')
+}
+
+/// The first byte index from `from` on that has no blank, or the length (RFC 8259, 2).
+pub fn past_blanks(bytes: &[u8], from: usize) -> usize
+    requires { from ≤ length bytes.now }
+    ensures value { result ≡ past_blanks bytes.now from }
+    ensures bound { result ≤ length bytes.now }
+    ensures after { from ≤ result }
+{
+    let mut at = from;
+    while at < bytes.len() && is_blank(bytes[at]) {
+        at += 1;
+    }
+    at
+}
+
+/// The byte index behind the literal at `from` (RFC 8259, 3).
+pub fn literal_end(bytes: &[u8], from: usize, literal: Literal) -> Result<usize, Fault>
+    requires { from ≤ length bytes.now }
+    ensures value { Scans (taken tt) result (literal_at bytes.now literal from) }
+    ensures end { IfOk result (λ e. (from < e) × (e ≤ length bytes.now)) }
+{
+    word_end(bytes, from, literal.word())
+}
+
+/// The bytes, and the place in them where the reader stands.
+#[derive(Debug, Drop)]
+pub struct Parser<'j> {
+    /// The bytes that are read.
+    pub bytes: &'j [u8],
+    /// The byte index where the reader stands, from 0.
+    pub index: usize,
+    ghost within: { index ≤ length bytes.now },
+}
+
+impl<'j> Parser<'j> {
+    ghost use Rattle.jiter_steps.specs.Parse.{Moves, Steps, Leads, Reads, Gives};
+
+    /// A reader that stands before the first byte.
+    pub fn new(bytes: &'j [u8]) -> Self
+        ensures same { result.bytes ≡ bytes.entry }
+        ensures begin { result.index ≡ 0 }
+    {
+        Self { bytes, index: 0 }
+    }
+
+    // A fault where the reader stands.
+    #[cold]
+    fn fault(&self, kind: FaultKind) -> Fault
+        ensures { result ≡ record { kind = kind; index = self.now.index } }
+    {
+        Fault {
+            kind,
+            index: self.index,
+        }
+    }
+
+    // The byte behind the blanks, which the reader passes.
+    #[inline(always)]
+    fn next_byte(&mut self) -> Option<u8>
+        ensures moves { Moves self.old self.new }
+        ensures place { self.new.index ≡ past_blanks self.old.bytes.now self.old.index }
+        ensures value { result ≡ slice_get self.old.bytes.now self.new.index }
+        ensures inside { IfSome result (λ _. self.new.index < length self.old.bytes.now) }
+    {
+        self.index = past_blanks(self.bytes, self.index);
+        byte_at(self.bytes, self.index)
+    }
+
+    /// Whether an item begins where the reader then stands; else the array has ended behind its bracket,
+    /// where the reader stood (RFC 8259, 5).
+    #[inline(always)]
+    pub fn array_first(&mut self) -> Result<bool, Fault>
+        requires { self.old.index < length self.old.bytes.now }
+        ensures moves { Moves self.old self.new }
+        ensures value { Steps result self.new.index
+            (step self.old.bytes.now array_first (self.old.index + 1)) }
+        ensures ahead { self.old.index < self.new.index }
+        ensures inside { IfOk result (λ more. more ≡ true
+            → self.new.index < length self.old.bytes.now) }
+    {
+        self.index += 1;
+        match self.next_byte() {
+            None => Err(self.fault(FaultKind::EofWhileParsingList)),
+            Some(byte) => {
+                if byte == b']' {
+                    self.index += 1;
+                    Ok(false)
+                } else {
+                    Ok(true)
+                }
+            }
+        }
+    }
+
+    /// Whether another item begins where the reader then stands; else the array has ended. The reader stood
+    /// behind an item (RFC 8259, 5).
+    #[inline(always)]
+    pub fn array_step(&mut self) -> Result<bool, Fault>
+        ensures moves { Moves self.old self.new }
+        ensures value { Steps result self.new.index
+            (step self.old.bytes.now (array_step self.old.bytes.now) self.old.index) }
+        ensures inside { IfOk result (λ more. more ≡ true
+            → self.new.index < length self.old.bytes.now) }
+    {
+        match self.next_byte() {
+            None => Err(self.fault(FaultKind::EofWhileParsingList)),
+            Some(byte) => {
+                if byte == b']' {
+                    self.index += 1;
+                    Ok(false)
+                } else if byte == b',' {
+                    self.index += 1;
+                    self.array_comma()
+                } else {
+                    Err(self.fault(FaultKind::ExpectedListCommaOrEnd))
+                }
+            }
+        }
+    }
+
+    // Behind a comma of an array: an item.
+    #[inline(always)]
+    fn array_comma(&mut self) -> Result<bool, Fault>
+        ensures moves { Moves self.old self.new }
+        ensures value { Steps result self.new.index
+            (step self.old.bytes.now array_comma self.old.index) }
+        ensures inside { IfOk result (λ more. more ≡ true
+            → self.new.index < length self.old.bytes.now) }
+    {
+        match self.next_byte() {
+            None => Err(self.fault(FaultKind::EofWhileParsingValue)),
+            Some(byte) => {
+                if byte == b']' {
+                    Err(self.fault(FaultKind::TrailingComma))
+                } else {
+                    Ok(true)
+                }
+            }
+        }
+    }
+
+    /// Whether a key begins where the reader then stands; else the object has ended behind its bracket,
+    /// where the reader stood (RFC 8259, 4).
+    #[inline(always)]
+    pub fn object_first(&mut self) -> Result<bool, Fault>
+        requires { self.old.index < length self.old.bytes.now }
+        ensures moves { Moves self.old self.new }
+        ensures value { Steps result self.new.index
+            (step self.old.bytes.now object_first (self.old.index + 1)) }
+        ensures ahead { self.old.index < self.new.index }
+        ensures inside { IfOk result (λ more. more ≡ true
+            → self.new.index < length self.old.bytes.now) }
+    {
+        self.index += 1;
+        match self.next_byte() {
+            None => Err(self.fault(FaultKind::EofWhileParsingObject)),
+            Some(byte) => {
+                if byte == b'"' {
+                    Ok(true)
+                } else if byte == b'}' {
+                    self.index += 1;
+                    Ok(false)
+                } else {
+                    Err(self.fault(FaultKind::KeyMustBeAString))
+                }
+            }
+        }
+    }
+
+    /// Whether another key begins where the reader then stands; else the object has ended. The reader stood
+    /// behind a member (RFC 8259, 4).
+    #[inline(always)]
+    pub fn object_step(&mut self) -> Result<bool, Fault>
+        ensures moves { Moves self.old self.new }
+        ensures value { Steps result self.new.index
+            (step self.old.bytes.now (object_step self.old.bytes.now) self.old.index) }
+        ensures inside { IfOk result (λ more. more ≡ true
+            → self.new.index < length self.old.bytes.now) }
+    {
+        match self.next_byte() {
+            None => Err(self.fault(FaultKind::EofWhileParsingObject)),
+            Some(byte) => {
+                if byte == b'}' {
+                    self.index += 1;
+                    Ok(false)
+                } else if byte == b',' {
+                    self.index += 1;
+                    self.object_comma()
+                } else {
+                    Err(self.fault(FaultKind::ExpectedObjectCommaOrEnd))
+                }
+            }
+        }
+    }
+
+    // Behind a comma of an object: a key.
+    #[inline(always)]
+    fn object_comma(&mut self) -> Result<bool, Fault>
+        ensures moves { Moves self.old self.new }
+        ensures value { Steps result self.new.index
+            (step self.old.bytes.now object_comma self.old.index) }
+        ensures inside { IfOk result (λ more. more ≡ true
+            → self.new.index < length self.old.bytes.now) }
+    {
+        match self.next_byte() {
+            None => Err(self.fault(FaultKind::EofWhileParsingValue)),
+            Some(byte) => {
+                if byte == b'"' {
+                    Ok(true)
+                } else if byte == b'}' {
+                    Err(self.fault(FaultKind::TrailingComma))
+                } else {
+                    Err(self.fault(FaultKind::KeyMustBeAString))
+                }
+            }
+        }
+    }
+
+    /// From behind a key to the place where its value begins (RFC 8259, 4).
+    #[inline(always)]
+    pub fn object_colon(&mut self) -> Result<(), Fault>
+        ensures moves { Moves self.old self.new }
+        ensures value { Leads result self.new.index
+            (object_colon self.old.bytes.now self.old.index) }
+        ensures inside { OnOk result (self.new.index < length self.old.bytes.now) }
+    {
+        match self.colon() {
+            Ok(()) => self.value_first(),
+            Err(fault) => Err(fault),
+        }
+    }
+
+    // Behind a key: its colon.
+    #[inline(always)]
+    fn colon(&mut self) -> Result<(), Fault>
+        ensures moves { Moves self.old self.new }
+        ensures value { Leads result self.new.index
+            (step self.old.bytes.now colon self.old.index) }
+    {
+        match self.next_byte() {
+            None => Err(self.fault(FaultKind::EofWhileParsingObject)),
+            Some(byte) => {
+                if byte == b':' {
+                    self.index += 1;
+                    Ok(())
+                } else {
+                    Err(self.fault(FaultKind::ExpectedColon))
+                }
+            }
+        }
+    }
+
+    /// To the first byte of a value, past blanks.
+    #[inline(always)]
+    pub fn value_first(&mut self) -> Result<(), Fault>
+        ensures moves { Moves self.old self.new }
+        ensures value { Leads result self.new.index
+            (step self.old.bytes.now value_first self.old.index) }
+        ensures inside { OnOk result (self.new.index < length self.old.bytes.now) }
+    {
+        match self.next_byte() {
+            None => Err(self.fault(FaultKind::EofWhileParsingValue)),
+            Some(_) => Ok(()),
+        }
+    }
+
+    /// To the end of the input, past blanks.
+    pub fn finish(&mut self) -> Result<(), Fault>
+        ensures moves { Moves self.old self.new }
+        ensures value { Leads result self.new.index
+            (step self.old.bytes.now document_end self.old.index) }
+    {
+        match self.next_byte() {
+            None => Ok(()),
+            Some(_) => Err(self.fault(FaultKind::TrailingCharacters)),
+        }
+    }
+
+    /// The literal where the reader stands; a fault leaves it there (RFC 8259, 3).
+    #[inline(always)]
+    pub fn literal(&mut self, literal: Literal) -> Result<(), Fault>
+        ensures moves { Moves self.old self.new }
+        ensures value { Reads (λ u. u) result self.new.index
+            (scalar_at self.old.index (literal_at self.old.bytes.now literal self.old.index)) }
+        ensures ahead { OnOk result (self.old.index < self.new.index) }
+    {
+        match literal_end(self.bytes, self.index, literal) {
+            Ok(end) => {
+                self.index = end;
+                Ok(())
+            }
+            Err(fault) => Err(fault),
+        }
+    }
+
+    /// The number where the reader stands; a fault leaves it there (RFC 8259, 6).
+    #[inline(always)]
+    pub fn number(&mut self, allow_inf_nan: bool) -> Result<NumberAny<'j>, Fault>
+        requires { self.old.index < length self.old.bytes.now }
+        ensures moves { Moves self.old self.new }
+        ensures value { Reads number_view result self.new.index
+            (scalar_at self.old.index (number_at allow_inf_nan self.old.bytes.now self.old.index)) }
+        ensures ahead { OnOk result (self.old.index < self.new.index) }
+    {
+        match number_at(self.bytes, self.index, allow_inf_nan) {
+            Ok((number, end)) => {
+                self.index = end;
+                Ok(number)
+            }
+            Err(fault) => Err(fault),
+        }
+    }
+
+    /// The text of the string whose opening quote is where the reader stands; a refusal leaves it there
+    /// (RFC 8259, 7 and 8.1).
+    #[inline(always)]
+    pub fn string(&mut self, alloc: Global, tape: &mut Vec<u8>) -> Result<CowStr<'j>, ReadError>
+        requires { self.old.index < length self.old.bytes.now }
+        ensures moves { Moves self.old self.new }
+        ensures value { Gives text_view result self.new.index
+            (scalar_at self.old.index (string_at whole self.old.bytes.now self.old.index)) }
+        ensures ahead { OnOk result (self.old.index < self.new.index) }
+        ensures place { OnErr result (self.new.index ≡ self.old.index) }
+        ensures memory { WhereRefused result (WantsMemory self.old.bytes.now self.old.index) }
+    {
+        match string_at(alloc, tape, self.bytes, self.index) {
+            Ok((text, end)) => {
+                self.index = end;
+                Ok(text)
+            }
+            Err(error) => Err(error),
+        }
+    }
+
+    /// The same of a string that the end of the input may cut: as far as its whole characters go.
+    #[inline(always)]
+    pub fn string_front(&mut self, alloc: Global, tape: &mut Vec<u8>) -> Result<CowStr<'j>, ReadError>
+        requires { self.old.index < length self.old.bytes.now }
+        ensures moves { Moves self.old self.new }
+        ensures value { Gives text_view result self.new.index
+            (scalar_at self.old.index (string_at kept self.old.bytes.now self.old.index)) }
+        ensures ahead { OnOk result (self.old.index < self.new.index) }
+        ensures place { OnErr result (self.new.index ≡ self.old.index) }
+        ensures memory { WhereRefused result (WantsMemory self.old.bytes.now self.old.index) }
+    {
+        match string_front_at(alloc, tape, self.bytes, self.index) {
+            Ok((text, end)) => {
+                self.index = end;
+                Ok(text)
+            }
+            Err(error) => Err(error),
+        }
+    }
+}
+
+#[cfg(test)]
+mod tests;

@@ -1,3 +1,7 @@
-pub mod Views
-pub mod Turns
+pub mod Answering
+pub mod Kept
 pub mod Parsed
+pub mod Pins
+pub mod Reached
+pub mod Sizes
+pub mod Views

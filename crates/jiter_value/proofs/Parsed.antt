@@ -1,82 +1,95 @@
--- What a whole parse answers, by the grammar and by reading.
-use Rattle.std.proofs.Common.{◌≡◌, ◌⊎◌, ℕ, ◌<◌, ◌≤◌, Bool, true, inl, inr, List, length, refl, sym, ap, ◌∙◌, subst}
-use Rattle.std.specs.Prelude.{slice_get, slice_index, Option, Some, None, Err}
-use Rattle.jiter_scan.specs.Kind.{Kind, kind_of, is_end_kind}
+-- What a whole parse answers, by the grammar.
+use Rattle.std.proofs.Common.{◌≡◌, ◌≢◌, ◌⊎◌, inl, inr, ℕ, ◌+◌, ◌≤◌, Bool, true, false, List, length, take, sym, ap, ◌∙◌, subst}
+use Rattle.std.specs.Prelude.{Result, Ok, Err, IfOk, IfErr, MatchResult, Some}
+use Rattle.jiter_scan.specs.Kind.{Kind, kind_of, fault_kind, is_end_kind}
+use Rattle.jiter_scan.specs.Scanned.{FaultAt}
 use Rattle.jiter_scan.specs.declared.errors.JsonError.{JsonError}
 use Rattle.jiter_scan.specs.declared.errors.JsonErrorType.TheVariants.{OutOfMemory}
-use Rattle.jiter_steps.specs.Tree.{Text, Tree}
-use Rattle.jiter_steps.specs.Blank.{past_blanks}
-use Rattle.jiter_steps.specs.Literal.{start_of}
-use Rattle.jiter_steps.specs.Step.{stuck, step, value_begins}
-use Rattle.jiter_steps.specs.Node.{Node, IsDocument, IsCutContainer, value_of}
-use Rattle.jiter_steps.specs.Read.{Reading, done, fault, Rules, value_at, begun, front_answer, whole_answer, to_end}
-use Rattle.jiter_steps.specs.Answer.{answer, whole_trees}
-use Rattle.jiter_steps.specs.declared.fault.Refusal.{Refusal}
-use Rattle.jiter_steps.specs.declared.fault.Refusal.TheVariants as refusal
-use Rattle.jiter_steps.proofs.Prefixes.{EndsEarly, prefix-refused}
-use Rattle.jiter_steps.proofs.EndKinds.{ReadingEnds}
-use Rattle.jiter_steps.proofs.Instances.{answer-ends}
-use Rattle.jiter_steps.proofs.Answered.{whole-begins}
+use Rattle.jiter_scan.specs.declared.partial_mode.PartialMode.{PartialMode}
+use Rattle.jiter_steps.specs.Answer.{answer, answer_in}
+use Rattle.jiter_scan.specs.PartialMode.{is_active}
+use Rattle.jiter_scan.specs.declared.partial_mode.PartialMode.TheVariants.{Off}
+use Rattle.jiter_steps.specs.Cut.{cut, IsBegunContainer}
+use Rattle.jiter_steps.specs.FirstFault.{IsDeadEnd, BeginsNoDocument, can_go_on, CanBeCompleted}
+use Rattle.jiter_steps.specs.Node.{Node, end, IsDocument, IsCutContainer, value_of}
+use Rattle.jiter_steps.specs.Read.{done, fault}
+use Rattle.jiter_steps.specs.Tree.{Tree}
+use Rattle.jiter_steps.specs.declared.read_error.ReadError.{ReadError}
+use Rattle.jiter_steps.specs.declared.read_error.ReadError.TheVariants as error
+use Rattle.jiter_steps.proofs.Alive.{alive}
+use Rattle.jiter_steps.proofs.Bounds.{Within}
+use Rattle.jiter_steps.proofs.CutLaw.{AnswersCut, answer_in-cut, answer_in-of}
+use Rattle.jiter_steps.proofs.Dead.{dead}
 use Rattle.jiter_steps.proofs.Documents.{IsRead, answer-is}
-use Rattle.jiter_value.specs.View.{view}
-use Rattle.jiter_value.specs.Answers.{Fails, Answers, MayGrowAs, IsRefusalAt, error_of}
+use Rattle.jiter_steps.proofs.Prefixes.{EndsEarly, prefix-refused}
+use Rattle.jiter_value.specs.Reading.{GivesWhole, IsErrorOf}
+use Rattle.jiter_value.specs.Value.{view, Answers}
 use Rattle.jiter_value.specs.declared.value.JsonValue.{JsonValue}
-use Rattle.jiter_value.proofs.Turns.{fails-along}
-
--- where no value begins
-begun-stuck : (r : Rules Text Tree) (t : List ℕ) (i : ℕ) (o : Option ℕ) (k : Kind) (j : ℕ) → value_begins i o ≡ stuck k j → begun r t i o ≡ fault k j j
-begun-stuck r t i None k j h = cc
-begun-stuck r t i (Some c) k j h = absurd (cc)
-
-pub answer-stuck : (names : Bool) (t : List ℕ) (k : Kind) (j : ℕ) → step t value_begins 0 ≡ stuck k j → answer names t ≡ fault k j j
-unfolding whole_answer front_answer
-answer-stuck names t k j h = ap (to_end t) (begun-stuck (whole_trees names) t (past_blanks t 0) (slice_get t (past_blanks t 0)) k j h)
-
-fails-to_end : (e : Refusal) (t : List ℕ) (r : Reading Tree) → Fails e r → Fails e (to_end t r)
-fails-to_end (refusal.Memory at) t r h = tt
-fails-to_end (refusal.Fault f) t r h = ap (to_end t) h
-
--- a value that is refused refuses the document
-pub answer-refused : (names : Bool) (t : List ℕ) (e : Refusal) (i : ℕ) → past_blanks t 0 ≡ i → i < length t → Fails e (value_at (whole_trees names) t 200 i) → Fails e (answer names t)
-answer-refused names t e i at h v = fails-along e _ _ (whole-begins (whole_trees names) t i at h) (fails-to_end e t _ v)
-
-module _ (names : Bool) (t : List ℕ) where
-  pub found : (v : JsonValue) (e : ℕ) → answer names t ≡ done (view v) e → (n : Node) × IsDocument names t n × (value_of t n ≡ view v)
-  found v e h = let read = subst (IsRead names t) h (answer-is names t) in (read.0, read.1, read.2)
-
-  pub only-value : (v : JsonValue) (e : ℕ) → answer names t ≡ done (view v) e → (n : Node) → IsDocument names t n → view v ≡ value_of t n
-  only-value v e h n d = let read = subst (IsRead names t) h (answer-is names t) in sym read.2 ∙ sym (ap (value_of t) (read.3 n d))
-
-  pub only-error : (e : Refusal) → Fails e (answer names t) → (n : Node) → IsDocument names t n → (error_of e).error_type ≡ OutOfMemory
-  only-error (refusal.Memory at) h n d = refl
-  only-error (refusal.Fault f) h n d = absurd (subst (IsRead names t) h (answer-is names t) n d)
-
-  pub first-error : (e : Refusal) → Fails e (answer names t) → Answers (Err (error_of e)) (answer names t)
-  first-error (refusal.Memory at) h = inl refl
-  first-error (refusal.Fault f) h = inr (f.stop, h)
-
-  pub error-ends : (e : Refusal) → Fails e (answer names t) → is_end_kind (kind_of (error_of e).error_type) ≡ true → (error_of e).index ≡ length t
-  error-ends (refusal.Memory at) h k = absurd (cc)
-  error-ends (refusal.Fault f) h k = subst (ReadingEnds t) h (answer-ends t names) k
-
-abbrev OrEnds : JsonError → Type 0
-OrEnds e = (e.error_type ≡ OutOfMemory) ⊎ (is_end_kind (kind_of e.error_type) ≡ true)
+use Rattle.jiter_value.proofs.Answering.{answer_in-within}
 
 -- a container that is cut ends too early
 cut-early : (names : Bool) (t : List ℕ) → IsCutContainer names t → EndsEarly (answer names t)
 cut-early names t c = subst (λ u. EndsEarly (answer names u)) (sym c.is) (prefix-refused names c.text c.node c.place c.document c.container c.before_end)
 
-pub cut-value : (names : Bool) (t : List ℕ) (v : JsonValue) (e : ℕ) → answer names t ≡ done (view v) e → IsCutContainer names t → ⊥
-cut-value names t v e h c = subst EndsEarly h (cut-early names t c)
+-- With partial reading off.
+module _ (names : Bool) (t : List ℕ) where
+  pub parse-found : (r : Result JsonValue JsonError) → Answers r (answer names t) → IfOk r (λ v. (n : Node) × IsDocument names t n × (value_of t n ≡ view v))
+  parse-found (Ok v) h = let read = subst (IsRead names t) h.1 (answer-is names t) in (read.0, read.1, read.2)
+  parse-found (Err e) h = tt
 
-pub cut-error : (names : Bool) (t : List ℕ) (e : Refusal) → Fails e (answer names t) → IsCutContainer names t → OrEnds (error_of e)
-cut-error names t (refusal.Memory at) h c = inl refl
-cut-error names t (refusal.Fault f) h c = inr (subst EndsEarly h (cut-early names t c))
+  pub parse-early : (r : Result JsonValue JsonError) → Answers r (answer names t) → IsCutContainer names t
+      → MatchResult r (λ v. ⊥) (λ e. (e.error_type ≡ OutOfMemory) ⊎ (is_end_kind (kind_of e.error_type) ≡ true))
+  parse-early (Ok v) h c = subst EndsEarly h.1 (cut-early names t c)
+  parse-early (Err e) (inl m) c = inl m
+  parse-early (Err e) (inr h) c = inr (subst EndsEarly h.1 (cut-early names t c))
 
-pub error-index : (t : List ℕ) (i : ℕ) (e : Refusal) → IsRefusalAt t i e → (error_of e).index ≤ length t
-error-index t i (refusal.Memory at) h = h.1
-error-index t i (refusal.Fault f) h = h.index
+  -- The fault is first by the grammar too.
+  pub parse-dead : (r : Result JsonValue JsonError) → Answers r (answer names t)
+      → IfErr r (λ e. IsDeadEnd (kind_of e.error_type) → BeginsNoDocument names (take (e.index + 1) t))
+  parse-dead (Ok v) h = tt
+  parse-dead (Err e) (inl m) = λ d. absurd (d.2 (ap kind_of m))
+  parse-dead (Err e) (inr h) = λ d. dead names t (kind_of e.error_type) e.index h.0 h.1 d.0 d.1
 
-pub error-memory : (t : List ℕ) (i : ℕ) (e : Refusal) → IsRefusalAt t i e → (error_of e).error_type ≡ OutOfMemory → MayGrowAs t i (start_of (slice_index t i)) × (i ≤ (error_of e).index)
-error-memory t i (refusal.Memory at) h is = (h.2, h.0)
-error-memory t i (refusal.Fault f) h is = absurd (h.kind (ap kind_of is))
+  pub parse-alive : (r : Result JsonValue JsonError) → Answers r (answer names t)
+      → IfErr r (λ e. can_go_on (kind_of e.error_type) ≡ true → CanBeCompleted names (take e.index t))
+  parse-alive (Ok v) h = tt
+  parse-alive (Err e) (inl m) = λ on. let no = sym (ap (λ k. can_go_on (kind_of k)) m) ∙ on in absurd (cc)
+  parse-alive (Err e) (inr h) = λ on. alive names t (kind_of e.error_type) e.index h.0 h.1 on
+
+-- In every mode: a document's value and its cuts.
+module _ (names : Bool) (t : List ℕ) (mode : PartialMode) where
+  pub answer-off : (r : Result JsonValue JsonError) → Answers r (answer_in names mode t) → mode ≡ Off → Answers r (answer names t)
+  answer-off r h off = subst (λ m. Answers r (answer_in names m t)) off h
+
+  same-tree : (v w : Tree) (i j : ℕ) → done v i ≡ done w j → v ≡ w
+  same-tree v w i j h = cc
+
+  no-fault : {P : Type 0} → (v : Tree) (i x stop : ℕ) (k : Kind) → done v i ≡ fault k x stop → P
+  no-fault v i x stop k h = let no : ⊥ = cc in absurd no
+
+  pub parse-accepts : (r : Result JsonValue JsonError) → Answers r (answer_in names mode t) → (n : Node) → IsDocument names t n
+      → MatchResult r (λ v. view v ≡ value_of t n) (λ e. e.error_type ≡ OutOfMemory)
+  parse-accepts (Ok v) h n d = same-tree (view v) (value_of t n) h.0 (end n) (sym h.1 ∙ answer_in-of names t mode n d)
+  parse-accepts (Err e) (inl m) n d = m
+  parse-accepts (Err e) (inr h) n d =
+      no-fault (value_of t n) (end n) e.index h.0 (kind_of e.error_type) (sym (answer_in-of names t mode n d) ∙ h.1)
+
+  pub parse-cut : (r : Result JsonValue JsonError) → Answers r (answer_in names mode t) → is_active mode ≡ true
+      → (f : IsBegunContainer names t)
+      → MatchResult r (λ v. cut names f.text f.node f.place mode ≡ Some (view v)) (λ e. e.error_type ≡ OutOfMemory)
+  parse-cut (Ok v) h on f = subst (AnswersCut names t mode f) h.1 (answer_in-cut names t mode f on)
+  parse-cut (Err e) (inl m) on f = m
+  parse-cut (Err e) (inr h) on f = absurd (subst (AnswersCut names t mode f) h.1 (answer_in-cut names t mode f on))
+
+-- In every mode: a fault of the bytes stands within them.
+module _ (names : Bool) (t : List ℕ) (mode : PartialMode) (i : ℕ) (e : JsonError) where
+  fault-at : (k : Kind) (x : ℕ) → answer_in names mode t ≡ fault k x i → FaultAt t k x
+  fault-at k x h = let w = subst (Within t 0) h (answer_in-within names t mode) in w.2
+
+  pub error-index : (x : ReadError) → IsErrorOf x i e → GivesWhole (Err x) i (answer_in names mode t) → i ≤ length t → e.index ≤ length t
+  error-index (error.Fault f) is h le = subst (λ j. j ≤ length t) (sym is.1) (fault-at (fault_kind f.kind) f.index h).within
+  error-index (error.Memory m) is h le = subst (λ j. j ≤ length t) (sym (ap (λ e. e.index) is)) le
+
+  pub error-ends : (x : ReadError) → IsErrorOf x i e → GivesWhole (Err x) i (answer_in names mode t) → is_end_kind (kind_of e.error_type) ≡ true → e.index ≡ length t
+  error-ends (error.Fault f) is h k = is.1 ∙ (fault-at (fault_kind f.kind) f.index h).ends (ap is_end_kind (sym is.0) ∙ k)
+  error-ends (error.Memory m) is h k = let other = ap (λ e. is_end_kind (kind_of e.error_type)) (sym is) ∙ k in absurd (cc)

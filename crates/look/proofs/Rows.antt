@@ -1,3 +1,4 @@
 -- Worked rows on the definitions, by computation.
+mod Computed
 mod PrintedAgain
 mod Lines

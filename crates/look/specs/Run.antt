@@ -1,43 +1,72 @@
 -- What a whole run writes.
-use Rattle.std.specs.Prelude.{ℕ, Bool, List, Option}
+use Rattle.std.specs.Prelude.{◌≡◌, ◌≢◌, ℕ, Bool, List, [], Option, Some, None, take, ⊤}
 use Rattle.std.specs.Io.KnownBytes.{Keeps, Appends}
 use Rattle.jiter_scan.specs.Position.{description_text}
 use Rattle.jiter_steps.specs.Tree.{Tree}
 use Rattle.jiter_steps.specs.Read.{Reading, done, fault}
 use Rattle.jiter_steps.specs.Answer.{answer}
-use Rattle.look.specs.Print.{print_of, ended}
+use Rattle.look.specs.Print.{print_of, with_line_feed}
 use Rattle.look.specs.declared.running.End.{End}
 use Rattle.look.specs.declared.running.End.TheVariants.{Shown, Refused, Failed}
-use Rattle.look.specs.declared.running.Line.{Line as HeldLine}
-use Rattle.look.specs.declared.running.Line.TheVariants as code
+use Rattle.jiter_scan.specs.declared.errors.JsonErrorType.TheVariants.{OutOfMemory}
+use Rattle.look.specs.declared.running.NoMemory as refusal
+use Rattle.look.specs.declared.running.NoMemory.TheVariants as reason
+use Rattle.look.specs.declared.running.Line as code
+use Rattle.look.specs.declared.running.Line.TheVariants as variant
 
 -- the one line that a run writes, and where: a value to one writer, a fault to the other
 pub data Line : Type 0 where
-  shown : List ℕ → Line
-  refused : List ℕ → Line
+  value_line : List ℕ → Line
+  fault_line : List ℕ → Line
 
 -- the line for what a text was read as
 abbrev pub line_for : Reading Tree → List ℕ → Line
-line_for (done v e) t = shown (ended (print_of v))
-line_for (fault kind i stop) t = refused (ended (description_text kind i t))
+line_for (done v e) t = value_line (with_line_feed (print_of v))
+line_for (fault kind i stop) t = fault_line (with_line_feed (description_text kind i t))
 
 -- the line for a text
 abbrev pub line_of : Bool → List ℕ → Line
 line_of inf_nan t = line_for (answer inf_nan t) t
 
--- what the two writers hold after a run over known bytes: the line in its own, nothing new in the other
+-- known bytes grow by a front of bs
+abbrev pub AppendsFront : Option (List ℕ) → Option (List ℕ) → List ℕ → Type 0
+AppendsFront old new bs = (n : ℕ) × Appends old new (take n bs)
+
+-- known bytes are left
+abbrev pub IsUnread : Option (List ℕ) → Type 0
+IsUnread None = ⊥
+IsUnread (Some left) = left ≢ []
+
+-- a run that failed, and both writers as they were
+abbrev pub WroteNothing : End → Option (List ℕ) → Option (List ℕ) → Option (List ℕ) → Option (List ℕ) → Type 0
+WroteNothing end out out' err err' = (end ≡ Failed) × Keeps out out' × Keeps err err'
+
+-- what the two writers hold after a run: the line in its own, a front of it where the run failed, nothing new in the
+-- other
 abbrev pub Wrote : Line → End → Option (List ℕ) → Option (List ℕ) → Option (List ℕ) → Option (List ℕ) → Type 0
-Wrote (shown bs) Shown out out' err err' = Appends out out' bs × Keeps err err'
-Wrote (shown bs) Refused out out' err err' = ⊥
-Wrote (shown bs) Failed out out' err err' = Keeps err err'
-Wrote (refused bs) Shown out out' err err' = ⊥
-Wrote (refused bs) Refused out out' err err' = Keeps out out' × Appends err err' bs
-Wrote (refused bs) Failed out out' err err' = Keeps out out'
+Wrote (value_line bs) Shown out out' err err' = Appends out out' bs × Keeps err err'
+Wrote (value_line bs) Refused out out' err err' = ⊥
+Wrote (value_line bs) Failed out out' err err' = AppendsFront out out' bs × Keeps err err'
+Wrote (fault_line bs) Shown out out' err err' = ⊥
+Wrote (fault_line bs) Refused out out' err err' = Keeps out out' × Appends err err' bs
+Wrote (fault_line bs) Failed out out' err err' = Keeps out out' × AppendsFront err err' bs
+
+-- the same, where there may be no line
+abbrev pub WroteIfAny : Option Line → End → Option (List ℕ) → Option (List ℕ) → Option (List ℕ) → Option (List ℕ)
+    → Type 0
+WroteIfAny None end out out' err err' = WroteNothing end out out' err err'
+WroteIfAny (Some line) end out out' err err' = Wrote line end out out' err err'
 
 -- the line that the code holds
-abbrev pub line_held : HeldLine → Line
-line_held (code.Shown v) = shown v.items
-line_held (code.Refused v) = refused v.items
+abbrev pub line_view : code.Line → Line
+line_view (variant.Value v) = value_line v.items
+line_view (variant.Fault v) = fault_line v.items
+
+-- where memory was refused: of the parse's own faults only that one
+abbrev pub IsOfMemory : refusal.NoMemory → Type 0
+IsOfMemory (reason.Parse e) = e.error_type ≡ OutOfMemory
+IsOfMemory (reason.Describe e) = ⊤
+IsOfMemory (reason.Print r) = ⊤
 
 -- the program's exit status
 abbrev pub status_of : End → ℕ

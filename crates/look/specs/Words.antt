@@ -1,5 +1,6 @@
 -- The words behind the program's name.
-use Rattle.std.specs.Prelude.{ℕ, Bool, true, false, List, [], ◌∷◌, codes, bytes_eq, Option, Some, None, if◌then◌else◌, option_map}
+use Rattle.std.specs.Prelude.{ℕ, Bool, true, false, List, [], ◌∷◌, codes, bytes_eq, Option, Some, None, if◌then◌else◌}
+use Rattle.std.specs.Prelude.{option_map}
 use Rattle.jiter_scan.specs.declared.partial_mode.PartialMode.{PartialMode}
 use Rattle.jiter_scan.specs.declared.partial_mode.PartialMode.TheVariants.{Off}
 use Rattle.look.specs.declared.settings.Words.{Words}
@@ -17,5 +18,6 @@ with_names inf_nan mode = record { mode = mode; inf_nan = inf_nan }
 abbrev pub words_of : List (List ℕ) → Option Words
 words_of [] = None
 words_of (mode ∷ []) = option_map (with_names false) (mode_of mode)
-words_of (mode ∷ name ∷ []) = if bytes_eq name (codes "inf-nan") then option_map (with_names true) (mode_of mode) else None
+words_of (mode ∷ name ∷ []) =
+    if bytes_eq name (codes "inf-nan") then option_map (with_names true) (mode_of mode) else None
 words_of (mode ∷ name ∷ more ∷ rest) = None

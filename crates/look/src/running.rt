@@ -1,15 +1,19 @@
 //! A whole run, over one reader and two writers.
-ghost use Rattle.std.specs.Prelude.{◌≡◌, IfOk, OnOk, IfSome};
-ghost use Rattle.std.specs.Io.KnownBytes.{Appends};
+ghost use Rattle.std.specs.Prelude.{◌≡◌, IfOk, IfErr, OnOk, OnErr, IfSome};
+ghost use Rattle.std.specs.Option.{option_map};
+ghost use Rattle.std.specs.Io.KnownBytes.{Appends, IsAtEnd};
 ghost use Rattle.jiter_steps.specs.Answer.{answer};
 ghost use Rattle.look.specs.Printed.{PrintsAgain};
-ghost use Rattle.look.specs.Run.{line_of, line_held, status_of, Wrote};
+ghost use Rattle.look.specs.Run.{AppendsFront, IsOfMemory, IsUnread, line_of, line_view, status_of, Wrote};
+ghost use Rattle.look.specs.Run.{WroteNothing};
+ghost use Rattle.look.specs.Run.{WroteIfAny};
 
+use jiter_scan::memory::{Refused, push};
 use crate::print::print;
-use jiter::{JsonErrorType, JsonValue, PartialMode};
+use jiter::{JsonError, JsonErrorType, JsonValue, PartialMode};
 use std::alloc::{AllocError, Global};
 use std::io;
-use std::io::{Read, Write};
+use std::io::{ErrorKind, Read, Write};
 
 /// How a run ended.
 #[derive(Debug, Clone, Copy, PartialEq, Eq)]
@@ -37,9 +41,56 @@ impl End {
 
 /// The whole line that a run writes.
 #[derive(Drop)]
-enum Line {
-    Shown(Vec<u8>),
-    Refused(Vec<u8>),
+pub enum Line {
+    /// The value's compact text and a line feed.
+    Value(Vec<u8>),
+    /// The fault's description and a line feed.
+    Fault(Vec<u8>),
+}
+
+// Why there is no line: what was answered where a read failed, or where the line was made.
+#[derive(Debug, Drop)]
+enum NoLine {
+    Read(io::Error),
+    Make(NoMemory),
+}
+
+// Why no line was made: what was answered where memory was refused.
+#[derive(Debug, Drop)]
+enum NoMemory {
+    Parse(JsonError),
+    Describe(AllocError),
+    Print(Refused),
+}
+
+impl From<io::Error> for NoLine {
+    ghost use Rattle.look.specs.declared.running.NoLine.{NoLine};
+
+    ghost from_gives = { λ error r. r ≡ NoLine.Read error };
+
+    fn from(error: io::Error) -> Self {
+        NoLine::Read(error)
+    }
+}
+
+impl From<AllocError> for NoMemory {
+    ghost use Rattle.look.specs.declared.running.NoMemory.{NoMemory};
+
+    ghost from_gives = { λ error r. r ≡ NoMemory.Describe error };
+
+    fn from(error: AllocError) -> Self {
+        NoMemory::Describe(error)
+    }
+}
+
+impl From<Refused> for NoMemory {
+    ghost use Rattle.look.specs.declared.running.NoMemory.{NoMemory};
+
+    ghost from_gives = { λ refused r. r ≡ NoMemory.Print refused };
+
+    fn from(refused: Refused) -> Self {
+        NoMemory::Print(refused)
+    }
 }
 
 /// Reads all, parses it, makes one line whole, and then writes it: a value's compact text to `out`, or a
@@ -54,53 +105,93 @@ pub fn run<R: Read, O: Write, E: Write>(
     inf_nan: bool,
 ) -> End
     requires off { mode ≡ PartialMode.Off }
-    // Over known bytes: the line of these bytes in its own writer, and the other writer as it was.
+    // Over known bytes: the line of these bytes in its own writer, or a front of it, and the other as it was.
     ensures wrote { IfSome (R.remaining reader.old) (λ text. Wrote (line_of inf_nan text) result
         (O.contents out.old) (O.contents out.new) (E.contents err.old) (E.contents err.new)) }
+    // Where known bytes are left unread nothing was written.
+    ensures unread { IsUnread (R.remaining reader.new) → WroteNothing result
+        (O.contents out.old) (O.contents out.new) (E.contents err.old) (E.contents err.new) }
     // A value's line is again a document of the value that was read, under the same setting.
-    ensures again { IfSome (R.remaining reader.old) (λ text. PrintsAgain inf_nan (answer inf_nan text)) }
+    ensures again { IfSome (R.remaining reader.old)
+        (λ text. PrintsAgain inf_nan (answer inf_nan text)) }
 {
-    let mut text = Vec::new(alloc);
-    if reader.read_to_end(&mut text).is_err() {
-        return End::Failed;
-    }
-    match make_line(alloc, text.as_slice(), inf_nan) {
-        Ok(Line::Shown(bytes)) => match write_line(out, bytes.as_slice()) {
-            Ok(()) => End::Shown,
-            Err(_) => End::Failed,
-        },
-        Ok(Line::Refused(bytes)) => match write_line(err, bytes.as_slice()) {
-            Ok(()) => End::Refused,
-            Err(_) => End::Failed,
-        },
-        Err(_) => End::Failed,
+    match read_line(alloc, reader, inf_nan) {
+        Ok(line) => show(Some(line), out, err),
+        Err(_) => show(None, out, err),
     }
 }
 
-/// The line for a text. It fails only where memory is refused.
-fn make_line(alloc: Global, text: &[u8], inf_nan: bool) -> Result<Line, AllocError>
-    ensures { IfOk result (λ line. line_held line ≡ line_of inf_nan text.now) }
+// The line for all that a reader gives.
+fn read_line<R: Read>(alloc: Global, reader: &mut R, inf_nan: bool) -> Result<Line, NoLine>
+    ensures line { IfOk result (λ line. IfSome (R.remaining reader.old)
+        (λ text. line_view line ≡ line_of inf_nan text)) }
+    ensures whole { OnOk result (IsAtEnd (R.remaining reader.new)) }
+{
+    let mut text = Vec::new(alloc);
+    reader.read_to_end(&mut text)?;
+    make_line(alloc, text.as_slice(), inf_nan).map_err(NoLine::Make)
+}
+
+// The line for a text. It fails only where memory is refused.
+fn make_line(alloc: Global, text: &[u8], inf_nan: bool) -> Result<Line, NoMemory>
+    ensures line { IfOk result (λ line. line_view line ≡ line_of inf_nan text.now) }
+    ensures memory { IfErr result IsOfMemory }
 {
     match JsonValue::parse(alloc, text, inf_nan) {
         Ok(value) => {
             let mut bytes = print(alloc, &value)?;
-            bytes.push(b'\n')?;
-            Ok(Line::Shown(bytes))
+            push(&mut bytes, b'\n')?;
+            Ok(Line::Value(bytes))
         }
         Err(error) => match error.error_type {
-            JsonErrorType::OutOfMemory => Err(AllocError),
+            JsonErrorType::OutOfMemory => Err(NoMemory::Parse(error)),
             _ => {
                 let mut bytes = error.description(alloc, text)?.into_bytes();
-                bytes.push(b'\n')?;
-                Ok(Line::Refused(bytes))
+                push(&mut bytes, b'\n')?;
+                Ok(Line::Fault(bytes))
             }
         },
     }
 }
 
-fn write_line<W: Write>(writer: &mut W, bytes: &[u8]) -> io::Result<()>
-    ensures { OnOk result (Appends (W.contents writer.old) (W.contents writer.new) bytes.now) }
+/// Writes a line to its own writer, if there is one: a value's to `out`, a fault's to `err`.
+pub fn show<O: Write, E: Write>(line: Option<Line>, out: &mut O, err: &mut E) -> End
+    ensures { WroteIfAny (option_map line_view line) result
+        (O.contents out.old) (O.contents out.new) (E.contents err.old) (E.contents err.new) }
 {
-    writer.write_all(bytes)?;
-    writer.flush()
+    match line {
+        Some(Line::Value(bytes)) => match write_line(out, bytes.as_slice()) {
+            Ok(()) => End::Shown,
+            Err(_) => End::Failed,
+        },
+        Some(Line::Fault(bytes)) => match write_line(err, bytes.as_slice()) {
+            Ok(()) => End::Refused,
+            Err(_) => End::Failed,
+        },
+        None => End::Failed,
+    }
+}
+
+/// Writes a line whole and flushes; after a call that failed it makes no other.
+pub fn write_line<W: Write>(writer: &mut W, line: &[u8]) -> io::Result<()>
+    ensures whole { OnOk result (Appends (W.contents writer.old) (W.contents writer.new) line.now) }
+    ensures front { OnErr result
+        (AppendsFront (W.contents writer.old) (W.contents writer.new) line.now) }
+{
+    let mut written = 0;
+    for _ in 0..u64::MAX {
+        if written == line.len() {
+            return writer.flush();
+        }
+        match writer.write(&line[written..]) {
+            Ok(0) => return Err(io::Error::from(ErrorKind::WriteZero)),
+            Ok(count) => written += count,
+            Err(error) => {
+                if error.kind() != ErrorKind::Interrupted {
+                    return Err(error);
+                }
+            }
+        }
+    }
+    Err(io::Error::from(ErrorKind::Other))
 }

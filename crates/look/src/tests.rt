@@ -3,17 +3,18 @@ ghost use Rattle.std.specs.Prelude.{Some, false};
 ghost use Rattle.look.specs.Run.{Wrote, line_of};
 
 use crate::asking::words;
+use crate::looking::look;
 use crate::print::print;
 use crate::running::{End, run};
 use crate::settings::Words;
 use jiter::{JsonValue, PartialMode};
-use std::alloc::Global;
+use std::alloc::{AllocError, Global};
 use std::borrow::CowStr;
 use std::io;
 use std::io::{Read, Write};
 use std::test::*;
 
-/// Gives one byte a call, and fails at the call that its count names.
+// Gives one byte a call, and fails at the call that its count names.
 #[derive(Drop)]
 struct FailingReader<'a> {
     rest: &'a [u8],
@@ -40,7 +41,7 @@ impl<'a> Read for FailingReader<'a> {
     }
 }
 
-/// Takes one byte a call, fails at the call that its count names, and counts that call and those after it.
+// Takes one byte a call, fails at the call that its count names, and counts that call and those after it.
 #[derive(Drop)]
 struct FailingWriter {
     got: Vec<u8>,
@@ -82,7 +83,7 @@ fn failing_writer(alloc: Global, calls_left: usize) -> FailingWriter {
     }
 }
 
-/// A run over memory alone.
+// A run over memory alone.
 fn run_over_memory(
     alloc: Global,
     text: &[u8],
@@ -97,7 +98,7 @@ fn run_over_memory(
     run(alloc, &mut reader, out, err, PartialMode::Off, inf_nan)
 }
 
-/// The same over a reader and a writer that may fail.
+// The same over a reader and a writer that may fail.
 fn run_over_failing(
     alloc: Global,
     text: &[u8],
@@ -106,7 +107,8 @@ fn run_over_failing(
     err: &mut FailingWriter,
 ) -> End
     ensures { Wrote (line_of false text.now) result
-        (Some out.old.got.items) (Some out.new.got.items) (Some err.old.got.items) (Some err.new.got.items) }
+        (Some out.old.got.items) (Some out.new.got.items)
+        (Some err.old.got.items) (Some err.new.got.items) }
 {
     let mut reader = FailingReader {
         rest: text,
@@ -245,6 +247,139 @@ fn a_failed_write_of_a_fault_is_the_last(rt: HostRuntime) {
     assert_eq!(rt; out.calls_failed, 0);
 }
 
+const RESERVE: usize = 65_536;
+
+// All memory, but what was left of the reserve. Under `rt try` the allocator keeps some to itself, and the tests
+// that refuse requests fail there.
+#[derive(Drop)]
+struct Held {
+    blocks: Vec<Vec<u8>>,
+    reserve: Vec<u8>,
+}
+
+// Takes blocks of this size until one is refused. Nothing is written to them.
+fn take_blocks(alloc: Global, size: usize, blocks: &mut Vec<Vec<u8>>) {
+    for _ in blocks.len()..blocks.capacity() {
+        match Vec::with_capacity(alloc, size) {
+            Ok(block) => {
+                let _ = blocks.push(block);
+            }
+            Err(_) => return,
+        }
+    }
+}
+
+impl Held {
+    fn all(alloc: Global) -> Result<Self, AllocError> {
+        let mut blocks = Vec::with_capacity(alloc, 100_000)?;
+        let reserve = Vec::with_capacity(alloc, RESERVE)?;
+        let mut size = 1usize << 46;
+        for _ in 0..44 {
+            take_blocks(alloc, size, &mut blocks);
+            size = size / 2;
+        }
+        Ok(Self { blocks, reserve })
+    }
+
+    // Leaves so many bytes of the reserve to others.
+    fn leave(&mut self, alloc: Global, bytes: usize) -> Result<(), AllocError> {
+        self.give_back(alloc);
+        self.reserve = Vec::with_capacity(alloc, RESERVE.saturating_sub(bytes))?;
+        Ok(())
+    }
+
+    fn give_back(&mut self, alloc: Global) {
+        self.reserve = Vec::new(alloc);
+    }
+}
+
+// Runs with ever more memory, until a run writes its line. Until then no run makes a call of a writer. It returns
+// how the last run ended, and how many were refused before.
+fn ends_at_last(
+    alloc: Global,
+    text: &[u8],
+    out: &mut FailingWriter,
+    err: &mut FailingWriter,
+) -> Result<(End, usize), Fail> {
+    let calls = (out.calls_left, err.calls_left);
+    let mut held = Held::all(alloc)?;
+    for steps in 0..512usize {
+        held.leave(alloc, 16 * steps)?;
+        let mut reader = text;
+        let end = run(alloc, &mut reader, out, err, PartialMode::Off, false);
+        held.give_back(alloc);
+        if end != End::Failed {
+            return Ok((end, steps));
+        }
+        if (out.calls_left, err.calls_left) != calls {
+            return Err("a call of a writer after refused memory".into());
+        }
+    }
+    Err("never answered".into())
+}
+
+#[test]
+fn nothing_is_written_after_refused_memory(rt: HostRuntime) -> Result<(), Fail> {
+    let alloc = rt.alloc();
+    for (text, wanted, shown, refused) in [
+        (
+            "[1,[\"a\\nb\"],{\"k\":\"\\u0061\"}]",
+            End::Shown,
+            "[1,[\"a\\u000ab\"],{\"k\":\"a\"}]\n",
+            "",
+        ),
+        (
+            "[1,[\"a\\nb\"],{\"k\":\"\\u0061\"},]",
+            End::Refused,
+            "",
+            "trailing comma at line 1 column 28\n",
+        ),
+    ] {
+        let mut out = roomy_writer(alloc)?;
+        let mut err = roomy_writer(alloc)?;
+        let (end, refusals) = ends_at_last(alloc, text.as_bytes(), &mut out, &mut err)?;
+        assert_eq!(rt; end, wanted);
+        assert_eq!(rt; out.got.as_slice(), shown.as_bytes());
+        assert_eq!(rt; err.got.as_slice(), refused.as_bytes());
+        assert!(rt; refusals > 8);
+    }
+    Ok(())
+}
+
+// With room for all that a test writes, so that a write asks for no memory.
+fn roomy_writer(alloc: Global) -> Result<FailingWriter, AllocError> {
+    Ok(FailingWriter {
+        got: Vec::with_capacity(alloc, 1_000)?,
+        calls_left: 1_000,
+        calls_failed: 0,
+    })
+}
+
+#[test]
+fn long_lines_are_written_whole(rt: HostRuntime) -> Result<(), Fail> {
+    let alloc = rt.alloc();
+    let mut text = Vec::new(alloc);
+    let mut line = Vec::new(alloc);
+    text.push(b'[')?;
+    line.push(b'[')?;
+    for _ in 0..10_000 {
+        text.extend_from_slice(b"{\"key\": [-12, \"a\\tb\"]}, ")?;
+        line.extend_from_slice(b"{\"key\":[-12,\"a\\u0009b\"]},")?;
+    }
+    let mut out = Vec::new(alloc);
+    let mut err = Vec::new(alloc);
+    let end = run_over_memory(alloc, text.as_slice(), &mut out, &mut err, false);
+    assert_eq!(rt; end, End::Refused);
+    let wanted = b"EOF while parsing a value at line 1 column 240001\n".as_slice();
+    assert_eq!(rt; err.as_slice(), wanted);
+    text.extend_from_slice(b"0]")?;
+    line.extend_from_slice(b"0]\n")?;
+    let end = run_over_memory(alloc, text.as_slice(), &mut out, &mut err, false);
+    assert_eq!(rt; end, End::Shown);
+    assert!(rt; out.as_slice() == line.as_slice());
+    Ok(())
+}
+
 #[test]
 fn each_end_has_a_status(rt: HostRuntime) {
     for (end, status) in [(End::Shown, 0), (End::Refused, 1), (End::Failed, 3)] {
@@ -258,6 +393,74 @@ fn list_of(alloc: Global, given: &[&str]) -> Result<Vec<String>, Fail> {
         list.push(String::from_str(alloc, word)?)?;
     }
     Ok(list)
+}
+
+const USAGE: &str = "usage: look off|on|trailing-strings [inf-nan]\n";
+
+// The program over memory: its status, and what it wrote.
+fn looked_over_memory(
+    alloc: Global,
+    given: &[&str],
+    text: &[u8],
+) -> Result<(u8, Vec<u8>, Vec<u8>), Fail> {
+    let list = list_of(alloc, given)?;
+    let mut reader = text;
+    let mut out = Vec::new(alloc);
+    let mut err = Vec::new(alloc);
+    let status = look(alloc, list.as_slice(), &mut reader, &mut out, &mut err);
+    Ok((status, out, err))
+}
+
+// Whether the program writes the usage line to its second writer, and nothing else.
+fn tells_usage(alloc: Global, given: &[&str]) -> Result<bool, Fail> {
+    let (status, out, err) = looked_over_memory(alloc, given, b"[1]")?;
+    Ok(status == 2 && out.is_empty() && err.as_slice() == USAGE.as_bytes())
+}
+
+#[test]
+fn words_that_ask_for_nothing_get_the_usage_line(rt: HostRuntime) -> Result<(), Fail> {
+    let alloc = rt.alloc();
+    assert!(rt; tells_usage(alloc, &[])?);
+    assert!(rt; tells_usage(alloc, &["maybe"])?);
+    assert!(rt; tells_usage(alloc, &["inf-nan"])?);
+    assert!(rt; tells_usage(alloc, &["off", "x"])?);
+    assert!(rt; tells_usage(alloc, &["off", "inf-nan", "x"])?);
+    Ok(())
+}
+
+#[test]
+fn words_choose_the_setting(rt: HostRuntime) -> Result<(), Fail> {
+    let alloc = rt.alloc();
+    let (status, out, err) = looked_over_memory(alloc, &["off", "inf-nan"], b"[NaN ]")?;
+    assert_eq!(rt; status, 0);
+    assert_eq!(rt; out.as_slice(), b"[NaN]\n".as_slice());
+    assert!(rt; err.is_empty());
+    let (status, out, err) = looked_over_memory(alloc, &["off"], b"[NaN ]")?;
+    assert_eq!(rt; status, 1);
+    assert!(rt; out.is_empty());
+    assert_eq!(rt;
+        err.as_slice(),
+        b"expected value at line 1 column 2\n".as_slice()
+    );
+    Ok(())
+}
+
+#[test]
+fn a_usage_line_that_fails_is_told(rt: HostRuntime) -> Result<(), Fail> {
+    let alloc = rt.alloc();
+    let list = list_of(alloc, &["maybe"])?;
+    for calls in [0, 1, USAGE.len()] {
+        let mut reader = b"[1]".as_slice();
+        let mut out = failing_writer(alloc, 100);
+        let mut err = failing_writer(alloc, calls);
+        let status = look(alloc, list.as_slice(), &mut reader, &mut out, &mut err);
+        assert_eq!(rt; status, 3);
+        assert_eq!(rt; err.calls_failed, 1);
+        assert_eq!(rt; err.got.len(), calls);
+        assert_eq!(rt; out.calls_left, 100);
+        assert_eq!(rt; reader.len(), 3);
+    }
+    Ok(())
 }
 
 #[test]
@@ -332,6 +535,45 @@ fn scalars_are_printed(rt: HostRuntime) -> Result<(), Fail> {
         print(alloc, &text)?.as_slice(),
         "\"a\\\"\\\\/\\u001f\u{7f}é\"".as_bytes()
     );
+    Ok(())
+}
+
+#[test]
+fn integers_are_printed(rt: HostRuntime) -> Result<(), Fail> {
+    let alloc = rt.alloc();
+    for (number, text) in [
+        (0, "0"),
+        (9, "9"),
+        (10, "10"),
+        (-1, "-1"),
+        (-10, "-10"),
+        (100, "100"),
+        (1_000_000_007, "1000000007"),
+        (9_223_372_036_854_775_807, "9223372036854775807"),
+        (-9_223_372_036_854_775_808, "-9223372036854775808"),
+    ] {
+        assert_eq!(rt;
+            print(alloc, &JsonValue::Int(number))?.as_slice(),
+            text.as_bytes()
+        );
+    }
+    Ok(())
+}
+
+#[test]
+fn runs_are_printed_between_escapes(rt: HostRuntime) -> Result<(), Fail> {
+    let alloc = rt.alloc();
+    for (text, printed) in [
+        ("", "\"\""),
+        ("\"", "\"\\\"\""),
+        ("\"\\", "\"\\\"\\\\\""),
+        ("a\"", "\"a\\\"\""),
+        ("\"a", "\"\\\"a\""),
+        ("ab\ncd\u{0}\u{1f} é", "\"ab\\u000acd\\u0000\\u001f é\""),
+    ] {
+        let value = JsonValue::Str(CowStr::Borrowed(text));
+        assert_eq!(rt; print(alloc, &value)?.as_slice(), printed.as_bytes());
+    }
     Ok(())
 }
 

@@ -1,199 +1,77 @@
--- What reads and skips of whole values answer, and where the reader stands then, by computation.
-use Rattle.std.proofs.Common.{◌≡◌, pos, [], ◌∷◌, ◌++◌, refl, codes}
+-- What reads and skips of whole values reply, and where the reader stands then, by computation.
+use Rattle.std.proofs.Common.{ℕ, ◌+◌, pos, List, [], ◌∷◌, ◌++◌, refl, codes}
 use Rattle.std.specs.Prelude.{replicate}
-use Rattle.std.specs.Str.{chars, is_utf8}
-use Rattle.std.specs.Str.Lossy.{utf8_valid_len, utf8_error_len}
-use Rattle.std.specs.Char.{encode_utf8}
-use Rattle.jiter_scan.specs.Kind.{eof_string, eof_value, expected_ident, expected_value, invalid_escape, invalid_number, invalid_code_point, control_character, lone_surrogate, trailing_comma, end_of_hex_escape, recursion_limit}
-use Rattle.jiter_scan.specs.Word.{word_at}
-use Rattle.jiter_scan.specs.Digits.{digit_run}
-use Rattle.jiter_scan.specs.Number.{number_value}
-use Rattle.jiter_scan.specs.NumberReading.{number_at, int_at}
-use Rattle.jiter_steps.specs.Blank.{past_blanks}
-use Rattle.jiter_steps.specs.StringReading.{found_at, body_within, body_at, content_at}
-use Rattle.jiter_steps.specs.Read.{value_at, items_at, members_at}
-use Rattle.jiter_steps.specs.Tree.{items_of}
+use Rattle.jiter_scan.specs.Kind.{eof_string, eof_value, expected_ident, expected_value, invalid_escape}
+use Rattle.jiter_scan.specs.Kind.{invalid_number, invalid_code_point, control_character, lone_surrogate}
+use Rattle.jiter_scan.specs.Kind.{trailing_comma, end_of_hex_escape, recursion_limit}
+use Rattle.jiter_steps.specs.Tree.{Text, Tree, items_of}
 use Rattle.jiter_steps.specs.Tree as tree
-use Rattle.jiter.specs.Refusal.{fault}
-use Rattle.jiter.specs.Reader.{answered, refused, next_bytes, next_value, next_skip}
-use Rattle.jiter.proofs.Rows.States.{at, partly, borrowed}
+use Rattle.jiter.specs.Cause.{json_error}
+use Rattle.jiter.specs.Reader.{ReaderState, gave, refused, next, bytes_read, value_read, skip_read}
+use Rattle.jiter.proofs.Rows.Tables.{Row, Replies, computed_replies, at, partly, borrowed}
 
-a_value : next_value (at (codes " [1, \"a\"] x") 0) ≡ answered (tree.array (items_of (tree.int (pos 1) ∷ tree.string (borrowed (codes "a")) ∷ []))) 9
-unfolding value_at items_at members_at past_blanks number_at int_at word_at digit_run number_value content_at body_at body_within found_at utf8_valid_len utf8_error_len is_utf8 chars encode_utf8
-a_value = refl
+abbrev a_list : Tree
+a_list = tree.array (items_of (tree.int (pos 1) ∷ tree.string (borrowed (codes "a")) ∷ []))
 
-no_value : next_value (at (codes " ]") 0) ≡ refused (fault expected_value) 1 1
-unfolding value_at items_at members_at past_blanks number_at int_at word_at digit_run number_value content_at body_at body_within found_at utf8_valid_len utf8_error_len is_utf8 chars encode_utf8
-no_value = refl
+abbrev values : List (Row Tree)
+values =
+    (at (codes " [1, \"a\"] x") 0, gave a_list 9) ∷
+    (at (codes " ]") 0, refused (json_error expected_value) 1 1) ∷
+    (at (codes " ") 0, refused (json_error eof_value) 1 1) ∷
+    (at (codes "[1,]") 0, refused (json_error trailing_comma) 3 3) ∷
+    (at (codes "[01]") 0, refused (json_error invalid_number) 2 1) ∷
+    (at (codes "[\"" ++ (255 ∷ (codes "\"]"))) 0, refused (json_error invalid_code_point) 2 1) ∷
+    (partly (codes "[\"a") 0, refused (json_error eof_string) 3 1) ∷
+    []
 
-nothing : next_value (at (codes " ") 0) ≡ refused (fault eof_value) 1 1
-unfolding value_at items_at members_at past_blanks number_at int_at word_at digit_run number_value content_at body_at body_within found_at utf8_valid_len utf8_error_len is_utf8 chars encode_utf8
-nothing = refl
+values-reply : Replies (λ s. next s (value_read s)) values
+unfolding computed_replies
+values-reply = refl
 
-a_fault_within : next_value (at (codes "[1,]") 0) ≡ refused (fault trailing_comma) 3 3
-unfolding value_at items_at members_at past_blanks number_at int_at word_at digit_run number_value content_at body_at body_within found_at utf8_valid_len utf8_error_len is_utf8 chars encode_utf8
-a_fault_within = refl
+abbrev skips : List (Row (Unit {0}))
+skips =
+    (at (codes "[1,2] x") 0, gave tt 5) ∷
+    (at (codes "[\"a\\q\"]") 0, refused (json_error invalid_escape) 4 1) ∷
+    (at (codes "[01]") 0, refused (json_error invalid_number) 2 1) ∷
+    (at (codes "{\"a\":nul}") 0, refused (json_error expected_ident) 8 5) ∷
+    (at (codes "[\"" ++ (255 ∷ (codes "\"]"))) 0, gave tt 5) ∷
+    (at (codes "{\"" ++ (255 ∷ (codes "\":1}"))) 0, gave tt 7) ∷
+    (at (replicate 300 91 ++ replicate 300 93) 0, refused (json_error recursion_limit) 201 201) ∷
+    []
 
-a_scalar_within : next_value (at (codes "[01]") 0) ≡ refused (fault invalid_number) 2 1
-unfolding value_at items_at members_at past_blanks number_at int_at word_at digit_run number_value content_at body_at body_within found_at utf8_valid_len utf8_error_len is_utf8 chars encode_utf8
-a_scalar_within = refl
+skips-reply : Replies (λ s. next s (skip_read s)) skips
+unfolding computed_replies
+skips-reply = refl
 
-broken_utf8 : next_value (at (codes "[\"" ++ (255 ∷ (codes "\"]"))) 0) ≡ refused (fault invalid_code_point) 2 1
-unfolding value_at items_at members_at past_blanks number_at int_at word_at digit_run number_value content_at body_at body_within found_at utf8_valid_len utf8_error_len is_utf8 chars encode_utf8
-broken_utf8 = refl
+-- a string of so many letters `a` and this damage
+abbrev with_damage : ℕ → List ℕ → ReaderState
+with_damage n damage = at (34 ∷ (replicate n 97 ++ (damage ++ 34 ∷ []))) 0
 
-cut_strings_are_not_kept_within : next_value (partly (codes "[\"a") 0) ≡ refused (fault eof_string) 3 1
-unfolding value_at items_at members_at past_blanks number_at int_at word_at digit_run number_value content_at body_at body_within found_at utf8_valid_len utf8_error_len is_utf8 chars encode_utf8
-cut_strings_are_not_kept_within = refl
+-- Skips and bytes want no UTF-8, and find every other damage at its place.
+abbrev skips_of_damage : ℕ → List (Row (Unit {0}))
+skips_of_damage n =
+    (with_damage n (255 ∷ []), gave tt (n + 3)) ∷
+    (with_damage n (31 ∷ []), refused (json_error control_character) (n + 1) 0) ∷
+    (with_damage n (codes "\\q"), refused (json_error invalid_escape) (n + 2) 0) ∷
+    (with_damage n (codes "\\udc00"), refused (json_error lone_surrogate) (n + 6) 0) ∷
+    (with_damage n (codes "\\ud83dx"), refused (json_error end_of_hex_escape) (n + 7) 0) ∷
+    []
 
--- skips
+skips_of_damage-reply :
+    Replies (λ s. next s (skip_read s)) (skips_of_damage 0 ++ (skips_of_damage 1 ++ skips_of_damage 16))
+unfolding computed_replies
+skips_of_damage-reply = refl
 
-an_array_skipped : next_skip (at (codes "[1,2] x") 0) ≡ answered tt 5
-unfolding value_at items_at members_at past_blanks number_at int_at word_at digit_run number_value content_at body_at body_within found_at utf8_valid_len utf8_error_len is_utf8 chars encode_utf8
-an_array_skipped = refl
+abbrev bytes_of_damage : ℕ → List (Row Text)
+bytes_of_damage n =
+    (with_damage n (255 ∷ []), gave (borrowed (replicate n 97 ++ 255 ∷ [])) (n + 3)) ∷
+    (with_damage n (31 ∷ []), refused (json_error control_character) (n + 1) 0) ∷
+    (with_damage n (codes "\\q"), refused (json_error invalid_escape) (n + 2) 0) ∷
+    (with_damage n (codes "\\udc00"), refused (json_error lone_surrogate) (n + 6) 0) ∷
+    (with_damage n (codes "\\ud83dx"), refused (json_error end_of_hex_escape) (n + 7) 0) ∷
+    []
 
-a_wrong_escape_skipped : next_skip (at (codes "[\"a\\q\"]") 0) ≡ refused (fault invalid_escape) 4 1
-unfolding value_at items_at members_at past_blanks number_at int_at word_at digit_run number_value content_at body_at body_within found_at utf8_valid_len utf8_error_len is_utf8 chars encode_utf8
-a_wrong_escape_skipped = refl
-
-a_leading_zero_skipped : next_skip (at (codes "[01]") 0) ≡ refused (fault invalid_number) 2 1
-unfolding value_at items_at members_at past_blanks number_at int_at word_at digit_run number_value content_at body_at body_within found_at utf8_valid_len utf8_error_len is_utf8 chars encode_utf8
-a_leading_zero_skipped = refl
-
-a_wrong_null_skipped : next_skip (at (codes "{\"a\":nul}") 0) ≡ refused (fault expected_ident) 8 5
-unfolding value_at items_at members_at past_blanks number_at int_at word_at digit_run number_value content_at body_at body_within found_at utf8_valid_len utf8_error_len is_utf8 chars encode_utf8
-a_wrong_null_skipped = refl
-
-broken_utf8_skipped : next_skip (at (codes "[\"" ++ (255 ∷ (codes "\"]"))) 0) ≡ answered tt 5
-unfolding value_at items_at members_at past_blanks number_at int_at word_at digit_run number_value content_at body_at body_within found_at utf8_valid_len utf8_error_len is_utf8 chars encode_utf8
-broken_utf8_skipped = refl
-
-broken_utf8_in_a_key_skipped : next_skip (at (codes "{\"" ++ (255 ∷ (codes "\":1}"))) 0) ≡ answered tt 7
-unfolding value_at items_at members_at past_blanks number_at int_at word_at digit_run number_value content_at body_at body_within found_at utf8_valid_len utf8_error_len is_utf8 chars encode_utf8
-broken_utf8_in_a_key_skipped = refl
-
-arrays_too_deep_skipped : next_skip (at (replicate 300 91 ++ replicate 300 93) 0) ≡ refused (fault recursion_limit) 201 201
-unfolding value_at items_at members_at past_blanks number_at int_at word_at digit_run number_value content_at body_at body_within found_at utf8_valid_len utf8_error_len is_utf8 chars encode_utf8
-arrays_too_deep_skipped = refl
-
--- damage in a string, at some places
-
-byte_ff_behind_no_letter_skipped : next_skip (at (34 ∷ 255 ∷ 34 ∷ []) 0) ≡ answered tt 3
-unfolding value_at items_at members_at past_blanks number_at int_at word_at digit_run number_value content_at body_at body_within found_at utf8_valid_len utf8_error_len is_utf8 chars encode_utf8
-byte_ff_behind_no_letter_skipped = refl
-
-byte_ff_behind_no_letter_as_bytes : next_bytes (at (34 ∷ 255 ∷ 34 ∷ []) 0) ≡ answered (borrowed (255 ∷ [])) 3
-unfolding value_at items_at members_at past_blanks number_at int_at word_at digit_run number_value content_at body_at body_within found_at utf8_valid_len utf8_error_len is_utf8 chars encode_utf8
-byte_ff_behind_no_letter_as_bytes = refl
-
-byte_1f_behind_no_letter_skipped : next_skip (at (34 ∷ 31 ∷ 34 ∷ []) 0) ≡ refused (fault control_character) 1 0
-unfolding value_at items_at members_at past_blanks number_at int_at word_at digit_run number_value content_at body_at body_within found_at utf8_valid_len utf8_error_len is_utf8 chars encode_utf8
-byte_1f_behind_no_letter_skipped = refl
-
-byte_1f_behind_no_letter_as_bytes : next_bytes (at (34 ∷ 31 ∷ 34 ∷ []) 0) ≡ refused (fault control_character) 1 0
-unfolding value_at items_at members_at past_blanks number_at int_at word_at digit_run number_value content_at body_at body_within found_at utf8_valid_len utf8_error_len is_utf8 chars encode_utf8
-byte_1f_behind_no_letter_as_bytes = refl
-
-a_wrong_escape_behind_no_letter_skipped : next_skip (at (codes "\"\\q\"") 0) ≡ refused (fault invalid_escape) 2 0
-unfolding value_at items_at members_at past_blanks number_at int_at word_at digit_run number_value content_at body_at body_within found_at utf8_valid_len utf8_error_len is_utf8 chars encode_utf8
-a_wrong_escape_behind_no_letter_skipped = refl
-
-a_wrong_escape_behind_no_letter_as_bytes : next_bytes (at (codes "\"\\q\"") 0) ≡ refused (fault invalid_escape) 2 0
-unfolding value_at items_at members_at past_blanks number_at int_at word_at digit_run number_value content_at body_at body_within found_at utf8_valid_len utf8_error_len is_utf8 chars encode_utf8
-a_wrong_escape_behind_no_letter_as_bytes = refl
-
-a_low_surrogate_behind_no_letter_skipped : next_skip (at (codes "\"\\udc00\"") 0) ≡ refused (fault lone_surrogate) 6 0
-unfolding value_at items_at members_at past_blanks number_at int_at word_at digit_run number_value content_at body_at body_within found_at utf8_valid_len utf8_error_len is_utf8 chars encode_utf8
-a_low_surrogate_behind_no_letter_skipped = refl
-
-a_low_surrogate_behind_no_letter_as_bytes : next_bytes (at (codes "\"\\udc00\"") 0) ≡ refused (fault lone_surrogate) 6 0
-unfolding value_at items_at members_at past_blanks number_at int_at word_at digit_run number_value content_at body_at body_within found_at utf8_valid_len utf8_error_len is_utf8 chars encode_utf8
-a_low_surrogate_behind_no_letter_as_bytes = refl
-
-a_cut_pair_behind_no_letter_skipped : next_skip (at (codes "\"\\ud83dx\"") 0) ≡ refused (fault end_of_hex_escape) 7 0
-unfolding value_at items_at members_at past_blanks number_at int_at word_at digit_run number_value content_at body_at body_within found_at utf8_valid_len utf8_error_len is_utf8 chars encode_utf8
-a_cut_pair_behind_no_letter_skipped = refl
-
-a_cut_pair_behind_no_letter_as_bytes : next_bytes (at (codes "\"\\ud83dx\"") 0) ≡ refused (fault end_of_hex_escape) 7 0
-unfolding value_at items_at members_at past_blanks number_at int_at word_at digit_run number_value content_at body_at body_within found_at utf8_valid_len utf8_error_len is_utf8 chars encode_utf8
-a_cut_pair_behind_no_letter_as_bytes = refl
-
-byte_ff_behind_one_letter_skipped : next_skip (at (34 ∷ 97 ∷ 255 ∷ 34 ∷ []) 0) ≡ answered tt 4
-unfolding value_at items_at members_at past_blanks number_at int_at word_at digit_run number_value content_at body_at body_within found_at utf8_valid_len utf8_error_len is_utf8 chars encode_utf8
-byte_ff_behind_one_letter_skipped = refl
-
-byte_ff_behind_one_letter_as_bytes : next_bytes (at (34 ∷ 97 ∷ 255 ∷ 34 ∷ []) 0) ≡ answered (borrowed (97 ∷ 255 ∷ [])) 4
-unfolding value_at items_at members_at past_blanks number_at int_at word_at digit_run number_value content_at body_at body_within found_at utf8_valid_len utf8_error_len is_utf8 chars encode_utf8
-byte_ff_behind_one_letter_as_bytes = refl
-
-byte_1f_behind_one_letter_skipped : next_skip (at (34 ∷ 97 ∷ 31 ∷ 34 ∷ []) 0) ≡ refused (fault control_character) 2 0
-unfolding value_at items_at members_at past_blanks number_at int_at word_at digit_run number_value content_at body_at body_within found_at utf8_valid_len utf8_error_len is_utf8 chars encode_utf8
-byte_1f_behind_one_letter_skipped = refl
-
-byte_1f_behind_one_letter_as_bytes : next_bytes (at (34 ∷ 97 ∷ 31 ∷ 34 ∷ []) 0) ≡ refused (fault control_character) 2 0
-unfolding value_at items_at members_at past_blanks number_at int_at word_at digit_run number_value content_at body_at body_within found_at utf8_valid_len utf8_error_len is_utf8 chars encode_utf8
-byte_1f_behind_one_letter_as_bytes = refl
-
-a_wrong_escape_behind_one_letter_skipped : next_skip (at (codes "\"a\\q\"") 0) ≡ refused (fault invalid_escape) 3 0
-unfolding value_at items_at members_at past_blanks number_at int_at word_at digit_run number_value content_at body_at body_within found_at utf8_valid_len utf8_error_len is_utf8 chars encode_utf8
-a_wrong_escape_behind_one_letter_skipped = refl
-
-a_wrong_escape_behind_one_letter_as_bytes : next_bytes (at (codes "\"a\\q\"") 0) ≡ refused (fault invalid_escape) 3 0
-unfolding value_at items_at members_at past_blanks number_at int_at word_at digit_run number_value content_at body_at body_within found_at utf8_valid_len utf8_error_len is_utf8 chars encode_utf8
-a_wrong_escape_behind_one_letter_as_bytes = refl
-
-a_low_surrogate_behind_one_letter_skipped : next_skip (at (codes "\"a\\udc00\"") 0) ≡ refused (fault lone_surrogate) 7 0
-unfolding value_at items_at members_at past_blanks number_at int_at word_at digit_run number_value content_at body_at body_within found_at utf8_valid_len utf8_error_len is_utf8 chars encode_utf8
-a_low_surrogate_behind_one_letter_skipped = refl
-
-a_low_surrogate_behind_one_letter_as_bytes : next_bytes (at (codes "\"a\\udc00\"") 0) ≡ refused (fault lone_surrogate) 7 0
-unfolding value_at items_at members_at past_blanks number_at int_at word_at digit_run number_value content_at body_at body_within found_at utf8_valid_len utf8_error_len is_utf8 chars encode_utf8
-a_low_surrogate_behind_one_letter_as_bytes = refl
-
-a_cut_pair_behind_one_letter_skipped : next_skip (at (codes "\"a\\ud83dx\"") 0) ≡ refused (fault end_of_hex_escape) 8 0
-unfolding value_at items_at members_at past_blanks number_at int_at word_at digit_run number_value content_at body_at body_within found_at utf8_valid_len utf8_error_len is_utf8 chars encode_utf8
-a_cut_pair_behind_one_letter_skipped = refl
-
-a_cut_pair_behind_one_letter_as_bytes : next_bytes (at (codes "\"a\\ud83dx\"") 0) ≡ refused (fault end_of_hex_escape) 8 0
-unfolding value_at items_at members_at past_blanks number_at int_at word_at digit_run number_value content_at body_at body_within found_at utf8_valid_len utf8_error_len is_utf8 chars encode_utf8
-a_cut_pair_behind_one_letter_as_bytes = refl
-
-byte_ff_behind_sixteen_letters_skipped : next_skip (at (codes "\"aaaaaaaaaaaaaaaa" ++ (255 ∷ (codes "\""))) 0) ≡ answered tt 19
-unfolding value_at items_at members_at past_blanks number_at int_at word_at digit_run number_value content_at body_at body_within found_at utf8_valid_len utf8_error_len is_utf8 chars encode_utf8
-byte_ff_behind_sixteen_letters_skipped = refl
-
-byte_ff_behind_sixteen_letters_as_bytes : next_bytes (at (codes "\"aaaaaaaaaaaaaaaa" ++ (255 ∷ (codes "\""))) 0) ≡ answered (borrowed (codes "aaaaaaaaaaaaaaaa" ++ (255 ∷ []))) 19
-unfolding value_at items_at members_at past_blanks number_at int_at word_at digit_run number_value content_at body_at body_within found_at utf8_valid_len utf8_error_len is_utf8 chars encode_utf8
-byte_ff_behind_sixteen_letters_as_bytes = refl
-
-byte_1f_behind_sixteen_letters_skipped : next_skip (at (codes "\"aaaaaaaaaaaaaaaa" ++ (31 ∷ (codes "\""))) 0) ≡ refused (fault control_character) 17 0
-unfolding value_at items_at members_at past_blanks number_at int_at word_at digit_run number_value content_at body_at body_within found_at utf8_valid_len utf8_error_len is_utf8 chars encode_utf8
-byte_1f_behind_sixteen_letters_skipped = refl
-
-byte_1f_behind_sixteen_letters_as_bytes : next_bytes (at (codes "\"aaaaaaaaaaaaaaaa" ++ (31 ∷ (codes "\""))) 0) ≡ refused (fault control_character) 17 0
-unfolding value_at items_at members_at past_blanks number_at int_at word_at digit_run number_value content_at body_at body_within found_at utf8_valid_len utf8_error_len is_utf8 chars encode_utf8
-byte_1f_behind_sixteen_letters_as_bytes = refl
-
-a_wrong_escape_behind_sixteen_letters_skipped : next_skip (at (codes "\"aaaaaaaaaaaaaaaa\\q\"") 0) ≡ refused (fault invalid_escape) 18 0
-unfolding value_at items_at members_at past_blanks number_at int_at word_at digit_run number_value content_at body_at body_within found_at utf8_valid_len utf8_error_len is_utf8 chars encode_utf8
-a_wrong_escape_behind_sixteen_letters_skipped = refl
-
-a_wrong_escape_behind_sixteen_letters_as_bytes : next_bytes (at (codes "\"aaaaaaaaaaaaaaaa\\q\"") 0) ≡ refused (fault invalid_escape) 18 0
-unfolding value_at items_at members_at past_blanks number_at int_at word_at digit_run number_value content_at body_at body_within found_at utf8_valid_len utf8_error_len is_utf8 chars encode_utf8
-a_wrong_escape_behind_sixteen_letters_as_bytes = refl
-
-a_low_surrogate_behind_sixteen_letters_skipped : next_skip (at (codes "\"aaaaaaaaaaaaaaaa\\udc00\"") 0) ≡ refused (fault lone_surrogate) 22 0
-unfolding value_at items_at members_at past_blanks number_at int_at word_at digit_run number_value content_at body_at body_within found_at utf8_valid_len utf8_error_len is_utf8 chars encode_utf8
-a_low_surrogate_behind_sixteen_letters_skipped = refl
-
-a_low_surrogate_behind_sixteen_letters_as_bytes : next_bytes (at (codes "\"aaaaaaaaaaaaaaaa\\udc00\"") 0) ≡ refused (fault lone_surrogate) 22 0
-unfolding value_at items_at members_at past_blanks number_at int_at word_at digit_run number_value content_at body_at body_within found_at utf8_valid_len utf8_error_len is_utf8 chars encode_utf8
-a_low_surrogate_behind_sixteen_letters_as_bytes = refl
-
-a_cut_pair_behind_sixteen_letters_skipped : next_skip (at (codes "\"aaaaaaaaaaaaaaaa\\ud83dx\"") 0) ≡ refused (fault end_of_hex_escape) 23 0
-unfolding value_at items_at members_at past_blanks number_at int_at word_at digit_run number_value content_at body_at body_within found_at utf8_valid_len utf8_error_len is_utf8 chars encode_utf8
-a_cut_pair_behind_sixteen_letters_skipped = refl
-
-a_cut_pair_behind_sixteen_letters_as_bytes : next_bytes (at (codes "\"aaaaaaaaaaaaaaaa\\ud83dx\"") 0) ≡ refused (fault end_of_hex_escape) 23 0
-unfolding value_at items_at members_at past_blanks number_at int_at word_at digit_run number_value content_at body_at body_within found_at utf8_valid_len utf8_error_len is_utf8 chars encode_utf8
-a_cut_pair_behind_sixteen_letters_as_bytes = refl
+bytes_of_damage-reply :
+    Replies (λ s. next s (bytes_read s)) (bytes_of_damage 0 ++ (bytes_of_damage 1 ++ bytes_of_damage 16))
+unfolding computed_replies
+bytes_of_damage-reply = refl

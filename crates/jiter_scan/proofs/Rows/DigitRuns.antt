@@ -27,9 +27,15 @@ numbers =
     (codes "777777777777777777777777,", taken (big (codes "777777777777777777777777")) 24) ∷
     (codes "-777777777777777777777777,", taken (big (codes "-777777777777777777777777")) 25) ∷
     (codes "7777777777777777777777777,", taken (big (codes "7777777777777777777777777")) 25) ∷
-    (codes "-7777777777777777777777777,", taken (big (codes "-7777777777777777777777777")) 26) ∷
-    (codes "7777777777777777777777777777777777777777,", taken (big (codes "7777777777777777777777777777777777777777")) 40) ∷
-    (codes "-7777777777777777777777777777777777777777,", taken (big (codes "-7777777777777777777777777777777777777777")) 41) ∷
+    (codes "-7777777777777777777777777,", taken (big (codes "-7777777777777777777777777")) 26) ∷ (
+      codes "7777777777777777777777777777777777777777,",
+      taken (big (codes "7777777777777777777777777777777777777777"))
+          40,
+    ) ∷ (
+      codes "-7777777777777777777777777777777777777777,",
+      taken (big (codes "-7777777777777777777777777777777777777777"))
+          41,
+    ) ∷
     -- what may stand behind
     (codes "-7777777777777777.5", taken (float (codes "-7777777777777777.5")) 19) ∷
     (codes "-7777777777777777.5]", taken (float (codes "-7777777777777777.5")) 19) ∷
@@ -50,14 +56,17 @@ sevens n = replicate n 55
 abbrev everywhere : ℕ → List ℕ
 everywhere n = sevens n ++ (codes "." ++ (sevens n ++ (codes "e-" ++ sevens n)))
 
-runs_of_a_fraction : map (λ n. number_at false (codes "1." ++ (sevens n ++ codes ",")) 0) counts ≡ map (λ n. taken (float (codes "1." ++ sevens n)) (n + 2)) counts
+runs_of_a_fraction : map (λ n. number_at false (codes "1." ++ (sevens n ++ codes ",")) 0) counts ≡ map
+    (λ n. taken (float (codes "1." ++ sevens n)) (n + 2)) counts
 unfolding computed_numbers
 runs_of_a_fraction = refl
 
-runs_of_a_power : map (λ n. number_at false (codes "1.5e" ++ (sevens n ++ codes ",")) 0) counts ≡ map (λ n. taken (float (codes "1.5e" ++ sevens n)) (n + 4)) counts
+runs_of_a_power : map (λ n. number_at false (codes "1.5e" ++ (sevens n ++ codes ",")) 0) counts ≡ map
+    (λ n. taken (float (codes "1.5e" ++ sevens n)) (n + 4)) counts
 unfolding computed_numbers
 runs_of_a_power = refl
 
-runs_everywhere : map (λ n. number_at false (everywhere n ++ codes ",") 0) counts ≡ map (λ n. taken (float (everywhere n)) (3 * n + 3)) counts
+runs_everywhere : map (λ n. number_at false (everywhere n ++ codes ",") 0) counts ≡ map
+    (λ n. taken (float (everywhere n)) (3 * n + 3)) counts
 unfolding computed_numbers
 runs_everywhere = refl

@@ -9,7 +9,7 @@ use Rattle.jiter_steps.specs.Tree.{Tree, null, boolean, int, big, float}
 use Rattle.jiter_steps.specs.Read.{Reading, done, fault}
 use Rattle.jiter_steps.specs.Answer.{answer}
 use Rattle.jiter_steps.proofs.Rows.Trees.{owned, ascii, number, text, word, own_text, listed, paired}
-use Rattle.jiter_steps.proofs.Rows.Computed.{computed_readings}
+use Rattle.jiter_steps.proofs.Computed.{computed_readings}
 
 abbrev nested_literals : Tree
 nested_literals = listed (boolean true ∷ listed (null ∷ listed [] ∷ []) ∷ boolean false ∷ [])

@@ -4,7 +4,7 @@ use Rattle.jiter_scan.specs.Kind.{eof_object, eof_value, expected_colon}
 use Rattle.jiter_scan.specs.Scanned.{taken, failed}
 use Rattle.jiter_scan.specs.Word.{Extent}
 use Rattle.jiter_steps.specs.Step.{step, colon, value_first, object_colon}
-use Rattle.jiter_steps.proofs.Rows.Computed.{computed_steps}
+use Rattle.jiter_steps.proofs.Computed.{computed_steps}
 
 -- behind a key
 abbrev key_ends : List (List ℕ × ℕ × Extent)

@@ -17,7 +17,7 @@ use Rattle.jiter_steps.specs.Answer.{seen_as, whole_trees, answer}
 use Rattle.jiter_steps.specs.FirstFault.{BeginsNoDocument, AreClosers, IsFiller, can_go_on, CanBeCompleted}
 use Rattle.jiter_steps.specs.Node.{Node, IsDocument}
 use Rattle.jiter_steps.specs.Read.{Reading, done, fault, scalar_at}
-use Rattle.jiter_steps.specs.StringReading.{Body, before, over, unclosed, whole, ended, content_at, string_at}
+use Rattle.jiter_steps.specs.StringReading.{Body, before, over, unclosed, whole, text_in_form, content_at, string_at}
 use Rattle.jiter_steps.specs.Tree.{Text, Tree}
 use Rattle.jiter_steps.specs.Tree as tree
 use Rattle.jiter_steps.proofs.Answered.{whole-fault}
@@ -215,7 +215,7 @@ open_string-reads w printed =
     let stands = subst (Stands t 1 (1 + length w)) range (stands-slice t 1 (1 + length w) (omega arith) (omega arith)) in
     let last = body_at-found t (1 + length w) (over unclosed) (found-end t (1 + length w) (omega arith)) in
     let body = bytes-read t 1 (1 + length w) w printed stands ∙ ap (before w false) last in
-    ap (λ (b : Body). ended whole t 1 b.bytes b.owned b.stop) body
+    ap (λ (b : Body). text_in_form whole t 1 b.bytes b.owned b.stop) body
 
 open_string-none : (w : List ℕ) (n : Node) → ArePrinted w → IsDocument false (34 ∷ w) n → ⊥
 open_string-none w n printed d =

@@ -13,7 +13,7 @@ use Rattle.jiter_steps.specs.Node as grammar
 use Rattle.jiter_steps.specs.Cut.{cut}
 use Rattle.jiter_steps.specs.Piece.{Piece}
 use Rattle.jiter_steps.proofs.Rows.Trees.{ascii, number, text, word, listed, paired}
-use Rattle.jiter_steps.proofs.Rows.Computed.{computed_cuts, computed_readings}
+use Rattle.jiter_steps.proofs.Computed.{computed_cuts, computed_readings}
 
 -- `[12,"aé",{"k":true}]`
 abbrev source : List ℕ

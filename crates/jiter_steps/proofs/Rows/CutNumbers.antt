@@ -6,7 +6,7 @@ use Rattle.jiter_steps.specs.Node.{Node, no_nodes, node}
 use Rattle.jiter_steps.specs.Node as grammar
 use Rattle.jiter_steps.specs.Cut.{cut}
 use Rattle.jiter_steps.proofs.Rows.Trees.{ascii, number, listed}
-use Rattle.jiter_steps.proofs.Rows.Computed.{computed_cuts}
+use Rattle.jiter_steps.proofs.Computed.{computed_cuts}
 
 -- the node of a text that is one number between two brackets
 abbrev around_number : List ℕ → Node

@@ -4,7 +4,7 @@ use Rattle.jiter_scan.specs.Kind.{Kind, invalid_escape, invalid_code_point, cont
 use Rattle.jiter_scan.specs.Kind.{end_of_hex_escape}
 use Rattle.jiter_steps.specs.Read.{done, fault}
 use Rattle.jiter_steps.specs.Answer.{answer, skip_at}
-use Rattle.jiter_steps.proofs.Rows.Computed.{computed_readings}
+use Rattle.jiter_steps.proofs.Computed.{computed_readings}
 
 -- refused at this index, with the reading left at the quote
 abbrev damage : List (List ℕ × Kind × ℕ)

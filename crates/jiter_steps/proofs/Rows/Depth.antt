@@ -6,7 +6,7 @@ use Rattle.jiter_steps.specs.Tree.{Tree}
 use Rattle.jiter_steps.specs.Read.{Reading, done, fault}
 use Rattle.jiter_steps.specs.Answer.{answer, partial_answer, skip_at}
 use Rattle.jiter_steps.proofs.Rows.Trees.{borrowed, paired, nested, times}
-use Rattle.jiter_steps.proofs.Rows.Computed.{computed_readings}
+use Rattle.jiter_steps.proofs.Computed.{computed_readings}
 
 -- so many arrays, one inside another
 abbrev arrays : ℕ → List ℕ

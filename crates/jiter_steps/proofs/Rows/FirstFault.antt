@@ -11,7 +11,7 @@ use Rattle.jiter_steps.specs.Answer.{answer}
 use Rattle.jiter_steps.specs.FirstFault.{BeginsNoDocument}
 use Rattle.jiter_steps.proofs.Dead.{dead}
 use Rattle.jiter_steps.proofs.Rows.Trees.{times}
-use Rattle.jiter_steps.proofs.Rows.Computed.{computed_readings}
+use Rattle.jiter_steps.proofs.Computed.{computed_readings}
 
 -- a text, its fault's kind and index, and bytes that go on its front
 abbrev Row : Type 0

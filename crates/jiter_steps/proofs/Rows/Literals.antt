@@ -6,7 +6,7 @@ use Rattle.jiter_scan.specs.Word.{Extent}
 use Rattle.jiter_steps.specs.Literal.{literal_at}
 use Rattle.jiter_steps.specs.declared.parse.Literal.{Literal}
 use Rattle.jiter_steps.specs.declared.parse.Literal.TheVariants as literal
-use Rattle.jiter_steps.proofs.Rows.Computed.{computed_literals}
+use Rattle.jiter_steps.proofs.Computed.{computed_literals}
 
 abbrev rows : List (List ℕ × Literal × ℕ × Extent)
 rows =

@@ -7,7 +7,7 @@ use Rattle.jiter_steps.specs.Tree.{Tree, float}
 use Rattle.jiter_steps.specs.Read.{Reading, done, fault}
 use Rattle.jiter_steps.specs.Answer.{partial_answer}
 use Rattle.jiter_steps.proofs.Rows.Trees.{ascii, number, text, word, own_text, listed, paired}
-use Rattle.jiter_steps.proofs.Rows.Computed.{computed_readings}
+use Rattle.jiter_steps.proofs.Computed.{computed_readings}
 
 -- what both partial modes answer
 abbrev in_both_modes : List (List ℕ × Reading Tree)

@@ -4,7 +4,7 @@ use Rattle.jiter_scan.specs.Kind.{eof_list, expected_ident, expected_value, inva
 use Rattle.jiter_scan.specs.Kind.{invalid_code_point, trailing_comma}
 use Rattle.jiter_steps.specs.Read.{Reading, done, fault}
 use Rattle.jiter_steps.specs.Answer.{skip_at, read_at}
-use Rattle.jiter_steps.proofs.Rows.Computed.{computed_readings}
+use Rattle.jiter_steps.proofs.Computed.{computed_readings}
 
 abbrev ends : List (List ℕ × ℕ × Reading (Unit {0}))
 ends =

@@ -4,7 +4,7 @@ use Rattle.jiter_scan.specs.Kind.{eof_list, eof_object, eof_value, expected_list
 use Rattle.jiter_scan.specs.Kind.{expected_object_comma_or_end, key_must_be_a_string, trailing_comma}
 use Rattle.jiter_steps.specs.Step.{Step, more, closed, stuck, step, array_first, array_comma, array_step}
 use Rattle.jiter_steps.specs.Step.{object_first, object_comma, object_step}
-use Rattle.jiter_steps.proofs.Rows.Computed.{computed_steps}
+use Rattle.jiter_steps.proofs.Computed.{computed_steps}
 
 -- behind an opening bracket
 abbrev array_begins : List (List ℕ × ℕ × Step)

@@ -6,7 +6,7 @@ use Rattle.jiter_scan.specs.Scanned.{Scanned, taken, failed}
 use Rattle.jiter_steps.specs.StringReading.{string_at, whole, kept, raw, raw_kept}
 use Rattle.jiter_steps.specs.Tree.{Text}
 use Rattle.jiter_steps.proofs.Rows.Trees.{borrowed, owned, ascii}
-use Rattle.jiter_steps.proofs.Rows.Computed.{computed_strings}
+use Rattle.jiter_steps.proofs.Computed.{computed_strings}
 
 -- what every form answers: nothing to decode, and the faults of each
 abbrev in_every_form : List (List ℕ × ℕ × Scanned Text)

@@ -13,20 +13,26 @@ ascii_text-requires c =
     let t = c.args.bytes.now in
     let whole = c.in_ok-magnitude in
     let end = c.in_ok-end in
-    IsAscii-decimal t c.args.from c.args.at end.end c.requires.minus (ap (λ x. extent_then x (λ j. extent_then (fraction_at t j) (λ k. exponent_at t k))) whole.ensures.value ∙ end.ensures.value)
+    IsAscii-decimal t c.args.from c.args.at end.end c.requires.minus
+    (ap (λ x. extent_then x (λ j. extent_then (fraction_at t j) (λ k. exponent_at t k))) whole.ensures.value
+    ∙ end.ensures.value)
 
 pub returns-clause-value : goal.returns-clause-value
 returns-clause-value c =
     let t = c.args.bytes.now in
     let whole = c.in_ok-magnitude in
     let end = c.in_ok-end in
-    let read = ap (λ x. extent_then x (λ j. extent_then (fraction_at t j) (λ k. exponent_at t k))) whole.ensures.value ∙ end.ensures.value in
+    let read =
+    ap (λ x. extent_then x (λ j. extent_then (fraction_at t j) (λ k. exponent_at t k))) whole.ensures.value
+    ∙ end.ensures.value in
     let value : number_value (slice_range t c.args.from end.end) ≡ number_view c.if-end-whole_end.number =
     elim c.if-end-whole_end.branch [
       | then-end-whole_end w ↦ sym (ap number_view w.number-is ∙ w.integer_of.ensures)
       | else-end-whole_end w ↦
           let ahead : whole.whole_end < end.end = omega (arith, end.ensures.place, w.if-end-whole_end.false) in
-          number_value-tail t c.args.from whole.whole_end end.end (omega (arith, IsMinusTo-le t c.args.from c.args.at c.requires.minus, whole.ensures.place)) ahead (omega (arith, whole.ensures.place)) end.ensures.value
+          number_value-tail t c.args.from whole.whole_end end.end
+          (omega (arith, IsMinusTo-le t c.args.from c.args.at c.requires.minus, whole.ensures.place)) ahead
+          (omega (arith, whole.ensures.place)) end.ensures.value
           ∙ sym (ap number_view w.number-is ∙ ap float w.ascii_text.ensures)
     ] in
     ap (with_value t c.args.from) read ∙ ap (λ n. taken n end.end) value

@@ -1,17 +1,21 @@
 use Rattle.std.proofs.Common.{◌∙◌, sym, arith}
 use Rattle.std.proofs.lemmas.Option.{slice_get_within}
-use Rattle.jiter_scan.proofs.Words.{word_at-cut, word_at-other, word_at-same, word_at-end}
+use Rattle.jiter_scan.proofs.WordLaws.{word_at-cut, word_at-other, word_at-same, word_at-end}
 use Rattle.jiter_scan.proofs.word.word_end.Goals as goal
 
 pub returns-in-None-clause-value : goal.returns-in-None-clause-value
 returns-in-None-clause-value c =
     let l = c.loop-expected in
-    l.invariant.same ∙ word_at-cut c.args.bytes.now c.args.word.now l.expected-index l.index c.loop-expected-test.true (sym c.byte_at.ensures.value ∙ c.in-None.is)
+    l.invariant.same
+    ∙ word_at-cut c.args.bytes.now c.args.word.now l.expected-index l.index c.loop-expected-test.true
+    (sym c.byte_at.ensures.value ∙ c.in-None.is)
 
 pub returns-then-byte-expected-clause-value : goal.returns-then-byte-expected-clause-value
 returns-then-byte-expected-clause-value c =
     let l = c.loop-expected in
-    l.invariant.same ∙ word_at-other c.args.bytes.now c.args.word.now l.expected-index l.index c.in-Some.byte c.loop-expected-test.true (sym c.byte_at.ensures.value ∙ c.in-Some.is) c.if-byte-expected.true
+    l.invariant.same
+    ∙ word_at-other c.args.bytes.now c.args.word.now l.expected-index l.index c.in-Some.byte
+    c.loop-expected-test.true (sym c.byte_at.ensures.value ∙ c.in-Some.is) c.if-byte-expected.true
 
 pub loop-expected-preserved : goal.loop-expected-preserved
 loop-expected-preserved c =
@@ -21,7 +25,10 @@ loop-expected-preserved c =
     record {
       place = omega arith;
       within = omega arith;
-      same = l.invariant.same ∙ word_at-same c.args.bytes.now c.args.word.now l.expected-index l.index c.in-Some.byte c.loop-expected-test.true here c.if-byte-expected.false;
+      same =
+          l.invariant.same
+          ∙ word_at-same c.args.bytes.now c.args.word.now l.expected-index l.index c.in-Some.byte
+          c.loop-expected-test.true here c.if-byte-expected.false;
     }
 
 pub returns-clause-value : goal.returns-clause-value

@@ -6,4 +6,7 @@ use Rattle.jiter_scan.proofs.number_decoder.NumberInt.from_bytes.Goals as goal
 
 pub returns-in-Err : goal.returns-in-Err
 returns-in-Err c =
-    record { value = AnswersAlone-fault int_view c.args.bytes.now (int_alone c.args.bytes.now) c.in-Err.fault c.from.result (int_alone-within c.args.bytes.now) c.in-Err.ensures c.from.ensures }
+    record {
+      value = AnswersAlone-fault int_view c.args.bytes.now (int_alone c.args.bytes.now) c.in-Err.fault c.from.result
+          (int_alone-within c.args.bytes.now) c.in-Err.ensures c.from.ensures;
+    }

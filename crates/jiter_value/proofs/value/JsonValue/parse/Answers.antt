@@ -1,24 +1,20 @@
-use Rattle.std.proofs.Common.{◌≡◌, ◌⊎◌, ◌∙◌, ap, sym, subst, true}
-use Rattle.jiter_scan.specs.Kind.{kind_of, is_end_kind}
-use Rattle.jiter_scan.specs.declared.errors.JsonErrorType.TheVariants.{OutOfMemory}
-use Rattle.jiter_value.proofs.Parsed.{found, only-value, only-error, error-ends, cut-value, cut-error}
+use Rattle.std.proofs.Common.{refl}
 use Rattle.jiter_value.proofs.value.JsonValue.parse.Goals as goal
 
-pub returns-in-Ok-clause-found : goal.returns-in-Ok-clause-found
-returns-in-Ok-clause-found c = found c.args.allow_inf_nan c.args.bytes.now c.in-Ok.value c.in-Ok.field-0-1 c.in-Ok.ensures.value
+pub returns-clause-found : goal.returns-clause-found
+returns-clause-found c = c.parse_with_config.ensures.found refl
 
-pub returns-in-Ok-clause-only : goal.returns-in-Ok-clause-only
-returns-in-Ok-clause-only c = only-value c.args.allow_inf_nan c.args.bytes.now c.in-Ok.value c.in-Ok.field-0-1 c.in-Ok.ensures.value
+pub returns-clause-only : goal.returns-clause-only
+returns-clause-only c = c.parse_with_config.ensures.accepts
 
-pub returns-in-Err-clause-only : goal.returns-in-Err-clause-only
-returns-in-Err-clause-only c = λ n d. ap (λ e. e.error_type) c.error_of.ensures ∙ only-error c.args.allow_inf_nan c.args.bytes.now c.in-Err.refusal c.in-Err.ensures.value n d
+pub returns-clause-first : goal.returns-clause-first
+returns-clause-first c = c.parse_with_config.ensures.first refl
 
-pub returns-in-Err-clause-ends : goal.returns-in-Err-clause-ends
-returns-in-Err-clause-ends c = rw c.error_of.ensures (error-ends c.args.allow_inf_nan c.args.bytes.now c.in-Err.refusal c.in-Err.ensures.value)
+pub returns-clause-dead : goal.returns-clause-dead
+returns-clause-dead c = c.parse_with_config.ensures.dead refl
 
-pub returns-in-Ok-clause-early : goal.returns-in-Ok-clause-early
-returns-in-Ok-clause-early c = cut-value c.args.allow_inf_nan c.args.bytes.now c.in-Ok.value c.in-Ok.field-0-1 c.in-Ok.ensures.value
+pub returns-clause-alive : goal.returns-clause-alive
+returns-clause-alive c = c.parse_with_config.ensures.alive refl
 
-pub returns-in-Err-clause-early : goal.returns-in-Err-clause-early
-returns-in-Err-clause-early c = λ cut.
-    subst (λ e. (e.error_type ≡ OutOfMemory) ⊎ (is_end_kind (kind_of e.error_type) ≡ true)) (sym c.error_of.ensures) (cut-error c.args.allow_inf_nan c.args.bytes.now c.in-Err.refusal c.in-Err.ensures.value cut)
+pub returns-clause-early : goal.returns-clause-early
+returns-clause-early c = c.parse_with_config.ensures.early refl

@@ -1,0 +1,113 @@
+//! What calls answer where memory is refused.
+use super::text_of;
+use crate::{JsonErrorType as Kind, JsonValue};
+use std::alloc::{AllocError, Global};
+use std::test::*;
+
+// The bytes that are kept back while all other memory is taken.
+const RESERVE: usize = 65_536;
+
+// All memory, but what was left of the reserve. Under `rt try` the allocator keeps some to itself, and the tests
+// that refuse requests fail there.
+#[derive(Drop)]
+struct Held {
+    blocks: Vec<Vec<u8>>,
+    reserve: Vec<u8>,
+}
+
+// Takes blocks of this size until one is refused. Nothing is written to them.
+fn take_blocks(alloc: Global, size: usize, blocks: &mut Vec<Vec<u8>>) {
+    for _ in blocks.len()..blocks.capacity() {
+        match Vec::with_capacity(alloc, size) {
+            Ok(block) => {
+                let _ = blocks.push(block);
+            }
+            Err(_) => return,
+        }
+    }
+}
+
+impl Held {
+    fn all(alloc: Global) -> Result<Self, AllocError> {
+        let mut blocks = Vec::with_capacity(alloc, 100_000)?;
+        let reserve = Vec::with_capacity(alloc, RESERVE)?;
+        let mut size = 1usize << 46;
+        for _ in 0..44 {
+            take_blocks(alloc, size, &mut blocks);
+            size = size / 2;
+        }
+        Ok(Self { blocks, reserve })
+    }
+
+    // Leaves so many bytes of the reserve to others.
+    fn leave(&mut self, alloc: Global, bytes: usize) -> Result<(), AllocError> {
+        self.give_back(alloc);
+        self.reserve = Vec::with_capacity(alloc, RESERVE.saturating_sub(bytes))?;
+        Ok(())
+    }
+
+    fn give_back(&mut self, alloc: Global) {
+        self.reserve = Vec::new(alloc);
+    }
+}
+
+#[test]
+fn each_refused_request_is_told(rt: HostRuntime) -> Result<(), Fail> {
+    let alloc = rt.alloc();
+    let bytes = br#"[1,["a\nb"],{"k":"\u0061"}]"#.as_slice();
+    let mut held = Held::all(alloc)?;
+    // The third item begins at index 12.
+    let mut refused_in_third_item = false;
+    for steps in 0..128usize {
+        held.leave(alloc, 16 * steps)?;
+        let answer = JsonValue::parse(alloc, bytes, false);
+        held.give_back(alloc);
+        match answer {
+            Ok(value) => {
+                let wanted = "[1,[owned 'a\nb'],{'k':owned 'a'}]";
+                assert_eq!(rt; text_of(alloc, &value)?.as_str(), wanted);
+                assert!(rt; refused_in_third_item);
+                return Ok(());
+            }
+            Err(error) => {
+                assert_eq!(rt; error.error_type, Kind::OutOfMemory);
+                assert!(rt; error.index <= bytes.len());
+                refused_in_third_item = refused_in_third_item || error.index >= 12;
+            }
+        }
+    }
+    Err("never answered".into())
+}
+
+#[test]
+fn some_values_want_no_memory(rt: HostRuntime) -> Result<(), Fail> {
+    let alloc = rt.alloc();
+    let held = Held::all(alloc)?;
+    let letter = String::from_str(alloc, "a");
+    let answers = [
+        (JsonValue::parse(alloc, b"true", false), "true"),
+        (JsonValue::parse(alloc, b"12", false), "12"),
+        (JsonValue::parse(alloc, b"\"abc\"", false), "'abc'"),
+        (JsonValue::parse(alloc, b"[ ]", false), "[]"),
+        (JsonValue::parse(alloc, b"{ }", false), "{}"),
+    ];
+    drop(held);
+    assert!(rt; letter.is_err());
+    for (answer, wanted) in answers {
+        assert_eq!(rt; text_of(alloc, &answer?)?.as_str(), wanted);
+    }
+    Ok(())
+}
+
+#[test]
+fn a_description_tells_of_want_of_memory(rt: HostRuntime) -> Result<(), Fail> {
+    let alloc = rt.alloc();
+    let error = JsonValue::parse(alloc, b"[1,]", false)
+        .err()
+        .ok_or("a value")?;
+    let held = Held::all(alloc)?;
+    let described = error.description(alloc, b"[1,]");
+    drop(held);
+    assert!(rt; described.is_err());
+    Ok(())
+}

@@ -1,0 +1,80 @@
+//! Rows of documents, each with the value that a parse of the whole answers.
+use super::value_text;
+use crate::JsonValue;
+use std::test::*;
+
+#[test]
+fn values_are_read(rt: HostRuntime) -> Result<(), Fail> {
+    let alloc = rt.alloc();
+    for (text, wanted) in [
+        (" [true, [null, []], false]", "[true,[null,[]],false]"),
+        (
+            "  { \"int\": 1, \"bigint\": 123456789012345678901234567890, \"float\": 1.2}  ",
+            "{'int':1,'bigint':big '123456789012345678901234567890','float':float '1.2'}",
+        ),
+        (r#"{"a":1,"\u0061":2}"#, "{'a':1,owned 'a':2}"),
+    ] {
+        assert_eq!(rt; value_text(alloc, text.as_bytes(), false)?.as_str(), wanted);
+    }
+    Ok(())
+}
+
+#[test]
+fn values_are_read_where_names_are_numbers(rt: HostRuntime) -> Result<(), Fail> {
+    let alloc = rt.alloc();
+    let person = "{'name':'John Doe','age':43,'phones':['+44 1234567','+44 2345678']}";
+    for (text, wanted) in [
+        ("[NaN]", "[float 'NaN']"),
+        (
+            r#"["string", "\u00a3", true, false, null, NaN, Infinity, -Infinity]"#,
+            "['string',owned '£',true,false,null,float 'NaN',float 'Infinity',float '-Infinity']",
+        ),
+        (
+            "\n{\"name\": \"John Doe\", \"age\": 43, \"phones\": [\"+44 1234567\", \"+44 2345678\"]}",
+            person,
+        ),
+        (
+            r#"
+{
+    "name": "John Doe",
+    "age": 43,
+    "phones": [
+        "+44 1234567",
+        "+44 2345678"
+    ]
+}"#,
+            person,
+        ),
+    ] {
+        assert_eq!(rt; value_text(alloc, text.as_bytes(), true)?.as_str(), wanted);
+    }
+    Ok(())
+}
+
+#[test]
+fn texts_are_borrowed_unless_they_have_escapes(rt: HostRuntime) -> Result<(), Fail> {
+    let alloc = rt.alloc();
+    for (text, wanted) in [
+        ("\"aaaaaaaaaaaaaaaa\"", "'aaaaaaaaaaaaaaaa'"),
+        ("\"éaaaaaaaaaaaaa\"", "'éaaaaaaaaaaaaa'"),
+        ("\"\x7f\"", "'\x7f'"),
+        (r#""aaaaaaaaaaaaaaa\n""#, "owned 'aaaaaaaaaaaaaaa\n'"),
+        (r#""\ud83d\ude00""#, "owned '\u{1F600}'"),
+    ] {
+        assert_eq!(rt; value_text(alloc, text.as_bytes(), false)?.as_str(), wanted);
+    }
+    Ok(())
+}
+
+#[test]
+fn two_hundred_containers_around_an_empty_one_are_read(rt: HostRuntime) -> Result<(), Fail> {
+    let alloc = rt.alloc();
+    let opened = "[".repeat(alloc, 201)?;
+    let closed = "]".repeat(alloc, 201)?;
+    let text = format!(in alloc; "{opened}{closed}")?;
+    assert_eq!(rt;
+        value_text(alloc, text.as_bytes(), false)?.as_str(),
+        text.as_str()
+    );
+    Ok(())
+}

@@ -1,0 +1,109 @@
+-- Where a partial reading halts in a container that the text leaves open: no container round it takes a byte there.
+use Rattle.std.proofs.Common.{◌≡◌, ◌≢◌, ℕ, ◌<◌, ◌≤◌, ◌==◌, Bool, true, false, cond, List, length, take, refl, ap, ap₂, ◌∙◌, subst, sym, arith, IfSome}
+use Rattle.std.specs.Prelude.{◌||◌, slice_get, Option, Some, None}
+use Rattle.std.proofs.lemmas.Bool.{eqb-true}
+use Rattle.std.proofs.lemmas.Option.{slice_get_within}
+use Rattle.jiter_scan.specs.Kind.{Kind, is_end_kind, is_forgiven, eof_list, eof_object, expected_list_comma_or_end, expected_object_comma_or_end}
+use Rattle.jiter_scan.proofs.Standing.{get-none}
+use Rattle.jiter_steps.specs.Blank.{is_blank, IsBlank}
+use Rattle.jiter_steps.specs.Literal.{start_of}
+use Rattle.jiter_steps.specs.Node as grammar
+use Rattle.jiter_steps.specs.Node.{Node, begin, Spells}
+use Rattle.jiter_steps.specs.Step.{Step, stuck, step, array_step, object_step}
+use Rattle.jiter_steps.specs.declared.parse.Start.TheVariants as start
+use Rattle.jiter_steps.proofs.Blanks.{past_blanks-end}
+use Rattle.jiter_steps.proofs.Front.{front-get, front-past}
+use Rattle.jiter_steps.proofs.RowSteps.{row-at}
+use Rattle.jiter_steps.proofs.SpelledParts.{start_is, begins-value}
+
+-- at the end of the text, or at a byte that begins a value: it is no blank, comma or closer
+abbrev pub Halts : List ℕ → ℕ → Type 0
+Halts t p = IfSome (slice_get t p) (λ c. start_of c ≢ start.Nothing)
+
+-- a fault at p that a partial mode forgives
+abbrev pub StuckAt : ℕ → Step → Type 0
+StuckAt p s = (kind : Kind) × (s ≡ stuck kind p) × (is_forgiven kind ≡ true)
+
+-- The end of input is forgiven.
+pub end-forgiven : (kind : Kind) → is_end_kind kind ≡ true → is_forgiven kind ≡ true
+end-forgiven expected_list_comma_or_end h = refl
+end-forgiven expected_object_comma_or_end h = refl
+end-forgiven kind h = h
+
+-- a byte that begins no value is another
+other : (c d : ℕ) → start_of d ≡ start.Nothing → start_of c ≢ start.Nothing → (c == d) ≡ false
+other c d none h = by (c == d) refl where
+  by : (b : Bool) → (c == d) ≡ b → b ≡ false
+  by true e = absurd (h (ap start_of (eqb-true c d e) ∙ none))
+  by false e = refl
+
+neither : (a b : Bool) → a ≡ false → b ≡ false → (a || b) ≡ false
+neither a b h g = ap₂ (λ (x y : Bool). x || y) h g
+
+begins-no_blank : (c : ℕ) → start_of c ≢ start.Nothing → is_blank c ≡ false
+begins-no_blank c h =
+    neither _ (c == 13) (neither _ (c == 10) (neither (c == 32) (c == 9) (other c 32 refl h) (other c 9 refl h))
+    (other c 10 refl h)) (other c 13 refl h)
+
+-- what is chosen where neither test is true
+past-tests : (a b : Bool) (x y z : Step) → a ≡ false → b ≡ false → cond a x (cond b y z) ≡ z
+past-tests a b x y z h g = ap (λ v. cond v x (cond b y z)) h ∙ ap (λ v. cond v y z) g
+
+-- a node begins a value
+node-begins : (n : Node) → start_is n ≢ start.Nothing
+node-begins (grammar.literal l b e) h = cc
+node-begins (grammar.number b e) h = cc
+node-begins (grammar.string ps b e) h = cc
+node-begins (grammar.array b e ns) h = cc
+node-begins (grammar.object b e ms) h = cc
+
+pub byte-halts : (t : List ℕ) (p c : ℕ) → slice_get t p ≡ Some c → start_of c ≢ start.Nothing → Halts t p
+byte-halts t p c here h = subst (λ o. IfSome o (λ c. start_of c ≢ start.Nothing)) (sym here) h
+
+-- A reading of the front halts at the cut, and at a value's first byte.
+module _ (t : List ℕ) (k : ℕ) (within : k ≤ length t) where
+  pub cut-halts : Halts (take k t) k
+  cut-halts = subst (λ o. IfSome o (λ c. start_of c ≢ start.Nothing)) (sym (front-past t k within k (omega arith))) tt
+
+pub begin-halts : (names : Bool) (t : List ℕ) (k : ℕ) (within : k ≤ length t) (n : Node) → Spells names t n
+    → begin n < k → Halts (take k t) (begin n)
+begin-halts names t k within n h lt =
+    let first = begins-value names t n h in
+    byte-halts (take k t) (begin n) first.byte (front-get t k within (begin n) first.byte lt first.here)
+    (λ e. node-begins n (sym first.starts ∙ e))
+
+-- There a step between parts is stuck.
+module _ (t : List ℕ) where
+  row-halts : (row : ℕ → Option ℕ → Step) → ((p : ℕ) → StuckAt p (row p None))
+      → ((p c : ℕ) → start_of c ≢ start.Nothing → StuckAt p (row p (Some c)))
+      → (p : ℕ) → Halts t p → StuckAt p (step t row p)
+  row-halts row none some p = by (slice_get t p) refl where
+    by : (o : Option ℕ) → slice_get t p ≡ o → IfSome o (λ c. start_of c ≢ start.Nothing) → StuckAt p (step t row p)
+    by None e h =
+        let last = past_blanks-end t p (get-none t p e) in
+        subst (StuckAt p) (sym (ap (λ m. row m (slice_get t m)) last ∙ ap (row p) e)) (none p)
+    by (Some c) e h =
+        let inside = slice_get_within t p c e in
+        let here : IsBlank t p p =
+        record { ordered = omega arith; within = omega arith; each = λ m l lt. absurd (omega arith) } in
+        subst (StuckAt p) (sym (row-at t row p p c here e (begins-no_blank c h))) (some p c h)
+
+  -- behind an item
+  pub array-halts : (p : ℕ) → Halts t p → StuckAt p (step t (array_step t) p)
+  array-halts =
+      row-halts (array_step t) (λ p. (eof_list, refl, refl))
+      (λ p c h. (
+        expected_list_comma_or_end,
+        past-tests (c == 93) (c == 44) _ _ _ (other c 93 refl h) (other c 44 refl h),
+        refl,
+      ))
+
+  -- behind a member
+  pub object-halts : (p : ℕ) → Halts t p → StuckAt p (step t (object_step t) p)
+  object-halts =
+      row-halts (object_step t) (λ p. (eof_object, refl, refl))
+      (λ p c h. (
+        expected_object_comma_or_end,
+        past-tests (c == 125) (c == 44) _ _ _ (other c 125 refl h) (other c 44 refl h),
+        refl,
+      ))

@@ -1,0 +1,55 @@
+-- What the functions that read strings return.
+use Rattle.std.specs.Prelude.{◌≡◌, ℕ, ◌+◌, Bool, true, false, List, slice_get, Some}
+use Rattle.std.specs.Char.{encode_utf8}
+use Rattle.std.specs.Cow.{cow_str_bytes}
+use Rattle.std.specs.declared.alloc.Global.{Global}
+use Rattle.std.specs.declared.borrow.CowStr.{CowStr}
+use Rattle.std.specs.declared.borrow.CowStr.TheVariants as text
+use Rattle.jiter_scan.specs.Ascii as ascii
+use Rattle.jiter_scan.specs.Kind.{fault_kind}
+use Rattle.jiter_scan.specs.Scan.{scan_stop}
+use Rattle.jiter_steps.specs.Tree.{Text}
+use Rattle.jiter_steps.specs.StringReading.{HexDigits, number, bad, few, Place, part, over, Stop, closed, unclosed, cut, wrong}
+use Rattle.jiter_steps.specs.declared.string_decoder.Hex.{Hex}
+use Rattle.jiter_steps.specs.declared.string_decoder.Hex.TheVariants as hex
+use Rattle.jiter_steps.specs.declared.string_decoder.AtStop.{AtStop}
+use Rattle.jiter_steps.specs.declared.string_decoder.AtStop.TheVariants as at_stop
+use Rattle.jiter_steps.specs.declared.string_decoder.Ending.{Ending}
+use Rattle.jiter_steps.specs.declared.string_decoder.Ending.TheVariants as ending
+
+-- the text lies in memory of its own
+abbrev pub is_owned : CowStr Global → Bool
+is_owned (text.Borrowed s) = false
+is_owned (text.Owned s) = true
+
+-- its bytes, and whether they lie in memory of their own
+abbrev pub text_view : CowStr Global → Text
+text_view c = record { owned = is_owned c; bytes = cow_str_bytes c }
+
+-- four hex digits as the code reads them
+abbrev pub digits_view : Hex → HexDigits
+digits_view hex.Short = few
+digits_view (hex.Bad k) = bad k
+digits_view (hex.Number u) = number u
+
+-- where there are four hex digits, of their number
+abbrev pub IfNumber : Hex → (ℕ → Type 0) → Type 0
+IfNumber hex.Short P = Unit {0}
+IfNumber (hex.Bad k) P = Unit {0}
+IfNumber (hex.Number u) P = P u
+
+-- how a string ends
+abbrev pub stop_view : Ending → Stop
+stop_view (ending.Closed e) = closed e
+stop_view ending.Unclosed = unclosed
+stop_view ending.Cut = cut
+stop_view (ending.Wrong f) = wrong (fault_kind f.kind) f.index
+
+-- what stands at a place that is no plain byte's
+abbrev pub place_view : AtStop → Place
+place_view (at_stop.Escape c j) = part (encode_utf8 c) true j
+place_view (at_stop.End s) = over (stop_view s)
+
+-- Only a string with a backslash wants memory: the plain bytes behind its quote end at one.
+abbrev pub WantsMemory : List ℕ → ℕ → Type 0
+WantsMemory t at = slice_get t (scan_stop t (at + 1)) ≡ Some ascii.backslash

@@ -1,0 +1,502 @@
+//! Reading a string (RFC 8259, 7 and 8.1): its own bytes where it has no backslash, or else its text decoded.
+ghost use Rattle.std.specs.Prelude.{◌≡◌, ℕ, Bool, ◌+◌, ◌^◌, ◌<◌, ◌≤◌, ◌++◌, length, true, false, slice_get, slice_range, IfOk, IfErr, IfSome, MatchResult, Some, None};
+ghost use Rattle.std.specs.Char.{digit_value, encode_utf8};
+ghost use Rattle.jiter_scan.specs.Scan.{is_stop, scan_stop};
+ghost use Rattle.jiter_scan.specs.Kind.{invalid_code_point};
+ghost use Rattle.jiter_scan.specs.Scanned.{Scans, with_end, taken, failed};
+ghost use Rattle.jiter_steps.specs.Escape.{short_escape, is_hex, is_high, is_low};
+ghost use Rattle.jiter_steps.specs.ReadError.{UnlessRefused, WhereRefused};
+ghost use Rattle.jiter_steps.specs.StringReading.{hex_digits_at, place_at, unit_then, behind_backslash, unicode_escape, behind_high, behind_high_backslash, surrogate_pair, body_at, if_utf8, valid_front, whole, kept, string_at};
+ghost use Rattle.jiter_steps.specs.StringDecoder.{text_view, digits_view, IfNumber, place_view, stop_view, WantsMemory};
+ghost use Rattle.jiter_steps.specs.declared.string_decoder.AtStop.TheVariants as at_stop;
+ghost use Rattle.jiter_steps.specs.declared.string_decoder.Ending.TheVariants as ending;
+
+use crate::read_error::ReadError;
+use jiter_scan::errors::{Fault, FaultKind};
+use jiter_scan::memory::{Refused, copy_text, extend};
+use jiter_scan::word::byte_at;
+use std::alloc::Global;
+use std::borrow::CowStr;
+
+// Four hex digits: the first byte that is none, or the number. `Short` where fewer than four bytes are left.
+#[derive(Clone, Copy, Debug)]
+enum Hex {
+    Short,
+    Bad(usize),
+    Number(u32),
+}
+
+// How a string ends: behind its quote, before a piece, within an escape, or at a fault.
+#[derive(Clone, Copy, Debug)]
+enum Ending {
+    Closed(usize),
+    Unclosed,
+    Cut,
+    Wrong(Fault),
+}
+
+// What ends a run of plain bytes: an escape's character with its end, or the end of the string.
+#[derive(Clone, Copy, Debug)]
+enum AtStop {
+    Escape(char, usize),
+    End(Ending),
+}
+
+fn digit(byte: u8) -> Option<u32>
+    ensures value { IfSome result (λ d. (d ≡ digit_value byte) × (d < 16) × (is_hex byte ≡ true)) }
+    ensures none { result ≡ None → is_hex byte ≡ false }
+{
+    match byte {
+        b'0'..=b'9' => Some((byte - b'0') as u32),
+        b'A'..=b'F' => Some((byte - b'A') as u32 + 10),
+        b'a'..=b'f' => Some((byte - b'a') as u32 + 10),
+        _ => None,
+    }
+}
+
+fn short_escape(byte: u8) -> Option<u8>
+    ensures value { result ≡ short_escape byte }
+    ensures ascii { IfSome result (λ c. c < 128) }
+{
+    match byte {
+        b'"' => Some(b'"'),
+        b'\\' => Some(b'\\'),
+        b'/' => Some(b'/'),
+        b'b' => Some(8),
+        b'f' => Some(12),
+        b'n' => Some(b'\n'),
+        b'r' => Some(b'\r'),
+        b't' => Some(b'\t'),
+        _ => None,
+    }
+}
+
+fn is_high(unit: u32) -> bool
+    ensures value { result ≡ is_high unit }
+{
+    0xd800 <= unit && unit < 0xdc00
+}
+
+fn is_low(unit: u32) -> bool
+    ensures value { result ≡ is_low unit }
+{
+    0xdc00 <= unit && unit < 0xe000
+}
+
+fn hex_at(bytes: &[u8], at: usize) -> Hex
+    requires { at ≤ length bytes.now }
+    ensures value { digits_view result ≡ hex_digits_at bytes.now at }
+    ensures within { IfNumber result (λ u. (u < 65536) × (at + 4 ≤ length bytes.now)) }
+{
+    if bytes.len() - at < 4 {
+        return Hex::Short;
+    }
+    let Some(a) = digit(bytes[at]) else {
+        return Hex::Bad(at);
+    };
+    let Some(b) = digit(bytes[at + 1]) else {
+        return Hex::Bad(at + 1);
+    };
+    let Some(c) = digit(bytes[at + 2]) else {
+        return Hex::Bad(at + 2);
+    };
+    let Some(d) = digit(bytes[at + 3]) else {
+        return Hex::Bad(at + 3);
+    };
+    Hex::Number(a * 4096 + b * 256 + c * 16 + d)
+}
+
+fn wrong(kind: FaultKind, index: usize) -> AtStop
+    ensures { result ≡ at_stop.End (ending.Wrong (record { kind = kind; index = index })) }
+{
+    AtStop::End(Ending::Wrong(Fault { kind, index }))
+}
+
+// The second number of a pair, whose digits begin at `at`.
+fn low_surrogate(bytes: &[u8], high: u32, at: usize) -> AtStop
+    requires high { is_high high ≡ true }
+    requires within { at ≤ length bytes.now }
+    ensures value { place_view result ≡ unit_then bytes.now at (surrogate_pair high) }
+{
+    match hex_at(bytes, at) {
+        Hex::Short => AtStop::End(Ending::Cut),
+        Hex::Bad(index) => wrong(FaultKind::InvalidEscape, index),
+        Hex::Number(low) => {
+            if !is_low(low) {
+                return wrong(FaultKind::LoneLeadingSurrogateInHexEscape, at + 3);
+            }
+            match char::from_u32(0x10000 + (high - 0xd800) * 0x400 + (low - 0xdc00)) {
+                Some(c) => AtStop::Escape(c, at + 4),
+                None => unreachable!(),
+            }
+        }
+    }
+}
+
+// Behind the backslash that follows a high surrogate.
+fn behind_high_backslash(bytes: &[u8], high: u32, at: usize) -> AtStop
+    requires high { is_high high ≡ true }
+    ensures value { place_view result ≡ behind_high_backslash bytes.now high at (slice_get bytes.now at) }
+{
+    match byte_at(bytes, at) {
+        None => AtStop::End(Ending::Cut),
+        Some(b'u') => low_surrogate(bytes, high, at + 1),
+        Some(_) => wrong(FaultKind::UnexpectedEndOfHexEscape, at),
+    }
+}
+
+// Behind the digits of a high surrogate.
+fn behind_high(bytes: &[u8], high: u32, at: usize) -> AtStop
+    requires high { is_high high ≡ true }
+    ensures value { place_view result ≡ behind_high bytes.now high at (slice_get bytes.now at) }
+{
+    match byte_at(bytes, at) {
+        None => AtStop::End(Ending::Cut),
+        Some(b'\\') => behind_high_backslash(bytes, high, at + 1),
+        Some(_) => wrong(FaultKind::UnexpectedEndOfHexEscape, at),
+    }
+}
+
+// Behind `\u`.
+fn unicode_escape(bytes: &[u8], at: usize) -> AtStop
+    requires within { at ≤ length bytes.now }
+    ensures value { place_view result ≡ unit_then bytes.now at (unicode_escape bytes.now) }
+{
+    match hex_at(bytes, at) {
+        Hex::Short => AtStop::End(Ending::Cut),
+        Hex::Bad(index) => wrong(FaultKind::InvalidEscape, index),
+        Hex::Number(unit) => {
+            if is_high(unit) {
+                return behind_high(bytes, unit, at + 4);
+            }
+            if is_low(unit) {
+                return wrong(FaultKind::LoneLeadingSurrogateInHexEscape, at + 3);
+            }
+            match char::from_u32(unit) {
+                Some(c) => AtStop::Escape(c, at + 4),
+                None => unreachable!(),
+            }
+        }
+    }
+}
+
+// Behind a backslash.
+fn behind_backslash(bytes: &[u8], at: usize) -> AtStop
+    ensures value { place_view result ≡ behind_backslash bytes.now at (slice_get bytes.now at) }
+{
+    match byte_at(bytes, at) {
+        None => AtStop::End(Ending::Cut),
+        Some(b'u') => unicode_escape(bytes, at + 1),
+        Some(letter) => match short_escape(letter) {
+            Some(c) => AtStop::Escape(c as char, at + 1),
+            None => wrong(FaultKind::InvalidEscape, at),
+        },
+    }
+}
+
+// What stands where a run of plain bytes ends.
+#[tactic(auto, unfolding(crate::specs::StringReading::place_at))]
+fn place_at(bytes: &[u8], at: usize) -> AtStop
+    requires { IfSome (slice_get bytes.now at) (λ b. is_stop b ≡ true) }
+    ensures { place_view result ≡ place_at bytes.now at }
+{
+    match byte_at(bytes, at) {
+        None => AtStop::End(Ending::Unclosed),
+        Some(b'"') => AtStop::End(Ending::Closed(at + 1)),
+        Some(b'\\') => behind_backslash(bytes, at + 1),
+        Some(_) => wrong(FaultKind::ControlCharacterWhileParsingString, at),
+    }
+}
+
+// The first quote, backslash or control character from `from` on, or the length.
+#[tactic(auto, using(crate::proofs::PlainRuns::scan_steps))]
+fn plain_end(bytes: &[u8], from: usize) -> usize
+    requires { from ≤ length bytes.now }
+    ensures stop { result ≡ scan_stop bytes.now from }
+    ensures within { (from ≤ result) × (result ≤ length bytes.now) }
+{
+    let mut at = from;
+    while at < bytes.len() {
+        let byte = bytes[at];
+        if byte == b'"' || byte == b'\\' || byte < 0x20 {
+            return at;
+        }
+        at += 1;
+    }
+    at
+}
+
+fn push_char(tape: &mut Vec<u8>, c: char) -> Result<(), Refused>
+    ensures { IfOk result (λ _. tape.new.items ≡ tape.old.items ++ encode_utf8 c) }
+{
+    let mut buffer = [0; 4];
+    let encoded = c.encode_utf8(&mut buffer);
+    extend(tape, encoded.as_bytes())
+}
+
+// Adds what stands from `from` on to the tape, decoded: a run of plain bytes and an escape at a time.
+#[tactic(auto, using(crate::proofs::PlainRuns::scan_stop_stops))]
+fn decode(tape: &mut Vec<u8>, bytes: &[u8], from: usize) -> Result<Ending, Refused>
+    requires { from ≤ length bytes.now }
+    ensures text { IfOk result (λ _. tape.new.items
+        ≡ tape.old.items ++ (body_at bytes.now from).bytes) }
+    ensures stop { IfOk result (λ ending. stop_view ending ≡ (body_at bytes.now from).stop) }
+{
+    let mut at = from;
+    loop {
+        let to = plain_end(bytes, at);
+        extend(tape, &bytes[at..to])?;
+        match place_at(bytes, to) {
+            AtStop::Escape(c, end) => {
+                push_char(tape, c)?;
+                at = end;
+            }
+            AtStop::End(ending) => return Ok(ending),
+        }
+    }
+}
+
+// The text of a string with no backslash, whose closing quote is at `to`.
+#[tactic(auto, using(crate::proofs::DecodeSteps::checked_text))]
+fn borrow_text<'j>(bytes: &'j [u8], from: usize, to: usize) -> Result<(CowStr<'j>, usize), Fault>
+    requires { (from ≤ to) × (to < length bytes.now) }
+    ensures { Scans (with_end text_view) result
+        (if_utf8 from false (slice_range bytes.now from to) (to + 1)) }
+{
+    match simdutf8::compat::from_utf8(&bytes[from..to]) {
+        Ok(text) => Ok((CowStr::Borrowed(text), to + 1)),
+        Err(e) => Err(Fault {
+            kind: FaultKind::InvalidUnicodeCodePoint,
+            index: from + e.valid_up_to(),
+        }),
+    }
+}
+
+// The decoded bytes, of a content that begins at `from`, as a text of their own.
+#[tactic(auto, using(crate::proofs::DecodeSteps::checked_text))]
+fn own_text<'j>(
+    alloc: Global,
+    bytes: &[u8],
+    from: usize,
+    end: usize,
+) -> Result<(CowStr<'j>, usize), ReadError>
+    requires { from + length bytes.now < 2 ^ 64 }
+    ensures { UnlessRefused result (λ r. Scans (with_end text_view) r
+        (if_utf8 from true bytes.now end)) }
+{
+    match simdutf8::compat::from_utf8(bytes) {
+        Ok(text) => match copy_text(alloc, text) {
+            Ok(own) => Ok((CowStr::Owned(own), end)),
+            Err(refused) => Err(ReadError::Memory(refused)),
+        },
+        Err(e) => Err(ReadError::Fault(Fault {
+            kind: FaultKind::InvalidUnicodeCodePoint,
+            index: from + e.valid_up_to(),
+        })),
+    }
+}
+
+// The tape's bytes of a content that begins at `from`, and how it ends there.
+fn decode_from(tape: &mut Vec<u8>, bytes: &[u8], from: usize, to: usize) -> Result<Ending, Refused>
+    requires within { from ≤ length bytes.now }
+    requires stop { to ≡ scan_stop bytes.now from }
+    ensures text { IfOk result (λ _. tape.new.items ≡ (body_at bytes.now from).bytes) }
+    ensures stop { IfOk result (λ ending. stop_view ending ≡ (body_at bytes.now from).stop) }
+{
+    tape.clear();
+    extend(tape, &bytes[from..to])?;
+    decode(tape, bytes, to)
+}
+
+// The input ends inside the string.
+#[cold]
+fn cut_short(bytes: &[u8]) -> Fault
+    ensures { result ≡ record {
+      kind = FaultKind.EofWhileParsingString;
+      index = length bytes.now;
+    } }
+{
+    Fault {
+        kind: FaultKind::EofWhileParsingString,
+        index: bytes.len(),
+    }
+}
+
+// The text of a string whose plain bytes end at `to`, with a backslash.
+fn decode_text<'j>(
+    alloc: Global,
+    tape: &mut Vec<u8>,
+    bytes: &'j [u8],
+    at: usize,
+    to: usize,
+) -> Result<(CowStr<'j>, usize), ReadError>
+    requires within { at < length bytes.now }
+    requires stop { to ≡ scan_stop bytes.now (at + 1) }
+    requires backslash { slice_get bytes.now to ≡ Some 92 }
+    ensures { UnlessRefused result (λ r. Scans (with_end text_view) r
+        (string_at whole bytes.now at)) }
+{
+    match decode_from(tape, bytes, at + 1, to) {
+        Ok(Ending::Closed(end)) => own_text(alloc, tape.as_slice(), at + 1, end),
+        Ok(Ending::Wrong(fault)) => Err(ReadError::Fault(fault)),
+        Ok(Ending::Unclosed) => Err(ReadError::Fault(cut_short(bytes))),
+        Ok(Ending::Cut) => Err(ReadError::Fault(cut_short(bytes))),
+        Err(refused) => Err(ReadError::Memory(refused)),
+    }
+}
+
+/// Reads the string whose opening quote is at the byte index `at`, and gives its text with the index behind
+/// its closing quote. A text without a backslash is the input's own bytes; any other is decoded on the tape,
+/// and only that asks for memory.
+///
+/// The index of a fault is the byte that is wrong, or the length where the input ends too early; for a text
+/// that is not UTF-8 it counts on from the opening quote by the decoded bytes before the broken one (RFC
+/// 8259, 7 and 8.1).
+pub fn string_at<'j>(
+    alloc: Global,
+    tape: &mut Vec<u8>,
+    bytes: &'j [u8],
+    at: usize,
+) -> Result<(CowStr<'j>, usize), ReadError>
+    requires { at < length bytes.now }
+    ensures value { UnlessRefused result (λ r. Scans (with_end text_view) r
+        (string_at whole bytes.now at)) }
+    ensures advances { IfOk result (λ x. (at < x.1) × (x.1 ≤ length bytes.now)) }
+    ensures memory { WhereRefused result (WantsMemory bytes.now at) }
+{
+    let to = plain_end(bytes, at + 1);
+    match byte_at(bytes, to) {
+        None => Err(ReadError::Fault(cut_short(bytes))),
+        Some(b'"') => match borrow_text(bytes, at + 1, to) {
+            Ok(text) => Ok(text),
+            Err(fault) => Err(ReadError::Fault(fault)),
+        },
+        Some(b'\\') => decode_text(alloc, tape, bytes, at, to),
+        Some(_) => Err(ReadError::Fault(Fault {
+            kind: FaultKind::ControlCharacterWhileParsingString,
+            index: to,
+        })),
+    }
+}
+
+// The bytes as a text, without an unfinished character at their end; or how many are right before one that is
+// wrong.
+#[tactic(auto, using(crate::proofs::FrontTexts::kept_whole, crate::proofs::FrontTexts::kept_front, crate::proofs::FrontTexts::kept_wrong))]
+fn front_text(bytes: &[u8]) -> Result<&str, usize>
+    ensures value { (i e : ℕ) → (owned : Bool) → MatchResult result
+        (λ text. valid_front i owned bytes.now e ≡ taken (record { owned = owned; bytes = text.now }) e)
+        (λ n. valid_front i owned bytes.now e ≡ failed invalid_code_point (i + n)) }
+    ensures within { IfErr result (λ n. n ≤ length bytes.now) }
+{
+    match simdutf8::compat::from_utf8(bytes) {
+        Ok(text) => Ok(text),
+        Err(e) => match e.error_len() {
+            None => match simdutf8::compat::from_utf8(&bytes[..e.valid_up_to()]) {
+                Ok(text) => Ok(text),
+                Err(_) => unreachable!(),
+            },
+            Some(_) => Err(e.valid_up_to()),
+        },
+    }
+}
+
+// The text of the bytes between, of a string that may be cut.
+fn borrow_front<'j>(
+    bytes: &'j [u8],
+    from: usize,
+    to: usize,
+    end: usize,
+) -> Result<(CowStr<'j>, usize), Fault>
+    requires { (from ≤ to) × (to ≤ length bytes.now) }
+    ensures { Scans (with_end text_view) result
+        (valid_front from false (slice_range bytes.now from to) end) }
+{
+    match front_text(&bytes[from..to]) {
+        Ok(text) => Ok((CowStr::Borrowed(text), end)),
+        Err(right) => Err(Fault {
+            kind: FaultKind::InvalidUnicodeCodePoint,
+            index: from + right,
+        }),
+    }
+}
+
+// The decoded bytes, of a content that begins at `from` and may be cut, as a text of their own.
+fn own_front<'j>(
+    alloc: Global,
+    bytes: &[u8],
+    from: usize,
+    end: usize,
+) -> Result<(CowStr<'j>, usize), ReadError>
+    requires { from + length bytes.now < 2 ^ 64 }
+    ensures { UnlessRefused result (λ r. Scans (with_end text_view) r
+        (valid_front from true bytes.now end)) }
+{
+    match front_text(bytes) {
+        Ok(text) => match copy_text(alloc, text) {
+            Ok(own) => Ok((CowStr::Owned(own), end)),
+            Err(refused) => Err(ReadError::Memory(refused)),
+        },
+        Err(right) => Err(ReadError::Fault(Fault {
+            kind: FaultKind::InvalidUnicodeCodePoint,
+            index: from + right,
+        })),
+    }
+}
+
+// The text of a string that may be cut, whose plain bytes end at `to`, with a backslash.
+fn decode_front<'j>(
+    alloc: Global,
+    tape: &mut Vec<u8>,
+    bytes: &'j [u8],
+    at: usize,
+    to: usize,
+) -> Result<(CowStr<'j>, usize), ReadError>
+    requires within { at < length bytes.now }
+    requires stop { to ≡ scan_stop bytes.now (at + 1) }
+    requires backslash { slice_get bytes.now to ≡ Some 92 }
+    ensures { UnlessRefused result (λ r. Scans (with_end text_view) r
+        (string_at kept bytes.now at)) }
+{
+    match decode_from(tape, bytes, at + 1, to) {
+        Ok(Ending::Closed(end)) => own_front(alloc, tape.as_slice(), at + 1, end),
+        Ok(Ending::Wrong(fault)) => Err(ReadError::Fault(fault)),
+        Ok(Ending::Unclosed) => own_front(alloc, tape.as_slice(), at + 1, bytes.len()),
+        Ok(Ending::Cut) => own_front(alloc, tape.as_slice(), at + 1, bytes.len()),
+        Err(refused) => Err(ReadError::Memory(refused)),
+    }
+}
+
+/// The same of a string that the end of the input may cut: its text goes as far as whole characters do, and
+/// its end is then the length.
+pub fn string_front_at<'j>(
+    alloc: Global,
+    tape: &mut Vec<u8>,
+    bytes: &'j [u8],
+    at: usize,
+) -> Result<(CowStr<'j>, usize), ReadError>
+    requires { at < length bytes.now }
+    ensures value { UnlessRefused result (λ r. Scans (with_end text_view) r
+        (string_at kept bytes.now at)) }
+    ensures advances { IfOk result (λ x. (at < x.1) × (x.1 ≤ length bytes.now)) }
+    ensures memory { WhereRefused result (WantsMemory bytes.now at) }
+{
+    let to = plain_end(bytes, at + 1);
+    match byte_at(bytes, to) {
+        None => match borrow_front(bytes, at + 1, to, to) {
+            Ok(text) => Ok(text),
+            Err(fault) => Err(ReadError::Fault(fault)),
+        },
+        Some(b'"') => match borrow_front(bytes, at + 1, to, to + 1) {
+            Ok(text) => Ok(text),
+            Err(fault) => Err(ReadError::Fault(fault)),
+        },
+        Some(b'\\') => decode_front(alloc, tape, bytes, at, to),
+        Some(_) => Err(ReadError::Fault(Fault {
+            kind: FaultKind::ControlCharacterWhileParsingString,
+            index: to,
+        })),
+    }
+}
+
+#[cfg(test)]
+mod tests;

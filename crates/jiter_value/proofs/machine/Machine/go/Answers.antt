@@ -1,0 +1,14 @@
+use Rattle.jiter_value.specs.Settings.{answered}
+use Rattle.jiter_value.proofs.Answering.{answered-refused, error-answers, fails-gives}
+use Rattle.jiter_value.proofs.machine.Machine.go.Goals as goal
+
+pub returns : goal.returns
+returns c =
+    let p = c.args.settings in
+    let t = c.args.old_parser.bytes.now in
+    let e = c.in-Err.error in
+    let j = c.turn.new.parser.index in (
+      error-answers e j c.error_at-in-Err.result (answered p t) c.error_at-in-Err.ensures
+          (answered-refused p t c.requires.3 e j (fails-gives e j _ _ c.requires.0 c.in-Err.ensures.reaches)),
+      tt,
+    )

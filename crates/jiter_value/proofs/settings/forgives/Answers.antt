@@ -1,0 +1,44 @@
+use Rattle.std.proofs.Common.{◌≡◌, ◌≢◌, ◌⊎◌, inl, inr, false, true, cond, refl, ap, sym, ◌∙◌}
+use Rattle.jiter_scan.specs.Kind.{Kind, fault_kind, is_forgiven}
+use Rattle.jiter_scan.specs.PartialMode.{is_active}
+use Rattle.jiter_scan.specs.declared.errors.FaultKind.{FaultKind}
+use Rattle.jiter_scan.specs.declared.errors.FaultKind.TheVariants.{EofWhileParsingList, EofWhileParsingObject, EofWhileParsingString, EofWhileParsingValue, ExpectedListCommaOrEnd, ExpectedObjectCommaOrEnd}
+use Rattle.jiter_scan.specs.declared.partial_mode.PartialMode.{PartialMode}
+use Rattle.jiter_steps.specs.Answer.{nothing_forgiven}
+use Rattle.jiter_value.specs.Settings.{forgives}
+use Rattle.jiter_value.proofs.settings.forgives.Goals as goal
+
+when-active : (mode : PartialMode) (k : Kind) → is_active mode ≡ true → forgives mode k ≡ is_forgiven k
+when-active mode k on = ap (λ y. cond y is_forgiven nothing_forgiven k) on
+
+one-of : (k : FaultKind)
+    → (k ≡ EofWhileParsingList) ⊎ ((k ≡ EofWhileParsingObject) ⊎ ((k ≡ EofWhileParsingString) ⊎ ((k ≡ EofWhileParsingValue) ⊎ ((k ≡ ExpectedListCommaOrEnd) ⊎ (k ≡ ExpectedObjectCommaOrEnd)))))
+    → is_forgiven (fault_kind k) ≡ true
+one-of k (inl e) = ap (λ k. is_forgiven (fault_kind k)) e
+one-of k (inr (inl e)) = ap (λ k. is_forgiven (fault_kind k)) e
+one-of k (inr (inr (inl e))) = ap (λ k. is_forgiven (fault_kind k)) e
+one-of k (inr (inr (inr (inl e)))) = ap (λ k. is_forgiven (fault_kind k)) e
+one-of k (inr (inr (inr (inr (inl e))))) = ap (λ k. is_forgiven (fault_kind k)) e
+one-of k (inr (inr (inr (inr (inr e))))) = ap (λ k. is_forgiven (fault_kind k)) e
+
+no-other : (k : FaultKind) → k ≢ EofWhileParsingList → k ≢ EofWhileParsingObject → k ≢ EofWhileParsingString → k ≢ EofWhileParsingValue → k ≢ ExpectedListCommaOrEnd → k ≢ ExpectedObjectCommaOrEnd
+    → is_forgiven (fault_kind k) ≡ false
+no-other EofWhileParsingList a b c d e f = absurd (a refl)
+no-other EofWhileParsingObject a b c d e f = absurd (b refl)
+no-other EofWhileParsingString a b c d e f = absurd (c refl)
+no-other EofWhileParsingValue a b c d e f = absurd (d refl)
+no-other ExpectedListCommaOrEnd a b c d e f = absurd (e refl)
+no-other ExpectedObjectCommaOrEnd a b c d e f = absurd (f refl)
+no-other _ a b c d e f = refl
+
+pub returns-in-EofWhileParsingList : goal.returns-in-EofWhileParsingList
+returns-in-EofWhileParsingList c =
+    let on : is_active c.args.mode ≡ true = sym c.is_active.ensures ∙ c.if-is_active.true in
+    sym (when-active c.args.mode (fault_kind c.args.kind) on ∙ one-of c.args.kind c.in-EofWhileParsingList.is)
+
+pub returns-in_default : goal.returns-in_default
+returns-in_default c =
+    let on : is_active c.args.mode ≡ true = sym c.is_active.ensures ∙ c.if-is_active.true in
+    let n = c.in_default in
+    sym (when-active c.args.mode (fault_kind c.args.kind) on
+    ∙ no-other c.args.kind n.not-EofWhileParsingList n.not-EofWhileParsingObject n.not-EofWhileParsingString n.not-EofWhileParsingValue n.not-ExpectedListCommaOrEnd n.not-ExpectedObjectCommaOrEnd)

@@ -1,0 +1,75 @@
+use Rattle.std.proofs.Common.{◌≡◌, ◌≤◌, ◌<◌, ◌+◌, ◌∷◌, [], ◌∙◌, sym, ap, arith, ℕ, length, map, reverse, subst, length-append}
+use Rattle.std.proofs.lemmas.List.{reverse-append, length-reverse}
+use Rattle.jiter_scan.specs.Kind.{fault_kind}
+use Rattle.jiter_steps.specs.Frames.{resolved}
+use Rattle.jiter_steps.specs.Parse.{going}
+use Rattle.jiter_steps.specs.Read.{fault}
+use Rattle.jiter_steps.specs.Step.{more, closed, step, object_first}
+use Rattle.jiter_steps.specs.Tree.{object, members_of}
+use Rattle.jiter_value.specs.Settings.{forgives}
+use Rattle.jiter_value.specs.Stacks.{member_view, key_in, HaveKeyBase, behind}
+use Rattle.jiter_value.specs.Turns.{Reaches}
+use Rattle.jiter_value.specs.declared.stacks.Open.{Open}
+use Rattle.jiter_value.proofs.Kept.{object-opens, object-empty, object-stuck, object-above}
+use Rattle.jiter_value.proofs.Reached.{reaches-along}
+use Rattle.jiter_value.proofs.Views.{view-Object}
+use Rattle.jiter_value.proofs.turns.object_begun.Goals as goal
+
+pub returns-in_ok-push_small-in-Ok-true-clause-reaches : goal.returns-in_ok-push_small-in-Ok-true-clause-reaches
+returns-in_ok-push_small-in-Ok-true-clause-reaches c =
+    let a = c.args in
+    let s = a.stacks.now in
+    let p = a.settings in
+    let t = a.parser.now.bytes.now in
+    let i = a.parser.now.index in
+    let n = s.nest.items in
+    let os = reverse n in
+    let es = s.items.items in
+    let ms = s.members.items in
+    let j = c.object_first.new.self.index in
+    let at : resolved (forgives p.mode) (step t object_first (i + 1)) ≡ more j = c.in-Ok-true.ensures.value _ _ c.object_first.ensures.value ∙ ap (λ y. going y j) c.in-Ok-true.field-0-test in
+    let place : j < length t = c.in-Ok-true.ensures.inside _ _ c.object_first.ensures.inside c.in-Ok-true.field-0-test in
+    let mk : ℕ → Open = λ b. record { outer = a.awaits; base = b } in
+    let o : Open = mk c.len-base.result in
+    let len : c.len-base.result ≡ length ms = omega (arith, c.len-base.ensures, s.members.ok.0) in
+    let few : length os ≤ 200 = omega (arith, length-reverse n, c.requires.room) in
+    let pushed = c.in_ok-push_small-in-Ok-true.ensures.ok in
+    let turned : reverse c.push_small.new.items.items ≡ o ∷ os = ap reverse pushed ∙ reverse-append n (o ∷ []) in
+    let room : length c.push_small.new.items.items ≤ 201 = omega (arith, c.requires.room, ap length pushed, length-append n (o ∷ [])) in
+    let above : HaveKeyBase (o ∷ os) (length es) (length ms) = subst (λ b. HaveKeyBase (mk b ∷ os) (length es) (length ms)) (sym len) (object-above a.awaits os (length es) (length ms) c.requires.stands) in (
+      object-opens p t a.awaits os es ms c.requires.stands few i j o (ap mk len) c.requires.bracket at
+          ∙ ap (λ qs. key_in p t qs es ms j) (sym turned),
+      (subst (λ qs. HaveKeyBase qs (length es) (length ms)) (sym turned) above, room, place),
+    )
+
+pub returns-in_ok-put-in-Ok-false-clause-reaches : goal.returns-in_ok-put-in-Ok-false-clause-reaches
+returns-in_ok-put-in-Ok-false-clause-reaches c =
+    let a = c.args in
+    let s = a.stacks.now in
+    let p = a.settings in
+    let t = a.parser.now.bytes.now in
+    let i = a.parser.now.index in
+    let os = reverse s.nest.items in
+    let e = c.object_first.new.self.index in
+    let at : resolved (forgives p.mode) (step t object_first (i + 1)) ≡ closed e = c.in-Ok-false.ensures.value _ _ c.object_first.ensures.value ∙ ap (λ y. going y e) c.in-Ok-false.field-0-test in
+    let v = c.new-members.result in
+    let few : length os ≤ 200 = omega (arith, length-reverse s.nest.items, c.requires.room) in
+    let same : c.object_first.new.self.bytes.now ≡ t = ap (λ b. b.now) c.object_first.ensures.moves.same in
+    reaches-along p t c.after.new.stacks c.after.new.parser.index c.after.result _ _
+    (object-empty p t a.awaits os s.items.items s.members.items c.requires.stands few i e _ c.requires.bracket at (view-Object v ∙ ap (λ es. object (members_of (map member_view es))) c.new-members.ensures.items)
+    ∙ c.in_ok-put-in-Ok-false.ensures.value p t e)
+    (subst (λ u. Reaches p u c.after.new.stacks c.after.new.parser.index c.after.result (behind p u c.put.new.stacks a.awaits e)) same c.after.ensures.reaches)
+
+pub returns-in-Err-clause-reaches : goal.returns-in-Err-clause-reaches
+returns-in-Err-clause-reaches c =
+    let a = c.args in
+    let s = a.stacks.now in
+    let p = a.settings in
+    let t = a.parser.now.bytes.now in
+    let i = a.parser.now.index in
+    let os = reverse s.nest.items in
+    let f = c.in-Err.fault in
+    let k = fault_kind f.kind in
+    let h = c.in-Err.ensures.value _ _ c.object_first.ensures.value in
+    let few : length os ≤ 200 = omega (arith, length-reverse s.nest.items, c.requires.room) in
+    object-stuck p t a.awaits os s.items.items s.members.items c.requires.stands few i f.index k c.requires.bracket h.0 c.in-Err.ensures.kept ∙ ap (fault k f.index) (sym h.1)

@@ -1,0 +1,72 @@
+-- How many scalars, containers and keys there are.
+use Rattle.std.specs.Prelude.{ℕ, suc, ◌+◌, List, [], ◌∷◌, take, drop, reverse, map}
+use Rattle.jiter_steps.specs.Tree.{Text, Tree, null, boolean, int, big, float, string, array, object, Items, no_items, item, Members, no_members, member, items_of, members_of}
+use Rattle.jiter_value.specs.Value.{view}
+use Rattle.jiter_value.specs.declared.value.JsonValue.{JsonValue}
+use Rattle.jiter_value.specs.declared.stacks.Open.{Open}
+use Rattle.jiter_value.specs.declared.stacks.Awaits.{Awaits}
+use Rattle.jiter_value.specs.declared.stacks.Awaits.TheVariants as awaits
+use Rattle.jiter_value.specs.declared.stacks.Stacks.{Stacks}
+use Rattle.jiter_steps.specs.Frames.{Frame, items_frame, members_frame}
+use Rattle.jiter_value.specs.Stacks.{Member, member_view, frames}
+
+abbrev mutual
+  pub size : Tree → ℕ
+  size null = 1
+  size (boolean b) = 1
+  size (int z) = 1
+  size (big s) = 1
+  size (float s) = 1
+  size (string s) = 1
+  size (array is) = suc (size_items is)
+  size (object ms) = suc (size_members ms)
+
+  pub size_items : Items → ℕ
+  size_items no_items = 0
+  size_items (item t is) = size t + size_items is
+
+  pub size_members : Members → ℕ
+  size_members no_members = 0
+  size_members (member k t ms) = suc (size t) + size_members ms
+
+abbrev pub items_size : List Tree → ℕ
+items_size xs = size_items (items_of xs)
+
+abbrev pub members_size : List (Text × Tree) → ℕ
+members_size ms = size_members (members_of ms)
+
+-- open containers and the keys that await a value count too
+abbrev pub frames_size : List (Frame Text Tree) → ℕ
+frames_size [] = 0
+frames_size (items_frame xs ∷ fs) = suc (items_size xs) + frames_size fs
+frames_size (members_frame ms k ∷ fs) = suc (suc (members_size ms)) + frames_size fs
+
+abbrev pub key_size_in : List Open → List JsonValue → List Member → ℕ
+key_size_in [] items members = 0
+key_size_in (o ∷ os) items members = suc (members_size (map member_view (drop o.base members))) + frames_size (frames o.outer os items (take o.base members))
+
+abbrev pub behind_size_in : Awaits → List Open → List JsonValue → List Member → JsonValue → ℕ
+behind_size_in a [] items members root = size (view root)
+behind_size_in awaits.Item (o ∷ os) items members root = suc (items_size (map view (drop o.base items))) + frames_size (frames o.outer os (take o.base items) members)
+behind_size_in awaits.Value (o ∷ os) items members root = suc (members_size (map member_view (drop o.base members))) + frames_size (frames o.outer os items (take o.base members))
+behind_size_in awaits.Root (o ∷ os) items members root = size (view root)
+behind_size_in awaits.Key (o ∷ os) items members root = size (view root)
+behind_size_in awaits.Done (o ∷ os) items members root = size (view root)
+
+-- the same of all that is held: where a value is awaited, a key, and behind a value
+abbrev pub value_size : Stacks → Awaits → ℕ
+value_size s a = frames_size (frames a (reverse s.nest.items) s.items.items s.members.items)
+
+abbrev pub key_size : Stacks → ℕ
+key_size s = key_size_in (reverse s.nest.items) s.items.items s.members.items
+
+abbrev pub behind_size : Stacks → Awaits → ℕ
+behind_size s a = behind_size_in a (reverse s.nest.items) s.items.items s.members.items s.root
+
+-- How many scalars, containers and keys the machine holds; at its end, how many the value has.
+abbrev pub held : Stacks → Awaits → ℕ
+held s awaits.Root = value_size s awaits.Root
+held s awaits.Item = value_size s awaits.Item
+held s awaits.Value = value_size s awaits.Value
+held s awaits.Key = key_size s
+held s awaits.Done = size (view s.root)

@@ -1,0 +1,128 @@
+-- What the two stacks hold, and what the rest of a text completes them to.
+use Rattle.std.specs.Prelude.{◌≡◌, ℕ, ◌-◌, ◌≤◌, ◌<◌, false, List, [], ◌∷◌, length, take, drop, reverse, map}
+use Rattle.std.specs.declared.alloc.Global.{Global}
+use Rattle.std.specs.declared.borrow.CowStr.{CowStr}
+use Rattle.jiter_scan.specs.Kind.{Kind, eof_list, eof_object}
+use Rattle.jiter_steps.specs.Tree.{Text, Tree, array, object, items_of, members_of}
+use Rattle.jiter_steps.specs.Read.{Reading, done, fault, if_forgiven}
+use Rattle.jiter_steps.specs.StringDecoder.{text_view}
+use Rattle.jiter_steps.specs.Frames.{Frame, items_frame, members_frame, resume, value_from, key_from, items_from, members_from}
+use Rattle.jiter_value.specs.Settings.{rules}
+use Rattle.jiter_value.specs.Value.{view}
+use Rattle.jiter_value.specs.declared.settings.Settings.{Settings}
+use Rattle.jiter_value.specs.declared.stacks.Awaits.{Awaits}
+use Rattle.jiter_value.specs.declared.stacks.Awaits.TheVariants as awaits
+use Rattle.jiter_value.specs.declared.stacks.Open.{Open}
+use Rattle.jiter_value.specs.declared.stacks.Stacks.{Stacks}
+use Rattle.jiter_value.specs.declared.value.JsonValue.{JsonValue}
+
+abbrev pub Member : Type 0
+Member = CowStr Global × JsonValue
+
+-- a member, by its key's text and its value's tree
+abbrev pub member_view : Member → Text × Tree
+member_view m = (text_view m.0, view m.1)
+
+abbrev pub last_key_of : Member → List Member → Text
+last_key_of m [] = text_view m.0
+last_key_of m (n ∷ ms) = last_key_of n ms
+
+-- the key of the last member
+abbrev pub last_key : List Member → Text
+last_key [] = record { owned = false; bytes = [] }
+last_key (m ∷ ms) = last_key_of m ms
+
+-- all members but the last
+abbrev pub front : List Member → List Member
+front ms = take (length ms - 1) ms
+
+-- Each open container has what stands from its base up, the innermost first. In an object that awaits a value the last member has its key alone.
+abbrev pub frames : Awaits → List Open → List JsonValue → List Member → List (Frame Text Tree)
+frames a [] items members = []
+frames awaits.Item (o ∷ os) items members = items_frame (map view (drop o.base items)) ∷ frames o.outer os (take o.base items) members
+frames awaits.Value (o ∷ os) items members = members_frame (map member_view (front (drop o.base members))) (last_key (drop o.base members)) ∷ frames o.outer os items (take o.base members)
+frames awaits.Root (o ∷ os) items members = []
+frames awaits.Key (o ∷ os) items members = []
+frames awaits.Done (o ∷ os) items members = []
+
+-- the bases lie within the stacks, and below the outermost there is nothing
+abbrev pub HaveBases : Awaits → List Open → ℕ → ℕ → Type 0
+HaveBases awaits.Root [] n m = (n ≡ 0) × (m ≡ 0)
+HaveBases awaits.Root (o ∷ os) n m = ⊥
+HaveBases awaits.Item [] n m = ⊥
+HaveBases awaits.Item (o ∷ os) n m = (o.base ≤ n) × HaveBases o.outer os o.base m
+HaveBases awaits.Value [] n m = ⊥
+HaveBases awaits.Value (o ∷ os) n m = (o.base < m) × HaveBases o.outer os n o.base
+HaveBases awaits.Key os n m = ⊥
+HaveBases awaits.Done os n m = ⊥
+
+-- the same where the innermost is an object that awaits a key
+abbrev pub HaveKeyBase : List Open → ℕ → ℕ → Type 0
+HaveKeyBase [] n m = ⊥
+HaveKeyBase (o ∷ os) n m = (o.base ≤ m) × HaveBases o.outer os n o.base
+
+module _ (p : Settings) (t : List ℕ) where
+  -- where the innermost object awaits a key at j
+  abbrev pub key_in : List Open → List JsonValue → List Member → ℕ → Reading Tree
+  key_in [] items members j = fault eof_object j j
+  key_in (o ∷ os) items members j = key_from (rules p) t (frames o.outer os items (take o.base members)) (map member_view (drop o.base members)) j
+
+  -- where the key or its colon has this fault
+  abbrev pub key_fault_in : List Open → List JsonValue → List Member → Kind → ℕ → ℕ → Reading Tree
+  key_fault_in [] items members k x stop = fault k x stop
+  key_fault_in (o ∷ os) items members k x stop =
+      resume (rules p) t (frames o.outer os items (take o.base members)) (if_forgiven (rules p) (λ e. (rules p).object 0 e (map member_view (drop o.base members))) k x stop)
+
+  -- where the innermost container has a value that ends at e
+  abbrev pub behind_in : Awaits → List Open → List JsonValue → List Member → JsonValue → ℕ → Reading Tree
+  behind_in a [] items members root e = done (view root) e
+  behind_in awaits.Item (o ∷ os) items members root e = items_from (rules p) t (frames o.outer os (take o.base items) members) (map view (drop o.base items)) e
+  behind_in awaits.Value (o ∷ os) items members root e = members_from (rules p) t (frames o.outer os items (take o.base members)) (map member_view (drop o.base members)) e
+  behind_in awaits.Root (o ∷ os) items members root e = done (view root) e
+  behind_in awaits.Key (o ∷ os) items members root e = done (view root) e
+  behind_in awaits.Done (o ∷ os) items members root e = done (view root) e
+
+  -- where the innermost container ends at e
+  abbrev pub array_in : List Open → List JsonValue → List Member → ℕ → Reading Tree
+  array_in [] items members e = fault eof_list e e
+  array_in (o ∷ os) items members e = resume (rules p) t (frames o.outer os (take o.base items) members) (done (array (items_of (map view (drop o.base items)))) e)
+
+  abbrev pub object_in : List Open → List JsonValue → List Member → ℕ → Reading Tree
+  object_in [] items members e = fault eof_object e e
+  object_in (o ∷ os) items members e = resume (rules p) t (frames o.outer os items (take o.base members)) (done (object (members_of (map member_view (drop o.base members)))) e)
+
+  -- The same of all that is held.
+  abbrev pub resumed : Stacks → Awaits → Reading Tree → Reading Tree
+  resumed s a x = resume (rules p) t (frames a (reverse s.nest.items) s.items.items s.members.items) x
+
+  abbrev pub from_value : Stacks → Awaits → ℕ → Reading Tree
+  from_value s a j = value_from (rules p) t (frames a (reverse s.nest.items) s.items.items s.members.items) j
+
+  abbrev pub from_key : Stacks → ℕ → Reading Tree
+  from_key s j = key_in (reverse s.nest.items) s.items.items s.members.items j
+
+  abbrev pub key_fault : Stacks → Kind → ℕ → ℕ → Reading Tree
+  key_fault s k x stop = key_fault_in (reverse s.nest.items) s.items.items s.members.items k x stop
+
+  abbrev pub behind : Stacks → Awaits → ℕ → Reading Tree
+  behind s a e = behind_in a (reverse s.nest.items) s.items.items s.members.items s.root e
+
+  abbrev pub closed_array : Stacks → ℕ → Reading Tree
+  closed_array s e = array_in (reverse s.nest.items) s.items.items s.members.items e
+
+  abbrev pub closed_object : Stacks → ℕ → Reading Tree
+  closed_object s e = object_in (reverse s.nest.items) s.items.items s.members.items e
+
+  -- What the rest of the text completes the machine to.
+  abbrev pub meaning : Stacks → Awaits → ℕ → Reading Tree
+  meaning s awaits.Root j = from_value s awaits.Root j
+  meaning s awaits.Item j = from_value s awaits.Item j
+  meaning s awaits.Value j = from_value s awaits.Value j
+  meaning s awaits.Key j = from_key s j
+  meaning s awaits.Done j = done (view s.root) j
+
+abbrev pub Stands : Stacks → Awaits → Type 0
+Stands s a = HaveBases a (reverse s.nest.items) (length s.items.items) (length s.members.items)
+
+abbrev pub StandsAtKey : Stacks → Type 0
+StandsAtKey s = HaveKeyBase (reverse s.nest.items) (length s.items.items) (length s.members.items)

@@ -1,0 +1,144 @@
+//! Reading a value turn by turn.
+ghost use Rattle.std.specs.Prelude.{◌≡◌, ◌≤◌, ◌+◌, ◌*◌, length, true};
+ghost use Rattle.jiter_value.specs.Machine.{Progress, progress, IsUnderWay};
+
+use crate::reading::{error_at, finished};
+use crate::settings::Settings;
+use crate::stacks::{Awaits, Stacks};
+use crate::turns::turn;
+use crate::value::JsonValue;
+use jiter_scan::{JsonError, PartialMode};
+use jiter_steps::parse::Parser;
+use jiter_steps::read_error::ReadError;
+use std::alloc::Global;
+use std::marker::Model;
+use std::mem;
+
+/// A reading that goes on turn by turn.
+#[derive(Drop)]
+pub struct Machine<'j> {
+    alloc: Global,
+    parser: Parser<'j>,
+    settings: Settings,
+    tape: Vec<u8>,
+    stacks: Stacks<'j>,
+    awaits: Awaits,
+    begun: bool,
+}
+
+impl<'j> Model for Machine<'j> {
+    ghost Value = { Progress };
+
+    ghost view = { λ m. progress m.parser.bytes.now m.settings m.parser.index m.awaits m.stacks };
+
+    ghost invariant = { λ m.
+        IsUnderWay m.begun m.parser.bytes.now m.settings m.parser.index m.awaits m.stacks };
+}
+
+/// Where a turn leads: to a machine that goes on, or to the answer.
+#[derive(Drop)]
+pub enum Turn<'j> {
+    /// More is to be read.
+    More(Machine<'j>),
+    /// What the text answers.
+    Done(Result<JsonValue<'j>, JsonError>),
+}
+
+impl<'j> Machine<'j> {
+    ghost use Rattle.jiter_value.specs.Turned.{Turned};
+
+    /// A machine that has not begun. It takes no memory.
+    pub fn new(
+        alloc: Global,
+        bytes: &'j [u8],
+        allow_inf_nan: bool,
+        allow_partial: PartialMode,
+    ) -> Machine<'j>
+        ensures text { result.text ≡ bytes.now }
+        ensures names { result.settings.allow_inf_nan ≡ allow_inf_nan }
+        ensures mode { result.settings.mode ≡ allow_partial }
+        ensures position { result.position ≡ 0 }
+        ensures left { result.left ≤ 3 * length bytes.now + 3 }
+        ensures held { result.holds ≡ 0 }
+    {
+        Machine {
+            alloc,
+            parser: Parser::new(bytes),
+            settings: Settings {
+                allow_inf_nan,
+                mode: allow_partial,
+            },
+            tape: Vec::new(alloc),
+            stacks: Stacks::new(alloc),
+            awaits: Awaits::Root,
+            begun: false,
+        }
+    }
+
+    /// One turn: one scalar, opening or key, and the steps behind it. Less is left behind it, so that a
+    /// reading ends within three turns a byte and three more.
+    pub fn turn(self) -> Turn<'j>
+        ensures { Turned self.entry result }
+    {
+        let Machine {
+            alloc,
+            parser,
+            settings,
+            tape,
+            stacks,
+            awaits,
+            begun,
+        } = self;
+        if begun {
+            return Machine::go(alloc, parser, settings, tape, stacks, awaits);
+        }
+        let mut reader = parser;
+        match reader.value_first() {
+            Ok(()) => Machine::go(alloc, reader, settings, tape, stacks, Awaits::Root),
+            Err(fault) => {
+                let error = error_at(ReadError::Fault(fault), reader.index);
+                Turn::Done(Err(error))
+            }
+        }
+    }
+
+    // One turn of a machine that has begun.
+    fn go(
+        alloc: Global,
+        old_parser: Parser<'j>,
+        settings: Settings,
+        old_tape: Vec<u8>,
+        old_stacks: Stacks<'j>,
+        awaits: Awaits,
+    ) -> Turn<'j>
+        requires { IsUnderWay true old_parser.bytes.now settings old_parser.index awaits old_stacks }
+        ensures { Turned (progress old_parser.entry.bytes.now settings old_parser.entry.index awaits
+            old_stacks.entry) result }
+    {
+        let mut parser = old_parser;
+        let mut tape = old_tape;
+        let mut stacks = old_stacks;
+        match turn(alloc, &mut tape, &mut stacks, &mut parser, settings, awaits) {
+            Ok(Awaits::Done) => {
+                let value = mem::replace(&mut stacks.root, JsonValue::Null);
+                match finished(&mut parser, settings, value) {
+                    Ok(whole) => Turn::Done(Ok(whole)),
+                    Err(error) => Turn::Done(Err(error_at(error, parser.index))),
+                }
+            }
+            Ok(next) => Turn::More(Machine {
+                alloc,
+                parser,
+                settings,
+                tape,
+                stacks,
+                awaits: next,
+                begun: true,
+            }),
+            Err(error) => Turn::Done(Err(error_at(error, parser.index))),
+        }
+    }
+}
+
+#[cfg(test)]
+mod tests;

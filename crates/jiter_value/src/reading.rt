@@ -1,0 +1,96 @@
+//! The value of a whole text.
+ghost use Rattle.std.specs.Prelude.{◌≡◌, ◌≤◌, ◌<◌, IfOk, length};
+ghost use Rattle.jiter_steps.specs.Blank.{past_blanks};
+ghost use Rattle.jiter_steps.specs.Node.{nesting_limit};
+ghost use Rattle.jiter_steps.specs.Parse.{Moves, Gives};
+ghost use Rattle.jiter_steps.specs.Read.{done, value_at};
+ghost use Rattle.jiter_steps.specs.ReadError.{WhereRefused};
+ghost use Rattle.jiter_value.specs.Reading.{GivesWhole, IsErrorOf};
+ghost use Rattle.jiter_value.specs.Settings.{answered, rules};
+ghost use Rattle.jiter_value.specs.Value.{view, MayGrowAt, MayGrow};
+
+use crate::settings::Settings;
+use crate::stacks::Stacks;
+use crate::turns::run;
+use crate::value::JsonValue;
+use jiter_scan::{JsonError, JsonErrorType};
+use jiter_steps::parse::Parser;
+use jiter_steps::read_error::ReadError;
+use std::alloc::Global;
+
+/// The error that a public call answers, where the reader stands at `index`.
+#[cold]
+pub(crate) fn error_at(error: ReadError, index: usize) -> JsonError
+    ensures { IsErrorOf error index result }
+{
+    match error {
+        ReadError::Fault(fault) => JsonError::from(fault),
+        ReadError::Memory(_) => JsonError {
+            error_type: JsonErrorType::OutOfMemory,
+            index,
+        },
+    }
+}
+
+/// What a text answers whose value ends where the reader stands.
+pub(crate) fn finished<'j>(
+    parser: &mut Parser<'j>,
+    settings: Settings,
+    value: JsonValue<'j>,
+) -> Result<JsonValue<'j>, ReadError>
+    requires begins { past_blanks parser.old.bytes.now 0 < length parser.old.bytes.now }
+    requires value { value_at (rules settings) parser.old.bytes.now nesting_limit
+        (past_blanks parser.old.bytes.now 0) ≡ done (view value) parser.old.index }
+    ensures moves { Moves parser.old parser.new }
+    ensures value { GivesWhole result parser.new.index (answered settings parser.old.bytes.now) }
+    ensures same { IfOk result (λ v. v ≡ value.entry) }
+    ensures memory { WhereRefused result ⊥ }
+{
+    if settings.mode.is_active() {
+        return Ok(value);
+    }
+    match parser.finish() {
+        Ok(()) => Ok(value),
+        Err(fault) => Err(ReadError::Fault(fault)),
+    }
+}
+
+// The value that begins where the reader stands.
+fn read_value<'j>(
+    alloc: Global,
+    parser: &mut Parser<'j>,
+    settings: Settings,
+) -> Result<JsonValue<'j>, ReadError>
+    requires { parser.old.index < length parser.old.bytes.now }
+    ensures moves { Moves parser.old parser.new }
+    ensures value { Gives view result parser.new.index
+        (value_at (rules settings) parser.old.bytes.now nesting_limit parser.old.index) }
+    ensures memory { WhereRefused result (MayGrowAt parser.old.bytes.now parser.old.index) }
+{
+    let mut tape = Vec::new(alloc);
+    let mut stacks = Stacks::new(alloc);
+    run(alloc, &mut tape, &mut stacks, parser, settings)
+}
+
+/// The value of a text, where the reader stands before its first byte. With partial reading off nothing but
+/// blanks may stand round it.
+pub(crate) fn read_whole<'j>(
+    alloc: Global,
+    parser: &mut Parser<'j>,
+    settings: Settings,
+) -> Result<JsonValue<'j>, ReadError>
+    requires { parser.old.index ≡ 0 }
+    ensures moves { Moves parser.old parser.new }
+    ensures value { GivesWhole result parser.new.index (answered settings parser.old.bytes.now) }
+    ensures memory { WhereRefused result (MayGrow parser.old.bytes.now) }
+    ensures place { WhereRefused result (past_blanks parser.old.bytes.now 0 ≤ parser.new.index) }
+{
+    match parser.value_first() {
+        Ok(()) => {}
+        Err(fault) => return Err(ReadError::Fault(fault)),
+    }
+    match read_value(alloc, parser, settings) {
+        Ok(value) => finished(parser, settings, value),
+        Err(error) => Err(error),
+    }
+}
