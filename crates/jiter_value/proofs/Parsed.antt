@@ -1,17 +1,20 @@
 -- What a whole parse answers, by the grammar.
-use Rattle.std.proofs.Common.{◌≡◌, ◌⊎◌, inl, inr, ℕ, ◌≤◌, Bool, true, List, length, sym, ap, ◌∙◌, subst}
-use Rattle.std.specs.Prelude.{Result, Ok, Err, IfOk, MatchResult}
+use Rattle.std.proofs.Common.{◌≡◌, ◌⊎◌, inl, inr, ℕ, ◌≤◌, Bool, true, List, length, sym, ap, ap₂, ◌∙◌, subst}
+use Rattle.std.specs.Prelude.{Some, Result, Ok, Err, IfOk, MatchResult}
 use Rattle.jiter_scan.specs.Kind.{Kind, kind_of, fault_kind, is_end_kind}
+use Rattle.jiter_scan.specs.PartialMode.{is_active}
 use Rattle.jiter_scan.specs.Scanned.{FaultAt}
 use Rattle.jiter_scan.specs.declared.errors.JsonError.{JsonError}
 use Rattle.jiter_scan.specs.declared.errors.JsonErrorType.TheVariants.{OutOfMemory}
 use Rattle.jiter_scan.specs.declared.partial_mode.PartialMode.{PartialMode}
 use Rattle.jiter_steps.specs.Answer.{answer, answer_in}
+use Rattle.jiter_steps.specs.Cut.{cut, IsBegunContainer}
 use Rattle.jiter_steps.specs.Node.{Node, IsDocument, IsCutContainer, value_of}
 use Rattle.jiter_steps.specs.Read.{fault}
 use Rattle.jiter_steps.specs.declared.read_error.ReadError.{ReadError}
 use Rattle.jiter_steps.specs.declared.read_error.ReadError.TheVariants as error
 use Rattle.jiter_steps.proofs.Bounds.{Within}
+use Rattle.jiter_steps.proofs.CutLaw.{AnswersCut, answer_in-cut, answer_in-of}
 use Rattle.jiter_steps.proofs.Documents.{IsRead, answer-is}
 use Rattle.jiter_steps.proofs.Prefixes.{EndsEarly, prefix-refused}
 use Rattle.jiter_value.specs.Reading.{GivesWhole, IsErrorOf}
@@ -40,7 +43,33 @@ module _ (names : Bool) (t : List ℕ) where
   parse-early (Err e) (inl m) c = inl m
   parse-early (Err e) (inr h) c = inr (subst EndsEarly h.1 (cut-early names t c))
 
--- In every mode: a fault of the bytes stands within them.
+-- In every mode.
+module _ (names : Bool) (t : List ℕ) (mode : PartialMode) where
+  -- what a cut leaves of a document
+  pub config-cut : (r : Result JsonValue JsonError) → Answers r (answer_in names mode t)
+      → (front : IsBegunContainer names t) → is_active mode ≡ true
+      → MatchResult r (λ v. cut names front.text front.node front.place mode ≡ Some (view v))
+      (λ e. e.error_type ≡ OutOfMemory)
+  config-cut (Ok v) h f active = subst (AnswersCut names t mode f) h.1 (answer_in-cut names t mode f active)
+  config-cut (Err e) (inl m) f active = m
+  config-cut (Err e) (inr h) f active =
+      absurd (subst (AnswersCut names t mode f) h.1 (answer_in-cut names t mode f active))
+
+  -- the value of a document
+  pub config-accepts : (r : Result JsonValue JsonError) → Answers r (answer_in names mode t)
+      → (n : Node) → IsDocument names t n
+      → MatchResult r (λ v. view v ≡ value_of t n) (λ e. e.error_type ≡ OutOfMemory)
+  config-accepts (Ok v) h n d = let same = sym h.1 ∙ answer_in-of names t mode n d in cc
+  config-accepts (Err e) (inl m) n d = m
+  config-accepts (Err e) (inr h) n d = let clash = sym h.1 ∙ answer_in-of names t mode n d in absurd (cc)
+
+  -- what a reading that was refused answers
+  pub error-answers : (i : ℕ) (e : JsonError) (x : ReadError) → IsErrorOf x i e
+      → GivesWhole (Err x) i (answer_in names mode t) → Answers (Err e) (answer_in names mode t)
+  error-answers i e (error.Fault f) is h = inr (i, h ∙ ap₂ (λ k j. fault k j i) (sym is.0) (sym is.1))
+  error-answers i e (error.Memory m) is h = inl (ap (λ e. e.error_type) is)
+
+-- A fault of the bytes stands within them.
 module _ (names : Bool) (t : List ℕ) (mode : PartialMode) (i : ℕ) (e : JsonError) where
   fault-at : (k : Kind) (x : ℕ) → answer_in names mode t ≡ fault k x i → FaultAt t k x
   fault-at k x h = let w = subst (Within t 0) h (answer_in-within names t mode) in w.2

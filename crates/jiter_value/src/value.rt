@@ -1,9 +1,11 @@
 //! The tree of a document, and reading it.
-ghost use Rattle.std.specs.Prelude.{◌≡◌, ◌≤◌, ◌⊎◌, IfOk, IfErr, MatchResult, true, length};
+ghost use Rattle.std.specs.Prelude.{◌≡◌, ◌≤◌, ◌⊎◌, IfOk, IfErr, MatchResult, Some, true, length};
 ghost use Rattle.jiter_scan.specs.Kind.{kind_of, is_end_kind};
+ghost use Rattle.jiter_scan.specs.PartialMode.{is_active};
 ghost use Rattle.jiter_steps.specs.Blank.{past_blanks};
 ghost use Rattle.jiter_steps.specs.Node.{Node, IsDocument, IsCutContainer, value_of};
 ghost use Rattle.jiter_steps.specs.Answer.{answer, answer_in};
+ghost use Rattle.jiter_steps.specs.Cut.{cut, IsBegunContainer};
 ghost use Rattle.jiter_value.specs.Value.{view, Answers, MayGrow};
 
 use crate::reading::{error_at, read_whole};
@@ -93,6 +95,15 @@ impl<'j> JsonValue<'j> {
     ) -> Result<JsonValue<'j>, JsonError>
         // The reading from the left, in this mode.
         ensures answer { Answers result (answer_in allow_inf_nan allow_partial bytes.now) }
+
+        // The cut: a document that is an array or an object may end anywhere behind its first bracket. Then a
+        // partial mode answers exactly what the cut leaves of it, each text with its mark.
+        ensures cut { (front : IsBegunContainer allow_inf_nan bytes.now) → is_active allow_partial ≡ true
+            → MatchResult result (λ v. cut allow_inf_nan front.text front.node front.place allow_partial
+            ≡ Some (view v)) (λ e. e.error_type ≡ JsonErrorType.OutOfMemory) }
+        // A whole document is answered with its value in every mode, unless memory is refused.
+        ensures accepts { (n : Node) → IsDocument allow_inf_nan bytes.now n → MatchResult result
+            (λ v. view v ≡ value_of bytes.now n) (λ e. e.error_type ≡ JsonErrorType.OutOfMemory) }
 
         // Where faults stand.
         ensures index { IfErr result (λ e. e.index ≤ length bytes.now) }
