@@ -96,11 +96,12 @@ impl<'j> JsonValue<'j> {
         // The reading from the left, in this mode.
         ensures answer { Answers result (answer_in allow_inf_nan allow_partial bytes.now) }
 
-        // The cut: a document that is an array or an object may end anywhere behind its first bracket. Then a
-        // partial mode answers exactly what the cut leaves of it, each text with its mark.
-        ensures cut { (front : IsBegunContainer allow_inf_nan bytes.now) → is_active allow_partial ≡ true
-            → MatchResult result (λ v. cut allow_inf_nan front.text front.node front.place allow_partial
-            ≡ Some (view v)) (λ e. e.error_type ≡ JsonErrorType.OutOfMemory) }
+        // The cut: a document that is an array or an object may end anywhere behind its first bracket.
+        // Then a partial mode answers exactly what the cut leaves of it, each text with its mark.
+        ensures cut { (front : IsBegunContainer allow_inf_nan bytes.now)
+            → is_active allow_partial ≡ true → MatchResult result
+            (λ v. cut allow_inf_nan front.text front.node front.place allow_partial ≡ Some (view v))
+            (λ e. e.error_type ≡ JsonErrorType.OutOfMemory) }
         // A whole document is answered with its value in every mode, unless memory is refused.
         ensures accepts { (n : Node) → IsDocument allow_inf_nan bytes.now n → MatchResult result
             (λ v. view v ≡ value_of bytes.now n) (λ e. e.error_type ≡ JsonErrorType.OutOfMemory) }
