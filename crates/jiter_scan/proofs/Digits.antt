@@ -1,29 +1,32 @@
--- The values of decimal digits, one digit at a time.
-use Rattle.std.proofs.Common.{◌≡◌, ℕ, ◌+◌, ◌-◌, ◌*◌, ◌^◌, ◌<◌, ◌≤◌, min, length, drop, take, get_or, List, [], ◌∷◌, ◌++◌, sym, ap, ◌∙◌, slice_range, arith}
-use Rattle.std.proofs.lemmas.List.{take_more, length-drop, get_or-drop, length-append}
-use Rattle.std.proofs.Math.Nat.{mul_assoc}
+-- The values of decimal digits.
+use Rattle.std.proofs.Common.{◌≡◌, ℕ, ◌+◌, ◌-◌, ◌*◌, ◌^◌, ◌<◌, ◌≤◌, length, List, [], ◌∷◌, ◌++◌, sym, ap, ◌∙◌, leb, arith, pow-suc}
+use Rattle.std.proofs.Math.Nat.{mul_assoc, add-mul, mul-le-mul_right}
+use Rattle.std.proofs.lemmas.Bool.{leb-true, and_parts}
+use Rattle.std.proofs.lemmas.List.{length-append}
 use Rattle.std.proofs.lemmas.Nat.{pow-add}
 use Rattle.jiter_scan.specs.Digits.{decimal_of}
-use Rattle.jiter_scan.specs.NumberDecoder.{magnitude_of}
+use Rattle.jiter_scan.specs.Number.{AreDigits}
 
--- one more digit behind the others
-pub decimal_of-push : (cs : List ℕ) (c : ℕ) → decimal_of (cs ++ c ∷ []) ≡ decimal_of cs * 10 + (c - 48)
-decimal_of-push [] c = omega arith
-decimal_of-push (d ∷ cs) c =
-    let power : 10 ^ length (cs ++ c ∷ []) ≡ 10 ^ length cs * 10 =
-    ap (λ n. 10 ^ n) (length-append cs (c ∷ [])) ∙ pow-add 10 (length cs) 1 in
-    let first : (d - 48) * 10 ^ length (cs ++ c ∷ []) ≡ (d - 48) * 10 ^ length cs * 10 =
-    ap (λ n. (d - 48) * n) power ∙ sym (mul_assoc (d - 48) (10 ^ length cs) 10) in
-    omega (arith, first, decimal_of-push cs c)
+-- digits behind others
+pub decimal_of-append : (u v : List ℕ) → decimal_of (u ++ v) ≡ decimal_of u * 10 ^ length v + decimal_of v
+decimal_of-append [] v = omega arith
+decimal_of-append (c ∷ u) v =
+    let power : 10 ^ length (u ++ v) ≡ 10 ^ length u * 10 ^ length v =
+    ap (λ n. 10 ^ n) (length-append u v) ∙ pow-add 10 (length u) (length v) in
+    let first : (c - 48) * 10 ^ length (u ++ v) ≡ (c - 48) * 10 ^ length u * 10 ^ length v =
+    ap (λ n. (c - 48) * n) power ∙ sym (mul_assoc (c - 48) (10 ^ length u) (10 ^ length v)) in
+    omega (arith, first, decimal_of-append u v, add-mul ((c - 48) * 10 ^ length u) (decimal_of u) (10 ^ length v))
 
-pub slice_range-more : (t : List ℕ) (i j : ℕ) → i ≤ j → j < length t
-    → slice_range t i (j + 1) ≡ slice_range t i j ++ get_or t j 0 ∷ []
-slice_range-more t i j low high =
-    let count : j + 1 - i ≡ j - i + 1 = omega arith in
-    let place : i + (j - i) ≡ j = omega arith in
-    ap (λ n. take n (drop i t)) count ∙ take_more (drop i t) (j - i) 0 (omega (arith, length-drop i t))
-    ∙ ap (λ c. slice_range t i j ++ c ∷ []) (get_or-drop i t (j - i) 0 ∙ ap (λ k. get_or t k 0) place)
+-- digits write less than one and as many zeros
+pub decimal_of-below : (w : List ℕ) → AreDigits w → decimal_of w < 10 ^ length w
+decimal_of-below [] h = omega arith
+decimal_of-below (c ∷ w) h =
+    let high = leb-true c 57 (and_parts (leb 48 c) (leb c 57) h.0).1 in
+    let digit : c - 48 ≤ 9 = omega arith in
+    omega (arith, mul-le-mul_right (10 ^ length w) digit, pow-suc 10 (length w), decimal_of-below w h.1)
 
-pub magnitude_of-push : (cs : List ℕ) (c : ℕ)
-    → magnitude_of (cs ++ c ∷ []) ≡ min (min (magnitude_of cs * 10) (2 ^ 64 - 1) + (c - 48)) (2 ^ 64 - 1)
-magnitude_of-push cs c = omega (arith, decimal_of-push cs c)
+-- and no less than one and a zero for each behind the first, which is none itself
+pub decimal_of-above : (c : ℕ) (w : List ℕ) → 48 < c → 10 ^ length w ≤ decimal_of (c ∷ w)
+decimal_of-above c w h =
+    let some : 1 ≤ c - 48 = omega arith in
+    omega (arith, mul-le-mul_right (10 ^ length w) some)

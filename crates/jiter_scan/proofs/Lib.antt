@@ -14,3 +14,8 @@ pub mod NumberLaws
 pub mod Pins
 pub mod Computed
 mod Rows
+pub mod Lanes
+pub mod Chunks
+pub mod PlainRuns
+pub mod DigitWords
+pub mod Magnitudes

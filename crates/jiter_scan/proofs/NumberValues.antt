@@ -1,5 +1,5 @@
 -- What a number's text stands for.
-use Rattle.std.proofs.Common.{◌≡◌, ◌≢◌, ◌⊎◌, inl, inr, ℕ, ◌-◌, ◌^◌, ◌<◌, ◌≤◌, ◌==◌, ◌||◌, min, Bool, true, false, cond, length, List, [], ◌∷◌, ◌++◌, refl, sym, ap, ◌∙◌, subst, slice_range, arith, nat_le, nat_lt, pos}
+use Rattle.std.proofs.Common.{◌≡◌, ◌≢◌, ◌⊎◌, inl, inr, ℕ, ◌^◌, ◌<◌, ◌≤◌, ◌==◌, ◌||◌, min, Bool, true, false, cond, length, List, [], ◌∷◌, ◌++◌, refl, sym, ap, ◌∙◌, subst, slice_range, arith, nat_le, nat_lt, pos}
 use Rattle.std.specs.Prelude.{Some, slice_get}
 use Rattle.std.specs.List.{list_any}
 use Rattle.std.proofs.lemmas.Bool.{cases_lt, or_right}
@@ -33,26 +33,26 @@ not_below n h = grind (arith, nat_tests)
 above : (n : ℕ) → 2 ^ 63 < n → nat_le n (2 ^ 63) ≡ false
 above n h = grind (arith, nat_tests)
 
--- the greatest number of 64 bits stands for all greater ones
-positive_value-min : (w : List ℕ) (n : ℕ) → positive_value w (min n (2 ^ 64 - 1)) ≡ positive_value w n
+-- the least number of twenty digits stands for all greater ones
+positive_value-min : (w : List ℕ) (n : ℕ) → positive_value w (min n (10 ^ 19)) ≡ positive_value w n
 positive_value-min w n =
-    elim (cases_lt n (2 ^ 64)) [
-      | inl small ↦ let same : min n (2 ^ 64 - 1) ≡ n = omega arith in ap (positive_value w) same
+    elim (cases_lt n (10 ^ 19)) [
+      | inl small ↦ let same : min n (10 ^ 19) ≡ n = omega arith in ap (positive_value w) same
       | inr great ↦
-          let one : nat_lt (min n (2 ^ 64 - 1)) (2 ^ 63) ≡ false = not_below (min n (2 ^ 64 - 1)) (omega arith) in
+          let one : nat_lt (min n (10 ^ 19)) (2 ^ 63) ≡ false = not_below (min n (10 ^ 19)) (omega arith) in
           let other : nat_lt n (2 ^ 63) ≡ false = not_below n (omega arith) in
-          ap (λ (b : Bool). cond b (integer (pos (min n (2 ^ 64 - 1)))) (big w)) one
+          ap (λ (b : Bool). cond b (integer (pos (min n (10 ^ 19)))) (big w)) one
           ∙ sym (ap (λ (b : Bool). cond b (integer (pos n)) (big w)) other)
     ]
 
-negative_value-min : (w : List ℕ) (n : ℕ) → negative_value w (min n (2 ^ 64 - 1)) ≡ negative_value w n
+negative_value-min : (w : List ℕ) (n : ℕ) → negative_value w (min n (10 ^ 19)) ≡ negative_value w n
 negative_value-min w n =
-    elim (cases_lt n (2 ^ 64)) [
-      | inl small ↦ let same : min n (2 ^ 64 - 1) ≡ n = omega arith in ap (negative_value w) same
+    elim (cases_lt n (10 ^ 19)) [
+      | inl small ↦ let same : min n (10 ^ 19) ≡ n = omega arith in ap (negative_value w) same
       | inr great ↦
-          let one : nat_le (min n (2 ^ 64 - 1)) (2 ^ 63) ≡ false = above (min n (2 ^ 64 - 1)) (omega arith) in
+          let one : nat_le (min n (10 ^ 19)) (2 ^ 63) ≡ false = above (min n (10 ^ 19)) (omega arith) in
           let other : nat_le n (2 ^ 63) ≡ false = above n (omega arith) in
-          ap (λ (b : Bool). cond b (integer (minus_of (min n (2 ^ 64 - 1)))) (big w)) one
+          ap (λ (b : Bool). cond b (integer (minus_of (min n (10 ^ 19)))) (big w)) one
           ∙ sym (ap (λ (b : Bool). cond b (integer (minus_of n)) (big w)) other)
     ]
 

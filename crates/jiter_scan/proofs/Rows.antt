@@ -10,3 +10,4 @@ mod DigitRuns
 mod LongNumbers
 mod Scans
 mod Digits
+mod Kernels

@@ -10,3 +10,4 @@ pub mod Digits
 pub mod Number
 pub mod NumberReading
 pub mod NumberDecoder
+pub mod Simd

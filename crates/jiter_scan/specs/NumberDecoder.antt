@@ -1,5 +1,5 @@
 -- The numbers of the code, as values, and what a function of the code says of a number that it read.
-use Rattle.std.specs.Prelude.{◌≡◌, ◌⊎◌, ◌+◌, ◌-◌, ◌^◌, ◌<◌, ◌≤◌, ℕ, min, List, slice_get, Some}
+use Rattle.std.specs.Prelude.{◌≡◌, ◌⊎◌, ◌+◌, ◌^◌, ◌<◌, ◌≤◌, ℕ, min, List, slice_get, Some}
 use Rattle.jiter_scan.specs.Ascii as ascii
 use Rattle.jiter_scan.specs.Digits.{decimal_of}
 use Rattle.jiter_scan.specs.Number.{Number, integer, big, float}
@@ -31,9 +31,9 @@ abbrev pub EndsWithin : ℕ → ℕ → Integer × ℕ → Type 0
 EndsWithin i len (found.Whole n, e) = (i < e) × (e ≤ len)
 EndsWithin i len (found.FloatSeen, j) = (i ≤ j) × (j < len)
 
--- the value of decimal digits, or the greatest number of 64 bits where that is less
+-- the value of decimal digits, or the least of twenty digits where that is less
 abbrev pub magnitude_of : List ℕ → ℕ
-magnitude_of w = min (decimal_of w) (2 ^ 64 - 1)
+magnitude_of w = min (decimal_of w) (10 ^ 19)
 
 -- nothing, or a minus, stands from i to before j
 abbrev pub IsMinusTo : List ℕ → ℕ → ℕ → Type 0

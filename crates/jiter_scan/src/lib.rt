@@ -6,6 +6,8 @@ pub mod errors;
 pub mod memory;
 pub mod number_decoder;
 pub mod partial_mode;
+pub mod simd;
+pub mod text;
 pub mod word;
 
 pub use errors::{Fault, FaultKind, JsonError, JsonErrorType, JsonResult, LinePosition};

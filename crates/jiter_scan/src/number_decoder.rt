@@ -10,6 +10,8 @@ ghost use Rattle.jiter_scan.specs.NumberReading.{extent_then, digits_from, behin
 ghost use Rattle.jiter_scan.specs.NumberDecoder.{int_view, number_view, integer_view, EndsWithin, magnitude_of, IsMinusTo};
 
 use crate::errors::{Fault, FaultKind, JsonError, JsonResult, fault_at};
+use crate::simd::{chunk_at, digit_run_end, digit_word, digits_end, joined};
+use crate::text::ascii_text;
 use crate::word::{byte_at, word_end};
 
 /// An integer.
@@ -125,45 +127,17 @@ const DIGIT_LIMIT: usize = 4300;
 // One more than the greatest integer of 64 signed bits.
 const INT_LIMIT: u64 = 1 << 63;
 
+// The least number of twenty digits.
+const MAGNITUDE_LIMIT: u64 = 10_000_000_000_000_000_000;
+
 fn is_digit(byte: u8) -> bool
     ensures { result ≡ is_digit byte }
 {
     byte.is_ascii_digit()
 }
 
-// The place behind the digits that stand at `from`, perhaps none.
-fn digit_run_end(bytes: &[u8], from: usize) -> usize
-    requires { from ≤ length bytes.now }
-    ensures value { result ≡ digit_run_end bytes.now from }
-    ensures place { (from ≤ result) × (result ≤ length bytes.now) }
-{
-    let mut end = from;
-    while end < bytes.len() && is_digit(bytes[end]) {
-        end += 1;
-    }
-    end
-}
-
-// The digits that stand at `from`, at most one more than the limit: their magnitude, or the greatest `u64`,
-// and the place behind them.
-fn read_digits(bytes: &[u8], from: usize) -> (u64, usize)
-    requires { from ≤ length bytes.now }
-    ensures end { result.1 ≡ min (digit_run_end bytes.now from) (from + (digit_limit + 1)) }
-    ensures place { (from ≤ result.1) × (result.1 ≤ length bytes.now) }
-    ensures magnitude { result.0 ≡ magnitude_of (slice_range bytes.now from result.1) }
-{
-    let mut magnitude: u64 = 0;
-    let mut end = from;
-    while end - from <= DIGIT_LIMIT && end < bytes.len() && is_digit(bytes[end]) {
-        let digit = u64::from(bytes[end] - b'0');
-        magnitude = magnitude.saturating_mul(10).saturating_add(digit);
-        end += 1;
-    }
-    (magnitude, end)
-}
-
 // One digit or more: the place behind them.
-fn digits_end(bytes: &[u8], from: usize) -> Result<usize, Fault>
+fn some_digits_end(bytes: &[u8], from: usize) -> Result<usize, Fault>
     requires { from ≤ length bytes.now }
     ensures value { Scans (taken tt) result
         (digits_from bytes.now from (slice_get bytes.now from)) }
@@ -202,25 +176,46 @@ fn read_zero(bytes: &[u8], at: usize) -> Result<(u64, usize), Fault>
     }
 }
 
-// The digits at `at`, unless they are too many.
+// The magnitude of the digits from `at` to before `end`, or the least of twenty digits.
+fn digits_magnitude(bytes: &[u8], at: usize, end: usize) -> u64
+    requires some { at < end }
+    requires digits { (end ≤ digit_run_end bytes.now at) × (end ≤ length bytes.now) }
+    requires first { ascii.digit_zero < slice_index bytes.now at }
+    ensures { result ≡ magnitude_of (slice_range bytes.now at end) }
+{
+    let count = end - at;
+    if count <= 16 {
+        digit_word(chunk_at(bytes, at), count)
+    } else if count <= 19 {
+        let front = digit_word(chunk_at(bytes, at), 16);
+        let back = digit_word(chunk_at(bytes, at + 16), count - 16);
+        joined(front, back, count - 16)
+    } else {
+        MAGNITUDE_LIMIT
+    }
+}
+
+// The digits at `at`, of which the first is no zero, unless they are too many.
 fn read_within_limit(bytes: &[u8], at: usize) -> Result<(u64, usize), Fault>
     requires within { at ≤ length bytes.now }
     requires some { at < digit_run_end bytes.now at }
+    requires first { ascii.digit_zero < slice_index bytes.now at }
     ensures value { Scans (with_end (λ _. tt)) result
         (within_limit at (digit_run_end bytes.now at)) }
     ensures place { IfOk result (λ x. (at < x.1) × (x.1 ≤ length bytes.now)) }
     ensures magnitude { IfOk result
         (λ x. x.0 ≡ magnitude_of (slice_range bytes.now at x.1)) }
 {
-    let (magnitude, end) = read_digits(bytes, at);
-    if end - at <= DIGIT_LIMIT {
-        Ok((magnitude, end))
-    } else {
-        Err(fault_at(FaultKind::NumberOutOfRange, at + (DIGIT_LIMIT + 1)))
+    match digits_end(bytes, at, DIGIT_LIMIT) {
+        Some(end) => {
+            let magnitude = digits_magnitude(bytes, at, end);
+            Ok((magnitude, end))
+        }
+        None => Err(fault_at(FaultKind::NumberOutOfRange, at + (DIGIT_LIMIT + 1))),
     }
 }
 
-// The integer part: its magnitude, or the greatest `u64`, and the place behind it.
+// The integer part: its magnitude, or the least of twenty digits, and the place behind it.
 fn read_whole(bytes: &[u8], at: usize) -> Result<(u64, usize), Fault>
     requires { at ≤ length bytes.now }
     ensures value { Scans (with_end (λ _. tt)) result (whole_at bytes.now at) }
@@ -252,7 +247,7 @@ fn fraction_end(bytes: &[u8], at: usize) -> Result<usize, Fault>
         None => Ok(at),
         Some(byte) => {
             if byte == b'.' {
-                digits_end(bytes, at + 1)
+                some_digits_end(bytes, at + 1)
             } else {
                 Ok(at)
             }
@@ -270,9 +265,9 @@ fn power_end(bytes: &[u8], at: usize) -> Result<usize, Fault>
         None => Err(fault_at(FaultKind::EofWhileParsingValue, at)),
         Some(byte) => {
             if byte == b'+' || byte == b'-' {
-                digits_end(bytes, at + 1)
+                some_digits_end(bytes, at + 1)
             } else {
-                digits_end(bytes, at)
+                some_digits_end(bytes, at)
             }
         }
     }
@@ -293,17 +288,6 @@ fn exponent_end(bytes: &[u8], at: usize) -> Result<usize, Fault>
                 Ok(at)
             }
         }
-    }
-}
-
-// ASCII bytes as a text.
-fn ascii_text(bytes: &[u8]) -> &str
-    requires { IsAscii bytes.now }
-    ensures { result.now ≡ bytes.now }
-{
-    match std::str::from_utf8(bytes) {
-        Ok(text) => text,
-        Err(_) => unreachable!(),
     }
 }
 

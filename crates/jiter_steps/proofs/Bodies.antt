@@ -5,21 +5,26 @@ use Rattle.jiter_steps.specs.StringReading.{Stop, closed, unclosed, cut, wrong, 
 use Rattle.jiter_steps.proofs.Places.{IsPlaceKind, Explains, place_at-explains}
 
 pub before-before : (a b : List ℕ) (o p : Bool) (r : Body) → before a o (before b p r) ≡ before (a ++ b) (o || p) r
-before-before a b true p r = ap (λ l. record { bytes = l; owned = true; stop = r.stop }) (sym (append_assoc a b r.bytes))
-before-before a b false p r = ap (λ l. record { bytes = l; owned = p || r.owned; stop = r.stop }) (sym (append_assoc a b r.bytes))
+before-before a b true p r =
+    ap (λ l. record { bytes = l; owned = true; stop = r.stop }) (sym (append_assoc a b r.bytes))
+before-before a b false p r =
+    ap (λ l. record { bytes = l; owned = p || r.owned; stop = r.stop }) (sym (append_assoc a b r.bytes))
 
 pub part-ahead : (t : List ℕ) (i j : ℕ) (bs : List ℕ) (o : Bool) → Explains t i (part bs o j) → (i < j) × (j ≤ length t)
 part-ahead t i j bs true h = (h.ahead, h.within)
-part-ahead t i j bs false h = let inside = slice_get_within t i h.byte h.here in (omega (arith, h.ends), omega (arith, h.ends))
+part-ahead t i j bs false h =
+    let inside = slice_get_within t i h.byte h.here in (omega (arith, h.ends), omega (arith, h.ends))
 
 pub place_by-end : (t : List ℕ) (i : ℕ) → length t ≤ i → place_at t i ≡ over unclosed
 unfolding place_at
 place_by-end t i h = ap (place_by t i) (slice_get_past t i h)
 
 module _ (t : List ℕ) where
-  enough-join : (n m i : ℕ) → length t ≤ suc n + i → length t ≤ suc m + i → ((j : ℕ) → length t ≤ n + j → length t ≤ m + j → body_within n t j ≡ body_within m t j)
+  enough-join : (n m i : ℕ) → length t ≤ suc n + i → length t ≤ suc m + i
+      → ((j : ℕ) → length t ≤ n + j → length t ≤ m + j → body_within n t j ≡ body_within m t j)
       → (f : Place) → Explains t i f → join (body_within n t) f ≡ join (body_within m t) f
-  enough-join n m i p q go (part bs o j) h = let a = part-ahead t i j bs o h in ap (before bs o) (go j (omega arith) (omega arith))
+  enough-join n m i p q go (part bs o j) h =
+      let a = part-ahead t i j bs o h in ap (before bs o) (go j (omega arith) (omega arith))
   enough-join n m i p q go (over s) h = refl
 
   enough : (n m i : ℕ) → length t ≤ n + i → length t ≤ m + i → body_within n t i ≡ body_within m t i
@@ -27,7 +32,8 @@ module _ (t : List ℕ) where
   enough zero zero i p q = refl
   enough zero (suc m) i p q = sym (ap (join (body_within m t)) (place_by-end t i (omega arith)))
   enough (suc n) zero i p q = ap (join (body_within n t)) (place_by-end t i (omega arith))
-  enough (suc n) (suc m) i p q = enough-join n m i p q (λ j x y. enough n m j x y) (place_at t i) (place_at-explains t i)
+  enough (suc n) (suc m) i p q =
+      enough-join n m i p q (λ j x y. enough n m j x y) (place_at t i) (place_at-explains t i)
 
   -- after this no proof speaks of turns
   pub body_at-is : (i : ℕ) → body_at t i ≡ join (body_at t) (place_at t i)
@@ -41,7 +47,8 @@ module _ (t : List ℕ) where
   part-wide i j bs true h = h.wide
   part-wide i j bs false h = omega (arith, h.ends, ap length h.is)
 
-  long-join : (n i : ℕ) → length t ≤ suc n + i → i ≤ length t → ((j : ℕ) → length t ≤ n + j → j ≤ length t → j + length (body_at t j).bytes ≤ length t)
+  long-join : (n i : ℕ) → length t ≤ suc n + i → i ≤ length t
+      → ((j : ℕ) → length t ≤ n + j → j ≤ length t → j + length (body_at t j).bytes ≤ length t)
       → (f : Place) → Explains t i f → i + length (join (body_at t) f).bytes ≤ length t
   long-join n i p q go (part bs o j) h =
       let a = part-ahead t i j bs o h in
@@ -51,8 +58,12 @@ module _ (t : List ℕ) where
   long-join n i p q go (over s) h = omega arith
 
   long : (n i : ℕ) → length t ≤ n + i → i ≤ length t → i + length (body_at t i).bytes ≤ length t
-  long zero i p q = subst (λ (b : Body). i + length b.bytes ≤ length t) (sym (body_at-place_by i (over unclosed) (place_by-end t i (omega arith)))) (omega arith)
-  long (suc n) i p q = subst (λ (b : Body). i + length b.bytes ≤ length t) (sym (body_at-is i)) (long-join n i p q (λ j x y. long n j x y) (place_at t i) (place_at-explains t i))
+  long zero i p q =
+      subst (λ (b : Body). i + length b.bytes ≤ length t)
+      (sym (body_at-place_by i (over unclosed) (place_by-end t i (omega arith)))) (omega arith)
+  long (suc n) i p q =
+      subst (λ (b : Body). i + length b.bytes ≤ length t) (sym (body_at-is i))
+      (long-join n i p q (λ j x y. long n j x y) (place_at t i) (place_at-explains t i))
 
   -- a text is no longer than its source
   pub body_at-long : (i : ℕ) → i ≤ length t → i + length (body_at t i).bytes ≤ length t
@@ -80,12 +91,17 @@ stop-over t i (wrong k j) h = h
 module _ (t : List ℕ) where
   within-join : (n i : ℕ) → length t ≤ suc n + i → ((j : ℕ) → length t ≤ n + j → StopWithin t j (body_at t j).stop)
       → (f : Place) → Explains t i f → StopWithin t i (join (body_at t) f).stop
-  within-join n i p go (part bs o j) h = let a = part-ahead t i j bs o h in stop-later t i j a.0 (body_at t j).stop (go j (omega arith))
+  within-join n i p go (part bs o j) h =
+      let a = part-ahead t i j bs o h in stop-later t i j a.0 (body_at t j).stop (go j (omega arith))
   within-join n i p go (over s) h = stop-over t i s h
 
   within : (n i : ℕ) → length t ≤ n + i → StopWithin t i (body_at t i).stop
-  within zero i p = subst (λ (b : Body). StopWithin t i b.stop) (sym (body_at-place_by t i (over unclosed) (place_by-end t i (omega arith)))) tt
-  within (suc n) i p = subst (λ (b : Body). StopWithin t i b.stop) (sym (body_at-is t i)) (within-join n i p (λ j x. within n j x) (place_at t i) (place_at-explains t i))
+  within zero i p =
+      subst (λ (b : Body). StopWithin t i b.stop)
+      (sym (body_at-place_by t i (over unclosed) (place_by-end t i (omega arith)))) tt
+  within (suc n) i p =
+      subst (λ (b : Body). StopWithin t i b.stop) (sym (body_at-is t i))
+      (within-join n i p (λ j x. within n j x) (place_at t i) (place_at-explains t i))
 
   pub body_at-within : (i : ℕ) → StopWithin t i (body_at t i).stop
   body_at-within i = within (length t) i (omega arith)

@@ -16,54 +16,81 @@ use Rattle.jiter_steps.proofs.Bodies.{before-before, body_at-is, body_at-place_b
 use Rattle.jiter_scan.proofs.Choices.{if-true, if-false}
 use Rattle.jiter_steps.proofs.StringComplete.{place_by-byte, place_by-quote}
 
-pub plain_more : (t : List ℕ) (from at : ℕ) → body_at t from ≡ before (slice_range t from at) false (body_at t at) → from ≤ at → at < length t
-    → slice_index t at ≢ 34 → slice_index t at ≢ 92 → 32 ≤ slice_index t at → body_at t from ≡ before (slice_range t from (at + 1)) false (body_at t (at + 1))
+pub plain_more : (t : List ℕ) (from at : ℕ) → body_at t from ≡ before (slice_range t from at) false (body_at t at)
+    → from ≤ at → at < length t
+    → slice_index t at ≢ 34 → slice_index t at ≢ 92 → 32 ≤ slice_index t at
+    → body_at t from ≡ before (slice_range t from (at + 1)) false (body_at t (at + 1))
 plain_more t from at h le lt q s p =
     let b = slice_index t at in
-    let step = body_at-place_by t at (part (b ∷ []) false (at + 1)) (place_by-byte t at b (got t at lt) (record { printed = p; no_quote = q; no_backslash = s })) in
-    h ∙ ap (before (slice_range t from at) false) step ∙ before-before (slice_range t from at) (b ∷ []) false false (body_at t (at + 1))
+    let step =
+    body_at-place_by t at (part (b ∷ []) false (at + 1))
+    (place_by-byte t at b (got t at lt) (record { printed = p; no_quote = q; no_backslash = s })) in
+    h ∙ ap (before (slice_range t from at) false) step
+    ∙ before-before (slice_range t from at) (b ∷ []) false false (body_at t (at + 1))
     ∙ ap (λ l. before l false (body_at t (at + 1))) (sym (between_more t from at 0 le lt))
 
 -- a part is added
-pub part_more : (t old tape bs : List ℕ) (from at j : ℕ) (o : Bool) → old ++ (body_at t from).bytes ≡ tape ++ (body_at t at).bytes → (body_at t from).stop ≡ (body_at t at).stop → place_at t at ≡ part bs o j
-    → (old ++ (body_at t from).bytes ≡ (tape ++ bs) ++ (body_at t j).bytes) × ((body_at t from).stop ≡ (body_at t j).stop) × (at < j) × (j ≤ length t)
+pub part_more : (t old tape bs : List ℕ) (from at j : ℕ) (o : Bool)
+    → old ++ (body_at t from).bytes ≡ tape ++ (body_at t at).bytes → (body_at t from).stop ≡ (body_at t at).stop
+    → place_at t at ≡ part bs o j
+    → (old ++ (body_at t from).bytes ≡ (tape ++ bs) ++ (body_at t j).bytes)
+    × ((body_at t from).stop ≡ (body_at t j).stop) × (at < j) × (j ≤ length t)
 part_more t old tape bs from at j o h s e =
     let b = body_at-place_by t at (part bs o j) e in
-    let a = part-ahead t at j bs o (subst (Explains t at) e (place_at-explains t at)) in
-    (h ∙ ap (λ (x : Body). tape ++ x.bytes) b ∙ sym (append_assoc tape bs (body_at t j).bytes), s ∙ ap (λ (x : Body). x.stop) b, a.0, a.1)
+    let a = part-ahead t at j bs o (subst (Explains t at) e (place_at-explains t at)) in (
+      h ∙ ap (λ (x : Body). tape ++ x.bytes) b ∙ sym (append_assoc tape bs (body_at t j).bytes),
+      s
+          ∙ ap (λ (x : Body). x.stop) b,
+      a.0,
+      a.1,
+    )
 
 -- the end
-pub part_over : (t old tape : List ℕ) (from at : ℕ) (x : Stop) → old ++ (body_at t from).bytes ≡ tape ++ (body_at t at).bytes → (body_at t from).stop ≡ (body_at t at).stop → place_at t at ≡ over x
+pub part_over : (t old tape : List ℕ) (from at : ℕ) (x : Stop)
+    → old ++ (body_at t from).bytes ≡ tape ++ (body_at t at).bytes → (body_at t from).stop ≡ (body_at t at).stop
+    → place_at t at ≡ over x
     → (tape ≡ old ++ (body_at t from).bytes) × ((body_at t from).stop ≡ x)
 part_over t old tape from at x h s e =
     let b = body_at-place_by t at (over x) e in
     (sym (h ∙ ap (λ (x : Body). tape ++ x.bytes) b ∙ append-nil tape), s ∙ ap (λ (x : Body). x.stop) b)
 
 -- how a string goes on behind its plain bytes, by the byte there
-pub at_none : (t : List ℕ) (from to : ℕ) → body_at t from ≡ before (slice_range t from to) false (body_at t to) → slice_get t to ≡ None → content_at whole t from ≡ failed eof_string (length t)
+pub at_none : (t : List ℕ) (from to : ℕ) → body_at t from ≡ before (slice_range t from to) false (body_at t to)
+    → slice_get t to ≡ None → content_at whole t from ≡ failed eof_string (length t)
 unfolding content_at place_at
-at_none t from to h e = ap (λ (b : Body). text_in_form whole t from b.bytes b.owned b.stop) (h ∙ ap (before (slice_range t from to) false) (body_at-place_by t to (over unclosed) (ap (place_by t to) e)))
+at_none t from to h e =
+    ap (λ (b : Body). text_in_form whole t from b.bytes b.owned b.stop)
+    (h ∙ ap (before (slice_range t from to) false) (body_at-place_by t to (over unclosed) (ap (place_by t to) e)))
 
-pub at_quote : (t : List ℕ) (from to : ℕ) → body_at t from ≡ before (slice_range t from to) false (body_at t to) → slice_get t to ≡ Some 34
+pub at_quote : (t : List ℕ) (from to : ℕ) → body_at t from ≡ before (slice_range t from to) false (body_at t to)
+    → slice_get t to ≡ Some 34
     → content_at whole t from ≡ if_utf8 from false (slice_range t from to) (to + 1)
 unfolding content_at
 at_quote t from to h e =
-    ap (λ (b : Body). text_in_form whole t from b.bytes b.owned b.stop) (h ∙ ap (before (slice_range t from to) false) (body_at-place_by t to (over (closed (to + 1))) (place_by-quote t to e)))
+    ap (λ (b : Body). text_in_form whole t from b.bytes b.owned b.stop)
+    (h ∙ ap (before (slice_range t from to) false)
+    (body_at-place_by t to (over (closed (to + 1))) (place_by-quote t to e)))
     ∙ ap (λ l. if_utf8 from false l (to + 1)) (append-nil (slice_range t from to))
 
-pub at_control : (t : List ℕ) (from to b : ℕ) → body_at t from ≡ before (slice_range t from to) false (body_at t to) → slice_get t to ≡ Some b → b ≢ 34 → b ≢ 92 → b < 32
+pub at_control : (t : List ℕ) (from to b : ℕ) → body_at t from ≡ before (slice_range t from to) false (body_at t to)
+    → slice_get t to ≡ Some b → b ≢ 34 → b ≢ 92 → b < 32
     → content_at whole t from ≡ failed control_character to
 unfolding content_at place_at
 at_control t from to b h e q s l =
-    let there = ap (place_by t to) e ∙ if-false (b == 34) (over (closed (to + 1))) (escape_or_plain t to b) (ne_eqb b 34 q)
-    ∙ if-false (b == 92) (behind_backslash t (to + 1) (slice_get t (to + 1))) (plain to b) (ne_eqb b 92 s) ∙ if-true (nat_lt b 32) (over (wrong control_character to)) (part (b ∷ []) false (to + 1)) (lt-ltb b 32 l) in
-    ap (λ (b : Body). text_in_form whole t from b.bytes b.owned b.stop) (h ∙ ap (before (slice_range t from to) false) (body_at-place_by t to (over (wrong control_character to)) there))
+    let there =
+    ap (place_by t to) e ∙ if-false (b == 34) (over (closed (to + 1))) (escape_or_plain t to b) (ne_eqb b 34 q)
+    ∙ if-false (b == 92) (behind_backslash t (to + 1) (slice_get t (to + 1))) (plain to b) (ne_eqb b 92 s)
+    ∙ if-true (nat_lt b 32) (over (wrong control_character to)) (part (b ∷ []) false (to + 1)) (lt-ltb b 32 l) in
+    ap (λ (b : Body). text_in_form whole t from b.bytes b.owned b.stop)
+    (h ∙ ap (before (slice_range t from to) false)
+    (body_at-place_by t to (over (wrong control_character to)) there))
 
 no_fault : (k : Kind) (j e : ℕ) (s : Stop) → s ≡ wrong k j → s ≡ closed e → ⊥
 no_fault k j e s p q = let same : wrong k j ≡ closed e = sym p ∙ q in cc
 
 -- behind a backslash
-owned_behind : (t : List ℕ) (i e : ℕ) → slice_get t i ≡ Some 92 → (x : Place) → Explains t i x → (join (body_at t) x).stop ≡ closed e → (join (body_at t) x).owned ≡ true
+owned_behind : (t : List ℕ) (i e : ℕ) → slice_get t i ≡ Some 92 → (x : Place) → Explains t i x
+    → (join (body_at t) x).stop ≡ closed e → (join (body_at t) x).owned ≡ true
 owned_behind t i e h (part bs true j) x s = refl
 owned_behind t i e h (part bs false j) x s = absurd (x.no_backslash (same_Some _ _ (sym x.here ∙ h)))
 owned_behind t i e h (over (closed f)) x s = let no = same_Some _ _ (sym x.0 ∙ h) in absurd (omega arith)
@@ -71,22 +98,29 @@ owned_behind t i e h (over unclosed) x s = absurd (none-some _ (sym x ∙ h))
 owned_behind t i e h (over cut) x s = refl
 owned_behind t i e h (over (wrong k j)) x s = absurd (no_fault k j e _ refl s)
 
-backslash_owned : (t : List ℕ) (i e : ℕ) → slice_get t i ≡ Some 92 → (body_at t i).stop ≡ closed e → (body_at t i).owned ≡ true
+backslash_owned : (t : List ℕ) (i e : ℕ) → slice_get t i ≡ Some 92 → (body_at t i).stop ≡ closed e
+    → (body_at t i).owned ≡ true
 backslash_owned t i e h s =
     let b = body_at-is t i in
-    ap (λ (b : Body). b.owned) b ∙ owned_behind t i e h (place_at t i) (place_at-explains t i) (sym (ap (λ (b : Body). b.stop) b) ∙ s)
+    ap (λ (b : Body). b.owned) b ∙ owned_behind t i e h (place_at t i) (place_at-explains t i)
+    (sym (ap (λ (b : Body). b.stop) b) ∙ s)
 
 -- bytes that are UTF-8
-pub checked_text : (i e : ℕ) (o : Bool) (bs : List ℕ) → IsUtf8 bs → if_utf8 i o bs e ≡ taken (record { owned = o; bytes = bs }) e
-checked_text i e o bs u = if-true (utf8_valid_len bs == length bs) (taken (record { owned = o; bytes = bs }) e) (failed invalid_code_point (i + utf8_valid_len bs)) (eq-eqb _ _ (utf8_valid_len-IsUtf8 bs u))
+pub checked_text : (i e : ℕ) (o : Bool) (bs : List ℕ) → IsUtf8 bs
+    → if_utf8 i o bs e ≡ taken (record { owned = o; bytes = bs }) e
+checked_text i e o bs u =
+    if-true (utf8_valid_len bs == length bs) (taken (record { owned = o; bytes = bs }) e)
+    (failed invalid_code_point (i + utf8_valid_len bs)) (eq-eqb _ _ (utf8_valid_len-IsUtf8 bs u))
 
-pub at_backslash : (t : List ℕ) (from to e : ℕ) → body_at t from ≡ before (slice_range t from to) false (body_at t to) → slice_get t to ≡ Some 92 → (body_at t from).stop ≡ closed e
+pub at_backslash : (t : List ℕ) (from to e : ℕ) → body_at t from ≡ before (slice_range t from to) false (body_at t to)
+    → slice_get t to ≡ Some 92 → (body_at t from).stop ≡ closed e
     → content_at whole t from ≡ if_utf8 from true (body_at t from).bytes e
 unfolding content_at
 at_backslash t from to e h b s =
     let owned = ap (λ (x : Body). x.owned) h ∙ backslash_owned t to e b (sym (ap (λ (x : Body). x.stop) h) ∙ s) in
     ap₂ (λ (o : Bool) (x : Stop). text_in_form whole t from (body_at t from).bytes o x) owned s
 
-pub at_stop : (t : List ℕ) (from : ℕ) (x : Stop) → (body_at t from).stop ≡ x → content_at whole t from ≡ text_in_form whole t from (body_at t from).bytes (body_at t from).owned x
+pub at_stop : (t : List ℕ) (from : ℕ) (x : Stop) → (body_at t from).stop ≡ x
+    → content_at whole t from ≡ text_in_form whole t from (body_at t from).bytes (body_at t from).owned x
 unfolding content_at
 at_stop t from x s = ap (λ (y : Stop). text_in_form whole t from (body_at t from).bytes (body_at t from).owned y) s

@@ -1,13 +1,15 @@
-mod Rows
+pub mod Alive
 pub mod Answered
 pub mod Blanks
 pub mod Bodies
 pub mod Bounds
 pub mod Complete
+pub mod Completions
 pub mod Computed
 pub mod CutLaw
 pub mod CutNodes
 pub mod CutParts
+pub mod Dead
 pub mod DecodeSteps
 pub mod Documents
 pub mod Firsts
@@ -22,14 +24,25 @@ pub mod NodeRules
 pub mod NodesFront
 pub mod NumberCut
 pub mod NumberCutLaws
+pub mod OpenNumbers
+pub mod OpenParts
+pub mod OpenReadings
 pub mod Parts
 pub mod Pieces
+pub mod Pins
 pub mod Places
 pub mod PlainRuns
 pub mod Prefixes
 pub mod ReadFront
 pub mod Resumed
 pub mod RowSteps
+mod Rows
+pub mod SameFront
+pub mod SameNumbers
+pub mod SameReadings
+pub mod SameRuns
+pub mod SameSteps
+pub mod SameStrings
 pub mod ScalarLaws
 pub mod Sound
 pub mod SpelledParts
@@ -42,6 +55,7 @@ pub mod StringLaws
 pub mod StringMarks
 pub mod StringSound
 pub mod StringStand
+pub mod StuckSteps
 pub mod Tails
 pub mod Utf8Shape
 pub mod Values

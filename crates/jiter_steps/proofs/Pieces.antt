@@ -13,4 +13,5 @@ end_of i c (over s) = i
 -- the pieces from i on that stand for these characters
 abbrev pub pieces_from : List ℕ → ℕ → List ℕ → List Piece
 pieces_from t i [] = []
-pieces_from t i (c ∷ cs) = record { character = c; end = end_of i c (place_at t i) } ∷ pieces_from t (end_of i c (place_at t i)) cs
+pieces_from t i (c ∷ cs) =
+    record { character = c; end = end_of i c (place_at t i) } ∷ pieces_from t (end_of i c (place_at t i)) cs

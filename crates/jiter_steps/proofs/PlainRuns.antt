@@ -1,13 +1,9 @@
 -- The plain bytes of a string stand for themselves, up to the first stop.
-use Rattle.std.proofs.Common.{◌≡◌, ◌≢◌, ℕ, zero, suc, ◌+◌, ◌<◌, ◌≤◌, Bool, true, false, not, cond, List, [], ◌++◌, length, drop, get_or, refl, sym, ap, ◌∙◌, subst, arith, append_assoc}
+use Rattle.std.proofs.Common.{◌≡◌, ◌≢◌, ℕ, zero, suc, ◌+◌, ◌<◌, ◌≤◌, Bool, true, false, not, List, [], ◌++◌, length, drop, refl, sym, ap, ◌∙◌, arith, append_assoc}
 use Rattle.std.specs.Prelude.{slice_get, slice_index, slice_range, Some}
 use Rattle.std.specs.List.{prefix_len}
-use Rattle.std.proofs.Math.Seq.{drop-cons}
 use Rattle.std.proofs.lemmas.Bool.Decides.{nat_tests}
-use Rattle.std.proofs.lemmas.List.{get_or-drop, length-drop}
 use Rattle.std.proofs.lemmas.List.Edits.{between_none}
-use Rattle.std.proofs.lemmas.List.Sums.{prefix_len-le-length, prefix_len-drop_all, prefix_len-drop_no, prefix_len_passes, prefix_len_stops}
-use Rattle.std.proofs.lemmas.Option.{slice_get_within, get_or_from_slice_get}
 use Rattle.jiter_scan.specs.Scan.{is_stop, is_plain, scan_stop}
 use Rattle.jiter_scan.proofs.Runs.{run_end-passing, run_end-stopping, run_end-past, run_end-ahead, run_end-within, run_end-passes, run_end-stops}
 use Rattle.jiter_steps.specs.StringReading.{part, over, place_at, Stop, Body, before, body_at}
@@ -47,7 +43,8 @@ module _ (t : List ℕ) where
   scan_stop_stops i b e = stop-again b (run_end-stops is_plain t i b e)
 
   -- so many plain bytes
-  run : (i k : ℕ) → i ≤ length t → i + k ≤ scan_stop t i → body_at t i ≡ before (slice_range t i (i + k)) false (body_at t (i + k))
+  run : (i k : ℕ) → i ≤ length t → i + k ≤ scan_stop t i
+      → body_at t i ≡ before (slice_range t i (i + k)) false (body_at t (i + k))
   run i zero w h =
       let none : slice_range t i i ≡ [] = between_none t i in
       let at : i ≡ i + 0 = omega arith in
@@ -55,28 +52,37 @@ module _ (t : List ℕ) where
   run i (suc k) w h =
       let plain = run_end-passes is_plain t i (i + k) (omega arith) (omega arith) in
       let at : i + k + 1 ≡ i + suc k = omega arith in
-      plain_more t i (i + k) (run i k w (omega arith)) (omega arith) (omega (arith, run_end-within is_plain t i w)) (plain-no_quote _ plain) (plain-no_backslash _ plain) (plain-printed _ plain)
+      plain_more t i (i + k) (run i k w (omega arith)) (omega arith) (omega (arith, run_end-within is_plain t i w))
+      (plain-no_quote _ plain) (plain-no_backslash _ plain) (plain-printed _ plain)
       ∙ ap (λ j. before (slice_range t i j) false (body_at t j)) at
 
-  pub plain_run : (i : ℕ) → i ≤ length t → body_at t i ≡ before (slice_range t i (scan_stop t i)) false (body_at t (scan_stop t i))
+  pub plain_run : (i : ℕ) → i ≤ length t
+      → body_at t i ≡ before (slice_range t i (scan_stop t i)) false (body_at t (scan_stop t i))
   plain_run i h = run i (prefix_len is_plain (drop i t)) h (omega arith)
 
-  pub plain_run_to : (i to : ℕ) → i ≤ length t → to ≡ scan_stop t i → body_at t i ≡ before (slice_range t i to) false (body_at t to)
+  pub plain_run_to : (i to : ℕ) → i ≤ length t → to ≡ scan_stop t i
+      → body_at t i ≡ before (slice_range t i to) false (body_at t to)
   plain_run_to i to h e = plain_run i h ∙ ap (λ j. before (slice_range t i j) false (body_at t j)) (sym e)
 
   -- a run of plain bytes is added
-  run_more : (old tape next : List ℕ) (from at to : ℕ) → old ++ (body_at t from).bytes ≡ tape ++ (body_at t at).bytes → (body_at t from).stop ≡ (body_at t at).stop → at ≤ length t → to ≡ scan_stop t at
-      → next ≡ tape ++ slice_range t at to → (old ++ (body_at t from).bytes ≡ next ++ (body_at t to).bytes) × ((body_at t from).stop ≡ (body_at t to).stop)
+  run_more : (old tape next : List ℕ) (from at to : ℕ) → old ++ (body_at t from).bytes ≡ tape ++ (body_at t at).bytes
+      → (body_at t from).stop ≡ (body_at t at).stop → at ≤ length t → to ≡ scan_stop t at
+      → next ≡ tape ++ slice_range t at to
+      → (old ++ (body_at t from).bytes ≡ next ++ (body_at t to).bytes) × ((body_at t from).stop ≡ (body_at t to).stop)
   run_more old tape next from at to h s w e n =
       let b = plain_run_to at to w e in (
-        h ∙ ap (λ (x : Body). tape ++ x.bytes) b ∙ sym (append_assoc tape (slice_range t at to) (body_at t to).bytes) ∙ ap (λ l. l ++ (body_at t to).bytes) (sym n),
+        h ∙ ap (λ (x : Body). tape ++ x.bytes) b ∙ sym (append_assoc tape (slice_range t at to) (body_at t to).bytes)
+            ∙ ap (λ l. l ++ (body_at t to).bytes) (sym n),
         s ∙ ap (λ (x : Body). x.stop) b,
       )
 
   -- and the character of an escape
-  pub decode_more : (old tape next after bs : List ℕ) (from at to end : ℕ) → old ++ (body_at t from).bytes ≡ tape ++ (body_at t at).bytes → (body_at t from).stop ≡ (body_at t at).stop → at ≤ length t → to ≡ scan_stop t at
+  pub decode_more : (old tape next after bs : List ℕ) (from at to end : ℕ)
+      → old ++ (body_at t from).bytes ≡ tape ++ (body_at t at).bytes → (body_at t from).stop ≡ (body_at t at).stop
+      → at ≤ length t → to ≡ scan_stop t at
       → next ≡ tape ++ slice_range t at to → part bs true end ≡ place_at t to → after ≡ next ++ bs
-      → (old ++ (body_at t from).bytes ≡ after ++ (body_at t end).bytes) × ((body_at t from).stop ≡ (body_at t end).stop) × (at < end) × (end ≤ length t)
+      → (old ++ (body_at t from).bytes ≡ after ++ (body_at t end).bytes)
+      × ((body_at t from).stop ≡ (body_at t end).stop) × (at < end) × (end ≤ length t)
   decode_more old tape next after bs from at to end h s w e n f a =
       let r = run_more old tape next from at to h s w e n in
       let m = part_more t old next bs from to end true r.0 r.1 (sym f) in
@@ -84,9 +90,15 @@ module _ (t : List ℕ) where
       (m.0 ∙ ap (λ l. l ++ (body_at t end).bytes) (sym a), m.1, omega (arith, m.2, ahead.0, e), m.3)
 
   -- or the string is over
-  pub decode_over : (old tape next : List ℕ) (from at to : ℕ) (x : Stop) → old ++ (body_at t from).bytes ≡ tape ++ (body_at t at).bytes → (body_at t from).stop ≡ (body_at t at).stop → at ≤ length t → to ≡ scan_stop t at
-      → next ≡ tape ++ slice_range t at to → over x ≡ place_at t to → (next ≡ old ++ (body_at t from).bytes) × (x ≡ (body_at t from).stop)
+  pub decode_over : (old tape next : List ℕ) (from at to : ℕ) (x : Stop)
+      → old ++ (body_at t from).bytes ≡ tape ++ (body_at t at).bytes → (body_at t from).stop ≡ (body_at t at).stop
+      → at ≤ length t → to ≡ scan_stop t at
+      → next ≡ tape ++ slice_range t at to → over x ≡ place_at t to
+      → (next ≡ old ++ (body_at t from).bytes) × (x ≡ (body_at t from).stop)
   decode_over old tape next from at to x h s w e n f =
       let r = run_more old tape next from at to h s w e n in
       let m = part_over t old next from to x r.0 r.1 (sym f) in
       (m.0, sym m.1)
+
+-- a scan for the first stop, a byte at a time
+pub ruleset scan_steps = (scan_stop_past, scan_stop_here, scan_stop_more)

@@ -67,7 +67,7 @@ pub record Delimits (t : List ℕ) (first next : ℕ → Option ℕ → Step) (c
   pub next-more : (i m j : ℕ) → StandsBehind t i 44 m → IsBlank t m j → Begins j → step t next i ≡ more j
 
 -- what holds of both arms of a test for a byte
-tested : {A : Type 0} (P : A → Type 0) (c d : ℕ) (x y : A) → (c ≡ d → P x) → ((c == d) ≡ false → P y)
+pub tested : {A : Type 0} (P : A → Type 0) (c d : ℕ) (x y : A) → (c ≡ d → P x) → ((c == d) ≡ false → P y)
     → P (cond (c == d) x y)
 tested P c d x y p q = by (c == d) refl where
   by : (b : Bool) → (c == d) ≡ b → P (cond b x y)
@@ -76,19 +76,19 @@ tested P c d x y p q = by (c == d) refl where
 
 module _ (t : List ℕ) where
   -- the byte behind blanks, or none
-  record Stops (i j : ℕ) (o : Option ℕ) : Type 0 where
+  pub record Stops (i j : ℕ) (o : Option ℕ) : Type 0 where
     pub blanks : IsBlank t i j
     pub here : slice_get t j ≡ o
     pub no_blank : IfSome o (λ c. is_blank c ≡ false)
 
-  row-is : {A : Type 0} (P : A → Type 0) (row : ℕ → Option ℕ → A) (i : ℕ)
+  pub row-is : {A : Type 0} (P : A → Type 0) (row : ℕ → Option ℕ → A) (i : ℕ)
       → ((j : ℕ) (o : Option ℕ) → Stops i j o → P (row j o))
       → i ≤ length t → P (step t row i)
   row-is P row i all h =
       all (past_blanks t i) _
       (record { blanks = passed-blank t i h; here = refl; no_blank = no_blank-behind t i _ refl })
 
-  behind : (i j c d : ℕ) → Stops i j (Some c) → c ≡ d → StandsBehind t i d (j + 1)
+  pub behind : (i j c d : ℕ) → Stops i j (Some c) → c ≡ d → StandsBehind t i d (j + 1)
   behind i j c d s e = record { at = j; blanks = s.blanks; here = s.here ∙ ap Some e; ends = refl }
 
   item-behind : (i j c : ℕ) → Stops i j (Some c) → (c == 93) ≡ false → PartBehind t (ItemAt t) i j

@@ -7,6 +7,7 @@ mod Steps
 mod Colons
 mod Answers
 mod Depth
+mod FirstFault
 mod PartialAnswers
 mod CutAnywhere
 mod CutNumbers

@@ -43,10 +43,10 @@ round-members k n no_members room d h = omega arith
 round-members k n (member l m ms) room d h = omega arith
 
 -- the bytes that begin an array and an object
-array-byte : (c : ℕ) → start_of c ≡ start.Array → c ≡ 91
+pub array-byte : (c : ℕ) → start_of c ≡ start.Array → c ≡ 91
 array-byte c e = grind (arith, nat_tests, e)
 
-object-byte : (c : ℕ) → start_of c ≡ start.Object → c ≡ 123
+pub object-byte : (c : ℕ) → start_of c ≡ start.Object → c ≡ 123
 object-byte c e = grind (arith, nat_tests, e)
 
 -- the text spells n from i to e
@@ -62,18 +62,21 @@ Sound names t room i (done n e) = IsNodeAt names t i n e × (nesting n ≤ room)
 Sound names t room i (fault k x stop) = Unit {0}
 
 -- inside a container, which needs room itself
-abbrev InsideSound : Bool → List ℕ → ℕ → ℕ → Reading Node → Type 0
-InsideSound names t room i (done n e) = IsNodeAt names t i n e × (nesting n < room)
+abbrev pub IsItemAt : Bool → List ℕ → ℕ → ℕ → Node → ℕ → Type 0
+IsItemAt names t room i n e = IsNodeAt names t i n e × (nesting n < room)
+
+abbrev pub InsideSound : Bool → List ℕ → ℕ → ℕ → Reading Node → Type 0
+InsideSound names t room i (done n e) = IsItemAt names t room i n e
 InsideSound names t room i (fault k x stop) = Unit {0}
 
 -- a key at i, its colon, and its value before e
-record IsMemberAt (names : Bool) (t : List ℕ) (room i : ℕ) (k : Key) (n : Node) (e : ℕ) : Type 0 where
+pub record IsMemberAt (names : Bool) (t : List ℕ) (room i : ℕ) (k : Key) (n : Node) (e : ℕ) : Type 0 where
   pub begins : k.begin ≡ i
   pub key : SpellsKey t k (begin n)
   pub value : IsNodeAt names t (begin n) n e
   pub limit : nesting n < room
 
-abbrev MemberSound : Bool → List ℕ → ℕ → ℕ → Reading (Key × Node) → Type 0
+abbrev pub MemberSound : Bool → List ℕ → ℕ → ℕ → Reading (Key × Node) → Type 0
 MemberSound names t room i (done m e) = IsMemberAt names t room i m.0 m.1 e
 MemberSound names t room i (fault k x stop) = Unit {0}
 
@@ -111,7 +114,7 @@ module _ (names : Bool) (t : List ℕ) where
     abbrev pub inner : ℕ → Reading Node
     inner i = inside_at (nodes names) t room i
 
-    abbrev InnerSound : Type 0
+    abbrev pub InnerSound : Type 0
     InnerSound = (i : ℕ) → i < length t → InsideSound names t room i (inner i)
 
     -- a member: its key, its colon and its value
@@ -162,41 +165,42 @@ module _ (names : Bool) (t : List ℕ) where
     object-goes b = object_of-goes (nodes names) t (nodes-advances t names) inner inner-within b
 
     -- and their grammar
-    abbrev ItemsAre : List Node → ℕ → ℕ → Type 0
+    abbrev pub ItemsAre : List Node → ℕ → ℕ → Type 0
     ItemsAre ns i e = SpellsItems names t i (nodes_of ns) e × (nesting_round (nodes_of ns) ≤ room)
 
-    abbrev MoreItemsAre : List Node → ℕ → ℕ → Type 0
+    abbrev pub MoreItemsAre : List Node → ℕ → ℕ → Type 0
     MoreItemsAre ns i e = SpellsMoreItems names t i (nodes_of ns) e × (nesting_round (nodes_of ns) ≤ room)
 
-    abbrev MembersAre : List (Key × Node) → ℕ → ℕ → Type 0
+    abbrev pub MembersAre : List (Key × Node) → ℕ → ℕ → Type 0
     MembersAre ms i e =
         SpellsMembers names t i (node_members_of ms) e × (nesting_round_members (node_members_of ms) ≤ room)
 
-    abbrev MoreMembersAre : List (Key × Node) → ℕ → ℕ → Type 0
+    abbrev pub MoreMembersAre : List (Key × Node) → ℕ → ℕ → Type 0
     MoreMembersAre ms i e =
         SpellsMoreMembers names t i (node_members_of ms) e × (nesting_round_members (node_members_of ms) ≤ room)
 
-    items-grammar : InnerSound → (b : ℕ)
-        → Grammar t 93 (ItemAt t) (Reads (array b)) ItemsAre MoreItemsAre
-    items-grammar all b = record {
+    pub items-grammar : (Begins : ℕ → Type 0) (IsPart : ℕ → Node → ℕ → Type 0)
+        → ((j : ℕ) (n : Node) (m : ℕ) → Begins j → IsPart j n m → IsItemAt names t room j n m)
+        → Grammar t 93 Begins IsPart ItemsAre MoreItemsAre
+    items-grammar Begins IsPart each = record {
       none = λ i e h. (h, omega arith);
       no_more = λ i e h. (h, omega arith);
       part = λ n ns i j m e blanks at is rest.
-          let x = subst (InsideSound names t room j) is (all j (slice_get_within t j at.byte at.here)) in
+          let x = each j n m at is in
           let more_items = subst (λ k. SpellsMoreItems names t k (nodes_of ns) e) (sym x.0.ends) rest.0 in
           let blanks = subst (IsBlank t i) (sym x.0.begins) blanks in
           ((blanks, x.0.spelled, more_items), round-items n (nodes_of ns) room x.1 rest.1);
       comma = λ n ns i c e h x. ((c, h, x.0.0, x.0.1, x.0.2), x.1);
     }
 
-    members-grammar : InnerSound → (b : ℕ)
-        → Grammar t 125 (KeyBegins t) (Reads (object b)) MembersAre MoreMembersAre
-    members-grammar all b = record {
+    pub members-grammar : (Begins : ℕ → Type 0) (IsPart : ℕ → Key × Node → ℕ → Type 0)
+        → ((j : ℕ) (p : Key × Node) (m : ℕ) → Begins j → IsPart j p m → IsMemberAt names t room j p.0 p.1 m)
+        → Grammar t 125 Begins IsPart MembersAre MoreMembersAre
+    members-grammar Begins IsPart each = record {
       none = λ i e h. (h, omega arith);
       no_more = λ i e h. (h, omega arith);
-      part = λ p ms i j m e blanks quote is rest.
-          let key = behind_key-sound all j quote _ refl (laws.string-within j (slice_get_within t j 34 quote)) in
-          let x = subst (MemberSound names t room j) is key in
+      part = λ p ms i j m e blanks at is rest.
+          let x = each j p m at is in
           let ends = sym x.value.ends in
           let more_members = subst (λ k. SpellsMoreMembers names t k (node_members_of ms) e) ends rest.0 in (
             (subst (IsBlank t i) (sym x.begins) blanks, x.key, x.value.spelled, more_members),
@@ -204,6 +208,17 @@ module _ (names : Bool) (t : List ℕ) where
           );
       comma = λ p ms i c e h x. ((c, h, x.0.0, x.0.1, x.0.2, x.0.3), x.1);
     }
+
+    -- what is read of a container is a part of it
+    pub item-read : InnerSound → (j : ℕ) (n : Node) (m : ℕ) → ItemAt t j → inner j ≡ done n m
+        → IsItemAt names t room j n m
+    item-read all j n m at is = subst (InsideSound names t room j) is (all j (slice_get_within t j at.byte at.here))
+
+    pub member-read : InnerSound → (b j : ℕ) (p : Key × Node) (m : ℕ) → KeyBegins t j → Reads (object b) j p m
+        → IsMemberAt names t room j p.0 p.1 m
+    member-read all b j p m quote is =
+        let within = laws.string-within j (slice_get_within t j 34 quote) in
+        subst (MemberSound names t room j) is (behind_key-sound all j quote _ refl within)
 
     -- values
     built-sound : {P : Type 0} (c : Container P Node) (closer : ℕ) (Begins : ℕ → Type 0) (b : ℕ) (x : Reading Node)
@@ -227,7 +242,7 @@ module _ (names : Bool) (t : List ℕ) where
         built-sound c closer Begins b _ built (container_at-within (nodes names) t c goes b h)
         (λ ps e parts. all ps e (parts-are t closer Begins (Reads c) Are MoreAre grammar ps (b + 1) e parts))
 
-    byte-here : (i c : ℕ) → i < length t → slice_index t i ≡ c → slice_get t i ≡ Some c
+    pub byte-here : (i c : ℕ) → i < length t → slice_index t i ≡ c → slice_get t i ≡ Some c
     byte-here i c h e = slice_get-get_or t i 0 h ∙ ap Some e
 
     value_with-sound : InnerSound → (i : ℕ) → i < length t → (s : Start) → start_of (slice_index t i) ≡ s
@@ -235,12 +250,12 @@ module _ (names : Bool) (t : List ℕ) where
     value_with-sound all i h start.Array e =
         let here = byte-here i 91 h (array-byte _ e) in
         container-sound (array i) 93 (ItemAt t) ItemsAre MoreItemsAre (array-delimits t) (array-goes i)
-        (items-grammar all i) i h
+        (items-grammar (ItemAt t) (Reads (array i)) (item-read all)) i h
         (λ ns f x le. sound-at room (grammar.array i f (nodes_of ns)) (here, x.0) le x.1)
     value_with-sound all i h start.Object e =
         let here = byte-here i 123 h (object-byte _ e) in
         container-sound (object i) 125 (KeyBegins t) MembersAre MoreMembersAre (object-delimits t) (object-goes i)
-        (members-grammar all i) i h
+        (members-grammar (KeyBegins t) (Reads (object i)) (member-read all i)) i h
         (λ ms f x le. sound-at room (grammar.object i f (node_members_of ms)) (here, x.0) le x.1)
     value_with-sound all i h start.String e =
         text-sound room i (string_at whole t i) (byte-here i 34 h (string-first _ e)) refl (laws.string-within i h)
@@ -254,7 +269,7 @@ module _ (names : Bool) (t : List ℕ) where
   room-inside room i (done n e) h = (h.0, omega (arith, h.1))
   room-inside room i (fault k x stop) h = tt
 
-  inside_at-sound : (room i : ℕ) → i < length t → InsideSound names t room i (inside_at (nodes names) t room i)
+  pub inside_at-sound : (room i : ℕ) → i < length t → InsideSound names t room i (inside_at (nodes names) t room i)
   unfolding inside_at
   inside_at-sound zero i h = tt
   inside_at-sound (suc room) i h =

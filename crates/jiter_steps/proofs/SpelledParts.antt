@@ -293,7 +293,7 @@ module _ (names : Bool) (t : List ℕ) where
     abbrev MembersOrder : ℕ → NodeMembers → ℕ → Type 0
     MembersOrder i ms e = InOrder (λ m. m.1) i (members_list ms) e
 
-    more_items-order : (ns : Nodes) (i e : ℕ) → SpellsMoreItems names t i ns e → nesting_of ns < room
+    pub more_items-order : (ns : Nodes) (i e : ℕ) → SpellsMoreItems names t i ns e → nesting_of ns < room
         → ItemsOrder i ns e
     more_items-order no_nodes i e h d = behind-ahead i 93 e h
     more_items-order (node n ns) i e h d =
@@ -304,7 +304,7 @@ module _ (names : Bool) (t : List ℕ) where
     items-order no_nodes i e h d = behind-ahead i 93 e h
     items-order (node n ns) i e h d = (h.0.ordered, h.1, omega arith, more_items-order ns (end n) e h.2 (omega arith))
 
-    more_members-order : (ms : NodeMembers) (i e : ℕ) → SpellsMoreMembers names t i ms e → nesting_of_members ms < room
+    pub more_members-order : (ms : NodeMembers) (i e : ℕ) → SpellsMoreMembers names t i ms e → nesting_of_members ms < room
         → MembersOrder i ms e
     more_members-order no_members i e h d = behind-ahead i 125 e h
     more_members-order (member key n ms) i e h d =

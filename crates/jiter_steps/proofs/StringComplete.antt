@@ -53,16 +53,21 @@ module _ (t : List ℕ) where
   unfolding place_at
   place_by-quote i e = ap (place_by t i) e
 
-  pub place_by-backslash : (i : ℕ) → slice_get t i ≡ Some 92 → place_at t i ≡ behind_backslash t (i + 1) (slice_get t (i + 1))
+  pub place_by-backslash : (i : ℕ) → slice_get t i ≡ Some 92
+      → place_at t i ≡ behind_backslash t (i + 1) (slice_get t (i + 1))
   unfolding place_at
   place_by-backslash i e = ap (place_by t i) e
 
   hex_digits_at-good : (i : ℕ) → HexAt t i → hex_digits_at t i ≡ number (unit_at t i)
   hex_digits_at-good i h =
-      if-false (nat_lt (length t) (i + 4)) few (hex_digits_or (bad_digit t i) (unit_at t i)) (le-ltb (length t) (i + 4) h.within)
+      if-false (nat_lt (length t) (i + 4)) few (hex_digits_or (bad_digit t i) (unit_at t i))
+      (le-ltb (length t) (i + 4) h.within)
       ∙ ap (λ x. hex_digits_or x (unit_at t i)) good where
         good : bad_digit t i ≡ None
-        good = if-true (is_hex (slice_index t i)) _ _ h.digits.0 ∙ if-true (is_hex (slice_index t (i + 1))) _ _ h.digits.1 ∙ if-true (is_hex (slice_index t (i + 2))) _ _ h.digits.2 ∙ if-true (is_hex (slice_index t (i + 3))) _ _ h.digits.3
+        good = if-true (is_hex (slice_index t i)) _ _ h.digits.0
+            ∙ if-true (is_hex (slice_index t (i + 1))) _ _ h.digits.1
+            ∙ if-true (is_hex (slice_index t (i + 2))) _ _ h.digits.2
+            ∙ if-true (is_hex (slice_index t (i + 3))) _ _ h.digits.3
 
   pub record UnitAt (o e u : ℕ) : Type 0 where
     pub slash : slice_get t o ≡ Some 92
@@ -86,44 +91,62 @@ module _ (t : List ℕ) where
         record {
           slash = s.0;
           letter = s.1.0;
-          hex = record { within = omega arith; digits = (ap is_hex a ∙ is.digits.0, ap is_hex b ∙ is.digits.1, ap is_hex c ∙ is.digits.2, ap is_hex d ∙ is.digits.3) };
+          hex = record {
+            within = omega arith;
+            digits = (
+              ap is_hex a ∙ is.digits.0,
+              ap is_hex b ∙ is.digits.1,
+              ap is_hex c ∙ is.digits.2,
+              ap is_hex d
+                  ∙ is.digits.3,
+            );
+          };
           number = (λ k. unit_of (a k) (b k) (c k) (d k)) ∙ is.means;
           ends = omega (arith, s.1.1.1.1.1.1);
         }
 
   pub place_by-number : (i e u : ℕ) → UnitAt i e u → place_at t i ≡ unicode_escape t (i + 1 + 1 + 4) u
   place_by-number i e u x =
-      place_by-backslash i x.slash ∙ ap (behind_backslash t (i + 1)) x.letter ∙ ap (behind (unicode_escape t (i + 1 + 1 + 4))) (hex_digits_at-good (i + 1 + 1) x.hex) ∙ ap (unicode_escape t (i + 1 + 1 + 4)) x.number
+      place_by-backslash i x.slash ∙ ap (behind_backslash t (i + 1)) x.letter
+      ∙ ap (behind (unicode_escape t (i + 1 + 1 + 4))) (hex_digits_at-good (i + 1 + 1) x.hex)
+      ∙ ap (unicode_escape t (i + 1 + 1 + 4)) x.number
 
-  place_by-pair : (i j k high low : ℕ) → is_high high ≡ true → is_low low ≡ true → UnitAt i k high → UnitAt (i + 1 + 1 + 4) j low → place_at t i ≡ part (encode_utf8 (pair_of high low)) true j
+  place_by-pair : (i j k high low : ℕ) → is_high high ≡ true → is_low low ≡ true → UnitAt i k high
+      → UnitAt (i + 1 + 1 + 4) j low → place_at t i ≡ part (encode_utf8 (pair_of high low)) true j
   place_by-pair i j k high low hi lo x y =
       let o = i + 1 + 1 + 4 in
       place_by-number i k high x ∙ if-true (is_high high) (behind_high t high o (slice_get t o)) (single o high) hi
-      ∙ ap (behind_high t high o) y.slash ∙ ap (behind_high_backslash t high (o + 1)) y.letter ∙ ap (behind (surrogate_pair high (o + 1 + 1 + 4))) (hex_digits_at-good (o + 1 + 1) y.hex)
-      ∙ ap (surrogate_pair high (o + 1 + 1 + 4)) y.number ∙ if-true (is_low low) (part (encode_utf8 (pair_of high low)) true (o + 1 + 1 + 4)) _ lo
+      ∙ ap (behind_high t high o) y.slash ∙ ap (behind_high_backslash t high (o + 1)) y.letter
+      ∙ ap (behind (surrogate_pair high (o + 1 + 1 + 4))) (hex_digits_at-good (o + 1 + 1) y.hex)
+      ∙ ap (surrogate_pair high (o + 1 + 1 + 4)) y.number
+      ∙ if-true (is_low low) (part (encode_utf8 (pair_of high low)) true (o + 1 + 1 + 4)) _ lo
       ∙ ap (part (encode_utf8 (pair_of high low)) true) (omega (arith, y.ends))
 
-  pub place_by-escape : (i j c : ℕ) (p : List ℕ) → IsEscape p c → Stands t i j p → place_at t i ≡ part (encode_utf8 c) true j
+  pub place_by-escape : (i j c : ℕ) (p : List ℕ) → IsEscape p c → Stands t i j p
+      → place_at t i ≡ part (encode_utf8 c) true j
   place_by-escape i j c p (inl is) s = by (subst (Stands t i j) is.is s) where
     no_u : (b : Bool) → (is.sign == 117) ≡ b → b ≡ false
     no_u b e = grind (arith, nat_tests, is.means, e)
 
     by : Stands t i j (92 ∷ is.sign ∷ []) → place_at t i ≡ part (encode_utf8 c) true j
     by h =
-        place_by-backslash i h.0 ∙ ap (behind_backslash t (i + 1)) h.1.0 ∙ if-false (is.sign == 117) _ (short (i + 1) (short_escape is.sign)) (no_u _ refl)
+        place_by-backslash i h.0 ∙ ap (behind_backslash t (i + 1)) h.1.0
+        ∙ if-false (is.sign == 117) _ (short (i + 1) (short_escape is.sign)) (no_u _ refl)
         ∙ ap (short (i + 1)) is.means ∙ ap (part (encode_utf8 c) true) h.1.1
   place_by-escape i j c p (inr (inl is)) s =
       let x = unit-at i j c p is.0 s in
       let no_high : is_high c ≡ false = grind (arith, nat_tests, is.1) in
       let no_low : is_low c ≡ false = grind (arith, nat_tests, is.1) in
-      place_by-number i j c x ∙ if-false (is_high c) _ (single (i + 1 + 1 + 4) c) no_high ∙ if-false (is_low c) _ (part (encode_utf8 c) true (i + 1 + 1 + 4)) no_low
+      place_by-number i j c x ∙ if-false (is_high c) _ (single (i + 1 + 1 + 4) c) no_high
+      ∙ if-false (is_low c) _ (part (encode_utf8 c) true (i + 1 + 1 + 4)) no_low
       ∙ ap (part (encode_utf8 c) true) (omega (arith, x.ends))
   place_by-escape i j c p (inr (inr is)) s =
       let h = stands-split t i j is.front is.back (subst (Stands t i j) is.is s) in
       let x = unit-at i h.0 is.high is.front is.first h.1 in
       let at : h.0 ≡ i + 1 + 1 + 4 = omega (arith, x.ends) in
       let y = unit-at (i + 1 + 1 + 4) j is.low is.back is.second (subst (λ o. Stands t o j is.back) at h.2) in
-      place_by-pair i j h.0 is.high is.low is.is_high is.is_low x y ∙ ap (λ x. part (encode_utf8 x) true j) (sym is.means)
+      place_by-pair i j h.0 is.high is.low is.is_high is.is_low x y
+      ∙ ap (λ x. part (encode_utf8 x) true j) (sym is.means)
 
   pub escape-scalar : (p : List ℕ) (c : ℕ) → IsEscape p c → IsScalar c
   escape-scalar p c (inl is) = scalar-short is.sign c is.means
@@ -133,27 +156,46 @@ module _ (t : List ℕ) where
   pub bytes-read : (i j : ℕ) (w : List ℕ) → ArePrinted w → Stands t i j w → body_at t i ≡ before w false (body_at t j)
   bytes-read i j [] p s = ap (body_at t) s
   bytes-read i j (b ∷ w) p s =
-      body_at-place_by t i (part (b ∷ []) false (i + 1)) (place_by-byte i b s.0 p.0) ∙ ap (before (b ∷ []) false) (bytes-read (i + 1) j w p.1 s.1)
+      body_at-place_by t i (part (b ∷ []) false (i + 1)) (place_by-byte i b s.0 p.0)
+      ∙ ap (before (b ∷ []) false) (bytes-read (i + 1) j w p.1 s.1)
       ∙ before-before (b ∷ []) w false false (body_at t j)
 
-  pub char-read : (i j c : ℕ) → SpellsChar t i j c → (o : Bool) × (body_at t i ≡ before (encode_utf8 c) o (body_at t j)) × IsScalar c
+  pub char-read : (i j c : ℕ) → SpellsChar t i j c
+      → (o : Bool) × (body_at t i ≡ before (encode_utf8 c) o (body_at t j)) × IsScalar c
   char-read i j c s = by s.piece where
     by : IsPiece s.bytes c → (o : Bool) × (body_at t i ≡ before (encode_utf8 c) o (body_at t j)) × IsScalar c
-    by (inl p) = (false, bytes-read i j (encode_utf8 c) (plain-printed c p.printed p.no_quote p.no_backslash (lead c p.scalar)) (subst (Stands t i j) p.is s.stands), p.scalar)
-    by (inr x) = (true, body_at-place_by t i (part (encode_utf8 c) true j) (place_by-escape i j c s.bytes x s.stands), escape-scalar s.bytes c x)
+    by (inl p) = (
+      false,
+      bytes-read i j (encode_utf8 c) (plain-printed c p.printed p.no_quote p.no_backslash (lead c p.scalar))
+          (subst (Stands t i j) p.is s.stands),
+      p.scalar,
+    )
+    by (inr x) = (
+      true,
+      body_at-place_by t i (part (encode_utf8 c) true j) (place_by-escape i j c s.bytes x s.stands),
+      escape-scalar s.bytes c x,
+    )
 
   pub pieces-read : (i q : ℕ) (ps : List Piece) → SpellsPieces t i ps q → slice_get t q ≡ Some 34
-      → (o : Bool) × (body_at t i ≡ record { bytes = text_of ps; owned = o; stop = closed (q + 1) }) × (all_scalars (characters ps) ≡ true)
-  pieces-read i q [] s e = (false, body_at-place_by t i (over (closed (q + 1))) (ap (place_at t) s ∙ place_by-quote q e), refl)
+      → (o : Bool) × (body_at t i ≡ record { bytes = text_of ps; owned = o; stop = closed (q + 1) })
+      × (all_scalars (characters ps) ≡ true)
+  pieces-read i q [] s e =
+      (false, body_at-place_by t i (over (closed (q + 1))) (ap (place_at t) s ∙ place_by-quote q e), refl)
   pieces-read i q (p ∷ ps) s e =
       let x = char-read i p.end p.character s.0 in
       let r = pieces-read p.end q ps s.1 e in
       (x.0 || r.0, x.1 ∙ ap (before (encode_utf8 p.character) x.0) r.1, ap₂ (λ (a b : Bool). a && b) x.2 r.2)
 
-  pub string-complete : (i e : ℕ) (ps : List Piece) → SpellsString t i ps e → (o : Bool) × (string_at whole t i ≡ taken (record { owned = o; bytes = text_of ps }) e)
+  pub string-complete : (i e : ℕ) (ps : List Piece) → SpellsString t i ps e
+      → (o : Bool) × (string_at whole t i ≡ taken (record { owned = o; bytes = text_of ps }) e)
   unfolding content_at
   string-complete i e ps s =
       let r = pieces-read (i + 1) s.close ps s.spelled s.closes in
       let text = text_of ps in
-      let good : (utf8_valid_len text == length text) ≡ true = eq-eqb _ _ (utf8_valid_len-IsUtf8 text (characters ps, (r.2, refl))) in
-      (r.0, ap (λ (b : Body). text_in_form whole t (i + 1) b.bytes b.owned b.stop) r.1 ∙ if-true (utf8_valid_len text == length text) _ _ good ∙ ap (taken (record { owned = r.0; bytes = text })) (sym s.ends))
+      let good : (utf8_valid_len text == length text) ≡ true =
+      eq-eqb _ _ (utf8_valid_len-IsUtf8 text (characters ps, (r.2, refl))) in (
+        r.0,
+        ap (λ (b : Body). text_in_form whole t (i + 1) b.bytes b.owned b.stop) r.1
+            ∙ if-true (utf8_valid_len text == length text) _ _ good
+            ∙ ap (taken (record { owned = r.0; bytes = text })) (sym s.ends),
+      )

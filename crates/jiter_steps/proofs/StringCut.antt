@@ -205,7 +205,8 @@ module _ (t : List ℕ) (k : ℕ) (within : k ≤ length t) where
       let b = body_at u (i + 1) in
       let text = text_of (pieces_to k ps) in
       let utf8 : IsUtf8 text = (characters (pieces_to k ps), (c.scalars, refl)) in
-      let kept_so : valid_front (i + 1) b.owned b.bytes (length u) ≡ taken (record { owned = b.owned; bytes = text }) k =
+      let kept_so : valid_front (i + 1) b.owned b.bytes (length u)
+      ≡ taken (record { owned = b.owned; bytes = text }) k =
       ap (λ l. valid_front (i + 1) b.owned l (length u)) c.bytes
       ∙ ap (valid_front_by (i + 1) b.owned (text ++ c.rest) (length u)) (tail-unfinished text c.rest utf8 c.front)
       ∙ ap₂ (λ (l : List ℕ) (n : ℕ). taken (record { owned = b.owned; bytes = l }) n)
@@ -218,7 +219,8 @@ module _ (t : List ℕ) (k : ℕ) (within : k ≤ length t) where
       )
 
   open-whole : (bs : List ℕ) (o : Bool) (s : Stop) → (s ≡ unclosed) ⊎ (s ≡ cut) → (i : ℕ)
-      → (text_in_form whole u i bs o s ≡ failed eof_string (length u)) × (text_in_form raw u i bs o s ≡ failed eof_string (length u))
+      → (text_in_form whole u i bs o s ≡ failed eof_string (length u))
+      × (text_in_form raw u i bs o s ≡ failed eof_string (length u))
   open-whole bs o s (inl h) i = (ap (text_in_form whole u i bs o) h, ap (text_in_form raw u i bs o) h)
   open-whole bs o s (inr h) i = (ap (text_in_form whole u i bs o) h, ap (text_in_form raw u i bs o) h)
 

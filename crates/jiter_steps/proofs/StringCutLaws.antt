@@ -38,7 +38,8 @@ module _ (t : List ℕ) (i : ℕ) where
       → (x.owned ≡ o) × EndOf t s e
   kept-text bs o (wrong k j) x e h = absurd (cc)
   kept-text bs o (closed f) x e h = valid_front_by-text bs o f (utf8_error_len (drop (utf8_valid_len bs) bs)) x e h
-  kept-text bs o unclosed x e h = valid_front_by-text bs o (length t) (utf8_error_len (drop (utf8_valid_len bs) bs)) x e h
+  kept-text bs o unclosed x e h =
+      valid_front_by-text bs o (length t) (utf8_error_len (drop (utf8_valid_len bs) bs)) x e h
   kept-text bs o cut x e h = valid_front_by-text bs o (length t) (utf8_error_len (drop (utf8_valid_len bs) bs)) x e h
 
   -- the mark of a text that is kept

@@ -19,12 +19,15 @@ EndOf t (wrong k j) e = ⊥
 
 module _ (t : List ℕ) where
   abbrev pub Tells : ℕ → ℕ → Body → Type 0
-  Tells i e b = (b.owned ≡ true → (x : ℕ) × (i ≤ x) × (x < e) × (slice_get t x ≡ Some 92)) × (b.owned ≡ false → (x : ℕ) → i ≤ x → x < e → slice_get t x ≢ Some 92)
+  Tells i e b =
+      (b.owned ≡ true → (x : ℕ) × (i ≤ x) × (x < e) × (slice_get t x ≡ Some 92))
+      × (b.owned ≡ false → (x : ℕ) → i ≤ x → x < e → slice_get t x ≢ Some 92)
 
   outside : (x : ℕ) → slice_get t x ≡ None → x < length t → ⊥
   outside x e h = let some : Some (get_or t x 0) ≡ None = sym (slice_get-get_or t x 0 h) ∙ e in cc
 
-  join-tells : (n i e : ℕ) → length t ≤ suc n + i → i ≤ length t → ((j : ℕ) → length t ≤ n + j → j ≤ length t → EndOf t (body_at t j).stop e → Tells j e (body_at t j) × (j ≤ e))
+  join-tells : (n i e : ℕ) → length t ≤ suc n + i → i ≤ length t
+      → ((j : ℕ) → length t ≤ n + j → j ≤ length t → EndOf t (body_at t j).stop e → Tells j e (body_at t j) × (j ≤ e))
       → (f : Place) → Explains t i f → EndOf t (join (body_at t) f).stop e → Tells i e (join (body_at t) f) × (i ≤ e)
   join-tells n i e p q go (part bs true j) h s =
       let ahead = h.ahead in
@@ -44,8 +47,14 @@ module _ (t : List ℕ) where
         omega (arith, r.1),
       )
   join-tells n i e p q go (over (closed f)) h s =
-      let at : e ≡ i + 1 = sym s ∙ h.1 in
-      ((λ o. absurd (true≢false (sym o)), λ o x l m z. let here : x ≡ i = omega arith in let no : 34 ≡ 92 = same_Some _ _ (sym h.0 ∙ subst (λ y. slice_get t y ≡ Some 92) here z) in absurd (omega arith)), omega arith)
+      let at : e ≡ i + 1 = sym s ∙ h.1 in (
+        (
+          λ o. absurd (true≢false (sym o)),
+          λ o x l m z. let here : x ≡ i = omega arith in let no : 34 ≡ 92 =
+              same_Some _ _ (sym h.0 ∙ subst (λ y. slice_get t y ≡ Some 92) here z) in absurd (omega arith),
+        ),
+        omega arith,
+      )
   join-tells n i e p q go (over unclosed) h s =
       ((λ o. absurd (true≢false (sym o)), λ o x l m z. absurd (outside i h (omega (arith, s)))), omega (arith, s))
   join-tells n i e p q go (over cut) h s =
@@ -53,14 +62,18 @@ module _ (t : List ℕ) where
       ((λ o. (i, (omega arith), omega (arith, s), h), λ o. absurd (true≢false o)), omega (arith, s))
   join-tells n i e p q go (over (wrong k j)) h s = absurd s
 
-  tells : (n i e : ℕ) → length t ≤ n + i → i ≤ length t → EndOf t (body_at t i).stop e → Tells i e (body_at t i) × (i ≤ e)
+  tells : (n i e : ℕ) → length t ≤ n + i → i ≤ length t → EndOf t (body_at t i).stop e
+      → Tells i e (body_at t i) × (i ≤ e)
   tells zero i e p q s =
       let b = body_at-place_by t i (over unclosed) (place_by-end t i (omega arith)) in
       let at : length t ≡ e = subst (λ (x : Body). EndOf t x.stop e) b s in
-      subst (λ (x : Body). Tells i e x × (i ≤ e)) (sym b) ((λ o. absurd (true≢false (sym o)), λ o x l m z. absurd (omega arith)), omega arith)
+      subst (λ (x : Body). Tells i e x × (i ≤ e)) (sym b)
+      ((λ o. absurd (true≢false (sym o)), λ o x l m z. absurd (omega arith)), omega arith)
   tells (suc n) i e p q s =
       let b = body_at-is t i in
-      subst (λ (x : Body). Tells i e x × (i ≤ e)) (sym b) (join-tells n i e p q (λ j x y z. tells n j e x y z) (place_at t i) (place_at-explains t i) (subst (λ (x : Body). EndOf t x.stop e) b s))
+      subst (λ (x : Body). Tells i e x × (i ≤ e)) (sym b)
+      (join-tells n i e p q (λ j x y z. tells n j e x y z) (place_at t i) (place_at-explains t i)
+      (subst (λ (x : Body). EndOf t x.stop e) b s))
 
   -- the mark of a text that ends at e
   pub owned-tells : (i e : ℕ) → i ≤ length t → EndOf t (body_at t i).stop e → Tells i e (body_at t i)
@@ -76,16 +89,20 @@ module _ (t : List ℕ) (i e : ℕ) (within : e ≤ length t) where
   some-backslash : (x : ℕ) → i ≤ x → x < e → slice_get t x ≡ Some 92 → has_backslash t i e ≡ true
   some-backslash x l m h =
       let at : i + (x - i) ≡ x = omega arith in
-      let byte : get_or (slice_range t i e) (x - i) 0 ≡ 92 = there (x - i) 0 (omega arith) ∙ ap (λ n. get_or t n 0) at ∙ get_or_from_slice_get t x 92 0 h in
+      let byte : get_or (slice_range t i e) (x - i) 0 ≡ 92 =
+      there (x - i) 0 (omega arith) ∙ ap (λ n. get_or t n 0) at ∙ get_or_from_slice_get t x 92 0 h in
       list_any_at (λ c. c == 92) (slice_range t i e) (x - i) 0 (omega (arith, long)) (ap (λ c. c == 92) byte)
 
   none-backslash : ((x : ℕ) → i ≤ x → x < e → slice_get t x ≢ Some 92) → has_backslash t i e ≡ false
   none-backslash h = list_any_none (λ c. c == 92) (slice_range t i e) (λ k d l.
       let small : k < e - i = omega (arith, long) in
-      ne_eqb (get_or (slice_range t i e) k d) 92 (λ q. h (i + k) (omega arith) (omega arith) (slice_get-get_or t (i + k) d (omega arith) ∙ ap Some (sym (there k d small) ∙ q))))
+      ne_eqb (get_or (slice_range t i e) k d) 92
+      (λ q. h (i + k) (omega arith) (omega arith)
+      (slice_get-get_or t (i + k) d (omega arith) ∙ ap Some (sym (there k d small) ∙ q))))
 
 -- the mark of a string that begins at i and ends at e
-pub mark-is : (t : List ℕ) (i e : ℕ) → slice_get t i ≡ Some 34 → e ≤ length t → EndOf t (body_at t (i + 1)).stop e → (body_at t (i + 1)).owned ≡ has_backslash t i e
+pub mark-is : (t : List ℕ) (i e : ℕ) → slice_get t i ≡ Some 34 → e ≤ length t → EndOf t (body_at t (i + 1)).stop e
+    → (body_at t (i + 1)).owned ≡ has_backslash t i e
 mark-is t i e q within s = by _ refl where
   inside : i < length t
   inside = slice_get_within t i 34 q
@@ -96,6 +113,7 @@ mark-is t i e q within s = by _ refl where
   by : (b : Bool) → (body_at t (i + 1)).owned ≡ b → (body_at t (i + 1)).owned ≡ has_backslash t i e
   by true o = let x = marks.0 o in o ∙ sym (some-backslash t i e within x.0 (omega (arith, x.1)) x.2 x.3)
   by false o = o ∙ sym (none-backslash t i e within (λ x l m h. elim (cases_eq x i) [
-    | inl here ↦ let no : 34 ≡ 92 = same_Some _ _ (sym q ∙ subst (λ y. slice_get t y ≡ Some 92) here h) in absurd (omega arith)
+    | inl here ↦ let no : 34 ≡ 92 =
+        same_Some _ _ (sym q ∙ subst (λ y. slice_get t y ≡ Some 92) here h) in absurd (omega arith)
     | inr other ↦ marks.1 o x (omega arith) m h
   ]))

@@ -26,16 +26,33 @@ pub record Leaves (t : List ℕ) (i j : ℕ) (bs : List ℕ) : Type 0 where
   pub bytes : (body_at t j).bytes ≡ bs
   pub stop : (body_at t j).stop ≡ (body_at t i).stop
 
-plain-from_first : (c b : ℕ) (l : Lead c) → IsScalar c → b ≡ l.first → 32 ≤ b → b ≢ 34 → b ≢ 92 → IsPlain (encode_utf8 c) c
+plain-from_first : (c b : ℕ) (l : Lead c) → IsScalar c → b ≡ l.first → 32 ≤ b → b ≢ 34 → b ≢ 92
+    → IsPlain (encode_utf8 c) c
 plain-from_first c b l sc e p q s = by (cases_lt c 128) where
   by : (c < 128) ⊎ (128 ≤ c) → IsPlain (encode_utf8 c) c
-  by (inl low) = let same : c ≡ b = l.low low ∙ sym e in record { is = refl; scalar = sc; printed = omega arith; no_quote = λ z. q (sym same ∙ z); no_backslash = λ z. s (sym same ∙ z) }
-  by (inr high) = record { is = refl; scalar = sc; printed = omega arith; no_quote = λ z. omega arith; no_backslash = λ z. omega arith }
+  by (inl low) =
+      let same : c ≡ b =
+      l.low low ∙ sym e in record {
+        is = refl;
+        scalar = sc;
+        printed = omega arith;
+        no_quote = λ z. q (sym same ∙ z);
+        no_backslash = λ z. s (sym same ∙ z);
+      }
+  by (inr high) =
+      record {
+        is = refl;
+        scalar = sc;
+        printed = omega arith;
+        no_quote = λ z. omega arith;
+        no_backslash = λ z. omega arith;
+      }
 
 valid_front : (bs : List ℕ) (n : ℕ) → IsUtf8 (take (valid_len_up_to bs n) bs)
 valid_front bs zero = IsUtf8-nil
 valid_front bs (suc n) =
-    if_case (λ k. IsUtf8 (take k bs)) (is_utf8 (take (suc n) bs)) (suc n) (valid_len_up_to bs n) (λ e. IsUtf8-from_is_utf8 (take (suc n) bs) e) (λ e. valid_front bs n)
+    if_case (λ k. IsUtf8 (take k bs)) (is_utf8 (take (suc n) bs)) (suc n) (valid_len_up_to bs n)
+    (λ e. IsUtf8-from_is_utf8 (take (suc n) bs) e) (λ e. valid_front bs n)
 
 taken-parts : (x y : Text) (e f : ℕ) → taken x e ≡ taken y f → (x ≡ y) × (e ≡ f)
 taken-parts x y e f h = (cc, cc)
@@ -50,7 +67,8 @@ valid-IsUtf8 bs e = subst IsUtf8 (take_all _ bs (omega arith)) (IsUtf8-valid bs)
 
 module _ (t : List ℕ) where
   -- a byte that follows is no escape's first
-  follow-read : (i y : ℕ) (r : List ℕ) → Follows y → (body_at t i).bytes ≡ y ∷ r → (slice_get t i ≡ Some y) × Leaves t i (i + 1) r
+  follow-read : (i y : ℕ) (r : List ℕ) → Follows y → (body_at t i).bytes ≡ y ∷ r
+      → (slice_get t i ≡ Some y) × Leaves t i (i + 1) r
   follow-read i y r f e = by (place_at t i) (place_at-explains t i) refl where
     by : (x : Place) → Explains t i x → place_at t i ≡ x → (slice_get t i ≡ Some y) × Leaves t i (i + 1) r
     by (part bs false j) h is =
@@ -59,23 +77,32 @@ module _ (t : List ℕ) where
         let one : h.byte ∷ (body_at t j).bytes ≡ y ∷ r = ap (λ l. l ++ (body_at t j).bytes) (sym h.is) ∙ all in
         let head : h.byte ≡ y = cc in
         let tail : (body_at t j).bytes ≡ r = cc in
-        let at : j ≡ i + 1 = h.ends in
-        (h.here ∙ ap Some head, record { bytes = subst (λ k. (body_at t k).bytes ≡ r) at tail; stop = subst (λ k. (body_at t k).stop ≡ (body_at t i).stop) at (sym (ap (λ (x : Body). x.stop) b)) })
+        let at : j ≡ i + 1 = h.ends in (
+          h.here ∙ ap Some head,
+          record {
+            bytes = subst (λ k. (body_at t k).bytes ≡ r) at tail;
+            stop = subst (λ k. (body_at t k).stop ≡ (body_at t i).stop) at (sym (ap (λ (x : Body). x.stop) b));
+          },
+        )
     by (part bs true j) h is =
         let b = body_at-place_by t i (part bs true j) is in
         let l = lead h.character h.scalar in
         let all : bs ++ (body_at t j).bytes ≡ y ∷ r = sym (ap (λ (x : Body). x.bytes) b) ∙ e in
-        let one : l.first ∷ (l.rest ++ (body_at t j).bytes) ≡ y ∷ r = ap (λ l. l ++ (body_at t j).bytes) (sym (h.is ∙ l.is)) ∙ all in
+        let one : l.first ∷ (l.rest ++ (body_at t j).bytes) ≡ y ∷ r =
+        ap (λ l. l ++ (body_at t j).bytes) (sym (h.is ∙ l.is)) ∙ all in
         let head : l.first ≡ y = cc in
         let least = f.least in
         let most = f.most in
         absurd (no (cases_lt h.character 128) l.low l.high head least most) where
-          no : {c a b : ℕ} → (c < 128) ⊎ (128 ≤ c) → (c < 128 → c ≡ a) → (128 ≤ c → 194 ≤ a) → a ≡ b → 128 ≤ b → b < 192 → ⊥
+          no : {c a b : ℕ} → (c < 128) ⊎ (128 ≤ c) → (c < 128 → c ≡ a) → (128 ≤ c → 194 ≤ a) → a ≡ b → 128 ≤ b → b < 192
+              → ⊥
           no (inl x) p q e m n = omega (arith, p x)
           no (inr x) p q e m n = omega (arith, q x)
-    by (over s) h is = let none : [] ≡ y ∷ r = sym (ap (λ (x : Body). x.bytes) (body_at-place_by t i (over s) is)) ∙ e in absurd (cc)
+    by (over s) h is =
+        let none : [] ≡ y ∷ r = sym (ap (λ (x : Body). x.bytes) (body_at-place_by t i (over s) is)) ∙ e in absurd (cc)
 
-  follows-read : (w : List ℕ) (i : ℕ) (r : List ℕ) → AllFollow w → (body_at t i).bytes ≡ w ++ r → (j : ℕ) × Stands t i j w × Leaves t i j r
+  follows-read : (w : List ℕ) (i : ℕ) (r : List ℕ) → AllFollow w → (body_at t i).bytes ≡ w ++ r
+      → (j : ℕ) × Stands t i j w × Leaves t i j r
   follows-read [] i r f e = (i, refl, record { bytes = e; stop = refl })
   follows-read (y ∷ w) i r f e =
       let x = follow-read i y (w ++ r) f.0 e in
@@ -83,49 +110,76 @@ module _ (t : List ℕ) where
       (z.0, (x.0, z.1), record { bytes = z.2.bytes; stop = z.2.stop ∙ x.1.stop })
 
   -- a character that is read is spelled
-  char-sound : (i c : ℕ) (r : List ℕ) → IsScalar c → (body_at t i).bytes ≡ encode_utf8 c ++ r → let j = end_of i c (place_at t i) in SpellsChar t i j c × Leaves t i j r
+  char-sound : (i c : ℕ) (r : List ℕ) → IsScalar c → (body_at t i).bytes ≡ encode_utf8 c ++ r → let j =
+      end_of i c (place_at t i) in SpellsChar t i j c × Leaves t i j r
   char-sound i c r sc e = by (place_at t i) (place_at-explains t i) refl where
     by : (x : Place) → Explains t i x → place_at t i ≡ x → let j = end_of i c x in SpellsChar t i j c × Leaves t i j r
     by (part bs false j) h is =
         let b = body_at-place_by t i (part bs false j) is in
         let l = lead c sc in
-        let all : h.byte ∷ (body_at t j).bytes ≡ l.first ∷ (l.rest ++ r) = ap (λ l. l ++ (body_at t j).bytes) (sym h.is) ∙ sym (ap (λ (x : Body). x.bytes) b) ∙ e ∙ ap (λ w. w ++ r) l.is in
+        let all : h.byte ∷ (body_at t j).bytes ≡ l.first ∷ (l.rest ++ r) =
+        ap (λ l. l ++ (body_at t j).bytes) (sym h.is) ∙ sym (ap (λ (x : Body). x.bytes) b) ∙ e
+        ∙ ap (λ w. w ++ r) l.is in
         let head : h.byte ≡ l.first = cc in
         let tail : (body_at t j).bytes ≡ l.rest ++ r = cc in
         let x = follows-read l.rest (i + 1) r l.follow (subst (λ k. (body_at t k).bytes ≡ l.rest ++ r) h.ends tail) in
         let w : Stands t i x.0 (encode_utf8 c) = subst (Stands t i x.0) (sym l.is) (h.here ∙ ap Some head, x.1) in
         let at : x.0 ≡ i + length (encode_utf8 c) = stands-length t i x.0 (encode_utf8 c) w in
-        let stop : (body_at t x.0).stop ≡ (body_at t i).stop = x.2.stop ∙ sym (ap (λ k. (body_at t k).stop) h.ends) ∙ sym (ap (λ (x : Body). x.stop) b) in
+        let stop : (body_at t x.0).stop ≡ (body_at t i).stop =
+        x.2.stop ∙ sym (ap (λ k. (body_at t k).stop) h.ends) ∙ sym (ap (λ (x : Body). x.stop) b) in
         subst (λ k. SpellsChar t i k c × Leaves t i k r) at (
-          record { bytes = encode_utf8 c; stands = w; piece = inl (plain-from_first c h.byte l sc head h.printed h.no_quote h.no_backslash) },
+          record {
+            bytes = encode_utf8 c;
+            stands = w;
+            piece = inl (plain-from_first c h.byte l sc head h.printed h.no_quote h.no_backslash);
+          },
           record { bytes = x.2.bytes; stop = stop },
         )
     by (part bs true j) h is =
         let b = body_at-place_by t i (part bs true j) is in
-        let all : encode_utf8 h.character ++ (body_at t j).bytes ≡ encode_utf8 c ++ r = ap (λ l. l ++ (body_at t j).bytes) (sym h.is) ∙ sym (ap (λ (x : Body). x.bytes) b) ∙ e in
-        let same = encode_same h.character c (body_at t j).bytes r all in
-        (record { bytes = h.bytes; stands = h.stands; piece = inr (subst (IsEscape h.bytes) same.0 h.escape) }, record { bytes = same.1; stop = sym (ap (λ (x : Body). x.stop) b) })
+        let all : encode_utf8 h.character ++ (body_at t j).bytes ≡ encode_utf8 c ++ r =
+        ap (λ l. l ++ (body_at t j).bytes) (sym h.is) ∙ sym (ap (λ (x : Body). x.bytes) b) ∙ e in
+        let same = encode_same h.character c (body_at t j).bytes r all in (
+          record { bytes = h.bytes; stands = h.stands; piece = inr (subst (IsEscape h.bytes) same.0 h.escape) },
+          record { bytes = same.1; stop = sym (ap (λ (x : Body). x.stop) b) },
+        )
     by (over s) h is =
         let l = lead c sc in
-        let none : [] ≡ l.first ∷ (l.rest ++ r) = sym (ap (λ (x : Body). x.bytes) (body_at-place_by t i (over s) is)) ∙ e ∙ ap (λ w. w ++ r) l.is in
+        let none : [] ≡ l.first ∷ (l.rest ++ r) =
+        sym (ap (λ (x : Body). x.bytes) (body_at-place_by t i (over s) is)) ∙ e ∙ ap (λ w. w ++ r) l.is in
         absurd (cc)
 
-  none-sound : (i e : ℕ) → (body_at t i).bytes ≡ [] → (body_at t i).stop ≡ closed e → (slice_get t i ≡ Some 34) × (e ≡ i + 1)
+  none-sound : (i e : ℕ) → (body_at t i).bytes ≡ [] → (body_at t i).stop ≡ closed e
+      → (slice_get t i ≡ Some 34) × (e ≡ i + 1)
   none-sound i e b s = by (place_at t i) (place_at-explains t i) refl where
     by : (x : Place) → Explains t i x → place_at t i ≡ x → (slice_get t i ≡ Some 34) × (e ≡ i + 1)
     by (part bs false j) h is =
-        let none : h.byte ∷ (body_at t j).bytes ≡ [] = ap (λ l. l ++ (body_at t j).bytes) (sym h.is) ∙ sym (ap (λ (x : Body). x.bytes) (body_at-place_by t i (part bs false j) is)) ∙ b in
+        let none : h.byte ∷ (body_at t j).bytes ≡ [] =
+        ap (λ l. l ++ (body_at t j).bytes) (sym h.is)
+        ∙ sym (ap (λ (x : Body). x.bytes) (body_at-place_by t i (part bs false j) is)) ∙ b in
         absurd (cc)
     by (part bs true j) h is =
         let l = lead h.character h.scalar in
-        let none : l.first ∷ (l.rest ++ (body_at t j).bytes) ≡ [] = ap (λ l. l ++ (body_at t j).bytes) (sym (h.is ∙ l.is)) ∙ sym (ap (λ (x : Body). x.bytes) (body_at-place_by t i (part bs true j) is)) ∙ b in
+        let none : l.first ∷ (l.rest ++ (body_at t j).bytes) ≡ [] =
+        ap (λ l. l ++ (body_at t j).bytes) (sym (h.is ∙ l.is))
+        ∙ sym (ap (λ (x : Body). x.bytes) (body_at-place_by t i (part bs true j) is)) ∙ b in
         absurd (cc)
-    by (over (closed f)) h is = let same : closed f ≡ closed e = sym (ap (λ (x : Body). x.stop) (body_at-place_by t i (over (closed f)) is)) ∙ s in let at : f ≡ e = cc in (h.0, sym at ∙ h.1)
-    by (over unclosed) h is = let no : unclosed ≡ closed e = sym (ap (λ (x : Body). x.stop) (body_at-place_by t i (over unclosed) is)) ∙ s in absurd (cc)
-    by (over cut) h is = let no : cut ≡ closed e = sym (ap (λ (x : Body). x.stop) (body_at-place_by t i (over cut) is)) ∙ s in absurd (cc)
-    by (over (wrong k j)) h is = let no : wrong k j ≡ closed e = sym (ap (λ (x : Body). x.stop) (body_at-place_by t i (over (wrong k j)) is)) ∙ s in absurd (cc)
+    by (over (closed f)) h is =
+        let same : closed f ≡ closed e =
+        sym (ap (λ (x : Body). x.stop) (body_at-place_by t i (over (closed f)) is)) ∙ s in let at : f ≡ e =
+        cc in (h.0, sym at ∙ h.1)
+    by (over unclosed) h is =
+        let no : unclosed ≡ closed e =
+        sym (ap (λ (x : Body). x.stop) (body_at-place_by t i (over unclosed) is)) ∙ s in absurd (cc)
+    by (over cut) h is =
+        let no : cut ≡ closed e =
+        sym (ap (λ (x : Body). x.stop) (body_at-place_by t i (over cut) is)) ∙ s in absurd (cc)
+    by (over (wrong k j)) h is =
+        let no : wrong k j ≡ closed e =
+        sym (ap (λ (x : Body). x.stop) (body_at-place_by t i (over (wrong k j)) is)) ∙ s in absurd (cc)
 
-  pub pieces-sound : (cs : List ℕ) (i e : ℕ) → all_scalars cs ≡ true → (body_at t i).bytes ≡ encode_utf8_all cs → (body_at t i).stop ≡ closed e
+  pub pieces-sound : (cs : List ℕ) (i e : ℕ) → all_scalars cs ≡ true → (body_at t i).bytes ≡ encode_utf8_all cs
+      → (body_at t i).stop ≡ closed e
       → (q : ℕ) × SpellsPieces t i (pieces_from t i cs) q × (slice_get t q ≡ Some 34) × (e ≡ q + 1)
   pieces-sound [] i e sc b s = let x = none-sound i e b s in (i, refl, x.0, x.1)
   pieces-sound (c ∷ cs) i e sc b s =
@@ -136,7 +190,8 @@ module _ (t : List ℕ) where
       (r.0, (x.0, r.1), r.2, r.3)
 
   -- ---- in one way
-  plain-place_by : (i j : ℕ) (w : List ℕ) → ArePrinted w → 0 < length w → Stands t i j w → (bs : List ℕ) × (place_at t i ≡ part bs false (i + 1))
+  plain-place_by : (i j : ℕ) (w : List ℕ) → ArePrinted w → 0 < length w → Stands t i j w
+      → (bs : List ℕ) × (place_at t i ≡ part bs false (i + 1))
   plain-place_by i j [] p l s = absurd (omega arith)
   plain-place_by i j (b ∷ w) p l s = (b ∷ [], place_by-byte t i b s.0 p.0)
 
@@ -146,7 +201,8 @@ module _ (t : List ℕ) where
     by (inl p) =
         let l = lead c p.scalar in
         let w : Stands t i j (encode_utf8 c) = subst (Stands t i j) p.is s.stands in
-        let f = plain-place_by i j (encode_utf8 c) (plain-printed c p.printed p.no_quote p.no_backslash l) (subst (λ w. 0 < length w) (sym l.is) (omega arith)) w in
+        let f = plain-place_by i j (encode_utf8 c) (plain-printed c p.printed p.no_quote p.no_backslash l)
+        (subst (λ w. 0 < length w) (sym l.is) (omega arith)) w in
         stands-length t i j (encode_utf8 c) w ∙ sym (ap (end_of i c) f.1)
     by (inr x) = sym (ap (end_of i c) (place_by-escape t i j c s.bytes x s.stands))
 
@@ -155,21 +211,28 @@ module _ (t : List ℕ) where
   pieces-unique (p ∷ ps) i q s =
       let c = p.character in
       let e = char-end i p.end c s.0 in
-      (λ k. record { character = c; end = e k } ∷ ps) ∙ ap (λ l. record { character = c; end = end_of i c (place_at t i) } ∷ l) (pieces-unique ps p.end q s.1 ∙ ap (λ k. pieces_from t k (characters ps)) e)
+      (λ k. record { character = c; end = e k } ∷ ps)
+      ∙ ap (λ l. record { character = c; end = end_of i c (place_at t i) } ∷ l)
+      (pieces-unique ps p.end q s.1 ∙ ap (λ k. pieces_from t k (characters ps)) e)
 
   pub characters-from : (cs : List ℕ) (i : ℕ) → characters (pieces_from t i cs) ≡ cs
   characters-from [] i = refl
   characters-from (c ∷ cs) i = ap (λ l. c ∷ l) (characters-from cs (end_of i c (place_at t i)))
 
   -- ---- the law
-  pub closed-text : (i : ℕ) (bs : List ℕ) (o : Bool) (s : Stop) (x : Text) (e : ℕ) → text_in_form whole t i bs o s ≡ taken x e → (x ≡ record { owned = o; bytes = bs }) × (s ≡ closed e) × ((utf8_valid_len bs == length bs) ≡ true)
+  pub closed-text : (i : ℕ) (bs : List ℕ) (o : Bool) (s : Stop) (x : Text) (e : ℕ)
+      → text_in_form whole t i bs o s ≡ taken x e
+      → (x ≡ record { owned = o; bytes = bs }) × (s ≡ closed e) × ((utf8_valid_len bs == length bs) ≡ true)
   closed-text i bs o (wrong k j) x e h = absurd (cc)
   closed-text i bs o unclosed x e h = absurd (cc)
   closed-text i bs o cut x e h = absurd (cc)
   closed-text i bs o (closed f) x e h = by (utf8_valid_len bs == length bs) refl h where
-    by : (b : Bool) → (utf8_valid_len bs == length bs) ≡ b → (if b then taken (record { owned = o; bytes = bs }) f else failed invalid_code_point (i + utf8_valid_len bs)) ≡ taken x e
+    by : (b : Bool) → (utf8_valid_len bs == length bs) ≡ b
+        → (if b then taken (record { owned = o; bytes = bs }) f else failed invalid_code_point
+        (i + utf8_valid_len bs)) ≡ taken x e
         → (x ≡ record { owned = o; bytes = bs }) × (closed f ≡ closed e) × ((utf8_valid_len bs == length bs) ≡ true)
-    by true is h = let same : f ≡ e = cc in let text : record { owned = o; bytes = bs } ≡ x = cc in (sym text, ap closed same, is)
+    by true is h =
+        let same : f ≡ e = cc in let text : record { owned = o; bytes = bs } ≡ x = cc in (sym text, ap closed same, is)
     by false is h = absurd (cc)
 
   pub string-sound : (i e : ℕ) (x : Text) → slice_get t i ≡ Some 34 → string_at whole t i ≡ taken x e
@@ -181,15 +244,24 @@ module _ (t : List ℕ) where
       let same : x.bytes ≡ b.bytes = ap (λ (y : Text). y.bytes) c.0 in
       let u : IsUtf8 x.bytes = subst IsUtf8 (sym same) (valid-IsUtf8 b.bytes (eqb-true _ _ c.2)) in
       let cs = chars x.bytes in
-      let r = pieces-sound cs (i + 1) e (scalars-chars x.bytes u) (sym same ∙ sym (encodes-chars x.bytes u)) c.1 in
-      (record { opens = q; close = r.0; spelled = r.1; closes = r.2; ends = r.3 }, sym (encodes-chars x.bytes u) ∙ ap encode_utf8_all (sym (characters-from cs (i + 1))))
+      let r = pieces-sound cs (i + 1) e (scalars-chars x.bytes u) (sym same ∙ sym (encodes-chars x.bytes u)) c.1 in (
+        record { opens = q; close = r.0; spelled = r.1; closes = r.2; ends = r.3 },
+        sym (encodes-chars x.bytes u)
+            ∙ ap encode_utf8_all (sym (characters-from cs (i + 1))),
+      )
 
   -- at most one string begins at a place
-  pub string-unique : (i e f : ℕ) (ps qs : List Piece) → SpellsString t i ps e → SpellsString t i qs f → (ps ≡ qs) × (e ≡ f)
+  pub string-unique : (i e f : ℕ) (ps qs : List Piece) → SpellsString t i ps e → SpellsString t i qs f
+      → (ps ≡ qs) × (e ≡ f)
   string-unique i e f ps qs s r =
       let a = string-complete t i e ps s in
       let b = string-complete t i f qs r in
-      let same = taken-parts (record { owned = a.0; bytes = text_of ps }) (record { owned = b.0; bytes = text_of qs }) e f (sym a.1 ∙ b.1) in
+      let same =
+      taken-parts (record { owned = a.0; bytes = text_of ps }) (record { owned = b.0; bytes = text_of qs }) e f
+      (sym a.1 ∙ b.1) in
       let text : text_of ps ≡ text_of qs = ap (λ (y : Text). y.bytes) same.0 in
-      let cs = encodes_same (characters ps) (characters qs) text in
-      (pieces-unique ps (i + 1) s.close s.spelled ∙ ap (pieces_from t (i + 1)) cs ∙ sym (pieces-unique qs (i + 1) r.close r.spelled), same.1)
+      let cs = encodes_same (characters ps) (characters qs) text in (
+        pieces-unique ps (i + 1) s.close s.spelled ∙ ap (pieces_from t (i + 1)) cs
+            ∙ sym (pieces-unique qs (i + 1) r.close r.spelled),
+        same.1,
+      )

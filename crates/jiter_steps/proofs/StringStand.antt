@@ -7,7 +7,8 @@ use Rattle.jiter_scan.proofs.Standing.{stands-length}
 use Rattle.jiter_steps.specs.Piece.{Piece, SpellsPieces}
 
 module _ (t : List ℕ) where
-  pub stands-more : (i k j c : ℕ) (w : List ℕ) → k ≡ i + 1 → slice_get t i ≡ Some c → Stands t k j w → Stands t i j (c ∷ w)
+  pub stands-more : (i k j c : ℕ) (w : List ℕ) → k ≡ i + 1 → slice_get t i ≡ Some c → Stands t k j w
+      → Stands t i j (c ∷ w)
   stands-more i k j c w e h g = (h, subst (λ x. Stands t x j w) e g)
 
   pub got : (i : ℕ) → i < length t → slice_get t i ≡ Some (slice_index t i)

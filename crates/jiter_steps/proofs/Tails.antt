@@ -27,15 +27,20 @@ one-unfinished : (a : ℕ) → 194 ≤ a → a < 245 → utf8_error_len (a ∷ [
 unfolding utf8_error_len
 one-unfinished a l h = ap (λ (p : Bool). if p then None else Some 1) (range-true 194 244 a l (omega arith))
 
-two-unfinished : (a b : ℕ) → 194 ≤ a → a < 245 → second_byte_min a ≤ b → b ≤ second_byte_max a → utf8_error_len (a ∷ b ∷ []) ≡ None
+two-unfinished : (a b : ℕ) → 194 ≤ a → a < 245 → second_byte_min a ≤ b → b ≤ second_byte_max a
+    → utf8_error_len (a ∷ b ∷ []) ≡ None
 unfolding utf8_error_len
 two-unfinished a b l h u v =
-    ap₂ (λ (p q : Bool). if p then (if q then None else Some 1) else Some 1) (range-true 194 244 a l (omega arith)) (range-true (second_byte_min a) (second_byte_max a) b u v)
+    ap₂ (λ (p q : Bool). if p then (if q then None else Some 1) else Some 1) (range-true 194 244 a l (omega arith))
+    (range-true (second_byte_min a) (second_byte_max a) b u v)
 
-three-unfinished : (a b d : ℕ) → 194 ≤ a → a < 245 → second_byte_min a ≤ b → b ≤ second_byte_max a → Follows d → utf8_error_len (a ∷ b ∷ d ∷ []) ≡ None
+three-unfinished : (a b d : ℕ) → 194 ≤ a → a < 245 → second_byte_min a ≤ b → b ≤ second_byte_max a → Follows d
+    → utf8_error_len (a ∷ b ∷ d ∷ []) ≡ None
 unfolding utf8_error_len
 three-unfinished a b d l h u v f =
-    (λ i. if range-true 194 244 a l (omega arith) i then (if range-true (second_byte_min a) (second_byte_max a) b u v i then (if range-true 128 191 d f.least (most d f.most) i then None else Some 2) else Some 1) else Some 1) where
+    (λ i. if range-true 194 244 a l (omega arith) i
+    then (if range-true (second_byte_min a) (second_byte_max a) b u v i
+    then (if range-true 128 191 d f.least (most d f.most) i then None else Some 2) else Some 1) else Some 1) where
       most : (d : ℕ) → d < 192 → d ≤ 191
       most d h = omega arith
 
@@ -52,17 +57,21 @@ front-unfinished w f = by (shape f.c f.scalar) w f.more f.is f.some where
   by s [] more e h = refl
   by (of1 l is) (x ∷ w) more e h = absurd (too-long _ (x ∷ w) more (sym is ∙ e) (omega arith) h)
   by (of2 a b k l m f is) (x ∷ []) more e h =
-      let p = heads _ _ _ _ (sym is ∙ e) in subst (λ y. utf8_error_len (y ∷ []) ≡ None) p.0 (one-unfinished a l (omega arith))
+      let p = heads _ _ _ _ (sym is ∙ e) in
+      subst (λ y. utf8_error_len (y ∷ []) ≡ None) p.0 (one-unfinished a l (omega arith))
   by (of2 a b k l m f is) (x ∷ y ∷ w) more e h = absurd (too-long _ (x ∷ y ∷ w) more (sym is ∙ e) (omega arith) h)
   by (of3 a b d u v k l m f g is) (x ∷ []) more e h =
-      let p = heads _ _ _ _ (sym is ∙ e) in subst (λ y. utf8_error_len (y ∷ []) ≡ None) p.0 (one-unfinished a (omega arith) (omega arith))
+      let p = heads _ _ _ _ (sym is ∙ e) in
+      subst (λ y. utf8_error_len (y ∷ []) ≡ None) p.0 (one-unfinished a (omega arith) (omega arith))
   by (of3 a b d u v k l m f g is) (x ∷ y ∷ []) more e h =
       let p = heads _ _ _ _ (sym is ∙ e) in
       let q = heads _ _ _ _ p.1 in
       sym (λ i. utf8_error_len (p.0 i ∷ q.0 i ∷ [])) ∙ two-unfinished a b (omega arith) (omega arith) u v
-  by (of3 a b d u v k l m f g is) (x ∷ y ∷ z ∷ w) more e h = absurd (too-long _ (x ∷ y ∷ z ∷ w) more (sym is ∙ e) (omega arith) h)
+  by (of3 a b d u v k l m f g is) (x ∷ y ∷ z ∷ w) more e h =
+      absurd (too-long _ (x ∷ y ∷ z ∷ w) more (sym is ∙ e) (omega arith) h)
   by (of4 a b d g u v k l m f o r is) (x ∷ []) more e h =
-      let p = heads _ _ _ _ (sym is ∙ e) in subst (λ y. utf8_error_len (y ∷ []) ≡ None) p.0 (one-unfinished a (omega arith) m)
+      let p = heads _ _ _ _ (sym is ∙ e) in
+      subst (λ y. utf8_error_len (y ∷ []) ≡ None) p.0 (one-unfinished a (omega arith) m)
   by (of4 a b d g u v k l m f o r is) (x ∷ y ∷ []) more e h =
       let p = heads _ _ _ _ (sym is ∙ e) in
       let q = heads _ _ _ _ p.1 in
@@ -72,7 +81,8 @@ front-unfinished w f = by (shape f.c f.scalar) w f.more f.is f.some where
       let q = heads _ _ _ _ p.1 in
       let s = heads _ _ _ _ q.1 in
       sym (λ i. utf8_error_len (p.0 i ∷ q.0 i ∷ s.0 i ∷ [])) ∙ three-unfinished a b d (omega arith) m u v o
-  by (of4 a b d g u v k l m f o r is) (x ∷ y ∷ z ∷ t ∷ w) more e h = absurd (too-long _ (x ∷ y ∷ z ∷ t ∷ w) more (sym is ∙ e) (omega arith) h)
+  by (of4 a b d g u v k l m f o r is) (x ∷ y ∷ z ∷ t ∷ w) more e h =
+      absurd (too-long _ (x ∷ y ∷ z ∷ t ∷ w) more (sym is ∙ e) (omega arith) h)
 
 -- no text ends in it
 no-text : (v more : List ℕ) (c : ℕ) → IsUtf8 v → 0 < length v → encode c ≡ v ++ more → 0 < length more → ⊥
@@ -80,7 +90,9 @@ no-text v more c u some is h = by u.0 u.1.0 u.1.1 where
   by : (ds : List ℕ) → all_scalars ds ≡ true → encodes ds ≡ v → ⊥
   by [] s e = omega (arith, ap length e)
   by (d ∷ ds) s e =
-      let all : encode d ++ (encodes ds ++ more) ≡ encode c ++ [] = sym (append_assoc (encode d) (encodes ds) more) ∙ ap (λ l. l ++ more) e ∙ sym is ∙ sym (append-nil (encode c)) in
+      let all : encode d ++ (encodes ds ++ more) ≡ encode c ++ [] =
+      sym (append_assoc (encode d) (encodes ds) more) ∙ ap (λ l. l ++ more) e ∙ sym is
+      ∙ sym (append-nil (encode c)) in
       let same = encode_same d c (encodes ds ++ more) [] all in
       omega (arith, ap length same.1, length-append (encodes ds) more)
 
@@ -93,16 +105,23 @@ module _ (text w : List ℕ) (u : IsUtf8 text) (f : IsFront w) where
         let l = take m (text ++ w) in
         let long = length-take m (text ++ w) in
         let both = length-append text w in
-        let front : take (length text) l ≡ text = take-take (length text) m (text ++ w) (omega arith) ∙ take-append_seam text w in
+        let front : take (length text) l ≡ text =
+        take-take (length text) m (text ++ w) (omega arith) ∙ take-append_seam text w in
         let bound = IsCharBoundary-from_take l (length text) t (omega arith) (subst IsUtf8 (sym front) u) in
         let v = drop (length text) l in
-        let rest : w ≡ v ++ drop m (text ++ w) = sym (drop-append_seam text w) ∙ ap (drop (length text)) (sym (take-append-drop m (text ++ w))) ∙ drop-append-le (length text) l (drop m (text ++ w)) (omega arith) in
-        let is : encode f.c ≡ v ++ (drop m (text ++ w) ++ f.more) = f.is ∙ ap (λ x. x ++ f.more) rest ∙ append_assoc v (drop m (text ++ w)) f.more in
-        no-text v (drop m (text ++ w) ++ f.more) f.c (IsUtf8-drop l (length text) t bound) (omega (arith, length-drop (length text) l)) is (omega (arith, f.some, length-append (drop m (text ++ w)) f.more));
+        let rest : w ≡ v ++ drop m (text ++ w) =
+        sym (drop-append_seam text w) ∙ ap (drop (length text)) (sym (take-append-drop m (text ++ w)))
+        ∙ drop-append-le (length text) l (drop m (text ++ w)) (omega arith) in
+        let is : encode f.c ≡ v ++ (drop m (text ++ w) ++ f.more) =
+        f.is ∙ ap (λ x. x ++ f.more) rest ∙ append_assoc v (drop m (text ++ w)) f.more in
+        no-text v (drop m (text ++ w) ++ f.more) f.c (IsUtf8-drop l (length text) t bound)
+        (omega (arith, length-drop (length text) l)) is
+        (omega (arith, f.some, length-append (drop m (text ++ w)) f.more));
   }
 
   valid-front : (w ≡ []) ⊎ (0 < length w) → utf8_valid_len (text ++ w) ≡ length text
-  valid-front (inl e) = ap (λ x. utf8_valid_len (text ++ x)) e ∙ ap utf8_valid_len (append-nil text) ∙ utf8_valid_len-IsUtf8 text u
+  valid-front (inl e) =
+      ap (λ x. utf8_valid_len (text ++ x)) e ∙ ap utf8_valid_len (append-nil text) ∙ utf8_valid_len-IsUtf8 text u
   valid-front (inr s) = utf8_valid_len-IsValidUpTo (text ++ w) (length text) (valid-some s)
 
   empty-or : (w : List ℕ) → (w ≡ []) ⊎ (0 < length w)
@@ -113,7 +132,9 @@ module _ (text w : List ℕ) (u : IsUtf8 text) (f : IsFront w) where
   tail-valid = valid-front (empty-or w)
 
   pub tail-unfinished : utf8_error_len (drop (utf8_valid_len (text ++ w)) (text ++ w)) ≡ None
-  tail-unfinished = ap (λ n. utf8_error_len (drop n (text ++ w))) tail-valid ∙ ap utf8_error_len (drop-append_seam text w) ∙ front-unfinished w f
+  tail-unfinished =
+      ap (λ n. utf8_error_len (drop n (text ++ w))) tail-valid ∙ ap utf8_error_len (drop-append_seam text w)
+      ∙ front-unfinished w f
 
   pub tail-taken : take (utf8_valid_len (text ++ w)) (text ++ w) ≡ text
   tail-taken = ap (λ n. take n (text ++ w)) tail-valid ∙ take-append_seam text w

@@ -1,5 +1,5 @@
 -- The equations of reading.
-use Rattle.std.proofs.Common.{◌≡◌, ℕ, zero, suc, ◌+◌, ◌<◌, ◌≤◌, Bool, length, List, [], ◌∷◌, ◌++◌, refl, sym, ap, ◌∙◌, ◌-◌, arith}
+use Rattle.std.proofs.Common.{◌≡◌, ℕ, zero, suc, ◌+◌, ◌<◌, ◌≤◌, length, List, [], ◌∷◌, ◌++◌, refl, sym, ap, ◌∙◌, ◌-◌, arith}
 use Rattle.std.specs.Prelude.{slice_index}
 use Rattle.jiter_scan.specs.Kind.{Kind, recursion_limit, expected_value}
 use Rattle.jiter_scan.specs.Scanned.{Scanned, taken, failed}

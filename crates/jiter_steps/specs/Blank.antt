@@ -11,6 +11,7 @@ is_blank b = (b == ascii.space) || (b == ascii.tab) || (b == ascii.line_feed) ||
 unfoldable pub past_blanks : List ℕ → ℕ → ℕ
 past_blanks t i = run_end is_blank t i
 
+-- the same, as a statement
 abbrev pub IsBlankByte : ℕ → Type 0
 IsBlankByte c = (c ≡ ascii.space) ⊎ ((c ≡ ascii.tab) ⊎ ((c ≡ ascii.line_feed) ⊎ (c ≡ ascii.carriage_return)))
 

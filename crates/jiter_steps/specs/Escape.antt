@@ -20,14 +20,18 @@ short_escape b =
 abbrev pub unit_of : ℕ → ℕ → ℕ → ℕ → ℕ
 unit_of a b c d = digit_value a * 4096 + digit_value b * 256 + digit_value c * 16 + digit_value d
 
+-- a hex digit of either case
 abbrev pub is_hex : ℕ → Bool
 is_hex b = is_digit b 16
 
+-- the first of a surrogate pair
 abbrev pub is_high : ℕ → Bool
 is_high u = nat_le 0xd800 u && nat_lt u 0xdc00
 
+-- the second of one
 abbrev pub is_low : ℕ → Bool
 is_low u = nat_le 0xdc00 u && nat_lt u 0xe000
 
+-- the character of a surrogate pair
 abbrev pub pair_of : ℕ → ℕ → ℕ
 pair_of high low = 0x10000 + (high - 0xd800) * 0x400 + (low - 0xdc00)

@@ -14,3 +14,4 @@ pub mod Cut
 pub mod Answer
 pub mod Extends
 pub mod Frames
+pub mod FirstFault

@@ -9,11 +9,13 @@ use Rattle.jiter_steps.specs.declared.parse.Literal.TheVariants as literal
 use Rattle.jiter_steps.specs.declared.parse.Start.{Start}
 use Rattle.jiter_steps.specs.declared.parse.Start.TheVariants as start
 
+-- its letters
 abbrev pub word_of : Literal → List ℕ
 word_of literal.Null = codes "null"
 word_of literal.True = codes "true"
 word_of literal.False = codes "false"
 
+-- its tree
 abbrev pub literal_tree : Literal → Tree
 literal_tree literal.Null = null
 literal_tree literal.True = boolean true

@@ -43,6 +43,7 @@ pub record IsPair (p : List ℕ) (c : ℕ) : Type 0 where
   pub is_low : is_low low ≡ true
   pub means : c ≡ pair_of high low
 
+-- p is an escape of c
 abbrev pub IsEscape : List ℕ → ℕ → Type 0
 IsEscape p c = IsShort p c ⊎ ((IsUnit p c × IsScalar c) ⊎ IsPair p c)
 
@@ -61,10 +62,12 @@ pub record SpellsChar (t : List ℕ) (i j c : ℕ) : Type 0 where
   pub stands : Stands t i j bytes
   pub piece : IsPiece bytes c
 
+-- these pieces stand one behind another from i to e
 abbrev pub SpellsPieces : List ℕ → ℕ → List Piece → ℕ → Type 0
 SpellsPieces t i [] e = i ≡ e
 SpellsPieces t i (p ∷ ps) e = SpellsChar t i p.end p.character × SpellsPieces t p.end ps e
 
+-- the characters that pieces stand for
 abbrev pub characters : List Piece → List ℕ
 characters ps = map (λ p. p.character) ps
 

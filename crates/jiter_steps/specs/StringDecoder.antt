@@ -17,11 +17,12 @@ use Rattle.jiter_steps.specs.declared.string_decoder.AtStop.TheVariants as at_st
 use Rattle.jiter_steps.specs.declared.string_decoder.Ending.{Ending}
 use Rattle.jiter_steps.specs.declared.string_decoder.Ending.TheVariants as ending
 
--- a text's bytes, and whether they lie in memory of their own
+-- the text lies in memory of its own
 abbrev pub is_owned : CowStr Global → Bool
 is_owned (text.Borrowed s) = false
 is_owned (text.Owned s) = true
 
+-- its bytes, and whether they lie in memory of their own
 abbrev pub text_view : CowStr Global → Text
 text_view c = record { owned = is_owned c; bytes = cow_str_bytes c }
 

@@ -1,10 +1,10 @@
--- Reading a string from the left (RFC 8259, 7 and 8.1): what stands at each place, these joined up to the end, and what each form makes of it.
+-- Reading a string from the left (RFC 8259, 7 and 8.1): what stands at each place, these joined up to the end,
+-- and what each form makes of it.
 use Rattle.std.specs.Prelude.{ℕ, zero, suc, ◌+◌, ◌-◌, ◌==◌, ◌||◌, Bool, true, false, if◌then◌else◌, List, [], ◌∷◌, ◌++◌, length, take, drop, slice_get, slice_index, slice_range, Option, Some, None, nat_lt}
 use Rattle.std.specs.Char.{encode_utf8}
 use Rattle.std.specs.Str.Lossy.{utf8_valid_len, utf8_error_len}
 use Rattle.jiter_scan.specs.Ascii as ascii
 use Rattle.jiter_scan.specs.Scanned.{Scanned, taken, failed}
-use Rattle.jiter_steps.specs.Piece.{Piece}
 use Rattle.jiter_steps.specs.Tree.{Text}
 use Rattle.jiter_scan.specs.Kind.{Kind, eof_string, invalid_escape, invalid_code_point, control_character, lone_surrogate, end_of_hex_escape}
 use Rattle.jiter_steps.specs.Escape.{short_escape, is_hex, unit_of, is_high, is_low, pair_of}
@@ -24,9 +24,12 @@ pub data Place : Type 0 where
 -- the first of the four bytes at i that is no hex digit
 abbrev pub bad_digit : List ℕ → ℕ → Option ℕ
 bad_digit t i =
-    if is_hex (slice_index t i) then (if is_hex (slice_index t (i + 1)) then (if is_hex (slice_index t (i + 2)) then (if is_hex (slice_index t (i + 3)) then None
+    if is_hex (slice_index t i) then
+    (if is_hex (slice_index t (i + 1)) then
+    (if is_hex (slice_index t (i + 2)) then (if is_hex (slice_index t (i + 3)) then None
     else Some (i + 3)) else Some (i + 2)) else Some (i + 1)) else Some i
 
+-- the number that the four bytes at i spell
 abbrev pub unit_at : List ℕ → ℕ → ℕ
 unit_at t i = unit_of (slice_index t i) (slice_index t (i + 1)) (slice_index t (i + 2)) (slice_index t (i + 3))
 
@@ -36,13 +39,16 @@ pub data HexDigits : Type 0 where
   bad : ℕ → HexDigits
   few : HexDigits
 
+-- the number, unless a byte is no hex digit
 abbrev pub hex_digits_or : Option ℕ → ℕ → HexDigits
 hex_digits_or None u = number u
 hex_digits_or (Some i) u = bad i
 
+-- the four hex digits at i
 abbrev pub hex_digits_at : List ℕ → ℕ → HexDigits
 hex_digits_at t i = if nat_lt (length t) (i + 4) then few else hex_digits_or (bad_digit t i) (unit_at t i)
 
+-- behind four hex digits, what follows for their number
 abbrev pub behind : (ℕ → Place) → HexDigits → Place
 behind next (number u) = next u
 behind next (bad i) = over (wrong invalid_escape i)
@@ -54,24 +60,31 @@ unit_then t i next = behind (next (i + 4)) (hex_digits_at t i)
 
 -- the second number of a pair, which ends at j
 abbrev pub surrogate_pair : ℕ → ℕ → ℕ → Place
-surrogate_pair high j low = if is_low low then part (encode_utf8 (pair_of high low)) true j else over (wrong lone_surrogate (j - 1))
+surrogate_pair high j low =
+    if is_low low then part (encode_utf8 (pair_of high low)) true j else over (wrong lone_surrogate (j - 1))
 
--- behind the digits of a high surrogate, and behind the backslash there
+-- behind the backslash that follows a high surrogate
 abbrev pub behind_high_backslash : List ℕ → ℕ → ℕ → Option ℕ → Place
 behind_high_backslash t high i None = over cut
-behind_high_backslash t high i (Some b) = if b == ascii.small_u then unit_then t (i + 1) (surrogate_pair high) else over (wrong end_of_hex_escape i)
+behind_high_backslash t high i (Some b) =
+    if b == ascii.small_u then unit_then t (i + 1) (surrogate_pair high) else over (wrong end_of_hex_escape i)
 
+-- behind the digits of a high surrogate
 abbrev pub behind_high : List ℕ → ℕ → ℕ → Option ℕ → Place
 behind_high t high i None = over cut
-behind_high t high i (Some b) = if b == ascii.backslash then behind_high_backslash t high (i + 1) (slice_get t (i + 1)) else over (wrong end_of_hex_escape i)
+behind_high t high i (Some b) =
+    if b == ascii.backslash then behind_high_backslash t high (i + 1) (slice_get t (i + 1))
+    else over (wrong end_of_hex_escape i)
 
--- an escape's number, which ends at j
+-- the number of an escape that ends at j, where it is no high surrogate
 abbrev pub single : ℕ → ℕ → Place
 single j u = if is_low u then over (wrong lone_surrogate (j - 1)) else part (encode_utf8 u) true j
 
+-- the number of an escape whose digits end at j
 abbrev pub unicode_escape : List ℕ → ℕ → ℕ → Place
 unicode_escape t j u = if is_high u then behind_high t u j (slice_get t j) else single j u
 
+-- an escape of one letter or sign, at i
 abbrev pub short : ℕ → Option ℕ → Place
 short i None = over (wrong invalid_escape i)
 short i (Some c) = part (encode_utf8 c) true (i + 1)
@@ -79,18 +92,23 @@ short i (Some c) = part (encode_utf8 c) true (i + 1)
 -- behind a backslash
 abbrev pub behind_backslash : List ℕ → ℕ → Option ℕ → Place
 behind_backslash t i None = over cut
-behind_backslash t i (Some b) = if b == ascii.small_u then unit_then t (i + 1) (unicode_escape t) else short i (short_escape b)
+behind_backslash t i (Some b) =
+    if b == ascii.small_u then unit_then t (i + 1) (unicode_escape t) else short i (short_escape b)
 
+-- a byte that stands for itself
 abbrev pub plain : ℕ → ℕ → Place
 plain i b = if nat_lt b ascii.space then over (wrong control_character i) else part (b ∷ []) false (i + 1)
 
+-- a byte that is no quote
 abbrev pub escape_or_plain : List ℕ → ℕ → ℕ → Place
 escape_or_plain t i b = if b == ascii.backslash then behind_backslash t (i + 1) (slice_get t (i + 1)) else plain i b
 
+-- what stands at i, by its byte
 abbrev pub place_by : List ℕ → ℕ → Option ℕ → Place
 place_by t i None = over unclosed
 place_by t i (Some b) = if b == ascii.quote then over (closed (i + 1)) else escape_or_plain t i b
 
+-- what stands at i
 unfoldable pub place_at : List ℕ → ℕ → Place
 place_at t i = place_by t i (slice_get t i)
 
@@ -100,15 +118,18 @@ pub record Body : Type 0 where
   pub owned : Bool
   pub stop : Stop
 
+-- the input ends within an escape
 abbrev pub is_cut : Stop → Bool
 is_cut (closed e) = false
 is_cut unclosed = false
 is_cut cut = true
 is_cut (wrong k i) = false
 
+-- the body behind these bytes, with them
 abbrev pub before : List ℕ → Bool → Body → Body
 before bytes owned b = record { bytes = bytes ++ b.bytes; owned = owned || b.owned; stop = b.stop }
 
+-- what stands at a place, and the rest behind it
 abbrev pub join : (ℕ → Body) → Place → Body
 join rest (part bytes owned j) = before bytes owned (rest j)
 join rest (over s) = record { bytes = []; owned = is_cut s; stop = s }
@@ -118,10 +139,12 @@ unfoldable pub body_within : ℕ → List ℕ → ℕ → Body
 body_within zero t i = record { bytes = []; owned = false; stop = unclosed }
 body_within (suc n) t i = join (body_within n t) (place_at t i)
 
+-- the body that begins at i
 unfoldable pub body_at : List ℕ → ℕ → Body
 body_at t i = body_within (length t) t i
 
--- the text; where the input ends, as much of it as there is; the bytes between the quotes; these where the input ends
+-- the text; where the input ends, as much of it as there is; the bytes between the quotes; these where the
+-- input ends
 pub data Form : Type 0 where
   whole : Form
   kept : Form
@@ -130,20 +153,24 @@ pub data Form : Type 0 where
 
 -- the decoded bytes, which begin at i, have to be UTF-8
 abbrev pub if_utf8 : ℕ → Bool → List ℕ → ℕ → Scanned Text
-if_utf8 i owned bytes e = if utf8_valid_len bytes == length bytes then taken (record { owned = owned; bytes = bytes }) e else failed invalid_code_point (i + utf8_valid_len bytes)
+if_utf8 i owned bytes e =
+    if utf8_valid_len bytes == length bytes then taken (record { owned = owned; bytes = bytes }) e
+    else failed invalid_code_point (i + utf8_valid_len bytes)
 
--- the same without an unfinished character at the end
+-- the same, where an unfinished character follows the valid bytes, or n bytes that are none
 abbrev pub valid_front_by : ℕ → Bool → List ℕ → ℕ → Option ℕ → Scanned Text
 valid_front_by i owned bytes e None = taken (record { owned = owned; bytes = take (utf8_valid_len bytes) bytes }) e
 valid_front_by i owned bytes e (Some n) = failed invalid_code_point (i + utf8_valid_len bytes)
 
+-- the bytes as far as they are UTF-8, where no more than an unfinished character follows
 abbrev pub valid_front : ℕ → Bool → List ℕ → ℕ → Scanned Text
 valid_front i owned bytes e = valid_front_by i owned bytes e (utf8_error_len (drop (utf8_valid_len bytes) bytes))
 
+-- the source bytes from i to before j
 abbrev pub between : List ℕ → ℕ → ℕ → Text
 between t i j = record { owned = false; bytes = slice_range t i j }
 
--- the string whose content begins at i
+-- the text of a content that begins at i, by how it ends
 abbrev pub text_in_form : Form → List ℕ → ℕ → List ℕ → Bool → Stop → Scanned Text
 text_in_form form t i bytes owned (wrong k j) = failed k j
 text_in_form whole t i bytes owned (closed e) = if_utf8 i owned bytes e
@@ -156,6 +183,7 @@ text_in_form raw_kept t i bytes owned unclosed = taken (between t i (length t)) 
 text_in_form form t i bytes owned unclosed = failed eof_string (length t)
 text_in_form form t i bytes owned cut = failed eof_string (length t)
 
+-- the string whose content begins at i
 unfoldable pub content_at : Form → List ℕ → ℕ → Scanned Text
 content_at form t i = text_in_form form t i (body_at t i).bytes (body_at t i).owned (body_at t i).stop
 

@@ -209,7 +209,7 @@ fn place_at(bytes: &[u8], at: usize) -> AtStop
 }
 
 // The first quote, backslash or control character from `from` on, or the length.
-#[tactic(auto, using(crate::proofs::PlainRuns::scan_stop_past, crate::proofs::PlainRuns::scan_stop_here, crate::proofs::PlainRuns::scan_stop_more))]
+#[tactic(auto, using(crate::proofs::PlainRuns::scan_steps))]
 fn plain_end(bytes: &[u8], from: usize) -> usize
     requires { from ≤ length bytes.now }
     ensures stop { result ≡ scan_stop bytes.now from }

@@ -12,7 +12,8 @@ pub member_views_is : (ms : List (CowStr Global × JsonValue)) → member_views 
 member_views_is [] = refl
 member_views_is (m ∷ ms) = ap (member (text_view m.0) (view m.1)) (member_views_is ms)
 
-pub view-Object : (v : Vec (CowStr Global × JsonValue) Global) → view (Object v) ≡ object (members_of (map member_view v.items))
+pub view-Object : (v : Vec (CowStr Global × JsonValue) Global)
+    → view (Object v) ≡ object (members_of (map member_view v.items))
 view-Object v = by ∙ ap object (member_views_is v.items) where
   by : view (Object v) ≡ object (member_views v.items)
   by = search (rules, the_lemmas)

@@ -36,9 +36,11 @@ view_step (JsonValue-F.Object v) = object (members_seen v.items)
 abbrev pub view : JsonValue → Tree
 view = fold-JsonValue Tree view_step
 
+-- the trees of items
 abbrev pub views : List JsonValue → Items
 views vs = items_of (map view vs)
 
+-- the trees of members, with their keys
 abbrev pub member_views : List (CowStr Global × JsonValue) → Members
 member_views ms = members_seen (map (λ m. (m.0, view m.1)) ms)
 
@@ -62,6 +64,7 @@ MayGrowAs t i start.Number = ⊥
 MayGrowAs t i (start.Literal l) = ⊥
 MayGrowAs t i start.Nothing = ⊥
 
+-- the value at i may want memory
 abbrev pub MayGrowAt : List ℕ → ℕ → Type 0
 MayGrowAt t i = MayGrowAs t i (start_of (slice_index t i))
 

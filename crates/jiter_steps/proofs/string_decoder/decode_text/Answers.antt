@@ -1,5 +1,4 @@
-use Rattle.std.proofs.Common.{◌≡◌, ◌∙◌, sym}
-use Rattle.jiter_steps.specs.StringReading.{body_at}
+use Rattle.std.proofs.Common.{◌∙◌, sym}
 use Rattle.jiter_steps.proofs.StringAnswers.{string-closed, string-wrong, string-unclosed, string-cut}
 use Rattle.jiter_steps.proofs.string_decoder.decode_text.Goals as goal
 
@@ -8,7 +7,11 @@ returns-in-Ok-Closed c =
     let a = c.args in
     let d = rw c.in-Ok-Closed.field-0-is at c.in-Ok-Closed.ensures in
     let text = c.as_slice.ensures.value ∙ d.text in
-    rw (string-closed a.bytes.now a.at c.requires.within a.to c.requires.stop c.in-Ok-Closed.end c.requires.backslash (sym d.stop), ← text) c.own_text.ensures
+    rw (
+      string-closed a.bytes.now a.at c.requires.within a.to c.requires.stop c.in-Ok-Closed.end c.requires.backslash
+          (sym d.stop),
+      ← text,
+    ) c.own_text.ensures
 
 pub returns-in-Ok-Wrong : goal.returns-in-Ok-Wrong
 returns-in-Ok-Wrong c =

@@ -28,7 +28,8 @@ returns-in-Err-clause-value c =
     string-quote t a.at c.requires to c.plain_end-to.ensures.stop quote ∙ c.in-Err.ensures
 
 pub returns-in-Some-eq92-clause-advances : goal.returns-in-Some-eq92-clause-advances
-returns-in-Some-eq92-clause-advances c = string-advances c.args.bytes.now c.args.at c.requires c.decode_text.result c.decode_text.ensures
+returns-in-Some-eq92-clause-advances c =
+    string-advances c.args.bytes.now c.args.at c.requires c.decode_text.result c.decode_text.ensures
 
 pub returns-in-Some-clause-value : goal.returns-in-Some-clause-value
 returns-in-Some-clause-value c =

@@ -1,0 +1,95 @@
+-- The magnitude of a run of digits, by words of sixteen.
+use Rattle.std.proofs.Common.{◌≡◌, ℕ, ◌+◌, ◌-◌, ◌*◌, ◌^◌, ◌<◌, ◌≤◌, length, take, drop, get_or, List, [], ◌∷◌, ◌++◌, sym, ap, ◌∙◌, subst, slice_range, arith, take-add, drop-drop, drop-cons}
+use Rattle.std.proofs.Math.Nat.{pow-le-pow_right}
+use Rattle.std.proofs.lemmas.List.{length-take, length-drop}
+use Rattle.std.specs.Prelude.{Some, None, nat_le}
+use Rattle.std.specs.List.{prefix_len}
+use Rattle.jiter_scan.specs.Digits.{is_digit, digit_run_end, decimal_of}
+use Rattle.jiter_scan.specs.Number.{AreDigits}
+use Rattle.jiter_scan.specs.NumberDecoder.{magnitude_of}
+use Rattle.jiter_scan.specs.Simd.{digits_end}
+use Rattle.jiter_scan.proofs.Choices.{if_gives}
+use Rattle.jiter_scan.proofs.Chunks.{prefix_len-front, prefix_len-pass, run_end-on}
+use Rattle.jiter_scan.proofs.Digits.{decimal_of-append, decimal_of-below, decimal_of-above}
+
+-- a range in two
+slice_range-split : (t : List ℕ) (i j k : ℕ) → i ≤ j → j ≤ k → slice_range t i k
+    ≡ slice_range t i j ++ slice_range t j k
+slice_range-split t i j k low high =
+    let count : k - i ≡ (j - i) + (k - j) = omega arith in
+    let place : i + (j - i) ≡ j = omega arith in
+    ap (λ n. take n (drop i t)) count ∙ take-add (j - i) (k - j) (drop i t)
+    ∙ ap (λ l. slice_range t i j ++ take (k - j) l) (drop-drop (j - i) i t ∙ ap (λ n. drop n t) place)
+
+slice_range-count : (t : List ℕ) (i n : ℕ) → slice_range t i (i + n) ≡ take n (drop i t)
+slice_range-count t i n = let count : i + n - i ≡ n = omega arith in ap (λ k. take k (drop i t)) count
+
+-- where digits end within a limit
+pub digits_end-some : (t : List ℕ) (i limit e : ℕ) → Some e ≡ digits_end t i limit → e ≡ digit_run_end t i
+digits_end-some t i limit e h =
+    if_gives (nat_le (digit_run_end t i) (i + limit)) (Some (digit_run_end t i)) None (Some e) (sym h)
+    (λ few is. let same : e ≡ digit_run_end t i = cc in same)
+    (λ many is. let no : ⊥ = cc in absurd no)
+
+module _ (t : List ℕ) where
+  -- digits of a run are digits of any chunk that begins as it
+  pub digits-front : (chunk : List ℕ) (i n : ℕ) → take n chunk ≡ slice_range t i (i + n) → i + n ≤ digit_run_end t i
+      → n ≤ digit_run_end chunk 0
+  digits-front chunk i n front run =
+      let counted : n ≤ prefix_len is_digit (drop i t) = omega arith in
+      let found = prefix_len-front is_digit n (drop i t) chunk (sym (front ∙ slice_range-count t i n)) counted in
+      omega arith
+
+  -- also from a place within the run
+  pub digits-front-behind : (chunk : List ℕ) (i k n : ℕ) → i + k + n ≤ digit_run_end t i → i + k + n ≤ length t
+      → take n chunk ≡ slice_range t (i + k) (i + k + n) → n ≤ digit_run_end chunk 0
+  digits-front-behind chunk i k n run within front =
+      digits-front chunk (i + k) n front (omega (arith, run_end-on is_digit t i k (omega arith) (omega arith)))
+
+  module _ (i e : ℕ) (some : i ≤ e) (run : e ≤ digit_run_end t i) (within : e ≤ length t) where
+    long : length (slice_range t i e) ≡ e - i
+    long = omega (arith, length-take (e - i) (drop i t), length-drop i t)
+
+    are_digits : AreDigits (slice_range t i e)
+    are_digits = let counted : e - i ≤ prefix_len is_digit (drop i t) =
+        omega arith in prefix_len-pass is_digit (e - i) (drop i t) counted
+
+    -- at most nineteen digits
+    pub decimal_of-nineteen : e - i ≤ 19 → decimal_of (slice_range t i e) < 10 ^ 19
+    decimal_of-nineteen few =
+        let most : 10 ^ (e - i) ≤ 10 ^ 19 = pow-le-pow_right {n = 10} (omega arith) {i = e - i} {j = 19} few in
+        let below = subst (λ n. decimal_of (slice_range t i e) < 10 ^ n) long
+        (decimal_of-below (slice_range t i e) are_digits) in
+        omega arith
+
+    pub magnitude_of-short : (m : ℕ) → e - i ≤ 19 → m ≡ decimal_of (slice_range t i e) → m
+        ≡ magnitude_of (slice_range t i e)
+    magnitude_of-short m few is = omega (arith, decimal_of-nineteen few)
+
+    -- twenty digits or more, of which the first is no zero
+    pub magnitude_of-long : 20 ≤ e - i → 48 < get_or t i 0 → 10 ^ 19 ≡ magnitude_of (slice_range t i e)
+    magnitude_of-long many first =
+        let one : slice_range t i (i + 1) ≡ get_or t i 0 ∷ [] =
+        slice_range-count t i 1 ∙ ap (take 1) (drop-cons t i 0 (omega arith)) in
+        let rest = slice_range t (i + 1) e in
+        let whole : slice_range t i e ≡ get_or t i 0 ∷ rest =
+        slice_range-split t i (i + 1) e (omega arith) (omega arith) ∙ ap (λ w. w ++ rest) one in
+        let count : length rest ≡ e - (i + 1) =
+        omega (arith, length-take (e - (i + 1)) (drop (i + 1) t), length-drop (i + 1) t) in
+        let least : 10 ^ 19 ≤ 10 ^ length rest =
+        pow-le-pow_right {n = 10} (omega arith) {i = 19} {j = length rest} (omega arith) in
+        let above : 10 ^ length rest ≤ decimal_of (slice_range t i e) =
+        subst (λ w. 10 ^ length rest ≤ decimal_of w) (sym whole) (decimal_of-above (get_or t i 0) rest first) in
+        omega arith
+
+  -- the word of sixteen, and those behind them
+  pub decimal_of-joined : (i e : ℕ) → i + 16 ≤ e → e ≤ length t
+      → decimal_of (slice_range t i (i + 16)) * 10 ^ (e - i - 16) + decimal_of (slice_range t (i + 16) e)
+      ≡ decimal_of (slice_range t i e)
+  decimal_of-joined i e many within =
+      let back = slice_range t (i + 16) e in
+      let count : length back ≡ e - i - 16 =
+      omega (arith, length-take (e - (i + 16)) (drop (i + 16) t), length-drop (i + 16) t) in
+      sym (ap decimal_of (slice_range-split t i (i + 16) e (omega arith) many)
+      ∙ decimal_of-append (slice_range t i (i + 16)) back
+      ∙ ap (λ n. decimal_of (slice_range t i (i + 16)) * 10 ^ n + decimal_of back) count)

@@ -1,0 +1,109 @@
+-- Whether the plain bytes of a string are ASCII, chunk by chunk and byte by byte.
+use Rattle.std.proofs.Common.{◌≡◌, ℕ, ◌+◌, ◌-◌, ◌<◌, ◌≤◌, Bool, true, false, not, ◌&&◌, cond, eqb, leb, List, [], ◌∷◌, length, drop, take, get_or, refl, sym, ap, ◌∙◌, arith, zero, suc, take-add, take-take, drop-drop, drop-cons, inl, inr, add-one}
+use Rattle.std.specs.Prelude.{◌↔◌, IsTrue, slice_range}
+use Rattle.std.proofs.lemmas.Simd.{length-chunk}
+use Rattle.std.proofs.lemmas.List.Folds.{list_all-append}
+use Rattle.std.proofs.lemmas.List.Sums.{prefix_len-le-length, AllPass-from_list_all, list_all-from_AllPass}
+use Rattle.std.proofs.lemmas.Bool.{cases_eq, le-leb, lt-leb}
+use Rattle.std.proofs.lemmas.Bool.Decides.{nat_tests}
+use Rattle.std.specs.List.{prefix_len, list_all}
+use lib.Lanes.{chunk}
+use lib.Count.{count_trailing_zeros}
+use Rattle.jiter_scan.specs.Scan.{is_stop, is_plain, is_ascii, scan_stop, IsAsciiTo}
+use Rattle.jiter_scan.specs.Simd.{failing, ascii_from}
+use Rattle.jiter_scan.proofs.Chunks.{list_all-failing, prefix_len-all, prefix_len-failing, prefix_len-through, prefix_len-inside, none_fails, one_fails}
+
+pub and-assoc : (a b c : Bool) → ((a && b) && c) ≡ (a && (b && c))
+and-assoc true b c = refl
+and-assoc false b c = refl
+
+pub and-true : (a : Bool) → (a && true) ≡ a
+and-true true = refl
+and-true false = refl
+
+leb-suc : (r n : ℕ) → leb r n ≡ leb (suc r) (1 + n)
+leb-suc r n = grind (arith, nat_tests)
+
+front-step : (b : Bool) (r n : ℕ) (all : Bool) → all ≡ leb r n → (b && all) ≡ leb (suc r) (cond b (1 + n) 0)
+front-step false r n all e = sym (lt-leb (suc r) 0 (omega arith))
+front-step true r n all e = e ∙ leb-suc r n
+
+-- the first r are ASCII where the first byte that is not lies no earlier than at r
+ascii-front : (r : ℕ) (w : List ℕ) → r ≤ length w → list_all is_ascii (take r w) ≡ leb r (prefix_len is_ascii w)
+ascii-front zero w h = sym (le-leb 0 _ (omega arith))
+ascii-front (suc r) [] h = absurd (omega arith)
+ascii-front (suc r) (c ∷ w) h = front-step (is_ascii c) r _ _ (ascii-front r w (omega arith))
+
+-- where no bit of the mask is set, 64 stands for the length
+front-mask : (w : List ℕ) (r : ℕ) → length w ≤ 64 → r ≤ length w → leb r (prefix_len is_ascii w)
+    ≡ leb r (count_trailing_zeros 64 (failing is_ascii w))
+unfolding count_trailing_zeros
+front-mask w r short le =
+    elim (cases_eq (failing is_ascii w) 0) [
+      | inl none ↦
+          let all : count_trailing_zeros 64 0 ≡ 64 = refl in
+          let every : list_all is_ascii w ≡ true = list_all-failing is_ascii w ∙ ap (λ m. eqb m 0) none in
+          le-leb _ _ (omega (arith, prefix_len-all is_ascii w every)) ∙ sym (le-leb _ _ (rw none (omega arith)))
+      | inr some ↦ ap (leb r) (prefix_len-failing is_ascii w short (omega arith))
+    ]
+
+module _ (t : List ℕ) (i n : ℕ) where
+  -- a chunk without a stop
+  pub ascii_from-through : i + n ≤ length t → list_all is_plain (chunk i n t) ≡ true → ascii_from t i
+      ≡ (list_all is_ascii (chunk i n t) && ascii_from t (i + n))
+  ascii_from-through room plain =
+      let m = prefix_len is_plain (drop (i + n) t) in
+      ap (λ k. list_all is_ascii (take k (drop i t))) (prefix_len-through is_plain t i n room plain)
+      ∙ ap (list_all is_ascii) (take-add n m (drop i t))
+      ∙ list_all-append is_ascii (chunk i n t) (take m (drop n (drop i t)))
+      ∙ ap (λ l. list_all is_ascii (chunk i n t) && list_all is_ascii (take m l)) (drop-drop n i t)
+
+  pub ascii_from-through-mask : i + n ≤ length t → failing is_plain (chunk i n t) ≡ 0 → ascii_from t i
+      ≡ (eqb (failing is_ascii (chunk i n t)) 0 && ascii_from t (i + n))
+  ascii_from-through-mask room none = ascii_from-through room (none_fails is_plain t i n none)
+      ∙ ap (λ b. b && ascii_from t (i + n)) (list_all-failing is_ascii (chunk i n t))
+
+  -- a chunk with one: by the lowest bits of both masks
+  pub ascii_from-inside : i + n ≤ length t → n ≤ 64 → 0 < failing is_plain (chunk i n t)
+      → ascii_from t i ≡ leb (count_trailing_zeros 64 (failing is_plain (chunk i n t)))
+      (count_trailing_zeros 64 (failing is_ascii (chunk i n t)))
+  ascii_from-inside room short some =
+      let c = chunk i n t in
+      let r = prefix_len is_plain c in
+      let long = length-chunk i n t room in
+      let within : r ≤ length c = prefix_len-le-length is_plain c in
+      ap (λ k. list_all is_ascii (take k (drop i t))) (prefix_len-inside is_plain t i n (one_fails is_plain t i n some))
+      ∙ ap (list_all is_ascii) (sym (take-take r n (drop i t) (omega arith)))
+      ∙ ascii-front r c within
+      ∙ front-mask c r (omega arith) within
+      ∙ ap (λ k. leb k (count_trailing_zeros 64 (failing is_ascii c)))
+      (prefix_len-failing is_plain c (omega arith) some)
+
+-- one byte that is no stop
+pub ascii_from-byte : (t : List ℕ) (i : ℕ) → i < length t → is_stop (get_or t i 0) ≡ false → ascii_from t i
+    ≡ (is_ascii (get_or t i 0) && ascii_from t (i + 1))
+ascii_from-byte t i within goes =
+    let e : drop i t ≡ get_or t i 0 ∷ drop (i + 1) t = rw add-one (drop-cons t i 0 within) in
+    let n = prefix_len is_plain (drop (i + 1) t) in
+    let more : 1 + n ≡ suc n = omega arith in
+    ap (λ l. list_all is_ascii (take (prefix_len is_plain l) l)) e
+    ∙ ap (λ b. list_all is_ascii (take (cond (not b) (1 + n) 0) (get_or t i 0 ∷ drop (i + 1) t))) goes
+    ∙ ap (λ k. list_all is_ascii (take k (get_or t i 0 ∷ drop (i + 1) t))) more
+
+-- nothing stands before a stop
+pub ascii_from-stop : (t : List ℕ) (i : ℕ) → scan_stop t i ≡ i → ascii_from t i ≡ true
+ascii_from-stop t i stop =
+    let none : prefix_len is_plain (drop i t) ≡ 0 = omega arith in
+    ap (λ k. list_all is_ascii (take k (drop i t))) none
+
+-- the answer, in words
+pub IsAsciiTo-iff : (t : List ℕ) (i e : ℕ) (b : Bool) → e ≡ scan_stop t i → b ≡ ascii_from t i
+    → IsTrue b ↔ IsAsciiTo t i e
+IsAsciiTo-iff t i e b stop is =
+    let count : prefix_len is_plain (drop i t) ≡ e - i = omega arith in
+    let all : b ≡ list_all is_ascii (slice_range t i e) =
+    is ∙ ap (λ k. list_all is_ascii (take k (drop i t))) count in (
+      λ h. AllPass-from_list_all is_ascii (slice_range t i e) (sym all ∙ h),
+      λ h. all
+          ∙ list_all-from_AllPass is_ascii (slice_range t i e) h,
+    )

@@ -1,0 +1,42 @@
+use Rattle.std.proofs.Common.{◌+◌, ◌&&◌, get_or, not, ap, sym, ◌∙◌, arith}
+use Rattle.jiter_scan.specs.Scan.{is_plain, is_ascii}
+use Rattle.jiter_scan.specs.Simd.{ascii_from}
+use Rattle.jiter_scan.proofs.Runs.{run_end-passing, run_end-stopping, run_end-past}
+use Rattle.jiter_scan.proofs.PlainRuns.{and-assoc, and-true, ascii_from-byte, ascii_from-stop}
+use Rattle.jiter_scan.proofs.simd.scan_bytes.Goals as goal
+
+pub loop-i-preserved : goal.loop-i-preserved
+loop-i-preserved c =
+    let t = c.args.bytes.now in
+    let i = c.loop-i.i in
+    let goes = sym c.is_stop.ensures ∙ c.if-is_stop.false in
+    let run = run_end-passing is_plain t i c.loop-i-test.true (ap not goes) in
+    record {
+      stop = omega arith;
+      ascii = c.loop-i.invariant.ascii ∙ ap (λ b. c.loop-i.clean && b) (ascii_from-byte t i c.loop-i-test.true goes)
+          ∙ sym (and-assoc c.loop-i.clean (is_ascii (get_or t i 0)) (ascii_from t (i + 1)))
+          ∙ ap (λ b. b && ascii_from t (i + 1)) (sym c.both-clean.ensures);
+      within = omega arith;
+    }
+
+pub returns-then-is_stop-clause-stop : goal.returns-then-is_stop-clause-stop
+returns-then-is_stop-clause-stop c =
+    let here = run_end-stopping is_plain c.args.bytes.now c.loop-i.i c.loop-i-test.true
+    (ap not (sym c.is_stop.ensures ∙ c.if-is_stop.true)) in
+    omega arith
+
+pub returns-then-is_stop-clause-ascii : goal.returns-then-is_stop-clause-ascii
+returns-then-is_stop-clause-ascii c =
+    let here = run_end-stopping is_plain c.args.bytes.now c.loop-i.i c.loop-i-test.true
+    (ap not (sym c.is_stop.ensures ∙ c.if-is_stop.true)) in
+    sym (c.loop-i.invariant.ascii ∙ ap (λ b. c.loop-i.clean && b) (ascii_from-stop c.args.bytes.now c.loop-i.i here)
+    ∙ and-true c.loop-i.clean)
+
+pub returns-clause-stop : goal.returns-clause-stop
+returns-clause-stop c = omega (arith, run_end-past is_plain c.args.bytes.now c.loop-i.i c.loop-i-test.false)
+
+pub returns-clause-ascii : goal.returns-clause-ascii
+returns-clause-ascii c =
+    let here = run_end-past is_plain c.args.bytes.now c.loop-i.i c.loop-i-test.false in
+    sym (c.loop-i.invariant.ascii ∙ ap (λ b. c.loop-i.clean && b) (ascii_from-stop c.args.bytes.now c.loop-i.i here)
+    ∙ and-true c.loop-i.clean)

@@ -1,0 +1,372 @@
+//! Strings and digits sixteen bytes at a time: where plain bytes end, where digits end, and what they write.
+ghost use Rattle.std.specs.Prelude.{◌≡◌, ◌↔◌, ℕ, List, ◌+◌, ◌*◌, ◌^◌, ◌<◌, ◌≤◌, ◌&&◌, IsTrue, length, take, drop, map, nat_le, slice_range};
+ghost use Rattle.std.specs.Int.{w64, trailing_zeros};
+ghost use Rattle.std.specs.Int.Digits.{number_from_digits, AllBelowBase};
+ghost use Rattle.std.specs.List.{list_all};
+ghost use Rattle.std.specs.Simd.Lanes.{chunk, number_l};
+ghost use Rattle.jiter_scan.specs.Digits.{is_digit, digit_run_end, decimal_of};
+ghost use Rattle.jiter_scan.specs.Scan.{is_stop, is_plain, is_ascii, scan_stop, IsAsciiTo};
+ghost use Rattle.jiter_scan.specs.Simd.{digits_end, ascii_from, failing, is_no_mark, is_no_control, less_zero, IsEightBytes};
+
+use std::simd::prelude::*;
+
+// A bit for each byte that ends a string's plain bytes.
+#[inline(always)]
+fn stops(v: u8x16) -> u64
+    ensures { result ≡ failing is_plain v }
+{
+    (v.simd_eq(u8x16::splat(b'"'))
+        | v.simd_eq(u8x16::splat(b'\\'))
+        | v.simd_lt(u8x16::splat(b' '))).to_bitmask()
+}
+
+// A bit for each byte above 7F hex.
+#[inline(always)]
+fn highs(v: u8x16) -> u64
+    ensures { result ≡ failing is_ascii v }
+{
+    v.simd_ge(u8x16::splat(0x80)).to_bitmask()
+}
+
+// A bit for each byte that is no digit.
+#[inline(always)]
+fn no_digits(v: u8x16) -> u64
+    ensures { result ≡ failing is_digit v }
+{
+    (v - u8x16::splat(b'0'))
+        .simd_ge(u8x16::splat(10))
+        .to_bitmask()
+}
+
+#[inline(always)]
+fn is_stop(byte: u8) -> bool
+    ensures { result ≡ is_stop byte }
+{
+    byte == b'"' || byte == b'\\' || byte < b' '
+}
+
+// Whether no bit below the count is set.
+#[inline(always)]
+fn is_clear_below(mask: u64, count: u32) -> bool
+    ensures { result ≡ nat_le count (trailing_zeros w64 mask) }
+{
+    mask.trailing_zeros() >= count
+}
+
+// Both, with no branch.
+#[inline(always)]
+fn both(a: bool, b: bool) -> bool
+    ensures { result ≡ (a && b) }
+{
+    a & b
+}
+
+// The answer where the first of these stops, in a chunk at `i`, ends the scan.
+#[inline(always)]
+fn first_stop(i: usize, found: u64, high: u64, clean: bool) -> (usize, bool)
+    requires { i + trailing_zeros w64 found < 2 ^ 64 }
+    ensures stop { result.0 ≡ i + trailing_zeros w64 found }
+    ensures ascii { result.1
+        ≡ (clean && nat_le (trailing_zeros w64 found) (trailing_zeros w64 high)) }
+{
+    let count = found.trailing_zeros();
+    (i + count as usize, both(clean, is_clear_below(high, count)))
+}
+
+// The scan from `from` on byte by byte, where the bytes before it were ASCII or not.
+#[inline(always)]
+fn scan_bytes(bytes: &[u8], from: usize, ascii: bool) -> (usize, bool)
+    requires { from ≤ length bytes.now }
+    ensures stop { result.0 ≡ scan_stop bytes.now from }
+    ensures ascii { result.1 ≡ (ascii && ascii_from bytes.now from) }
+{
+    let mut i = from;
+    let mut clean = ascii;
+    while i < bytes.len() {
+        let byte = bytes[i];
+        if is_stop(byte) {
+            return (i, clean);
+        }
+        clean = both(clean, byte < 0x80);
+        i += 1;
+    }
+    (i, clean)
+}
+
+// The same sixteen bytes at a time.
+#[inline(always)]
+fn scan_chunks(bytes: &[u8], from: usize, ascii: bool) -> (usize, bool)
+    requires { from ≤ length bytes.now }
+    ensures stop { result.0 ≡ scan_stop bytes.now from }
+    ensures ascii { result.1 ≡ (ascii && ascii_from bytes.now from) }
+{
+    let mut i = from;
+    let mut clean = ascii;
+    while bytes.len() - i >= 16 {
+        let v = u8x16::from_slice(&bytes[i..]);
+        let found = stops(v);
+        let high = highs(v);
+        if found != 0 {
+            return first_stop(i, found, high, clean);
+        }
+        clean = both(clean, high == 0);
+        i += 16;
+    }
+    scan_bytes(bytes, i, clean)
+}
+
+// In each lane FF hex where a quote or a backslash stands, else 0.
+#[inline(always)]
+fn marks(v: u8x16) -> u8x16
+    ensures { list_all is_ascii result ≡ list_all is_no_mark v }
+{
+    let found = v.simd_eq(u8x16::splat(b'"')) | v.simd_eq(u8x16::splat(b'\\'));
+    found.select(u8x16::splat(0xff), u8x16::splat(0))
+}
+
+// In each lane FF hex where a byte below the blank stands, else 0.
+#[inline(always)]
+fn controls(v: u8x16) -> u8x16
+    ensures { list_all is_ascii result ≡ list_all is_no_control v }
+{
+    let found = v.simd_lt(u8x16::splat(b' '));
+    found.select(u8x16::splat(0xff), u8x16::splat(0))
+}
+
+// The lesser byte in each lane.
+#[inline(always)]
+fn lesser(a: u8x16, b: u8x16) -> u8x16
+    ensures { list_all is_no_control result
+        ≡ (list_all is_no_control a && list_all is_no_control b) }
+{
+    a.simd_min(b)
+}
+
+// The greater byte in each lane.
+#[inline(always)]
+fn greater(a: u8x16, b: u8x16) -> u8x16
+    ensures { list_all is_ascii result ≡ (list_all is_ascii a && list_all is_ascii b) }
+{
+    a.simd_max(b)
+}
+
+// Whether all bytes of a vector are below 80 hex.
+#[inline(always)]
+fn is_low(v: u8x16) -> bool
+    ensures { result ≡ list_all is_ascii v }
+{
+    highs(v) == 0
+}
+
+// Whether none of the 64 bytes at a place stops, and whether they are below 80 hex.
+#[inline(always)]
+fn is_plain_chunk(bytes: &[u8], i: usize) -> (bool, bool)
+    requires { i + 64 ≤ length bytes.now }
+    ensures plain { result.0 ≡ list_all is_plain (chunk i 64 bytes.now) }
+    ensures ascii { result.1 ≡ list_all is_ascii (chunk i 64 bytes.now) }
+{
+    let a = u8x16::from_slice(&bytes[i..]);
+    let b = u8x16::from_slice(&bytes[i + 16..]);
+    let c = u8x16::from_slice(&bytes[i + 32..]);
+    let d = u8x16::from_slice(&bytes[i + 48..]);
+    let marked = greater(greater(marks(a), marks(b)), greater(marks(c), marks(d)));
+    let controlled = controls(lesser(lesser(a, b), lesser(c, d)));
+    let highest = greater(greater(a, b), greater(c, d));
+    (is_low(greater(marked, controlled)), is_low(highest))
+}
+
+// The same 64 bytes at a time.
+#[inline(never)]
+fn scan_far(bytes: &[u8], from: usize, ascii: bool) -> (usize, bool)
+    requires { from ≤ length bytes.now }
+    ensures stop { result.0 ≡ scan_stop bytes.now from }
+    ensures ascii { result.1 ≡ (ascii && ascii_from bytes.now from) }
+{
+    let mut i = from;
+    let mut clean = ascii;
+    while bytes.len() - i >= 64 {
+        let (plain, low) = is_plain_chunk(bytes, i);
+        if !plain {
+            break;
+        }
+        clean = both(clean, low);
+        i += 64;
+    }
+    scan_chunks(bytes, i, clean)
+}
+
+/// The first quote, backslash or control byte from a byte index on, or the length; and whether all bytes
+/// before it, from that index on, are below 80 hex.
+#[inline(always)]
+pub fn scan_string(bytes: &[u8], from: usize) -> (usize, bool)
+    requires { from ≤ length bytes.now }
+    ensures stop { result.0 ≡ scan_stop bytes.now from }
+    ensures within { (from ≤ result.0) × (result.0 ≤ length bytes.now) }
+    ensures ascii { IsTrue result.1 ↔ IsAsciiTo bytes.now from result.0 }
+{
+    if bytes.len() - from < 64 {
+        return scan_far(bytes, from, true);
+    }
+    let mut i = from;
+    let mut clean = true;
+    while i < from + 48 {
+        let v = u8x16::from_slice(&bytes[i..]);
+        let found = stops(v);
+        let high = highs(v);
+        if found != 0 {
+            return first_stop(i, found, high, clean);
+        }
+        clean = both(clean, high == 0);
+        i += 16;
+    }
+    scan_far(bytes, i, clean)
+}
+
+#[inline(always)]
+fn is_digit(byte: u8) -> bool
+    ensures { result ≡ is_digit byte }
+{
+    byte.is_ascii_digit()
+}
+
+// The sixteen bytes at a place, zeros behind the end of the input.
+#[inline(always)]
+pub(crate) fn chunk_at(bytes: &[u8], at: usize) -> [u8; 16]
+    requires { at ≤ length bytes.now }
+    ensures { (n : ℕ) → n ≤ 16 → at + n ≤ length bytes.now
+        → take n result ≡ slice_range bytes.now at (at + n) }
+{
+    if bytes.len() - at >= 16 {
+        u8x16::from_slice(&bytes[at..]).to_array()
+    } else {
+        let rest = &bytes[at..];
+        let mut chunk = [0; 16];
+        chunk[..rest.len()].copy_from_slice(rest);
+        chunk
+    }
+}
+
+/// How many of sixteen bytes are digits, from the first on.
+#[inline(always)]
+pub fn digit_count(chunk: [u8; 16]) -> usize
+    ensures { result ≡ digit_run_end chunk 0 }
+{
+    let others = no_digits(u8x16::from_array(chunk));
+    if others == 0 {
+        16
+    } else {
+        others.trailing_zeros() as usize
+    }
+}
+
+// The place behind the digits that stand at `from`, perhaps none.
+#[inline(always)]
+pub(crate) fn digit_run_end(bytes: &[u8], from: usize) -> usize
+    requires { from ≤ length bytes.now }
+    ensures value { result ≡ digit_run_end bytes.now from }
+    ensures place { (from ≤ result) × (result ≤ length bytes.now) }
+{
+    let mut i = from;
+    'chunks: while bytes.len() - i >= 16 {
+        let others = no_digits(u8x16::from_slice(&bytes[i..]));
+        if others != 0 {
+            return i + others.trailing_zeros() as usize;
+        }
+        i += 16;
+    }
+    'bytes: while i < bytes.len() && is_digit(bytes[i]) {
+        i += 1;
+    }
+    i
+}
+
+/// The place behind the digits that stand at a byte index, or none where there are more than the limit.
+#[inline(always)]
+pub fn digits_end(bytes: &[u8], from: usize, limit: usize) -> Option<usize>
+    requires { from ≤ length bytes.now }
+    ensures { result ≡ digits_end bytes.now from limit }
+{
+    let end = digit_run_end(bytes, from);
+    if end - from <= limit { Some(end) } else { None }
+}
+
+// The bytes 0 and 4 of a word.
+const PAIRS: u64 = 0x0000_00ff_0000_00ff;
+
+// The number that eight digits write, the first of them in the lowest byte.
+#[inline(always)]
+fn eight_digits(word: u64) -> u64
+    ensures { (ds : List ℕ) → length ds ≡ 8 → AllBelowBase 10 ds → word ≡ number_l 256 ds
+        → result ≡ number_from_digits 10 ds }
+{
+    let pairs = word.wrapping_mul(2561) >> 8;
+    let first = (pairs & PAIRS).wrapping_mul(0x000F_4240_0000_0064);
+    let second = ((pairs >> 16) & PAIRS).wrapping_mul(0x0000_2710_0000_0001);
+    first.wrapping_add(second) >> 32
+}
+
+// The sixteen bytes as two words, each byte less 30 hex.
+#[inline(always)]
+fn words(bytes: [u8; 16]) -> (u64, u64)
+    ensures low { result.0 ≡ number_l 256 (take 8 (map less_zero bytes)) }
+    ensures high { result.1 ≡ number_l 256 (drop 8 (map less_zero bytes)) }
+{
+    let digits = u8x16::from_array(bytes) - u8x16::splat(b'0');
+    let lanes = u64x2::from_le_bytes(digits).to_array();
+    (lanes[0], lanes[1])
+}
+
+// The number that the first digits of a word write.
+#[inline(always)]
+fn first_digits(word: u64, count: usize) -> u64
+    requires some { 1 ≤ count }
+    requires most { count ≤ 8 }
+    ensures value { (w : List ℕ) → IsEightBytes w → AllBelowBase 10 (take count w) → word ≡ number_l 256 w
+        → result ≡ number_from_digits 10 (take count w) }
+    ensures bound { (w : List ℕ) → IsEightBytes w → AllBelowBase 10 (take count w) → word ≡ number_l 256 w
+        → result < 100000000 }
+{
+    eight_digits(word << (64 - 8 * count))
+}
+
+// The powers of ten that lead eight digits and up to eight more.
+static TENS: [u64; 9] = [
+    1,
+    10,
+    100,
+    1_000,
+    10_000,
+    100_000,
+    1_000_000,
+    10_000_000,
+    100_000_000,
+];
+
+// A number with as many digits more.
+#[inline(always)]
+pub(crate) fn joined(front: u64, back: u64, count: usize) -> u64
+    requires most { count ≤ 8 }
+    requires fits { front * 10 ^ count + back < 2 ^ 64 }
+    ensures { result ≡ front * 10 ^ count + back }
+{
+    front * TENS[count] + back
+}
+
+/// The number that the first bytes write, where these are digits.
+#[inline(always)]
+pub fn digit_word(chunk: [u8; 16], count: usize) -> u64
+    requires some { 1 ≤ count }
+    requires most { count ≤ 16 }
+    requires digits { count ≤ digit_run_end chunk 0 }
+    ensures { result ≡ decimal_of (take count chunk) }
+{
+    let (low, high) = words(chunk);
+    if count <= 8 {
+        first_digits(low, count)
+    } else {
+        joined(eight_digits(low), first_digits(high, count - 8), count - 8)
+    }
+}
+
+#[cfg(test)]
+mod tests;
