@@ -22,7 +22,8 @@ use Rattle.jiter_steps.specs.Piece.{SpellsString}
 use Rattle.jiter_steps.specs.Read.{Reading, done, fault, scalar_at, with_key, behind_colon, behind_key, value_with}
 use Rattle.jiter_steps.specs.Read.{inside_at, value_at}
 use Rattle.jiter_steps.specs.Step.{step, colon, value_first, object_colon}
-use Rattle.jiter_steps.specs.StringReading.{Stop, closed, unclosed, cut, wrong, whole, body_at, text_in_form, content_at}
+use Rattle.jiter_steps.specs.StringReading.{Stop, closed, unclosed, cut, wrong, whole, body_at, text_in_form}
+use Rattle.jiter_steps.specs.StringReading.{content_at}
 use Rattle.jiter_steps.specs.StringReading.{string_at}
 use Rattle.jiter_steps.specs.Tree.{Text}
 use Rattle.jiter_steps.specs.declared.parse.Start.{Start}
@@ -60,7 +61,8 @@ place-dead k (inr (inr (inl e))) = ap can_go_on e
 place-dead k (inr (inr (inr e))) = ap can_go_on e
 
 module _ (t : List ℕ) (At : ℕ → Type 0) where
-  text_in_form-live : (i : ℕ) (bs : List ℕ) (o : Bool) (s : Stop) → StopWithin t i s → LiveIs At (text_in_form whole t i bs o s)
+  text_in_form-live : (i : ℕ) (bs : List ℕ) (o : Bool) (s : Stop) → StopWithin t i s
+      → LiveIs At (text_in_form whole t i bs o s)
   text_in_form-live i bs o (wrong k j) w = λ live. absurd (false≢true (sym (place-dead k w.2) ∙ live))
   text_in_form-live i bs o (closed e) w =
       either (LiveIs At) (utf8_valid_len bs == length bs) (taken (record { owned = o; bytes = bs }) e)
