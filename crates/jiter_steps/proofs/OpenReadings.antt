@@ -31,7 +31,7 @@ use Rattle.jiter_steps.specs.declared.parse.Start.TheVariants as start
 use Rattle.jiter_steps.proofs.Bodies.{StopWithin, body_at-within}
 use Rattle.jiter_steps.proofs.Bounds.{either}
 use Rattle.jiter_steps.proofs.Completions.{close-map, OpenTo, open-map, no-blanks, taken-length, taken-behind}
-use Rattle.jiter_steps.proofs.Completions.{taken-first, front-same}
+use Rattle.jiter_steps.proofs.Completions.{taken-first, front-kept}
 use Rattle.jiter_steps.proofs.NodeRules.{nodes, nodes_of, node_members_of, key_of}
 use Rattle.jiter_steps.proofs.OpenNumbers.{LiveIs, then-live, word-live, no_live, zero-number, CanEndNumber}
 use Rattle.jiter_steps.proofs.OpenNumbers.{number-open}
@@ -187,7 +187,7 @@ module _ (names : Bool) where
             close-map t x _ _
             (λ w within here.
             let u = take x t ++ w in
-            let same = front-same t x within w in
+            let same = front-kept t x within w in
             let at = sym here.1.0.begins in
             let value = subst (λ b. IsNodeAt names u b here.0 (length u)) at here.1.0 in
             let too = subst (SpellsKey u key) at (key-too t u x same key j le spelled) in
@@ -239,7 +239,7 @@ module _ (names : Bool) where
           omega (arith, ends.0),
           close-map t x _ _
           (λ w within parts.
-          build (take x t ++ w) parts.0 (front-same t x within w b c (omega (arith, ends.0)) here) parts.1)
+          build (take x t ++ w) parts.0 (front-kept t x within w b c (omega (arith, ends.0)) here) parts.1)
           ends.1,
         ))
         y h
