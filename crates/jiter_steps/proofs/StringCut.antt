@@ -16,7 +16,6 @@ use Rattle.jiter_scan.proofs.Choices.{if-true, if-false}
 use Rattle.jiter_scan.proofs.Standing.{stands-split}
 use Rattle.jiter_steps.proofs.Front.{front-length, front-get, front-stands}
 use Rattle.jiter_steps.proofs.SameFront.{string-too}
-use Rattle.jiter_steps.proofs.StringStand.{pieces-ahead}
 use Rattle.jiter_steps.proofs.Bodies.{body_at-place_by, place_by-end}
 use Rattle.jiter_steps.proofs.StringComplete.{ArePrinted, plain-printed, bytes-read, char-read, place_by-backslash, place_by-number, UnitAt, unit-at}
 use Rattle.jiter_scan.specs.Kind.{eof_string}
