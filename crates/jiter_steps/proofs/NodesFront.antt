@@ -10,7 +10,6 @@ use Rattle.jiter_scan.specs.NumberReading.{number_at}
 use Rattle.jiter_scan.specs.Scanned.{Scanned, taken, failed}
 use Rattle.jiter_scan.specs.Stands.{Stands}
 use Rattle.jiter_scan.specs.Word.{Extent}
-use Rattle.jiter_scan.proofs.NumberLaws.{continues_number}
 use Rattle.jiter_steps.specs.Answer.{seen_as}
 use Rattle.jiter_steps.specs.Literal.{word_of, literal_at}
 use Rattle.jiter_steps.specs.Node as grammar
@@ -23,10 +22,11 @@ use Rattle.jiter_steps.specs.Tree.{Text}
 use Rattle.jiter_steps.specs.declared.parse.Literal.{Literal}
 use Rattle.jiter_steps.proofs.SpelledParts.{nodes_list, members_list, nodes-listed, members-listed, key-taken}
 use Rattle.jiter_steps.proofs.CutParts.{EndsInput, Cuts, array-cuts, object-cuts, CutParts}
-use Rattle.jiter_steps.proofs.Front.{front-length, front-if, number-front, front-stands, front-word}
+use Rattle.jiter_steps.proofs.Front.{front-length, front-stands, front-word}
 use Rattle.jiter_steps.proofs.Instances.{nodes-advances}
 use Rattle.jiter_steps.proofs.NodeRules.{nodes, nodes_of, node_members_of, key_of}
 use Rattle.jiter_steps.proofs.NumberCut.{CutAt, number_at-cut}
+use Rattle.jiter_steps.proofs.NumberCutLaws.{number_at-before}
 use Rattle.jiter_steps.proofs.Pieces.{pieces_from}
 use Rattle.jiter_steps.proofs.ReadFront.{see_member, IsCutMember, CutRules, value_at-front}
 use Rattle.jiter_steps.proofs.ScalarLaws.{ScalarLaws, scalar-laws, EndsNumber}
@@ -138,9 +138,6 @@ module _ (names : Bool) (t : List ℕ) (k : ℕ) (within : k ≤ length t) where
   member-short m x (inr h) = subst (CutShort k) (sym h.1) (with_key-short m.0 h.0 (cut-short m.1 h.0 h.2))
 
   -- scalars
-  quiet-front : (i : ℕ) → EndsNumber t i → EndsNumber front i
-  quiet-front i q = front-if t k within (λ c. continues_number c ≡ false) i q
-
   abbrev LiteralOf : Literal → ℕ → Extent → Reading Node
   LiteralOf l b x = scalar_at b (seen_as (λ v e. grammar.literal l b e) x)
 
@@ -165,8 +162,7 @@ module _ (names : Bool) (t : List ℕ) (k : ℕ) (within : k ≤ length t) where
   number-reads : (b e : ℕ) → SpellsNumber names t b e → EndsNumber t e → b < k
       → Reads (grammar.number b e) (NumberOf b (number_at names front b))
   number-reads b e h q lt = (
-    λ le. let g = number-front t k within names b e h le in
-        ap (NumberOf b) (laws.number-complete b e g.ordered g.within g.text (quiet-front e q)),
+    λ le. ap (NumberOf b) (number_at-before names t k within b e h q le),
     λ gt. number-short b (number_at names front b)
         (number_at-cut t k within names b e (number_value (slice_range t b e)) (omega arith) gt
         ((scalar-laws names t).number-complete b e h.ordered h.within h.text q)),

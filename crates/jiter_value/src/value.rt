@@ -23,7 +23,7 @@ pub type JsonArray<'s> = Vec<JsonValue<'s>>;
 pub type JsonObject<'s> = Vec<(CowStr<'s>, JsonValue<'s>)>;
 
 /// A JSON value (RFC 8259, 3). A text is borrowed from the input where its source has no backslash.
-#[derive(Debug)]
+#[derive(Debug, Drop)]
 pub enum JsonValue<'s> {
     /// `null`
     Null,
@@ -41,49 +41,6 @@ pub enum JsonValue<'s> {
     Array(JsonArray<'s>),
     /// An object.
     Object(JsonObject<'s>),
-}
-
-// By hand, so that what owns no memory is let go of in place.
-impl<'s> Drop for JsonValue<'s> {
-    #[cycle(drop)]
-    #[inline(always)]
-    fn drop(self) {
-        match self {
-            JsonValue::Null => {}
-            JsonValue::Bool(_) => {}
-            JsonValue::Int(_) => {}
-            JsonValue::BigInt(text) => drop_text(text),
-            JsonValue::Float(text) => drop_text(text),
-            JsonValue::Str(text) => drop_text(text),
-            JsonValue::Array(items) => drop_items(items),
-            JsonValue::Object(members) => drop_members(members),
-        }
-    }
-}
-
-#[inline(always)]
-fn drop_text<'s>(text: CowStr<'s>) {
-    match text {
-        CowStr::Borrowed(_) => {}
-        CowStr::Owned(own) => drop_own(own),
-    }
-}
-
-#[inline(never)]
-fn drop_own(own: String) {
-    drop(own);
-}
-
-#[cycle(drop)]
-#[inline(never)]
-fn drop_items<'s>(items: Vec<JsonValue<'s>>) {
-    drop(items);
-}
-
-#[cycle(drop)]
-#[inline(never)]
-fn drop_members<'s>(members: Vec<(CowStr<'s>, JsonValue<'s>)>) {
-    drop(members);
 }
 
 impl<'j> JsonValue<'j> {
