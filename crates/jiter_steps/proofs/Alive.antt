@@ -9,7 +9,7 @@ use Rattle.jiter_steps.specs.FirstFault.{can_go_on, CanBeCompleted}
 use Rattle.jiter_steps.specs.Node.{Node, end, nesting_limit, value_of, IsDocument}
 use Rattle.jiter_steps.specs.Read.{Reading, done, fault, value_at, if_last, to_end, if_begun, front_answer}
 use Rattle.jiter_steps.specs.Read.{whole_answer}
-use Rattle.jiter_steps.proofs.Completions.{CanClose, OpenTo, close-map, no-blanks, taken-length, front-same}
+use Rattle.jiter_steps.proofs.Completions.{CanClose, OpenTo, close-map, no-blanks, taken-length, front-kept}
 use Rattle.jiter_steps.proofs.Documents.{answer-value}
 use Rattle.jiter_steps.proofs.Fused.{mapped}
 use Rattle.jiter_steps.proofs.NodeRules.{nodes}
@@ -32,7 +32,7 @@ module _ (names : Bool) (t : List ℕ) where
       close-map t x _ _
       (λ w within here.
       let u = take x t ++ w in
-      let blanks = blanks-too t u x (front-same t x within w) 0 i le before in (
+      let blanks = blanks-too t u x (front-kept t x within w) 0 i le before in (
         here.0,
         record {
           before = subst (IsBlank u 0) (sym here.1.0.begins) blanks;
@@ -55,7 +55,7 @@ module _ (names : Bool) (t : List ℕ) where
       let begins = is.0.begins in
       let ahead = node-ahead names t n is.0.spelled in
       let u = take x t ++ [] in
-      let same = front-same t x within [] in
+      let same = front-kept t x within [] in
       let long = taken-length t x within [] in
       let behind : IsBlank u e (length u) =
       subst (IsBlank u e) (omega arith) (blanks-too t u x same e x (omega arith) blanks) in

@@ -2,12 +2,13 @@
 use Rattle.std.proofs.Common.{◌≡◌, ℕ, ◌+◌, ◌≤◌, true, List, [], ◌∷◌, ◌++◌, length, take, refl, sym, ap, ◌∙◌, arith}
 use Rattle.std.proofs.Common.{length-append}
 use Rattle.std.specs.Prelude.{slice_get, Some}
-use Rattle.std.proofs.lemmas.List.{get_or-take, get_or_append_left, get_or-append-add, length-take-le}
+use Rattle.std.proofs.lemmas.List.{get_or_append_left, get_or-append-add}
 use Rattle.std.proofs.lemmas.Option.{slice_get_within, slice_get-get_or, get_or_from_slice_get}
 use Rattle.jiter_steps.specs.Blank.{IsBlank}
 use Rattle.jiter_steps.specs.FirstFault.{IsFiller, AreClosers, can_go_on}
 use Rattle.jiter_steps.specs.Node.{StandsBehind}
 use Rattle.jiter_steps.specs.Read.{Reading, done, fault}
+use Rattle.jiter_steps.proofs.Front.{front-length, front-get}
 use Rattle.jiter_steps.proofs.SameFront.{SameBefore, blanks-too}
 
 -- with some filler and closers behind the bytes before x the text is so
@@ -69,21 +70,15 @@ ends-behind u i c b = record {
 
 module _ (t : List ℕ) (x : ℕ) (within : x ≤ length t) where
   pub taken-length : (w : List ℕ) → length (take x t ++ w) ≡ x + length w
-  taken-length w = omega (arith, length-append (take x t) w, length-take-le x t within)
+  taken-length w = omega (arith, length-append (take x t) w, front-length t x within)
 
-  pub taken-same : SameBefore t (take x t) x
-  taken-same j c lt e =
-      let inside = slice_get_within t j c e in
-      let long = length-take-le x t within in
-      slice_get-get_or (take x t) j 0 (omega arith) ∙ ap Some (get_or-take x t j 0 lt ∙ get_or_from_slice_get t j c 0 e)
-
-  pub front-same : (w : List ℕ) → SameBefore t (take x t ++ w) x
-  front-same w j c lt e = longer-same (take x t) w x j c lt (taken-same j c lt e)
+  pub front-kept : (w : List ℕ) → SameBefore t (take x t ++ w) x
+  front-kept w j c lt e = longer-same (take x t) w x j c lt (front-get t x within j c lt e)
 
   -- a byte of what is put behind the front
   pub taken-behind : (w : List ℕ) (n c : ℕ) → slice_get w n ≡ Some c → slice_get (take x t ++ w) (x + n) ≡ Some c
   taken-behind w n c e =
-      let long = length-take-le x t within in
+      let long = front-length t x within in
       ap (λ m. slice_get (take x t ++ w) (m + n)) (sym long) ∙ behind-front (take x t) w n c e
 
   pub taken-first : (w : List ℕ) (c : ℕ) → slice_get w 0 ≡ Some c → slice_get (take x t ++ w) x ≡ Some c

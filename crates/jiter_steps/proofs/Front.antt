@@ -1,20 +1,19 @@
 -- The front of a text: its bytes, blanks and steps before the place k.
-use Rattle.std.proofs.Common.{◌≡◌, ◌⊎◌, inl, inr, ℕ, zero, suc, ◌+◌, ◌-◌, ◌<◌, ◌≤◌, Bool, cond, List, [], ◌∷◌, length, take, drop, refl, sym, ap, ◌∙◌, subst, arith}
+use Rattle.std.proofs.Common.{◌≡◌, ◌⊎◌, inl, inr, ℕ, ◌+◌, ◌<◌, ◌≤◌, Bool, cond, List, [], ◌∷◌, length, take, refl, sym, ap, ◌∙◌, subst, arith}
 use Rattle.std.specs.Prelude.{slice_get, slice_index, slice_range, Option, Some, None, IfSome}
 use Rattle.std.proofs.lemmas.Bool.{cases_lt, eq-eqb}
-use Rattle.std.proofs.lemmas.List.{get_or-take, length-take-le, drop-take}
+use Rattle.std.proofs.lemmas.List.{get_or-take, length-take-le}
 use Rattle.std.proofs.lemmas.Option.{slice_get-get_or, slice_get_past}
 use Rattle.jiter_scan.specs.Kind.{eof_value, expected_ident}
-use Rattle.jiter_scan.specs.Number.{IsNumberText}
 use Rattle.jiter_scan.specs.Scanned.{failed}
 use Rattle.jiter_scan.specs.Stands.{Stands}
 use Rattle.jiter_scan.specs.Word.{byte_then, word_at}
-use Rattle.jiter_scan.proofs.Standing.{stands-length}
 use Rattle.jiter_steps.specs.Blank.{past_blanks, IsBlankByte, IsBlank}
 use Rattle.jiter_steps.specs.Node.{StandsBehind, SpellsNumber}
 use Rattle.jiter_steps.specs.Step.{step}
 use Rattle.jiter_steps.proofs.Blanks.{past_blanks-end}
 use Rattle.jiter_steps.proofs.Blanks.{blank-to_end}
+use Rattle.jiter_steps.proofs.SameFront.{stands-too, range-same, number-too, blanks-too, behind-too}
 
 module _ (t : List ℕ) (k : ℕ) (within : k ≤ length t) where
   abbrev u : List ℕ
@@ -42,30 +41,20 @@ module _ (t : List ℕ) (k : ℕ) (within : k ≤ length t) where
     by (inr ge) = subst (λ o. IfSome o P) (sym (front-past i ge)) tt
 
   pub front-range : (i j : ℕ) → i ≤ j → j ≤ k → slice_range u i j ≡ slice_range t i j
-  front-range i j le h =
-      let whole : i + (k - i) ≡ k = omega arith in
-      let part : (j - i) + (k - j) ≡ k - i = omega arith in
-      ap (λ n. take (j - i) (drop i (take n t))) (sym whole) ∙ ap (take (j - i)) (drop-take i (k - i) t)
-      ∙ taken-twice (j - i) (k - i) (drop i t) (omega arith) where
-        taken-twice : (n m : ℕ) (l : List ℕ) → n ≤ m → take n (take m l) ≡ take n l
-        taken-twice zero m l h = refl
-        taken-twice (suc n) zero l h = absurd (omega arith)
-        taken-twice (suc n) (suc m) [] h = refl
-        taken-twice (suc n) (suc m) (c ∷ l) h = ap (λ x. c ∷ x) (taken-twice n m l (omega arith))
+  front-range i j le h = range-same t u k front-get i j le h (omega arith)
 
-  -- bytes that stand before k
+  -- what the grammar spells before k
   pub front-stands : (i j : ℕ) (w : List ℕ) → Stands t i j w → j ≤ k → Stands u i j w
-  front-stands i j [] h le = h
-  front-stands i j (c ∷ w) h le =
-      let after = stands-length t (i + 1) j w h.1 in
-      (front-get i c (omega arith) h.0, front-stands (i + 1) j w h.1 le)
+  front-stands i j w h le = stands-too t u k front-get i j w le h
 
   pub number-front : (names : Bool) (b e : ℕ) → SpellsNumber names t b e → e ≤ k → SpellsNumber names u b e
-  number-front names b e h le = record {
-    ordered = h.ordered;
-    within = omega (arith, front-length);
-    text = subst (IsNumberText names) (sym (front-range b e h.ordered le)) h.text;
-  }
+  number-front names b e h le = number-too t u k front-get names b e le h
+
+  pub front-blank : (i j : ℕ) → IsBlank t i j → j ≤ k → IsBlank u i j
+  front-blank i j b le = blanks-too t u k front-get i j le b
+
+  pub front-behind : (i c e : ℕ) → StandsBehind t i c e → e ≤ k → StandsBehind u i c e
+  front-behind i c e h le = behind-too t u k front-get i c e le h
 
   -- a word that is cut ends too early
   pub front-word : (w : List ℕ) (i j : ℕ) → Stands t i j w → i ≤ k → k < j → word_at u w i ≡ failed eof_value k
@@ -84,15 +73,7 @@ module _ (t : List ℕ) (k : ℕ) (within : k ≤ length t) where
   pub front-index : (i : ℕ) → i < k → slice_index u i ≡ slice_index t i
   front-index i h = get_or-take k t i 0 h
 
-  -- blanks before k
-  pub front-blank : (i j : ℕ) → IsBlank t i j → j ≤ k → IsBlank u i j
-  front-blank i j b le = record {
-    ordered = b.ordered;
-    within = omega (arith, front-length);
-    each = λ m l h. subst IsBlankByte (sym (front-index m (omega arith))) (b.each m l h);
-  }
-
-  -- and blanks that are cut
+  -- blanks that are cut
   pub cut-blank : (i j : ℕ) → IsBlank t i j → i ≤ k → k ≤ j → IsBlank u i (length u)
   cut-blank i j b le ge = record {
     ordered = omega (arith, front-length);
@@ -101,12 +82,6 @@ module _ (t : List ℕ) (k : ℕ) (within : k ≤ length t) where
         let lt : m < k = omega (arith, front-length) in
         subst IsBlankByte (sym (front-index m lt)) (b.each m l (omega arith));
   }
-
-  pub front-behind : (i c e : ℕ) → StandsBehind t i c e → e ≤ k → StandsBehind u i c e
-  front-behind i c e h le =
-      let at : h.at < k = omega (arith, h.ends) in
-      let blanks = front-blank i h.at h.blanks (omega arith) in
-      record { at = h.at; blanks = blanks; here = front-get h.at c at h.here; ends = h.ends }
 
   -- Steps: where the text ends in the blanks, the row is at the end of input.
   pub row-cut : {A : Type 0} (row : ℕ → Option ℕ → A) (i j : ℕ) → IsBlank t i j → i ≤ k → k ≤ j

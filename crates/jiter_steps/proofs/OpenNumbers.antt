@@ -21,7 +21,7 @@ use Rattle.jiter_scan.proofs.Standing.{stands-length, stands-append, slice-stand
 use Rattle.jiter_steps.specs.FirstFault.{IsFiller, can_go_on}
 use Rattle.jiter_steps.specs.Node.{SpellsNumber}
 use Rattle.jiter_steps.proofs.Bounds.{either}
-use Rattle.jiter_steps.proofs.Completions.{CanClose, taken-length, taken-first, front-same}
+use Rattle.jiter_steps.proofs.Completions.{CanClose, taken-length, taken-first, front-kept}
 use Rattle.jiter_steps.proofs.RowSteps.{tested}
 use Rattle.jiter_steps.proofs.SameFront.{stands-too}
 
@@ -296,7 +296,7 @@ module _ (t : List ℕ) where
       let long = taken-length t x within (f ++ []) in
       let order = stands-length t i x h.front h.stands in
       let at_end : x + length f ≡ length u = omega arith in
-      let front = stands-too t u x (front-same t x within (f ++ [])) i x h.front (omega arith) h.stands in
+      let front = stands-too t u x (front-kept t x within (f ++ [])) i x h.front (omega arith) h.stands in
       let all = stands-append u i x (x + length f) h.front f front (zero-stands x within f h.zero) in
       let decimal = subst IsDecimal (slice-stands u i (x + length f) (h.front ++ f) all) h.is in
       let spelled : SpellsNumber names u i (x + length f) =

@@ -1,7 +1,6 @@
 -- A container that is not read to its end can be closed behind the parts before the fault.
 use Rattle.std.proofs.Common.{◌≡◌, inl, inr, ℕ, zero, suc, ◌+◌, ◌<◌, ◌≤◌, true, false, cond, List, [], ◌∷◌, ◌++◌}
 use Rattle.std.proofs.Common.{length, take, refl, sym, ap, ◌∙◌, subst, arith, append-nil, append_assoc}
-use Rattle.std.proofs.lemmas.List.{length-take-le}
 use Rattle.jiter_scan.specs.Kind.{Kind}
 use Rattle.jiter_steps.specs.Blank.{IsBlank}
 use Rattle.jiter_steps.specs.FirstFault.{IsFiller, AreClosers, can_go_on}
@@ -10,7 +9,8 @@ use Rattle.jiter_steps.specs.Read.{container_at}
 use Rattle.jiter_steps.specs.Step.{Step, more, closed, stuck, step}
 use Rattle.jiter_steps.proofs.Bounds.{Within}
 use Rattle.jiter_steps.proofs.Completions.{CanClose, OpenTo, longer-same, no-blanks, ends-behind, taken-length}
-use Rattle.jiter_steps.proofs.Completions.{taken-same, front-same}
+use Rattle.jiter_steps.proofs.Completions.{front-kept}
+use Rattle.jiter_steps.proofs.Front.{front-length, front-get}
 use Rattle.jiter_steps.proofs.Parts.{MoreParts, Parts}
 use Rattle.jiter_steps.proofs.RowSteps.{PartBehind, Behind, StepIs, Delimits}
 use Rattle.jiter_steps.proofs.SameFront.{SameBefore, same-sooner, blanks-too, behind-too}
@@ -96,7 +96,7 @@ module _ {K P A : Type 0} (r : Rules K A) (strict : (k : Kind) → r.forgives k 
       let u = take x t ++ (filler ++ closers) in
       let v = u ++ closer ∷ [] in
       let here = grows.too u v i m p (longer-same u (closer ∷ []) m) is in
-      let front = front-same t x within (filler ++ closers) in
+      let front = front-kept t x within (filler ++ closers) in
       let same : SameBefore t v i =
       λ j c lt e. longer-same u (closer ∷ []) x j c (omega arith) (front j c (omega arith) e) in
       let all = so.parts v p [] m (length v) same here (ends-behind u m closer blanks) in
@@ -117,8 +117,8 @@ module _ {K P A : Type 0} (r : Rules K A) (strict : (k : Kind) → r.forgives k 
   -- the closer behind the bracket
   close-bracket : (b x : ℕ) → IsBlank t b x → CanEnd closer IsPart t b x
   close-bracket b x h =
-      let long : length (take x t) ≡ x = length-take-le x t h.within in
-      let blanks = blanks-too t (take x t) x (taken-same t x h.within) b x (omega arith) h in
+      let long : length (take x t) ≡ x = front-length t x h.within in
+      let blanks = blanks-too t (take x t) x (front-get t x h.within) b x (omega arith) h in
       let ends = ends-behind (take x t) b closer (subst (IsBlank (take x t) b) (sym long) blanks) in
       (
         h.ordered,
@@ -149,7 +149,7 @@ module _ {K P A : Type 0} (r : Rules K A) (strict : (k : Kind) → r.forgives k 
       → CanEnd closer IsPart t b x
   stuck-behind b i m x ps p so le is (inl h) =
       let u = take x t ++ ([] ++ []) in
-      let same = front-same t x h.within ([] ++ []) in
+      let same = front-kept t x h.within ([] ++ []) in
       let long = taken-length t x h.within ([] ++ []) in
       let here = grows.too t u i m p (same-sooner t u m x h.ordered same) is in
       let at_end : x ≡ length u = omega arith in

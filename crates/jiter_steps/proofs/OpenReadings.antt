@@ -20,9 +20,10 @@ use Rattle.jiter_steps.specs.Node as grammar
 use Rattle.jiter_steps.specs.Node.{Key, Node, begin, end, StandsBehind, SpellsNumber, SpellsKey, Spells, nesting}
 use Rattle.jiter_steps.specs.Piece.{SpellsString}
 use Rattle.jiter_steps.specs.Read.{Reading, done, fault, scalar_at, with_key, behind_colon, behind_key, value_with}
-use Rattle.jiter_steps.specs.Read.{inside_at, value_at}
+use Rattle.jiter_steps.specs.Read.{Container, container_at, inside_at, value_at}
 use Rattle.jiter_steps.specs.Step.{step, colon, value_first, object_colon}
-use Rattle.jiter_steps.specs.StringReading.{Stop, closed, unclosed, cut, wrong, whole, body_at, text_in_form, content_at}
+use Rattle.jiter_steps.specs.StringReading.{Stop, closed, unclosed, cut, wrong, whole, body_at, text_in_form}
+use Rattle.jiter_steps.specs.StringReading.{content_at}
 use Rattle.jiter_steps.specs.StringReading.{string_at}
 use Rattle.jiter_steps.specs.Tree.{Text}
 use Rattle.jiter_steps.specs.declared.parse.Start.{Start}
@@ -30,15 +31,16 @@ use Rattle.jiter_steps.specs.declared.parse.Start.TheVariants as start
 use Rattle.jiter_steps.proofs.Bodies.{StopWithin, body_at-within}
 use Rattle.jiter_steps.proofs.Bounds.{either}
 use Rattle.jiter_steps.proofs.Completions.{close-map, OpenTo, open-map, no-blanks, taken-length, taken-behind}
-use Rattle.jiter_steps.proofs.Completions.{taken-first, front-same}
+use Rattle.jiter_steps.proofs.Completions.{taken-first, front-kept}
 use Rattle.jiter_steps.proofs.NodeRules.{nodes, nodes_of, node_members_of, key_of}
 use Rattle.jiter_steps.proofs.OpenNumbers.{LiveIs, then-live, word-live, no_live, zero-number, CanEndNumber}
 use Rattle.jiter_steps.proofs.OpenNumbers.{number-open}
-use Rattle.jiter_steps.proofs.OpenParts.{Anywhere, CanEndHere, PartsOf, CanEnd, Grows, container_at-open}
-use Rattle.jiter_steps.proofs.Parts.{parts-are}
+use Rattle.jiter_steps.proofs.OpenParts.{Anywhere, CanEndHere, CanEnd, Grows, container_at-open}
+use Rattle.jiter_steps.proofs.Parts.{Grammar, parts-are}
 use Rattle.jiter_steps.proofs.Pieces.{pieces_from}
 use Rattle.jiter_steps.proofs.Places.{IsPlaceKind}
-use Rattle.jiter_steps.proofs.RowSteps.{ByteAt, ItemAt, KeyBegins, PartBehind, Behind, ExtentIs, array-delimits}
+use Rattle.jiter_steps.proofs.RowSteps.{Delimits, ByteAt, ItemAt, KeyBegins, PartBehind, Behind, ExtentIs}
+use Rattle.jiter_steps.proofs.RowSteps.{array-delimits}
 use Rattle.jiter_steps.proofs.RowSteps.{object-delimits, object_colon-is}
 use Rattle.jiter_steps.proofs.SameFront.{SameBefore, place-too, key-too, spells-too}
 use Rattle.jiter_steps.proofs.Sound.{array-byte, object-byte, byte-here, IsNodeAt, IsItemAt, IsMemberAt, array, object}
@@ -46,7 +48,8 @@ use Rattle.jiter_steps.proofs.Sound.{array-goes, object-goes, ItemsAre, MoreItem
 use Rattle.jiter_steps.proofs.Sound.{items-grammar, members-grammar, item-read, member-read, inside_at-sound}
 use Rattle.jiter_steps.proofs.ScalarLaws.{scalar-laws}
 use Rattle.jiter_steps.proofs.SpelledParts.{key-ahead, node-ahead}
-use Rattle.jiter_steps.proofs.StuckSteps.{array-sticks, object-sticks}
+use Rattle.jiter_steps.proofs.StuckSteps.{Sticks, array-sticks, object-sticks}
+use Rattle.jiter_steps.proofs.Values.{Goes}
 
 -- at a fault that can go on, something like this can be ended
 abbrev pub OpenAs : {P A : Type 0} → (List ℕ → ℕ → P → ℕ → Type 0) → List ℕ → ℕ → Reading A → Type 0
@@ -60,7 +63,8 @@ place-dead k (inr (inr (inl e))) = ap can_go_on e
 place-dead k (inr (inr (inr e))) = ap can_go_on e
 
 module _ (t : List ℕ) (At : ℕ → Type 0) where
-  text_in_form-live : (i : ℕ) (bs : List ℕ) (o : Bool) (s : Stop) → StopWithin t i s → LiveIs At (text_in_form whole t i bs o s)
+  text_in_form-live : (i : ℕ) (bs : List ℕ) (o : Bool) (s : Stop) → StopWithin t i s
+      → LiveIs At (text_in_form whole t i bs o s)
   text_in_form-live i bs o (wrong k j) w = λ live. absurd (false≢true (sym (place-dead k w.2) ∙ live))
   text_in_form-live i bs o (closed e) w =
       either (LiveIs At) (utf8_valid_len bs == length bs) (taken (record { owned = o; bytes = bs }) e)
@@ -185,7 +189,7 @@ module _ (names : Bool) where
             close-map t x _ _
             (λ w within here.
             let u = take x t ++ w in
-            let same = front-same t x within w in
+            let same = front-kept t x within w in
             let at = sym here.1.0.begins in
             let value = subst (λ b. IsNodeAt names u b here.0 (length u)) at here.1.0 in
             let too = subst (SpellsKey u key) at (key-too t u x same key j le spelled) in
@@ -226,21 +230,29 @@ module _ (names : Bool) where
       fills = λ i e q is x within. zero-member room t x within (omega (arith, is.limit));
     }
 
-    -- a container from its bracket on
-    container-open : {P : Type 0} (closer : ℕ) (IsPart : List ℕ → ℕ → P → ℕ → Type 0) (b c : ℕ) → slice_get t b ≡ Some c
-        → ((u : List ℕ) (ps : List P) → slice_get u b ≡ Some c → PartsOf closer IsPart u ps (b + 1) (length u)
-        → (n : Node) × IsValue room u b n (length u))
-        → (y : Reading Node) → OpenTo (CanEnd closer IsPart t (b + 1)) y → OpenAs (IsValue room) t b y
-    container-open closer IsPart b c here build y h =
-        open-map (CanEnd closer IsPart t (b + 1)) (CanEndHere (IsValue room) t b)
+    -- A container whose grammar is so, from its bracket on: the parts and the closer make a value.
+    container-open : {P : Type 0} (closer : ℕ) (Begins : ℕ → Type 0) (IsPart : List ℕ → ℕ → P → ℕ → Type 0)
+        (Are MoreAre : List ℕ → List P → ℕ → ℕ → Type 0) (c : Container P Node)
+        → Delimits t c.first c.next closer Begins → Sticks t c.first c.next → Goes c t → Grows closer IsPart t c Begins
+        → ((u : List ℕ) → Grammar u closer Anywhere (IsPart u) (Are u) (MoreAre u))
+        → (i b : ℕ) → slice_get t i ≡ Some b
+        → ((u : List ℕ) (ps : List P) → slice_get u i ≡ Some b → Are u ps (i + 1) (length u)
+        → (n : Node) × IsValue room u i n (length u))
+        → OpenAs (IsValue room) t i (container_at (nodes names) c t i)
+    container-open closer Begins IsPart Are MoreAre c delimits sticks goes grows are i b here build =
+        open-map (CanEnd closer IsPart t (i + 1)) (CanEndHere (IsValue room) t i)
         (λ x ends. (
           omega (arith, ends.0),
           close-map t x _ _
           (λ w within parts.
-          build (take x t ++ w) parts.0 (front-same t x within w b c (omega (arith, ends.0)) here) parts.1)
+          let u = take x t ++ w in
+          build u parts.0 (front-kept t x within w i b (omega (arith, ends.0)) here)
+          (parts-are u closer Anywhere (IsPart u) (Are u) (MoreAre u) (are u) parts.0 (i + 1) (length u) parts.1))
           ends.1,
         ))
-        y h
+        (container_at (nodes names) c t i)
+        (container_at-open (nodes names) (λ k. refl) t c closer Begins IsPart delimits sticks goes grows i
+        (slice_get_within t i b here))
 
     -- scalars
     scalar-open : {X : Type 0} (i : ℕ) (seen : X → ℕ → Node) (x : Scanned X) → LiveIs (CanEndHere (IsValue room) t i) x
@@ -290,25 +302,18 @@ module _ (names : Bool) where
     value_with-open : (i : ℕ) → i < length t → (s : Start) → start_of (slice_index t i) ≡ s
         → OpenAs (IsValue room) t i (value_with (nodes names) inner t i s)
     value_with-open i h start.Array e =
-        let here = byte-here names t room i 91 h (array-byte _ e) in
-        container-open 93 (IsItem room) i 91 here
-        (λ u ps opens parts.
-        let are = parts-are u 93 Anywhere (IsItem room u) (ItemsAre names u room) (MoreItemsAre names u room)
-        (items-grammar names u room Anywhere (IsItem room u) (λ j n m at is. is)) ps (i + 1) (length u) parts in
-        value-here u (grammar.array i (length u) (nodes_of ps)) (opens, are.0) refl are.1)
-        _
-        (container_at-open (nodes names) (λ k. refl) t (array names t room i) 93 (ItemAt t) (IsItem room)
-        (array-delimits t) (array-sticks t) (array-goes names t room i) (items-grow i) i h)
+        container-open 93 (ItemAt t) (IsItem room) (λ u. ItemsAre names u room) (λ u. MoreItemsAre names u room)
+        (array names t room i) (array-delimits t) (array-sticks t) (array-goes names t room i) (items-grow i)
+        (λ u. items-grammar names u room Anywhere (IsItem room u) (λ j n m at is. is))
+        i 91 (byte-here names t room i 91 h (array-byte _ e))
+        (λ u ps opens are. value-here u (grammar.array i (length u) (nodes_of ps)) (opens, are.0) refl are.1)
     value_with-open i h start.Object e =
-        let here = byte-here names t room i 123 h (object-byte _ e) in
-        container-open 125 (IsMember room) i 123 here
-        (λ u ps opens parts.
-        let are = parts-are u 125 Anywhere (IsMember room u) (MembersAre names u room) (MoreMembersAre names u room)
-        (members-grammar names u room Anywhere (IsMember room u) (λ j m e at is. is)) ps (i + 1) (length u) parts in
-        value-here u (grammar.object i (length u) (node_members_of ps)) (opens, are.0) refl are.1)
-        _
-        (container_at-open (nodes names) (λ k. refl) t (object names t room i) 125 (KeyBegins t) (IsMember room)
-        (object-delimits t) (object-sticks t) (object-goes names t room i) (members-grow i) i h)
+        container-open 125 (KeyBegins t) (IsMember room) (λ u. MembersAre names u room)
+        (λ u. MoreMembersAre names u room) (object names t room i) (object-delimits t) (object-sticks t)
+        (object-goes names t room i) (members-grow i)
+        (λ u. members-grammar names u room Anywhere (IsMember room u) (λ j m e at is. is))
+        i 123 (byte-here names t room i 123 h (object-byte _ e))
+        (λ u ps opens are. value-here u (grammar.object i (length u) (node_members_of ps)) (opens, are.0) refl are.1)
     value_with-open i h start.String e =
         scalar-open i (λ x e. grammar.string (pieces_from t (i + 1) (chars x.bytes)) i e) (string_at whole t i)
         (string-live t (CanEndHere (IsValue room) t i) i)

@@ -63,7 +63,7 @@ module _ (t u : List ℕ) (k : ℕ) (same : SameBefore t u k) where
     ends = h.ends;
   }
 
-  number-too : (names : Bool) (b e : ℕ) → e ≤ k → SpellsNumber names t b e → SpellsNumber names u b e
+  pub number-too : (names : Bool) (b e : ℕ) → e ≤ k → SpellsNumber names t b e → SpellsNumber names u b e
   number-too names b e le h = record {
     ordered = h.ordered;
     within = place-too e le h.within;
@@ -78,7 +78,7 @@ module _ (t u : List ℕ) (k : ℕ) (same : SameBefore t u k) where
       let stands = stands-too i p.end h.0.bytes (omega arith) h.0.stands in
       (record { bytes = h.0.bytes; stands = stands; piece = h.0.piece }, pieces-too ps p.end e le h.1)
 
-  string-too : (i e : ℕ) (ps : List Piece) → e ≤ k → SpellsString t i ps e → SpellsString u i ps e
+  pub string-too : (i e : ℕ) (ps : List Piece) → e ≤ k → SpellsString t i ps e → SpellsString u i ps e
   string-too i e ps le h =
       let after = pieces-ahead t ps (i + 1) h.close h.spelled in
       record {

@@ -15,7 +15,7 @@ use Rattle.jiter_steps.proofs.Utf8Shape.{lead}
 use Rattle.jiter_scan.proofs.Choices.{if-true, if-false}
 use Rattle.jiter_scan.proofs.Standing.{stands-split}
 use Rattle.jiter_steps.proofs.Front.{front-length, front-get, front-stands}
-use Rattle.jiter_steps.proofs.StringStand.{pieces-ahead}
+use Rattle.jiter_steps.proofs.SameFront.{string-too}
 use Rattle.jiter_steps.proofs.Bodies.{body_at-place_by, place_by-end}
 use Rattle.jiter_steps.proofs.StringComplete.{ArePrinted, plain-printed, bytes-read, char-read, place_by-backslash, place_by-number, UnitAt, unit-at}
 use Rattle.jiter_scan.specs.Kind.{eof_string}
@@ -234,19 +234,5 @@ module _ (t : List ℕ) (k : ℕ) (within : k ≤ length t) where
       let r = open-whole b.bytes b.owned b.stop c.stop (i + 1) in
       (r.0 ∙ ap (failed eof_string) long, r.1 ∙ ap (failed eof_string) long)
 
-  pieces-kept : (ps : List Piece) (i q : ℕ) → SpellsPieces t i ps q → q ≤ k → SpellsPieces u i ps q
-  pieces-kept [] i q h l = h
-  pieces-kept (p ∷ ps) i q h l =
-      (char-cut i p.end p.character h.0 (omega (arith, pieces-ahead t ps p.end q h.1)), pieces-kept ps p.end q h.1 l)
-
-  -- a string that ends before the cut is spelled as it was
   pub string-still : (i e : ℕ) (ps : List Piece) → SpellsString t i ps e → e ≤ k → SpellsString u i ps e
-  string-still i e ps s l =
-      let ends = s.ends in
-      record {
-        opens = same i 34 (omega (arith, pieces-ahead t ps (i + 1) s.close s.spelled)) s.opens;
-        close = s.close;
-        spelled = pieces-kept ps (i + 1) s.close s.spelled (omega arith);
-        closes = same s.close 34 (omega arith) s.closes;
-        ends = s.ends;
-      }
+  string-still i e ps s l = string-too t u k same i e ps l s

@@ -74,18 +74,18 @@ module _ (t : List ℕ) where
     pub first-stuck : (i j : ℕ) (k : Kind) → i ≤ length t → step t first i ≡ stuck k j → IsBlank t i j
     pub next-stuck : (i j : ℕ) (k : Kind) → i ≤ length t → step t next i ≡ stuck k j → BlanksOrComma t i j
 
-  pub array-sticks : Sticks array_first (array_step t)
-  array-sticks = record {
+  sticks : (first next : ℕ → Option ℕ → Step)
+      → ((i j : ℕ) (o : Option ℕ) → Stops t i j o → StuckIs (IsBlank t i) (first j o))
+      → ((i j : ℕ) (o : Option ℕ) → Stops t i j o → StuckIs (BlanksOrComma t i) (next j o)) → Sticks first next
+  sticks first next at_first at_next = record {
     first-stuck = λ i j k h e.
-        subst (StuckIs (IsBlank t i)) e (row-is t (StuckIs (IsBlank t i)) array_first i (first-item i) h);
+        subst (StuckIs (IsBlank t i)) e (row-is t (StuckIs (IsBlank t i)) first i (at_first i) h);
     next-stuck = λ i j k h e.
-        subst (StuckIs (BlanksOrComma t i)) e (row-is t (StuckIs (BlanksOrComma t i)) (array_step t) i (next-item i) h);
+        subst (StuckIs (BlanksOrComma t i)) e (row-is t (StuckIs (BlanksOrComma t i)) next i (at_next i) h);
   }
 
+  pub array-sticks : Sticks array_first (array_step t)
+  array-sticks = sticks array_first (array_step t) first-item next-item
+
   pub object-sticks : Sticks object_first (object_step t)
-  object-sticks = record {
-    first-stuck = λ i j k h e.
-        subst (StuckIs (IsBlank t i)) e (row-is t (StuckIs (IsBlank t i)) object_first i (first-key i) h);
-    next-stuck = λ i j k h e.
-        subst (StuckIs (BlanksOrComma t i)) e (row-is t (StuckIs (BlanksOrComma t i)) (object_step t) i (next-key i) h);
-  }
+  object-sticks = sticks object_first (object_step t) first-key next-key

@@ -211,8 +211,10 @@ open_string-reads : (w : List ℕ) → ArePrinted w
 unfolding content_at
 open_string-reads w printed =
     let t = 34 ∷ w in
-    let range : slice_range t 1 (1 + length w) ≡ w = ap (λ n. take n w) (omega arith) ∙ take_all (length w) w (omega arith) in
-    let stands = subst (Stands t 1 (1 + length w)) range (stands-slice t 1 (1 + length w) (omega arith) (omega arith)) in
+    let range : slice_range t 1 (1 + length w) ≡ w =
+    ap (λ n. take n w) (omega arith) ∙ take_all (length w) w (omega arith) in
+    let slice = stands-slice t 1 (1 + length w) (omega arith) (omega arith) in
+    let stands = subst (Stands t 1 (1 + length w)) range slice in
     let last = body_at-place_by t (1 + length w) (over unclosed) (place_by-end t (1 + length w) (omega arith)) in
     let body = bytes-read t 1 (1 + length w) w printed stands ∙ ap (before w false) last in
     ap (λ (b : Body). text_in_form whole t 1 b.bytes b.owned b.stop) body
