@@ -3,7 +3,8 @@ use Rattle.std.proofs.lemmas.Option.{slice_get-get_or}
 use Rattle.jiter_scan.specs.Digits.{decimal_of}
 use Rattle.jiter_scan.proofs.Magnitudes.{decimal_of-few, magnitude_of-short}
 use Rattle.jiter_scan.proofs.NumberValues.{number_value-tail}
-use Rattle.jiter_scan.proofs.ShortNumbers.{digits-counted, digits-of_chunk, whole_at-counted, decimal_at-whole, decimal_at-tail}
+use Rattle.jiter_scan.proofs.ShortNumbers.{digits-counted, digits-of_chunk, whole_at-counted, decimal_at-whole}
+use Rattle.jiter_scan.proofs.ShortNumbers.{decimal_at-tail}
 use Rattle.jiter_scan.proofs.short_number.short_at.Goals as goal
 
 pub returns-then-not-is_float_sign : goal.returns-then-not-is_float_sign
