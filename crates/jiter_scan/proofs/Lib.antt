@@ -1,23 +1,22 @@
 pub mod Choices
-pub mod NumberBounds
-pub mod NumberComplete
-pub mod NumberSound
-pub mod Runs
-pub mod Scanning
 pub mod Standing
-pub mod WordLaws
+pub mod Runs
 pub mod Digits
-pub mod NumberValues
-pub mod Words
+pub mod Scanning
+pub mod WordLaws
+pub mod NumberBounds
+pub mod NumberSound
+pub mod NumberComplete
 pub mod NumberBytes
-pub mod NumberLaws
-pub mod Computed
-pub mod Pins
-mod Rows
+pub mod NumberValues
 pub mod NumberTests
-pub mod Lanes
+pub mod NumberLaws
 pub mod Chunks
+pub mod Lanes
 pub mod PlainRuns
 pub mod DigitWords
 pub mod Magnitudes
 pub mod ShortNumbers
+pub mod Pins
+pub mod Computed
+mod Rows

@@ -9,8 +9,8 @@ abbrev pub is_newline : ℕ → Bool
 is_newline b = nat_eq b ascii.line_feed
 
 -- the bytes up to and including the one at the index, or all
-abbrev pub front : List ℕ → ℕ → List ℕ
-front t index = take (index + 1) t
+abbrev pub bytes_through : List ℕ → ℕ → List ℕ
+bytes_through t index = take (index + 1) t
 
 -- 1 and the newlines
 abbrev pub line_of : List ℕ → ℕ
@@ -22,7 +22,7 @@ column_of f = length (take_while (λ b. not (is_newline b)) (reverse f))
 
 -- The line and column of an index: of the bytes up to it, itself included.
 abbrev pub position_of : List ℕ → ℕ → LinePosition
-position_of t index = record { line = line_of (front t index); column = column_of (front t index) }
+position_of t index = record { line = line_of (bytes_through t index); column = column_of (bytes_through t index) }
 
 -- `line L column C`
 abbrev pub position_text : LinePosition → List ℕ

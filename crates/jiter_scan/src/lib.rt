@@ -1,5 +1,5 @@
-//! What the readers of JSON stand on: the kinds of fault with their texts and places, numbers, and
-//! whether a cut document is read.
+//! What the readers of JSON stand on: the kinds of fault with their texts and places, the requests for
+//! memory, words and numbers, and whether a cut document is read.
 #![tactic(auto)]
 
 pub mod errors;

@@ -140,7 +140,8 @@ fn is_digit(byte: u8) -> bool
 // One digit or more: the place behind them.
 fn some_digits_end(bytes: &[u8], from: usize) -> Result<usize, Fault>
     requires { from ≤ length bytes.now }
-    ensures value { Scans (taken tt) result (digits_from bytes.now from (slice_get bytes.now from)) }
+    ensures value { Scans (taken tt) result
+        (digits_from bytes.now from (slice_get bytes.now from)) }
     ensures place { IfOk result (λ e. (from ≤ e) × (e ≤ length bytes.now)) }
 {
     match byte_at(bytes, from) {
@@ -158,7 +159,8 @@ fn some_digits_end(bytes: &[u8], from: usize) -> Result<usize, Fault>
 // The zero at `at`, behind which no digit may stand.
 fn read_zero(bytes: &[u8], at: usize) -> Result<(u64, usize), Fault>
     requires { slice_get bytes.now at ≡ Some ascii.digit_zero }
-    ensures value { Scans (with_end (λ _. tt)) result (behind_zero (at + 1) (slice_get bytes.now (at + 1))) }
+    ensures value { Scans (with_end (λ _. tt)) result
+        (behind_zero (at + 1) (slice_get bytes.now (at + 1))) }
     ensures place { IfOk result (λ x. (at < x.1) × (x.1 ≤ length bytes.now)) }
     ensures magnitude { IfOk result
         (λ x. x.0 ≡ magnitude_of (slice_range bytes.now at x.1)) }
@@ -200,7 +202,8 @@ fn read_within_limit(bytes: &[u8], at: usize) -> Result<(u64, usize), Fault>
     requires within { at ≤ length bytes.now }
     requires some { at < digit_run_end bytes.now at }
     requires first { ascii.digit_zero < slice_index bytes.now at }
-    ensures value { Scans (with_end (λ _. tt)) result (within_limit at (digit_run_end bytes.now at)) }
+    ensures value { Scans (with_end (λ _. tt)) result
+        (within_limit at (digit_run_end bytes.now at)) }
     ensures place { IfOk result (λ x. (at < x.1) × (x.1 ≤ length bytes.now)) }
     ensures magnitude { IfOk result
         (λ x. x.0 ≡ magnitude_of (slice_range bytes.now at x.1)) }
@@ -341,7 +344,8 @@ fn integer_of<'j>(
 // Behind a fraction, if one stands at `at`, and an exponent, if one follows.
 pub(crate) fn tail_end(bytes: &[u8], at: usize) -> Result<usize, Fault>
     requires { at ≤ length bytes.now }
-    ensures value { Scans (taken tt) result (extent_then (fraction_at bytes.now at) (exponent_at bytes.now)) }
+    ensures value { Scans (taken tt) result
+        (extent_then (fraction_at bytes.now at) (exponent_at bytes.now)) }
     ensures place { IfOk result (λ e. (at ≤ e) × (e ≤ length bytes.now)) }
 {
     let end = fraction_end(bytes, at)?;
@@ -357,7 +361,8 @@ fn read_long_decimal<'j>(
 ) -> Result<(NumberAny<'j>, usize), Fault>
     requires within { at ≤ length bytes.now }
     requires minus { IsMinusTo bytes.now from at }
-    ensures value { Scans (with_end number_view) result (with_value bytes.now from (decimal_at bytes.now at)) }
+    ensures value { Scans (with_end number_view) result
+        (with_value bytes.now from (decimal_at bytes.now at)) }
     ensures place { IfOk result (λ x. (at < x.1) × (x.1 ≤ length bytes.now)) }
 {
     let (magnitude, whole_end) = read_whole(bytes, at)?;
@@ -502,7 +507,8 @@ pub(crate) fn is_float_sign(byte: u8) -> bool
 fn read_integer<'j>(bytes: &'j [u8], from: usize, at: usize) -> Result<(Integer<'j>, usize), Fault>
     requires within { at ≤ length bytes.now }
     requires minus { IsMinusTo bytes.now from at }
-    ensures value { Scans (with_end integer_view) result (integer_behind bytes.now from (whole_at bytes.now at)) }
+    ensures value { Scans (with_end integer_view) result
+        (integer_behind bytes.now from (whole_at bytes.now at)) }
     ensures place { IfOk result (EndsWithin at (length bytes.now)) }
 {
     let (magnitude, end) = read_whole(bytes, at)?;

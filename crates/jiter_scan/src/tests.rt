@@ -266,6 +266,21 @@ fn a_clone_of_a_kind_prints_the_same(rt: HostRuntime) -> Result<(), Fail> {
 }
 
 #[test]
+fn a_clone_of_an_error_has_its_kind_and_index(rt: HostRuntime) -> Result<(), Fail> {
+    let error = JsonError {
+        error_type: JsonErrorType::InvalidEscape,
+        index: 9,
+    };
+    let copy = error.clone()?;
+    assert_eq!(rt; copy.error_type, JsonErrorType::InvalidEscape);
+    assert_eq!(rt; copy.index, 9);
+    let position = LinePosition::new(3, 4).clone()?;
+    assert_eq!(rt; position.line, 3);
+    assert_eq!(rt; position.column, 4);
+    Ok(())
+}
+
+#[test]
 fn a_width_changes_no_text(rt: HostRuntime) -> Result<(), Fail> {
     let kind = JsonErrorType::TrailingComma;
     assert_eq!(rt;

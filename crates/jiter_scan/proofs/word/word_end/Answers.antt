@@ -1,6 +1,6 @@
 use Rattle.std.proofs.Common.{◌∙◌, sym, arith}
 use Rattle.std.proofs.lemmas.Option.{slice_get_within}
-use Rattle.jiter_scan.proofs.Words.{word_at-cut, word_at-other, word_at-same, word_at-end}
+use Rattle.jiter_scan.proofs.WordLaws.{word_at-cut, word_at-other, word_at-same, word_at-end}
 use Rattle.jiter_scan.proofs.word.word_end.Goals as goal
 
 pub returns-in-None-clause-value : goal.returns-in-None-clause-value
