@@ -1,5 +1,6 @@
 -- The magnitude of a run of digits, by words of sixteen.
-use Rattle.std.proofs.Common.{◌≡◌, ℕ, ◌+◌, ◌-◌, ◌*◌, ◌^◌, ◌<◌, ◌≤◌, length, take, drop, get_or, List, [], ◌∷◌, ◌++◌, sym, ap, ◌∙◌, subst, slice_range, arith, take-add, drop-drop, drop-cons}
+use Rattle.std.proofs.Common.{◌≡◌, ℕ, ◌+◌, ◌-◌, ◌*◌, ◌^◌, ◌<◌, ◌≤◌, length, take, drop, get_or, List, [], ◌∷◌, ◌++◌}
+use Rattle.std.proofs.Common.{sym, ap, ◌∙◌, subst, slice_range, arith, take-add, drop-drop, drop-cons}
 use Rattle.std.proofs.Math.Nat.{pow-le-pow_right}
 use Rattle.std.proofs.lemmas.List.{length-take, length-drop}
 use Rattle.std.specs.Prelude.{Some, None, nat_le}

@@ -4,8 +4,11 @@ use Rattle.std.specs.Prelude.{◌↔◌, IsTrue, slice_range}
 use Rattle.std.proofs.lemmas.Simd.{length-chunk}
 use Rattle.std.proofs.lemmas.List.Folds.{list_all-append}
 use Rattle.std.proofs.lemmas.List.Sums.{prefix_len-le-length, AllPass-from_list_all, list_all-from_AllPass}
-use Rattle.std.proofs.lemmas.Bool.{cases_eq, le-leb, lt-leb}
+use Rattle.std.proofs.lemmas.Bool.{cases_eq, le-leb, lt-leb, ltb-true}
 use Rattle.std.proofs.lemmas.Bool.Decides.{nat_tests}
+use Rattle.std.specs.Str.{IsAscii}
+use Rattle.std.proofs.lemmas.List.Elements.{All-weaker}
+use Rattle.std.proofs.lemmas.Str.Ascii.{IsAscii-from_all}
 use Rattle.std.specs.List.{prefix_len, list_all}
 use lib.Lanes.{chunk}
 use lib.Count.{count_trailing_zeros}
@@ -107,3 +110,9 @@ IsAsciiTo-iff t i e b stop is =
       λ h. all
           ∙ list_all-from_AllPass is_ascii (slice_range t i e) h,
     )
+
+-- bytes below 80 hex are ASCII in std's word, as the text of them asks
+pub IsAscii-to : (t : List ℕ) (i j : ℕ) → IsAsciiTo t i j → IsAscii (slice_range t i j)
+IsAscii-to t i j h =
+    IsAscii-from_all (slice_range t i j)
+    (All-weaker (λ c. is_ascii c ≡ true) (λ c. c < 128) (λ c low. ltb-true c 128 low) (slice_range t i j) h)

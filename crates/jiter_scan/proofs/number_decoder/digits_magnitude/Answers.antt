@@ -1,6 +1,8 @@
-use Rattle.std.proofs.Common.{◌≡◌, ℕ, List, ◌+◌, ◌-◌, ◌*◌, ◌^◌, ◌≤◌, ◌∙◌, ap, ap₂, take, length, slice_range, refl, arith}
+use Rattle.std.proofs.Common.{◌≡◌, ℕ, List, ◌+◌, ◌-◌, ◌*◌, ◌^◌, ◌≤◌, ◌∙◌, ap, ap₂, take, length, slice_range, refl}
+use Rattle.std.proofs.Common.{arith}
 use Rattle.jiter_scan.specs.Digits.{decimal_of}
-use Rattle.jiter_scan.proofs.Magnitudes.{digits-front, digits-front-behind, decimal_of-few, decimal_of-joined, magnitude_of-short, magnitude_of-long}
+use Rattle.jiter_scan.proofs.Magnitudes.{digits-front, digits-front-behind, decimal_of-few, decimal_of-joined}
+use Rattle.jiter_scan.proofs.Magnitudes.{magnitude_of-short, magnitude_of-long}
 use Rattle.jiter_scan.proofs.number_decoder.digits_magnitude.Goals as goal
 
 -- a part of the digits, as its word gives it

@@ -6,7 +6,9 @@ use Rattle.jiter_scan.proofs.short_number.two_words_at.Goals as goal
 
 pub digits_magnitude-magnitude-requires-clause-digits : goal.digits_magnitude-magnitude-requires-clause-digits
 digits_magnitude-magnitude-requires-clause-digits c =
-    let run = digits-in_two c.args.bytes.now c.full_chunk_at-back.result c.args.at c.digit_count-more.result c.digit_count-more.ensures
+    let run =
+    digits-in_two c.args.bytes.now c.full_chunk_at-back.result c.args.at
+    c.digit_count-more.result c.digit_count-more.ensures
     (omega arith) c.requires.room c.full_chunk_at-back.ensures c.requires.digits in
     (omega arith, omega arith)
 
@@ -25,7 +27,12 @@ returns c =
       decimal = decimal_at-whole t i e (get_or t e 0) whole (slice_get-get_or t e 0 (omega arith))
           (sym c.is_float_sign.ensures ∙ c.if-is_float_sign.false);
       magnitude = c.digits_magnitude-magnitude.ensures;
-      small = omega (arith, decimal_of-few t i e (omega arith) (omega arith) (omega arith) 18 (omega arith), c.digits_magnitude-magnitude.ensures);
+      small = omega (
+        arith,
+        decimal_of-few t i e (omega arith) (omega arith) (omega arith) 18
+            (omega arith),
+        c.digits_magnitude-magnitude.ensures,
+      );
       some = omega arith;
       within = omega arith;
     }

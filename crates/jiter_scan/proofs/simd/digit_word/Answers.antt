@@ -4,7 +4,8 @@ use Rattle.std.proofs.Common.{◌<◌, ℕ, ◌≤◌, ◌+◌, ◌*◌, ◌-◌
 use Rattle.std.specs.Int.Digits.{number_from_digits, AllBelowBase}
 use Rattle.jiter_scan.specs.Digits.{is_digit}
 use Rattle.jiter_scan.specs.Simd.{less_zero}
-use Rattle.jiter_scan.proofs.DigitWords.{decimal_of-digits, IsEightBytes-low, IsEightBytes-high, number-in_two, AllBelowBase-in_two, number-eight_below}
+use Rattle.jiter_scan.proofs.DigitWords.{decimal_of-digits, IsEightBytes-low, IsEightBytes-high, number-in_two}
+use Rattle.jiter_scan.proofs.DigitWords.{AllBelowBase-in_two, number-eight_below}
 use Rattle.std.proofs.lemmas.List.{length-map}
 use Rattle.jiter_scan.proofs.simd.digit_word.Goals as goal
 
