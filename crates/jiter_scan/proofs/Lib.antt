@@ -19,3 +19,4 @@ pub mod Chunks
 pub mod PlainRuns
 pub mod DigitWords
 pub mod Magnitudes
+pub mod ShortNumbers

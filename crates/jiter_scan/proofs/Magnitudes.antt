@@ -21,7 +21,7 @@ slice_range-split t i j k low high =
     ap (λ n. take n (drop i t)) count ∙ take-add (j - i) (k - j) (drop i t)
     ∙ ap (λ l. slice_range t i j ++ take (k - j) l) (drop-drop (j - i) i t ∙ ap (λ n. drop n t) place)
 
-slice_range-count : (t : List ℕ) (i n : ℕ) → slice_range t i (i + n) ≡ take n (drop i t)
+pub slice_range-count : (t : List ℕ) (i n : ℕ) → slice_range t i (i + n) ≡ take n (drop i t)
 slice_range-count t i n = let count : i + n - i ≡ n = omega arith in ap (λ k. take k (drop i t)) count
 
 -- where digits end within a limit
@@ -54,17 +54,17 @@ module _ (t : List ℕ) where
     are_digits = let counted : e - i ≤ prefix_len is_digit (drop i t) =
         omega arith in prefix_len-pass is_digit (e - i) (drop i t) counted
 
-    -- at most nineteen digits
-    pub decimal_of-nineteen : e - i ≤ 19 → decimal_of (slice_range t i e) < 10 ^ 19
-    decimal_of-nineteen few =
-        let most : 10 ^ (e - i) ≤ 10 ^ 19 = pow-le-pow_right {n = 10} (omega arith) {i = e - i} {j = 19} few in
+    -- digits of a run write less than one and as many zeros, or more zeros
+    pub decimal_of-few : (k : ℕ) → e - i ≤ k → decimal_of (slice_range t i e) < 10 ^ k
+    decimal_of-few k few =
+        let most : 10 ^ (e - i) ≤ 10 ^ k = pow-le-pow_right {n = 10} (omega arith) {i = e - i} {j = k} few in
         let below = subst (λ n. decimal_of (slice_range t i e) < 10 ^ n) long
         (decimal_of-below (slice_range t i e) are_digits) in
         omega arith
 
     pub magnitude_of-short : (m : ℕ) → e - i ≤ 19 → m ≡ decimal_of (slice_range t i e) → m
         ≡ magnitude_of (slice_range t i e)
-    magnitude_of-short m few is = omega (arith, decimal_of-nineteen few)
+    magnitude_of-short m few is = omega (arith, decimal_of-few 19 few)
 
     -- twenty digits or more, of which the first is no zero
     pub magnitude_of-long : 20 ≤ e - i → 48 < get_or t i 0 → 10 ^ 19 ≡ magnitude_of (slice_range t i e)

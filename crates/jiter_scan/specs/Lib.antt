@@ -11,3 +11,4 @@ pub mod Number
 pub mod NumberReading
 pub mod NumberDecoder
 pub mod Simd
+pub mod ShortNumber

@@ -6,6 +6,7 @@ pub mod errors;
 pub mod memory;
 pub mod number_decoder;
 pub mod partial_mode;
+pub mod short_number;
 pub mod simd;
 pub mod text;
 pub mod word;

@@ -10,6 +10,7 @@ ghost use Rattle.jiter_scan.specs.NumberReading.{extent_then, digits_from, behin
 ghost use Rattle.jiter_scan.specs.NumberDecoder.{int_view, number_view, integer_view, EndsWithin, magnitude_of, IsMinusTo};
 
 use crate::errors::{Fault, FaultKind, JsonError, JsonResult, fault_at};
+use crate::short_number::{Short, short_at};
 use crate::simd::{chunk_at, digit_run_end, digit_word, digits_end, joined};
 use crate::text::ascii_text;
 use crate::word::{byte_at, word_end};
@@ -177,7 +178,8 @@ fn read_zero(bytes: &[u8], at: usize) -> Result<(u64, usize), Fault>
 }
 
 // The magnitude of the digits from `at` to before `end`, or the least of twenty digits.
-fn digits_magnitude(bytes: &[u8], at: usize, end: usize) -> u64
+#[inline(always)]
+pub(crate) fn digits_magnitude(bytes: &[u8], at: usize, end: usize) -> u64
     requires some { at < end }
     requires digits { (end ≤ digit_run_end bytes.now at) × (end ≤ length bytes.now) }
     requires first { ascii.digit_zero < slice_index bytes.now at }
@@ -340,7 +342,7 @@ fn integer_of<'j>(
 }
 
 // Behind a fraction, if one stands at `at`, and an exponent, if one follows.
-fn tail_end(bytes: &[u8], at: usize) -> Result<usize, Fault>
+pub(crate) fn tail_end(bytes: &[u8], at: usize) -> Result<usize, Fault>
     requires { at ≤ length bytes.now }
     ensures value { Scans (taken tt) result
         (extent_then (fraction_at bytes.now at) (exponent_at bytes.now)) }
@@ -350,8 +352,9 @@ fn tail_end(bytes: &[u8], at: usize) -> Result<usize, Fault>
     exponent_end(bytes, end)
 }
 
-// The decimal number that begins at `from`, its minus apart at `at`.
-fn read_decimal<'j>(
+// The decimal number that begins at `from`, its minus apart at `at`, part by part.
+#[inline(never)]
+fn read_long_decimal<'j>(
     bytes: &'j [u8],
     from: usize,
     at: usize,
@@ -370,6 +373,30 @@ fn read_decimal<'j>(
         NumberAny::Float(ascii_text(&bytes[from..end]))
     };
     Ok((number, end))
+}
+
+// The decimal number that begins at `from`, its minus apart at `at`.
+fn read_decimal<'j>(
+    bytes: &'j [u8],
+    from: usize,
+    at: usize,
+) -> Result<(NumberAny<'j>, usize), Fault>
+    requires within { at ≤ length bytes.now }
+    requires minus { IsMinusTo bytes.now from at }
+    ensures value { Scans (with_end number_view) result (with_value bytes.now from (decimal_at bytes.now at)) }
+    ensures place { IfOk result (λ x. (at < x.1) × (x.1 ≤ length bytes.now)) }
+{
+    match short_at(bytes, at) {
+        Short::Int(magnitude, end) => {
+            let number = integer_of(bytes, from, at, end, magnitude);
+            Ok((NumberAny::Int(number), end))
+        }
+        Short::Float(end) => {
+            let text = ascii_text(&bytes[from..end]);
+            Ok((NumberAny::Float(text), end))
+        }
+        Short::Other => read_long_decimal(bytes, from, at),
+    }
 }
 
 // The name at `at`, as a number that begins at `from`.
@@ -470,7 +497,7 @@ pub fn number_at<'j>(
     }
 }
 
-fn is_float_sign(byte: u8) -> bool
+pub(crate) fn is_float_sign(byte: u8) -> bool
     ensures { result ≡ is_float_sign byte }
 {
     matches!(byte, b'.' | b'e' | b'E')

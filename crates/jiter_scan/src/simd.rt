@@ -229,6 +229,16 @@ fn is_digit(byte: u8) -> bool
     byte.is_ascii_digit()
 }
 
+// The sixteen bytes at a place.
+#[inline(always)]
+pub(crate) fn full_chunk_at(bytes: &[u8], at: usize) -> [u8; 16]
+    requires { at + 16 ≤ length bytes.now }
+    ensures { (n : ℕ) → n ≤ 16 → at + n ≤ length bytes.now
+        → take n result ≡ slice_range bytes.now at (at + n) }
+{
+    u8x16::from_slice(&bytes[at..]).to_array()
+}
+
 // The sixteen bytes at a place, zeros behind the end of the input.
 #[inline(always)]
 pub(crate) fn chunk_at(bytes: &[u8], at: usize) -> [u8; 16]
@@ -237,7 +247,7 @@ pub(crate) fn chunk_at(bytes: &[u8], at: usize) -> [u8; 16]
         → take n result ≡ slice_range bytes.now at (at + n) }
 {
     if bytes.len() - at >= 16 {
-        u8x16::from_slice(&bytes[at..]).to_array()
+        full_chunk_at(bytes, at)
     } else {
         let rest = &bytes[at..];
         let mut chunk = [0; 16];

@@ -1,23 +1,23 @@
 -- Where a fault that can go on is answered, the bytes before its index can be completed to a document.
-use Rattle.std.proofs.Common.{◌≡◌, inl, ℕ, ◌+◌, ◌<◌, ◌≤◌, Bool, true, List, [], ◌++◌, length, take, refl, sym, ap, ◌∙◌, subst, arith}
+use Rattle.std.proofs.Common.{◌≡◌, inl, ℕ, Bool, true, List, [], ◌++◌, length, take, refl, sym, subst, arith}
 use Rattle.std.specs.Prelude.{slice_get, Option, Some, None}
-use Rattle.std.proofs.lemmas.Bool.{false≢true}
 use Rattle.std.proofs.lemmas.Option.{slice_get_within}
 use Rattle.jiter_scan.specs.Kind.{Kind}
 use Rattle.jiter_steps.specs.Answer.{answer}
 use Rattle.jiter_steps.specs.Blank.{past_blanks, IsBlank}
 use Rattle.jiter_steps.specs.FirstFault.{can_go_on, CanBeCompleted}
-use Rattle.jiter_steps.specs.Node.{Node, begin, end, nesting_limit, value_of, IsDocument}
-use Rattle.jiter_steps.specs.Read.{Reading, done, fault, value_at, if_last, to_end, if_begun, front_answer, whole_answer}
-use Rattle.jiter_steps.proofs.Blanks.{past_blanks-bound}
+use Rattle.jiter_steps.specs.Node.{Node, end, nesting_limit, value_of, IsDocument}
+use Rattle.jiter_steps.specs.Read.{Reading, done, fault, value_at, if_last, to_end, if_begun, front_answer}
+use Rattle.jiter_steps.specs.Read.{whole_answer}
 use Rattle.jiter_steps.proofs.Completions.{CanClose, OpenTo, close-map, no-blanks, taken-length, front-same}
 use Rattle.jiter_steps.proofs.Documents.{answer-value}
 use Rattle.jiter_steps.proofs.Fused.{mapped}
 use Rattle.jiter_steps.proofs.NodeRules.{nodes}
 use Rattle.jiter_steps.proofs.Blanks.{passed-blank}
+use Rattle.jiter_steps.proofs.OpenNumbers.{no_live}
 use Rattle.jiter_steps.proofs.OpenParts.{CanEndHere}
 use Rattle.jiter_steps.proofs.OpenReadings.{OpenAs, IsValue, value_at-open}
-use Rattle.jiter_steps.proofs.SameFront.{same-sooner, blanks-too, spells-too}
+use Rattle.jiter_steps.proofs.SameFront.{blanks-too, spells-too}
 use Rattle.jiter_steps.proofs.Sound.{Sound, value_at-sound}
 use Rattle.jiter_steps.proofs.SpelledParts.{node-ahead}
 
@@ -57,7 +57,8 @@ module _ (names : Bool) (t : List ℕ) where
       let u = take x t ++ [] in
       let same = front-same t x within [] in
       let long = taken-length t x within [] in
-      let behind : IsBlank u e (length u) = subst (IsBlank u e) (omega arith) (blanks-too t u x same e x (omega arith) blanks) in
+      let behind : IsBlank u e (length u) =
+      subst (IsBlank u e) (omega arith) (blanks-too t u x same e x (omega arith) blanks) in
       let document : IsDocument names u n = record {
         before = subst (IsBlank u 0) (sym begins) (blanks-too t u x same 0 i (omega arith) before);
         spelled = spells-too names t u x same n (omega arith) is.0.spelled;
@@ -78,7 +79,7 @@ module _ (names : Bool) (t : List ℕ) where
 
   if_begun-open : (i : ℕ) → IsBlank t 0 i → (o : Option ℕ) → slice_get t i ≡ o
       → OpenTo Completed (to_end t (if_begun (nodes names) t i o))
-  if_begun-open i before None e = λ live. absurd (false≢true live)
+  if_begun-open i before None e = no_live
   if_begun-open i before (Some c) e =
       let inside = slice_get_within t i c e in
       to_end-open i (value_at (nodes names) t nesting_limit i) before

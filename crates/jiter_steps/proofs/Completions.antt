@@ -1,5 +1,6 @@
 -- Texts whose end is other bytes: a front, a filler and closers.
-use Rattle.std.proofs.Common.{◌≡◌, ℕ, ◌+◌, ◌-◌, ◌<◌, ◌≤◌, Bool, true, List, [], ◌∷◌, ◌++◌, length, take, refl, sym, ap, ◌∙◌, subst, arith, length-append}
+use Rattle.std.proofs.Common.{◌≡◌, ℕ, ◌+◌, ◌≤◌, true, List, [], ◌∷◌, ◌++◌, length, take, refl, sym, ap, ◌∙◌, arith}
+use Rattle.std.proofs.Common.{length-append}
 use Rattle.std.specs.Prelude.{slice_get, Some}
 use Rattle.std.proofs.lemmas.List.{get_or-take, get_or_append_left, get_or-append-add, length-take-le}
 use Rattle.std.proofs.lemmas.Option.{slice_get_within, slice_get-get_or, get_or_from_slice_get}
@@ -34,7 +35,8 @@ abbrev pub OpenTo : {A : Type 0} → (ℕ → Type 0) → Reading A → Type 0
 OpenTo At (done a e) = Unit {0}
 OpenTo At (fault k x stop) = can_go_on k ≡ true → At x
 
-pub open-map : {A : Type 0} (At Then : ℕ → Type 0) → ((x : ℕ) → At x → Then x) → (y : Reading A) → OpenTo At y → OpenTo Then y
+pub open-map : {A : Type 0} (At Then : ℕ → Type 0) → ((x : ℕ) → At x → Then x) → (y : Reading A) → OpenTo At y
+    → OpenTo Then y
 open-map At Then all (done a e) h = tt
 open-map At Then all (fault k x stop) h = λ live. all x (h live)
 
@@ -56,7 +58,8 @@ pub no-blanks : (u : List ℕ) (i j : ℕ) → i ≡ j → j ≤ length u → Is
 no-blanks u i j e le = record { ordered = omega arith; within = le; each = λ k l h. absurd (omega arith) }
 
 -- a byte at the end, behind blanks
-pub ends-behind : (u : List ℕ) (i c : ℕ) → IsBlank u i (length u) → StandsBehind (u ++ c ∷ []) i c (length (u ++ c ∷ []))
+pub ends-behind : (u : List ℕ) (i c : ℕ) → IsBlank u i (length u)
+    → StandsBehind (u ++ c ∷ []) i c (length (u ++ c ∷ []))
 ends-behind u i c b = record {
   at = length u;
   blanks = blanks-too u (u ++ c ∷ []) (length u) (longer-same u (c ∷ []) (length u)) i (length u) (omega arith) b;

@@ -9,15 +9,19 @@ use Rattle.jiter_scan.specs.Scanned.{taken, failed}
 use Rattle.jiter_steps.specs.StringReading.{valid_front_by, valid_front}
 
 module _ (i e : ℕ) (o : Bool) (bs : List ℕ) where
-  pub kept_front : utf8_error_len (drop (utf8_valid_len bs) bs) ≡ None → valid_front i o bs e ≡ taken (record { owned = o; bytes = take (utf8_valid_len bs) bs }) e
+  pub kept_front : utf8_error_len (drop (utf8_valid_len bs) bs) ≡ None
+      → valid_front i o bs e ≡ taken (record { owned = o; bytes = take (utf8_valid_len bs) bs }) e
   kept_front h = ap (valid_front_by i o bs e) h
 
-  pub kept_wrong : (n : ℕ) → utf8_error_len (drop (utf8_valid_len bs) bs) ≡ Some n → valid_front i o bs e ≡ failed invalid_code_point (i + utf8_valid_len bs)
+  pub kept_wrong : (n : ℕ) → utf8_error_len (drop (utf8_valid_len bs) bs) ≡ Some n
+      → valid_front i o bs e ≡ failed invalid_code_point (i + utf8_valid_len bs)
   kept_wrong n h = ap (valid_front_by i o bs e) h
 
   pub kept_whole : IsUtf8 bs → valid_front i o bs e ≡ taken (record { owned = o; bytes = bs }) e
   unfolding utf8_error_len
   kept_whole u =
       let all : utf8_valid_len bs ≡ length bs = utf8_valid_len-IsUtf8 bs u in
-      let none : utf8_error_len (drop (utf8_valid_len bs) bs) ≡ None = ap utf8_error_len (drop_all (utf8_valid_len bs) bs (omega (arith, all))) in
-      kept_front none ∙ ap (λ xs. taken (record { owned = o; bytes = xs }) e) (take_all (utf8_valid_len bs) bs (omega (arith, all)))
+      let none : utf8_error_len (drop (utf8_valid_len bs) bs) ≡ None = ap utf8_error_len
+      (drop_all (utf8_valid_len bs) bs (omega (arith, all))) in
+      kept_front none
+      ∙ ap (λ xs. taken (record { owned = o; bytes = xs }) e) (take_all (utf8_valid_len bs) bs (omega (arith, all)))

@@ -1,15 +1,16 @@
 -- A container that is not read to its end can be closed behind the parts before the fault.
-use Rattle.std.proofs.Common.{◌≡◌, ◌⊎◌, inl, inr, ℕ, zero, suc, ◌+◌, ◌<◌, ◌≤◌, Bool, true, false, cond, List, [], ◌∷◌, ◌++◌, length, take, refl, sym, ap, ◌∙◌, subst, arith, append-nil, append_assoc}
-use Rattle.std.specs.Prelude.{Option}
+use Rattle.std.proofs.Common.{◌≡◌, inl, inr, ℕ, zero, suc, ◌+◌, ◌<◌, ◌≤◌, true, false, cond, List, [], ◌∷◌, ◌++◌}
+use Rattle.std.proofs.Common.{length, take, refl, sym, ap, ◌∙◌, subst, arith, append-nil, append_assoc}
 use Rattle.std.proofs.lemmas.List.{length-take-le}
-use Rattle.jiter_scan.specs.Kind.{Kind, eof_value}
+use Rattle.jiter_scan.specs.Kind.{Kind}
 use Rattle.jiter_steps.specs.Blank.{IsBlank}
 use Rattle.jiter_steps.specs.FirstFault.{IsFiller, AreClosers, can_go_on}
-use Rattle.jiter_steps.specs.Node.{StandsBehind}
-use Rattle.jiter_steps.specs.Read.{Reading, done, fault, Rules, Container, if_forgiven, follow, behind_part, parts_at, container_at}
+use Rattle.jiter_steps.specs.Read.{Reading, done, fault, Rules, Container, if_forgiven, follow, behind_part, parts_at}
+use Rattle.jiter_steps.specs.Read.{container_at}
 use Rattle.jiter_steps.specs.Step.{Step, more, closed, stuck, step}
 use Rattle.jiter_steps.proofs.Bounds.{Within}
-use Rattle.jiter_steps.proofs.Completions.{CanClose, OpenTo, longer-same, no-blanks, ends-behind, taken-length, taken-same, front-same}
+use Rattle.jiter_steps.proofs.Completions.{CanClose, OpenTo, longer-same, no-blanks, ends-behind, taken-length}
+use Rattle.jiter_steps.proofs.Completions.{taken-same, front-same}
 use Rattle.jiter_steps.proofs.Parts.{MoreParts, Parts}
 use Rattle.jiter_steps.proofs.RowSteps.{PartBehind, Behind, StepIs, Delimits}
 use Rattle.jiter_steps.proofs.SameFront.{SameBefore, same-sooner, blanks-too, behind-too}
@@ -44,10 +45,12 @@ module _ {P : Type 0} (closer : ℕ) (IsPart : List ℕ → ℕ → P → ℕ �
     pub is_closer : AreClosers (closer ∷ [])
     pub too : (u v : List ℕ) (i e : ℕ) (p : P) → SameBefore u v e → IsPart u i p e → IsPart v i p e
     pub is : (i e : ℕ) (p : P) → Begins i → c.part i ≡ done p e → IsPart t i p e
-    pub begun : (i x stop : ℕ) (k : Kind) → Begins i → c.part i ≡ fault k x stop → can_go_on k ≡ true → CanEndHere IsPart t i x
+    pub begun : (i x stop : ℕ) (k : Kind) → Begins i → c.part i ≡ fault k x stop → can_go_on k ≡ true
+        → CanEndHere IsPart t i x
     pub filler : List ℕ
     pub is_filler : IsFiller filler
-    pub fills : (i e : ℕ) (q : P) → IsPart t i q e → (x : ℕ) → x ≤ length t → (p : P) × IsPart (take x t ++ (filler ++ [])) x p (x + length filler)
+    pub fills : (i e : ℕ) (q : P) → IsPart t i q e → (x : ℕ) → x ≤ length t
+        → (p : P) × IsPart (take x t ++ (filler ++ [])) x p (x + length filler)
 
 module _ {K P A : Type 0} (r : Rules K A) (strict : (k : Kind) → r.forgives k ≡ false) (t : List ℕ) (c : Container P A)
     (closer : ℕ) (Begins : ℕ → Type 0) (IsPart : List ℕ → ℕ → P → ℕ → Type 0)
@@ -87,16 +90,19 @@ module _ {K P A : Type 0} (r : Rules K A) (strict : (k : Kind) → r.forgives k 
   -- the closer behind a last part
   close-part : (b i x m : ℕ) (ps : List P) (p : P) (filler closers : List ℕ) → SoFar b i ps → i ≤ x → x ≤ length t
       → IsFiller filler → AreClosers closers → IsPart (take x t ++ (filler ++ closers)) i p m
-      → IsBlank (take x t ++ (filler ++ closers)) m (length (take x t ++ (filler ++ closers))) → CanEnd closer IsPart t b x
+      → IsBlank (take x t ++ (filler ++ closers)) m (length (take x t ++ (filler ++ closers)))
+      → CanEnd closer IsPart t b x
   close-part b i x m ps p filler closers so le within is_filler are_closers is blanks =
       let u = take x t ++ (filler ++ closers) in
       let v = u ++ closer ∷ [] in
       let here = grows.too u v i m p (longer-same u (closer ∷ []) m) is in
+      let front = front-same t x within (filler ++ closers) in
       let same : SameBefore t v i =
-      λ j c lt e. longer-same u (closer ∷ []) x j c (omega arith) (front-same t x within (filler ++ closers) j c (omega arith) e) in
+      λ j c lt e. longer-same u (closer ∷ []) x j c (omega arith) (front j c (omega arith) e) in
       let all = so.parts v p [] m (length v) same here (ends-behind u m closer blanks) in
       let text : v ≡ take x t ++ (filler ++ (closers ++ closer ∷ [])) =
-      append_assoc (take x t) (filler ++ closers) (closer ∷ []) ∙ ap (λ w. take x t ++ w) (append_assoc filler closers (closer ∷ [])) in (
+      append_assoc (take x t) (filler ++ closers) (closer ∷ [])
+      ∙ ap (λ w. take x t ++ w) (append_assoc filler closers (closer ∷ [])) in (
         omega (arith, so.ordered),
         record {
           filler = filler;
@@ -114,7 +120,17 @@ module _ {K P A : Type 0} (r : Rules K A) (strict : (k : Kind) → r.forgives k 
       let long : length (take x t) ≡ x = length-take-le x t h.within in
       let blanks = blanks-too t (take x t) x (taken-same t x h.within) b x (omega arith) h in
       let ends = ends-behind (take x t) b closer (subst (IsBlank (take x t) b) (sym long) blanks) in
-      (h.ordered, record { filler = []; closers = closer ∷ []; is_filler = inl refl; are_closers = grows.is_closer; within = h.within; is = ([], ends) })
+      (
+        h.ordered,
+        record {
+          filler = [];
+          closers = closer ∷ [];
+          is_filler = inl refl;
+          are_closers = grows.is_closer;
+          within = h.within;
+          is = ([], ends);
+        },
+      )
 
   -- at a fault that can go on the container can be closed
   abbrev Open : ℕ → Reading A → Type 0
@@ -145,8 +161,10 @@ module _ {K P A : Type 0} (r : Rules K A) (strict : (k : Kind) → r.forgives k 
       let part = grows.fills i m p is x within in
       let long = taken-length t x within (w ++ []) in
       let size = ap length (append-nil w) in
-      let blanks = no-blanks (take x t ++ (w ++ [])) (x + length w) (length (take x t ++ (w ++ []))) (omega arith) (omega arith) in
-      close-part b x x (x + length w) (ps ++ p ∷ []) part.0 w [] (next-part b i x m ps p so le is h) (omega arith) within
+      let u = take x t ++ (w ++ []) in
+      let blanks = no-blanks u (x + length w) (length u) (omega arith) (omega arith) in
+      let next = next-part b i x m ps p so le is h in
+      close-part b x x (x + length w) (ps ++ p ∷ []) part.0 w [] next (omega arith) within
       grows.is_filler tt part.1 blanks
 
   follow-open : (b i m : ℕ) (ps : List P) (p : P) (next : List P → ℕ → Reading A) → GoesOn b next → SoFar b i ps
@@ -181,7 +199,8 @@ module _ {K P A : Type 0} (r : Rules K A) (strict : (k : Kind) → r.forgives k 
       (λ more_parts j begins so_far. parts-open b n more_parts j begins so_far)
       at so (c.part i) refl (goes.part i (delimits.within i at))
 
-  bracket-open : (b : ℕ) → b ≤ length t → (s : Step) → step t c.first b ≡ s → StepIs t b closer (PartBehind t Begins b) s
+  bracket-open : (b : ℕ) → b ≤ length t → (s : Step) → step t c.first b ≡ s
+      → StepIs t b closer (PartBehind t Begins b) s
       → Open b (follow r (parts_at r c t (length t) []) (λ e. c.build e []) s)
   bracket-open b within (more j) step h = parts-open b (length t) [] j h.begins (first-part b j h.blanks)
   bracket-open b within (closed e) step h = tt

@@ -1,5 +1,6 @@
--- A value whose reading meets a fault that can go on can be text_in_form behind the bytes before it.
-use Rattle.std.proofs.Common.{◌≡◌, inl, inr, ℕ, zero, suc, ◌+◌, ◌<◌, ◌≤◌, Bool, true, false, List, [], ◌∷◌, ◌++◌, length, take, refl, sym, ap, ◌∙◌, subst, arith, codes}
+-- A value whose reading meets a fault that can go on can be ended behind the bytes before it.
+use Rattle.std.proofs.Common.{◌≡◌, inl, inr, ℕ, zero, suc, ◌+◌, ◌<◌, ◌≤◌, Bool, false, List, [], ◌++◌, length, take}
+use Rattle.std.proofs.Common.{refl, sym, ap, ◌∙◌, subst, arith, codes}
 use Rattle.std.specs.Prelude.{slice_get, slice_index, Option, Some, None, ◌==◌}
 use Rattle.std.specs.Str.{chars}
 use Rattle.std.specs.Str.Lossy.{utf8_valid_len}
@@ -18,29 +19,36 @@ use Rattle.jiter_steps.specs.Literal.{start_of, literal_at, word_of}
 use Rattle.jiter_steps.specs.Node as grammar
 use Rattle.jiter_steps.specs.Node.{Key, Node, begin, end, StandsBehind, SpellsNumber, SpellsKey, Spells, nesting}
 use Rattle.jiter_steps.specs.Piece.{SpellsString}
-use Rattle.jiter_steps.specs.Read.{Reading, done, fault, Container, scalar_at, with_key, behind_colon, behind_key, value_with, inside_at, value_at}
+use Rattle.jiter_steps.specs.Read.{Reading, done, fault, scalar_at, with_key, behind_colon, behind_key, value_with}
+use Rattle.jiter_steps.specs.Read.{inside_at, value_at}
 use Rattle.jiter_steps.specs.Step.{step, colon, value_first, object_colon}
-use Rattle.jiter_steps.specs.StringReading.{Stop, closed, unclosed, cut, wrong, whole, body_at, text_in_form, content_at, string_at}
+use Rattle.jiter_steps.specs.StringReading.{Stop, closed, unclosed, cut, wrong, whole, body_at, text_in_form, content_at}
+use Rattle.jiter_steps.specs.StringReading.{string_at}
 use Rattle.jiter_steps.specs.Tree.{Text}
 use Rattle.jiter_steps.specs.declared.parse.Start.{Start}
 use Rattle.jiter_steps.specs.declared.parse.Start.TheVariants as start
 use Rattle.jiter_steps.proofs.Bodies.{StopWithin, body_at-within}
 use Rattle.jiter_steps.proofs.Bounds.{either}
-use Rattle.jiter_steps.proofs.Completions.{CanClose, close-map, OpenTo, open-map, no-blanks, taken-length, taken-behind, taken-first, front-same}
+use Rattle.jiter_steps.proofs.Completions.{close-map, OpenTo, open-map, no-blanks, taken-length, taken-behind}
+use Rattle.jiter_steps.proofs.Completions.{taken-first, front-same}
 use Rattle.jiter_steps.proofs.NodeRules.{nodes, nodes_of, node_members_of, key_of}
-use Rattle.jiter_steps.proofs.OpenNumbers.{LiveIs, then-live, word-live, zero-number, CanEndNumber, number-open}
+use Rattle.jiter_steps.proofs.OpenNumbers.{LiveIs, then-live, word-live, no_live, zero-number, CanEndNumber}
+use Rattle.jiter_steps.proofs.OpenNumbers.{number-open}
 use Rattle.jiter_steps.proofs.OpenParts.{Anywhere, CanEndHere, PartsOf, CanEnd, Grows, container_at-open}
-use Rattle.jiter_steps.proofs.Parts.{Grammar, parts-are}
+use Rattle.jiter_steps.proofs.Parts.{parts-are}
 use Rattle.jiter_steps.proofs.Pieces.{pieces_from}
 use Rattle.jiter_steps.proofs.Places.{IsPlaceKind}
-use Rattle.jiter_steps.proofs.RowSteps.{ByteAt, ItemAt, KeyBegins, PartBehind, Behind, ExtentIs, array-delimits, object-delimits, object_colon-is}
-use Rattle.jiter_steps.proofs.SameFront.{SameBefore, same-sooner, place-too, key-too, spells-too}
-use Rattle.jiter_steps.proofs.Sound.{array-byte, object-byte, byte-here, IsNodeAt, IsItemAt, IsMemberAt, InsideSound, array, object, array-goes, object-goes, ItemsAre, MoreItemsAre, MembersAre, MoreMembersAre, items-grammar, members-grammar, item-read, member-read, inside_at-sound}
-use Rattle.jiter_steps.proofs.ScalarLaws.{ScalarLaws, scalar-laws}
+use Rattle.jiter_steps.proofs.RowSteps.{ByteAt, ItemAt, KeyBegins, PartBehind, Behind, ExtentIs, array-delimits}
+use Rattle.jiter_steps.proofs.RowSteps.{object-delimits, object_colon-is}
+use Rattle.jiter_steps.proofs.SameFront.{SameBefore, place-too, key-too, spells-too}
+use Rattle.jiter_steps.proofs.Sound.{array-byte, object-byte, byte-here, IsNodeAt, IsItemAt, IsMemberAt, array, object}
+use Rattle.jiter_steps.proofs.Sound.{array-goes, object-goes, ItemsAre, MoreItemsAre, MembersAre, MoreMembersAre}
+use Rattle.jiter_steps.proofs.Sound.{items-grammar, members-grammar, item-read, member-read, inside_at-sound}
+use Rattle.jiter_steps.proofs.ScalarLaws.{scalar-laws}
 use Rattle.jiter_steps.proofs.SpelledParts.{key-ahead, node-ahead}
 use Rattle.jiter_steps.proofs.StuckSteps.{array-sticks, object-sticks}
 
--- at a fault that can go on, something like this can be text_in_form
+-- at a fault that can go on, something like this can be ended
 abbrev pub OpenAs : {P A : Type 0} → (List ℕ → ℕ → P → ℕ → Type 0) → List ℕ → ℕ → Reading A → Type 0
 OpenAs Is t i x = OpenTo (CanEndHere Is t i) x
 
@@ -56,9 +64,9 @@ module _ (t : List ℕ) (At : ℕ → Type 0) where
   text_in_form-live i bs o (wrong k j) w = λ live. absurd (false≢true (sym (place-dead k w.2) ∙ live))
   text_in_form-live i bs o (closed e) w =
       either (LiveIs At) (utf8_valid_len bs == length bs) (taken (record { owned = o; bytes = bs }) e)
-      (failed invalid_code_point (i + utf8_valid_len bs)) tt (λ live. absurd (false≢true live))
-  text_in_form-live i bs o unclosed w = λ live. absurd (false≢true live)
-  text_in_form-live i bs o cut w = λ live. absurd (false≢true live)
+      (failed invalid_code_point (i + utf8_valid_len bs)) tt no_live
+  text_in_form-live i bs o unclosed w = no_live
+  text_in_form-live i bs o cut w = no_live
 
   string-live : (i : ℕ) → LiveIs At (string_at whole t i)
   unfolding content_at
@@ -66,12 +74,12 @@ module _ (t : List ℕ) (At : ℕ → Type 0) where
       let b = body_at t (i + 1) in text_in_form-live (i + 1) b.bytes b.owned b.stop (body_at-within t (i + 1))
 
   colon-live : (j : ℕ) (o : Option ℕ) → LiveIs At (colon j o)
-  colon-live j None = λ live. absurd (false≢true live)
+  colon-live j None = no_live
   colon-live j (Some c) =
-      either (LiveIs At) (c == 58) (taken tt (j + 1)) (failed expected_colon j) tt (λ live. absurd (false≢true live))
+      either (LiveIs At) (c == 58) (taken tt (j + 1)) (failed expected_colon j) tt no_live
 
   value_first-live : (j : ℕ) (o : Option ℕ) → LiveIs At (value_first j o)
-  value_first-live j None = λ live. absurd (false≢true live)
+  value_first-live j None = no_live
   value_first-live j (Some c) = tt
 
   object_colon-live : (i : ℕ) → LiveIs At (object_colon t i)
@@ -139,7 +147,8 @@ module _ (names : Bool) where
       } in
       let blanks = no-blanks u (x + 3) (x + 3) refl (omega arith) in
       let n = grammar.number (x + 3) (x + 4) in
-      let spelled : SpellsKey u key (x + 3) = record { string = string; colon = x + 3; behind = behind; blanks = blanks } in
+      let spelled : SpellsKey u key (x + 3) =
+      record { string = string; colon = x + 3; behind = behind; blanks = blanks } in
       let value = zero-node u (x + 3) (x + 4) (omega arith) (taken-behind t x within w 3 48 refl) in
       ((key, n), record { begins = refl; key = spelled; value = value; limit = omega arith })
 
@@ -188,7 +197,8 @@ module _ (names : Bool) where
         → (x : Extent) → ExtentIs (Behind t key.end 58 (PartBehind t (ByteAt t))) x
         → LiveIs (CanEndHere (IsMember room) t i) x → OpenAs (IsMember room) t i (behind_colon key inner x)
     behind_colon-open i key begins string (taken u j) h dead =
-        with_key-open i j key begins (record { string = string; colon = h.0; behind = h.1; blanks = h.2.blanks }) (inner j)
+        with_key-open i j key begins (record { string = string; colon = h.0; behind = h.1; blanks = h.2.blanks })
+        (inner j)
         (all j (slice_get_within t j h.2.begins.byte h.2.begins.here))
     behind_colon-open i key begins string (failed k j) h dead = dead
 
@@ -261,7 +271,17 @@ module _ (names : Bool) where
         let n = grammar.number i (length u) in
         let long = taken-length t i within w in
         let value = zero-node u i (length u) (omega arith) (taken-first t i within w 48 refl) in
-        (omega arith, record { filler = w; closers = []; is_filler = inr (inl refl); are_closers = tt; within = within; is = (n, (value, omega arith)) })
+        (
+          omega arith,
+          record {
+            filler = w;
+            closers = [];
+            is_filler = inr (inl refl);
+            are_closers = tt;
+            within = within;
+            is = (n, (value, omega arith));
+          },
+        )
 
     value-here : (u : List ℕ) (n : Node) → Spells names u n → end n ≡ length u → nesting n ≤ room
         → (m : Node) × IsValue room u (begin n) m (length u)
@@ -292,14 +312,16 @@ module _ (names : Bool) where
     value_with-open i h start.String e =
         scalar-open i (λ x e. grammar.string (pieces_from t (i + 1) (chars x.bytes)) i e) (string_at whole t i)
         (string-live t (CanEndHere (IsValue room) t i) i)
-    value_with-open i h start.Number e = number-here i (number_at names t i) refl ((scalar-laws names t).number-within i h)
+    value_with-open i h start.Number e =
+        number-here i (number_at names t i) refl ((scalar-laws names t).number-within i h)
     value_with-open i h (start.Literal l) e =
         scalar-open i (λ x e. grammar.literal l i e) (literal_at t l i)
         (word-live t (CanEndHere (IsValue room) t i) (word_of l) i)
     value_with-open i h start.Nothing e = λ live. zero-here i (omega arith)
 
   -- a value inside needs room for the container round it
-  room-inside : (t : List ℕ) (room i : ℕ) (y : Reading Node) → OpenAs (IsValue room) t i y → OpenAs (IsItem (suc room)) t i y
+  room-inside : (t : List ℕ) (room i : ℕ) (y : Reading Node) → OpenAs (IsValue room) t i y
+      → OpenAs (IsItem (suc room)) t i y
   room-inside t room i y h =
       open-map (CanEndHere (IsValue room) t i) (CanEndHere (IsItem (suc room)) t i)
       (λ x ends. (
@@ -308,12 +330,14 @@ module _ (names : Bool) where
       ))
       y h
 
-  inside_at-open : (t : List ℕ) (room i : ℕ) → i < length t → OpenAs (IsItem room) t i (inside_at (nodes names) t room i)
+  inside_at-open : (t : List ℕ) (room i : ℕ) → i < length t
+      → OpenAs (IsItem room) t i (inside_at (nodes names) t room i)
   unfolding inside_at
-  inside_at-open t zero i h = λ live. absurd (false≢true live)
+  inside_at-open t zero i h = no_live
   inside_at-open t (suc room) i h =
       room-inside t room i _ (value_with-open t room (inside_at-open t room) i h (start_of (slice_index t i)) refl)
 
-  -- Where a value's reading meets a fault that can go on, the value can be text_in_form.
-  pub value_at-open : (t : List ℕ) (room i : ℕ) → i < length t → OpenAs (IsValue room) t i (value_at (nodes names) t room i)
+  -- Where a value's reading meets a fault that can go on, the value can be ended.
+  pub value_at-open : (t : List ℕ) (room i : ℕ) → i < length t
+      → OpenAs (IsValue room) t i (value_at (nodes names) t room i)
   value_at-open t room i h = value_with-open t room (inside_at-open t room) i h (start_of (slice_index t i)) refl

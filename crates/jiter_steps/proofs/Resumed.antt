@@ -26,78 +26,107 @@ module _ {K A : Type 0} (r : Rules K A) (t : List ℕ) where
   made (members_frame members k) e = r.object 0 e members
 
   pub value_in-room : (depth j : ℕ) → depth ≤ 200 → value_in r t depth j ≡ value_at r t (200 - depth) j
-  value_in-room depth j h = let e : 201 - depth ≡ suc (200 - depth) = omega arith in ap (λ n. inside_at r t n j) e ∙ inside_at-suc r t (200 - depth) j
+  value_in-room depth j h =
+      let e : 201 - depth ≡ suc (200 - depth) = omega arith in ap (λ n. inside_at r t n j) e
+      ∙ inside_at-suc r t (200 - depth) j
 
   pub value_in-limit : (j : ℕ) → value_in r t 201 j ≡ fault recursion_limit j j
   value_in-limit j = inside_at-none r t 0 j refl
 
-  follow-resolved : (next : ℕ → Reading A) (close : ℕ → A) (s : Step) → follow r next close s ≡ follow r next close (resolved r.forgives s)
+  follow-resolved : (next : ℕ → Reading A) (close : ℕ → A) (s : Step)
+      → follow r next close s ≡ follow r next close (resolved r.forgives s)
   follow-resolved next close (more j) = refl
   follow-resolved next close (closed e) = refl
   follow-resolved next close (stuck k j) = by_forgiving (r.forgives k) refl where
-    by_forgiving : (y : Bool) → r.forgives k ≡ y → if_forgiven r close k j j ≡ follow r next close (cond y (closed j) (stuck k j))
+    by_forgiving : (y : Bool) → r.forgives k ≡ y
+        → if_forgiven r close k j j ≡ follow r next close (cond y (closed j) (stuck k j))
     by_forgiving true h = ap (λ y. cond y (done (close j) j) (fault k j j)) h
     by_forgiving false h = refl
 
   -- a step, its forgiven fault resolved
-  follow-to : (next : ℕ → Reading A) (close : ℕ → A) (s u : Step) → resolved r.forgives s ≡ u → follow r next close s ≡ follow r next close u
+  follow-to : (next : ℕ → Reading A) (close : ℕ → A) (s u : Step) → resolved r.forgives s ≡ u
+      → follow r next close s ≡ follow r next close u
   follow-to next close s u h = follow-resolved next close s ∙ ap (follow r next close) h
 
-  pub if_forgiven-yes : (close : ℕ → A) (k : Kind) (i stop : ℕ) → r.forgives k ≡ true → if_forgiven r close k i stop ≡ done (close stop) stop
+  pub if_forgiven-yes : (close : ℕ → A) (k : Kind) (i stop : ℕ) → r.forgives k ≡ true
+      → if_forgiven r close k i stop ≡ done (close stop) stop
   if_forgiven-yes close k i stop h = ap (λ y. cond y (done (close stop) stop) (fault k i stop)) h
 
-  pub if_forgiven-no : (close : ℕ → A) (k : Kind) (i stop : ℕ) → r.forgives k ≡ false → if_forgiven r close k i stop ≡ fault k i stop
+  pub if_forgiven-no : (close : ℕ → A) (k : Kind) (i stop : ℕ) → r.forgives k ≡ false
+      → if_forgiven r close k i stop ≡ fault k i stop
   if_forgiven-no close k i stop h = ap (λ y. cond y (done (close stop) stop) (fault k i stop)) h
 
   -- A fault that is not forgiven passes all containers; one that is closes the innermost.
-  pub resume-fault : (fs : Frames) (k : Kind) (i stop : ℕ) → r.forgives k ≡ false → resume r t fs (fault k i stop) ≡ fault k i stop
+  pub resume-fault : (fs : Frames) (k : Kind) (i stop : ℕ) → r.forgives k ≡ false
+      → resume r t fs (fault k i stop) ≡ fault k i stop
   resume-fault [] k i stop h = refl
-  resume-fault (items_frame items ∷ fs) k i stop h = ap (resume r t fs) (if_forgiven-no (λ e. r.array 0 e items) k i stop h) ∙ resume-fault fs k i stop h
-  resume-fault (members_frame members m ∷ fs) k i stop h = ap (resume r t fs) (if_forgiven-no (λ e. r.object 0 e members) k i stop h) ∙ resume-fault fs k i stop h
+  resume-fault (items_frame items ∷ fs) k i stop h =
+      ap (resume r t fs) (if_forgiven-no (λ e. r.array 0 e items) k i stop h) ∙ resume-fault fs k i stop h
+  resume-fault (members_frame members m ∷ fs) k i stop h =
+      ap (resume r t fs) (if_forgiven-no (λ e. r.object 0 e members) k i stop h) ∙ resume-fault fs k i stop h
 
-  pub resume-forgiven : (f : Frame K A) (fs : Frames) (k : Kind) (i stop : ℕ) → r.forgives k ≡ true → resume r t (f ∷ fs) (fault k i stop) ≡ resume r t fs (done (made f stop) stop)
-  resume-forgiven (items_frame items) fs k i stop h = ap (resume r t fs) (if_forgiven-yes (λ e. r.array 0 e items) k i stop h)
-  resume-forgiven (members_frame members m) fs k i stop h = ap (resume r t fs) (if_forgiven-yes (λ e. r.object 0 e members) k i stop h)
+  pub resume-forgiven : (f : Frame K A) (fs : Frames) (k : Kind) (i stop : ℕ) → r.forgives k ≡ true
+      → resume r t (f ∷ fs) (fault k i stop) ≡ resume r t fs (done (made f stop) stop)
+  resume-forgiven (items_frame items) fs k i stop h =
+      ap (resume r t fs) (if_forgiven-yes (λ e. r.array 0 e items) k i stop h)
+  resume-forgiven (members_frame members m) fs k i stop h =
+      ap (resume r t fs) (if_forgiven-yes (λ e. r.object 0 e members) k i stop h)
 
   -- A step inside these containers, by where it leads.
   module _ {P : Type 0} (c : Container P A) (fs : Frames) (parts : List P) where
-    pub step-to : (s u : Step) → resolved r.forgives s ≡ u → resume r t fs (parts_step r t c parts s) ≡ resume r t fs (parts_step r t c parts u)
+    pub step-to : (s u : Step) → resolved r.forgives s ≡ u
+        → resume r t fs (parts_step r t c parts s) ≡ resume r t fs (parts_step r t c parts u)
     step-to s u h = ap (resume r t fs) (follow-to (parts_from r t c parts) (λ e. c.build e parts) s u h)
 
-    pub step-stuck : (s : Step) (k : Kind) (j : ℕ) → resolved r.forgives s ≡ stuck k j → r.forgives k ≡ false → resume r t fs (parts_step r t c parts s) ≡ fault k j j
-    step-stuck s k j h bad = step-to s (stuck k j) h ∙ ap (resume r t fs) (if_forgiven-no (λ e. c.build e parts) k j j bad) ∙ resume-fault fs k j j bad
+    pub step-stuck : (s : Step) (k : Kind) (j : ℕ) → resolved r.forgives s ≡ stuck k j → r.forgives k ≡ false
+        → resume r t fs (parts_step r t c parts s) ≡ fault k j j
+    step-stuck s k j h bad =
+        step-to s (stuck k j) h ∙ ap (resume r t fs) (if_forgiven-no (λ e. c.build e parts) k j j bad)
+        ∙ resume-fault fs k j j bad
 
   module _ (good : Advances r t) where
     array_in-goes : (depth : ℕ) → Goes (array_in r t depth) t
-    array_in-goes depth = array_of-goes r t good (value_in r t (suc depth)) (inside_at-within r t good (201 - suc depth)) 0
+    array_in-goes depth =
+        array_of-goes r t good (value_in r t (suc depth)) (inside_at-within r t good (201 - suc depth)) 0
 
     object_in-goes : (depth : ℕ) → Goes (object_in r t depth) t
-    object_in-goes depth = object_of-goes r t good (value_in r t (suc depth)) (inside_at-within r t good (201 - suc depth)) 0
+    object_in-goes depth =
+        object_of-goes r t good (value_in r t (suc depth)) (inside_at-within r t good (201 - suc depth)) 0
 
     -- The rest of an array is its next item, and what follows that.
-    pub items-value : (fs : Frames) (items : List A) (j : ℕ) → j < length t → resume r t fs (parts_from r t (array_in r t (length fs)) items j) ≡ value_from r t (items_frame items ∷ fs) j
-    items-value fs items j h = ap (resume r t fs) (parts_at_is r t (array_in r t (length fs)) (array_in-goes (length fs)) items j h)
+    pub items-value : (fs : Frames) (items : List A) (j : ℕ) → j < length t
+        → resume r t fs (parts_from r t (array_in r t (length fs)) items j) ≡ value_from r t (items_frame items ∷ fs) j
+    items-value fs items j h =
+        ap (resume r t fs) (parts_at_is r t (array_in r t (length fs)) (array_in-goes (length fs)) items j h)
 
     -- The rest of an object is its next key, the colon and its value, and what follows that.
-    pub key-value : (fs : Frames) (members : List (K × A)) (j e m : ℕ) (k : K) → j < length t → r.key t j ≡ taken k e → object_colon t e ≡ taken tt m
+    pub key-value : (fs : Frames) (members : List (K × A)) (j e m : ℕ) (k : K) → j < length t → r.key t j ≡ taken k e
+        → object_colon t e ≡ taken tt m
         → key_from r t fs members j ≡ value_from r t (members_frame members k ∷ fs) m
     key-value fs members j e m k h v w =
         let c = object_in r t (length fs) in
         ap (resume r t fs) (parts_at_is r t c (object_in-goes (length fs)) members j h
-        ∙ ap (behind_part r c t (parts_from r t c) members) (member-value r t (value_in r t (suc (length fs))) j e m k _ v w refl))
+        ∙ ap (behind_part r c t (parts_from r t c) members)
+        (member-value r t (value_in r t (suc (length fs))) j e m k _ v w refl))
 
     -- a fault of the key or of the colon
-    key-fault : (fs : Frames) (members : List (K × A)) (j x stop : ℕ) (k : Kind) → j < length t → (object_in r t (length fs)).part j ≡ fault k x stop
+    key-fault : (fs : Frames) (members : List (K × A)) (j x stop : ℕ) (k : Kind) → j < length t
+        → (object_in r t (length fs)).part j ≡ fault k x stop
         → key_from r t fs members j ≡ resume r t fs (if_forgiven r (λ e. r.object 0 e members) k x stop)
-    key-fault fs members j x stop k h v = ap (resume r t fs) (parts-fault r t (object_in r t (length fs)) (object_in-goes (length fs)) j x stop members k h v)
+    key-fault fs members j x stop k h v =
+        ap (resume r t fs)
+        (parts-fault r t (object_in r t (length fs)) (object_in-goes (length fs)) j x stop members k h v)
 
     pub key-failed : (fs : Frames) (members : List (K × A)) (j x : ℕ) (k : Kind) → j < length t → r.key t j ≡ failed k x
         → key_from r t fs members j ≡ resume r t fs (if_forgiven r (λ e. r.object 0 e members) k x j)
-    key-failed fs members j x k h v = key-fault fs members j x j k h (member-key r t (value_in r t (suc (length fs))) j x k v)
+    key-failed fs members j x k h v =
+        key-fault fs members j x j k h (member-key r t (value_in r t (suc (length fs))) j x k v)
 
-    pub colon-failed : (fs : Frames) (members : List (K × A)) (j e x : ℕ) (key : K) (k : Kind) → j < length t → r.key t j ≡ taken key e → object_colon t e ≡ failed k x
+    pub colon-failed : (fs : Frames) (members : List (K × A)) (j e x : ℕ) (key : K) (k : Kind) → j < length t
+        → r.key t j ≡ taken key e → object_colon t e ≡ failed k x
         → key_from r t fs members j ≡ resume r t fs (if_forgiven r (λ e. r.object 0 e members) k x x)
-    colon-failed fs members j e x key k h v w = key-fault fs members j x x k h (member-colon r t (value_in r t (suc (length fs))) j e x key k v w)
+    colon-failed fs members j e x key k h v w =
+        key-fault fs members j x x k h (member-colon r t (value_in r t (suc (length fs))) j e x key k v w)
 
     -- A container begins.
     module _ (any : IgnoresBegin r) (fs : Frames) (i : ℕ) (u : Step) (few : length fs ≤ 200) where
@@ -108,15 +137,18 @@ module _ {K A : Type 0} (r : Rules K A) (t : List ℕ) where
           let e : 201 - d - 1 ≡ 201 - suc d = omega arith in
           ap (resume r t fs) (inside_at-starts r t (201 - d) i start.Array (omega arith) is
           ∙ ap (λ n. container_at r (array_of r (λ j. inside_at r t n j) t i) t i) e
-          ∙ ap (λ build. container_at r (record { first = array_first; next = array_step t; part = value_in r t (suc d); build = build }) t i) (any.array i))
+          ∙ ap
+          (λ build. container_at r (record { first = array_first; next = array_step t; part = value_in r t (suc d); build = build }) t i) (any.array i))
           ∙ step-to (array_in r t d) fs [] (step t array_first (i + 1)) u h
 
-      pub object-begins : start_of (slice_index t i) ≡ start.Object → resolved r.forgives (step t object_first (i + 1)) ≡ u
+      pub object-begins : start_of (slice_index t i) ≡ start.Object
+          → resolved r.forgives (step t object_first (i + 1)) ≡ u
           → value_from r t fs i ≡ resume r t fs (parts_step r t (object_in r t (length fs)) [] u)
       object-begins is h =
           let d = length fs in
           let e : 201 - d - 1 ≡ 201 - suc d = omega arith in
           ap (resume r t fs) (inside_at-starts r t (201 - d) i start.Object (omega arith) is
           ∙ ap (λ n. container_at r (object_of r (λ j. inside_at r t n j) t i) t i) e
-          ∙ ap (λ build. container_at r (record { first = object_first; next = object_step t; part = (object_in r t d).part; build = build }) t i) (any.object i))
+          ∙ ap
+          (λ build. container_at r (record { first = object_first; next = object_step t; part = (object_in r t d).part; build = build }) t i) (any.object i))
           ∙ step-to (object_in r t d) fs [] (step t object_first (i + 1)) u h

@@ -8,6 +8,7 @@ mod Colons
 mod Answers
 mod Depth
 mod FirstFault
+mod Completed
 mod PartialAnswers
 mod CutAnywhere
 mod CutNumbers

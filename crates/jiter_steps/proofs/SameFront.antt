@@ -8,9 +8,12 @@ use Rattle.jiter_scan.proofs.Standing.{stands-length, stands-slice, slice-stands
 use Rattle.jiter_steps.specs.Blank.{IsBlankByte, IsBlank}
 use Rattle.jiter_steps.specs.Literal.{word_of}
 use Rattle.jiter_steps.specs.Node as grammar
-use Rattle.jiter_steps.specs.Node.{Key, Node, Nodes, no_nodes, node, NodeMembers, no_members, member, begin, end, StandsBehind, SpellsNumber, SpellsKey, Spells, SpellsItems, SpellsMoreItems, SpellsMembers, SpellsMoreMembers, nesting_of, nesting_of_members}
+use Rattle.jiter_steps.specs.Node.{Key, Node, Nodes, no_nodes, node, NodeMembers, no_members, member, begin, end}
+use Rattle.jiter_steps.specs.Node.{StandsBehind, SpellsNumber, SpellsKey, Spells, SpellsItems, SpellsMoreItems}
+use Rattle.jiter_steps.specs.Node.{SpellsMembers, SpellsMoreMembers, nesting_of, nesting_of_members}
 use Rattle.jiter_steps.specs.Piece.{Piece, SpellsPieces, SpellsString}
-use Rattle.jiter_steps.proofs.SpelledParts.{nodes_list, members_list, more_items-order, more_members-order, order-ahead, key-ahead, node-ahead}
+use Rattle.jiter_steps.proofs.SpelledParts.{nodes_list, members_list, more_items-order, more_members-order, order-ahead}
+use Rattle.jiter_steps.proofs.SpelledParts.{key-ahead, node-ahead}
 use Rattle.jiter_steps.proofs.StringStand.{pieces-ahead}
 
 -- each byte of t before the place k stands in u too
@@ -90,8 +93,9 @@ module _ (t u : List ℕ) (k : ℕ) (same : SameBefore t u k) where
   pub key-too : (key : Key) (j : ℕ) → j ≤ k → SpellsKey t key j → SpellsKey u key j
   key-too key j le h =
       let colon = h.blanks.ordered in
+      let string_ends = h.behind.blanks.ordered in
       record {
-        string = string-too key.begin key.end key.pieces (omega (arith, h.behind.blanks.ordered, h.behind.ends)) h.string;
+        string = string-too key.begin key.end key.pieces (omega (arith, h.behind.ends)) h.string;
         colon = h.colon;
         behind = behind-too key.end 58 h.colon (omega arith) h.behind;
         blanks = blanks-too h.colon j le h.blanks;

@@ -2,10 +2,12 @@
 use Rattle.std.proofs.Common.{◌≡◌, ◌⊎◌, inl, inr, ℕ, ◌+◌, ◌≤◌, ◌==◌, cond, List, length, subst, arith}
 use Rattle.std.specs.Prelude.{Option, Some, None}
 use Rattle.std.proofs.lemmas.Option.{slice_get_within}
-use Rattle.jiter_scan.specs.Kind.{Kind, trailing_comma, expected_list_comma_or_end, expected_object_comma_or_end, key_must_be_a_string}
+use Rattle.jiter_scan.specs.Kind.{Kind, trailing_comma, expected_list_comma_or_end, expected_object_comma_or_end}
+use Rattle.jiter_scan.specs.Kind.{key_must_be_a_string}
 use Rattle.jiter_steps.specs.Blank.{IsBlank}
 use Rattle.jiter_steps.specs.Node.{StandsBehind}
-use Rattle.jiter_steps.specs.Step.{Step, more, closed, stuck, step, array_first, array_comma, array_step, object_first, object_comma, object_step}
+use Rattle.jiter_steps.specs.Step.{Step, more, closed, stuck, step, array_first, array_comma, array_step, object_first}
+use Rattle.jiter_steps.specs.Step.{object_comma, object_step}
 use Rattle.jiter_steps.proofs.Bounds.{either}
 use Rattle.jiter_steps.proofs.RowSteps.{Behind, tested, Stops, row-is, behind}
 
@@ -38,7 +40,8 @@ module _ (t : List ℕ) where
   comma-key i j None s = s.blanks
   comma-key i j (Some c) s =
       either (StuckIs (IsBlank t i)) (c == 34) (more j) _ tt
-      (either (StuckIs (IsBlank t i)) (c == 125) (stuck trailing_comma j) (stuck key_must_be_a_string j) s.blanks s.blanks)
+      (either (StuckIs (IsBlank t i)) (c == 125) (stuck trailing_comma j) (stuck key_must_be_a_string j)
+      s.blanks s.blanks)
 
   -- behind a part
   comma-then : (i m : ℕ) (s : Step) → StandsBehind t i 44 m → StuckIs (IsBlank t m) s → StuckIs (BlanksOrComma t i) s
@@ -49,7 +52,8 @@ module _ (t : List ℕ) where
   behind-part : (closer : ℕ) (comma : ℕ → Option ℕ → Step) (k : Kind)
       → ((i j : ℕ) (o : Option ℕ) → Stops t i j o → StuckIs (IsBlank t i) (comma j o))
       → (i j c : ℕ) → Stops t i j (Some c)
-      → StuckIs (BlanksOrComma t i) (cond (c == closer) (closed (j + 1)) (cond (c == 44) (step t comma (j + 1)) (stuck k j)))
+      → StuckIs (BlanksOrComma t i)
+      (cond (c == closer) (closed (j + 1)) (cond (c == 44) (step t comma (j + 1)) (stuck k j)))
   behind-part closer comma k all i j c s =
       let inside = slice_get_within t j c s.here in
       let behind-comma = row-is t (StuckIs (IsBlank t (j + 1))) comma (j + 1) (all (j + 1)) (omega arith) in

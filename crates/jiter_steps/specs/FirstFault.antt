@@ -1,13 +1,18 @@
 -- Where a text goes wrong, by the grammar alone: no document begins so, or some document begins so and has little more.
-use Rattle.std.specs.Prelude.{◌≡◌, ◌⊎◌, ℕ, Bool, true, false, List, [], ◌∷◌, ◌++◌, codes}
+use Rattle.std.specs.Prelude.{◌≡◌, ◌≢◌, ◌⊎◌, ℕ, Bool, true, false, List, [], ◌∷◌, ◌++◌, codes}
 use Rattle.jiter_scan.specs.Ascii as ascii
-use Rattle.jiter_scan.specs.Kind.{Kind, eof_list, expected_list_comma_or_end, expected_object_comma_or_end, expected_value}
+use Rattle.jiter_scan.specs.Kind.{Kind, is_end_kind, invalid_code_point, out_of_memory}
+use Rattle.jiter_scan.specs.Kind.{eof_list, expected_list_comma_or_end, expected_object_comma_or_end, expected_value}
 use Rattle.jiter_scan.specs.Kind.{invalid_number, key_must_be_a_string, trailing_comma, trailing_characters}
 use Rattle.jiter_steps.specs.Node.{Node, IsDocument}
 
 -- no document begins with these bytes
 abbrev pub BeginsNoDocument : Bool → List ℕ → Type 0
 BeginsNoDocument names front = (rest : List ℕ) (n : Node) → IsDocument names (front ++ rest) n → ⊥
+
+-- a kind of fault of the bytes, and neither one of their end nor that of UTF-8
+abbrev pub IsDeadEnd : Kind → Type 0
+IsDeadEnd k = (is_end_kind k ≡ false) × (k ≢ invalid_code_point) × (k ≢ out_of_memory)
 
 -- bytes `]` and `}` alone
 abbrev pub AreClosers : List ℕ → Type 0

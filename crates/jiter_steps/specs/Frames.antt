@@ -39,7 +39,8 @@ module _ {K A : Type 0} (r : Rules K A) (t : List ℕ) where
   -- what an open container goes on to, once the value that it awaits is read so
   abbrev pub behind_value : ℕ → Frame K A → Reading A → Reading A
   behind_value depth (items_frame items) x = behind_part r (array_in depth) t (parts_from (array_in depth)) items x
-  behind_value depth (members_frame members k) x = behind_part r (object_in depth) t (parts_from (object_in depth)) members (with_key k x)
+  behind_value depth (members_frame members k) x =
+      behind_part r (object_in depth) t (parts_from (object_in depth)) members (with_key k x)
 
   -- and then all of them, the innermost first
   abbrev pub resume : List (Frame K A) → Reading A → Reading A
@@ -60,4 +61,5 @@ module _ {K A : Type 0} (r : Rules K A) (t : List ℕ) where
 
   -- and where an object has these members, the last of which ends at e.
   abbrev pub members_from : List (Frame K A) → List (K × A) → ℕ → Reading A
-  members_from fs members e = resume fs (parts_step (object_in (length fs)) members (step t (object_in (length fs)).next e))
+  members_from fs members e =
+      resume fs (parts_step (object_in (length fs)) members (step t (object_in (length fs)).next e))

@@ -409,7 +409,11 @@ impl<'j> Parser<'j> {
 
     /// The same of a string that the end of the input may cut: as far as its whole characters go.
     #[inline(always)]
-    pub fn string_front(&mut self, alloc: Global, tape: &mut Vec<u8>) -> Result<CowStr<'j>, ReadError>
+    pub fn string_front(
+        &mut self,
+        alloc: Global,
+        tape: &mut Vec<u8>,
+    ) -> Result<CowStr<'j>, ReadError>
         requires { self.old.index < length self.old.bytes.now }
         ensures moves { Moves self.old self.new }
         ensures value { Gives text_view result self.new.index

@@ -12,7 +12,7 @@ ghost use Rattle.jiter_steps.specs.declared.string_decoder.AtStop.TheVariants as
 ghost use Rattle.jiter_steps.specs.declared.string_decoder.Ending.TheVariants as ending;
 
 use crate::read_error::ReadError;
-use jiter_scan::errors::{Fault, FaultKind};
+use jiter_scan::errors::{Fault, FaultKind, fault_at};
 use jiter_scan::memory::{Refused, copy_text, extend};
 use jiter_scan::word::byte_at;
 use std::alloc::Global;
@@ -382,16 +382,16 @@ pub fn string_at<'j>(
 // The bytes as a text, without an unfinished character at their end; or how many are right before one that is
 // wrong.
 #[tactic(auto, using(crate::proofs::FrontTexts::kept_whole, crate::proofs::FrontTexts::kept_front, crate::proofs::FrontTexts::kept_wrong))]
-fn front_text(bytes: &[u8]) -> Result<&str, usize>
+fn front_text(content: &[u8]) -> Result<&str, usize>
     ensures value { (i e : ℕ) → (owned : Bool) → MatchResult result
-        (λ text. valid_front i owned bytes.now e ≡ taken (record { owned = owned; bytes = text.now }) e)
-        (λ n. valid_front i owned bytes.now e ≡ failed invalid_code_point (i + n)) }
-    ensures within { IfErr result (λ n. n ≤ length bytes.now) }
+        (λ text. valid_front i owned content.now e ≡ taken (record { owned = owned; bytes = text.now }) e)
+        (λ n. valid_front i owned content.now e ≡ failed invalid_code_point (i + n)) }
+    ensures within { IfErr result (λ n. n ≤ length content.now) }
 {
-    match simdutf8::compat::from_utf8(bytes) {
+    match simdutf8::compat::from_utf8(content) {
         Ok(text) => Ok(text),
         Err(e) => match e.error_len() {
-            None => match simdutf8::compat::from_utf8(&bytes[..e.valid_up_to()]) {
+            None => match simdutf8::compat::from_utf8(&content[..e.valid_up_to()]) {
                 Ok(text) => Ok(text),
                 Err(_) => unreachable!(),
             },
@@ -491,10 +491,10 @@ pub fn string_front_at<'j>(
             Err(fault) => Err(ReadError::Fault(fault)),
         },
         Some(b'\\') => decode_front(alloc, tape, bytes, at, to),
-        Some(_) => Err(ReadError::Fault(Fault {
-            kind: FaultKind::ControlCharacterWhileParsingString,
-            index: to,
-        })),
+        Some(_) => Err(ReadError::Fault(fault_at(
+            FaultKind::ControlCharacterWhileParsingString,
+            to,
+        ))),
     }
 }
 

@@ -39,11 +39,13 @@ begins-at i j (Some c) h = cc
 pub value-begins-at : (t : List ℕ) (i : ℕ) → step t value_first 0 ≡ taken tt i → past_blanks t 0 ≡ i
 value-begins-at t i h = begins-at i (past_blanks t 0) (slice_get t (past_blanks t 0)) h
 
-no-value : (r : Rules Text Tree) (t : List ℕ) (i : ℕ) (o : Option ℕ) (k : Kind) (j : ℕ) → value_first i o ≡ failed k j → if_begun r t i o ≡ fault k j j
+no-value : (r : Rules Text Tree) (t : List ℕ) (i : ℕ) (o : Option ℕ) (k : Kind) (j : ℕ) → value_first i o ≡ failed k j
+    → if_begun r t i o ≡ fault k j j
 no-value r t i None k j h = cc
 no-value r t i (Some c) k j h = absurd (cc)
 
-front-none : (r : Rules Text Tree) (t : List ℕ) (k : Kind) (j : ℕ) → step t value_first 0 ≡ failed k j → front_answer r t ≡ fault k j j
+front-none : (r : Rules Text Tree) (t : List ℕ) (k : Kind) (j : ℕ) → step t value_first 0 ≡ failed k j
+    → front_answer r t ≡ fault k j j
 unfolding front_answer
 front-none r t k j h = no-value r t (past_blanks t 0) (slice_get t (past_blanks t 0)) k j h
 
@@ -52,17 +54,20 @@ nothing-left : (a : Tree) (e i j : ℕ) (o : Option ℕ) → document_end j o �
 nothing-left a e i j None h = refl
 nothing-left a e i j (Some c) h = absurd (cc)
 
-something-left : (a : Tree) (e i j : ℕ) (k : Kind) (o : Option ℕ) → document_end j o ≡ failed k i → if_last a e j o ≡ fault k i i
+something-left : (a : Tree) (e i j : ℕ) (k : Kind) (o : Option ℕ) → document_end j o ≡ failed k i
+    → if_last a e j o ≡ fault k i i
 something-left a e i j k None h = absurd (cc)
 something-left a e i j k (Some c) h = cc
 
 module _ (names : Bool) (t : List ℕ) where
-  in-front : (mode : PartialMode) → is_active mode ≡ true → answer_in names mode t ≡ front_answer (trees (forgives mode) (value_form mode) names) t
+  in-front : (mode : PartialMode) → is_active mode ≡ true
+      → answer_in names mode t ≡ front_answer (trees (forgives mode) (value_form mode) names) t
   in-front Off h = absurd (cc)
   in-front On h = refl
   in-front TrailingStrings h = refl
 
-  in-whole : (mode : PartialMode) → is_active mode ≡ false → answer_in names mode t ≡ whole_answer (trees (forgives mode) (value_form mode) names) t
+  in-whole : (mode : PartialMode) → is_active mode ≡ false
+      → answer_in names mode t ≡ whole_answer (trees (forgives mode) (value_form mode) names) t
   in-whole Off h = refl
   in-whole On h = absurd (cc)
   in-whole TrailingStrings h = absurd (cc)
@@ -74,7 +79,8 @@ module _ (names : Bool) (t : List ℕ) where
   answer_in-within TrailingStrings = partial_answer-within t names TrailingStrings
 
 module _ (p : Settings) (t : List ℕ) where
-  either-way : (x : Reading Tree) → (is_active p.mode ≡ true → answered p t ≡ x) → (is_active p.mode ≡ false → answered p t ≡ x) → answered p t ≡ x
+  either-way : (x : Reading Tree) → (is_active p.mode ≡ true → answered p t ≡ x)
+      → (is_active p.mode ≡ false → answered p t ≡ x) → answered p t ≡ x
   either-way x on off = by (is_active p.mode) refl where
     by : (y : Bool) → is_active p.mode ≡ y → answered p t ≡ x
     by true h = on h
@@ -83,7 +89,8 @@ module _ (p : Settings) (t : List ℕ) where
   -- where no value begins
   pub answered-none : (k : Kind) (x i : ℕ) → (step t value_first 0 ≡ failed k x) × (i ≡ x) → answered p t ≡ fault k x i
   answered-none k x i h =
-      either-way (fault k x i) (λ on. in-front p.allow_inf_nan t p.mode on ∙ front-none (rules p) t k x h.0 ∙ ap (fault k x) (sym h.1))
+      either-way (fault k x i)
+      (λ on. in-front p.allow_inf_nan t p.mode on ∙ front-none (rules p) t k x h.0 ∙ ap (fault k x) (sym h.1))
       (λ off. in-whole p.allow_inf_nan t p.mode off ∙ whole-is (rules p) t ∙ ap (to_end t) (front-none (rules p) t k x h.0) ∙ ap (fault k x) (sym h.1))
 
   module _ (begun : past_blanks t 0 < length t) where
@@ -91,27 +98,37 @@ module _ (p : Settings) (t : List ℕ) where
     value_here = value_at (rules p) t 200 (past_blanks t 0)
 
     -- where the value is refused
-    pub answered-refused : (e : ReadError) (j : ℕ) → Gives view (Err e) j value_here → GivesWhole (Err e) j (answered p t)
+    pub answered-refused : (e : ReadError) (j : ℕ) → Gives view (Err e) j value_here
+        → GivesWhole (Err e) j (answered p t)
     answered-refused (error.Memory m) j h = tt
     answered-refused (error.Fault f) j h =
-        either-way (fault (fault_kind f.kind) f.index j) (λ on. in-front p.allow_inf_nan t p.mode on ∙ front-begins (rules p) t (past_blanks t 0) refl begun ∙ h)
+        either-way (fault (fault_kind f.kind) f.index j)
+        (λ on. in-front p.allow_inf_nan t p.mode on ∙ front-begins (rules p) t (past_blanks t 0) refl begun ∙ h)
         (λ off. in-whole p.allow_inf_nan t p.mode off ∙ whole-begins (rules p) t (past_blanks t 0) refl begun ∙ ap (to_end t) h)
 
     module _ (v : Tree) (e : ℕ) (is : value_here ≡ done v e) where
       pub answered-front : is_active p.mode ≡ true → answered p t ≡ done v e
-      answered-front on = in-front p.allow_inf_nan t p.mode on ∙ front-begins (rules p) t (past_blanks t 0) refl begun ∙ is
+      answered-front on =
+          in-front p.allow_inf_nan t p.mode on ∙ front-begins (rules p) t (past_blanks t 0) refl begun ∙ is
 
       whole-value : is_active p.mode ≡ false → answered p t ≡ to_end t (done v e)
-      whole-value off = in-whole p.allow_inf_nan t p.mode off ∙ whole-begins (rules p) t (past_blanks t 0) refl begun ∙ ap (to_end t) is
+      whole-value off =
+          in-whole p.allow_inf_nan t p.mode off ∙ whole-begins (rules p) t (past_blanks t 0) refl begun
+          ∙ ap (to_end t) is
 
-      pub answered-end : (j : ℕ) → is_active p.mode ≡ false → step t document_end e ≡ taken tt j → answered p t ≡ done v e
+      pub answered-end : (j : ℕ) → is_active p.mode ≡ false → step t document_end e ≡ taken tt j
+          → answered p t ≡ done v e
       answered-end j off h = whole-value off ∙ nothing-left v e j (past_blanks t e) (slice_get t (past_blanks t e)) h
 
-      pub answered-trailing : (k : Kind) (x j : ℕ) → is_active p.mode ≡ false → (step t document_end e ≡ failed k x) × (j ≡ x) → answered p t ≡ fault k x j
-      answered-trailing k x j off h = whole-value off ∙ something-left v e x (past_blanks t e) k (slice_get t (past_blanks t e)) h.0 ∙ ap (fault k x) (sym h.1)
+      pub answered-trailing : (k : Kind) (x j : ℕ) → is_active p.mode ≡ false
+          → (step t document_end e ≡ failed k x) × (j ≡ x) → answered p t ≡ fault k x j
+      answered-trailing k x j off h =
+          whole-value off ∙ something-left v e x (past_blanks t e) k (slice_get t (past_blanks t e)) h.0
+          ∙ ap (fault k x) (sym h.1)
 
 -- what a public call answers of it
-pub error-answers : (e : ReadError) (i : ℕ) (err : JsonError) (r : Reading Tree) → IsErrorOf e i err → GivesWhole (Err e) i r → Answers (Err err) r
+pub error-answers : (e : ReadError) (i : ℕ) (err : JsonError) (r : Reading Tree) → IsErrorOf e i err
+    → GivesWhole (Err e) i r → Answers (Err err) r
 error-answers (error.Memory m) i err r is h = inl (ap (λ e. e.error_type) is)
 error-answers (error.Fault f) i err r is h = inr (i, h ∙ ap₂ (λ k x. fault k x i) (sym is.0) (sym is.1))
 
@@ -124,12 +141,15 @@ fails-gives (error.Fault f) j x y q h = q ∙ h
 fails-gives (error.Memory m) j x y q h = tt
 
 -- a machine begins where the text's value does
-pub begins-under-way : (p : Settings) (t : List ℕ) (s : Stacks) (i : ℕ) → Stands s awaits.Root → step t value_first 0 ≡ taken tt i → i < length t → IsUnderWay true t p i awaits.Root s
+pub begins-under-way : (p : Settings) (t : List ℕ) (s : Stacks) (i : ℕ) → Stands s awaits.Root
+    → step t value_first 0 ≡ taken tt i → i < length t → IsUnderWay true t p i awaits.Root s
 begins-under-way p t s i b h lt =
     let os = reverse s.nest.items in
     let at = value-begins-at t i h in
-    let none : length s.nest.items ≡ 0 = sym (length-reverse s.nest.items) ∙ root-alone os (length s.items.items) (length s.members.items) b in (
-      ap (value_at (rules p) t 200) at ∙ root-from p t os s.items.items s.members.items (length s.items.items) (length s.members.items) i b,
+    let none : length s.nest.items ≡ 0 = sym (length-reverse s.nest.items)
+    ∙ root-alone os (length s.items.items) (length s.members.items) b in (
+      ap (value_at (rules p) t 200) at
+          ∙ root-from p t os s.items.items s.members.items (length s.items.items) (length s.members.items) i b,
       (b, omega (arith, none), lt),
       λ e. cc,
       subst (λ j. j < length t) (sym at) lt,

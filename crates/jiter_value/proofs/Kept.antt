@@ -33,11 +33,13 @@ use Rattle.jiter_value.specs.declared.value.JsonValue.{JsonValue}
 use Rattle.jiter_value.specs.declared.value.JsonValue.TheVariants.{Null}
 
 -- a list's last, set
-pub set-last : (xs before : List Member) (n : ℕ) (key : CowStr Global) (old v : JsonValue) (got : Member) → xs ≡ before ++ (key, old) ∷ [] → n ≡ length before → got ≡ get_or xs n got
+pub set-last : (xs before : List Member) (n : ℕ) (key : CowStr Global) (old v : JsonValue) (got : Member)
+    → xs ≡ before ++ (key, old) ∷ [] → n ≡ length before → got ≡ get_or xs n got
     → slice_set xs n (got.0, v) ≡ before ++ (key, v) ∷ []
 set-last xs before n key old v got h at g =
     let is : got ≡ (key, old) = g ∙ ap₂ (λ ys m. get_or ys m got) h at ∙ get_or-append_seam before (key, old) [] got in
-    ap₂ (λ ys m. slice_set ys m (got.0, v)) h at ∙ set-append_seam before (key, old) [] (got.0, v) ∙ ap (λ m. before ++ (m.0, v) ∷ []) is
+    ap₂ (λ ys m. slice_set ys m (got.0, v)) h at ∙ set-append_seam before (key, old) [] (got.0, v)
+    ∙ ap (λ m. before ++ (m.0, v) ∷ []) is
 
 pub last-split : {X : Type 0} (xs : List X) → 0 < length xs → (x : X) × (xs ≡ take (length xs - 1) xs ++ x ∷ [])
 last-split [] h = let no : ⊥ = omega arith in absurd no
@@ -58,19 +60,24 @@ last_key-append (x ∷ xs) m = last_key_of-append x xs m
 front-append : (xs : List Member) (m : Member) → front (xs ++ m ∷ []) ≡ xs
 front-append xs m =
     let e : length (xs ++ m ∷ []) - 1 ≡ length xs = omega (arith, length-append xs (m ∷ [])) in
-    ap (λ n. take n (xs ++ m ∷ [])) e ∙ take-append-le (length xs) xs (m ∷ []) (omega arith) ∙ take_all (length xs) xs (omega arith)
+    ap (λ n. take n (xs ++ m ∷ [])) e ∙ take-append-le (length xs) xs (m ∷ []) (omega arith)
+    ∙ take_all (length xs) xs (omega arith)
 
 -- an object that awaits the value of this key
 pub value-frames : (o : Open) (os : List Open) (es : List JsonValue) (before : List Member) (key : CowStr Global) (old : JsonValue) → o.base ≤ length before
     → frames awaits.Value (o ∷ os) es (before ++ (key, old) ∷ []) ≡ members_frame (map member_view (drop o.base before)) (text_view key) ∷ frames o.outer os es (take o.base before)
 value-frames o os es before key old h =
     let m : Member = (key, old) in
-    let dropped : drop o.base (before ++ m ∷ []) ≡ drop o.base before ++ m ∷ [] = drop-append-le o.base before (m ∷ []) h in
+    let dropped : drop o.base (before ++ m ∷ []) ≡ drop o.base before ++ m ∷ [] = drop-append-le o.base before
+    (m ∷ []) h in
     let kept : take o.base (before ++ m ∷ []) ≡ take o.base before = take-append-le o.base before (m ∷ []) h in
-    ap₂ (λ part rest. members_frame (map member_view (front part)) (last_key part) ∷ frames o.outer os es rest) dropped kept
-    ∙ ap₂ (λ part k. members_frame (map member_view part) k ∷ frames o.outer os es (take o.base before)) (front-append (drop o.base before) m) (last_key-append (drop o.base before) m)
+    ap₂
+    (λ part rest. members_frame (map member_view (front part)) (last_key part) ∷ frames o.outer os es rest) dropped kept
+    ∙ ap₂ (λ part k. members_frame (map member_view part) k ∷ frames o.outer os es (take o.base before))
+    (front-append (drop o.base before) m) (last_key-append (drop o.base before) m)
 
-pub length-frames : (a : Awaits) (os : List Open) (n m : ℕ) (es : List JsonValue) (ms : List Member) → HaveBases a os n m → length (frames a os es ms) ≡ length os
+pub length-frames : (a : Awaits) (os : List Open) (n m : ℕ) (es : List JsonValue) (ms : List Member)
+    → HaveBases a os n m → length (frames a os es ms) ≡ length os
 length-frames a [] n m es ms h = refl
 length-frames awaits.Item (o ∷ os) n m es ms h = ap suc (length-frames o.outer os o.base m (take o.base es) ms h.1)
 length-frames awaits.Value (o ∷ os) n m es ms h = ap suc (length-frames o.outer os n o.base es (take o.base ms) h.1)
@@ -91,11 +98,13 @@ module _ (p : Settings) (t : List ℕ) where
   any = record { array = λ b. refl; object = λ b. refl }
 
   -- A value goes where it belongs.
-  pub put-item : (os : List Open) (es : List JsonValue) (ms : List Member) (root v : JsonValue) (e : ℕ) → HaveBases awaits.Item os (length es) (length ms)
+  pub put-item : (os : List Open) (es : List JsonValue) (ms : List Member) (root v : JsonValue) (e : ℕ)
+      → HaveBases awaits.Item os (length es) (length ms)
       → resume (rules p) t (frames awaits.Item os es ms) (done (view v) e) ≡ behind_in p t awaits.Item os (es ++ v ∷ []) ms root e
   put-item [] es ms root v e h = absurd h
   put-item (o ∷ os) es ms root v e h =
-      let part : map view (drop o.base es) ++ view v ∷ [] ≡ map view (drop o.base (es ++ v ∷ [])) = sym (map_push view (drop o.base es) v) ∙ ap (map view) (sym (drop-append-le o.base es (v ∷ []) h.0)) in
+      let part : map view (drop o.base es) ++ view v ∷ [] ≡ map view (drop o.base (es ++ v ∷ [])) = sym
+      (map_push view (drop o.base es) v) ∙ ap (map view) (sym (drop-append-le o.base es (v ∷ []) h.0)) in
       let rest : take o.base es ≡ take o.base (es ++ v ∷ []) = sym (take-append-le o.base es (v ∷ []) h.0) in
       ap₂ (λ xs ys. items_from (rules p) t (frames o.outer os ys ms) xs e) part rest
 
@@ -105,11 +114,15 @@ module _ (p : Settings) (t : List ℕ) where
   put-value (o ∷ os) es before key old root v e h =
       let le : o.base ≤ length before = omega (arith, h.0, length-append before ((key, old) ∷ [])) in
       let part : map member_view (drop o.base before) ++ (text_view key, view v) ∷ [] ≡ map member_view (drop o.base (before ++ (key, v) ∷ [])) =
-      sym (map_push member_view (drop o.base before) (key, v)) ∙ ap (map member_view) (sym (drop-append-le o.base before ((key, v) ∷ []) le)) in
-      let rest : take o.base before ≡ take o.base (before ++ (key, v) ∷ []) = sym (take-append-le o.base before ((key, v) ∷ []) le) in
-      ap (λ fs. resume (rules p) t fs (done (view v) e)) (value-frames o os es before key old le) ∙ ap₂ (λ xs ys. members_from (rules p) t (frames o.outer os es ys) xs e) part rest
+      sym (map_push member_view (drop o.base before) (key, v))
+      ∙ ap (map member_view) (sym (drop-append-le o.base before ((key, v) ∷ []) le)) in
+      let rest : take o.base before ≡ take o.base (before ++ (key, v) ∷ []) = sym
+      (take-append-le o.base before ((key, v) ∷ []) le) in
+      ap (λ fs. resume (rules p) t fs (done (view v) e)) (value-frames o os es before key old le)
+      ∙ ap₂ (λ xs ys. members_from (rules p) t (frames o.outer os es ys) xs e) part rest
 
-  pub put-root : (os : List Open) (es : List JsonValue) (ms : List Member) (v : JsonValue) (e : ℕ) → HaveBases awaits.Root os (length es) (length ms)
+  pub put-root : (os : List Open) (es : List JsonValue) (ms : List Member) (v : JsonValue) (e : ℕ)
+      → HaveBases awaits.Root os (length es) (length ms)
       → resume (rules p) t (frames awaits.Root os es ms) (done (view v) e) ≡ behind_in p t awaits.Root os es ms v e
   put-root [] es ms v e h = refl
   put-root (o ∷ os) es ms v e h = absurd h
@@ -118,74 +131,100 @@ module _ (p : Settings) (t : List ℕ) where
   pub array-closes : (init : List Open) (o : Open) (es rest : List JsonValue) (ms : List Member) (v : JsonValue) (e : ℕ) → rest ≡ take o.base es → view v ≡ array (items_of (map view (drop o.base es)))
       → stacks.array_in p t (reverse (init ++ o ∷ [])) es ms e ≡ resume (rules p) t (frames o.outer (reverse init) rest ms) (done (view v) e)
   array-closes init o es rest ms v e left made =
-      ap (λ os. stacks.array_in p t os es ms e) (reverse-append init (o ∷ [])) ∙ ap₂ (λ xs y. resume (rules p) t (frames o.outer (reverse init) xs ms) (done y e)) (sym left) (sym made)
+      ap (λ os. stacks.array_in p t os es ms e) (reverse-append init (o ∷ []))
+      ∙ ap₂ (λ xs y. resume (rules p) t (frames o.outer (reverse init) xs ms) (done y e)) (sym left) (sym made)
 
   pub object-closes : (init : List Open) (o : Open) (es : List JsonValue) (ms rest : List Member) (v : JsonValue) (e : ℕ) → rest ≡ take o.base ms → view v ≡ object (members_of (map member_view (drop o.base ms)))
       → stacks.object_in p t (reverse (init ++ o ∷ [])) es ms e ≡ resume (rules p) t (frames o.outer (reverse init) es rest) (done (view v) e)
   object-closes init o es ms rest v e left made =
-      ap (λ os. stacks.object_in p t os es ms e) (reverse-append init (o ∷ [])) ∙ ap₂ (λ xs y. resume (rules p) t (frames o.outer (reverse init) es xs) (done y e)) (sym left) (sym made)
+      ap (λ os. stacks.object_in p t os es ms e) (reverse-append init (o ∷ []))
+      ∙ ap₂ (λ xs y. resume (rules p) t (frames o.outer (reverse init) es xs) (done y e)) (sym left) (sym made)
 
   -- Behind a value.
-  pub items-more : (os : List Open) (es : List JsonValue) (ms : List Member) (root : JsonValue) (e j : ℕ) → HaveBases awaits.Item os (length es) (length ms) → resolved (forgives p.mode) (step t (array_step t) e) ≡ more j → j < length t
+  pub items-more : (os : List Open) (es : List JsonValue) (ms : List Member) (root : JsonValue) (e j : ℕ)
+      → HaveBases awaits.Item os (length es) (length ms)
+      → resolved (forgives p.mode) (step t (array_step t) e) ≡ more j → j < length t
       → behind_in p t awaits.Item os es ms root e ≡ value_from (rules p) t (frames awaits.Item os es ms) j
   items-more [] es ms root e j b s h = absurd b
   items-more (o ∷ os) es ms root e j b s h =
       let fs = frames o.outer os (take o.base es) ms in
       let items = map view (drop o.base es) in
-      step-to (rules p) t (array_in (rules p) t (length fs)) fs items (step t (array_step t) e) (more j) s ∙ items-value (rules p) t good fs items j h
+      step-to (rules p) t (array_in (rules p) t (length fs)) fs items (step t (array_step t) e) (more j) s
+      ∙ items-value (rules p) t good fs items j h
 
-  pub items-closed : (os : List Open) (es : List JsonValue) (ms : List Member) (root : JsonValue) (e c : ℕ) → HaveBases awaits.Item os (length es) (length ms) → resolved (forgives p.mode) (step t (array_step t) e) ≡ closed c
+  pub items-closed : (os : List Open) (es : List JsonValue) (ms : List Member) (root : JsonValue) (e c : ℕ)
+      → HaveBases awaits.Item os (length es) (length ms)
+      → resolved (forgives p.mode) (step t (array_step t) e) ≡ closed c
       → behind_in p t awaits.Item os es ms root e ≡ stacks.array_in p t os es ms c
   items-closed [] es ms root e c b s = absurd b
   items-closed (o ∷ os) es ms root e c b s =
       let fs = frames o.outer os (take o.base es) ms in
-      step-to (rules p) t (array_in (rules p) t (length fs)) fs (map view (drop o.base es)) (step t (array_step t) e) (closed c) s
+      step-to (rules p) t (array_in (rules p) t (length fs)) fs (map view (drop o.base es)) (step t (array_step t) e)
+      (closed c) s
 
-  pub items-stuck : (os : List Open) (es : List JsonValue) (ms : List Member) (root : JsonValue) (e j : ℕ) (k : Kind) → HaveBases awaits.Item os (length es) (length ms) → resolved (forgives p.mode) (step t (array_step t) e) ≡ stuck k j
+  pub items-stuck : (os : List Open) (es : List JsonValue) (ms : List Member) (root : JsonValue) (e j : ℕ) (k : Kind)
+      → HaveBases awaits.Item os (length es) (length ms)
+      → resolved (forgives p.mode) (step t (array_step t) e) ≡ stuck k j
       → forgives p.mode k ≡ false → behind_in p t awaits.Item os es ms root e ≡ fault k j j
   items-stuck [] es ms root e j k b s bad = absurd b
   items-stuck (o ∷ os) es ms root e j k b s bad =
       let fs = frames o.outer os (take o.base es) ms in
-      step-stuck (rules p) t (array_in (rules p) t (length fs)) fs (map view (drop o.base es)) (step t (array_step t) e) k j s bad
+      step-stuck (rules p) t (array_in (rules p) t (length fs)) fs (map view (drop o.base es))
+      (step t (array_step t) e) k j s bad
 
-  pub members-more : (os : List Open) (es : List JsonValue) (ms : List Member) (root : JsonValue) (e j : ℕ) → HaveBases awaits.Value os (length es) (length ms) → resolved (forgives p.mode) (step t (object_step t) e) ≡ more j
+  pub members-more : (os : List Open) (es : List JsonValue) (ms : List Member) (root : JsonValue) (e j : ℕ)
+      → HaveBases awaits.Value os (length es) (length ms)
+      → resolved (forgives p.mode) (step t (object_step t) e) ≡ more j
       → behind_in p t awaits.Value os es ms root e ≡ key_in p t os es ms j
   members-more [] es ms root e j b s = absurd b
   members-more (o ∷ os) es ms root e j b s =
       let fs = frames o.outer os es (take o.base ms) in
-      step-to (rules p) t (object_in (rules p) t (length fs)) fs (map member_view (drop o.base ms)) (step t (object_step t) e) (more j) s
+      step-to (rules p) t (object_in (rules p) t (length fs)) fs (map member_view (drop o.base ms))
+      (step t (object_step t) e) (more j) s
 
-  pub members-closed : (os : List Open) (es : List JsonValue) (ms : List Member) (root : JsonValue) (e c : ℕ) → HaveBases awaits.Value os (length es) (length ms) → resolved (forgives p.mode) (step t (object_step t) e) ≡ closed c
+  pub members-closed : (os : List Open) (es : List JsonValue) (ms : List Member) (root : JsonValue) (e c : ℕ)
+      → HaveBases awaits.Value os (length es) (length ms)
+      → resolved (forgives p.mode) (step t (object_step t) e) ≡ closed c
       → behind_in p t awaits.Value os es ms root e ≡ stacks.object_in p t os es ms c
   members-closed [] es ms root e c b s = absurd b
   members-closed (o ∷ os) es ms root e c b s =
       let fs = frames o.outer os es (take o.base ms) in
-      step-to (rules p) t (object_in (rules p) t (length fs)) fs (map member_view (drop o.base ms)) (step t (object_step t) e) (closed c) s
+      step-to (rules p) t (object_in (rules p) t (length fs)) fs (map member_view (drop o.base ms))
+      (step t (object_step t) e) (closed c) s
 
-  pub members-stuck : (os : List Open) (es : List JsonValue) (ms : List Member) (root : JsonValue) (e j : ℕ) (k : Kind) → HaveBases awaits.Value os (length es) (length ms) → resolved (forgives p.mode) (step t (object_step t) e) ≡ stuck k j
+  pub members-stuck : (os : List Open) (es : List JsonValue) (ms : List Member) (root : JsonValue) (e j : ℕ) (k : Kind)
+      → HaveBases awaits.Value os (length es) (length ms)
+      → resolved (forgives p.mode) (step t (object_step t) e) ≡ stuck k j
       → forgives p.mode k ≡ false → behind_in p t awaits.Value os es ms root e ≡ fault k j j
   members-stuck [] es ms root e j k b s bad = absurd b
   members-stuck (o ∷ os) es ms root e j k b s bad =
       let fs = frames o.outer os es (take o.base ms) in
-      step-stuck (rules p) t (object_in (rules p) t (length fs)) fs (map member_view (drop o.base ms)) (step t (object_step t) e) k j s bad
+      step-stuck (rules p) t (object_in (rules p) t (length fs)) fs (map member_view (drop o.base ms))
+      (step t (object_step t) e) k j s bad
 
   -- A fault where a value is awaited.
-  pub fault-kept : (a : Awaits) (os : List Open) (es : List JsonValue) (ms : List Member) (k : Kind) (x stop : ℕ) → forgives p.mode k ≡ false → resume (rules p) t (frames a os es ms) (fault k x stop) ≡ fault k x stop
+  pub fault-kept : (a : Awaits) (os : List Open) (es : List JsonValue) (ms : List Member) (k : Kind) (x stop : ℕ)
+      → forgives p.mode k ≡ false → resume (rules p) t (frames a os es ms) (fault k x stop) ≡ fault k x stop
   fault-kept a os es ms k x stop bad = resume-fault (rules p) t (frames a os es ms) k x stop bad
 
-  pub fault-item : (os : List Open) (es : List JsonValue) (ms : List Member) (k : Kind) (x stop : ℕ) → HaveBases awaits.Item os (length es) (length ms) → forgives p.mode k ≡ true
+  pub fault-item : (os : List Open) (es : List JsonValue) (ms : List Member) (k : Kind) (x stop : ℕ)
+      → HaveBases awaits.Item os (length es) (length ms) → forgives p.mode k ≡ true
       → resume (rules p) t (frames awaits.Item os es ms) (fault k x stop) ≡ stacks.array_in p t os es ms stop
   fault-item [] es ms k x stop b ok = absurd b
-  fault-item (o ∷ os) es ms k x stop b ok = resume-forgiven (rules p) t (items_frame (map view (drop o.base es))) (frames o.outer os (take o.base es) ms) k x stop ok
+  fault-item (o ∷ os) es ms k x stop b ok =
+      resume-forgiven (rules p) t (items_frame (map view (drop o.base es)))
+      (frames o.outer os (take o.base es) ms) k x stop ok
 
   pub fault-value : (os : List Open) (es : List JsonValue) (before : List Member) (key : CowStr Global) (old : JsonValue) (k : Kind) (x stop : ℕ) → HaveKeyBase os (length es) (length before) → forgives p.mode k ≡ true
       → resume (rules p) t (frames awaits.Value os es (before ++ (key, old) ∷ [])) (fault k x stop) ≡ stacks.object_in p t os es before stop
   fault-value [] es before key old k x stop b ok = absurd b
   fault-value (o ∷ os) es before key old k x stop b ok =
       ap (λ fs. resume (rules p) t fs (fault k x stop)) (value-frames o os es before key old b.0)
-      ∙ resume-forgiven (rules p) t (members_frame (map member_view (drop o.base before)) (text_view key)) (frames o.outer os es (take o.base before)) k x stop ok
+      ∙ resume-forgiven (rules p) t (members_frame (map member_view (drop o.base before)) (text_view key))
+      (frames o.outer os es (take o.base before)) k x stop ok
 
-  pub fault-root : (os : List Open) (es : List JsonValue) (ms : List Member) (x : Reading Tree) → HaveBases awaits.Root os (length es) (length ms) → resume (rules p) t (frames awaits.Root os es ms) x ≡ x
+  pub fault-root : (os : List Open) (es : List JsonValue) (ms : List Member) (x : Reading Tree)
+      → HaveBases awaits.Root os (length es) (length ms) → resume (rules p) t (frames awaits.Root os es ms) x ≡ x
   fault-root [] es ms x b = refl
   fault-root (o ∷ os) es ms x b = absurd b
 
@@ -203,91 +242,127 @@ module _ (p : Settings) (t : List ℕ) where
     low : length fs ≤ 200
     low = omega (arith, deep)
 
-    pub value-read : (x : Reading Tree) → ((room : ℕ) → value_at (rules p) t room i ≡ x) → value_from (rules p) t fs i ≡ resume (rules p) t fs x
+    pub value-read : (x : Reading Tree) → ((room : ℕ) → value_at (rules p) t room i ≡ x)
+        → value_from (rules p) t fs i ≡ resume (rules p) t fs x
     value-read x is = ap (resume (rules p) t fs) (value_in-room (rules p) t (length fs) i low ∙ is (200 - length fs))
 
-    pub array-opens : (j : ℕ) (o : Open) → o ≡ record { outer = a; base = length es } → j < length t → start_of (slice_index t i) ≡ start.Array → resolved (forgives p.mode) (step t array_first (i + 1)) ≡ more j
+    pub array-opens : (j : ℕ) (o : Open) → o ≡ record { outer = a; base = length es } → j < length t
+        → start_of (slice_index t i) ≡ start.Array → resolved (forgives p.mode) (step t array_first (i + 1)) ≡ more j
         → value_from (rules p) t fs i ≡ value_from (rules p) t (frames awaits.Item (o ∷ os) es ms) j
     array-opens j o eq h is s =
         let none : [] ≡ map view (drop (length es) es) = sym (ap (map view) (drop_all (length es) es (omega arith))) in
         let same : es ≡ take (length es) es = sym (take_all (length es) es (omega arith)) in
         array-begins (rules p) t good any fs i (more j) low is s ∙ items-value (rules p) t good fs [] j h
-        ∙ ap₂ (λ xs ys. value_from (rules p) t (items_frame xs ∷ frames a os ys ms) j) none same ∙ ap (λ q. value_from (rules p) t (frames awaits.Item (q ∷ os) es ms) j) (sym eq)
+        ∙ ap₂ (λ xs ys. value_from (rules p) t (items_frame xs ∷ frames a os ys ms) j) none same
+        ∙ ap (λ q. value_from (rules p) t (frames awaits.Item (q ∷ os) es ms) j) (sym eq)
 
-    pub array-limit : (j : ℕ) → length os ≡ 200 → j < length t → start_of (slice_index t i) ≡ start.Array → resolved (forgives p.mode) (step t array_first (i + 1)) ≡ more j
+    pub array-limit : (j : ℕ) → length os ≡ 200 → j < length t → start_of (slice_index t i) ≡ start.Array
+        → resolved (forgives p.mode) (step t array_first (i + 1)) ≡ more j
         → value_from (rules p) t fs i ≡ fault recursion_limit j j
     array-limit j full h is s =
         let d : suc (length fs) ≡ 201 = omega (arith, deep) in
         let f : Frame Text Tree = items_frame [] in
         array-begins (rules p) t good any fs i (more j) low is s ∙ items-value (rules p) t good fs [] j h
-        ∙ ap (λ n. resume (rules p) t (f ∷ fs) (value_in (rules p) t n j)) d ∙ ap (resume (rules p) t (f ∷ fs)) (value_in-limit (rules p) t j)
+        ∙ ap (λ n. resume (rules p) t (f ∷ fs) (value_in (rules p) t n j)) d
+        ∙ ap (resume (rules p) t (f ∷ fs)) (value_in-limit (rules p) t j)
         ∙ resume-fault (rules p) t (f ∷ fs) recursion_limit j j (limit-kept p.mode)
 
-    pub array-empty : (c : ℕ) (v : Tree) → start_of (slice_index t i) ≡ start.Array → resolved (forgives p.mode) (step t array_first (i + 1)) ≡ closed c → v ≡ array (items_of [])
+    pub array-empty : (c : ℕ) (v : Tree) → start_of (slice_index t i) ≡ start.Array
+        → resolved (forgives p.mode) (step t array_first (i + 1)) ≡ closed c → v ≡ array (items_of [])
         → value_from (rules p) t fs i ≡ resume (rules p) t fs (done v c)
-    array-empty c v is s made = array-begins (rules p) t good any fs i (closed c) low is s ∙ ap (λ y. resume (rules p) t fs (done y c)) (sym made)
+    array-empty c v is s made =
+        array-begins (rules p) t good any fs i (closed c) low is s
+        ∙ ap (λ y. resume (rules p) t fs (done y c)) (sym made)
 
-    pub array-stuck : (j : ℕ) (k : Kind) → start_of (slice_index t i) ≡ start.Array → resolved (forgives p.mode) (step t array_first (i + 1)) ≡ stuck k j → forgives p.mode k ≡ false
+    pub array-stuck : (j : ℕ) (k : Kind) → start_of (slice_index t i) ≡ start.Array
+        → resolved (forgives p.mode) (step t array_first (i + 1)) ≡ stuck k j → forgives p.mode k ≡ false
         → value_from (rules p) t fs i ≡ fault k j j
-    array-stuck j k is s bad = array-begins (rules p) t good any fs i (stuck k j) low is s ∙ step-stuck (rules p) t (array_in (rules p) t (length fs)) fs [] (stuck k j) k j (kept k j bad) bad
+    array-stuck j k is s bad =
+        array-begins (rules p) t good any fs i (stuck k j) low is s
+        ∙ step-stuck (rules p) t (array_in (rules p) t (length fs)) fs [] (stuck k j) k j (kept k j bad) bad
 
-    pub object-opens : (j : ℕ) (o : Open) → o ≡ record { outer = a; base = length ms } → start_of (slice_index t i) ≡ start.Object → resolved (forgives p.mode) (step t object_first (i + 1)) ≡ more j
+    pub object-opens : (j : ℕ) (o : Open) → o ≡ record { outer = a; base = length ms }
+        → start_of (slice_index t i) ≡ start.Object → resolved (forgives p.mode) (step t object_first (i + 1)) ≡ more j
         → value_from (rules p) t fs i ≡ key_in p t (o ∷ os) es ms j
     object-opens j o eq is s =
-        let none : [] ≡ map member_view (drop (length ms) ms) = sym (ap (map member_view) (drop_all (length ms) ms (omega arith))) in
+        let none : [] ≡ map member_view (drop (length ms) ms) = sym
+        (ap (map member_view) (drop_all (length ms) ms (omega arith))) in
         let same : ms ≡ take (length ms) ms = sym (take_all (length ms) ms (omega arith)) in
         object-begins (rules p) t good any fs i (more j) low is s
-        ∙ ap₂ (λ xs ys. key_from (rules p) t (frames a os es ys) xs j) none same ∙ ap (λ q. key_in p t (q ∷ os) es ms j) (sym eq)
+        ∙ ap₂ (λ xs ys. key_from (rules p) t (frames a os es ys) xs j) none same
+        ∙ ap (λ q. key_in p t (q ∷ os) es ms j) (sym eq)
 
-    pub object-empty : (c : ℕ) (v : Tree) → start_of (slice_index t i) ≡ start.Object → resolved (forgives p.mode) (step t object_first (i + 1)) ≡ closed c → v ≡ object (members_of [])
+    pub object-empty : (c : ℕ) (v : Tree) → start_of (slice_index t i) ≡ start.Object
+        → resolved (forgives p.mode) (step t object_first (i + 1)) ≡ closed c → v ≡ object (members_of [])
         → value_from (rules p) t fs i ≡ resume (rules p) t fs (done v c)
-    object-empty c v is s made = object-begins (rules p) t good any fs i (closed c) low is s ∙ ap (λ y. resume (rules p) t fs (done y c)) (sym made)
+    object-empty c v is s made =
+        object-begins (rules p) t good any fs i (closed c) low is s
+        ∙ ap (λ y. resume (rules p) t fs (done y c)) (sym made)
 
-    pub object-stuck : (j : ℕ) (k : Kind) → start_of (slice_index t i) ≡ start.Object → resolved (forgives p.mode) (step t object_first (i + 1)) ≡ stuck k j → forgives p.mode k ≡ false
+    pub object-stuck : (j : ℕ) (k : Kind) → start_of (slice_index t i) ≡ start.Object
+        → resolved (forgives p.mode) (step t object_first (i + 1)) ≡ stuck k j → forgives p.mode k ≡ false
         → value_from (rules p) t fs i ≡ fault k j j
-    object-stuck j k is s bad = object-begins (rules p) t good any fs i (stuck k j) low is s ∙ step-stuck (rules p) t (object_in (rules p) t (length fs)) fs [] (stuck k j) k j (kept k j bad) bad
+    object-stuck j k is s bad =
+        object-begins (rules p) t good any fs i (stuck k j) low is s
+        ∙ step-stuck (rules p) t (object_in (rules p) t (length fs)) fs [] (stuck k j) k j (kept k j bad) bad
 
   -- A key begins.
-  pub key-opens : (os : List Open) (es : List JsonValue) (ms : List Member) (j : ℕ) (k : CowStr Global) (e m : ℕ) → HaveKeyBase os (length es) (length ms) → j < length t → string_at whole t j ≡ taken (text_view k) e
-      → object_colon t e ≡ taken tt m → key_in p t os es ms j ≡ value_from (rules p) t (frames awaits.Value os es (ms ++ (k, Null) ∷ [])) m
+  pub key-opens : (os : List Open) (es : List JsonValue) (ms : List Member) (j : ℕ) (k : CowStr Global) (e m : ℕ)
+      → HaveKeyBase os (length es) (length ms) → j < length t → string_at whole t j ≡ taken (text_view k) e
+      → object_colon t e ≡ taken tt m
+      → key_in p t os es ms j ≡ value_from (rules p) t (frames awaits.Value os es (ms ++ (k, Null) ∷ [])) m
   key-opens [] es ms j k e m b h v s = absurd b
   key-opens (o ∷ os) es ms j k e m b h v s =
-      key-value (rules p) t good (frames o.outer os es (take o.base ms)) (map member_view (drop o.base ms)) j e m (text_view k) h v s
+      key-value (rules p) t good (frames o.outer os es (take o.base ms)) (map member_view (drop o.base ms)) j e m
+      (text_view k) h v s
       ∙ ap (λ fs. value_from (rules p) t fs m) (sym (value-frames o os es ms k Null b.0))
 
-  pub key-limit : (os : List Open) (es : List JsonValue) (ms : List Member) (j : ℕ) (k : Text) (e m : ℕ) → HaveKeyBase os (length es) (length ms) → j < length t → string_at whole t j ≡ taken k e
+  pub key-limit : (os : List Open) (es : List JsonValue) (ms : List Member) (j : ℕ) (k : Text) (e m : ℕ)
+      → HaveKeyBase os (length es) (length ms) → j < length t → string_at whole t j ≡ taken k e
       → object_colon t e ≡ taken tt m → length os ≡ 201 → key_in p t os es ms j ≡ fault recursion_limit m m
   key-limit [] es ms j k e m b h v s full = absurd b
   key-limit (o ∷ os) es ms j k e m b h v s full =
       let fs = frames o.outer os es (take o.base ms) in
       let f : Frame Text Tree = members_frame (map member_view (drop o.base ms)) k in
-      let d : suc (length fs) ≡ 201 = omega (arith, full, length-frames o.outer os (length es) o.base es (take o.base ms) b.1) in
+      let d : suc (length fs) ≡ 201 = omega
+      (arith, full, length-frames o.outer os (length es) o.base es (take o.base ms) b.1) in
       key-value (rules p) t good fs (map member_view (drop o.base ms)) j e m k h v s
-      ∙ ap (λ n. resume (rules p) t (f ∷ fs) (value_in (rules p) t n m)) d ∙ ap (resume (rules p) t (f ∷ fs)) (value_in-limit (rules p) t m)
+      ∙ ap (λ n. resume (rules p) t (f ∷ fs) (value_in (rules p) t n m)) d
+      ∙ ap (resume (rules p) t (f ∷ fs)) (value_in-limit (rules p) t m)
       ∙ resume-fault (rules p) t (f ∷ fs) recursion_limit m m (limit-kept p.mode)
 
   -- a fault of the key, and of its colon
-  pub key-fails : (os : List Open) (es : List JsonValue) (ms : List Member) (j : ℕ) (k : Kind) (x : ℕ) → HaveKeyBase os (length es) (length ms) → j < length t → string_at whole t j ≡ failed k x
+  pub key-fails : (os : List Open) (es : List JsonValue) (ms : List Member) (j : ℕ) (k : Kind) (x : ℕ)
+      → HaveKeyBase os (length es) (length ms) → j < length t → string_at whole t j ≡ failed k x
       → key_in p t os es ms j ≡ key_fault_in p t os es ms k x j
   key-fails [] es ms j k x b h v = absurd b
-  key-fails (o ∷ os) es ms j k x b h v = key-failed (rules p) t good (frames o.outer os es (take o.base ms)) (map member_view (drop o.base ms)) j x k h v
+  key-fails (o ∷ os) es ms j k x b h v =
+      key-failed (rules p) t good (frames o.outer os es (take o.base ms)) (map member_view (drop o.base ms)) j x k h v
 
-  pub colon-fails : (os : List Open) (es : List JsonValue) (ms : List Member) (j : ℕ) (key : Text) (e x : ℕ) (k : Kind) → HaveKeyBase os (length es) (length ms) → j < length t → string_at whole t j ≡ taken key e
+  pub colon-fails : (os : List Open) (es : List JsonValue) (ms : List Member) (j : ℕ) (key : Text) (e x : ℕ) (k : Kind)
+      → HaveKeyBase os (length es) (length ms) → j < length t → string_at whole t j ≡ taken key e
       → object_colon t e ≡ failed k x → key_in p t os es ms j ≡ key_fault_in p t os es ms k x x
   colon-fails [] es ms j key e x k b h v s = absurd b
-  colon-fails (o ∷ os) es ms j key e x k b h v s = colon-failed (rules p) t good (frames o.outer os es (take o.base ms)) (map member_view (drop o.base ms)) j e x key k h v s
+  colon-fails (o ∷ os) es ms j key e x k b h v s =
+      colon-failed (rules p) t good (frames o.outer os es (take o.base ms))
+      (map member_view (drop o.base ms)) j e x key k h v s
 
-  pub key-kept : (os : List Open) (es : List JsonValue) (ms : List Member) (k : Kind) (x stop : ℕ) → forgives p.mode k ≡ false → key_fault_in p t os es ms k x stop ≡ fault k x stop
+  pub key-kept : (os : List Open) (es : List JsonValue) (ms : List Member) (k : Kind) (x stop : ℕ)
+      → forgives p.mode k ≡ false → key_fault_in p t os es ms k x stop ≡ fault k x stop
   key-kept [] es ms k x stop bad = refl
   key-kept (o ∷ os) es ms k x stop bad =
       let fs = frames o.outer os es (take o.base ms) in
-      ap (resume (rules p) t fs) (if_forgiven-no (rules p) t (λ e. (rules p).object 0 e (map member_view (drop o.base ms))) k x stop bad) ∙ resume-fault (rules p) t fs k x stop bad
+      ap (resume (rules p) t fs)
+      (if_forgiven-no (rules p) t (λ e. (rules p).object 0 e (map member_view (drop o.base ms))) k x stop bad)
+      ∙ resume-fault (rules p) t fs k x stop bad
 
-  pub key-forgiven : (os : List Open) (es : List JsonValue) (ms : List Member) (k : Kind) (x stop : ℕ) → HaveKeyBase os (length es) (length ms) → forgives p.mode k ≡ true
+  pub key-forgiven : (os : List Open) (es : List JsonValue) (ms : List Member) (k : Kind) (x stop : ℕ)
+      → HaveKeyBase os (length es) (length ms) → forgives p.mode k ≡ true
       → key_fault_in p t os es ms k x stop ≡ stacks.object_in p t os es ms stop
   key-forgiven [] es ms k x stop b ok = absurd b
   key-forgiven (o ∷ os) es ms k x stop b ok =
-      ap (resume (rules p) t (frames o.outer os es (take o.base ms))) (if_forgiven-yes (rules p) t (λ e. (rules p).object 0 e (map member_view (drop o.base ms))) k x stop ok)
+      ap (resume (rules p) t (frames o.outer os es (take o.base ms)))
+      (if_forgiven-yes (rules p) t (λ e. (rules p).object 0 e (map member_view (drop o.base ms))) k x stop ok)
 
 -- a value that is there needs no key any more
 pub key-base : (os : List Open) (n m : ℕ) → HaveBases awaits.Value os n m → HaveKeyBase os n m
@@ -302,16 +377,20 @@ pub value-base : (os : List Open) (n m : ℕ) → HaveBases awaits.Value os n m 
 value-base [] n m h = absurd h
 value-base (o ∷ os) n m h = omega (arith, h.0)
 
-pub array-below : (init : List Open) (o : Open) (n m : ℕ) → HaveBases awaits.Item (reverse (init ++ o ∷ [])) n m → (o.base ≤ n) × HaveBases o.outer (reverse init) o.base m
+pub array-below : (init : List Open) (o : Open) (n m : ℕ) → HaveBases awaits.Item (reverse (init ++ o ∷ [])) n m
+    → (o.base ≤ n) × HaveBases o.outer (reverse init) o.base m
 array-below init o n m h = subst (λ os. HaveBases awaits.Item os n m) (reverse-append init (o ∷ [])) h
 
-pub object-below : (init : List Open) (o : Open) (n m : ℕ) → HaveKeyBase (reverse (init ++ o ∷ [])) n m → (o.base ≤ m) × HaveBases o.outer (reverse init) n o.base
+pub object-below : (init : List Open) (o : Open) (n m : ℕ) → HaveKeyBase (reverse (init ++ o ∷ [])) n m
+    → (o.base ≤ m) × HaveBases o.outer (reverse init) n o.base
 object-below init o n m h = subst (λ os. HaveKeyBase os n m) (reverse-append init (o ∷ [])) h
 
-pub array-above : (a : Awaits) (os : List Open) (n m : ℕ) → HaveBases a os n m → HaveBases awaits.Item (record { outer = a; base = n } ∷ os) n m
+pub array-above : (a : Awaits) (os : List Open) (n m : ℕ) → HaveBases a os n m
+    → HaveBases awaits.Item (record { outer = a; base = n } ∷ os) n m
 array-above a os n m h = let le : n ≤ n = omega arith in (le, h)
 
-pub object-above : (a : Awaits) (os : List Open) (n m : ℕ) → HaveBases a os n m → HaveKeyBase (record { outer = a; base = m } ∷ os) n m
+pub object-above : (a : Awaits) (os : List Open) (n m : ℕ) → HaveBases a os n m
+    → HaveKeyBase (record { outer = a; base = m } ∷ os) n m
 object-above a os n m h = let le : m ≤ m = omega arith in (le, h)
 
 pub key-above : (os : List Open) (n m : ℕ) → HaveKeyBase os n m → HaveBases awaits.Value os n (m + 1)
@@ -323,14 +402,20 @@ key-of-value [] n m h = absurd h
 key-of-value (o ∷ os) n m h = (omega (arith, h.0), h.1)
 
 -- Nothing is held before the first value.
-pub root-stands : (nest : List Open) (es : List JsonValue) (ms : List Member) → nest ≡ [] → es ≡ [] → ms ≡ [] → HaveBases awaits.Root (reverse nest) (length es) (length ms)
-root-stands nest es ms a b c = subst (λ os. HaveBases awaits.Root (reverse os) (length es) (length ms)) (sym a) (ap length b, ap length c)
+pub root-stands : (nest : List Open) (es : List JsonValue) (ms : List Member) → nest ≡ [] → es ≡ [] → ms ≡ []
+    → HaveBases awaits.Root (reverse nest) (length es) (length ms)
+root-stands nest es ms a b c =
+    subst (λ os. HaveBases awaits.Root (reverse os) (length es) (length ms)) (sym a) (ap length b, ap length c)
 
-pub root-begins : (p : Settings) (t : List ℕ) (nest : List Open) (es : List JsonValue) (ms : List Member) (i : ℕ) → nest ≡ []
+pub root-begins : (p : Settings) (t : List ℕ) (nest : List Open) (es : List JsonValue) (ms : List Member) (i : ℕ)
+    → nest ≡ []
     → value_at (rules p) t 200 i ≡ value_from (rules p) t (frames awaits.Root (reverse nest) es ms) i
-root-begins p t nest es ms i e = sym (value_in-room (rules p) t 0 i (omega arith)) ∙ ap (λ os. value_from (rules p) t (frames awaits.Root (reverse os) es ms) i) (sym e)
+root-begins p t nest es ms i e =
+    sym (value_in-room (rules p) t 0 i (omega arith))
+    ∙ ap (λ os. value_from (rules p) t (frames awaits.Root (reverse os) es ms) i) (sym e)
 
-pub root-from : (p : Settings) (t : List ℕ) (os : List Open) (es : List JsonValue) (ms : List Member) (n m i : ℕ) → HaveBases awaits.Root os n m
+pub root-from : (p : Settings) (t : List ℕ) (os : List Open) (es : List JsonValue) (ms : List Member) (n m i : ℕ)
+    → HaveBases awaits.Root os n m
     → value_at (rules p) t 200 i ≡ value_from (rules p) t (frames awaits.Root os es ms) i
 root-from p t [] es ms n m i h = sym (value_in-room (rules p) t 0 i (omega arith))
 root-from p t (o ∷ os) es ms n m i h = absurd h

@@ -1,20 +1,25 @@
 -- What a whole parse answers, by the grammar.
-use Rattle.std.proofs.Common.{◌≡◌, ◌⊎◌, inl, inr, ℕ, ◌≤◌, Bool, true, List, length, sym, ap, ap₂, ◌∙◌, subst}
-use Rattle.std.specs.Prelude.{Some, Result, Ok, Err, IfOk, MatchResult}
+use Rattle.std.proofs.Common.{◌≡◌, ◌≢◌, ◌⊎◌, inl, inr, ℕ, ◌+◌, ◌≤◌, Bool, true, false, List, length, take, sym, ap, ◌∙◌, subst}
+use Rattle.std.specs.Prelude.{Result, Ok, Err, IfOk, IfErr, MatchResult, Some}
 use Rattle.jiter_scan.specs.Kind.{Kind, kind_of, fault_kind, is_end_kind}
-use Rattle.jiter_scan.specs.PartialMode.{is_active}
 use Rattle.jiter_scan.specs.Scanned.{FaultAt}
 use Rattle.jiter_scan.specs.declared.errors.JsonError.{JsonError}
 use Rattle.jiter_scan.specs.declared.errors.JsonErrorType.TheVariants.{OutOfMemory}
 use Rattle.jiter_scan.specs.declared.partial_mode.PartialMode.{PartialMode}
 use Rattle.jiter_steps.specs.Answer.{answer, answer_in}
+use Rattle.jiter_scan.specs.PartialMode.{is_active}
+use Rattle.jiter_scan.specs.declared.partial_mode.PartialMode.TheVariants.{Off}
 use Rattle.jiter_steps.specs.Cut.{cut, IsBegunContainer}
-use Rattle.jiter_steps.specs.Node.{Node, IsDocument, IsCutContainer, value_of}
-use Rattle.jiter_steps.specs.Read.{fault}
+use Rattle.jiter_steps.specs.FirstFault.{IsDeadEnd, BeginsNoDocument, can_go_on, CanBeCompleted}
+use Rattle.jiter_steps.specs.Node.{Node, end, IsDocument, IsCutContainer, value_of}
+use Rattle.jiter_steps.specs.Read.{done, fault}
+use Rattle.jiter_steps.specs.Tree.{Tree}
 use Rattle.jiter_steps.specs.declared.read_error.ReadError.{ReadError}
 use Rattle.jiter_steps.specs.declared.read_error.ReadError.TheVariants as error
+use Rattle.jiter_steps.proofs.Alive.{alive}
 use Rattle.jiter_steps.proofs.Bounds.{Within}
 use Rattle.jiter_steps.proofs.CutLaw.{AnswersCut, answer_in-cut, answer_in-of}
+use Rattle.jiter_steps.proofs.Dead.{dead}
 use Rattle.jiter_steps.proofs.Documents.{IsRead, answer-is}
 use Rattle.jiter_steps.proofs.Prefixes.{EndsEarly, prefix-refused}
 use Rattle.jiter_value.specs.Reading.{GivesWhole, IsErrorOf}
@@ -32,44 +37,51 @@ module _ (names : Bool) (t : List ℕ) where
   parse-found (Ok v) h = let read = subst (IsRead names t) h.1 (answer-is names t) in (read.0, read.1, read.2)
   parse-found (Err e) h = tt
 
-  pub parse-only : (r : Result JsonValue JsonError) → Answers r (answer names t) → (n : Node) → IsDocument names t n → MatchResult r (λ v. view v ≡ value_of t n) (λ e. e.error_type ≡ OutOfMemory)
-  parse-only (Ok v) h n d = let read = subst (IsRead names t) h.1 (answer-is names t) in sym read.2 ∙ sym (ap (value_of t) (read.3 n d))
-  parse-only (Err e) (inl m) n d = m
-  parse-only (Err e) (inr h) n d = absurd (subst (IsRead names t) h.1 (answer-is names t) n d)
-
   pub parse-early : (r : Result JsonValue JsonError) → Answers r (answer names t) → IsCutContainer names t
       → MatchResult r (λ v. ⊥) (λ e. (e.error_type ≡ OutOfMemory) ⊎ (is_end_kind (kind_of e.error_type) ≡ true))
   parse-early (Ok v) h c = subst EndsEarly h.1 (cut-early names t c)
   parse-early (Err e) (inl m) c = inl m
   parse-early (Err e) (inr h) c = inr (subst EndsEarly h.1 (cut-early names t c))
 
--- In every mode.
+  -- The fault is first by the grammar too.
+  pub parse-dead : (r : Result JsonValue JsonError) → Answers r (answer names t)
+      → IfErr r (λ e. IsDeadEnd (kind_of e.error_type) → BeginsNoDocument names (take (e.index + 1) t))
+  parse-dead (Ok v) h = tt
+  parse-dead (Err e) (inl m) = λ d. absurd (d.2 (ap kind_of m))
+  parse-dead (Err e) (inr h) = λ d. dead names t (kind_of e.error_type) e.index h.0 h.1 d.0 d.1
+
+  pub parse-alive : (r : Result JsonValue JsonError) → Answers r (answer names t)
+      → IfErr r (λ e. can_go_on (kind_of e.error_type) ≡ true → CanBeCompleted names (take e.index t))
+  parse-alive (Ok v) h = tt
+  parse-alive (Err e) (inl m) = λ on. let no = sym (ap (λ k. can_go_on (kind_of k)) m) ∙ on in absurd (cc)
+  parse-alive (Err e) (inr h) = λ on. alive names t (kind_of e.error_type) e.index h.0 h.1 on
+
+-- In every mode: a document's value and its cuts.
 module _ (names : Bool) (t : List ℕ) (mode : PartialMode) where
-  -- what a cut leaves of a document
-  pub config-cut : (r : Result JsonValue JsonError) → Answers r (answer_in names mode t)
-      → (front : IsBegunContainer names t) → is_active mode ≡ true
-      → MatchResult r (λ v. cut names front.text front.node front.place mode ≡ Some (view v))
-      (λ e. e.error_type ≡ OutOfMemory)
-  config-cut (Ok v) h f active = subst (AnswersCut names t mode f) h.1 (answer_in-cut names t mode f active)
-  config-cut (Err e) (inl m) f active = m
-  config-cut (Err e) (inr h) f active =
-      absurd (subst (AnswersCut names t mode f) h.1 (answer_in-cut names t mode f active))
+  pub answer-off : (r : Result JsonValue JsonError) → Answers r (answer_in names mode t) → mode ≡ Off → Answers r (answer names t)
+  answer-off r h off = subst (λ m. Answers r (answer_in names m t)) off h
 
-  -- the value of a document
-  pub config-accepts : (r : Result JsonValue JsonError) → Answers r (answer_in names mode t)
-      → (n : Node) → IsDocument names t n
+  same-tree : (v w : Tree) (i j : ℕ) → done v i ≡ done w j → v ≡ w
+  same-tree v w i j h = cc
+
+  no-fault : {P : Type 0} → (v : Tree) (i x stop : ℕ) (k : Kind) → done v i ≡ fault k x stop → P
+  no-fault v i x stop k h = let no : ⊥ = cc in absurd no
+
+  pub parse-accepts : (r : Result JsonValue JsonError) → Answers r (answer_in names mode t) → (n : Node) → IsDocument names t n
       → MatchResult r (λ v. view v ≡ value_of t n) (λ e. e.error_type ≡ OutOfMemory)
-  config-accepts (Ok v) h n d = let same = sym h.1 ∙ answer_in-of names t mode n d in cc
-  config-accepts (Err e) (inl m) n d = m
-  config-accepts (Err e) (inr h) n d = let clash = sym h.1 ∙ answer_in-of names t mode n d in absurd (cc)
+  parse-accepts (Ok v) h n d = same-tree (view v) (value_of t n) h.0 (end n) (sym h.1 ∙ answer_in-of names t mode n d)
+  parse-accepts (Err e) (inl m) n d = m
+  parse-accepts (Err e) (inr h) n d =
+      no-fault (value_of t n) (end n) e.index h.0 (kind_of e.error_type) (sym (answer_in-of names t mode n d) ∙ h.1)
 
-  -- what a reading that was refused answers
-  pub error-answers : (i : ℕ) (e : JsonError) (x : ReadError) → IsErrorOf x i e
-      → GivesWhole (Err x) i (answer_in names mode t) → Answers (Err e) (answer_in names mode t)
-  error-answers i e (error.Fault f) is h = inr (i, h ∙ ap₂ (λ k j. fault k j i) (sym is.0) (sym is.1))
-  error-answers i e (error.Memory m) is h = inl (ap (λ e. e.error_type) is)
+  pub parse-cut : (r : Result JsonValue JsonError) → Answers r (answer_in names mode t) → is_active mode ≡ true
+      → (f : IsBegunContainer names t)
+      → MatchResult r (λ v. cut names f.text f.node f.place mode ≡ Some (view v)) (λ e. e.error_type ≡ OutOfMemory)
+  parse-cut (Ok v) h on f = subst (AnswersCut names t mode f) h.1 (answer_in-cut names t mode f on)
+  parse-cut (Err e) (inl m) on f = m
+  parse-cut (Err e) (inr h) on f = absurd (subst (AnswersCut names t mode f) h.1 (answer_in-cut names t mode f on))
 
--- A fault of the bytes stands within them.
+-- In every mode: a fault of the bytes stands within them.
 module _ (names : Bool) (t : List ℕ) (mode : PartialMode) (i : ℕ) (e : JsonError) where
   fault-at : (k : Kind) (x : ℕ) → answer_in names mode t ≡ fault k x i → FaultAt t k x
   fault-at k x h = let w = subst (Within t 0) h (answer_in-within names t mode) in w.2

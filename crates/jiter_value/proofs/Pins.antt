@@ -1,5 +1,5 @@
 -- What `parse`'s clause `first` leaves open: two results that meet it say the same, but for want of memory.
-use Rattle.std.proofs.Common.{◌≡◌, ◌⊎◌, inl, inr, sym, ◌∙◌}
+use Rattle.std.proofs.Common.{◌≡◌, ◌⊎◌, inl, inr}
 use Rattle.std.specs.Prelude.{Result, Ok, Err}
 use Rattle.jiter_scan.specs.Kind.{kind_of}
 use Rattle.jiter_scan.specs.declared.errors.JsonError.{JsonError}

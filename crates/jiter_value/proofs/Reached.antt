@@ -33,18 +33,21 @@ pub scalar-taken : {A : Type 0} (i : ℕ) (x : Scanned A) (a : A) (e : ℕ) → 
 scalar-taken i (taken b d) a e h = cc
 scalar-taken i (failed k j) a e h = absurd (cc)
 
-pub scalar-failed : {A : Type 0} (i : ℕ) (x : Scanned A) (k : Kind) (j stop : ℕ) → scalar_at i x ≡ fault k j stop → (x ≡ failed k j) × (stop ≡ i)
+pub scalar-failed : {A : Type 0} (i : ℕ) (x : Scanned A) (k : Kind) (j stop : ℕ) → scalar_at i x ≡ fault k j stop
+    → (x ≡ failed k j) × (stop ≡ i)
 scalar-failed i (taken b d) k j stop h = absurd (cc)
 scalar-failed i (failed l m) k j stop h = (cc, cc)
 
 -- ---- want of memory
-pub refused-weaker : {X : Type 0} (r : Result X ReadError) (P Q : Type 0) → (P → Q) → WhereRefused r P → WhereRefused r Q
+pub refused-weaker : {X : Type 0} (r : Result X ReadError) (P Q : Type 0) → (P → Q) → WhereRefused r P
+    → WhereRefused r Q
 refused-weaker (Ok x) P Q go h = tt
 refused-weaker (Err (error.Fault f)) P Q go h = tt
 refused-weaker (Err (error.Memory m)) P Q go h = go h
 
 -- the value is whole, unless it was refused
-pub root-grows : (r : Result Awaits ReadError) (P : Type 0) → IfOk r (λ a. a ≡ awaits.Done) → WhereRefused r P → MayGrowFor r P
+pub root-grows : (r : Result Awaits ReadError) (P : Type 0) → IfOk r (λ a. a ≡ awaits.Done) → WhereRefused r P
+    → MayGrowFor r P
 root-grows (Ok awaits.Done) P d h = tt
 root-grows (Ok awaits.Root) P d h = absurd (cc)
 root-grows (Ok awaits.Item) P d h = absurd (cc)

@@ -18,15 +18,18 @@ items_size-push : (xs : List Tree) (x : Tree) → items_size (xs ++ x ∷ []) �
 items_size-push [] x = omega arith
 items_size-push (y ∷ ys) x = let rest = items_size-push ys x in omega arith
 
-members_size-push : (ms : List (Text × Tree)) (m : Text × Tree) → members_size (ms ++ m ∷ []) ≡ members_size ms + suc (size m.1)
+members_size-push : (ms : List (Text × Tree)) (m : Text × Tree)
+    → members_size (ms ++ m ∷ []) ≡ members_size ms + suc (size m.1)
 members_size-push [] m = omega arith
 members_size-push (y ∷ ys) m = let rest = members_size-push ys m in omega arith
 
-pub put-item-size : (os : List Open) (es : List JsonValue) (ms : List Member) (root v : JsonValue) → HaveBases awaits.Item os (length es) (length ms)
+pub put-item-size : (os : List Open) (es : List JsonValue) (ms : List Member) (root v : JsonValue)
+    → HaveBases awaits.Item os (length es) (length ms)
     → behind_size_in awaits.Item os (es ++ v ∷ []) ms root ≡ frames_size (frames awaits.Item os es ms) + size (view v)
 put-item-size [] es ms root v h = absurd h
 put-item-size (o ∷ os) es ms root v h =
-    let part : map view (drop o.base (es ++ v ∷ [])) ≡ map view (drop o.base es) ++ view v ∷ [] = ap (map view) (drop-append-le o.base es (v ∷ []) h.0) ∙ map_push view (drop o.base es) v in
+    let part : map view (drop o.base (es ++ v ∷ [])) ≡ map view (drop o.base es) ++ view v ∷ [] = ap (map view)
+    (drop-append-le o.base es (v ∷ []) h.0) ∙ map_push view (drop o.base es) v in
     let rest : take o.base (es ++ v ∷ []) ≡ take o.base es = take-append-le o.base es (v ∷ []) h.0 in
     let grown : items_size (map view (drop o.base (es ++ v ∷ []))) ≡ items_size (map view (drop o.base es)) + size (view v) = ap items_size part ∙ items_size-push (map view (drop o.base es)) (view v) in
     let outer : frames_size (frames o.outer os (take o.base (es ++ v ∷ [])) ms) ≡ frames_size (frames o.outer os (take o.base es) ms) = ap (λ ys. frames_size (frames o.outer os ys ms)) rest in
@@ -38,20 +41,24 @@ put-value-size [] es before key old root v h = absurd h
 put-value-size (o ∷ os) es before key old root v h =
     let le : o.base ≤ length before = omega (arith, h.0, length-append before ((key, old) ∷ [])) in
     let part : map member_view (drop o.base (before ++ (key, v) ∷ [])) ≡ map member_view (drop o.base before) ++ (text_view key, view v) ∷ [] =
-    ap (map member_view) (drop-append-le o.base before ((key, v) ∷ []) le) ∙ map_push member_view (drop o.base before) (key, v) in
-    let rest : take o.base (before ++ (key, v) ∷ []) ≡ take o.base before = take-append-le o.base before ((key, v) ∷ []) le in
+    ap (map member_view) (drop-append-le o.base before ((key, v) ∷ []) le)
+    ∙ map_push member_view (drop o.base before) (key, v) in
+    let rest : take o.base (before ++ (key, v) ∷ []) ≡ take o.base before = take-append-le o.base before
+    ((key, v) ∷ []) le in
     let grown : members_size (map member_view (drop o.base (before ++ (key, v) ∷ []))) ≡ members_size (map member_view (drop o.base before)) + suc (size (view v)) = ap members_size part ∙ members_size-push (map member_view (drop o.base before)) (text_view key, view v) in
     let outer : frames_size (frames o.outer os es (take o.base (before ++ (key, v) ∷ []))) ≡ frames_size (frames o.outer os es (take o.base before)) = ap (λ ys. frames_size (frames o.outer os es ys)) rest in
     let was : frames_size (frames awaits.Value (o ∷ os) es (before ++ (key, old) ∷ [])) ≡ suc (suc (members_size (map member_view (drop o.base before)))) + frames_size (frames o.outer os es (take o.base before)) = ap frames_size (value-frames o os es before key old le) in
     omega (arith, grown, outer, was)
 
-pub put-root-size : (os : List Open) (es : List JsonValue) (ms : List Member) (v : JsonValue) → HaveBases awaits.Root os (length es) (length ms)
+pub put-root-size : (os : List Open) (es : List JsonValue) (ms : List Member) (v : JsonValue)
+    → HaveBases awaits.Root os (length es) (length ms)
     → behind_size_in awaits.Root os es ms v ≡ frames_size (frames awaits.Root os es ms) + size (view v)
 put-root-size [] es ms v h = omega arith
 put-root-size (o ∷ os) es ms v h = absurd h
 
 -- a container that ends holds what it held
-pub array-size : (init : List Open) (o : Open) (es rest : List JsonValue) (ms : List Member) (root v : JsonValue) → rest ≡ take o.base es → view v ≡ array (items_of (map view (drop o.base es)))
+pub array-size : (init : List Open) (o : Open) (es rest : List JsonValue) (ms : List Member) (root v : JsonValue)
+    → rest ≡ take o.base es → view v ≡ array (items_of (map view (drop o.base es)))
     → behind_size_in awaits.Item (reverse (init ++ o ∷ [])) es ms root ≡ frames_size (frames o.outer (reverse init) rest ms) + size (view v)
 array-size init o es rest ms root v left made =
     let is : behind_size_in awaits.Item (reverse (init ++ o ∷ [])) es ms root ≡ suc (items_size (map view (drop o.base es))) + frames_size (frames o.outer (reverse init) (take o.base es) ms) = ap (λ os. behind_size_in awaits.Item os es ms root) (reverse-append init (o ∷ [])) in
@@ -59,7 +66,8 @@ array-size init o es rest ms root v left made =
     let outer : frames_size (frames o.outer (reverse init) rest ms) ≡ frames_size (frames o.outer (reverse init) (take o.base es) ms) = ap (λ ys. frames_size (frames o.outer (reverse init) ys ms)) left in
     omega (arith, is, now, outer)
 
-pub object-size : (init : List Open) (o : Open) (es : List JsonValue) (ms rest : List Member) (v : JsonValue) → rest ≡ take o.base ms → view v ≡ object (members_of (map member_view (drop o.base ms)))
+pub object-size : (init : List Open) (o : Open) (es : List JsonValue) (ms rest : List Member) (v : JsonValue)
+    → rest ≡ take o.base ms → view v ≡ object (members_of (map member_view (drop o.base ms)))
     → key_size_in (reverse (init ++ o ∷ [])) es ms ≡ frames_size (frames o.outer (reverse init) es rest) + size (view v)
 object-size init o es ms rest v left made =
     let is : key_size_in (reverse (init ++ o ∷ [])) es ms ≡ suc (members_size (map member_view (drop o.base ms))) + frames_size (frames o.outer (reverse init) es (take o.base ms)) = ap (λ os. key_size_in os es ms) (reverse-append init (o ∷ [])) in
@@ -68,16 +76,22 @@ object-size init o es ms rest v left made =
     omega (arith, is, now, outer)
 
 -- an object behind a value holds what it holds where it awaits a key
-pub behind-key-size : (os : List Open) (es : List JsonValue) (ms : List Member) (root : JsonValue) → HaveBases awaits.Value os (length es) (length ms) → behind_size_in awaits.Value os es ms root ≡ key_size_in os es ms
+pub behind-key-size : (os : List Open) (es : List JsonValue) (ms : List Member) (root : JsonValue)
+    → HaveBases awaits.Value os (length es) (length ms)
+    → behind_size_in awaits.Value os es ms root ≡ key_size_in os es ms
 behind-key-size [] es ms root h = absurd h
 behind-key-size (o ∷ os) es ms root h = refl
 
-pub behind-item-size : (os : List Open) (es : List JsonValue) (ms : List Member) (root : JsonValue) → HaveBases awaits.Item os (length es) (length ms) → behind_size_in awaits.Item os es ms root ≡ frames_size (frames awaits.Item os es ms)
+pub behind-item-size : (os : List Open) (es : List JsonValue) (ms : List Member) (root : JsonValue)
+    → HaveBases awaits.Item os (length es) (length ms)
+    → behind_size_in awaits.Item os es ms root ≡ frames_size (frames awaits.Item os es ms)
 behind-item-size [] es ms root h = absurd h
 behind-item-size (o ∷ os) es ms root h = refl
 
 -- a key that awaits its value counts one
-pub key-size : (os : List Open) (es : List JsonValue) (before : List Member) (key : CowStr Global) (old : JsonValue) → HaveKeyBase os (length es) (length before)
+pub key-size : (os : List Open) (es : List JsonValue) (before : List Member) (key : CowStr Global) (old : JsonValue)
+    → HaveKeyBase os (length es) (length before)
     → frames_size (frames awaits.Value os es (before ++ (key, old) ∷ [])) ≡ key_size_in os es before + 1
 key-size [] es before key old h = absurd h
-key-size (o ∷ os) es before key old h = let was = ap frames_size (value-frames o os es before key old h.0) in omega (arith, was)
+key-size (o ∷ os) es before key old h =
+    let was = ap frames_size (value-frames o os es before key old h.0) in omega (arith, was)

@@ -12,7 +12,8 @@ use Rattle.jiter_value.specs.declared.stacks.Awaits.{Awaits}
 use Rattle.jiter_value.specs.declared.stacks.Awaits.TheVariants as awaits
 use Rattle.jiter_value.specs.declared.stacks.Stacks.{Stacks}
 
--- What is read and how, how far the reading came, how much is left to do, and how many scalars, containers and keys are held.
+-- What is read and how, how far the reading came, how much is left to do, and how many scalars, containers and keys
+-- are held.
 pub record Progress : Type 0 where
   pub text : List ℕ
   pub settings : Settings

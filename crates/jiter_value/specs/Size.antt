@@ -43,12 +43,17 @@ frames_size (members_frame ms k ∷ fs) = suc (suc (members_size ms)) + frames_s
 
 abbrev pub key_size_in : List Open → List JsonValue → List Member → ℕ
 key_size_in [] items members = 0
-key_size_in (o ∷ os) items members = suc (members_size (map member_view (drop o.base members))) + frames_size (frames o.outer os items (take o.base members))
+key_size_in (o ∷ os) items members =
+    suc (members_size (map member_view (drop o.base members))) + frames_size
+    (frames o.outer os items (take o.base members))
 
 abbrev pub behind_size_in : Awaits → List Open → List JsonValue → List Member → JsonValue → ℕ
 behind_size_in a [] items members root = size (view root)
-behind_size_in awaits.Item (o ∷ os) items members root = suc (items_size (map view (drop o.base items))) + frames_size (frames o.outer os (take o.base items) members)
-behind_size_in awaits.Value (o ∷ os) items members root = suc (members_size (map member_view (drop o.base members))) + frames_size (frames o.outer os items (take o.base members))
+behind_size_in awaits.Item (o ∷ os) items members root =
+    suc (items_size (map view (drop o.base items))) + frames_size (frames o.outer os (take o.base items) members)
+behind_size_in awaits.Value (o ∷ os) items members root =
+    suc (members_size (map member_view (drop o.base members))) + frames_size
+    (frames o.outer os items (take o.base members))
 behind_size_in awaits.Root (o ∷ os) items members root = size (view root)
 behind_size_in awaits.Key (o ∷ os) items members root = size (view root)
 behind_size_in awaits.Done (o ∷ os) items members root = size (view root)

@@ -36,11 +36,15 @@ last_key (m ∷ ms) = last_key_of m ms
 abbrev pub front : List Member → List Member
 front ms = take (length ms - 1) ms
 
--- Each open container has what stands from its base up, the innermost first. In an object that awaits a value the last member has its key alone.
+-- Each open container has what stands from its base up, the innermost first. In an object that awaits a value the last
+-- member has its key alone.
 abbrev pub frames : Awaits → List Open → List JsonValue → List Member → List (Frame Text Tree)
 frames a [] items members = []
-frames awaits.Item (o ∷ os) items members = items_frame (map view (drop o.base items)) ∷ frames o.outer os (take o.base items) members
-frames awaits.Value (o ∷ os) items members = members_frame (map member_view (front (drop o.base members))) (last_key (drop o.base members)) ∷ frames o.outer os items (take o.base members)
+frames awaits.Item (o ∷ os) items members =
+    items_frame (map view (drop o.base items)) ∷ frames o.outer os (take o.base items) members
+frames awaits.Value (o ∷ os) items members =
+    members_frame (map member_view (front (drop o.base members)))
+    (last_key (drop o.base members)) ∷ frames o.outer os items (take o.base members)
 frames awaits.Root (o ∷ os) items members = []
 frames awaits.Key (o ∷ os) items members = []
 frames awaits.Done (o ∷ os) items members = []
@@ -65,19 +69,23 @@ module _ (p : Settings) (t : List ℕ) where
   -- where the innermost object awaits a key at j
   abbrev pub key_in : List Open → List JsonValue → List Member → ℕ → Reading Tree
   key_in [] items members j = fault eof_object j j
-  key_in (o ∷ os) items members j = key_from (rules p) t (frames o.outer os items (take o.base members)) (map member_view (drop o.base members)) j
+  key_in (o ∷ os) items members j =
+      key_from (rules p) t (frames o.outer os items (take o.base members)) (map member_view (drop o.base members)) j
 
   -- where the key or its colon has this fault
   abbrev pub key_fault_in : List Open → List JsonValue → List Member → Kind → ℕ → ℕ → Reading Tree
   key_fault_in [] items members k x stop = fault k x stop
   key_fault_in (o ∷ os) items members k x stop =
-      resume (rules p) t (frames o.outer os items (take o.base members)) (if_forgiven (rules p) (λ e. (rules p).object 0 e (map member_view (drop o.base members))) k x stop)
+      resume (rules p) t (frames o.outer os items (take o.base members))
+      (if_forgiven (rules p) (λ e. (rules p).object 0 e (map member_view (drop o.base members))) k x stop)
 
   -- where the innermost container has a value that ends at e
   abbrev pub behind_in : Awaits → List Open → List JsonValue → List Member → JsonValue → ℕ → Reading Tree
   behind_in a [] items members root e = done (view root) e
-  behind_in awaits.Item (o ∷ os) items members root e = items_from (rules p) t (frames o.outer os (take o.base items) members) (map view (drop o.base items)) e
-  behind_in awaits.Value (o ∷ os) items members root e = members_from (rules p) t (frames o.outer os items (take o.base members)) (map member_view (drop o.base members)) e
+  behind_in awaits.Item (o ∷ os) items members root e =
+      items_from (rules p) t (frames o.outer os (take o.base items) members) (map view (drop o.base items)) e
+  behind_in awaits.Value (o ∷ os) items members root e =
+      members_from (rules p) t (frames o.outer os items (take o.base members)) (map member_view (drop o.base members)) e
   behind_in awaits.Root (o ∷ os) items members root e = done (view root) e
   behind_in awaits.Key (o ∷ os) items members root e = done (view root) e
   behind_in awaits.Done (o ∷ os) items members root e = done (view root) e
@@ -85,11 +93,15 @@ module _ (p : Settings) (t : List ℕ) where
   -- where the innermost container ends at e
   abbrev pub array_in : List Open → List JsonValue → List Member → ℕ → Reading Tree
   array_in [] items members e = fault eof_list e e
-  array_in (o ∷ os) items members e = resume (rules p) t (frames o.outer os (take o.base items) members) (done (array (items_of (map view (drop o.base items)))) e)
+  array_in (o ∷ os) items members e =
+      resume (rules p) t (frames o.outer os (take o.base items) members)
+      (done (array (items_of (map view (drop o.base items)))) e)
 
   abbrev pub object_in : List Open → List JsonValue → List Member → ℕ → Reading Tree
   object_in [] items members e = fault eof_object e e
-  object_in (o ∷ os) items members e = resume (rules p) t (frames o.outer os items (take o.base members)) (done (object (members_of (map member_view (drop o.base members)))) e)
+  object_in (o ∷ os) items members e =
+      resume (rules p) t (frames o.outer os items (take o.base members))
+      (done (object (members_of (map member_view (drop o.base members)))) e)
 
   -- The same of all that is held.
   abbrev pub resumed : Stacks → Awaits → Reading Tree → Reading Tree

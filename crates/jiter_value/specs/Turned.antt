@@ -7,7 +7,10 @@ use Rattle.jiter_value.specs.Value.{view, Answers}
 use Rattle.jiter_value.specs.declared.machine.Turn.{Turn}
 use Rattle.jiter_value.specs.declared.machine.Turn.TheVariants.{More, Done}
 
--- A machine that has less left to do and holds at most one more, of the same text and settings and no further back; or what the text answers, a value of at most one more.
+-- A machine that has less left to do and holds at most one more, of the same text and settings and no further back; or
+-- what the text answers, a value of at most one more.
 abbrev pub Turned : Progress → Turn → Type 0
-Turned m (More n) = (n.text ≡ m.text) × (n.settings ≡ m.settings) × (m.position ≤ n.position) × (n.left < m.left) × (n.holds ≤ m.holds + 1)
+Turned m (More n) =
+    (n.text ≡ m.text) × (n.settings ≡ m.settings) × (m.position ≤ n.position) × (n.left < m.left) ×
+    (n.holds ≤ m.holds + 1)
 Turned m (Done r) = Answers r (answered m.settings m.text) × IfOk r (λ v. size (view v) ≤ m.holds + 1)

@@ -1,11 +1,12 @@
 //! The tree of a document, and reading it.
-ghost use Rattle.std.specs.Prelude.{◌≡◌, ◌≤◌, ◌⊎◌, IfOk, IfErr, MatchResult, Some, true, length};
+ghost use Rattle.std.specs.Prelude.{◌≡◌, ◌+◌, ◌≤◌, ◌⊎◌, IfOk, IfErr, MatchResult, Some, true, length, take};
 ghost use Rattle.jiter_scan.specs.Kind.{kind_of, is_end_kind};
-ghost use Rattle.jiter_scan.specs.PartialMode.{is_active};
 ghost use Rattle.jiter_steps.specs.Blank.{past_blanks};
 ghost use Rattle.jiter_steps.specs.Node.{Node, IsDocument, IsCutContainer, value_of};
+ghost use Rattle.jiter_scan.specs.PartialMode.{is_active};
 ghost use Rattle.jiter_steps.specs.Answer.{answer, answer_in};
 ghost use Rattle.jiter_steps.specs.Cut.{cut, IsBegunContainer};
+ghost use Rattle.jiter_steps.specs.FirstFault.{IsDeadEnd, BeginsNoDocument, can_go_on, CanBeCompleted};
 ghost use Rattle.jiter_value.specs.Value.{view, Answers, MayGrow};
 
 use crate::reading::{error_at, read_whole};
@@ -22,7 +23,7 @@ pub type JsonArray<'s> = Vec<JsonValue<'s>>;
 pub type JsonObject<'s> = Vec<(CowStr<'s>, JsonValue<'s>)>;
 
 /// A JSON value (RFC 8259, 3). A text is borrowed from the input where its source has no backslash.
-#[derive(Debug)]
+#[derive(Debug, Drop)]
 pub enum JsonValue<'s> {
     /// `null`
     Null,
@@ -40,49 +41,6 @@ pub enum JsonValue<'s> {
     Array(JsonArray<'s>),
     /// An object.
     Object(JsonObject<'s>),
-}
-
-// By hand, so that what owns no memory is let go of in place.
-impl<'s> Drop for JsonValue<'s> {
-    #[cycle(drop)]
-    #[inline(always)]
-    fn drop(self) {
-        match self {
-            JsonValue::Null => {}
-            JsonValue::Bool(_) => {}
-            JsonValue::Int(_) => {}
-            JsonValue::BigInt(text) => drop_text(text),
-            JsonValue::Float(text) => drop_text(text),
-            JsonValue::Str(text) => drop_text(text),
-            JsonValue::Array(items) => drop_items(items),
-            JsonValue::Object(members) => drop_members(members),
-        }
-    }
-}
-
-#[inline(always)]
-fn drop_text<'s>(text: CowStr<'s>) {
-    match text {
-        CowStr::Borrowed(_) => {}
-        CowStr::Owned(own) => drop_own(own),
-    }
-}
-
-#[inline(never)]
-fn drop_own(own: String) {
-    drop(own);
-}
-
-#[cycle(drop)]
-#[inline(never)]
-fn drop_items<'s>(items: Vec<JsonValue<'s>>) {
-    drop(items);
-}
-
-#[cycle(drop)]
-#[inline(never)]
-fn drop_members<'s>(members: Vec<(CowStr<'s>, JsonValue<'s>)>) {
-    drop(members);
 }
 
 impl<'j> JsonValue<'j> {
@@ -107,6 +65,13 @@ impl<'j> JsonValue<'j> {
             → IsDocument allow_inf_nan bytes.now m → n ≡ m }
         // Which fault it is: the first one of a reading from the left.
         ensures first { Answers result (answer allow_inf_nan bytes.now) }
+
+        // No document begins with the bytes up to the fault.
+        ensures dead { IfErr result (λ e. IsDeadEnd (kind_of e.error_type)
+            → BeginsNoDocument allow_inf_nan (take (e.index + 1) bytes.now)) }
+        // The bytes before it, little more and closers are a document.
+        ensures alive { IfErr result (λ e. can_go_on (kind_of e.error_type) ≡ true
+            → CanBeCompleted allow_inf_nan (take e.index bytes.now)) }
 
         // Where faults stand.
         ensures index { IfErr result (λ e. e.index ≤ length bytes.now) }
@@ -136,23 +101,45 @@ impl<'j> JsonValue<'j> {
         allow_inf_nan: bool,
         allow_partial: PartialMode,
     ) -> Result<JsonValue<'j>, JsonError>
-        // The reading from the left, in this mode.
-        ensures answer { Answers result (answer_in allow_inf_nan allow_partial bytes.now) }
-
-        // The cut: a document that is an array or an object may end anywhere behind its first bracket.
-        // Then a partial mode answers exactly what the cut leaves of it, each text with its mark.
-        ensures cut { (front : IsBegunContainer allow_inf_nan bytes.now)
-            → is_active allow_partial ≡ true → MatchResult result
-            (λ v. cut allow_inf_nan front.text front.node front.place allow_partial ≡ Some (view v))
-            (λ e. e.error_type ≡ JsonErrorType.OutOfMemory) }
-        // A whole document is answered with its value in every mode, unless memory is refused.
+        // With partial reading off the value is that of a document that the bytes spell, each text with its mark.
+        ensures found { allow_partial ≡ PartialMode.Off → IfOk result (λ v. (n : Node)
+            × IsDocument allow_inf_nan bytes.now n × (value_of bytes.now n ≡ view v)) }
+        // In every mode a document is answered with its value, unless memory is refused.
         ensures accepts { (n : Node) → IsDocument allow_inf_nan bytes.now n → MatchResult result
             (λ v. view v ≡ value_of bytes.now n) (λ e. e.error_type ≡ JsonErrorType.OutOfMemory) }
+        // At most one node is spelled.
+        ensures one { (n m : Node) → IsDocument allow_inf_nan bytes.now n
+            → IsDocument allow_inf_nan bytes.now m → n ≡ m }
+        // In a partial mode a front of an array or an object, its first bracket in it, is answered with exactly
+        // the document's cut there, unless memory is refused.
+        ensures cut { is_active allow_partial ≡ true → (f : IsBegunContainer allow_inf_nan bytes.now)
+            → MatchResult result
+            (λ v. cut allow_inf_nan f.text f.node f.place allow_partial ≡ Some (view v))
+            (λ e. e.error_type ≡ JsonErrorType.OutOfMemory) }
+        // On any bytes: the reading from the left, in this mode.
+        ensures answer { Answers result (answer_in allow_inf_nan allow_partial bytes.now) }
+        // With partial reading off: which fault it is, the first one of that reading.
+        ensures first { allow_partial ≡ PartialMode.Off
+            → Answers result (answer allow_inf_nan bytes.now) }
+        // With partial reading off: no document begins with the bytes up to the fault.
+        ensures dead { allow_partial ≡ PartialMode.Off → IfErr result (λ e.
+            IsDeadEnd (kind_of e.error_type)
+            → BeginsNoDocument allow_inf_nan (take (e.index + 1) bytes.now)) }
+        // With partial reading off: the bytes before it, little more and closers are a document.
+        ensures alive { allow_partial ≡ PartialMode.Off → IfErr result (λ e.
+            can_go_on (kind_of e.error_type) ≡ true
+            → CanBeCompleted allow_inf_nan (take e.index bytes.now)) }
 
         // Where faults stand.
         ensures index { IfErr result (λ e. e.index ≤ length bytes.now) }
         ensures ends { IfErr result (λ e. is_end_kind (kind_of e.error_type) ≡ true
             → e.index ≡ length bytes.now) }
+
+        // With partial reading off: an array or an object without its last bracket is refused, since the input
+        // ends too early.
+        ensures early { allow_partial ≡ PartialMode.Off → IsCutContainer allow_inf_nan bytes.now
+            → MatchResult result (λ _. ⊥) (λ e. (e.error_type ≡ JsonErrorType.OutOfMemory)
+            ⊎ (is_end_kind (kind_of e.error_type) ≡ true)) }
 
         // Memory may be the answer only where the value's first bytes ask for some, and from its first byte on.
         ensures memory { IfErr result (λ e. e.error_type ≡ JsonErrorType.OutOfMemory
@@ -164,10 +151,28 @@ impl<'j> JsonValue<'j> {
             allow_inf_nan,
             mode: allow_partial,
         };
-        let mut parser = Parser::new(bytes);
-        match read_whole(alloc, &mut parser, settings) {
-            Ok(value) => Ok(value),
-            Err(error) => Err(error_at(error, parser.index)),
-        }
+        read_text(alloc, bytes, settings)
+    }
+}
+
+// What a text answers, read as the settings say.
+fn read_text<'j>(
+    alloc: Global,
+    bytes: &'j [u8],
+    settings: Settings,
+) -> Result<JsonValue<'j>, JsonError>
+    ensures answer { Answers result (answer_in settings.allow_inf_nan settings.mode bytes.now) }
+    ensures index { IfErr result (λ e. e.index ≤ length bytes.now) }
+    ensures ends { IfErr result (λ e. is_end_kind (kind_of e.error_type) ≡ true
+        → e.index ≡ length bytes.now) }
+    ensures memory { IfErr result (λ e. e.error_type ≡ JsonErrorType.OutOfMemory
+        → MayGrow bytes.now) }
+    ensures place { IfErr result (λ e. e.error_type ≡ JsonErrorType.OutOfMemory
+        → past_blanks bytes.now 0 ≤ e.index) }
+{
+    let mut parser = Parser::new(bytes);
+    match read_whole(alloc, &mut parser, settings) {
+        Ok(value) => Ok(value),
+        Err(error) => Err(error_at(error, parser.index)),
     }
 }

@@ -17,11 +17,11 @@ use Rattle.jiter_steps.proofs.Computed.{computed_readings}
 abbrev Row : Type 0
 Row = List ℕ × Kind × ℕ × List ℕ
 
-abbrev fault_of : {A : Type 0} → Reading A → Option (Kind × ℕ)
+abbrev pub fault_of : {A : Type 0} → Reading A → Option (Kind × ℕ)
 fault_of (done a e) = None
 fault_of (fault k i stop) = Some (k, i)
 
-abbrev is_document : List ℕ → Bool
+abbrev pub is_document : List ℕ → Bool
 is_document t = by (fault_of (answer false t)) where
   by : Option (Kind × ℕ) → Bool
   by None = true

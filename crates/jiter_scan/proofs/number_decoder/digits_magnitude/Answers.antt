@@ -1,6 +1,6 @@
 use Rattle.std.proofs.Common.{◌≡◌, ℕ, List, ◌+◌, ◌-◌, ◌*◌, ◌^◌, ◌≤◌, ◌∙◌, ap, ap₂, take, length, slice_range, refl, arith}
 use Rattle.jiter_scan.specs.Digits.{decimal_of}
-use Rattle.jiter_scan.proofs.Magnitudes.{digits-front, digits-front-behind, decimal_of-nineteen, decimal_of-joined, magnitude_of-short, magnitude_of-long}
+use Rattle.jiter_scan.proofs.Magnitudes.{digits-front, digits-front-behind, decimal_of-few, decimal_of-joined, magnitude_of-short, magnitude_of-long}
 use Rattle.jiter_scan.proofs.number_decoder.digits_magnitude.Goals as goal
 
 -- a part of the digits, as its word gives it
@@ -49,7 +49,7 @@ joined-requires-clause-fits c =
     let back = word-is t other.result b (at + 16) n end c.digit_word-back.ensures
     (other.ensures n (omega arith) (omega arith)) (omega arith) in
     let both = joined-is t at end a b (omega arith) (omega arith) front back in
-    omega (arith, decimal_of-nineteen t at end (omega arith) (omega arith) (omega arith) (omega arith))
+    omega (arith, decimal_of-few t at end (omega arith) (omega arith) (omega arith) 19 (omega arith))
 
 pub returns-then-count-le16 : goal.returns-then-count-le16
 returns-then-count-le16 c =

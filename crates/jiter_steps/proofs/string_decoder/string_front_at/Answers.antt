@@ -50,4 +50,4 @@ returns-in-Some-clause-value c =
     let b = c.in-Some.field-0 in
     let other = c.in-Some.field-0-test in
     let here : slice_get t to ≡ Some b = cc in
-    front-control t a.at c.requires to c.plain_end-to.ensures.stop b here other.0.1 other.1
+    rw c.fault_at.ensures (front-control t a.at c.requires to c.plain_end-to.ensures.stop b here other.0.1 other.1)

@@ -22,4 +22,6 @@ returns-clause-value c =
     let a = c.args in
     let f = c.in-Err.fault in
     let off : is_active a.settings.mode ≡ false = sym c.is_active.ensures ∙ c.if-is_active.false in
-    answered-trailing a.settings a.parser.now.bytes.now c.requires.begins (view a.value) a.parser.now.index c.requires.value (fault_kind f.kind) f.index c.finish.new.self.index off c.in-Err.ensures.value
+    answered-trailing a.settings a.parser.now.bytes.now c.requires.begins
+    (view a.value) a.parser.now.index c.requires.value
+    (fault_kind f.kind) f.index c.finish.new.self.index off c.in-Err.ensures.value

@@ -13,7 +13,8 @@ pub returns-in-Err-clause-value : goal.returns-in-Err-clause-value
 returns-in-Err-clause-value c =
     let a = c.args in
     let f = c.in-Err.fault in
-    answered-none a.settings a.parser.now.bytes.now (fault_kind f.kind) f.index c.value_first.new.self.index (rw c.requires at c.in-Err.ensures.value)
+    answered-none a.settings a.parser.now.bytes.now (fault_kind f.kind) f.index c.value_first.new.self.index
+    (rw c.requires at c.in-Err.ensures.value)
 
 pub finished-requires-clause-value : goal.finished-requires-clause-value
 finished-requires-clause-value c =
@@ -23,7 +24,8 @@ finished-requires-clause-value c =
     let first : c.value_first.new.self.bytes.now ≡ t = ap (λ b. b.now) c.in-Ok.ensures.moves.same in
     let second = ap (λ b. b.now) c.in-Ok-read_value.ensures.moves.same in
     let at : past_blanks t 0 ≡ i = value-begins-at t i (rw c.requires at c.in-Ok.ensures.value) in
-    ap (λ u. value_at r u 200 (past_blanks u 0)) (second ∙ first) ∙ ap (value_at r t 200) at ∙ ap (λ u. value_at r u 200 i) (sym first) ∙ c.in-Ok-read_value.ensures.value
+    ap (λ u. value_at r u 200 (past_blanks u 0)) (second ∙ first) ∙ ap (value_at r t 200) at
+    ∙ ap (λ u. value_at r u 200 i) (sym first) ∙ c.in-Ok-read_value.ensures.value
 
 pub returns-in-Err-read_value-clause-value : goal.returns-in-Err-read_value-clause-value
 returns-in-Err-read_value-clause-value c =

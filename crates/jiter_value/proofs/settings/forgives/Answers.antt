@@ -21,7 +21,8 @@ one-of k (inr (inr (inr (inl e)))) = ap (λ k. is_forgiven (fault_kind k)) e
 one-of k (inr (inr (inr (inr (inl e))))) = ap (λ k. is_forgiven (fault_kind k)) e
 one-of k (inr (inr (inr (inr (inr e))))) = ap (λ k. is_forgiven (fault_kind k)) e
 
-no-other : (k : FaultKind) → k ≢ EofWhileParsingList → k ≢ EofWhileParsingObject → k ≢ EofWhileParsingString → k ≢ EofWhileParsingValue → k ≢ ExpectedListCommaOrEnd → k ≢ ExpectedObjectCommaOrEnd
+no-other : (k : FaultKind) → k ≢ EofWhileParsingList → k ≢ EofWhileParsingObject → k ≢ EofWhileParsingString
+    → k ≢ EofWhileParsingValue → k ≢ ExpectedListCommaOrEnd → k ≢ ExpectedObjectCommaOrEnd
     → is_forgiven (fault_kind k) ≡ false
 no-other EofWhileParsingList a b c d e f = absurd (a refl)
 no-other EofWhileParsingObject a b c d e f = absurd (b refl)

@@ -8,5 +8,7 @@ returns c = λ before key old h.
     let xs = c.args.members.now.items in
     let n = c.len-last.result - 1 in
     let got = c.index_mut.result.now in
-    let at : n ≡ length before = omega (arith, c.len-last.ensures, c.args.members.now.ok.0, ap length h, length-append before ((key, old) ∷ [])) in
-    ap (λ v. slice_set xs n (got.0, v)) c.replace.ensures.after ∙ set-last xs before n key old c.args.value got h at c.index_mut.ensures.value
+    let at : n ≡ length before = omega
+    (arith, c.len-last.ensures, c.args.members.now.ok.0, ap length h, length-append before ((key, old) ∷ [])) in
+    ap (λ v. slice_set xs n (got.0, v)) c.replace.ensures.after
+    ∙ set-last xs before n key old c.args.value got h at c.index_mut.ensures.value

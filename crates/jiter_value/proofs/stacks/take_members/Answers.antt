@@ -7,8 +7,10 @@ use Rattle.jiter_value.proofs.stacks.take_members.Goals as goal
 pub returns-then-matches-clause-value : goal.returns-then-matches-clause-value
 returns-then-matches-clause-value c =
     let v = c.replace-all.result in
-    let all : drop c.args.container.base c.args.members.now.items ≡ c.args.members.now.items = ap (λ n. drop n c.args.members.now.items) c.if-container-eq0.true in
-    let is : v.items ≡ drop c.args.container.base c.args.members.now.items = ap (λ w. w.items) c.replace-all.ensures.value ∙ sym all in
+    let all : drop c.args.container.base c.args.members.now.items ≡ c.args.members.now.items = ap
+    (λ n. drop n c.args.members.now.items) c.if-container-eq0.true in
+    let is : v.items ≡ drop c.args.container.base c.args.members.now.items = ap
+    (λ w. w.items) c.replace-all.ensures.value ∙ sym all in
     view-Object v ∙ ap (λ xs. object (members_of (map member_view xs))) is
 
 pub returns-clause-value : goal.returns-clause-value

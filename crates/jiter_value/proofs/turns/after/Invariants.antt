@@ -9,7 +9,8 @@ use Rattle.jiter_value.proofs.turns.after.Given as goal
 abbrev pub invariant-closing : goal.invariant-closing
 invariant-closing l =
     Moves l.fn.parser l.parser
-    × (behind l.settings l.fn.parser.bytes.now l.fn.stacks l.fn.awaits l.fn.parser.index ≡ behind l.settings l.fn.parser.bytes.now l.stacks l.inside l.parser.index)
+    ×
+    (behind l.settings l.fn.parser.bytes.now l.fn.stacks l.fn.awaits l.fn.parser.index ≡ behind l.settings l.fn.parser.bytes.now l.stacks l.inside l.parser.index)
     × Stands l.stacks l.inside × (length l.stacks.nest.items ≤ 200)
     × (left l.fn.parser.bytes.now l.stacks l.parser.index ≤ left l.fn.parser.bytes.now l.fn.stacks l.fn.parser.index)
     × (behind_size l.stacks l.inside ≡ behind_size l.fn.stacks l.fn.awaits)

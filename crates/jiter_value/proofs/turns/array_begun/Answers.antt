@@ -28,9 +28,11 @@ returns-then-len-eq-NESTING_LIMIT-clause-reaches c =
     let j = c.array_first.new.self.index in
     let at : resolved (forgives p.mode) (step t array_first (i + 1)) ≡ more j = c.in-Ok-true.ensures.value _ _ c.array_first.ensures.value ∙ ap (λ y. going y j) c.in-Ok-true.field-0-test in
     let place : j < length t = c.in-Ok-true.ensures.inside _ _ c.array_first.ensures.inside c.in-Ok-true.field-0-test in
-    let full : length os ≡ 200 = length-reverse s.nest.items ∙ sym c.len.ensures.value ∙ c.if-len-eq-NESTING_LIMIT.true in
+    let full : length os ≡ 200 = length-reverse s.nest.items ∙ sym c.len.ensures.value
+    ∙ c.if-len-eq-NESTING_LIMIT.true in
     let few : length os ≤ 200 = omega arith in
-    rw c.too_deep.ensures (array-limit p t a.awaits os s.items.items s.members.items c.requires.stands few i j full place c.requires.bracket at)
+    rw c.too_deep.ensures
+    (array-limit p t a.awaits os s.items.items s.members.items c.requires.stands few i j full place c.requires.bracket at)
 
 pub returns-in_ok-push_small-in-Ok-true-clause-reaches : goal.returns-in_ok-push_small-in-Ok-true-clause-reaches
 returns-in_ok-push_small-in-Ok-true-clause-reaches c =
@@ -53,8 +55,11 @@ returns-in_ok-push_small-in-Ok-true-clause-reaches c =
     let pushed = c.in_ok-push_small-in-Ok-true.ensures.ok in
     let turned : reverse c.push_small.new.items.items ≡ o ∷ os = ap reverse pushed ∙ reverse-append n (o ∷ []) in
     let fewer : length n ≢ 200 = λ full. c.if-len-eq-NESTING_LIMIT.false (c.len.ensures.value ∙ full) in
-    let room : length c.push_small.new.items.items ≤ 200 = omega (arith, c.requires.room, fewer, ap length pushed, length-append n (o ∷ [])) in
-    let above : HaveBases awaits.Item (o ∷ os) (length es) (length ms) = subst (λ b. HaveBases awaits.Item (mk b ∷ os) (length es) (length ms)) (sym len) (array-above a.awaits os (length es) (length ms) c.requires.stands) in (
+    let room : length c.push_small.new.items.items ≤ 200 = omega
+    (arith, c.requires.room, fewer, ap length pushed, length-append n (o ∷ [])) in
+    let above : HaveBases awaits.Item (o ∷ os) (length es) (length ms) = subst
+    (λ b. HaveBases awaits.Item (mk b ∷ os) (length es) (length ms)) (sym len)
+    (array-above a.awaits os (length es) (length ms) c.requires.stands) in (
       array-opens p t a.awaits os es ms c.requires.stands few i j o (ap mk len) place c.requires.bracket at
           ∙ ap (λ qs. value_from (rules p) t (frames awaits.Item qs es ms) j) (sym turned),
       (subst (λ qs. HaveBases awaits.Item qs (length es) (length ms)) (sym turned) above, room, place),

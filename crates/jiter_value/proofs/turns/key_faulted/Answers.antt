@@ -10,4 +10,5 @@ returns-then-not-forgives-clause-reaches c =
     let s = a.stacks.now in
     let k = fault_kind a.problem.kind in
     let bad : forgives a.settings.mode k ≡ false = sym c.forgives.ensures ∙ c.if-not-forgives.true in
-    key-kept a.settings a.parser.now.bytes.now (reverse s.nest.items) s.items.items s.members.items k a.problem.index a.parser.now.index bad
+    key-kept a.settings a.parser.now.bytes.now
+    (reverse s.nest.items) s.items.items s.members.items k a.problem.index a.parser.now.index bad

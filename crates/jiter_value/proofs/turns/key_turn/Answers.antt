@@ -23,10 +23,14 @@ returns-then-len-gt-NESTING_LIMIT-clause-reaches c =
     let i = a.parser.now.index in
     let e = c.string.new.self.index in
     let m = c.object_colon.new.self.index in
-    let v : string_at whole t i ≡ taken (text_view c.in-Ok.key) e = scalar-taken i (string_at whole t i) (text_view c.in-Ok.key) e c.in-Ok.ensures.value in
-    let colon : object_colon t e ≡ taken tt m = subst (λ u. object_colon u e ≡ taken tt m) (ap (λ b. b.now) c.in-Ok.ensures.moves.same) c.in-Ok-object_colon.ensures.value in
-    let full : length (reverse s.nest.items) ≡ 201 = omega (arith, length-reverse s.nest.items, c.len.ensures.value, c.if-len-gt-NESTING_LIMIT.true, c.requires.room) in
-    rw c.too_deep.ensures (key-limit a.settings t (reverse s.nest.items) s.items.items s.members.items i (text_view c.in-Ok.key) e m c.requires.stands c.requires.within v colon full)
+    let v : string_at whole t i ≡ taken (text_view c.in-Ok.key) e = scalar-taken i (string_at whole t i)
+    (text_view c.in-Ok.key) e c.in-Ok.ensures.value in
+    let colon : object_colon t e ≡ taken tt m = subst (λ u. object_colon u e ≡ taken tt m)
+    (ap (λ b. b.now) c.in-Ok.ensures.moves.same) c.in-Ok-object_colon.ensures.value in
+    let full : length (reverse s.nest.items) ≡ 201 = omega
+    (arith, length-reverse s.nest.items, c.len.ensures.value, c.if-len-gt-NESTING_LIMIT.true, c.requires.room) in
+    rw c.too_deep.ensures
+    (key-limit a.settings t (reverse s.nest.items) s.items.items s.members.items i (text_view c.in-Ok.key) e m c.requires.stands c.requires.within v colon full)
 
 pub returns-in_ok-push-in-Ok-object_colon-clause-reaches : goal.returns-in_ok-push-in-Ok-object_colon-clause-reaches
 returns-in_ok-push-in-Ok-object_colon-clause-reaches c =
@@ -40,13 +44,16 @@ returns-in_ok-push-in-Ok-object_colon-clause-reaches c =
     let k = c.in-Ok.key in
     let e = c.string.new.self.index in
     let m = c.object_colon.new.self.index in
-    let v : string_at whole t i ≡ taken (text_view k) e = scalar-taken i (string_at whole t i) (text_view k) e c.in-Ok.ensures.value in
+    let v : string_at whole t i ≡ taken (text_view k) e = scalar-taken i (string_at whole t i)
+    (text_view k) e c.in-Ok.ensures.value in
     let same = ap (λ b. b.now) c.in-Ok.ensures.moves.same in
-    let colon : object_colon t e ≡ taken tt m = subst (λ u. object_colon u e ≡ taken tt m) same c.in-Ok-object_colon.ensures.value in
+    let colon : object_colon t e ≡ taken tt m = subst
+    (λ u. object_colon u e ≡ taken tt m) same c.in-Ok-object_colon.ensures.value in
     let place : m < length t = subst (λ u. m < length u) same c.in-Ok-object_colon.ensures.inside in
     let pushed = c.in_ok-push-in-Ok-object_colon.ensures.ok in
     let room : length s.nest.items ≤ 200 = omega (arith, c.len.ensures.value, c.if-len-gt-NESTING_LIMIT.false) in
-    let long : length ms + 1 ≡ length c.push.new.items.items = omega (arith, ap length pushed, length-append ms ((k, Null) ∷ [])) in (
+    let long : length ms + 1 ≡ length c.push.new.items.items = omega
+    (arith, ap length pushed, length-append ms ((k, Null) ∷ [])) in (
       key-opens a.settings t os es ms i k e m c.requires.stands c.requires.within v colon
           ∙ ap (λ ys. value_from (rules a.settings) t (frames awaits.Value os es ys) m) (sym pushed),
       (subst (λ x. HaveBases awaits.Value os (length es) x) long (key-above os (length es) (length ms) c.requires.stands), room, place),
@@ -63,7 +70,8 @@ returns-in-Err-clause-reaches c =
     let j = c.object_colon.new.self.index in
     let f = c.in-Err.fault in
     let k = fault_kind f.kind in
-    let v : string_at whole t i ≡ taken (text_view c.in-Ok.key) e = scalar-taken i (string_at whole t i) (text_view c.in-Ok.key) e c.in-Ok.ensures.value in
+    let v : string_at whole t i ≡ taken (text_view c.in-Ok.key) e = scalar-taken i (string_at whole t i)
+    (text_view c.in-Ok.key) e c.in-Ok.ensures.value in
     let first = ap (λ b. b.now) c.in-Ok.ensures.moves.same in
     let h = c.in-Err.ensures.value in
     let colon : object_colon t e ≡ failed k f.index = subst (λ u. object_colon u e ≡ failed k f.index) first h.0 in

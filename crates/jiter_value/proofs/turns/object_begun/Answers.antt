@@ -35,8 +35,11 @@ returns-in_ok-push_small-in-Ok-true-clause-reaches c =
     let few : length os ≤ 200 = omega (arith, length-reverse n, c.requires.room) in
     let pushed = c.in_ok-push_small-in-Ok-true.ensures.ok in
     let turned : reverse c.push_small.new.items.items ≡ o ∷ os = ap reverse pushed ∙ reverse-append n (o ∷ []) in
-    let room : length c.push_small.new.items.items ≤ 201 = omega (arith, c.requires.room, ap length pushed, length-append n (o ∷ [])) in
-    let above : HaveKeyBase (o ∷ os) (length es) (length ms) = subst (λ b. HaveKeyBase (mk b ∷ os) (length es) (length ms)) (sym len) (object-above a.awaits os (length es) (length ms) c.requires.stands) in (
+    let room : length c.push_small.new.items.items ≤ 201 = omega
+    (arith, c.requires.room, ap length pushed, length-append n (o ∷ [])) in
+    let above : HaveKeyBase (o ∷ os) (length es) (length ms) = subst
+    (λ b. HaveKeyBase (mk b ∷ os) (length es) (length ms)) (sym len)
+    (object-above a.awaits os (length es) (length ms) c.requires.stands) in (
       object-opens p t a.awaits os es ms c.requires.stands few i j o (ap mk len) c.requires.bracket at
           ∙ ap (λ qs. key_in p t qs es ms j) (sym turned),
       (subst (λ qs. HaveKeyBase qs (length es) (length ms)) (sym turned) above, room, place),

@@ -19,7 +19,8 @@ returns-then-not-forgives-clause-reaches c =
     let s = a.stacks.now in
     let k = fault_kind a.problem.kind in
     let bad : forgives a.settings.mode k ≡ false = sym c.forgives.ensures ∙ c.if-not-forgives.true in
-    fault-kept a.settings a.parser.now.bytes.now a.awaits (reverse s.nest.items) s.items.items s.members.items k a.problem.index a.parser.now.index bad
+    fault-kept a.settings a.parser.now.bytes.now a.awaits
+    (reverse s.nest.items) s.items.items s.members.items k a.problem.index a.parser.now.index bad
 
 pub returns-in_ok-outer-in-Value-clause-reaches : goal.returns-in_ok-outer-in-Value-clause-reaches
 returns-in_ok-outer-in-Value-clause-reaches c =
@@ -35,16 +36,19 @@ returns-in_ok-outer-in-Value-clause-reaches c =
     let b : HaveBases awaits.Value os (length es) (length ms) = rw c.in-Value.is at c.requires.stands in
     let last = last-split ms (value-base os (length es) (length ms) b) in
     let before = take (length ms - 1) ms in
-    let popped : c.pop.new.self.items ≡ before = c.pop.ensures.rest ∙ ap (λ n. take (n - 1) ms) (omega (arith, s.members.ok.0)) in
+    let popped : c.pop.new.self.items ≡ before = c.pop.ensures.rest
+    ∙ ap (λ n. take (n - 1) ms) (omega (arith, s.members.ok.0)) in
     let long : length before ≡ length ms - 1 = length-take-le (length ms - 1) ms (omega arith) in
-    let below : HaveKeyBase os (length es) (length before) = subst (λ n. HaveKeyBase os (length es) n) (sym long) (key-of-value os (length es) (length ms) b) in
+    let below : HaveKeyBase os (length es) (length before) = subst (λ n. HaveKeyBase os (length es) n) (sym long)
+    (key-of-value os (length es) (length ms) b) in
     let ok : forgives p.mode k ≡ true = sym c.forgives.ensures ∙ c.if-not-forgives.false in
     let x = fault k a.problem.index i in
     let closes = ap (λ ys. resume (rules p) t (frames awaits.Value os es ys) x) last.1
     ∙ fault-value p t os es before last.0.0 last.0.1 k a.problem.index i below ok
     ∙ ap (λ ys. object_in p t os es ys i) (sym popped)
     ∙ c.in_ok-outer-in-Value.ensures.value p t i in
-    rw c.in-Value.is (reaches-along p t c.after-in-Value.new.stacks c.after-in-Value.new.parser.index c.after-in-Value.result _ _ closes c.after-in-Value.ensures.reaches)
+    rw c.in-Value.is
+    (reaches-along p t c.after-in-Value.new.stacks c.after-in-Value.new.parser.index c.after-in-Value.result _ _ closes c.after-in-Value.ensures.reaches)
 
 pub returns-in_ok-outer-in-Value-clause-held : goal.returns-in_ok-outer-in-Value-clause-held
 returns-in_ok-outer-in-Value-clause-held c =
@@ -56,9 +60,13 @@ returns-in_ok-outer-in-Value-clause-held c =
     let b : HaveBases awaits.Value os (length es) (length ms) = rw c.in-Value.is at c.requires.stands in
     let last = last-split ms (value-base os (length es) (length ms) b) in
     let before = take (length ms - 1) ms in
-    let popped : c.pop.new.self.items ≡ before = c.pop.ensures.rest ∙ ap (λ n. take (n - 1) ms) (omega (arith, s.members.ok.0)) in
+    let popped : c.pop.new.self.items ≡ before = c.pop.ensures.rest
+    ∙ ap (λ n. take (n - 1) ms) (omega (arith, s.members.ok.0)) in
     let long : length before ≡ length ms - 1 = length-take-le (length ms - 1) ms (omega arith) in
-    let below : HaveKeyBase os (length es) (length before) = subst (λ n. HaveKeyBase os (length es) n) (sym long) (key-of-value os (length es) (length ms) b) in
-    let was : frames_size (frames awaits.Value os es ms) ≡ key_size_in os es before + 1 = ap (λ ys. frames_size (frames awaits.Value os es ys)) last.1 ∙ key-size os es before last.0.0 last.0.1 below in
+    let below : HaveKeyBase os (length es) (length before) = subst (λ n. HaveKeyBase os (length es) n) (sym long)
+    (key-of-value os (length es) (length ms) b) in
+    let was : frames_size (frames awaits.Value os es ms) ≡ key_size_in os es before + 1 = ap
+    (λ ys. frames_size (frames awaits.Value os es ys)) last.1 ∙ key-size os es before last.0.0 last.0.1 below in
     let outer : behind_size c.close_object.new.stacks c.in_ok-outer-in-Value.outer ≡ key_size_in os es before = c.in_ok-outer-in-Value.ensures.held ∙ ap (λ ys. key_size_in os es ys) popped in
-    rw c.in-Value.is (IfOk-weaker c.after-in-Value.result _ _ (λ x e. omega (arith, e, outer, was)) c.after-in-Value.ensures.held)
+    rw c.in-Value.is
+    (IfOk-weaker c.after-in-Value.result _ _ (λ x e. omega (arith, e, outer, was)) c.after-in-Value.ensures.held)

@@ -28,9 +28,15 @@ returns-in_ok-put-in-Ok c =
       reaches = reaches-along p t c.after.new.stacks c.after.new.parser.index c.after.result _ _
           (value-read p t a.awaits (reverse s.nest.items) s.items.items s.members.items c.requires.stands few i (done (view c.in-Ok.value) e) c.in-Ok.ensures.value ∙ c.in_ok-put-in-Ok.ensures.value p t e)
           (subst (λ u. Reaches p u c.after.new.stacks c.after.new.parser.index c.after.result (behind p u c.put.new.stacks a.awaits e)) same c.after.ensures.reaches);
-      left = on_ok_weaker c.after.result (λ l. omega (arith, l, ap length same, nest, within, c.in-Ok.ensures.ahead)) c.after.ensures.left;
-      held = IfOk-weaker c.after.result _ _ (λ x h. omega (arith, h, c.in_ok-put-in-Ok.ensures.held, c.in-Ok.ensures.one)) c.after.ensures.held;
-      memory = λ e. root-grows c.after.result _ (c.after.ensures.root e) (refused-weaker c.after.result _ _ (λ other. absurd (other e)) c.after.ensures.memory);
+      left =
+          on_ok_weaker c.after.result
+          (λ l. omega (arith, l, ap length same, nest, within, c.in-Ok.ensures.ahead)) c.after.ensures.left;
+      held =
+          IfOk-weaker c.after.result _ _
+          (λ x h. omega (arith, h, c.in_ok-put-in-Ok.ensures.held, c.in-Ok.ensures.one)) c.after.ensures.held;
+      memory =
+          λ e. root-grows c.after.result _ (c.after.ensures.root e)
+          (refused-weaker c.after.result _ _ (λ other. absurd (other e)) c.after.ensures.memory);
     }
 
 pub returns-in-Err-Fault : goal.returns-in-Err-Fault
@@ -52,7 +58,12 @@ returns-in-Err-Fault c =
       reaches = reaches-along p t c.value_faulted.new.stacks c.value_faulted.new.parser.index c.value_faulted.result _ _
           (value-read p t a.awaits (reverse s.nest.items) s.items.items s.members.items c.requires.stands few i (fault k f.index j) v)
           (subst (λ u. Reaches p u c.value_faulted.new.stacks c.value_faulted.new.parser.index c.value_faulted.result (resumed p u s a.awaits (fault k f.index j))) same c.value_faulted.ensures.reaches);
-      left = on_ok_weaker c.value_faulted.result (λ l. omega (arith, l, ap length same, moved.forward)) c.value_faulted.ensures.left;
+      left =
+          on_ok_weaker c.value_faulted.result
+          (λ l. omega (arith, l, ap length same, moved.forward)) c.value_faulted.ensures.left;
       held = IfOk-weaker c.value_faulted.result _ _ (λ x h. omega (arith, h)) c.value_faulted.ensures.held;
-      memory = λ e. never-grows c.value_faulted.result _ (on_ok_weaker c.value_faulted.result (λ other. other e) c.value_faulted.ensures.root) (refused-weaker c.value_faulted.result _ _ (λ other. other e) c.value_faulted.ensures.memory);
+      memory =
+          λ e. never-grows c.value_faulted.result _
+          (on_ok_weaker c.value_faulted.result (λ other. other e) c.value_faulted.ensures.root)
+          (refused-weaker c.value_faulted.result _ _ (λ other. other e) c.value_faulted.ensures.memory);
     }

@@ -17,7 +17,8 @@ go-requires-in-Ok c =
     let u = rw c.if-begun.false at c.self.invariant in
     let same : c.value_first.new.self.bytes.now ≡ t = ap (λ b. b.now) c.in-Ok.ensures.moves.same in
     let first : step t value_first 0 ≡ taken tt i = rw u.1 at c.in-Ok.ensures.value in
-    subst (λ x. IsUnderWay true x m.settings i awaits.Root m.stacks) (sym same) (begins-under-way m.settings t m.stacks i u.0 first c.in-Ok.ensures.inside)
+    subst (λ x. IsUnderWay true x m.settings i awaits.Root m.stacks) (sym same)
+    (begins-under-way m.settings t m.stacks i u.0 first c.in-Ok.ensures.inside)
 
 pub returns : goal.returns
 returns c =
@@ -27,4 +28,5 @@ returns c =
     let i = c.value_first.new.self.index in
     let u = rw c.if-begun.false at c.self.invariant in
     let h : (step t value_first 0 ≡ failed (fault_kind f.kind) f.index) × (i ≡ f.index) = rw u.1 at c.in-Err.ensures.value in
-    rw (← c.self.view_is) (error-answers (error.Fault f) i c.error_at-error.result (answered m.settings t) c.error_at-error.ensures (answered-none m.settings t (fault_kind f.kind) f.index i h), tt)
+    rw (← c.self.view_is)
+    (error-answers (error.Fault f) i c.error_at-error.result (answered m.settings t) c.error_at-error.ensures (answered-none m.settings t (fault_kind f.kind) f.index i h), tt)

@@ -1,15 +1,20 @@
-use Rattle.jiter_steps.proofs.Documents.{one_node}
-use Rattle.jiter_value.proofs.Parsed.{parse-found, parse-only, parse-early}
+use Rattle.std.proofs.Common.{refl}
 use Rattle.jiter_value.proofs.value.JsonValue.parse.Goals as goal
 
 pub returns-clause-found : goal.returns-clause-found
-returns-clause-found c = parse-found c.args.allow_inf_nan c.args.bytes.now c.parse_with_config.result c.parse_with_config.ensures.answer
+returns-clause-found c = c.parse_with_config.ensures.found refl
 
 pub returns-clause-only : goal.returns-clause-only
-returns-clause-only c = parse-only c.args.allow_inf_nan c.args.bytes.now c.parse_with_config.result c.parse_with_config.ensures.answer
+returns-clause-only c = c.parse_with_config.ensures.accepts
 
-pub returns-clause-one : goal.returns-clause-one
-returns-clause-one c = one_node c.args.allow_inf_nan c.args.bytes.now
+pub returns-clause-first : goal.returns-clause-first
+returns-clause-first c = c.parse_with_config.ensures.first refl
+
+pub returns-clause-dead : goal.returns-clause-dead
+returns-clause-dead c = c.parse_with_config.ensures.dead refl
+
+pub returns-clause-alive : goal.returns-clause-alive
+returns-clause-alive c = c.parse_with_config.ensures.alive refl
 
 pub returns-clause-early : goal.returns-clause-early
-returns-clause-early c = parse-early c.args.allow_inf_nan c.args.bytes.now c.parse_with_config.result c.parse_with_config.ensures.answer
+returns-clause-early c = c.parse_with_config.ensures.early refl

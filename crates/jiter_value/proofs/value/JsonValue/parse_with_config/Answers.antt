@@ -1,45 +1,42 @@
-use Rattle.std.proofs.Common.{◌≡◌, ◌≤◌, ◌∙◌, ap, subst, length}
-use Rattle.std.specs.Prelude.{Ok, Err}
-use Rattle.jiter_value.proofs.Parsed.{config-cut, config-accepts, error-answers, error-index, error-ends}
+use Rattle.jiter_steps.proofs.Documents.{one_node}
+use Rattle.jiter_value.proofs.Parsed.{answer-off, parse-found, parse-accepts, parse-cut, parse-dead, parse-alive, parse-early}
 use Rattle.jiter_value.proofs.value.JsonValue.parse_with_config.Goals as goal
 
-pub returns-in-Ok-clause-cut : goal.returns-in-Ok-clause-cut
-returns-in-Ok-clause-cut c =
+pub returns-clause-found : goal.returns-clause-found
+returns-clause-found c = λ off.
     let a = c.args in
-    config-cut a.allow_inf_nan a.bytes.now a.allow_partial (Ok c.in-Ok.value) (rw c.new-parser.ensures.same at c.in-Ok.ensures.value)
+    let r = c.read_text.result in
+    parse-found a.allow_inf_nan a.bytes.now r (answer-off a.allow_inf_nan a.bytes.now a.allow_partial r c.read_text.ensures.answer off)
 
-pub returns-in-Ok-clause-accepts : goal.returns-in-Ok-clause-accepts
-returns-in-Ok-clause-accepts c =
-    let a = c.args in
-    config-accepts a.allow_inf_nan a.bytes.now a.allow_partial (Ok c.in-Ok.value) (rw c.new-parser.ensures.same at c.in-Ok.ensures.value)
+pub returns-clause-accepts : goal.returns-clause-accepts
+returns-clause-accepts c =
+    parse-accepts c.args.allow_inf_nan c.args.bytes.now c.args.allow_partial c.read_text.result c.read_text.ensures.answer
 
-pub returns-in-Err-clause-cut : goal.returns-in-Err-clause-cut
-returns-in-Err-clause-cut c =
-    let a = c.args in
-    let i = c.read_whole.new.parser.index in
-    let e = c.error_at.result in
-    config-cut a.allow_inf_nan a.bytes.now a.allow_partial (Err e)
-    (error-answers a.allow_inf_nan a.bytes.now a.allow_partial i e c.in-Err.error c.error_at.ensures (rw c.new-parser.ensures.same at c.in-Err.ensures.value))
+pub returns-clause-one : goal.returns-clause-one
+returns-clause-one c = one_node c.args.allow_inf_nan c.args.bytes.now
 
-pub returns-in-Err-clause-accepts : goal.returns-in-Err-clause-accepts
-returns-in-Err-clause-accepts c =
-    let a = c.args in
-    let i = c.read_whole.new.parser.index in
-    let e = c.error_at.result in
-    config-accepts a.allow_inf_nan a.bytes.now a.allow_partial (Err e)
-    (error-answers a.allow_inf_nan a.bytes.now a.allow_partial i e c.in-Err.error c.error_at.ensures (rw c.new-parser.ensures.same at c.in-Err.ensures.value))
+pub returns-clause-cut : goal.returns-clause-cut
+returns-clause-cut c =
+    parse-cut c.args.allow_inf_nan c.args.bytes.now c.args.allow_partial c.read_text.result c.read_text.ensures.answer
 
-pub returns-in-Err-clause-index : goal.returns-in-Err-clause-index
-returns-in-Err-clause-index c =
-    let a = c.args in
-    let t = a.bytes.now in
-    let i = c.read_whole.new.parser.index in
-    let same : c.read_whole.new.parser.bytes.now ≡ t = ap (λ b. b.now) (c.in-Err.ensures.moves.same ∙ c.new-parser.ensures.same) in
-    let within : i ≤ length t = subst (λ u. i ≤ length u) same c.read_whole.new.parser.within in
-    error-index a.allow_inf_nan t a.allow_partial i c.error_at.result c.in-Err.error c.error_at.ensures (rw c.new-parser.ensures.same at c.in-Err.ensures.value) within
+pub returns-clause-first : goal.returns-clause-first
+returns-clause-first c =
+    answer-off c.args.allow_inf_nan c.args.bytes.now c.args.allow_partial c.read_text.result c.read_text.ensures.answer
 
-pub returns-in-Err-clause-ends : goal.returns-in-Err-clause-ends
-returns-in-Err-clause-ends c =
+pub returns-clause-dead : goal.returns-clause-dead
+returns-clause-dead c = λ off.
     let a = c.args in
-    let i = c.read_whole.new.parser.index in
-    error-ends a.allow_inf_nan a.bytes.now a.allow_partial i c.error_at.result c.in-Err.error c.error_at.ensures (rw c.new-parser.ensures.same at c.in-Err.ensures.value)
+    let r = c.read_text.result in
+    parse-dead a.allow_inf_nan a.bytes.now r (answer-off a.allow_inf_nan a.bytes.now a.allow_partial r c.read_text.ensures.answer off)
+
+pub returns-clause-alive : goal.returns-clause-alive
+returns-clause-alive c = λ off.
+    let a = c.args in
+    let r = c.read_text.result in
+    parse-alive a.allow_inf_nan a.bytes.now r (answer-off a.allow_inf_nan a.bytes.now a.allow_partial r c.read_text.ensures.answer off)
+
+pub returns-clause-early : goal.returns-clause-early
+returns-clause-early c = λ off.
+    let a = c.args in
+    let r = c.read_text.result in
+    parse-early a.allow_inf_nan a.bytes.now r (answer-off a.allow_inf_nan a.bytes.now a.allow_partial r c.read_text.ensures.answer off)

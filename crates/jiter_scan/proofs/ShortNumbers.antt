@@ -1,0 +1,116 @@
+-- Numbers whose digits end within a chunk.
+use Rattle.std.proofs.Common.{◌≡◌, ◌≢◌, ◌⊎◌, inl, inr, ℕ, ◌+◌, ◌-◌, ◌<◌, ◌≤◌, ◌==◌, ◌||◌, Bool, true, false, List, [], ◌∷◌, length, take, drop, get_or, refl, sym, ap, ◌∙◌, subst, slice_range, arith}
+use Rattle.std.specs.Prelude.{slice_get, Option, Some, None, IfSome}
+use Rattle.std.specs.List.{prefix_len}
+use Rattle.std.proofs.lemmas.Bool.{cases_lt}
+use Rattle.std.proofs.lemmas.Bool.Decides.{nat_tests}
+use Rattle.std.proofs.lemmas.List.{length-take}
+use Rattle.std.proofs.lemmas.Option.{slice_get-get_or, slice_get_within, get_or_from_slice_get}
+use Rattle.jiter_scan.specs.Digits.{is_digit, digit_run_end}
+use Rattle.jiter_scan.specs.Number.{IsWhole, IsDigits, float, number_value}
+use Rattle.jiter_scan.specs.NumberReading.{extent_then, whole_at, fraction_at, exponent_at, decimal_at, fraction_from, exponent_from, digits_from, power_from, is_float_sign}
+use Rattle.jiter_scan.specs.Scanned.{taken, failed}
+use Rattle.jiter_scan.specs.Kind.{invalid_number}
+use Rattle.jiter_scan.specs.Stands.{Stands}
+use Rattle.jiter_scan.proofs.Choices.{if-false, if-true}
+use Rattle.jiter_scan.proofs.Chunks.{prefix_len-front, prefix_len-pass, run_end-on}
+use Rattle.jiter_scan.proofs.Magnitudes.{slice_range-count}
+use Rattle.jiter_scan.proofs.NumberComplete.{whole_at-complete}
+use Rattle.jiter_scan.proofs.NumberValues.{number_value-tail}
+use Rattle.jiter_scan.proofs.Runs.{run_end-passes, run_end-stops, NoDigit}
+use Rattle.jiter_scan.proofs.Standing.{stands-slice}
+
+module _ (t : List ℕ) where
+  -- digits that end within a chunk end in the text as in the chunk
+  pub run_end-counted : (chunk : List ℕ) (i n : ℕ) → n ≡ digit_run_end chunk 0 → take n chunk ≡ slice_range t i (i + n)
+      → take (n + 1) chunk ≡ slice_range t i (i + (n + 1)) → digit_run_end t i ≡ i + n
+  run_end-counted chunk i n counted front more =
+      let here : n ≤ prefix_len is_digit (drop i t) =
+      prefix_len-front is_digit n chunk (drop i t) (front ∙ slice_range-count t i n) (omega arith) in
+      let over : n + 1 ≤ prefix_len is_digit (drop i t) → n + 1 ≤ prefix_len is_digit (drop 0 chunk) =
+      λ h. prefix_len-front is_digit (n + 1) (drop i t) chunk (sym (more ∙ slice_range-count t i (n + 1))) h in
+      elim (cases_lt (prefix_len is_digit (drop i t)) (n + 1)) [
+        | inl no_more ↦ omega arith
+        | inr longer ↦ let found = over longer in absurd (omega arith)
+      ]
+
+  -- digits of a chunk are digits of the text
+  pub digits-of_chunk : (chunk : List ℕ) (i n : ℕ) → n ≤ digit_run_end chunk 0 → take n chunk ≡ slice_range t i (i + n)
+      → i + n ≤ digit_run_end t i
+  digits-of_chunk chunk i n counted front =
+      let here : n ≤ prefix_len is_digit (drop i t) =
+      prefix_len-front is_digit n chunk (drop i t) (front ∙ slice_range-count t i n) (omega arith) in
+      omega arith
+
+  no_digit : (i e : ℕ) → digit_run_end t i ≡ e → NoDigit (slice_get t e)
+  no_digit i e run = by (slice_get t e) refl where
+    by : (o : Option ℕ) → slice_get t e ≡ o → NoDigit o
+    by None h = tt
+    by (Some c) h = run_end-stops is_digit t i c (ap (slice_get t) run ∙ h)
+
+  -- one digit, or more of which the first is no zero
+  pub whole_at-run : (i e : ℕ) → digit_run_end t i ≡ e → i < e → e ≤ length t → e ≤ i + 4300
+      → (e ≡ i + 1) ⊎ (get_or t i 0 ≢ 48) → whole_at t i ≡ taken tt e
+  whole_at-run i e run some within few first =
+      let c = get_or t i 0 in
+      let cs = slice_range t (i + 1) e in
+      let stands : Stands t i e (c ∷ cs) = (slice_get-get_or t i 0 (omega arith), stands-slice t (i + 1) e (omega arith) within) in
+      let rest : e - (i + 1) ≤ prefix_len is_digit (drop (i + 1) t) = omega (arith, run_end-on is_digit t i 1 (omega arith) (omega arith)) in
+      let digits : IsDigits (c ∷ cs) = (run_end-passes is_digit t i i (omega arith) (omega arith), prefix_len-pass is_digit (e - (i + 1)) (drop (i + 1) t) rest) in
+      let long : length (c ∷ cs) ≤ 4300 = omega (arith, length-take (e - (i + 1)) (drop (i + 1) t)) in
+      whole_at-complete t i e (c ∷ cs) stands (digits, by first) long (no_digit i e run)
+    where
+      by : (e ≡ i + 1) ⊎ (get_or t i 0 ≢ 48) → (slice_range t (i + 1) e ≡ []) ⊎ (get_or t i 0 ≢ 48)
+      by (inl one) = let none : e - (i + 1) ≡ 0 = omega arith in inl (ap (λ n. take n (drop (i + 1) t)) none)
+      by (inr other) = inr other
+
+  -- the integer part that is counted in a chunk
+  module _ (chunk : List ℕ) (i n : ℕ) (counted : n ≡ digit_run_end chunk 0) (few : n ≤ 15) (room : i + 16 ≤ length t)
+      (front : (m : ℕ) → m ≤ 16 → i + m ≤ length t → take m chunk ≡ slice_range t i (i + m)) where
+    pub digits-counted : digit_run_end t i ≡ i + n
+    digits-counted =
+        run_end-counted chunk i n counted (front n (omega arith) (omega arith)) (front (n + 1) (omega arith) (omega arith))
+
+    pub whole_at-counted : 0 < n → ((get_or t i 0 ≡ 48) × (n ≡ 1)) ⊎ (get_or t i 0 ≢ 48) → whole_at t i ≡ taken tt (i + n)
+    whole_at-counted some first = whole_at-run i (i + n) digits-counted (omega arith) (omega arith) (omega arith) (by first) where
+      by : ((get_or t i 0 ≡ 48) × (n ≡ 1)) ⊎ (get_or t i 0 ≢ 48) → (i + n ≡ i + 1) ⊎ (get_or t i 0 ≢ 48)
+      by (inl zero) = let one = zero.1 in inl (ap (λ k. i + k) one)
+      by (inr other) = inr other
+
+  -- digits that end in the second chunk
+  pub digits-in_two : (back : List ℕ) (i n : ℕ) → n ≡ digit_run_end back 0 → n ≤ 15 → i + 32 ≤ length t
+      → ((m : ℕ) → m ≤ 16 → i + 16 + m ≤ length t → take m back ≡ slice_range t (i + 16) (i + 16 + m))
+      → i + 16 ≤ digit_run_end t i → digit_run_end t i ≡ i + 16 + n
+  digits-in_two back i n counted few room front run =
+      sym (run_end-on is_digit t i 16 run (omega arith)) ∙ digits-counted back (i + 16) n counted few (omega arith) front
+
+  -- no point and no exponent behind it
+  pub decimal_at-whole : (i e c : ℕ) → whole_at t i ≡ taken tt e → slice_get t e ≡ Some c → is_float_sign c ≡ false → decimal_at t i ≡ taken tt e
+  decimal_at-whole i e c whole here no_sign =
+      let point : (c == 46) ≡ false = grind (arith, nat_tests) in
+      let letter : ((c == 101) || (c == 69)) ≡ false = grind (arith, nat_tests) in
+      let fraction : fraction_at t e ≡ taken tt e =
+      ap (fraction_from t e) here ∙ if-false (c == 46) (digits_from t (e + 1) (slice_get t (e + 1))) (taken tt e) point in
+      let exponent : exponent_at t e ≡ taken tt e =
+      ap (exponent_from t e) here ∙ if-false ((c == 101) || (c == 69)) (power_from t (e + 1) (slice_get t (e + 1))) (taken tt e) letter in
+      ap (λ x. extent_then x (λ j. extent_then (fraction_at t j) (λ k. exponent_at t k))) whole
+      ∙ ap (λ x. extent_then x (λ k. exponent_at t k)) fraction ∙ exponent
+
+  -- a point or an exponent behind it
+  pub decimal_at-tail : (i k e : ℕ) → whole_at t i ≡ taken tt k → extent_then (fraction_at t k) (exponent_at t) ≡ taken tt e → decimal_at t i ≡ taken tt e
+  decimal_at-tail i k e whole tail =
+      ap (λ x. extent_then x (λ j. extent_then (fraction_at t j) (λ k. exponent_at t k))) whole ∙ tail
+
+  -- a point, digits, and no exponent behind them
+  pub tail-fraction : (i e b c : ℕ) → slice_get t i ≡ Some 46 → digit_run_end t (i + 1) ≡ e → i + 1 < e → slice_get t (i + 1) ≡ Some b
+      → slice_get t e ≡ Some c → ((c == 101) || (c == 69)) ≡ false → extent_then (fraction_at t i) (exponent_at t) ≡ taken tt e
+  tail-fraction i e b c point run some first here no_letter =
+      let inside = slice_get_within t (i + 1) b first in
+      let digit : is_digit b ≡ true =
+      ap is_digit (sym (get_or_from_slice_get t (i + 1) b 0 first)) ∙ run_end-passes is_digit t (i + 1) (i + 1) (omega arith) (omega arith) in
+      let fraction : fraction_at t i ≡ taken tt e =
+      ap (fraction_from t i) point ∙ ap (digits_from t (i + 1)) first
+      ∙ if-true (is_digit b) (taken tt (digit_run_end t (i + 1))) (failed invalid_number (i + 1)) digit ∙ ap (taken tt) run in
+      let exponent : exponent_at t e ≡ taken tt e =
+      ap (exponent_from t e) here ∙ if-false ((c == 101) || (c == 69)) (power_from t (e + 1) (slice_get t (e + 1))) (taken tt e) no_letter in
+      ap (λ x. extent_then x (λ k. exponent_at t k)) fraction ∙ exponent

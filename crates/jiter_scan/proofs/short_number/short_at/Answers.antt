@@ -1,0 +1,48 @@
+use Rattle.std.proofs.Common.{◌+◌, get_or, sym, ap, ◌∙◌, arith}
+use Rattle.std.proofs.lemmas.Option.{slice_get-get_or}
+use Rattle.jiter_scan.specs.Digits.{decimal_of}
+use Rattle.jiter_scan.proofs.Magnitudes.{decimal_of-few, magnitude_of-short}
+use Rattle.jiter_scan.proofs.NumberValues.{number_value-tail}
+use Rattle.jiter_scan.proofs.ShortNumbers.{digits-counted, digits-of_chunk, whole_at-counted, decimal_at-whole, decimal_at-tail}
+use Rattle.jiter_scan.proofs.short_number.short_at.Goals as goal
+
+pub returns-then-not-is_float_sign : goal.returns-then-not-is_float_sign
+returns-then-not-is_float_sign c =
+    let t = c.args.bytes.now in
+    let i = c.args.at in
+    let chunk = c.full_chunk_at-chunk in
+    let n = c.digit_count-count.result in
+    let run = digits-counted t chunk.result i n c.digit_count-count.ensures (omega arith) (omega arith) chunk.ensures in
+    let whole = whole_at-counted t chunk.result i n c.digit_count-count.ensures (omega arith) (omega arith) chunk.ensures
+    (omega arith) c.if-count-ne1.either in
+    let value = c.digit_word.ensures ∙ ap decimal_of (chunk.ensures n (omega arith) (omega arith)) in
+    record {
+      whole = whole;
+      decimal = decimal_at-whole t i (i + n) (get_or t (i + n) 0) whole (slice_get-get_or t (i + n) 0 (omega arith))
+          (sym c.is_float_sign.ensures ∙ c.if-not-is_float_sign.true);
+      magnitude = magnitude_of-short t i (i + n) (omega arith) (omega arith) (omega arith) c.digit_word.result (omega arith) value;
+      small = omega (arith, decimal_of-few t i (i + n) (omega arith) (omega arith) (omega arith) 15 (omega arith), value);
+      some = omega arith;
+      within = omega arith;
+    }
+
+pub returns-in-Some : goal.returns-in-Some
+returns-in-Some c =
+    let t = c.args.bytes.now in
+    let i = c.args.at in
+    let chunk = c.full_chunk_at-chunk in
+    let n = c.digit_count-count.result in
+    let whole = whole_at-counted t chunk.result i n c.digit_count-count.ensures (omega arith) (omega arith) chunk.ensures
+    (omega arith) c.if-count-ne1.either in
+    let end = c.in-Some.behind in
+    record {
+      decimal = decimal_at-tail t i (i + n) end whole c.in-Some.ensures.end;
+      value = λ j le. number_value-tail t j (i + n) end (omega arith) c.if-behind-end.true (omega arith) c.in-Some.ensures.end;
+      some = omega arith;
+      within = c.in-Some.ensures.place;
+    }
+
+pub two_words_at-requires-clause-digits : goal.two_words_at-requires-clause-digits
+two_words_at-requires-clause-digits c =
+    let chunk = c.full_chunk_at-chunk in
+    digits-of_chunk c.args.bytes.now chunk.result c.args.at 16 (omega (arith, c.digit_count-count.ensures)) (chunk.ensures 16 (omega arith) (omega arith))

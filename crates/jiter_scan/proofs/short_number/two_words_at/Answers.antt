@@ -1,0 +1,31 @@
+use Rattle.std.proofs.Common.{◌≡◌, ◌≢◌, inr, ◌+◌, get_or, sym, ◌∙◌, arith}
+use Rattle.std.proofs.lemmas.Option.{slice_get-get_or}
+use Rattle.jiter_scan.proofs.Magnitudes.{decimal_of-few}
+use Rattle.jiter_scan.proofs.ShortNumbers.{digits-in_two, whole_at-run, decimal_at-whole}
+use Rattle.jiter_scan.proofs.short_number.two_words_at.Goals as goal
+
+pub digits_magnitude-magnitude-requires-clause-digits : goal.digits_magnitude-magnitude-requires-clause-digits
+digits_magnitude-magnitude-requires-clause-digits c =
+    let run = digits-in_two c.args.bytes.now c.full_chunk_at-back.result c.args.at c.digit_count-more.result c.digit_count-more.ensures
+    (omega arith) c.requires.room c.full_chunk_at-back.ensures c.requires.digits in
+    (omega arith, omega arith)
+
+pub returns : goal.returns
+returns c =
+    let t = c.args.bytes.now in
+    let i = c.args.at in
+    let n = c.digit_count-more.result in
+    let e = i + 16 + n in
+    let run = digits-in_two t c.full_chunk_at-back.result i n c.digit_count-more.ensures (omega arith) c.requires.room
+    c.full_chunk_at-back.ensures c.requires.digits in
+    let first : get_or t i 0 ≢ 48 = λ (zero : get_or t i 0 ≡ 48). omega arith in
+    let whole = whole_at-run t i e run (omega arith) (omega arith) (omega arith) (inr first) in
+    record {
+      whole = whole;
+      decimal = decimal_at-whole t i e (get_or t e 0) whole (slice_get-get_or t e 0 (omega arith))
+          (sym c.is_float_sign.ensures ∙ c.if-is_float_sign.false);
+      magnitude = c.digits_magnitude-magnitude.ensures;
+      small = omega (arith, decimal_of-few t i e (omega arith) (omega arith) (omega arith) 18 (omega arith), c.digits_magnitude-magnitude.ensures);
+      some = omega arith;
+      within = omega arith;
+    }
