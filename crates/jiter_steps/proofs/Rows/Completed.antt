@@ -22,10 +22,10 @@ use Rattle.jiter_steps.specs.Tree.{Text, Tree}
 use Rattle.jiter_steps.specs.Tree as tree
 use Rattle.jiter_steps.proofs.Answered.{whole-fault}
 use Rattle.jiter_steps.proofs.Blanks.{past_blanks-other}
-use Rattle.jiter_steps.proofs.Bodies.{body_at-found, found-end}
+use Rattle.jiter_steps.proofs.Bodies.{body_at-place_by, place_by-end}
 use Rattle.jiter_steps.proofs.Dead.{dead}
 use Rattle.jiter_steps.proofs.Documents.{answer-of}
-use Rattle.jiter_steps.proofs.Rows.Computed.{computed_readings}
+use Rattle.jiter_steps.proofs.Computed.{computed_readings}
 use Rattle.jiter_steps.proofs.Rows.FirstFault.{fault_of, is_document}
 use Rattle.jiter_steps.proofs.Rows.Trees.{times}
 use Rattle.jiter_steps.proofs.StringComplete.{IsPrinted, ArePrinted, bytes-read}
@@ -213,7 +213,7 @@ open_string-reads w printed =
     let t = 34 ∷ w in
     let range : slice_range t 1 (1 + length w) ≡ w = ap (λ n. take n w) (omega arith) ∙ take_all (length w) w (omega arith) in
     let stands = subst (Stands t 1 (1 + length w)) range (stands-slice t 1 (1 + length w) (omega arith) (omega arith)) in
-    let last = body_at-found t (1 + length w) (over unclosed) (found-end t (1 + length w) (omega arith)) in
+    let last = body_at-place_by t (1 + length w) (over unclosed) (place_by-end t (1 + length w) (omega arith)) in
     let body = bytes-read t 1 (1 + length w) w printed stands ∙ ap (before w false) last in
     ap (λ (b : Body). text_in_form whole t 1 b.bytes b.owned b.stop) body
 
