@@ -594,3 +594,51 @@ fn containers_are_printed(rt: HostRuntime) -> Result<(), Fail> {
     );
     Ok(())
 }
+
+// What a partial mode shows of the front, or nothing where it is refused.
+fn shown(alloc: Global, front: &[u8], mode: PartialMode) -> Result<Vec<u8>, Fail> {
+    match JsonValue::parse_with_config(alloc, front, false, mode) {
+        Ok(value) => Ok(print(alloc, &value)?),
+        Err(_) => Ok(Vec::new(alloc)),
+    }
+}
+
+#[test]
+fn each_front_of_a_document_is_shown_as_its_cut(rt: HostRuntime) -> Result<(), Fail> {
+    let alloc = rt.alloc();
+    let document = "[12,\"aé\",{\"k\":true}]".as_bytes();
+    let mut end = 0;
+    for (shown_on, shown_with_strings) in [
+        ("", ""),
+        ("[]", "[]"),
+        ("[1]", "[1]"),
+        ("[12]", "[12]"),
+        ("[12]", "[12]"),
+        ("[12]", "[12,\"\"]"),
+        ("[12]", "[12,\"a\"]"),
+        ("[12]", "[12,\"a\"]"),
+        ("[12]", "[12,\"aé\"]"),
+        ("[12,\"aé\"]", "[12,\"aé\"]"),
+        ("[12,\"aé\"]", "[12,\"aé\"]"),
+        ("[12,\"aé\",{}]", "[12,\"aé\",{}]"),
+        ("[12,\"aé\",{}]", "[12,\"aé\",{}]"),
+        ("[12,\"aé\",{}]", "[12,\"aé\",{}]"),
+        ("[12,\"aé\",{}]", "[12,\"aé\",{}]"),
+        ("[12,\"aé\",{}]", "[12,\"aé\",{}]"),
+        ("[12,\"aé\",{}]", "[12,\"aé\",{}]"),
+        ("[12,\"aé\",{}]", "[12,\"aé\",{}]"),
+        ("[12,\"aé\",{}]", "[12,\"aé\",{}]"),
+        ("[12,\"aé\",{\"k\":true}]", "[12,\"aé\",{\"k\":true}]"),
+        ("[12,\"aé\",{\"k\":true}]", "[12,\"aé\",{\"k\":true}]"),
+        ("[12,\"aé\",{\"k\":true}]", "[12,\"aé\",{\"k\":true}]"),
+    ] {
+        let front = document.get(..end).unwrap_or(document);
+        let on = shown(alloc, front, PartialMode::On)?;
+        let with_strings = shown(alloc, front, PartialMode::TrailingStrings)?;
+        assert_eq!(rt; on.as_slice(), shown_on.as_bytes());
+        assert_eq!(rt; with_strings.as_slice(), shown_with_strings.as_bytes());
+        end = end.saturating_add(1);
+    }
+    assert_eq!(rt; end, document.len() + 1);
+    Ok(())
+}

@@ -1,14 +1,17 @@
 -- One document cut before each of its bytes: what the cut of its node and what the reading of its front give.
-use Rattle.std.proofs.Common.{◌≡◌, ℕ, true, false, List, [], ◌∷◌, ◌++◌, refl, codes, map, Some, None}
+use Rattle.std.proofs.Common.{◌≡◌, ℕ, ◌<◌, ◌≤◌, subst, true, false, List, [], ◌∷◌, ◌++◌, refl, codes, map, Some, None}
 use Rattle.std.specs.Prelude.{take, replicate}
 use Rattle.jiter_scan.specs.Kind.{Kind, eof_list, eof_object, eof_string, eof_value}
+use Rattle.jiter_scan.specs.declared.partial_mode.PartialMode.{PartialMode}
 use Rattle.jiter_scan.specs.declared.partial_mode.PartialMode.TheVariants.{On, TrailingStrings}
 use Rattle.jiter_steps.specs.declared.parse.Literal.TheVariants as literal
 use Rattle.jiter_steps.specs.Tree.{Tree, boolean}
 use Rattle.jiter_steps.specs.Read.{done, fault, whole_answer}
 use Rattle.jiter_steps.specs.Answer.{answer, partial_answer}
+use Rattle.jiter_steps.proofs.CutLaw.{cut-law}
+use Rattle.jiter_steps.proofs.Documents.{Fits, answer-sound}
 use Rattle.jiter_steps.proofs.NodeRules.{nodes}
-use Rattle.jiter_steps.specs.Node.{Node, no_nodes, node, no_members, member, value_of}
+use Rattle.jiter_steps.specs.Node.{Node, no_nodes, node, no_members, member, value_of, IsDocument}
 use Rattle.jiter_steps.specs.Node as grammar
 use Rattle.jiter_steps.specs.Cut.{cut}
 use Rattle.jiter_steps.specs.Piece.{Piece}
@@ -133,3 +136,12 @@ faults =
 faults_whole : map (λ r. answer false (take r.0 source)) faults ≡ map (λ r. fault r.1 r.2 r.3) faults
 unfolding computed_readings
 faults_whole = refl
+
+-- By the law, at each place and in each mode: the node is this document's, and the readings above are its cuts.
+it_is_a_document : IsDocument false source document
+it_is_a_document = (subst (Fits false source) it_is_read_as_its_node (answer-sound false source)).0
+
+it_is_cut_anywhere : (k : ℕ) (mode : PartialMode) → 0 < k → k ≤ 21
+    → (v : Tree) × (e : ℕ) × (partial_answer false mode (take k source) ≡ done v e)
+    × (cut false source document k mode ≡ Some v)
+it_is_cut_anywhere k mode = cut-law false source document k mode it_is_a_document tt
