@@ -11,7 +11,7 @@ use Rattle.jiter_scan.specs.Digits.{is_digit, decimal_of}
 use Rattle.jiter_scan.specs.Number.{Number, integer, big, float, AreDigits, IsWhole, IsDecimal, IsNumberText}
 use Rattle.jiter_scan.specs.Number.{digit_limit, is_float_byte, is_integral, minus_of, positive_value, negative_value}
 use Rattle.jiter_scan.specs.Number.{integral_value, number_value}
-use Rattle.jiter_scan.proofs.Digits.{decimal_of-push}
+use Rattle.jiter_scan.proofs.Digits.{decimal_of-append}
 use Rattle.jiter_scan.proofs.Choices.{if_case, if-true, if-false}
 use Rattle.jiter_steps.specs.Node.{number_tree}
 use Rattle.look.specs.Print.{print_of}
@@ -36,7 +36,8 @@ writes-more : (n : ℕ) (w : List ℕ) → 10 ≤ n → Writes (n / 10) w → Wr
 writes-more n [] l h = absurd h.whole
 writes-more n (c ∷ cs) l h =
     let last : AreDigits ((48 + n % 10) ∷ []) = (glyph-digit (n % 10) (omega arith), tt) in
-    let more = decimal_of-push (c ∷ cs) (48 + n % 10) in
+    let more : decimal_of ((c ∷ cs) ++ (48 + n % 10) ∷ []) ≡ decimal_of (c ∷ cs) * 10 + (48 + n % 10 - 48) =
+    decimal_of-append (c ∷ cs) ((48 + n % 10) ∷ []) ∙ omega arith in
     let front : decimal_of (c ∷ cs) ≡ n / 10 = h.value in
     let digits = are_digits-append cs ((48 + n % 10) ∷ []) h.whole.0.1 last in
     record { whole = ((h.whole.0.0, digits), inr (λ e. first e h.whole.1)); value = more ∙ value front } where
