@@ -15,7 +15,9 @@ use Rattle.jiter_steps.specs.Node.{SpellsItems, SpellsMoreItems, SpellsMembers, 
 use Rattle.jiter_steps.specs.Node.{nesting_round, nesting_of, nesting_round_members, nesting_of_members, number_tree}
 use Rattle.jiter_steps.specs.Node.{value_of, values_of, members_of, IsDocument}
 use Rattle.jiter_steps.specs.Read.{Reading, done, fault}
-use Rattle.jiter_steps.specs.Answer.{answer}
+use Rattle.jiter_scan.specs.declared.partial_mode.PartialMode.{PartialMode}
+use Rattle.jiter_scan.specs.declared.partial_mode.PartialMode.TheVariants.{Off}
+use Rattle.jiter_steps.specs.Answer.{answer, answer_in}
 use Rattle.jiter_steps.proofs.Documents.{IsRead, answer-is}
 use Rattle.jiter_steps.specs.Piece.{SpellsString, text_of}
 use Rattle.jiter_steps.specs.Tree as tree
@@ -320,7 +322,8 @@ pub prints_again : (names : Bool) (t : List ℕ) → PrintsAgain names (answer n
 prints_again names t = read-again names t (answer names t) (answer-is names t)
 
 -- of known bytes, if they are known
-pub prints_again_if_known : (names : Bool) (known : Option (List ℕ))
-    → IfSome known (λ t. PrintsAgain names (answer names t))
-prints_again_if_known names None = tt
-prints_again_if_known names (Some t) = prints_again names t
+pub prints_again_if_known : (names : Bool) (mode : PartialMode) (known : Option (List ℕ)) → mode ≡ Off
+    → IfSome known (λ t. PrintsAgain names (answer_in names mode t))
+prints_again_if_known names mode None off = tt
+prints_again_if_known names mode (Some t) off =
+    subst (λ m. PrintsAgain names (answer_in names m t)) (sym off) (prints_again names t)

@@ -18,7 +18,7 @@ WroteUsage status err err' =
 -- a run over these bytes, and its status
 abbrev pub Ran : Words → List ℕ → ℕ → Option (List ℕ) → Option (List ℕ) → Option (List ℕ) → Option (List ℕ) → Type 0
 Ran asked text status out out' err err' =
-    (end : End) × (status ≡ status_of end) × Wrote (line_of asked.inf_nan text) end out out' err err'
+    (end : End) × (status ≡ status_of end) × Wrote (line_of asked.inf_nan asked.mode text) end out out' err err'
 
 -- what both writers hold after the program, and its status: the usage line where the words ask for nothing
 abbrev pub Looks : Option Words → Option (List ℕ) → ℕ → Option (List ℕ) → Option (List ℕ) → Option (List ℕ)

@@ -4,7 +4,8 @@ use Rattle.std.specs.Io.KnownBytes.{Keeps, Appends}
 use Rattle.jiter_scan.specs.Position.{description_text}
 use Rattle.jiter_steps.specs.Tree.{Tree}
 use Rattle.jiter_steps.specs.Read.{Reading, done, fault}
-use Rattle.jiter_steps.specs.Answer.{answer}
+use Rattle.jiter_scan.specs.declared.partial_mode.PartialMode.{PartialMode}
+use Rattle.jiter_steps.specs.Answer.{answer_in}
 use Rattle.look.specs.Print.{print_of, with_line_feed}
 use Rattle.look.specs.declared.running.End.{End}
 use Rattle.look.specs.declared.running.End.TheVariants.{Shown, Refused, Failed}
@@ -24,9 +25,9 @@ abbrev pub line_for : Reading Tree → List ℕ → Line
 line_for (done v e) t = value_line (with_line_feed (print_of v))
 line_for (fault kind i stop) t = fault_line (with_line_feed (description_text kind i t))
 
--- the line for a text
-abbrev pub line_of : Bool → List ℕ → Line
-line_of inf_nan t = line_for (answer inf_nan t) t
+-- the line for a text, read in this mode
+abbrev pub line_of : Bool → PartialMode → List ℕ → Line
+line_of inf_nan mode t = line_for (answer_in inf_nan mode t) t
 
 -- known bytes grow by a front of bs
 abbrev pub AppendsFront : Option (List ℕ) → Option (List ℕ) → List ℕ → Type 0

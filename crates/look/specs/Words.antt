@@ -2,14 +2,15 @@
 use Rattle.std.specs.Prelude.{ℕ, Bool, true, false, List, [], ◌∷◌, codes, bytes_eq, Option, Some, None, if◌then◌else◌}
 use Rattle.std.specs.Prelude.{option_map}
 use Rattle.jiter_scan.specs.declared.partial_mode.PartialMode.{PartialMode}
-use Rattle.jiter_scan.specs.declared.partial_mode.PartialMode.TheVariants.{Off}
+use Rattle.jiter_scan.specs.declared.partial_mode.PartialMode.TheVariants.{Off, On, TrailingStrings}
 use Rattle.look.specs.declared.settings.Words.{Words}
 
 -- the mode that a word names
 abbrev pub mode_of : List ℕ → Option PartialMode
 mode_of w =
     if bytes_eq w (codes "off") then Some Off
-    else None
+    else (if bytes_eq w (codes "on") then Some On
+    else (if bytes_eq w (codes "trailing-strings") then Some TrailingStrings else None))
 
 abbrev pub with_names : Bool → PartialMode → Words
 with_names inf_nan mode = record { mode = mode; inf_nan = inf_nan }

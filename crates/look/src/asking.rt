@@ -27,6 +27,8 @@ fn mode_named(word: &str) -> Option<PartialMode>
 {
     match word {
         "off" => Some(PartialMode::Off),
+        "on" => Some(PartialMode::On),
+        "trailing-strings" => Some(PartialMode::TrailingStrings),
         _ => None,
     }
 }

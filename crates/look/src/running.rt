@@ -2,7 +2,7 @@
 ghost use Rattle.std.specs.Prelude.{◌≡◌, IfOk, IfErr, OnOk, OnErr, IfSome};
 ghost use Rattle.std.specs.Option.{option_map};
 ghost use Rattle.std.specs.Io.KnownBytes.{Appends, IsAtEnd};
-ghost use Rattle.jiter_steps.specs.Answer.{answer};
+ghost use Rattle.jiter_steps.specs.Answer.{answer_in};
 ghost use Rattle.look.specs.Printed.{PrintsAgain};
 ghost use Rattle.look.specs.Run.{AppendsFront, IsOfMemory, IsUnread, line_of, line_view, status_of, Wrote};
 ghost use Rattle.look.specs.Run.{WroteNothing};
@@ -104,40 +104,50 @@ pub fn run<R: Read, O: Write, E: Write>(
     mode: PartialMode,
     inf_nan: bool,
 ) -> End
-    requires off { mode ≡ PartialMode.Off }
     // Over known bytes: the line of these bytes in its own writer, or a front of it, and the other as it was.
-    ensures wrote { IfSome (R.remaining reader.old) (λ text. Wrote (line_of inf_nan text) result
+    ensures wrote { IfSome (R.remaining reader.old) (λ text. Wrote (line_of inf_nan mode text) result
         (O.contents out.old) (O.contents out.new) (E.contents err.old) (E.contents err.new)) }
     // Where known bytes are left unread nothing was written.
     ensures unread { IsUnread (R.remaining reader.new) → WroteNothing result
         (O.contents out.old) (O.contents out.new) (E.contents err.old) (E.contents err.new) }
-    // A value's line is again a document of the value that was read, under the same setting.
-    ensures again { IfSome (R.remaining reader.old)
-        (λ text. PrintsAgain inf_nan (answer inf_nan text)) }
+    // With partial reading off a value's line is again a document of the value that was read, under the same
+    // setting.
+    ensures again { mode ≡ PartialMode.Off → IfSome (R.remaining reader.old)
+        (λ text. PrintsAgain inf_nan (answer_in inf_nan mode text)) }
 {
-    match read_line(alloc, reader, inf_nan) {
+    match read_line(alloc, reader, mode, inf_nan) {
         Ok(line) => show(Some(line), out, err),
         Err(_) => show(None, out, err),
     }
 }
 
 // The line for all that a reader gives.
-fn read_line<R: Read>(alloc: Global, reader: &mut R, inf_nan: bool) -> Result<Line, NoLine>
+fn read_line<R: Read>(
+    alloc: Global,
+    reader: &mut R,
+    mode: PartialMode,
+    inf_nan: bool,
+) -> Result<Line, NoLine>
     ensures line { IfOk result (λ line. IfSome (R.remaining reader.old)
-        (λ text. line_view line ≡ line_of inf_nan text)) }
+        (λ text. line_view line ≡ line_of inf_nan mode text)) }
     ensures whole { OnOk result (IsAtEnd (R.remaining reader.new)) }
 {
     let mut text = Vec::new(alloc);
     reader.read_to_end(&mut text)?;
-    make_line(alloc, text.as_slice(), inf_nan).map_err(NoLine::Make)
+    make_line(alloc, text.as_slice(), mode, inf_nan).map_err(NoLine::Make)
 }
 
 // The line for a text. It fails only where memory is refused.
-fn make_line(alloc: Global, text: &[u8], inf_nan: bool) -> Result<Line, NoMemory>
-    ensures line { IfOk result (λ line. line_view line ≡ line_of inf_nan text.now) }
+fn make_line(
+    alloc: Global,
+    text: &[u8],
+    mode: PartialMode,
+    inf_nan: bool,
+) -> Result<Line, NoMemory>
+    ensures line { IfOk result (λ line. line_view line ≡ line_of inf_nan mode text.now) }
     ensures memory { IfErr result IsOfMemory }
 {
-    match JsonValue::parse(alloc, text, inf_nan) {
+    match JsonValue::parse_with_config(alloc, text, inf_nan, mode) {
         Ok(value) => {
             let mut bytes = print(alloc, &value)?;
             push(&mut bytes, b'\n')?;

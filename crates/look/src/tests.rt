@@ -83,7 +83,23 @@ fn failing_writer(alloc: Global, calls_left: usize) -> FailingWriter {
     }
 }
 
-// A run over memory alone.
+// A run over memory alone, in this mode.
+fn run_in_mode(
+    alloc: Global,
+    text: &[u8],
+    out: &mut Vec<u8>,
+    err: &mut Vec<u8>,
+    mode: PartialMode,
+    inf_nan: bool,
+) -> End
+    ensures { Wrote (line_of inf_nan mode text.now) result
+        (Some out.old.items) (Some out.new.items) (Some err.old.items) (Some err.new.items) }
+{
+    let mut reader: &[u8] = text;
+    run(alloc, &mut reader, out, err, mode, inf_nan)
+}
+
+// The same with partial reading off.
 fn run_over_memory(
     alloc: Global,
     text: &[u8],
@@ -91,14 +107,13 @@ fn run_over_memory(
     err: &mut Vec<u8>,
     inf_nan: bool,
 ) -> End
-    ensures { Wrote (line_of inf_nan text.now) result
+    ensures { Wrote (line_of inf_nan PartialMode.Off text.now) result
         (Some out.old.items) (Some out.new.items) (Some err.old.items) (Some err.new.items) }
 {
-    let mut reader: &[u8] = text;
-    run(alloc, &mut reader, out, err, PartialMode::Off, inf_nan)
+    run_in_mode(alloc, text, out, err, PartialMode::Off, inf_nan)
 }
 
-// The same over a reader and a writer that may fail.
+// The same over a reader and a writer that may fail, without names.
 fn run_over_failing(
     alloc: Global,
     text: &[u8],
@@ -106,7 +121,7 @@ fn run_over_failing(
     out: &mut FailingWriter,
     err: &mut FailingWriter,
 ) -> End
-    ensures { Wrote (line_of false text.now) result
+    ensures { Wrote (line_of false PartialMode.Off text.now) result
         (Some out.old.got.items) (Some out.new.got.items)
         (Some err.old.got.items) (Some err.new.got.items) }
 {
@@ -178,6 +193,77 @@ fn names_are_numbers_where_allowed(rt: HostRuntime) {
         assert_eq!(rt; out.as_slice(), shown.as_bytes());
         assert_eq!(rt; err.as_slice(), refused.as_bytes());
     }
+}
+
+#[test]
+fn cut_documents_are_read_as_the_mode_asks(rt: HostRuntime) {
+    for (text, fault, on, trailing) in [
+        (
+            "[1, 2",
+            "EOF while parsing a list at line 1 column 5\n",
+            "[1,2]\n",
+            "[1,2]\n",
+        ),
+        (
+            "{\"a\": [true, \"b\\nc",
+            "EOF while parsing a string at line 1 column 18\n",
+            "{\"a\":[true]}\n",
+            "{\"a\":[true,\"b\\u000ac\"]}\n",
+        ),
+        (
+            "{\"a\": 1, \"b",
+            "EOF while parsing a string at line 1 column 11\n",
+            "{\"a\":1}\n",
+            "{\"a\":1}\n",
+        ),
+        (
+            "[1 x",
+            "expected `,` or `]` at line 1 column 4\n",
+            "[1]\n",
+            "[1]\n",
+        ),
+        (
+            "null x",
+            "trailing characters at line 1 column 6\n",
+            "null\n",
+            "null\n",
+        ),
+    ] {
+        assert!(rt; writes(rt.alloc(), text, PartialMode::Off, End::Refused, fault));
+        assert!(rt; writes(rt.alloc(), text, PartialMode::On, End::Shown, on));
+        assert!(rt; writes(rt.alloc(), text, PartialMode::TrailingStrings, End::Shown, trailing));
+    }
+}
+
+#[test]
+fn some_faults_stay_in_each_mode(rt: HostRuntime) {
+    for (text, line) in [
+        ("", "EOF while parsing a value at line 1 column 0\n"),
+        ("[tru]", "expected ident at line 1 column 5\n"),
+        ("[NaN", "expected value at line 1 column 2\n"),
+        ("[1,]", "trailing comma at line 1 column 4\n"),
+        ("tru", "EOF while parsing a value at line 1 column 3\n"),
+    ] {
+        for mode in [
+            PartialMode::Off,
+            PartialMode::On,
+            PartialMode::TrailingStrings,
+        ] {
+            assert!(rt; writes(rt.alloc(), text, mode, End::Refused, line));
+        }
+    }
+}
+
+// Whether a run without names ends so and writes this line alone, to the writer of that end.
+fn writes(alloc: Global, text: &str, mode: PartialMode, wanted: End, line: &str) -> bool {
+    let mut out = Vec::new(alloc);
+    let mut err = Vec::new(alloc);
+    let end = run_in_mode(alloc, text.as_bytes(), &mut out, &mut err, mode, false);
+    let (written, other) = match wanted {
+        End::Shown => (out, err),
+        _ => (err, out),
+    };
+    end == wanted && written.as_slice() == line.as_bytes() && other.is_empty()
 }
 
 #[test]
@@ -424,6 +510,8 @@ fn words_that_ask_for_nothing_get_the_usage_line(rt: HostRuntime) -> Result<(), 
     assert!(rt; tells_usage(alloc, &["maybe"])?);
     assert!(rt; tells_usage(alloc, &["inf-nan"])?);
     assert!(rt; tells_usage(alloc, &["off", "x"])?);
+    assert!(rt; tells_usage(alloc, &["on", "off"])?);
+    assert!(rt; tells_usage(alloc, &["trailing-strings", "on"])?);
     assert!(rt; tells_usage(alloc, &["off", "inf-nan", "x"])?);
     Ok(())
 }
@@ -442,6 +530,25 @@ fn words_choose_the_setting(rt: HostRuntime) -> Result<(), Fail> {
         err.as_slice(),
         b"expected value at line 1 column 2\n".as_slice()
     );
+    Ok(())
+}
+
+#[test]
+fn words_choose_the_mode(rt: HostRuntime) -> Result<(), Fail> {
+    let alloc = rt.alloc();
+    for (given, line) in [
+        ("on", b"[]\n".as_slice()),
+        ("trailing-strings", b"[\"a\"]\n".as_slice()),
+    ] {
+        let (status, out, err) = looked_over_memory(alloc, &[given], b"[\"a")?;
+        assert_eq!(rt; status, 0);
+        assert_eq!(rt; out.as_slice(), line);
+        assert!(rt; err.is_empty());
+    }
+    let (status, out, err) = looked_over_memory(alloc, &["on", "inf-nan"], b"[NaN, 1")?;
+    assert_eq!(rt; status, 0);
+    assert_eq!(rt; out.as_slice(), b"[NaN,1]\n".as_slice());
+    assert!(rt; err.is_empty());
     Ok(())
 }
 
@@ -479,6 +586,19 @@ fn words_name_a_mode(rt: HostRuntime) -> Result<(), Fail> {
         words(list_of(alloc, &["off", "inf-nan"])?.as_slice()),
         Some(off_with_names)
     );
+    let on = Words {
+        mode: PartialMode::On,
+        inf_nan: false,
+    };
+    assert_eq!(rt; words(list_of(alloc, &["on"])?.as_slice()), Some(on));
+    let trailing_with_names = Words {
+        mode: PartialMode::TrailingStrings,
+        inf_nan: true,
+    };
+    assert_eq!(rt;
+        words(list_of(alloc, &["trailing-strings", "inf-nan"])?.as_slice()),
+        Some(trailing_with_names)
+    );
     Ok(())
 }
 
@@ -492,8 +612,9 @@ fn other_words_are_wrong(rt: HostRuntime) -> Result<(), Fail> {
         "Off",
         "off ",
         "inf-nan",
-        "on",
-        "trailing-strings",
+        "On",
+        "trailing-string",
+        "trailing-strings ",
     ] {
         assert!(rt; words(list_of(alloc, &[word])?.as_slice()).is_none());
         assert!(rt; words(list_of(alloc, &[word, "inf-nan"])?.as_slice()).is_none());
