@@ -119,8 +119,7 @@ module _ {K P A : Type 0} (r : Rules K A) (strict : (k : Kind) → r.forgives k 
   close-bracket b x h =
       let long : length (take x t) ≡ x = front-length t x h.within in
       let blanks = blanks-too t (take x t) x (front-get t x h.within) b x (omega arith) h in
-      let ends = ends-behind (take x t) b closer (subst (IsBlank (take x t) b) (sym long) blanks) in
-      (
+      let ends = ends-behind (take x t) b closer (subst (IsBlank (take x t) b) (sym long) blanks) in (
         h.ordered,
         record {
           filler = [];

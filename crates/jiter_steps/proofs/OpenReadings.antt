@@ -187,14 +187,14 @@ module _ (names : Bool) where
           let ahead = key-ahead names t key j spelled in (
             omega arith,
             close-map t x _ _
-            (λ w within here.
-            let u = take x t ++ w in
-            let same = front-kept t x within w in
-            let at = sym here.1.0.begins in
-            let value = subst (λ b. IsNodeAt names u b here.0 (length u)) at here.1.0 in
-            let too = subst (SpellsKey u key) at (key-too t u x same key j le spelled) in
-            ((key, here.0), record { begins = begins; key = too; value = value; limit = here.1.1 }))
-            ends,
+                (λ w within here.
+                let u = take x t ++ w in
+                let same = front-kept t x within w in
+                let at = sym here.1.0.begins in
+                let value = subst (λ b. IsNodeAt names u b here.0 (length u)) at here.1.0 in
+                let too = subst (SpellsKey u key) at (key-too t u x same key j le spelled) in
+                ((key, here.0), record { begins = begins; key = too; value = value; limit = here.1.1 }))
+                ends,
           )
 
     behind_colon-open : (i : ℕ) (key : Key) → key.begin ≡ i → SpellsString t key.begin key.pieces key.end
@@ -244,11 +244,11 @@ module _ (names : Bool) where
         (λ x ends. (
           omega (arith, ends.0),
           close-map t x _ _
-          (λ w within parts.
-          let u = take x t ++ w in
-          build u parts.0 (front-kept t x within w i b (omega (arith, ends.0)) here)
-          (parts-are u closer Anywhere (IsPart u) (Are u) (MoreAre u) (are u) parts.0 (i + 1) (length u) parts.1))
-          ends.1,
+              (λ w within parts.
+              let u = take x t ++ w in
+              build u parts.0 (front-kept t x within w i b (omega (arith, ends.0)) here)
+              (parts-are u closer Anywhere (IsPart u) (Are u) (MoreAre u) (are u) parts.0 (i + 1) (length u) parts.1))
+              ends.1,
         ))
         (container_at (nodes names) c t i)
         (container_at-open (nodes names) (λ k. refl) t c closer Begins IsPart delimits sticks goes grows i
@@ -268,12 +268,12 @@ module _ (names : Bool) where
       by (le, ends) = (
         le,
         close-map t j _ _
-        (λ w within h.
-        let u = take j t ++ w in
-        let value : IsNodeAt names u i (grammar.number i (length u)) (length u) =
-        record { spelled = h; begins = refl; ends = refl; within = omega arith } in
-        (grammar.number i (length u), (value, omega arith)))
-        ends,
+            (λ w within h.
+            let u = take j t ++ w in
+            let value : IsNodeAt names u i (grammar.number i (length u)) (length u) =
+            record { spelled = h; begins = refl; ends = refl; within = omega arith } in
+            (grammar.number i (length u), (value, omega arith)))
+            ends,
       )
 
     zero-here : (i : ℕ) → i ≤ length t → CanEndHere (IsValue room) t i i
@@ -282,8 +282,7 @@ module _ (names : Bool) where
         let u = take i t ++ w in
         let n = grammar.number i (length u) in
         let long = taken-length t i within w in
-        let value = zero-node u i (length u) (omega arith) (taken-first t i within w 48 refl) in
-        (
+        let value = zero-node u i (length u) (omega arith) (taken-first t i within w 48 refl) in (
           omega arith,
           record {
             filler = w;

@@ -1,9 +1,9 @@
 -- Open containers, and what the rest of a text completes them to.
-use Rattle.std.specs.Prelude.{ℕ, zero, suc, ◌+◌, ◌-◌, if◌then◌else◌, Bool, List, [], ◌∷◌, length}
+use Rattle.std.specs.Prelude.{ℕ, suc, ◌-◌, if◌then◌else◌, Bool, List, [], ◌∷◌, length}
 use Rattle.jiter_scan.specs.Kind.{Kind}
 use Rattle.jiter_steps.specs.Node.{nesting_limit}
 use Rattle.jiter_steps.specs.Step.{Step, more, closed, stuck, step}
-use Rattle.jiter_steps.specs.Read.{Reading, done, fault, Rules, Container, with_key, follow, behind_part, parts_at, array_of, object_of, inside_at}
+use Rattle.jiter_steps.specs.Read.{Reading, Rules, Container, with_key, follow, behind_part, parts_at, array_of, object_of, inside_at}
 
 -- an open container: the items so far; or the members so far, and the key that awaits its value
 pub data Frame (K A : Type 0) : Type 0 where

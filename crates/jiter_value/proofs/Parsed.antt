@@ -1,5 +1,5 @@
 -- What a whole parse answers, by the grammar.
-use Rattle.std.proofs.Common.{◌≡◌, ◌≢◌, ◌⊎◌, inl, inr, ℕ, ◌+◌, ◌≤◌, Bool, true, false, List, length, take, sym, ap, ◌∙◌, subst}
+use Rattle.std.proofs.Common.{◌≡◌, ◌⊎◌, inl, inr, ℕ, ◌+◌, ◌≤◌, Bool, true, List, length, take, sym, ap, ◌∙◌, subst}
 use Rattle.std.specs.Prelude.{Result, Ok, Err, IfOk, IfErr, MatchResult, Some}
 use Rattle.jiter_scan.specs.Kind.{Kind, kind_of, fault_kind, is_end_kind}
 use Rattle.jiter_scan.specs.Scanned.{FaultAt}

@@ -8,9 +8,9 @@ ghost use Rattle.look.specs.Run.{AppendsFront, IsOfMemory, IsUnread, line_of, li
 ghost use Rattle.look.specs.Run.{WroteNothing};
 ghost use Rattle.look.specs.Run.{WroteIfAny};
 
-use jiter_scan::memory::{Refused, push};
 use crate::print::print;
 use jiter::{JsonError, JsonErrorType, JsonValue, PartialMode};
+use jiter_scan::memory::{Refused, push};
 use std::alloc::{AllocError, Global};
 use std::io;
 use std::io::{ErrorKind, Read, Write};
@@ -138,12 +138,7 @@ fn read_line<R: Read>(
 }
 
 // The line for a text. It fails only where memory is refused.
-fn make_line(
-    alloc: Global,
-    text: &[u8],
-    mode: PartialMode,
-    inf_nan: bool,
-) -> Result<Line, NoMemory>
+fn make_line(alloc: Global, text: &[u8], mode: PartialMode, inf_nan: bool) -> Result<Line, NoMemory>
     ensures line { IfOk result (λ line. line_view line ≡ line_of inf_nan mode text.now) }
     ensures memory { IfErr result IsOfMemory }
 {

@@ -1,4 +1,4 @@
-use Rattle.std.proofs.Common.{◌≡◌, ◌+◌, ◌≤◌, ◌∙◌, false, sym, ap, length, arith}
+use Rattle.std.proofs.Common.{◌≡◌, ◌+◌, ◌∙◌, false, ap, length, arith}
 use Rattle.std.specs.Prelude.{slice_get, slice_range, Some, None}
 use Rattle.jiter_scan.proofs.Standing.{get-none}
 use Rattle.jiter_steps.specs.StringReading.{valid_front}
