@@ -17,14 +17,22 @@ fn spelled(alloc: Global, parts: &[&str], count: usize, end: &str) -> Result<Vec
     Ok(text)
 }
 
-// The place behind the number that the text begins with.
-fn number_end(text: &[u8]) -> Option<usize> {
+// The number that the text begins with, and the place behind it.
+fn number_of(text: &[u8]) -> Option<(NumberAny, usize)> {
     if text.is_empty() {
         return None;
     }
     match number_at(text, 0, false) {
-        Ok((_, end)) => Some(end),
+        Ok((number, end)) => Some((number, end)),
         Err(_) => None,
+    }
+}
+
+// The place behind that number.
+fn number_end(text: &[u8]) -> Option<usize> {
+    match number_of(text) {
+        Some((_, end)) => Some(end),
+        None => None,
     }
 }
 
@@ -92,12 +100,12 @@ fn integers_are_read_near_the_end_and_far_from_it(rt: HostRuntime) -> Result<(),
         let wanted = NumberAny::Int(wanted);
         for end in ["", ",", ",                                        "] {
             let bytes = spelled(rt.alloc(), &[text], 0, end)?;
-            match number_at(&bytes, 0, false) {
-                Ok((number, place)) => {
+            match number_of(&bytes) {
+                Some((number, place)) => {
                     assert!(rt; number == wanted);
                     assert_eq!(rt; place, text.len());
                 }
-                Err(_) => panic!(rt; "the text is an integer"),
+                None => panic!(rt; "the text is an integer"),
             }
         }
     }
