@@ -11,10 +11,10 @@ pub data Frame (K A : Type 0) : Type 0 where
   members_frame : List (K × A) → K → Frame K A
 
 -- a step whose forgiven fault closes the container
-abbrev pub resolved : (Kind → Bool) → Step → Step
-resolved forgives (more j) = more j
-resolved forgives (closed e) = closed e
-resolved forgives (stuck k j) = if forgives k then closed j else stuck k j
+abbrev pub resolve_step : (Kind → Bool) → Step → Step
+resolve_step forgives (more j) = more j
+resolve_step forgives (closed e) = closed e
+resolve_step forgives (stuck k j) = if forgives k then closed j else stuck k j
 
 module _ {K A : Type 0} (r : Rules K A) (t : List ℕ) where
   module _ {P : Type 0} (c : Container P A) where

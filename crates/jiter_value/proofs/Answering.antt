@@ -20,7 +20,7 @@ use Rattle.jiter_steps.proofs.Answered.{front-begins, whole-is, whole-begins}
 use Rattle.jiter_steps.proofs.Bounds.{Within}
 use Rattle.jiter_steps.proofs.Instances.{answer-within, partial_answer-within}
 use Rattle.jiter_value.specs.Reading.{GivesWhole, IsErrorOf}
-use Rattle.jiter_value.specs.Settings.{forgives, rules, answered}
+use Rattle.jiter_value.specs.Settings.{forgives, rules, answer_by}
 use Rattle.jiter_value.specs.Value.{view, Answers}
 use Rattle.jiter_value.specs.Machine.{IsUnderWay}
 use Rattle.jiter_value.specs.Stacks.{Stands}
@@ -79,16 +79,16 @@ module _ (names : Bool) (t : List ℕ) where
   answer_in-within TrailingStrings = partial_answer-within t names TrailingStrings
 
 module _ (p : Settings) (t : List ℕ) where
-  either-way : (x : Reading Tree) → (is_active p.mode ≡ true → answered p t ≡ x)
-      → (is_active p.mode ≡ false → answered p t ≡ x) → answered p t ≡ x
+  either-way : (x : Reading Tree) → (is_active p.mode ≡ true → answer_by p t ≡ x)
+      → (is_active p.mode ≡ false → answer_by p t ≡ x) → answer_by p t ≡ x
   either-way x on off = by (is_active p.mode) refl where
-    by : (y : Bool) → is_active p.mode ≡ y → answered p t ≡ x
+    by : (y : Bool) → is_active p.mode ≡ y → answer_by p t ≡ x
     by true h = on h
     by false h = off h
 
   -- where no value begins
-  pub answered-none : (k : Kind) (x i : ℕ) → (step t value_first 0 ≡ failed k x) × (i ≡ x) → answered p t ≡ fault k x i
-  answered-none k x i h =
+  pub answer_by-none : (k : Kind) (x i : ℕ) → (step t value_first 0 ≡ failed k x) × (i ≡ x) → answer_by p t ≡ fault k x i
+  answer_by-none k x i h =
       either-way (fault k x i)
       (λ on. in-front p.allow_inf_nan t p.mode on ∙ front-none (rules p) t k x h.0 ∙ ap (fault k x) (sym h.1))
       (λ off. in-whole p.allow_inf_nan t p.mode off ∙ whole-is (rules p) t ∙ ap (to_end t) (front-none (rules p) t k x h.0) ∙ ap (fault k x) (sym h.1))
@@ -98,31 +98,31 @@ module _ (p : Settings) (t : List ℕ) where
     value_here = value_at (rules p) t 200 (past_blanks t 0)
 
     -- where the value is refused
-    pub answered-refused : (e : ReadError) (j : ℕ) → Gives view (Err e) j value_here
-        → GivesWhole (Err e) j (answered p t)
-    answered-refused (error.Memory m) j h = tt
-    answered-refused (error.Fault f) j h =
+    pub answer_by-refused : (e : ReadError) (j : ℕ) → Gives view (Err e) j value_here
+        → GivesWhole (Err e) j (answer_by p t)
+    answer_by-refused (error.Memory m) j h = tt
+    answer_by-refused (error.Fault f) j h =
         either-way (fault (fault_kind f.kind) f.index j)
         (λ on. in-front p.allow_inf_nan t p.mode on ∙ front-begins (rules p) t (past_blanks t 0) refl begun ∙ h)
         (λ off. in-whole p.allow_inf_nan t p.mode off ∙ whole-begins (rules p) t (past_blanks t 0) refl begun ∙ ap (to_end t) h)
 
     module _ (v : Tree) (e : ℕ) (is : value_here ≡ done v e) where
-      pub answered-front : is_active p.mode ≡ true → answered p t ≡ done v e
-      answered-front on =
+      pub answer_by-front : is_active p.mode ≡ true → answer_by p t ≡ done v e
+      answer_by-front on =
           in-front p.allow_inf_nan t p.mode on ∙ front-begins (rules p) t (past_blanks t 0) refl begun ∙ is
 
-      whole-value : is_active p.mode ≡ false → answered p t ≡ to_end t (done v e)
+      whole-value : is_active p.mode ≡ false → answer_by p t ≡ to_end t (done v e)
       whole-value off =
           in-whole p.allow_inf_nan t p.mode off ∙ whole-begins (rules p) t (past_blanks t 0) refl begun
           ∙ ap (to_end t) is
 
-      pub answered-end : (j : ℕ) → is_active p.mode ≡ false → step t document_end e ≡ taken tt j
-          → answered p t ≡ done v e
-      answered-end j off h = whole-value off ∙ nothing-left v e j (past_blanks t e) (slice_get t (past_blanks t e)) h
+      pub answer_by-end : (j : ℕ) → is_active p.mode ≡ false → step t document_end e ≡ taken tt j
+          → answer_by p t ≡ done v e
+      answer_by-end j off h = whole-value off ∙ nothing-left v e j (past_blanks t e) (slice_get t (past_blanks t e)) h
 
-      pub answered-trailing : (k : Kind) (x j : ℕ) → is_active p.mode ≡ false
-          → (step t document_end e ≡ failed k x) × (j ≡ x) → answered p t ≡ fault k x j
-      answered-trailing k x j off h =
+      pub answer_by-trailing : (k : Kind) (x j : ℕ) → is_active p.mode ≡ false
+          → (step t document_end e ≡ failed k x) × (j ≡ x) → answer_by p t ≡ fault k x j
+      answer_by-trailing k x j off h =
           whole-value off ∙ something-left v e x (past_blanks t e) k (slice_get t (past_blanks t e)) h.0
           ∙ ap (fault k x) (sym h.1)
 

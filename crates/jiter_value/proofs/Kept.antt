@@ -16,7 +16,7 @@ use Rattle.jiter_steps.specs.Step.{more, closed, stuck, step, array_first, array
 use Rattle.jiter_steps.specs.StringDecoder.{text_view}
 use Rattle.jiter_steps.specs.StringReading.{whole, string_at}
 use Rattle.jiter_steps.specs.Read.{Reading, done, fault, value_at}
-use Rattle.jiter_steps.specs.Frames.{Frame, items_frame, members_frame, resolved, resume, value_in, array_in, object_in, value_from, key_from, items_from, members_from}
+use Rattle.jiter_steps.specs.Frames.{Frame, items_frame, members_frame, resolve_step, resume, value_in, array_in, object_in, value_from, key_from, items_from, members_from}
 use Rattle.jiter_steps.specs.declared.parse.Start.TheVariants as start
 use Rattle.jiter_steps.proofs.Values.{Advances}
 use Rattle.jiter_steps.proofs.Instances.{trees-advances}
@@ -143,7 +143,7 @@ module _ (p : Settings) (t : List ℕ) where
   -- Behind a value.
   pub items-more : (os : List Open) (es : List JsonValue) (ms : List Member) (root : JsonValue) (e j : ℕ)
       → HaveBases awaits.Item os (length es) (length ms)
-      → resolved (forgives p.mode) (step t (array_step t) e) ≡ more j → j < length t
+      → resolve_step (forgives p.mode) (step t (array_step t) e) ≡ more j → j < length t
       → behind_in p t awaits.Item os es ms root e ≡ value_from (rules p) t (frames awaits.Item os es ms) j
   items-more [] es ms root e j b s h = absurd b
   items-more (o ∷ os) es ms root e j b s h =
@@ -154,7 +154,7 @@ module _ (p : Settings) (t : List ℕ) where
 
   pub items-closed : (os : List Open) (es : List JsonValue) (ms : List Member) (root : JsonValue) (e c : ℕ)
       → HaveBases awaits.Item os (length es) (length ms)
-      → resolved (forgives p.mode) (step t (array_step t) e) ≡ closed c
+      → resolve_step (forgives p.mode) (step t (array_step t) e) ≡ closed c
       → behind_in p t awaits.Item os es ms root e ≡ stacks.array_in p t os es ms c
   items-closed [] es ms root e c b s = absurd b
   items-closed (o ∷ os) es ms root e c b s =
@@ -164,7 +164,7 @@ module _ (p : Settings) (t : List ℕ) where
 
   pub items-stuck : (os : List Open) (es : List JsonValue) (ms : List Member) (root : JsonValue) (e j : ℕ) (k : Kind)
       → HaveBases awaits.Item os (length es) (length ms)
-      → resolved (forgives p.mode) (step t (array_step t) e) ≡ stuck k j
+      → resolve_step (forgives p.mode) (step t (array_step t) e) ≡ stuck k j
       → forgives p.mode k ≡ false → behind_in p t awaits.Item os es ms root e ≡ fault k j j
   items-stuck [] es ms root e j k b s bad = absurd b
   items-stuck (o ∷ os) es ms root e j k b s bad =
@@ -174,7 +174,7 @@ module _ (p : Settings) (t : List ℕ) where
 
   pub members-more : (os : List Open) (es : List JsonValue) (ms : List Member) (root : JsonValue) (e j : ℕ)
       → HaveBases awaits.Value os (length es) (length ms)
-      → resolved (forgives p.mode) (step t (object_step t) e) ≡ more j
+      → resolve_step (forgives p.mode) (step t (object_step t) e) ≡ more j
       → behind_in p t awaits.Value os es ms root e ≡ key_in p t os es ms j
   members-more [] es ms root e j b s = absurd b
   members-more (o ∷ os) es ms root e j b s =
@@ -184,7 +184,7 @@ module _ (p : Settings) (t : List ℕ) where
 
   pub members-closed : (os : List Open) (es : List JsonValue) (ms : List Member) (root : JsonValue) (e c : ℕ)
       → HaveBases awaits.Value os (length es) (length ms)
-      → resolved (forgives p.mode) (step t (object_step t) e) ≡ closed c
+      → resolve_step (forgives p.mode) (step t (object_step t) e) ≡ closed c
       → behind_in p t awaits.Value os es ms root e ≡ stacks.object_in p t os es ms c
   members-closed [] es ms root e c b s = absurd b
   members-closed (o ∷ os) es ms root e c b s =
@@ -194,7 +194,7 @@ module _ (p : Settings) (t : List ℕ) where
 
   pub members-stuck : (os : List Open) (es : List JsonValue) (ms : List Member) (root : JsonValue) (e j : ℕ) (k : Kind)
       → HaveBases awaits.Value os (length es) (length ms)
-      → resolved (forgives p.mode) (step t (object_step t) e) ≡ stuck k j
+      → resolve_step (forgives p.mode) (step t (object_step t) e) ≡ stuck k j
       → forgives p.mode k ≡ false → behind_in p t awaits.Value os es ms root e ≡ fault k j j
   members-stuck [] es ms root e j k b s bad = absurd b
   members-stuck (o ∷ os) es ms root e j k b s bad =
@@ -228,7 +228,7 @@ module _ (p : Settings) (t : List ℕ) where
   fault-root [] es ms x b = refl
   fault-root (o ∷ os) es ms x b = absurd b
 
-  kept : (k : Kind) (j : ℕ) → forgives p.mode k ≡ false → resolved (forgives p.mode) (stuck k j) ≡ stuck k j
+  kept : (k : Kind) (j : ℕ) → forgives p.mode k ≡ false → resolve_step (forgives p.mode) (stuck k j) ≡ stuck k j
   kept k j bad = ap (λ y. cond y (closed j) (stuck k j)) bad
 
   -- A value begins.
@@ -247,7 +247,7 @@ module _ (p : Settings) (t : List ℕ) where
     value-read x is = ap (resume (rules p) t fs) (value_in-room (rules p) t (length fs) i low ∙ is (200 - length fs))
 
     pub array-opens : (j : ℕ) (o : Open) → o ≡ record { outer = a; base = length es } → j < length t
-        → start_of (slice_index t i) ≡ start.Array → resolved (forgives p.mode) (step t array_first (i + 1)) ≡ more j
+        → start_of (slice_index t i) ≡ start.Array → resolve_step (forgives p.mode) (step t array_first (i + 1)) ≡ more j
         → value_from (rules p) t fs i ≡ value_from (rules p) t (frames awaits.Item (o ∷ os) es ms) j
     array-opens j o eq h is s =
         let none : [] ≡ map view (drop (length es) es) = sym (ap (map view) (drop_all (length es) es (omega arith))) in
@@ -257,7 +257,7 @@ module _ (p : Settings) (t : List ℕ) where
         ∙ ap (λ q. value_from (rules p) t (frames awaits.Item (q ∷ os) es ms) j) (sym eq)
 
     pub array-limit : (j : ℕ) → length os ≡ 200 → j < length t → start_of (slice_index t i) ≡ start.Array
-        → resolved (forgives p.mode) (step t array_first (i + 1)) ≡ more j
+        → resolve_step (forgives p.mode) (step t array_first (i + 1)) ≡ more j
         → value_from (rules p) t fs i ≡ fault recursion_limit j j
     array-limit j full h is s =
         let d : suc (length fs) ≡ 201 = omega (arith, deep) in
@@ -268,21 +268,21 @@ module _ (p : Settings) (t : List ℕ) where
         ∙ resume-fault (rules p) t (f ∷ fs) recursion_limit j j (limit-kept p.mode)
 
     pub array-empty : (c : ℕ) (v : Tree) → start_of (slice_index t i) ≡ start.Array
-        → resolved (forgives p.mode) (step t array_first (i + 1)) ≡ closed c → v ≡ array (items_of [])
+        → resolve_step (forgives p.mode) (step t array_first (i + 1)) ≡ closed c → v ≡ array (items_of [])
         → value_from (rules p) t fs i ≡ resume (rules p) t fs (done v c)
     array-empty c v is s made =
         array-begins (rules p) t good any fs i (closed c) low is s
         ∙ ap (λ y. resume (rules p) t fs (done y c)) (sym made)
 
     pub array-stuck : (j : ℕ) (k : Kind) → start_of (slice_index t i) ≡ start.Array
-        → resolved (forgives p.mode) (step t array_first (i + 1)) ≡ stuck k j → forgives p.mode k ≡ false
+        → resolve_step (forgives p.mode) (step t array_first (i + 1)) ≡ stuck k j → forgives p.mode k ≡ false
         → value_from (rules p) t fs i ≡ fault k j j
     array-stuck j k is s bad =
         array-begins (rules p) t good any fs i (stuck k j) low is s
         ∙ step-stuck (rules p) t (array_in (rules p) t (length fs)) fs [] (stuck k j) k j (kept k j bad) bad
 
     pub object-opens : (j : ℕ) (o : Open) → o ≡ record { outer = a; base = length ms }
-        → start_of (slice_index t i) ≡ start.Object → resolved (forgives p.mode) (step t object_first (i + 1)) ≡ more j
+        → start_of (slice_index t i) ≡ start.Object → resolve_step (forgives p.mode) (step t object_first (i + 1)) ≡ more j
         → value_from (rules p) t fs i ≡ key_in p t (o ∷ os) es ms j
     object-opens j o eq is s =
         let none : [] ≡ map member_view (drop (length ms) ms) = sym
@@ -293,14 +293,14 @@ module _ (p : Settings) (t : List ℕ) where
         ∙ ap (λ q. key_in p t (q ∷ os) es ms j) (sym eq)
 
     pub object-empty : (c : ℕ) (v : Tree) → start_of (slice_index t i) ≡ start.Object
-        → resolved (forgives p.mode) (step t object_first (i + 1)) ≡ closed c → v ≡ object (members_of [])
+        → resolve_step (forgives p.mode) (step t object_first (i + 1)) ≡ closed c → v ≡ object (members_of [])
         → value_from (rules p) t fs i ≡ resume (rules p) t fs (done v c)
     object-empty c v is s made =
         object-begins (rules p) t good any fs i (closed c) low is s
         ∙ ap (λ y. resume (rules p) t fs (done y c)) (sym made)
 
     pub object-stuck : (j : ℕ) (k : Kind) → start_of (slice_index t i) ≡ start.Object
-        → resolved (forgives p.mode) (step t object_first (i + 1)) ≡ stuck k j → forgives p.mode k ≡ false
+        → resolve_step (forgives p.mode) (step t object_first (i + 1)) ≡ stuck k j → forgives p.mode k ≡ false
         → value_from (rules p) t fs i ≡ fault k j j
     object-stuck j k is s bad =
         object-begins (rules p) t good any fs i (stuck k j) low is s

@@ -5,4 +5,4 @@ pub mod Size
 pub mod Turns
 pub mod Reading
 pub mod Machine
-pub mod Turned
+pub mod TurnsTo

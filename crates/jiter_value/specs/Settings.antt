@@ -16,5 +16,5 @@ abbrev pub rules : Settings → Rules Text Tree
 rules p = trees (forgives p.mode) (value_form p.mode) p.allow_inf_nan
 
 -- what a text answers
-abbrev pub answered : Settings → List ℕ → Reading Tree
-answered p t = answer_in p.allow_inf_nan p.mode t
+abbrev pub answer_by : Settings → List ℕ → Reading Tree
+answer_by p t = answer_in p.allow_inf_nan p.mode t

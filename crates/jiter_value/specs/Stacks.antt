@@ -104,8 +104,8 @@ module _ (p : Settings) (t : List ℕ) where
       (done (object (members_of (map member_view (drop o.base members)))) e)
 
   -- The same of all that is held.
-  abbrev pub resumed : Stacks → Awaits → Reading Tree → Reading Tree
-  resumed s a x = resume (rules p) t (frames a (reverse s.nest.items) s.items.items s.members.items) x
+  abbrev pub resume_with : Stacks → Awaits → Reading Tree → Reading Tree
+  resume_with s a x = resume (rules p) t (frames a (reverse s.nest.items) s.items.items s.members.items) x
 
   abbrev pub from_value : Stacks → Awaits → ℕ → Reading Tree
   from_value s a j = value_from (rules p) t (frames a (reverse s.nest.items) s.items.items s.members.items) j
@@ -119,11 +119,11 @@ module _ (p : Settings) (t : List ℕ) where
   abbrev pub behind : Stacks → Awaits → ℕ → Reading Tree
   behind s a e = behind_in a (reverse s.nest.items) s.items.items s.members.items s.root e
 
-  abbrev pub closed_array : Stacks → ℕ → Reading Tree
-  closed_array s e = array_in (reverse s.nest.items) s.items.items s.members.items e
+  abbrev pub array_ends : Stacks → ℕ → Reading Tree
+  array_ends s e = array_in (reverse s.nest.items) s.items.items s.members.items e
 
-  abbrev pub closed_object : Stacks → ℕ → Reading Tree
-  closed_object s e = object_in (reverse s.nest.items) s.items.items s.members.items e
+  abbrev pub object_ends : Stacks → ℕ → Reading Tree
+  object_ends s e = object_in (reverse s.nest.items) s.items.items s.members.items e
 
   -- What the rest of the text completes the machine to.
   abbrev pub meaning : Stacks → Awaits → ℕ → Reading Tree

@@ -2,7 +2,7 @@
 ghost use Rattle.std.specs.Prelude.{◌≡◌, ◌≤◌, ◌+◌, ◌*◌, length, true};
 ghost use Rattle.jiter_value.specs.Machine.{Progress, progress, IsUnderWay};
 
-use crate::reading::{error_at, finished};
+use crate::reading::{error_at, finish_whole};
 use crate::settings::Settings;
 use crate::stacks::{Awaits, Stacks};
 use crate::turns::turn;
@@ -45,7 +45,7 @@ pub enum Turn<'j> {
 }
 
 impl<'j> Machine<'j> {
-    ghost use Rattle.jiter_value.specs.Turned.{Turned};
+    ghost use Rattle.jiter_value.specs.TurnsTo.{TurnsTo};
 
     /// A machine that has not begun. It takes no memory.
     pub fn new(
@@ -78,7 +78,7 @@ impl<'j> Machine<'j> {
     /// One turn: one scalar, opening or key, and the steps behind it. Less is left behind it, so that a
     /// reading ends within three turns a byte and three more.
     pub fn turn(self) -> Turn<'j>
-        ensures { Turned self.entry result }
+        ensures { TurnsTo self.entry result }
     {
         let Machine {
             alloc,
@@ -112,7 +112,7 @@ impl<'j> Machine<'j> {
         awaits: Awaits,
     ) -> Turn<'j>
         requires { IsUnderWay true old_parser.bytes.now settings old_parser.index awaits old_stacks }
-        ensures { Turned (progress old_parser.entry.bytes.now settings old_parser.entry.index awaits
+        ensures { TurnsTo (progress old_parser.entry.bytes.now settings old_parser.entry.index awaits
             old_stacks.entry) result }
     {
         let mut parser = old_parser;
@@ -121,7 +121,7 @@ impl<'j> Machine<'j> {
         match turn(alloc, &mut tape, &mut stacks, &mut parser, settings, awaits) {
             Ok(Awaits::Done) => {
                 let value = mem::replace(&mut stacks.root, JsonValue::Null);
-                match finished(&mut parser, settings, value) {
+                match finish_whole(&mut parser, settings, value) {
                     Ok(whole) => Turn::Done(Ok(whole)),
                     Err(error) => Turn::Done(Err(error_at(error, parser.index))),
                 }

@@ -6,7 +6,7 @@ ghost use Rattle.jiter_steps.specs.Parse.{Moves, Gives};
 ghost use Rattle.jiter_steps.specs.Read.{done, value_at};
 ghost use Rattle.jiter_steps.specs.ReadError.{WhereRefused};
 ghost use Rattle.jiter_value.specs.Reading.{GivesWhole, IsErrorOf};
-ghost use Rattle.jiter_value.specs.Settings.{answered, rules};
+ghost use Rattle.jiter_value.specs.Settings.{answer_by, rules};
 ghost use Rattle.jiter_value.specs.Value.{view, MayGrowAt, MayGrow};
 
 use crate::settings::Settings;
@@ -33,7 +33,7 @@ pub(crate) fn error_at(error: ReadError, index: usize) -> JsonError
 }
 
 /// What a text answers whose value ends where the reader stands.
-pub(crate) fn finished<'j>(
+pub(crate) fn finish_whole<'j>(
     parser: &mut Parser<'j>,
     settings: Settings,
     value: JsonValue<'j>,
@@ -42,7 +42,7 @@ pub(crate) fn finished<'j>(
     requires value { value_at (rules settings) parser.old.bytes.now nesting_limit
         (past_blanks parser.old.bytes.now 0) ≡ done (view value) parser.old.index }
     ensures moves { Moves parser.old parser.new }
-    ensures value { GivesWhole result parser.new.index (answered settings parser.old.bytes.now) }
+    ensures value { GivesWhole result parser.new.index (answer_by settings parser.old.bytes.now) }
     ensures same { IfOk result (λ v. v ≡ value.entry) }
     ensures memory { WhereRefused result ⊥ }
 {
@@ -81,7 +81,7 @@ pub(crate) fn read_whole<'j>(
 ) -> Result<JsonValue<'j>, ReadError>
     requires { parser.old.index ≡ 0 }
     ensures moves { Moves parser.old parser.new }
-    ensures value { GivesWhole result parser.new.index (answered settings parser.old.bytes.now) }
+    ensures value { GivesWhole result parser.new.index (answer_by settings parser.old.bytes.now) }
     ensures memory { WhereRefused result (MayGrow parser.old.bytes.now) }
     ensures place { WhereRefused result (past_blanks parser.old.bytes.now 0 ≤ parser.new.index) }
 {
@@ -90,7 +90,7 @@ pub(crate) fn read_whole<'j>(
         Err(fault) => return Err(ReadError::Fault(fault)),
     }
     match read_value(alloc, parser, settings) {
-        Ok(value) => finished(parser, settings, value),
+        Ok(value) => finish_whole(parser, settings, value),
         Err(error) => Err(error),
     }
 }

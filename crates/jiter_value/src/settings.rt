@@ -1,7 +1,7 @@
 //! How a document is read, and which faults a partial reading forgives.
 ghost use Rattle.std.specs.Prelude.{◌≡◌, ◌<◌, ℕ, IfOk, IfErr, true, false};
 ghost use Rattle.jiter_scan.specs.Kind.{fault_kind};
-ghost use Rattle.jiter_steps.specs.Frames.{resolved};
+ghost use Rattle.jiter_steps.specs.Frames.{resolve_step};
 ghost use Rattle.jiter_steps.specs.Parse.{Steps};
 ghost use Rattle.jiter_steps.specs.Step.{Step};
 ghost use Rattle.jiter_value.specs.Settings.{forgives};
@@ -38,7 +38,7 @@ pub fn forgives(mode: PartialMode, kind: FaultKind) -> bool
 #[inline(always)]
 pub fn resolve(mode: PartialMode, step: Result<bool, Fault>) -> Result<bool, Fault>
     ensures value { (i : ℕ) → (s : Step) → Steps step i s
-        → Steps result i (resolved (forgives mode) s) }
+        → Steps result i (resolve_step (forgives mode) s) }
     ensures inside { (i n : ℕ) → IfOk step (λ more. more ≡ true → i < n)
         → IfOk result (λ more. more ≡ true → i < n) }
     ensures kept { IfErr result (λ f. forgives mode (fault_kind f.kind) ≡ false) }

@@ -6,7 +6,7 @@ ghost use Rattle.jiter_steps.specs.Tree.{array, object, items_of, members_of};
 ghost use Rattle.jiter_steps.specs.Read.{done};
 ghost use Rattle.jiter_value.specs.Value.{view};
 ghost use Rattle.jiter_value.specs.Size.{size, value_size, key_size, behind_size};
-ghost use Rattle.jiter_value.specs.Stacks.{member_view, Member, resumed, behind, closed_array, closed_object, Stands, StandsAtKey};
+ghost use Rattle.jiter_value.specs.Stacks.{member_view, Member, resume_with, behind, array_ends, object_ends, Stands, StandsAtKey};
 ghost use Rattle.jiter_value.specs.declared.settings.Settings.{Settings as SettingsView};
 ghost use Rattle.jiter_value.specs.declared.value.JsonValue.{JsonValue as JsonValueView};
 
@@ -113,7 +113,7 @@ fn take_members<'j>(
 pub fn put<'j>(stacks: &mut Stacks<'j>, awaits: Awaits, value: JsonValue<'j>) -> Result<(), Refused>
     requires { Stands stacks.old awaits }
     ensures value { OnOk result ((p : SettingsView) → (t : List ℕ) → (e : ℕ)
-        → resumed p t stacks.old awaits (done (view value.entry) e) ≡ behind p t stacks.new awaits e) }
+        → resume_with p t stacks.old awaits (done (view value.entry) e) ≡ behind p t stacks.new awaits e) }
     ensures stands { OnOk result (Stands stacks.new awaits) }
     ensures nest { stacks.new.nest ≡ stacks.old.nest }
     ensures held { OnOk result (behind_size stacks.new awaits
@@ -142,7 +142,7 @@ pub fn put<'j>(stacks: &mut Stacks<'j>, awaits: Awaits, value: JsonValue<'j>) ->
 pub fn close_array<'j>(alloc: Global, stacks: &mut Stacks<'j>) -> Result<Awaits, Refused>
     requires { Stands stacks.old Awaits.Item }
     ensures value { IfOk result (λ a. (p : SettingsView) → (t : List ℕ) → (e : ℕ)
-        → closed_array p t stacks.old e ≡ behind p t stacks.new a e) }
+        → array_ends p t stacks.old e ≡ behind p t stacks.new a e) }
     ensures stands { IfOk result (λ a. Stands stacks.new a) }
     ensures nest { length stacks.new.nest.items + 1 ≡ length stacks.old.nest.items }
     ensures held { IfOk result (λ a. behind_size stacks.new a ≡ value_size stacks.old Awaits.Item) }
@@ -161,7 +161,7 @@ pub fn close_array<'j>(alloc: Global, stacks: &mut Stacks<'j>) -> Result<Awaits,
 pub fn close_object<'j>(alloc: Global, stacks: &mut Stacks<'j>) -> Result<Awaits, Refused>
     requires { StandsAtKey stacks.old }
     ensures value { IfOk result (λ a. (p : SettingsView) → (t : List ℕ) → (e : ℕ)
-        → closed_object p t stacks.old e ≡ behind p t stacks.new a e) }
+        → object_ends p t stacks.old e ≡ behind p t stacks.new a e) }
     ensures stands { IfOk result (λ a. Stands stacks.new a) }
     ensures nest { length stacks.new.nest.items + 1 ≡ length stacks.old.nest.items }
     ensures held { IfOk result (λ a. behind_size stacks.new a ≡ key_size stacks.old) }

@@ -7,7 +7,7 @@ ghost use Rattle.jiter_steps.specs.Parse.{Moves, Gives};
 ghost use Rattle.jiter_steps.specs.Read.{fault, value_at};
 ghost use Rattle.jiter_value.specs.Settings.{rules};
 ghost use Rattle.jiter_value.specs.Size.{value_size, key_size, behind_size, held};
-ghost use Rattle.jiter_value.specs.Stacks.{resumed, from_value, from_key, key_fault, behind, meaning, Stands, StandsAtKey};
+ghost use Rattle.jiter_value.specs.Stacks.{resume_with, from_value, from_key, key_fault, behind, meaning, Stands, StandsAtKey};
 ghost use Rattle.jiter_value.specs.Turns.{IsWithin, Reaches, MayGrowFor, left};
 ghost use Rattle.jiter_value.specs.Value.{view, MayGrowAt};
 ghost use Rattle.jiter_steps.specs.ReadError.{WhereRefused};
@@ -80,7 +80,7 @@ fn after<'j>(
 // A fault where a value is awaited: a forgiven one closes the innermost container.
 #[cold]
 #[inline(never)]
-fn value_faulted<'j>(
+fn fault_at_value<'j>(
     alloc: Global,
     stacks: &mut Stacks<'j>,
     parser: &mut Parser<'j>,
@@ -92,7 +92,7 @@ fn value_faulted<'j>(
     requires room { length stacks.old.nest.items ≤ nesting_limit }
     ensures moves { Moves parser.old parser.new }
     ensures reaches { Reaches settings parser.old.bytes.now stacks.new parser.new.index result
-        (resumed settings parser.old.bytes.now stacks.old awaits
+        (resume_with settings parser.old.bytes.now stacks.old awaits
         (fault (fault_kind problem.kind) problem.index parser.old.index)) }
     ensures left { OnOk result (left parser.old.bytes.now stacks.new parser.new.index
         < left parser.old.bytes.now stacks.old parser.old.index) }
@@ -122,7 +122,7 @@ fn value_faulted<'j>(
 // A fault of a key or of its colon: a forgiven one closes the object.
 #[cold]
 #[inline(never)]
-fn key_faulted<'j>(
+fn fault_at_key<'j>(
     alloc: Global,
     stacks: &mut Stacks<'j>,
     parser: &mut Parser<'j>,
@@ -148,7 +148,7 @@ fn key_faulted<'j>(
 
 // The array whose bracket is where the reader stands.
 #[inline(always)]
-fn array_begun<'j>(
+fn begin_array<'j>(
     alloc: Global,
     stacks: &mut Stacks<'j>,
     parser: &mut Parser<'j>,
@@ -174,11 +174,11 @@ fn array_begun<'j>(
                 return Err(ReadError::Fault(too_deep(parser.index)));
             }
             let base = stacks.items.len();
-            let begun = Open {
+            let container = Open {
                 outer: awaits,
                 base,
             };
-            push_small(&mut stacks.nest, begun)?;
+            push_small(&mut stacks.nest, container)?;
             Ok(Awaits::Item)
         }
         Ok(false) => {
@@ -192,7 +192,7 @@ fn array_begun<'j>(
 
 // The object whose bracket is where the reader stands.
 #[inline(always)]
-fn object_begun<'j>(
+fn begin_object<'j>(
     alloc: Global,
     stacks: &mut Stacks<'j>,
     parser: &mut Parser<'j>,
@@ -215,11 +215,11 @@ fn object_begun<'j>(
     match resolve(settings.mode, parser.object_first()) {
         Ok(true) => {
             let base = stacks.members.len();
-            let begun = Open {
+            let container = Open {
                 outer: awaits,
                 base,
             };
-            push_small(&mut stacks.nest, begun)?;
+            push_small(&mut stacks.nest, container)?;
             Ok(Awaits::Key)
         }
         Ok(false) => {
@@ -254,15 +254,15 @@ fn value_turn<'j>(
         → MayGrowFor result (MayGrowAt parser.old.bytes.now parser.old.index) }
 {
     match start_of(parser.bytes[parser.index]) {
-        Start::Array => array_begun(alloc, stacks, parser, settings, awaits),
-        Start::Object => object_begun(alloc, stacks, parser, settings, awaits),
+        Start::Array => begin_array(alloc, stacks, parser, settings, awaits),
+        Start::Object => begin_object(alloc, stacks, parser, settings, awaits),
         _ => match scalar(alloc, tape, parser, settings) {
             Ok(value) => {
                 put(stacks, awaits, value)?;
                 after(alloc, stacks, parser, settings, awaits)
             }
             Err(ReadError::Fault(fault)) => {
-                value_faulted(alloc, stacks, parser, settings, fault, awaits)
+                fault_at_value(alloc, stacks, parser, settings, fault, awaits)
             }
             Err(ReadError::Memory(refused)) => Err(ReadError::Memory(refused)),
         },
@@ -297,9 +297,9 @@ fn key_turn<'j>(
                 push(&mut stacks.members, (key, JsonValue::Null))?;
                 Ok(Awaits::Value)
             }
-            Err(fault) => key_faulted(alloc, stacks, parser, settings, fault),
+            Err(fault) => fault_at_key(alloc, stacks, parser, settings, fault),
         },
-        Err(ReadError::Fault(fault)) => key_faulted(alloc, stacks, parser, settings, fault),
+        Err(ReadError::Fault(fault)) => fault_at_key(alloc, stacks, parser, settings, fault),
         Err(ReadError::Memory(refused)) => Err(ReadError::Memory(refused)),
     }
 }

@@ -6,18 +6,18 @@ use Rattle.jiter_steps.specs.Parse.{Gives}
 use Rattle.jiter_steps.specs.Read.{value_at}
 use Rattle.jiter_value.specs.Settings.{rules}
 use Rattle.jiter_value.specs.Value.{view}
-use Rattle.jiter_value.proofs.Answering.{value-begins-at, answered-none, answered-refused}
+use Rattle.jiter_value.proofs.Answering.{value-begins-at, answer_by-none, answer_by-refused}
 use Rattle.jiter_value.proofs.reading.read_whole.Goals as goal
 
 pub returns-in-Err-clause-value : goal.returns-in-Err-clause-value
 returns-in-Err-clause-value c =
     let a = c.args in
     let f = c.in-Err.fault in
-    answered-none a.settings a.parser.now.bytes.now (fault_kind f.kind) f.index c.value_first.new.self.index
+    answer_by-none a.settings a.parser.now.bytes.now (fault_kind f.kind) f.index c.value_first.new.self.index
     (rw c.requires at c.in-Err.ensures.value)
 
-pub finished-requires-clause-value : goal.finished-requires-clause-value
-finished-requires-clause-value c =
+pub finish_whole-requires-clause-value : goal.finish_whole-requires-clause-value
+finish_whole-requires-clause-value c =
     let t = c.args.parser.now.bytes.now in
     let r = rules c.args.settings in
     let i = c.value_first.new.self.index in
@@ -37,5 +37,5 @@ returns-in-Err-read_value-clause-value c =
     let first : c.value_first.new.self.bytes.now ≡ t = ap (λ b. b.now) c.in-Ok.ensures.moves.same in
     let at : past_blanks t 0 ≡ i = value-begins-at t i (rw c.requires at c.in-Ok.ensures.value) in
     let begun : past_blanks t 0 < length t = subst (λ k. k < length t) (sym at) c.in-Ok.ensures.inside in
-    answered-refused c.args.settings t begun e j
+    answer_by-refused c.args.settings t begun e j
     (subst (Gives view (Err e) j) (ap (λ u. value_at r u 200 i) first ∙ ap (value_at r t 200) (sym at)) c.in-Err-read_value.ensures.value)

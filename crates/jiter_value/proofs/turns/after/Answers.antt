@@ -1,6 +1,6 @@
 use Rattle.std.proofs.Common.{◌≡◌, ◌<◌, ◌∙◌, sym, ap, subst, length, reverse}
 use Rattle.jiter_scan.specs.Kind.{fault_kind}
-use Rattle.jiter_steps.specs.Frames.{resolved}
+use Rattle.jiter_steps.specs.Frames.{resolve_step}
 use Rattle.jiter_steps.specs.Parse.{going}
 use Rattle.jiter_steps.specs.Read.{fault}
 use Rattle.jiter_steps.specs.Step.{more, stuck, step, array_step, object_step}
@@ -22,8 +22,8 @@ returns-in-Ok-true-clause-reaches c =
     let same : l.parser.bytes.now ≡ t = ap (λ b. b.now) l.invariant.0.same in
     let so : behind p t a.stacks.now a.awaits a.parser.now.index ≡ behind p t s awaits.Item i = rw c.in-Item.is at l.invariant.1 in
     let b : Stands s awaits.Item = rw c.in-Item.is at l.invariant.2 in
-    let at : resolved (forgives p.mode) (step t (array_step t) i) ≡ more j =
-    ap (λ u. resolved (forgives p.mode) (step u (array_step u) i)) (sym same)
+    let at : resolve_step (forgives p.mode) (step t (array_step t) i) ≡ more j =
+    ap (λ u. resolve_step (forgives p.mode) (step u (array_step u) i)) (sym same)
     ∙ c.in-Ok-true.ensures.value _ _ c.array_step.ensures.value ∙ ap (λ y. going y j) c.in-Ok-true.field-0-test in
     let place : j < length t = subst (λ u. j < length u) same
     (c.in-Ok-true.ensures.inside _ _ c.array_step.ensures.inside c.in-Ok-true.field-0-test) in
@@ -43,8 +43,8 @@ returns-in-Err-clause-reaches c =
     let h = c.in-Err.ensures.value _ _ c.array_step.ensures.value in
     let so : behind p t a.stacks.now a.awaits a.parser.now.index ≡ behind p t s awaits.Item i = rw c.in-Item.is at l.invariant.1 in
     let b : Stands s awaits.Item = rw c.in-Item.is at l.invariant.2 in
-    let at : resolved (forgives p.mode) (step t (array_step t) i) ≡ stuck k f.index = ap
-    (λ u. resolved (forgives p.mode) (step u (array_step u) i)) (sym same) ∙ h.0 in
+    let at : resolve_step (forgives p.mode) (step t (array_step t) i) ≡ stuck k f.index = ap
+    (λ u. resolve_step (forgives p.mode) (step u (array_step u) i)) (sym same) ∙ h.0 in
     so
     ∙ items-stuck p t
     (reverse s.nest.items) s.items.items s.members.items s.root i f.index k b at c.in-Err.ensures.kept
@@ -64,8 +64,8 @@ returns-in-Err-resolve-clause-reaches c =
     let h = c.in-Err-resolve.ensures.value _ _ c.object_step.ensures.value in
     let so : behind p t a.stacks.now a.awaits a.parser.now.index ≡ behind p t s awaits.Value i = rw c.in-Value.is at l.invariant.1 in
     let b : Stands s awaits.Value = rw c.in-Value.is at l.invariant.2 in
-    let at : resolved (forgives p.mode) (step t (object_step t) i) ≡ stuck k f.index = ap
-    (λ u. resolved (forgives p.mode) (step u (object_step u) i)) (sym same) ∙ h.0 in
+    let at : resolve_step (forgives p.mode) (step t (object_step t) i) ≡ stuck k f.index = ap
+    (λ u. resolve_step (forgives p.mode) (step u (object_step u) i)) (sym same) ∙ h.0 in
     so
     ∙ members-stuck p t
     (reverse s.nest.items) s.items.items s.members.items s.root i f.index k b at c.in-Err-resolve.ensures.kept

@@ -76,9 +76,9 @@ returns-in-Err-clause-reaches c =
     let h = c.in-Err.ensures.value in
     let colon : object_colon t e ≡ failed k f.index = subst (λ u. object_colon u e ≡ failed k f.index) first h.0 in
     let same : c.object_colon.new.self.bytes.now ≡ t = ap (λ b. b.now) c.in-Err.ensures.moves.same ∙ first in
-    reaches-along p t c.key_faulted.new.stacks c.key_faulted.new.parser.index c.key_faulted.result _ _
+    reaches-along p t c.fault_at_key.new.stacks c.fault_at_key.new.parser.index c.fault_at_key.result _ _
     (colon-fails p t (reverse s.nest.items) s.items.items s.members.items i (text_view c.in-Ok.key) e f.index k c.requires.stands c.requires.within v colon ∙ ap (key_fault p t s k f.index) (sym h.1))
-    (subst (λ u. Reaches p u c.key_faulted.new.stacks c.key_faulted.new.parser.index c.key_faulted.result (key_fault p u s k f.index j)) same c.key_faulted.ensures.reaches)
+    (subst (λ u. Reaches p u c.fault_at_key.new.stacks c.fault_at_key.new.parser.index c.fault_at_key.result (key_fault p u s k f.index j)) same c.fault_at_key.ensures.reaches)
 
 pub returns-in-Err-Fault-clause-reaches : goal.returns-in-Err-Fault-clause-reaches
 returns-in-Err-Fault-clause-reaches c =
@@ -93,6 +93,6 @@ returns-in-Err-Fault-clause-reaches c =
     let w = rw c.in-Err-Fault.field-0-is at c.in-Err-Fault.ensures.value in
     let h = scalar-failed i (string_at whole t i) k f.index j w in
     let same : c.string.new.self.bytes.now ≡ t = ap (λ b. b.now) c.in-Err-Fault.ensures.moves.same in
-    reaches-along p t c.key_faulted-in-Err-Fault.new.stacks c.key_faulted-in-Err-Fault.new.parser.index c.key_faulted-in-Err-Fault.result _ _
+    reaches-along p t c.fault_at_key-in-Err-Fault.new.stacks c.fault_at_key-in-Err-Fault.new.parser.index c.fault_at_key-in-Err-Fault.result _ _
     (key-fails p t (reverse s.nest.items) s.items.items s.members.items i k f.index c.requires.stands c.requires.within h.0 ∙ ap (key_fault p t s k f.index) (sym h.1))
-    (subst (λ u. Reaches p u c.key_faulted-in-Err-Fault.new.stacks c.key_faulted-in-Err-Fault.new.parser.index c.key_faulted-in-Err-Fault.result (key_fault p u s k f.index j)) same c.key_faulted-in-Err-Fault.ensures.reaches)
+    (subst (λ u. Reaches p u c.fault_at_key-in-Err-Fault.new.stacks c.fault_at_key-in-Err-Fault.new.parser.index c.fault_at_key-in-Err-Fault.result (key_fault p u s k f.index j)) same c.fault_at_key-in-Err-Fault.ensures.reaches)

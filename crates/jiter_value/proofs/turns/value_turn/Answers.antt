@@ -3,7 +3,7 @@ use Rattle.std.proofs.lemmas.List.{length-reverse}
 use Rattle.std.proofs.lemmas.Result.{IfOk-weaker, on_ok_weaker}
 use Rattle.jiter_scan.specs.Kind.{fault_kind}
 use Rattle.jiter_steps.specs.Read.{done, fault}
-use Rattle.jiter_value.specs.Stacks.{behind, resumed}
+use Rattle.jiter_value.specs.Stacks.{behind, resume_with}
 use Rattle.jiter_value.specs.Turns.{Reaches}
 use Rattle.jiter_value.specs.Value.{view}
 use Rattle.jiter_value.proofs.Kept.{value-read}
@@ -54,16 +54,16 @@ returns-in-Err-Fault c =
     let same : c.scalar.new.parser.bytes.now ≡ t = ap (λ b. b.now) moved.same in
     let v = rw c.in-Err-Fault.field-0-is at c.in-Err-Fault.ensures.value in
     record {
-      moves = moves-on a.parser.now c.scalar.new.parser c.value_faulted.new.parser moved c.value_faulted.ensures.moves;
-      reaches = reaches-along p t c.value_faulted.new.stacks c.value_faulted.new.parser.index c.value_faulted.result _ _
+      moves = moves-on a.parser.now c.scalar.new.parser c.fault_at_value.new.parser moved c.fault_at_value.ensures.moves;
+      reaches = reaches-along p t c.fault_at_value.new.stacks c.fault_at_value.new.parser.index c.fault_at_value.result _ _
           (value-read p t a.awaits (reverse s.nest.items) s.items.items s.members.items c.requires.stands few i (fault k f.index j) v)
-          (subst (λ u. Reaches p u c.value_faulted.new.stacks c.value_faulted.new.parser.index c.value_faulted.result (resumed p u s a.awaits (fault k f.index j))) same c.value_faulted.ensures.reaches);
+          (subst (λ u. Reaches p u c.fault_at_value.new.stacks c.fault_at_value.new.parser.index c.fault_at_value.result (resume_with p u s a.awaits (fault k f.index j))) same c.fault_at_value.ensures.reaches);
       left =
-          on_ok_weaker c.value_faulted.result
-          (λ l. omega (arith, l, ap length same, moved.forward)) c.value_faulted.ensures.left;
-      held = IfOk-weaker c.value_faulted.result _ _ (λ x h. omega (arith, h)) c.value_faulted.ensures.held;
+          on_ok_weaker c.fault_at_value.result
+          (λ l. omega (arith, l, ap length same, moved.forward)) c.fault_at_value.ensures.left;
+      held = IfOk-weaker c.fault_at_value.result _ _ (λ x h. omega (arith, h)) c.fault_at_value.ensures.held;
       memory =
-          λ e. never-grows c.value_faulted.result _
-          (on_ok_weaker c.value_faulted.result (λ other. other e) c.value_faulted.ensures.root)
-          (refused-weaker c.value_faulted.result _ _ (λ other. other e) c.value_faulted.ensures.memory);
+          λ e. never-grows c.fault_at_value.result _
+          (on_ok_weaker c.fault_at_value.result (λ other. other e) c.fault_at_value.ensures.root)
+          (refused-weaker c.fault_at_value.result _ _ (λ other. other e) c.fault_at_value.ensures.memory);
     }

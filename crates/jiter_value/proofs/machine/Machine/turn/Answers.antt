@@ -4,9 +4,9 @@ use Rattle.jiter_scan.specs.Scanned.{taken, failed}
 use Rattle.jiter_steps.specs.Step.{step, value_first}
 use Rattle.jiter_steps.specs.declared.read_error.ReadError.TheVariants as error
 use Rattle.jiter_value.specs.Machine.{IsUnderWay}
-use Rattle.jiter_value.specs.Settings.{answered}
+use Rattle.jiter_value.specs.Settings.{answer_by}
 use Rattle.jiter_value.specs.declared.stacks.Awaits.TheVariants as awaits
-use Rattle.jiter_value.proofs.Answering.{answered-none, begins-under-way, error-answers}
+use Rattle.jiter_value.proofs.Answering.{answer_by-none, begins-under-way, error-answers}
 use Rattle.jiter_value.proofs.machine.Machine.turn.Goals as goal
 
 pub go-requires-in-Ok : goal.go-requires-in-Ok
@@ -29,4 +29,4 @@ returns c =
     let u = rw c.if-begun.false at c.self.invariant in
     let h : (step t value_first 0 ≡ failed (fault_kind f.kind) f.index) × (i ≡ f.index) = rw u.1 at c.in-Err.ensures.value in
     rw (← c.self.view_is)
-    (error-answers (error.Fault f) i c.error_at-error.result (answered m.settings t) c.error_at-error.ensures (answered-none m.settings t (fault_kind f.kind) f.index i h), tt)
+    (error-answers (error.Fault f) i c.error_at-error.result (answer_by m.settings t) c.error_at-error.ensures (answer_by-none m.settings t (fault_kind f.kind) f.index i h), tt)

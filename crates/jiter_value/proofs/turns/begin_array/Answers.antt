@@ -1,7 +1,7 @@
 use Rattle.std.proofs.Common.{◌≡◌, ◌≢◌, ◌≤◌, ◌<◌, ◌+◌, ◌∷◌, [], ◌∙◌, sym, ap, arith, ℕ, length, map, reverse, subst, length-append}
 use Rattle.std.proofs.lemmas.List.{reverse-append, length-reverse}
 use Rattle.jiter_scan.specs.Kind.{fault_kind}
-use Rattle.jiter_steps.specs.Frames.{resolved, value_from}
+use Rattle.jiter_steps.specs.Frames.{resolve_step, value_from}
 use Rattle.jiter_steps.specs.Parse.{going}
 use Rattle.jiter_steps.specs.Read.{fault}
 use Rattle.jiter_steps.specs.Step.{more, closed, step, array_first}
@@ -15,7 +15,7 @@ use Rattle.jiter_value.specs.declared.stacks.Open.{Open}
 use Rattle.jiter_value.proofs.Kept.{array-opens, array-limit, array-empty, array-stuck, array-above}
 use Rattle.jiter_value.proofs.Reached.{reaches-along}
 use Rattle.jiter_value.proofs.Views.{view-Array}
-use Rattle.jiter_value.proofs.turns.array_begun.Goals as goal
+use Rattle.jiter_value.proofs.turns.begin_array.Goals as goal
 
 pub returns-then-len-eq-NESTING_LIMIT-clause-reaches : goal.returns-then-len-eq-NESTING_LIMIT-clause-reaches
 returns-then-len-eq-NESTING_LIMIT-clause-reaches c =
@@ -26,7 +26,7 @@ returns-then-len-eq-NESTING_LIMIT-clause-reaches c =
     let i = a.parser.now.index in
     let os = reverse s.nest.items in
     let j = c.array_first.new.self.index in
-    let at : resolved (forgives p.mode) (step t array_first (i + 1)) ≡ more j = c.in-Ok-true.ensures.value _ _ c.array_first.ensures.value ∙ ap (λ y. going y j) c.in-Ok-true.field-0-test in
+    let at : resolve_step (forgives p.mode) (step t array_first (i + 1)) ≡ more j = c.in-Ok-true.ensures.value _ _ c.array_first.ensures.value ∙ ap (λ y. going y j) c.in-Ok-true.field-0-test in
     let place : j < length t = c.in-Ok-true.ensures.inside _ _ c.array_first.ensures.inside c.in-Ok-true.field-0-test in
     let full : length os ≡ 200 = length-reverse s.nest.items ∙ sym c.len.ensures.value
     ∙ c.if-len-eq-NESTING_LIMIT.true in
@@ -46,7 +46,7 @@ returns-in_ok-push_small-in-Ok-true-clause-reaches c =
     let es = s.items.items in
     let ms = s.members.items in
     let j = c.array_first.new.self.index in
-    let at : resolved (forgives p.mode) (step t array_first (i + 1)) ≡ more j = c.in-Ok-true.ensures.value _ _ c.array_first.ensures.value ∙ ap (λ y. going y j) c.in-Ok-true.field-0-test in
+    let at : resolve_step (forgives p.mode) (step t array_first (i + 1)) ≡ more j = c.in-Ok-true.ensures.value _ _ c.array_first.ensures.value ∙ ap (λ y. going y j) c.in-Ok-true.field-0-test in
     let place : j < length t = c.in-Ok-true.ensures.inside _ _ c.array_first.ensures.inside c.in-Ok-true.field-0-test in
     let mk : ℕ → Open = λ b. record { outer = a.awaits; base = b } in
     let o : Open = mk c.len-base.result in
@@ -74,7 +74,7 @@ returns-in_ok-put-in-Ok-false-clause-reaches c =
     let i = a.parser.now.index in
     let os = reverse s.nest.items in
     let e = c.array_first.new.self.index in
-    let at : resolved (forgives p.mode) (step t array_first (i + 1)) ≡ closed e = c.in-Ok-false.ensures.value _ _ c.array_first.ensures.value ∙ ap (λ y. going y e) c.in-Ok-false.field-0-test in
+    let at : resolve_step (forgives p.mode) (step t array_first (i + 1)) ≡ closed e = c.in-Ok-false.ensures.value _ _ c.array_first.ensures.value ∙ ap (λ y. going y e) c.in-Ok-false.field-0-test in
     let v = c.new-items.result in
     let few : length os ≤ 200 = omega (arith, length-reverse s.nest.items, c.requires.room) in
     let same : c.array_first.new.self.bytes.now ≡ t = ap (λ b. b.now) c.array_first.ensures.moves.same in

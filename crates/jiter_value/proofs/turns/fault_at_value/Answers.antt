@@ -11,7 +11,7 @@ use Rattle.jiter_value.specs.declared.stacks.Awaits.TheVariants as awaits
 use Rattle.jiter_value.proofs.Kept.{fault-kept, fault-value, last-split, value-base, key-of-value}
 use Rattle.jiter_value.proofs.Reached.{reaches-along}
 use Rattle.jiter_value.proofs.Sizes.{key-size}
-use Rattle.jiter_value.proofs.turns.value_faulted.Goals as goal
+use Rattle.jiter_value.proofs.turns.fault_at_value.Goals as goal
 
 pub returns-then-not-forgives-clause-reaches : goal.returns-then-not-forgives-clause-reaches
 returns-then-not-forgives-clause-reaches c =

@@ -1,7 +1,7 @@
 use Rattle.std.proofs.Common.{◌≡◌, ◌≤◌, ◌<◌, ◌+◌, ◌∷◌, [], ◌∙◌, sym, ap, arith, ℕ, length, map, reverse, subst, length-append}
 use Rattle.std.proofs.lemmas.List.{reverse-append, length-reverse}
 use Rattle.jiter_scan.specs.Kind.{fault_kind}
-use Rattle.jiter_steps.specs.Frames.{resolved}
+use Rattle.jiter_steps.specs.Frames.{resolve_step}
 use Rattle.jiter_steps.specs.Parse.{going}
 use Rattle.jiter_steps.specs.Read.{fault}
 use Rattle.jiter_steps.specs.Step.{more, closed, step, object_first}
@@ -13,7 +13,7 @@ use Rattle.jiter_value.specs.declared.stacks.Open.{Open}
 use Rattle.jiter_value.proofs.Kept.{object-opens, object-empty, object-stuck, object-above}
 use Rattle.jiter_value.proofs.Reached.{reaches-along}
 use Rattle.jiter_value.proofs.Views.{view-Object}
-use Rattle.jiter_value.proofs.turns.object_begun.Goals as goal
+use Rattle.jiter_value.proofs.turns.begin_object.Goals as goal
 
 pub returns-in_ok-push_small-in-Ok-true-clause-reaches : goal.returns-in_ok-push_small-in-Ok-true-clause-reaches
 returns-in_ok-push_small-in-Ok-true-clause-reaches c =
@@ -27,7 +27,7 @@ returns-in_ok-push_small-in-Ok-true-clause-reaches c =
     let es = s.items.items in
     let ms = s.members.items in
     let j = c.object_first.new.self.index in
-    let at : resolved (forgives p.mode) (step t object_first (i + 1)) ≡ more j = c.in-Ok-true.ensures.value _ _ c.object_first.ensures.value ∙ ap (λ y. going y j) c.in-Ok-true.field-0-test in
+    let at : resolve_step (forgives p.mode) (step t object_first (i + 1)) ≡ more j = c.in-Ok-true.ensures.value _ _ c.object_first.ensures.value ∙ ap (λ y. going y j) c.in-Ok-true.field-0-test in
     let place : j < length t = c.in-Ok-true.ensures.inside _ _ c.object_first.ensures.inside c.in-Ok-true.field-0-test in
     let mk : ℕ → Open = λ b. record { outer = a.awaits; base = b } in
     let o : Open = mk c.len-base.result in
@@ -54,7 +54,7 @@ returns-in_ok-put-in-Ok-false-clause-reaches c =
     let i = a.parser.now.index in
     let os = reverse s.nest.items in
     let e = c.object_first.new.self.index in
-    let at : resolved (forgives p.mode) (step t object_first (i + 1)) ≡ closed e = c.in-Ok-false.ensures.value _ _ c.object_first.ensures.value ∙ ap (λ y. going y e) c.in-Ok-false.field-0-test in
+    let at : resolve_step (forgives p.mode) (step t object_first (i + 1)) ≡ closed e = c.in-Ok-false.ensures.value _ _ c.object_first.ensures.value ∙ ap (λ y. going y e) c.in-Ok-false.field-0-test in
     let v = c.new-members.result in
     let few : length os ≤ 200 = omega (arith, length-reverse s.nest.items, c.requires.room) in
     let same : c.object_first.new.self.bytes.now ≡ t = ap (λ b. b.now) c.object_first.ensures.moves.same in
