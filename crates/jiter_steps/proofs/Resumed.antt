@@ -1,14 +1,15 @@
 -- The turns of the machine, as what the open containers complete a reading to.
-use Rattle.std.proofs.Common.{◌≡◌, ℕ, suc, ◌+◌, ◌-◌, ◌<◌, ◌≤◌, Bool, true, false, cond, List, [], ◌∷◌, length, refl, ap, ◌∙◌, arith}
+use Rattle.std.proofs.Common.{◌≡◌, ℕ, zero, suc, ◌+◌, ◌-◌, ◌<◌, ◌≤◌, Bool, true, false, cond, List, [], ◌∷◌, ◌++◌, length, refl, sym, ap, ◌∙◌, arith}
 use Rattle.std.specs.Prelude.{slice_index}
 use Rattle.jiter_scan.specs.Kind.{Kind, recursion_limit}
 use Rattle.jiter_scan.specs.Scanned.{taken, failed}
 use Rattle.jiter_steps.specs.Literal.{start_of}
+use Rattle.jiter_steps.specs.Node.{nesting_limit}
 use Rattle.jiter_steps.specs.Step.{Step, more, closed, stuck, step, array_first, array_step, object_first, object_step, object_colon}
-use Rattle.jiter_steps.specs.Read.{Reading, done, fault, Rules, Container, if_forgiven, follow, behind_part, container_at, array_of, object_of, inside_at, value_at}
+use Rattle.jiter_steps.specs.Read.{Reading, done, fault, Rules, Container, if_forgiven, follow, with_key, behind_part, parts_at, container_at, array_of, object_of, value_with, inside_at, value_at}
 use Rattle.jiter_steps.specs.declared.parse.Start.TheVariants as start
-use Rattle.jiter_steps.proofs.Values.{Advances, Goes, inside_at-within, inside_at-suc, inside_at-starts, inside_at-none, array_of-goes, object_of-goes, parts_at_is, parts-fault, member-key, member-colon, member-value}
-use Rattle.jiter_steps.specs.Frames.{Frame, items_frame, members_frame, resolved, parts_from, parts_step, value_in, array_in, object_in, resume, value_from, key_from}
+use Rattle.jiter_steps.proofs.Values.{Advances, AllWithin, Goes, inside_at-within, inside_at-suc, inside_at-starts, inside_at-none, array_of-goes, object_of-goes, parts_at_is, parts-fault, member-key, member-colon, member-value}
+use Rattle.jiter_steps.specs.Frames.{Frame, items_frame, members_frame, resolve_step, parts_from, parts_step, value_in, array_in, object_in, behind_value, resume, value_from, key_from, items_from, members_from}
 
 -- Where a container begins is not built into its value.
 pub record IgnoresBegin {K A : Type 0} (r : Rules K A) : Type 0 where
@@ -20,9 +21,9 @@ module _ {K A : Type 0} (r : Rules K A) (t : List ℕ) where
   Frames = List (Frame K A)
 
   -- what closes a container before the value that it awaits
-  abbrev pub made : Frame K A → ℕ → A
-  made (items_frame items) e = r.array 0 e items
-  made (members_frame members k) e = r.object 0 e members
+  abbrev pub build_of : Frame K A → ℕ → A
+  build_of (items_frame items) e = r.array 0 e items
+  build_of (members_frame members k) e = r.object 0 e members
 
   pub value_in-room : (depth j : ℕ) → depth ≤ 200 → value_in r t depth j ≡ value_at r t (200 - depth) j
   value_in-room depth j h =
@@ -32,20 +33,20 @@ module _ {K A : Type 0} (r : Rules K A) (t : List ℕ) where
   pub value_in-limit : (j : ℕ) → value_in r t 201 j ≡ fault recursion_limit j j
   value_in-limit j = inside_at-none r t 0 j refl
 
-  follow-resolved : (next : ℕ → Reading A) (close : ℕ → A) (s : Step)
-      → follow r next close s ≡ follow r next close (resolved r.forgives s)
-  follow-resolved next close (more j) = refl
-  follow-resolved next close (closed e) = refl
-  follow-resolved next close (stuck k j) = by_forgiving (r.forgives k) refl where
+  follow-resolve_step : (next : ℕ → Reading A) (close : ℕ → A) (s : Step)
+      → follow r next close s ≡ follow r next close (resolve_step r.forgives s)
+  follow-resolve_step next close (more j) = refl
+  follow-resolve_step next close (closed e) = refl
+  follow-resolve_step next close (stuck k j) = by_forgiving (r.forgives k) refl where
     by_forgiving : (y : Bool) → r.forgives k ≡ y
         → if_forgiven r close k j j ≡ follow r next close (cond y (closed j) (stuck k j))
     by_forgiving true h = ap (λ y. cond y (done (close j) j) (fault k j j)) h
     by_forgiving false h = refl
 
   -- a step, its forgiven fault resolved
-  follow-to : (next : ℕ → Reading A) (close : ℕ → A) (s u : Step) → resolved r.forgives s ≡ u
+  follow-to : (next : ℕ → Reading A) (close : ℕ → A) (s u : Step) → resolve_step r.forgives s ≡ u
       → follow r next close s ≡ follow r next close u
-  follow-to next close s u h = follow-resolved next close s ∙ ap (follow r next close) h
+  follow-to next close s u h = follow-resolve_step next close s ∙ ap (follow r next close) h
 
   pub if_forgiven-yes : (close : ℕ → A) (k : Kind) (i stop : ℕ) → r.forgives k ≡ true
       → if_forgiven r close k i stop ≡ done (close stop) stop
@@ -65,7 +66,7 @@ module _ {K A : Type 0} (r : Rules K A) (t : List ℕ) where
       ap (resume r t fs) (if_forgiven-no (λ e. r.object 0 e members) k i stop h) ∙ resume-fault fs k i stop h
 
   pub resume-forgiven : (f : Frame K A) (fs : Frames) (k : Kind) (i stop : ℕ) → r.forgives k ≡ true
-      → resume r t (f ∷ fs) (fault k i stop) ≡ resume r t fs (done (made f stop) stop)
+      → resume r t (f ∷ fs) (fault k i stop) ≡ resume r t fs (done (build_of f stop) stop)
   resume-forgiven (items_frame items) fs k i stop h =
       ap (resume r t fs) (if_forgiven-yes (λ e. r.array 0 e items) k i stop h)
   resume-forgiven (members_frame members m) fs k i stop h =
@@ -73,11 +74,11 @@ module _ {K A : Type 0} (r : Rules K A) (t : List ℕ) where
 
   -- A step inside these containers, by where it leads.
   module _ {P : Type 0} (c : Container P A) (fs : Frames) (parts : List P) where
-    pub step-to : (s u : Step) → resolved r.forgives s ≡ u
+    pub step-to : (s u : Step) → resolve_step r.forgives s ≡ u
         → resume r t fs (parts_step r t c parts s) ≡ resume r t fs (parts_step r t c parts u)
     step-to s u h = ap (resume r t fs) (follow-to (parts_from r t c parts) (λ e. c.build e parts) s u h)
 
-    pub step-stuck : (s : Step) (k : Kind) (j : ℕ) → resolved r.forgives s ≡ stuck k j → r.forgives k ≡ false
+    pub step-stuck : (s : Step) (k : Kind) (j : ℕ) → resolve_step r.forgives s ≡ stuck k j → r.forgives k ≡ false
         → resume r t fs (parts_step r t c parts s) ≡ fault k j j
     step-stuck s k j h bad =
         step-to s (stuck k j) h ∙ ap (resume r t fs) (if_forgiven-no (λ e. c.build e parts) k j j bad)
@@ -129,7 +130,7 @@ module _ {K A : Type 0} (r : Rules K A) (t : List ℕ) where
 
     -- A container begins.
     module _ (any : IgnoresBegin r) (fs : Frames) (i : ℕ) (u : Step) (few : length fs ≤ 200) where
-      pub array-begins : start_of (slice_index t i) ≡ start.Array → resolved r.forgives (step t array_first (i + 1)) ≡ u
+      pub array-begins : start_of (slice_index t i) ≡ start.Array → resolve_step r.forgives (step t array_first (i + 1)) ≡ u
           → value_from r t fs i ≡ resume r t fs (parts_step r t (array_in r t (length fs)) [] u)
       array-begins is h =
           let d = length fs in
@@ -141,7 +142,7 @@ module _ {K A : Type 0} (r : Rules K A) (t : List ℕ) where
           ∙ step-to (array_in r t d) fs [] (step t array_first (i + 1)) u h
 
       pub object-begins : start_of (slice_index t i) ≡ start.Object
-          → resolved r.forgives (step t object_first (i + 1)) ≡ u
+          → resolve_step r.forgives (step t object_first (i + 1)) ≡ u
           → value_from r t fs i ≡ resume r t fs (parts_step r t (object_in r t (length fs)) [] u)
       object-begins is h =
           let d = length fs in
