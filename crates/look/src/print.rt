@@ -6,8 +6,8 @@ ghost use Rattle.jiter_value.specs.Value.{view, views, member_views};
 ghost use Rattle.look.specs.Print.{print_of, print_items, print_members, comma, print_text, print_byte, escape_of};
 ghost use Rattle.look.specs.Print.{needs_escape, hex_digit};
 
-use jiter_scan::memory::{Refused, extend, push};
 use jiter::{JsonArray, JsonObject, JsonValue};
+use jiter_scan::memory::{Refused, extend, push};
 use std::alloc::Global;
 
 /// The compact text of a value: no blanks; numbers other than 64-bit integers by their source text; in

@@ -8,9 +8,9 @@ ghost use Rattle.look.specs.Run.{AppendsFront, IsOfMemory, IsUnread, line_of, li
 ghost use Rattle.look.specs.Run.{WroteNothing};
 ghost use Rattle.look.specs.Run.{WroteIfAny};
 
-use jiter_scan::memory::{Refused, push};
 use crate::print::print;
 use jiter::{JsonError, JsonErrorType, JsonValue, PartialMode};
+use jiter_scan::memory::{Refused, push};
 use std::alloc::{AllocError, Global};
 use std::io;
 use std::io::{ErrorKind, Read, Write};
@@ -110,9 +110,8 @@ pub fn run<R: Read, O: Write, E: Write>(
     // Where known bytes are left unread nothing was written.
     ensures unread { IsUnread (R.remaining reader.new) → WroteNothing result
         (O.contents out.old) (O.contents out.new) (E.contents err.old) (E.contents err.new) }
-    // With partial reading off a value's line is again a document of the value that was read, under the same
-    // setting.
-    ensures again { mode ≡ PartialMode.Off → IfSome (R.remaining reader.old)
+    // In each mode a value's line is again a document of the value that was read, under the same setting.
+    ensures again { IfSome (R.remaining reader.old)
         (λ text. PrintsAgain inf_nan (answer_in inf_nan mode text)) }
 {
     match read_line(alloc, reader, mode, inf_nan) {
@@ -138,12 +137,7 @@ fn read_line<R: Read>(
 }
 
 // The line for a text. It fails only where memory is refused.
-fn make_line(
-    alloc: Global,
-    text: &[u8],
-    mode: PartialMode,
-    inf_nan: bool,
-) -> Result<Line, NoMemory>
+fn make_line(alloc: Global, text: &[u8], mode: PartialMode, inf_nan: bool) -> Result<Line, NoMemory>
     ensures line { IfOk result (λ line. line_view line ≡ line_of inf_nan mode text.now) }
     ensures memory { IfErr result IsOfMemory }
 {

@@ -231,7 +231,15 @@ fn cut_documents_are_read_as_the_mode_asks(rt: HostRuntime) {
     ] {
         assert!(rt; writes(rt.alloc(), text, PartialMode::Off, End::Refused, fault));
         assert!(rt; writes(rt.alloc(), text, PartialMode::On, End::Shown, on));
-        assert!(rt; writes(rt.alloc(), text, PartialMode::TrailingStrings, End::Shown, trailing));
+        assert!(rt;
+            writes(
+                rt.alloc(),
+                text,
+                PartialMode::TrailingStrings,
+                End::Shown,
+                trailing
+            )
+        );
     }
 }
 
