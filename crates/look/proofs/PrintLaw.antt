@@ -1,5 +1,6 @@
 -- What is printed of a value that was read is a document of the same value.
-use Rattle.std.proofs.Common.{◌≡◌, inl, inr, ℕ, suc, ◌+◌, ◌-◌, ◌≤◌, Bool, true, false, List, [], ◌∷◌, ◌++◌, length, refl, sym}
+use Rattle.std.proofs.Common.{◌≡◌, inl, inr, ℕ, suc, ◌+◌, ◌-◌, ◌≤◌, Bool, true, false, List, [], ◌∷◌, ◌++◌, length}
+use Rattle.std.proofs.Common.{refl, sym}
 use Rattle.std.proofs.Common.{ap, ap₂, ◌∙◌, subst, arith}
 use Rattle.std.specs.Prelude.{slice_get, Option, Some, None, IfSome, max}
 use Rattle.std.specs.Str.{IsUtf8}
@@ -28,9 +29,10 @@ use Rattle.look.specs.Print.{print_more_members}
 use Rattle.look.specs.Printed.{borrow_tree, borrow_items, borrow_members, IsLineOf, PrintsAgain}
 use Rattle.look.proofs.PrintLawNumbers.{number-again}
 use Rattle.look.proofs.PrintLawStrings.{string-again}
-use Rattle.look.proofs.Given.{Gives}
-use Rattle.look.proofs.Printable.{IsNumber, IsPrintable, ArePrintable, MembersArePrintable, depth, depth_round, depth_of}
-use Rattle.look.proofs.Printable.{depth_round_members, depth_of_members, Fits, answer_in-printable}
+use Rattle.look.proofs.Giving.{Gives}
+use Rattle.look.proofs.Printable.{IsNumber, IsPrintable, ArePrintable, MembersArePrintable, Fits, answer_in-printable}
+use Rattle.look.proofs.Printable.{tree_nesting, tree_nesting_round, tree_nesting_of, tree_nesting_round_members}
+use Rattle.look.proofs.Printable.{tree_nesting_of_members}
 
 no_blank : (u : List ℕ) (i : ℕ) → i ≤ length u → IsBlank u i i
 no_blank u i h = record { ordered = omega arith; within = h; each = λ k l m. absurd (omega arith) }
@@ -51,35 +53,35 @@ module _ (names : Bool) (u : List ℕ) where
     begins : begin again ≡ i
     ends : end again ≡ j
     spelled : Spells names u again
-    deep : nesting again ≡ depth v
+    depth : nesting again ≡ tree_nesting v
     same : borrow_tree (value_of u again) ≡ borrow_tree v
 
   -- behind `[` at i, up to the place j behind `]`
   record AgainItems (vs : Items) (i j : ℕ) : Type 0 where
     again : Nodes
     spelled : SpellsItems names u i again j
-    deep : nesting_round again ≡ depth_round vs
+    depth : nesting_round again ≡ tree_nesting_round vs
     same : borrow_items (values_of u again) ≡ borrow_items vs
 
   -- behind an item
   record AgainMoreItems (vs : Items) (i j : ℕ) : Type 0 where
     again : Nodes
     spelled : SpellsMoreItems names u i again j
-    deep : nesting_of again ≡ depth_of vs
+    depth : nesting_of again ≡ tree_nesting_of vs
     same : borrow_items (values_of u again) ≡ borrow_items vs
 
   -- behind `{` at i, up to the place j behind `}`
   record AgainMembers (ms : Members) (i j : ℕ) : Type 0 where
     again : NodeMembers
     spelled : SpellsMembers names u i again j
-    deep : nesting_round_members again ≡ depth_round_members ms
+    depth : nesting_round_members again ≡ tree_nesting_round_members ms
     same : borrow_members (members_of u again) ≡ borrow_members ms
 
   -- behind a member
   record AgainMoreMembers (ms : Members) (i j : ℕ) : Type 0 where
     again : NodeMembers
     spelled : SpellsMoreMembers names u i again j
-    deep : nesting_of_members again ≡ depth_of_members ms
+    depth : nesting_of_members again ≡ tree_nesting_of_members ms
     same : borrow_members (members_of u again) ≡ borrow_members ms
 
   -- a key, the colon right behind it, and the place behind that
@@ -109,14 +111,14 @@ module _ (names : Bool) (u : List ℕ) where
 
   literal-again : (l : Literal) (i j : ℕ) → Stands u i j (word_of l) → Again (literal_tree l) i j
   literal-again name.Null i j h =
-      record { again = literal name.Null i j; begins = refl; ends = refl; spelled = h; deep = refl; same = refl }
+      record { again = literal name.Null i j; begins = refl; ends = refl; spelled = h; depth = refl; same = refl }
   literal-again name.True i j h =
-      record { again = literal name.True i j; begins = refl; ends = refl; spelled = h; deep = refl; same = refl }
+      record { again = literal name.True i j; begins = refl; ends = refl; spelled = h; depth = refl; same = refl }
   literal-again name.False i j h =
-      record { again = literal name.False i j; begins = refl; ends = refl; spelled = h; deep = refl; same = refl }
+      record { again = literal name.False i j; begins = refl; ends = refl; spelled = h; depth = refl; same = refl }
 
   -- a number's print is a number's text, of the same number
-  number-node : (v : Tree) → 0 ≡ depth v → (i j : ℕ) → IsNumber names v → i ≤ length u → Stands u i j (print_of v)
+  number-node : (v : Tree) → 0 ≡ tree_nesting v → (i j : ℕ) → IsNumber names v → i ≤ length u → Stands u i j (print_of v)
       → Again v i j
   number-node v flat i j n w h =
       let again = number-again names n.text n.is_text in
@@ -133,7 +135,7 @@ module _ (names : Bool) (u : List ℕ) where
           within = stands-within u i j _ w h;
           text = subst (IsNumberText names) is text;
         };
-        deep = flat;
+        depth = flat;
         same = ap borrow_tree (ap number_tree (ap number_value (sym is) ∙ value) ∙ n.is);
       }
 
@@ -153,7 +155,7 @@ module _ (names : Bool) (u : List ℕ) where
           begins = refl;
           ends = refl;
           spelled = r.1;
-          deep = refl;
+          depth = refl;
           same = ap (λ (y : List ℕ). tree.string (record { owned = false; bytes = y })) r.2;
         }
     tree-again (tree.array vs) i j s w h =
@@ -164,7 +166,7 @@ module _ (names : Bool) (u : List ℕ) where
           begins = refl;
           ends = refl;
           spelled = (h.0, r.spelled);
-          deep = r.deep;
+          depth = r.depth;
           same = ap tree.array r.same;
         }
     tree-again (tree.object ms) i j s w h =
@@ -175,7 +177,7 @@ module _ (names : Bool) (u : List ℕ) where
           begins = refl;
           ends = refl;
           spelled = (h.0, r.spelled);
-          deep = r.deep;
+          depth = r.depth;
           same = ap tree.object r.same;
         }
 
@@ -183,7 +185,7 @@ module _ (names : Bool) (u : List ℕ) where
     items-again : (vs : Items) (i k j : ℕ) → ArePrintable names vs → Stands u i k (print_items vs)
         → slice_get u k ≡ Some 93 → j ≡ k + 1 → AgainItems vs i j
     items-again tree.no_items i k j s h c e =
-        record { again = no_nodes; spelled = closes_here u i k 93 j h c e; deep = refl; same = refl }
+        record { again = no_nodes; spelled = closes_here u i k 93 j h c e; depth = refl; same = refl }
     items-again (tree.item v vs) i k j s h c e =
         let l = slice_get_within u k 93 c in
         let long = stands-length u i k _ h in
@@ -197,14 +199,14 @@ module _ (names : Bool) (u : List ℕ) where
             a.spelled,
             subst (λ o. SpellsMoreItems names u o r.again j) (sym a.ends) r.spelled,
           );
-          deep = ap₂ (λ p q. suc (max p q)) a.deep r.deep;
+          depth = ap₂ (λ p q. suc (max p q)) a.depth r.depth;
           same = ap₂ tree.item a.same r.same;
         }
 
     more_items-again : (vs : Items) (i k j : ℕ) → ArePrintable names vs → Stands u i k (print_more_items vs)
         → slice_get u k ≡ Some 93 → j ≡ k + 1 → AgainMoreItems vs i j
     more_items-again tree.no_items i k j s h c e =
-        record { again = no_nodes; spelled = closes_here u i k 93 j h c e; deep = refl; same = refl }
+        record { again = no_nodes; spelled = closes_here u i k 93 j h c e; depth = refl; same = refl }
     more_items-again (tree.item v vs) i k j s h c e =
         let l = slice_get_within u i 44 h.0 in
         let parts = stands-split u (i + 1) k (print_of v) (print_more_items vs) h.1 in
@@ -219,7 +221,7 @@ module _ (names : Bool) (u : List ℕ) where
             a.spelled,
             subst (λ o. SpellsMoreItems names u o r.again j) (sym a.ends) r.spelled,
           );
-          deep = ap₂ max a.deep r.deep;
+          depth = ap₂ max a.depth r.depth;
           same = ap₂ tree.item a.same r.same;
         }
 
@@ -227,7 +229,7 @@ module _ (names : Bool) (u : List ℕ) where
     members-again : (ms : Members) (i k j : ℕ) → MembersArePrintable names ms → Stands u i k (print_members ms)
         → slice_get u k ≡ Some 125 → j ≡ k + 1 → AgainMembers ms i j
     members-again tree.no_members i k j s h c e =
-        record { again = no_members; spelled = closes_here u i k 125 j h c e; deep = refl; same = refl }
+        record { again = no_members; spelled = closes_here u i k 125 j h c e; depth = refl; same = refl }
     members-again (tree.member q v ms) i k j s h c e =
         let front = stands-split u i k (print_text q.bytes) (58 ∷ print_of v ++ print_more_members ms) h in
         let l = slice_get_within u i 34 front.1.0 in
@@ -244,14 +246,14 @@ module _ (names : Bool) (u : List ℕ) where
             a.spelled,
             subst (λ o. SpellsMoreMembers names u o r.again j) (sym a.ends) r.spelled,
           );
-          deep = ap₂ (λ p q. suc (max p q)) a.deep r.deep;
+          depth = ap₂ (λ p q. suc (max p q)) a.depth r.depth;
           same = (λ d. tree.member (record { owned = false; bytes = b.same d }) (a.same d) (r.same d));
         }
 
     more_members-again : (ms : Members) (i k j : ℕ) → MembersArePrintable names ms
         → Stands u i k (print_more_members ms) → slice_get u k ≡ Some 125 → j ≡ k + 1 → AgainMoreMembers ms i j
     more_members-again tree.no_members i k j s h c e =
-        record { again = no_members; spelled = closes_here u i k 125 j h c e; deep = refl; same = refl }
+        record { again = no_members; spelled = closes_here u i k 125 j h c e; depth = refl; same = refl }
     more_members-again (tree.member q v ms) i k j s h c e =
         let l = slice_get_within u i 44 h.0 in
         let front = stands-split u (i + 1) k (print_text q.bytes) (58 ∷ print_of v ++ print_more_members ms) h.1 in
@@ -270,7 +272,7 @@ module _ (names : Bool) (u : List ℕ) where
             a.spelled,
             subst (λ o. SpellsMoreMembers names u o r.again j) (sym a.ends) r.spelled,
           );
-          deep = ap₂ max a.deep r.deep;
+          depth = ap₂ max a.depth r.depth;
           same = (λ d. tree.member (record { owned = false; bytes = b.same d }) (a.same d) (r.same d));
         }
 
@@ -307,7 +309,7 @@ printed-again names v fits =
         before = subst (IsBlank u 0) (sym a.begins) (no_blank u 0 (omega arith));
         spelled = a.spelled;
         after = feed-blank w (end a.again) a.ends;
-        limit = subst (λ n. n ≤ nesting_limit) (sym a.deep) fits.1;
+        limit = subst (λ n. n ≤ nesting_limit) (sym a.depth) fits.1;
       },
       a.same,
     )

@@ -16,15 +16,17 @@ use Rattle.jiter_scan.proofs.NumberLaws.{number_at-sound}
 use Rattle.jiter_steps.specs.Answer.{seen_as, trees, nothing_forgiven, answer_in}
 use Rattle.jiter_steps.specs.Literal.{literal_at, literal_tree}
 use Rattle.jiter_steps.specs.Node.{number_tree, nesting_limit}
-use Rattle.jiter_steps.specs.StringReading.{Stop, closed, unclosed, cut, wrong, body_at, Form, whole, kept, raw, raw_kept}
+use Rattle.jiter_steps.specs.StringReading.{Stop, closed, unclosed, cut, wrong, body_at, Form, whole, kept, raw}
+use Rattle.jiter_steps.specs.StringReading.{raw_kept}
 use Rattle.jiter_steps.specs.StringReading.{if_utf8, valid_front_by, valid_front, text_in_form, content_at, string_at}
 use Rattle.jiter_steps.specs.Tree as tree
-use Rattle.jiter_steps.specs.Tree.{Text, Tree, null, boolean, int, string, array, object, Items, no_items, item, items_of}
+use Rattle.jiter_steps.specs.Tree.{Text, Tree, null, boolean, int, string, array, object, Items, no_items, item}
+use Rattle.jiter_steps.specs.Tree.{items_of}
 use Rattle.jiter_steps.specs.Tree.{Members, no_members, member, members_of}
 use Rattle.jiter_steps.specs.declared.parse.Literal.{Literal}
 use Rattle.jiter_steps.specs.declared.parse.Literal.TheVariants as name
 use Rattle.jiter_steps.proofs.StringSound.{IsUtf8-valid, valid-IsUtf8}
-use Rattle.look.proofs.Given.{Takes, Gives, Both, Each, Builds, front_answer-gives, whole_answer-gives}
+use Rattle.look.proofs.Giving.{Takes, Gives, Both, Each, Builds, front_answer-gives, whole_answer-gives}
 
 -- ---- the values
 -- a number's text stands for it
@@ -55,40 +57,40 @@ abbrev mutual
 
 -- how deep containers that are not empty stand one inside another
 abbrev mutual
-  pub depth : Tree → ℕ
-  depth null = 0
-  depth (boolean b) = 0
-  depth (int z) = 0
-  depth (tree.big s) = 0
-  depth (tree.float s) = 0
-  depth (string s) = 0
-  depth (array js) = depth_round js
-  depth (object ms) = depth_round_members ms
+  pub tree_nesting : Tree → ℕ
+  tree_nesting null = 0
+  tree_nesting (boolean b) = 0
+  tree_nesting (int z) = 0
+  tree_nesting (tree.big s) = 0
+  tree_nesting (tree.float s) = 0
+  tree_nesting (string s) = 0
+  tree_nesting (array js) = tree_nesting_round js
+  tree_nesting (object ms) = tree_nesting_round_members ms
 
   -- of a container with these items
-  pub depth_round : Items → ℕ
-  depth_round no_items = 0
-  depth_round (item j js) = suc (max (depth j) (depth_of js))
+  pub tree_nesting_round : Items → ℕ
+  tree_nesting_round no_items = 0
+  tree_nesting_round (item j js) = suc (max (tree_nesting j) (tree_nesting_of js))
 
-  pub depth_of : Items → ℕ
-  depth_of no_items = 0
-  depth_of (item j js) = max (depth j) (depth_of js)
+  pub tree_nesting_of : Items → ℕ
+  tree_nesting_of no_items = 0
+  tree_nesting_of (item j js) = max (tree_nesting j) (tree_nesting_of js)
 
-  pub depth_round_members : Members → ℕ
-  depth_round_members no_members = 0
-  depth_round_members (member k j ms) = suc (max (depth j) (depth_of_members ms))
+  pub tree_nesting_round_members : Members → ℕ
+  tree_nesting_round_members no_members = 0
+  tree_nesting_round_members (member k j ms) = suc (max (tree_nesting j) (tree_nesting_of_members ms))
 
-  pub depth_of_members : Members → ℕ
-  depth_of_members no_members = 0
-  depth_of_members (member k j ms) = max (depth j) (depth_of_members ms)
+  pub tree_nesting_of_members : Members → ℕ
+  tree_nesting_of_members no_members = 0
+  tree_nesting_of_members (member k j ms) = max (tree_nesting j) (tree_nesting_of_members ms)
 
 -- a value that can be printed, with room for it
 abbrev pub Fits : Bool → ℕ → Tree → Type 0
-Fits names room v = IsPrintable names v × (depth v ≤ room)
+Fits names room v = IsPrintable names v × (tree_nesting v ≤ room)
 
 -- inside a container, which needs room itself
 abbrev FitsInside : Bool → ℕ → Tree → Type 0
-FitsInside names room v = IsPrintable names v × (depth v < room)
+FitsInside names room v = IsPrintable names v × (tree_nesting v < room)
 
 abbrev IsText : Text → Type 0
 IsText s = IsUtf8 s.bytes

@@ -7,7 +7,8 @@ use Rattle.jiter_scan.specs.Word.{Extent}
 use Rattle.jiter_steps.specs.Blank.{past_blanks}
 use Rattle.jiter_steps.specs.Literal.{start_of}
 use Rattle.jiter_steps.specs.Node.{nesting_limit}
-use Rattle.jiter_steps.specs.Read.{Reading, done, fault, Rules, Container, scalar_at, with_key, behind_colon, behind_key}
+use Rattle.jiter_steps.specs.Read.{Reading, done, fault, Rules, Container, scalar_at, with_key, behind_colon}
+use Rattle.jiter_steps.specs.Read.{behind_key}
 use Rattle.jiter_steps.specs.Read.{if_forgiven, follow, behind_part, parts_at, container_at, array_of, object_of}
 use Rattle.jiter_steps.specs.Read.{value_with, inside_at, value_at, if_last, to_end, if_begun, front_answer}
 use Rattle.jiter_steps.specs.Read.{whole_answer}
@@ -57,7 +58,8 @@ each-push P (y ∷ ys) x all h = (all.0, each-push P ys x all.1 h)
 module _ {K A : Type 0} (r : Rules K A) (t : List ℕ) where
   -- containers
   module _ {P : Type 0} (c : Container P A) (IsPart : P → Type 0) (Is : A → Type 0)
-      (part : (i : ℕ) → Gives IsPart (c.part i)) (build : (e : ℕ) (ps : List P) → Each IsPart ps → Is (c.build e ps)) where
+      (part : (i : ℕ) → Gives IsPart (c.part i))
+      (build : (e : ℕ) (ps : List P) → Each IsPart ps → Is (c.build e ps)) where
     if_forgiven-gives : (ps : List P) → Each IsPart ps → (k : Kind) (i stop : ℕ)
         → Gives Is (if_forgiven r (λ e. c.build e ps) k i stop)
     if_forgiven-gives ps all k i stop =
