@@ -1,7 +1,9 @@
--- What is printed of a document's value is a document of the same value.
-use Rattle.std.proofs.Common.{◌≡◌, inl, inr, ℕ, suc, ◌+◌, ◌-◌, ◌≤◌, Bool, false, List, [], ◌∷◌, ◌++◌, length, refl, sym}
+-- What is printed of a value that was read is a document of the same value.
+use Rattle.std.proofs.Common.{◌≡◌, inl, inr, ℕ, suc, ◌+◌, ◌-◌, ◌≤◌, Bool, true, false, List, [], ◌∷◌, ◌++◌, length}
+use Rattle.std.proofs.Common.{refl, sym}
 use Rattle.std.proofs.Common.{ap, ap₂, ◌∙◌, subst, arith}
-use Rattle.std.specs.Prelude.{slice_get, slice_range, Option, Some, None, IfSome, max}
+use Rattle.std.specs.Prelude.{slice_get, Option, Some, None, IfSome, max}
+use Rattle.std.specs.Str.{IsUtf8}
 use Rattle.std.proofs.lemmas.List.{length-append, take_at, get_or_push}
 use Rattle.std.proofs.lemmas.Option.{slice_get_within}
 use Rattle.jiter_scan.specs.Number.{IsNumberText, number_value}
@@ -13,13 +15,11 @@ use Rattle.jiter_steps.specs.Node.{Key, Node, literal, number, string, array, ob
 use Rattle.jiter_steps.specs.Node.{NodeMembers, no_members, member, begin, end, StandsBehind, SpellsKey, Spells}
 use Rattle.jiter_steps.specs.Node.{SpellsItems, SpellsMoreItems, SpellsMembers, SpellsMoreMembers, nesting}
 use Rattle.jiter_steps.specs.Node.{nesting_round, nesting_of, nesting_round_members, nesting_of_members, number_tree}
-use Rattle.jiter_steps.specs.Node.{value_of, values_of, members_of, IsDocument}
+use Rattle.jiter_steps.specs.Node.{value_of, values_of, members_of, nesting_limit}
 use Rattle.jiter_steps.specs.Read.{Reading, done, fault}
 use Rattle.jiter_scan.specs.declared.partial_mode.PartialMode.{PartialMode}
-use Rattle.jiter_scan.specs.declared.partial_mode.PartialMode.TheVariants.{Off}
-use Rattle.jiter_steps.specs.Answer.{answer, answer_in}
-use Rattle.jiter_steps.proofs.Documents.{IsRead, answer-is}
-use Rattle.jiter_steps.specs.Piece.{SpellsString, text_of}
+use Rattle.jiter_steps.specs.Answer.{answer_in}
+use Rattle.jiter_steps.specs.Piece.{text_of}
 use Rattle.jiter_steps.specs.Tree as tree
 use Rattle.jiter_steps.specs.Tree.{Text, Tree, Items, Members}
 use Rattle.jiter_steps.specs.declared.parse.Literal.{Literal}
@@ -29,13 +29,10 @@ use Rattle.look.specs.Print.{print_more_members}
 use Rattle.look.specs.Printed.{borrow_tree, borrow_items, borrow_members, IsLineOf, PrintsAgain}
 use Rattle.look.proofs.PrintLawNumbers.{number-again}
 use Rattle.look.proofs.PrintLawStrings.{string-again}
-
--- a literal's print is its word
-literal-again : (u : List ℕ) (i j : ℕ) (l : Literal) → Stands u i j (print_of (literal_tree l))
-    → Stands u i j (word_of l)
-literal-again u i j name.Null h = h
-literal-again u i j name.True h = h
-literal-again u i j name.False h = h
+use Rattle.look.proofs.Giving.{Gives}
+use Rattle.look.proofs.Printable.{IsNumber, IsPrintable, ArePrintable, MembersArePrintable, Fits, answer_in-printable}
+use Rattle.look.proofs.Printable.{tree_nesting, tree_nesting_round, tree_nesting_of, tree_nesting_round_members}
+use Rattle.look.proofs.Printable.{tree_nesting_of_members}
 
 no_blank : (u : List ℕ) (i : ℕ) → i ≤ length u → IsBlank u i i
 no_blank u i h = record { ordered = omega arith; within = h; each = λ k l m. absurd (omega arith) }
@@ -49,56 +46,56 @@ stands_here u i c j h e =
 closes_here : (u : List ℕ) (i k c j : ℕ) → i ≡ k → slice_get u k ≡ Some c → j ≡ k + 1 → StandsBehind u i c j
 closes_here u i k c j same h e = stands_here u i c j (subst (λ o. slice_get u o ≡ Some c) (sym same) h) (omega arith)
 
-module _ (names : Bool) (t u : List ℕ) where
-  -- from i to before j the text u spells what m is in t
-  record Again (m : Node) (i j : ℕ) : Type 0 where
+module _ (names : Bool) (u : List ℕ) where
+  -- from i to before j the text spells v
+  record Again (v : Tree) (i j : ℕ) : Type 0 where
     again : Node
     begins : begin again ≡ i
     ends : end again ≡ j
     spelled : Spells names u again
-    depth : nesting again ≡ nesting m
-    same : borrow_tree (value_of u again) ≡ borrow_tree (value_of t m)
+    depth : nesting again ≡ tree_nesting v
+    same : borrow_tree (value_of u again) ≡ borrow_tree v
 
   -- behind `[` at i, up to the place j behind `]`
-  record AgainItems (ns : Nodes) (i j : ℕ) : Type 0 where
+  record AgainItems (vs : Items) (i j : ℕ) : Type 0 where
     again : Nodes
     spelled : SpellsItems names u i again j
-    depth : nesting_round again ≡ nesting_round ns
-    same : borrow_items (values_of u again) ≡ borrow_items (values_of t ns)
+    depth : nesting_round again ≡ tree_nesting_round vs
+    same : borrow_items (values_of u again) ≡ borrow_items vs
 
   -- behind an item
-  record AgainMoreItems (ns : Nodes) (i j : ℕ) : Type 0 where
+  record AgainMoreItems (vs : Items) (i j : ℕ) : Type 0 where
     again : Nodes
     spelled : SpellsMoreItems names u i again j
-    depth : nesting_of again ≡ nesting_of ns
-    same : borrow_items (values_of u again) ≡ borrow_items (values_of t ns)
+    depth : nesting_of again ≡ tree_nesting_of vs
+    same : borrow_items (values_of u again) ≡ borrow_items vs
 
   -- behind `{` at i, up to the place j behind `}`
-  record AgainMembers (ms : NodeMembers) (i j : ℕ) : Type 0 where
+  record AgainMembers (ms : Members) (i j : ℕ) : Type 0 where
     again : NodeMembers
     spelled : SpellsMembers names u i again j
-    depth : nesting_round_members again ≡ nesting_round_members ms
-    same : borrow_members (members_of u again) ≡ borrow_members (members_of t ms)
+    depth : nesting_round_members again ≡ tree_nesting_round_members ms
+    same : borrow_members (members_of u again) ≡ borrow_members ms
 
   -- behind a member
-  record AgainMoreMembers (ms : NodeMembers) (i j : ℕ) : Type 0 where
+  record AgainMoreMembers (ms : Members) (i j : ℕ) : Type 0 where
     again : NodeMembers
     spelled : SpellsMoreMembers names u i again j
-    depth : nesting_of_members again ≡ nesting_of_members ms
-    same : borrow_members (members_of u again) ≡ borrow_members (members_of t ms)
+    depth : nesting_of_members again ≡ tree_nesting_of_members ms
+    same : borrow_members (members_of u again) ≡ borrow_members ms
 
   -- a key, the colon right behind it, and the place behind that
-  record AgainKey (k : Key) (i j : ℕ) : Type 0 where
+  record AgainKey (k : Text) (i j : ℕ) : Type 0 where
     again : Key
     begins : again.begin ≡ i
     spelled : SpellsKey u again j
-    same : text_of again.pieces ≡ text_of k.pieces
+    same : text_of again.pieces ≡ k.bytes
 
   -- What is printed of a key and its colon is spelled by a key of the same text.
-  key-again : (k : Key) (i j l : ℕ) → SpellsString t k.begin k.pieces k.end
-      → Stands u i j (print_text (text_of k.pieces)) → slice_get u j ≡ Some 58 → l ≡ j + 1 → AgainKey k i l
+  key-again : (k : Text) (i j l : ℕ) → IsUtf8 k.bytes → Stands u i j (print_text k.bytes) → slice_get u j ≡ Some 58
+      → l ≡ j + 1 → AgainKey k i l
   key-again k i j l s h c x =
-      let r = string-again t u k.begin k.end i j k.pieces s h in
+      let r = string-again u i j k.bytes s h in
       let lt = slice_get_within u j 58 c in
       record {
         again = record { pieces = r.0; begin = i; end = j };
@@ -112,48 +109,58 @@ module _ (names : Bool) (t u : List ℕ) where
         same = r.2;
       }
 
-  -- What is printed of a node's value is spelled by a node of the same value.
+  literal-again : (l : Literal) (i j : ℕ) → Stands u i j (word_of l) → Again (literal_tree l) i j
+  literal-again name.Null i j h =
+      record { again = literal name.Null i j; begins = refl; ends = refl; spelled = h; depth = refl; same = refl }
+  literal-again name.True i j h =
+      record { again = literal name.True i j; begins = refl; ends = refl; spelled = h; depth = refl; same = refl }
+  literal-again name.False i j h =
+      record { again = literal name.False i j; begins = refl; ends = refl; spelled = h; depth = refl; same = refl }
+
+  -- a number's print is a number's text, of the same number
+  number-node : (v : Tree) → 0 ≡ tree_nesting v → (i j : ℕ) → IsNumber names v → i ≤ length u → Stands u i j (print_of v)
+      → Again v i j
+  number-node v flat i j n w h =
+      let again = number-again names n.text n.is_text in
+      let text = subst (λ x. IsNumberText names (print_of x)) n.is again.0 in
+      let value = subst (λ x. number_value (print_of x) ≡ number_value n.text) n.is again.1 in
+      let is = slice-stands u i j _ h in
+      let long = stands-length u i j _ h in
+      record {
+        again = number i j;
+        begins = refl;
+        ends = refl;
+        spelled = record {
+          ordered = omega arith;
+          within = stands-within u i j _ w h;
+          text = subst (IsNumberText names) is text;
+        };
+        depth = flat;
+        same = ap borrow_tree (ap number_tree (ap number_value (sym is) ∙ value) ∙ n.is);
+      }
+
+  -- What is printed of a value is spelled by a node of the same value.
   mutual
-    node-again : (m : Node) (i j : ℕ) → Spells names t m → i ≤ length u → Stands u i j (print_of (value_of t m))
-        → Again m i j
-    node-again (literal l b e) i j s w h =
-        record {
-          again = literal l i j;
-          begins = refl;
-          ends = refl;
-          spelled = literal-again u i j l h;
-          depth = refl;
-          same = refl;
-        }
-    node-again (number b e) i j s w h =
-        let r = number-again names (slice_range t b e) s.text in
-        let is = slice-stands u i j _ h in
-        let n = stands-length u i j _ h in
-        record {
-          again = number i j;
-          begins = refl;
-          ends = refl;
-          spelled = record {
-            ordered = omega arith;
-            within = stands-within u i j _ w h;
-            text = subst (IsNumberText names) is r.0;
-          };
-          depth = refl;
-          same = ap (λ x. borrow_tree (number_tree x)) (ap number_value (sym is) ∙ r.1);
-        }
-    node-again (string ps b e) i j s w h =
-        let r = string-again t u b e i j ps s h in
+    tree-again : (v : Tree) (i j : ℕ) → IsPrintable names v → i ≤ length u → Stands u i j (print_of v) → Again v i j
+    tree-again tree.null i j s w h = literal-again name.Null i j h
+    tree-again (tree.boolean true) i j s w h = literal-again name.True i j h
+    tree-again (tree.boolean false) i j s w h = literal-again name.False i j h
+    tree-again (tree.int z) i j s w h = number-node (tree.int z) refl i j s w h
+    tree-again (tree.big x) i j s w h = number-node (tree.big x) refl i j s w h
+    tree-again (tree.float x) i j s w h = number-node (tree.float x) refl i j s w h
+    tree-again (tree.string x) i j s w h =
+        let r = string-again u i j x.bytes s h in
         record {
           again = string r.0 i j;
           begins = refl;
           ends = refl;
           spelled = r.1;
           depth = refl;
-          same = ap (λ (x : List ℕ). tree.string (record { owned = false; bytes = x })) r.2;
+          same = ap (λ (y : List ℕ). tree.string (record { owned = false; bytes = y })) r.2;
         }
-    node-again (array b e ns) i j s w h =
-        let parts = stands-split u (i + 1) j (print_items (values_of t ns)) (93 ∷ []) h.1 in
-        let r = items-again ns (b + 1) e (i + 1) parts.0 j s.1 parts.1 parts.2.0 (sym parts.2.1) in
+    tree-again (tree.array vs) i j s w h =
+        let parts = stands-split u (i + 1) j (print_items vs) (93 ∷ []) h.1 in
+        let r = items-again vs (i + 1) parts.0 j s parts.1 parts.2.0 (sym parts.2.1) in
         record {
           again = array i j r.again;
           begins = refl;
@@ -162,9 +169,9 @@ module _ (names : Bool) (t u : List ℕ) where
           depth = r.depth;
           same = ap tree.array r.same;
         }
-    node-again (object b e ms) i j s w h =
-        let parts = stands-split u (i + 1) j (print_members (members_of t ms)) (125 ∷ []) h.1 in
-        let r = members-again ms (b + 1) e (i + 1) parts.0 j s.1 parts.1 parts.2.0 (sym parts.2.1) in
+    tree-again (tree.object ms) i j s w h =
+        let parts = stands-split u (i + 1) j (print_members ms) (125 ∷ []) h.1 in
+        let r = members-again ms (i + 1) parts.0 j s parts.1 parts.2.0 (sym parts.2.1) in
         record {
           again = object i j r.again;
           begins = refl;
@@ -175,16 +182,16 @@ module _ (names : Bool) (t u : List ℕ) where
         }
 
     -- the items and the bracket behind them
-    items-again : (ns : Nodes) (x y i k j : ℕ) → SpellsItems names t x ns y
-        → Stands u i k (print_items (values_of t ns)) → slice_get u k ≡ Some 93 → j ≡ k + 1 → AgainItems ns i j
-    items-again no_nodes x y i k j s h c e =
+    items-again : (vs : Items) (i k j : ℕ) → ArePrintable names vs → Stands u i k (print_items vs)
+        → slice_get u k ≡ Some 93 → j ≡ k + 1 → AgainItems vs i j
+    items-again tree.no_items i k j s h c e =
         record { again = no_nodes; spelled = closes_here u i k 93 j h c e; depth = refl; same = refl }
-    items-again (node n ns) x y i k j s h c e =
+    items-again (tree.item v vs) i k j s h c e =
         let l = slice_get_within u k 93 c in
         let long = stands-length u i k _ h in
-        let parts = stands-split u i k (print_of (value_of t n)) (print_more_items (values_of t ns)) h in
-        let a = node-again n i parts.0 s.1 (omega arith) parts.1 in
-        let r = more_items-again ns (end n) y parts.0 k j s.2 parts.2 c e in
+        let parts = stands-split u i k (print_of v) (print_more_items vs) h in
+        let a = tree-again v i parts.0 s.0 (omega arith) parts.1 in
+        let r = more_items-again vs parts.0 k j s.1 parts.2 c e in
         record {
           again = node a.again r.again;
           spelled = (
@@ -196,15 +203,15 @@ module _ (names : Bool) (t u : List ℕ) where
           same = ap₂ tree.item a.same r.same;
         }
 
-    more_items-again : (ns : Nodes) (x y i k j : ℕ) → SpellsMoreItems names t x ns y
-        → Stands u i k (print_more_items (values_of t ns)) → slice_get u k ≡ Some 93 → j ≡ k + 1 → AgainMoreItems ns i j
-    more_items-again no_nodes x y i k j s h c e =
+    more_items-again : (vs : Items) (i k j : ℕ) → ArePrintable names vs → Stands u i k (print_more_items vs)
+        → slice_get u k ≡ Some 93 → j ≡ k + 1 → AgainMoreItems vs i j
+    more_items-again tree.no_items i k j s h c e =
         record { again = no_nodes; spelled = closes_here u i k 93 j h c e; depth = refl; same = refl }
-    more_items-again (node n ns) x y i k j s h c e =
+    more_items-again (tree.item v vs) i k j s h c e =
         let l = slice_get_within u i 44 h.0 in
-        let parts = stands-split u (i + 1) k (print_of (value_of t n)) (print_more_items (values_of t ns)) h.1 in
-        let a = node-again n (i + 1) parts.0 s.3 (omega arith) parts.1 in
-        let r = more_items-again ns (end n) y parts.0 k j s.4 parts.2 c e in
+        let parts = stands-split u (i + 1) k (print_of v) (print_more_items vs) h.1 in
+        let a = tree-again v (i + 1) parts.0 s.0 (omega arith) parts.1 in
+        let r = more_items-again vs parts.0 k j s.1 parts.2 c e in
         record {
           again = node a.again r.again;
           spelled = (
@@ -219,20 +226,18 @@ module _ (names : Bool) (t u : List ℕ) where
         }
 
     -- the members and the brace behind them
-    members-again : (ms : NodeMembers) (x y i k j : ℕ) → SpellsMembers names t x ms y
-        → Stands u i k (print_members (members_of t ms)) → slice_get u k ≡ Some 125 → j ≡ k + 1 → AgainMembers ms i j
-    members-again no_members x y i k j s h c e =
+    members-again : (ms : Members) (i k j : ℕ) → MembersArePrintable names ms → Stands u i k (print_members ms)
+        → slice_get u k ≡ Some 125 → j ≡ k + 1 → AgainMembers ms i j
+    members-again tree.no_members i k j s h c e =
         record { again = no_members; spelled = closes_here u i k 125 j h c e; depth = refl; same = refl }
-    members-again (member q n ms) x y i k j s h c e =
-        let front = stands-split u i k (print_text (text_of q.pieces))
-        (58 ∷ print_of (value_of t n) ++ print_more_members (members_of t ms)) h in
+    members-again (tree.member q v ms) i k j s h c e =
+        let front = stands-split u i k (print_text q.bytes) (58 ∷ print_of v ++ print_more_members ms) h in
         let l = slice_get_within u i 34 front.1.0 in
         let colon = slice_get_within u front.0 58 front.2.0 in
-        let parts = stands-split u (front.0 + 1) k (print_of (value_of t n))
-        (print_more_members (members_of t ms)) front.2.1 in
-        let b = key-again q i front.0 (front.0 + 1) s.1.string front.1 front.2.0 refl in
-        let a = node-again n (front.0 + 1) parts.0 s.2 (omega arith) parts.1 in
-        let r = more_members-again ms (end n) y parts.0 k j s.3 parts.2 c e in
+        let parts = stands-split u (front.0 + 1) k (print_of v) (print_more_members ms) front.2.1 in
+        let b = key-again q i front.0 (front.0 + 1) s.0 front.1 front.2.0 refl in
+        let a = tree-again v (front.0 + 1) parts.0 s.1 (omega arith) parts.1 in
+        let r = more_members-again ms parts.0 k j s.2 parts.2 c e in
         record {
           again = member b.again a.again r.again;
           spelled = (
@@ -245,21 +250,18 @@ module _ (names : Bool) (t u : List ℕ) where
           same = (λ d. tree.member (record { owned = false; bytes = b.same d }) (a.same d) (r.same d));
         }
 
-    more_members-again : (ms : NodeMembers) (x y i k j : ℕ) → SpellsMoreMembers names t x ms y
-        → Stands u i k (print_more_members (members_of t ms)) → slice_get u k ≡ Some 125 → j ≡ k + 1
-        → AgainMoreMembers ms i j
-    more_members-again no_members x y i k j s h c e =
+    more_members-again : (ms : Members) (i k j : ℕ) → MembersArePrintable names ms
+        → Stands u i k (print_more_members ms) → slice_get u k ≡ Some 125 → j ≡ k + 1 → AgainMoreMembers ms i j
+    more_members-again tree.no_members i k j s h c e =
         record { again = no_members; spelled = closes_here u i k 125 j h c e; depth = refl; same = refl }
-    more_members-again (member q n ms) x y i k j s h c e =
+    more_members-again (tree.member q v ms) i k j s h c e =
         let l = slice_get_within u i 44 h.0 in
-        let front = stands-split u (i + 1) k (print_text (text_of q.pieces))
-        (58 ∷ print_of (value_of t n) ++ print_more_members (members_of t ms)) h.1 in
+        let front = stands-split u (i + 1) k (print_text q.bytes) (58 ∷ print_of v ++ print_more_members ms) h.1 in
         let colon = slice_get_within u front.0 58 front.2.0 in
-        let parts = stands-split u (front.0 + 1) k (print_of (value_of t n))
-        (print_more_members (members_of t ms)) front.2.1 in
-        let b = key-again q (i + 1) front.0 (front.0 + 1) s.3.string front.1 front.2.0 refl in
-        let a = node-again n (front.0 + 1) parts.0 s.4 (omega arith) parts.1 in
-        let r = more_members-again ms (end n) y parts.0 k j s.5 parts.2 c e in
+        let parts = stands-split u (front.0 + 1) k (print_of v) (print_more_members ms) front.2.1 in
+        let b = key-again q (i + 1) front.0 (front.0 + 1) s.0 front.1 front.2.0 refl in
+        let a = tree-again v (front.0 + 1) parts.0 s.1 (omega arith) parts.1 in
+        let r = more_members-again ms parts.0 k j s.2 parts.2 c e in
         record {
           again = member b.again a.again r.again;
           spelled = (
@@ -296,34 +298,32 @@ feed-blank w e is =
       each = λ k l m. inr (inr (inl (get_or_push w 10 0 k (omega arith))));
     }
 
--- the print of a document's value is a document of the same value, texts compared by their bytes
-document-again : (names : Bool) (t : List ℕ) (m : Node) → IsDocument names t m
-    → IsLineOf names (value_of t m) (with_line_feed (print_of (value_of t m)))
-document-again names t m d =
-    let w = print_of (value_of t m) in
-    let a = node-again names t (with_line_feed w) m 0 (length w) d.spelled (omega arith) (print-stands w) in (
+-- the print of a value that can be printed is a document of the same value, texts compared by their bytes
+printed-again : (names : Bool) (v : Tree) → Fits names nesting_limit v → IsLineOf names v (with_line_feed (print_of v))
+printed-again names v fits =
+    let w = print_of v in
+    let u = with_line_feed w in
+    let a = tree-again names u v 0 (length w) fits.0 (omega arith) (print-stands w) in (
       a.again,
       record {
-        before = subst (IsBlank (with_line_feed w) 0) (sym a.begins) (no_blank (with_line_feed w) 0 (omega arith));
+        before = subst (IsBlank u 0) (sym a.begins) (no_blank u 0 (omega arith));
         spelled = a.spelled;
         after = feed-blank w (end a.again) a.ends;
-        limit = subst (λ n. n ≤ 200) (sym a.depth) d.limit;
+        limit = subst (λ n. n ≤ nesting_limit) (sym a.depth) fits.1;
       },
       a.same,
     )
 
-read-again : (names : Bool) (t : List ℕ) (x : Reading Tree) → IsRead names t x → PrintsAgain names x
-read-again names t (done v e) h =
-    subst (λ v. IsLineOf names v (with_line_feed (print_of v))) h.2 (document-again names t h.0 h.1)
-read-again names t (fault kind i stop) h = tt
+read-again : (names : Bool) (x : Reading Tree) → Gives (Fits names nesting_limit) x → PrintsAgain names x
+read-again names (done v e) h = printed-again names v h
+read-again names (fault kind i stop) h = tt
 
--- What is printed of what was read is a document of the same value.
-pub prints_again : (names : Bool) (t : List ℕ) → PrintsAgain names (answer names t)
-prints_again names t = read-again names t (answer names t) (answer-is names t)
+-- What is printed of what was read, in any mode, is a document of the same value.
+pub prints_again : (names : Bool) (mode : PartialMode) (t : List ℕ) → PrintsAgain names (answer_in names mode t)
+prints_again names mode t = read-again names (answer_in names mode t) (answer_in-printable names mode t)
 
 -- of known bytes, if they are known
-pub prints_again_if_known : (names : Bool) (mode : PartialMode) (known : Option (List ℕ)) → mode ≡ Off
+pub prints_again_if_known : (names : Bool) (mode : PartialMode) (known : Option (List ℕ))
     → IfSome known (λ t. PrintsAgain names (answer_in names mode t))
-prints_again_if_known names mode None off = tt
-prints_again_if_known names mode (Some t) off =
-    subst (λ m. PrintsAgain names (answer_in names m t)) (sym off) (prints_again names t)
+prints_again_if_known names mode None = tt
+prints_again_if_known names mode (Some t) = prints_again names mode t

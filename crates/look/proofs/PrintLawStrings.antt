@@ -3,7 +3,7 @@ use Rattle.std.proofs.Common.{◌≡◌, ◌≢◌, ◌⊎◌, inl, inr, ℕ, �
 use Rattle.std.proofs.Common.{ap, ap₂, ◌∙◌, subst, arith}
 use Rattle.std.specs.Prelude.{codes, flat_map, nat_eq, nat_lt}
 use Rattle.std.specs.Char.{IsScalar, encode_utf8, digit_value}
-use Rattle.std.specs.Str.{all_scalars, encode_utf8_all}
+use Rattle.std.specs.Str.{IsUtf8, all_scalars, encode_utf8_all}
 use Rattle.std.proofs.lemmas.Bool.{cases_lt, cases_eq, ne_eqb, lt-ltb, and_parts}
 use Rattle.std.proofs.lemmas.Bool.Decides.{nat_tests}
 use Rattle.std.proofs.lemmas.List.Concat.{flat_map-append}
@@ -13,7 +13,7 @@ use Rattle.jiter_scan.proofs.Standing.{stands-split}
 use Rattle.jiter_steps.specs.Escape.{is_hex}
 use Rattle.jiter_steps.specs.Piece.{IsUnit, IsPiece, Piece, SpellsPieces, SpellsString, characters, text_of}
 use Rattle.jiter_steps.proofs.Utf8Shape.{lead}
-use Rattle.jiter_steps.proofs.StringComplete.{IsPrinted, ArePrinted, plain-printed, pieces-read}
+use Rattle.jiter_steps.proofs.StringComplete.{IsPrinted, ArePrinted, plain-printed}
 use lib.Utf8.{encode}
 use Rattle.look.specs.Print.{hex_digit, needs_escape, escape_of, print_byte, print_text}
 
@@ -101,10 +101,10 @@ module _ (u : List ℕ) where
       let r = pieces-again cs (i + 1) parts.0 s parts.1 in
       (r.0, record { opens = h.0; close = parts.0; spelled = r.1; closes = parts.2.0; ends = sym parts.2.1 }, r.2)
 
--- What is printed of a string's text is a string of the same text.
-pub string-again : (t u : List ℕ) (b e i j : ℕ) (ps : List Piece) → SpellsString t b ps e
-    → Stands u i j (print_text (text_of ps)) → (qs : List Piece) × SpellsString u i qs j × (text_of qs ≡ text_of ps)
-string-again t u b e i j ps s h =
-    let read = pieces-read t (b + 1) s.close ps s.spelled s.closes in
-    let r = print_text-again u (characters ps) i j read.2 h in
-    (r.0, r.1, ap encode_utf8_all r.2)
+-- What is printed of a text is a string of the same text.
+pub string-again : (u : List ℕ) (i j : ℕ) (w : List ℕ) → IsUtf8 w → Stands u i j (print_text w)
+    → (ps : List Piece) × SpellsString u i ps j × (text_of ps ≡ w)
+string-again u i j w utf8 h =
+    let stands = subst (λ v. Stands u i j (print_text v)) (sym utf8.1.1) h in
+    let r = print_text-again u utf8.0 i j utf8.1.0 stands in
+    (r.0, r.1, ap encode_utf8_all r.2 ∙ utf8.1.1)

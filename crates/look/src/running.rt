@@ -110,9 +110,8 @@ pub fn run<R: Read, O: Write, E: Write>(
     // Where known bytes are left unread nothing was written.
     ensures unread { IsUnread (R.remaining reader.new) → WroteNothing result
         (O.contents out.old) (O.contents out.new) (E.contents err.old) (E.contents err.new) }
-    // With partial reading off a value's line is again a document of the value that was read, under the same
-    // setting.
-    ensures again { mode ≡ PartialMode.Off → IfSome (R.remaining reader.old)
+    // In each mode a value's line is again a document of the value that was read, under the same setting.
+    ensures again { IfSome (R.remaining reader.old)
         (λ text. PrintsAgain inf_nan (answer_in inf_nan mode text)) }
 {
     match read_line(alloc, reader, mode, inf_nan) {

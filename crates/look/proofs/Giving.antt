@@ -1,0 +1,159 @@
+-- What holds of each value that a reading may give.
+use Rattle.std.proofs.Common.{ℕ, zero, suc, ◌+◌, ◌++◌, List, [], ◌∷◌, length}
+use Rattle.std.specs.Prelude.{slice_get, slice_index, Option, Some, None}
+use Rattle.jiter_scan.specs.Kind.{Kind}
+use Rattle.jiter_scan.specs.Scanned.{Scanned, taken, failed}
+use Rattle.jiter_scan.specs.Word.{Extent}
+use Rattle.jiter_steps.specs.Blank.{past_blanks}
+use Rattle.jiter_steps.specs.Literal.{start_of}
+use Rattle.jiter_steps.specs.Node.{nesting_limit}
+use Rattle.jiter_steps.specs.Read.{Reading, done, fault, Rules, Container, scalar_at, with_key, behind_colon}
+use Rattle.jiter_steps.specs.Read.{behind_key}
+use Rattle.jiter_steps.specs.Read.{if_forgiven, follow, behind_part, parts_at, container_at, array_of, object_of}
+use Rattle.jiter_steps.specs.Read.{value_with, inside_at, value_at, if_last, to_end, if_begun, front_answer}
+use Rattle.jiter_steps.specs.Read.{whole_answer}
+use Rattle.jiter_steps.specs.Step.{Step, more, closed, stuck, step, object_colon}
+use Rattle.jiter_steps.specs.declared.parse.Literal.{Literal}
+use Rattle.jiter_steps.specs.declared.parse.Start.{Start}
+use Rattle.jiter_steps.specs.declared.parse.Start.TheVariants as start
+use Rattle.jiter_steps.proofs.Bounds.{either}
+
+-- what is taken is so
+abbrev pub Takes : {A : Type 0} → (A → Type 0) → Scanned A → Type 0
+Takes P (taken a e) = P a
+Takes P (failed k j) = Unit {0}
+
+-- what is read is so
+abbrev pub Gives : {A : Type 0} → (A → Type 0) → Reading A → Type 0
+Gives P (done a e) = P a
+Gives P (fault k i stop) = Unit {0}
+
+-- each element is so
+abbrev pub Each : {A : Type 0} → (A → Type 0) → List A → Type 0
+Each P [] = Unit {0}
+Each P (x ∷ xs) = P x × Each P xs
+
+-- a key is so, and its value
+abbrev pub Both : {K A : Type 0} → (K → Type 0) → (A → Type 0) → K × A → Type 0
+Both IsKey P m = IsKey m.0 × P m.1
+
+-- With this room a value is so, and inside a container that has it. What is scanned is so, and what is built of such
+-- parts.
+pub record Builds {K A : Type 0} (r : Rules K A) (t : List ℕ) (IsKey : K → Type 0) (Is IsInside : ℕ → A → Type 0)
+    : Type 0 where
+  pub literal : (room : ℕ) (l : Literal) (i : ℕ) → Takes (Is room) (r.literal t l i)
+  pub number : (room i : ℕ) → Takes (Is room) (r.number t i)
+  pub text : (room i : ℕ) → Takes (Is room) (r.text t i)
+  pub key : (i : ℕ) → Takes IsKey (r.key t i)
+  pub array : (room b e : ℕ) (items : List A) → Each (IsInside room) items → Is room (r.array b e items)
+  pub object : (room b e : ℕ) (members : List (K × A)) → Each (Both IsKey (IsInside room)) members
+      → Is room (r.object b e members)
+  pub inside : (room : ℕ) (a : A) → Is room a → IsInside (suc room) a
+
+-- one more element
+each-push : {A : Type 0} (P : A → Type 0) (xs : List A) (x : A) → Each P xs → P x → Each P (xs ++ x ∷ [])
+each-push P [] x all h = (h, tt)
+each-push P (y ∷ ys) x all h = (all.0, each-push P ys x all.1 h)
+
+module _ {K A : Type 0} (r : Rules K A) (t : List ℕ) where
+  -- containers
+  module _ {P : Type 0} (c : Container P A) (IsPart : P → Type 0) (Is : A → Type 0)
+      (part : (i : ℕ) → Gives IsPart (c.part i))
+      (build : (e : ℕ) (ps : List P) → Each IsPart ps → Is (c.build e ps)) where
+    if_forgiven-gives : (ps : List P) → Each IsPart ps → (k : Kind) (i stop : ℕ)
+        → Gives Is (if_forgiven r (λ e. c.build e ps) k i stop)
+    if_forgiven-gives ps all k i stop =
+        either (Gives Is) (r.forgives k) (done (c.build stop ps) stop) (fault k i stop) (build stop ps all) tt
+
+    follow-gives : (next : ℕ → Reading A) → ((j : ℕ) → Gives Is (next j)) → (ps : List P) → Each IsPart ps → (s : Step)
+        → Gives Is (follow r next (λ e. c.build e ps) s)
+    follow-gives next each ps all (more j) = each j
+    follow-gives next each ps all (closed e) = build e ps all
+    follow-gives next each ps all (stuck k j) = if_forgiven-gives ps all k j j
+
+    behind_part-gives : (next : List P → ℕ → Reading A)
+        → ((ps : List P) → Each IsPart ps → (j : ℕ) → Gives Is (next ps j))
+        → (ps : List P) → Each IsPart ps → (x : Reading P) → Gives IsPart x → Gives Is (behind_part r c t next ps x)
+    behind_part-gives next each ps all (done p e) h =
+        let longer = each-push IsPart ps p all h in
+        follow-gives (next (ps ++ p ∷ [])) (each (ps ++ p ∷ []) longer) (ps ++ p ∷ []) longer (step t c.next e)
+    behind_part-gives next each ps all (fault k i stop) h = if_forgiven-gives ps all k i stop
+
+    parts_at-gives : (n : ℕ) (ps : List P) → Each IsPart ps → (i : ℕ) → Gives Is (parts_at r c t n ps i)
+    unfolding parts_at
+    parts_at-gives zero ps all i = tt
+    parts_at-gives (suc n) ps all i =
+        behind_part-gives (λ more_parts j. parts_at r c t n more_parts j) (parts_at-gives n) ps all (c.part i) (part i)
+
+    container_at-gives : (i : ℕ) → Gives Is (container_at r c t i)
+    container_at-gives i =
+        follow-gives (parts_at r c t (length t) []) (parts_at-gives (length t) [] tt) [] tt (step t c.first (i + 1))
+
+  -- a member
+  module _ (IsKey : K → Type 0) (Is : A → Type 0) (inner : ℕ → Reading A) (each : (i : ℕ) → Gives Is (inner i)) where
+    with_key-gives : (k : K) → IsKey k → (x : Reading A) → Gives Is x → Gives (Both IsKey Is) (with_key k x)
+    with_key-gives k is (done a e) h = (is, h)
+    with_key-gives k is (fault kind i stop) h = tt
+
+    behind_colon-gives : (k : K) → IsKey k → (x : Extent) → Gives (Both IsKey Is) (behind_colon k inner x)
+    behind_colon-gives k is (taken u j) = with_key-gives k is (inner j) (each j)
+    behind_colon-gives k is (failed kind j) = tt
+
+    behind_key-gives : (i : ℕ) (x : Scanned K) → Takes IsKey x → Gives (Both IsKey Is) (behind_key inner t i x)
+    behind_key-gives i (taken k e) is = behind_colon-gives k is (object_colon t e)
+    behind_key-gives i (failed kind j) is = tt
+
+  scalar_at-gives : (Is : A → Type 0) (i : ℕ) (x : Scanned A) → Takes Is x → Gives Is (scalar_at i x)
+  scalar_at-gives Is i (taken a e) is = is
+  scalar_at-gives Is i (failed k j) is = tt
+
+  module _ (IsKey : K → Type 0) (Is IsInside : ℕ → A → Type 0) (builds : Builds r t IsKey Is IsInside) where
+    value_with-gives : (room : ℕ) (inner : ℕ → Reading A) → ((i : ℕ) → Gives (IsInside room) (inner i)) → (i : ℕ)
+        (s : Start) → Gives (Is room) (value_with r inner t i s)
+    value_with-gives room inner each i start.Array =
+        container_at-gives (array_of r inner t i) (IsInside room) (Is room) each (builds.array room i) i
+    value_with-gives room inner each i start.Object =
+        container_at-gives (object_of r inner t i) (Both IsKey (IsInside room)) (Is room)
+        (λ j. behind_key-gives IsKey (IsInside room) inner each j (r.key t j) (builds.key j)) (builds.object room i) i
+    value_with-gives room inner each i start.String = scalar_at-gives (Is room) i (r.text t i) (builds.text room i)
+    value_with-gives room inner each i start.Number = scalar_at-gives (Is room) i (r.number t i) (builds.number room i)
+    value_with-gives room inner each i (start.Literal l) =
+        scalar_at-gives (Is room) i (r.literal t l i) (builds.literal room l i)
+    value_with-gives room inner each i start.Nothing = tt
+
+    -- a value inside leaves room for the container round it
+    inside-gives : (room : ℕ) (x : Reading A) → Gives (Is room) x → Gives (IsInside (suc room)) x
+    inside-gives room (done a e) h = builds.inside room a h
+    inside-gives room (fault k i stop) h = tt
+
+    inside_at-gives : (room i : ℕ) → Gives (IsInside room) (inside_at r t room i)
+    unfolding inside_at
+    inside_at-gives zero i = tt
+    inside_at-gives (suc room) i =
+        inside-gives room _
+        (value_with-gives room (λ j. inside_at r t room j) (inside_at-gives room) i (start_of (slice_index t i)))
+
+    value_at-gives : (room i : ℕ) → Gives (Is room) (value_at r t room i)
+    value_at-gives room i =
+        value_with-gives room (inside_at r t room) (inside_at-gives room) i (start_of (slice_index t i))
+
+    if_begun-gives : (i : ℕ) (o : Option ℕ) → Gives (Is nesting_limit) (if_begun r t i o)
+    if_begun-gives i None = tt
+    if_begun-gives i (Some c) = value_at-gives nesting_limit i
+
+    -- What a text is read as is so, whatever follows it.
+    pub front_answer-gives : Gives (Is nesting_limit) (front_answer r t)
+    unfolding front_answer
+    front_answer-gives = if_begun-gives (past_blanks t 0) (slice_get t (past_blanks t 0))
+
+    to_end-gives : (x : Reading A) → Gives (Is nesting_limit) x → Gives (Is nesting_limit) (to_end t x)
+    to_end-gives (done a e) h = by (slice_get t (past_blanks t e)) where
+      by : (o : Option ℕ) → Gives (Is nesting_limit) (if_last a e (past_blanks t e) o)
+      by None = h
+      by (Some c) = tt
+    to_end-gives (fault k i stop) h = tt
+
+    -- And so where nothing follows.
+    pub whole_answer-gives : Gives (Is nesting_limit) (whole_answer r t)
+    unfolding whole_answer
+    whole_answer-gives = to_end-gives (front_answer r t) front_answer-gives
