@@ -1,5 +1,5 @@
 -- Blanks: those that reading passes, and those of the grammar.
-use Rattle.std.proofs.Common.{◌≡◌, ℕ, ◌+◌, ◌-◌, ◌<◌, ◌≤◌, inl, inr, true, false, List, length, drop, get_or, IfSome, ap, sym, ◌∙◌, arith}
+use Rattle.std.proofs.Common.{◌≡◌, ℕ, ◌+◌, ◌-◌, ◌<◌, ◌≤◌, inl, inr, true, false, List, length, drop, get_or, IfSome, ap, ◌∙◌, arith}
 use Rattle.std.specs.Prelude.{slice_get, Option, Some, None}
 use Rattle.std.proofs.lemmas.List.{get_or-drop, length-drop}
 use Rattle.std.proofs.lemmas.List.Sums.{prefix_len_is}
@@ -18,6 +18,9 @@ blank-is c (inr (inr (inr e))) = ap is_blank e
 is-blank : (c : ℕ) → is_blank c ≡ true → IsBlankByte c
 is-blank c h = grind (arith, nat_tests, h)
 
+no_blank-above : (c : ℕ) → 32 < c → is_blank c ≡ false
+no_blank-above c h = grind (arith, nat_tests)
+
 module _ (t : List ℕ) where
   -- a byte at a time
   pub past_blanks-blank : (i : ℕ) → i < length t → is_blank (get_or t i 0) ≡ true → past_blanks t i ≡ past_blanks t (i + 1)
@@ -27,6 +30,9 @@ module _ (t : List ℕ) where
   pub past_blanks-other : (i : ℕ) → i < length t → is_blank (get_or t i 0) ≡ false → past_blanks t i ≡ i
   unfolding past_blanks
   past_blanks-other = run_end-stopping is_blank t
+
+  pub past_blanks-above : (i : ℕ) → i < length t → 32 < get_or t i 0 → past_blanks t i ≡ i
+  past_blanks-above i lt above = past_blanks-other i lt (no_blank-above _ above)
 
   pub past_blanks-end : (i : ℕ) → length t ≤ i → past_blanks t i ≡ i
   unfolding past_blanks

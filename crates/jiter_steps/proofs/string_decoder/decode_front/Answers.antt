@@ -1,5 +1,4 @@
-use Rattle.std.proofs.Common.{◌≡◌, ◌∙◌, sym}
-use Rattle.jiter_steps.specs.StringReading.{body_at}
+use Rattle.std.proofs.Common.{◌∙◌, sym}
 use Rattle.jiter_steps.proofs.FrontSteps.{front-closed, front-wrong, front-unclosed, front-cut}
 use Rattle.jiter_steps.proofs.string_decoder.decode_front.Goals as goal
 
