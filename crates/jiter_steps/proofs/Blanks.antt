@@ -18,6 +18,9 @@ blank-is c (inr (inr (inr e))) = ap is_blank e
 is-blank : (c : ℕ) → is_blank c ≡ true → IsBlankByte c
 is-blank c h = grind (arith, nat_tests, h)
 
+no_blank-above : (c : ℕ) → 32 < c → is_blank c ≡ false
+no_blank-above c h = grind (arith, nat_tests)
+
 module _ (t : List ℕ) where
   -- a byte at a time
   pub past_blanks-blank : (i : ℕ) → i < length t → is_blank (get_or t i 0) ≡ true → past_blanks t i ≡ past_blanks t (i + 1)
@@ -27,6 +30,9 @@ module _ (t : List ℕ) where
   pub past_blanks-other : (i : ℕ) → i < length t → is_blank (get_or t i 0) ≡ false → past_blanks t i ≡ i
   unfolding past_blanks
   past_blanks-other = run_end-stopping is_blank t
+
+  pub past_blanks-above : (i : ℕ) → i < length t → 32 < get_or t i 0 → past_blanks t i ≡ i
+  past_blanks-above i lt above = past_blanks-other i lt (no_blank-above _ above)
 
   pub past_blanks-end : (i : ℕ) → length t ≤ i → past_blanks t i ≡ i
   unfolding past_blanks

@@ -1,5 +1,6 @@
 pub mod Alive
 pub mod Answered
+pub mod AsciiTexts
 pub mod Blanks
 pub mod Bodies
 pub mod Bounds

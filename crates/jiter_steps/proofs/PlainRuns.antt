@@ -1,11 +1,11 @@
 -- The plain bytes of a string stand for themselves, up to the first stop.
 use Rattle.std.proofs.Common.{◌≡◌, ◌≢◌, ℕ, zero, suc, ◌+◌, ◌<◌, ◌≤◌, Bool, true, false, not, List, [], ◌++◌, length, drop, refl, sym, ap, ◌∙◌, arith, append_assoc}
-use Rattle.std.specs.Prelude.{slice_get, slice_index, slice_range, Some}
+use Rattle.std.specs.Prelude.{slice_get, slice_range, Some}
 use Rattle.std.specs.List.{prefix_len}
 use Rattle.std.proofs.lemmas.Bool.Decides.{nat_tests}
 use Rattle.std.proofs.lemmas.List.Edits.{between_none}
 use Rattle.jiter_scan.specs.Scan.{is_stop, is_plain, scan_stop}
-use Rattle.jiter_scan.proofs.Runs.{run_end-passing, run_end-stopping, run_end-past, run_end-ahead, run_end-within, run_end-passes, run_end-stops}
+use Rattle.jiter_scan.proofs.Runs.{run_end-ahead, run_end-within, run_end-passes, run_end-stops}
 use Rattle.jiter_steps.specs.StringReading.{part, over, place_at, Stop, Body, before, body_at}
 use Rattle.jiter_steps.proofs.DecodeSteps.{plain_more, part_more, part_over}
 
@@ -25,16 +25,6 @@ stop-again b e = by (is_stop b) e where
   by false h = sym h
 
 module _ (t : List ℕ) where
-  -- at the end there is no stop
-  pub scan_stop_past : (i : ℕ) → length t ≤ i → scan_stop t i ≡ i
-  scan_stop_past = run_end-past is_plain t
-
-  pub scan_stop_here : (i : ℕ) → i < length t → is_stop (slice_index t i) ≡ true → scan_stop t i ≡ i
-  scan_stop_here i h e = run_end-stopping is_plain t i h (ap not e)
-
-  pub scan_stop_more : (i : ℕ) → i < length t → is_stop (slice_index t i) ≡ false → scan_stop t i ≡ scan_stop t (i + 1)
-  scan_stop_more i h e = run_end-passing is_plain t i h (ap not e)
-
   pub scan_stop_within : (i : ℕ) → i ≤ length t → (i ≤ scan_stop t i) × (scan_stop t i ≤ length t)
   scan_stop_within i h = (run_end-ahead is_plain t i, run_end-within is_plain t i h)
 
@@ -99,6 +89,3 @@ module _ (t : List ℕ) where
       let r = run_more old tape next from at to h s w e n in
       let m = part_over t old next from to x r.0 r.1 (sym f) in
       (m.0, sym m.1)
-
--- a scan for the first stop, a byte at a time
-pub ruleset scan_steps = (scan_stop_past, scan_stop_here, scan_stop_more)

@@ -74,8 +74,9 @@ fn is_blank(byte: u8) -> bool
     matches!(byte, b' ' | b'\t' | b'\n' | b'\r')
 }
 
-/// The first byte index from `from` on that has no blank, or the length (RFC 8259, 2).
-pub fn past_blanks(bytes: &[u8], from: usize) -> usize
+// The first byte index from `from` on that has no blank, or the length, byte by byte.
+#[inline(never)]
+fn blanks_end(bytes: &[u8], from: usize) -> usize
     requires { from ≤ length bytes.now }
     ensures value { result ≡ past_blanks bytes.now from }
     ensures bound { result ≤ length bytes.now }
@@ -86,6 +87,20 @@ pub fn past_blanks(bytes: &[u8], from: usize) -> usize
         at += 1;
     }
     at
+}
+
+/// The first byte index from `from` on that has no blank, or the length (RFC 8259, 2).
+#[inline(always)]
+pub fn past_blanks(bytes: &[u8], from: usize) -> usize
+    requires { from ≤ length bytes.now }
+    ensures value { result ≡ past_blanks bytes.now from }
+    ensures bound { result ≤ length bytes.now }
+    ensures after { from ≤ result }
+{
+    if from < bytes.len() && bytes[from] > b' ' {
+        return from;
+    }
+    blanks_end(bytes, from)
 }
 
 /// The byte index behind the literal at `from` (RFC 8259, 3).

@@ -1,7 +1,11 @@
 //! Reading a string (RFC 8259, 7 and 8.1): its own bytes where it has no backslash, or else its text decoded.
-ghost use Rattle.std.specs.Prelude.{◌≡◌, ℕ, Bool, ◌+◌, ◌^◌, ◌<◌, ◌≤◌, ◌++◌, length, true, false, slice_get, slice_range, IfOk, IfErr, IfSome, MatchResult, Some, None};
+ghost use Rattle.std.specs.Prelude.{◌≡◌, ℕ, Bool, ◌+◌, ◌^◌, ◌<◌, ◌≤◌, ◌++◌, length, true, false, slice_get, slice_range, IfOk, IfErr, IfSome, IsTrue, MatchResult, Some, None, drop};
 ghost use Rattle.std.specs.Char.{digit_value, encode_utf8};
-ghost use Rattle.jiter_scan.specs.Scan.{is_stop, scan_stop};
+ghost use Rattle.std.specs.List.{AllPass};
+ghost use Rattle.std.specs.Str.{IsUtf8, IsValidUpTo};
+ghost use Rattle.std.specs.Str.Lossy.{utf8_valid_len, utf8_error_len};
+ghost use Rattle.simdutf8.specs.Error.{valid_up_to, error_len};
+ghost use Rattle.jiter_scan.specs.Scan.{is_stop, is_ascii, scan_stop, IsAsciiTo};
 ghost use Rattle.jiter_scan.specs.Kind.{invalid_code_point};
 ghost use Rattle.jiter_scan.specs.Scanned.{Scans, with_end, taken, failed};
 ghost use Rattle.jiter_steps.specs.Escape.{short_escape, is_hex, is_high, is_low};
@@ -14,7 +18,10 @@ ghost use Rattle.jiter_steps.specs.declared.string_decoder.Ending.TheVariants as
 use crate::read_error::ReadError;
 use jiter_scan::errors::{Fault, FaultKind, fault_at};
 use jiter_scan::memory::{Refused, copy_text, extend};
+use jiter_scan::simd::scan_string;
+use jiter_scan::text::ascii_text;
 use jiter_scan::word::byte_at;
+use simdutf8::compat::Utf8Error;
 use std::alloc::Global;
 use std::borrow::CowStr;
 
@@ -208,24 +215,6 @@ fn place_at(bytes: &[u8], at: usize) -> AtStop
     }
 }
 
-// The first quote, backslash or control character from `from` on, or the length.
-#[tactic(auto, using(crate::proofs::PlainRuns::scan_steps))]
-fn plain_end(bytes: &[u8], from: usize) -> usize
-    requires { from ≤ length bytes.now }
-    ensures stop { result ≡ scan_stop bytes.now from }
-    ensures within { (from ≤ result) × (result ≤ length bytes.now) }
-{
-    let mut at = from;
-    while at < bytes.len() {
-        let byte = bytes[at];
-        if byte == b'"' || byte == b'\\' || byte < 0x20 {
-            return at;
-        }
-        at += 1;
-    }
-    at
-}
-
 fn push_char(tape: &mut Vec<u8>, c: char) -> Result<(), Refused>
     ensures { IfOk result (λ _. tape.new.items ≡ tape.old.items ++ encode_utf8 c) }
 {
@@ -234,36 +223,70 @@ fn push_char(tape: &mut Vec<u8>, c: char) -> Result<(), Refused>
     extend(tape, encoded.as_bytes())
 }
 
-// Adds what stands from `from` on to the tape, decoded: a run of plain bytes and an escape at a time.
+// Adds what stands from `from` on to the tape, decoded: a run of plain bytes and an escape at a time. And
+// whether the tape is then below 80 hex, as far as the runs and the escapes tell, and what it held before.
 #[tactic(auto, using(crate::proofs::PlainRuns::scan_stop_stops))]
-fn decode(tape: &mut Vec<u8>, bytes: &[u8], from: usize) -> Result<Ending, Refused>
-    requires { from ≤ length bytes.now }
+fn decode(
+    tape: &mut Vec<u8>,
+    bytes: &[u8],
+    from: usize,
+    ascii: bool,
+) -> Result<(Ending, bool), Refused>
+    requires within { from ≤ length bytes.now }
+    requires ascii { IsTrue ascii → AllPass is_ascii tape.old.items }
     ensures text { IfOk result (λ _. tape.new.items
         ≡ tape.old.items ++ (body_at bytes.now from).bytes) }
-    ensures stop { IfOk result (λ ending. stop_view ending ≡ (body_at bytes.now from).stop) }
+    ensures stop { IfOk result (λ r. stop_view r.0 ≡ (body_at bytes.now from).stop) }
+    ensures ascii { IfOk result (λ r. IsTrue r.1 → AllPass is_ascii tape.new.items) }
 {
     let mut at = from;
+    let mut clean = ascii;
     loop {
-        let to = plain_end(bytes, at);
+        let (to, plain) = scan_string(bytes, at);
         extend(tape, &bytes[at..to])?;
+        clean = clean & plain;
         match place_at(bytes, to) {
             AtStop::Escape(c, end) => {
                 push_char(tape, c)?;
+                clean = clean & c.is_ascii();
                 at = end;
             }
-            AtStop::End(ending) => return Ok(ending),
+            AtStop::End(ending) => return Ok((ending, clean)),
         }
+    }
+}
+
+// The bytes as a text: with no look at them where all are known to be below 80 hex, else tested.
+#[inline(always)]
+fn text_of(bytes: &[u8], ascii: bool) -> Result<&str, Utf8Error>
+    requires { IsTrue ascii → AllPass is_ascii bytes.now }
+    ensures cases { MatchResult result (λ text. (text.now ≡ bytes.now) × IsUtf8 bytes.now)
+        (λ e. ¬ (IsUtf8 bytes.now) × IsValidUpTo bytes.now (valid_up_to e)) }
+    ensures valid { IfErr result (λ e. valid_up_to e ≡ utf8_valid_len bytes.now) }
+    ensures rest { IfErr result
+        (λ e. error_len e ≡ utf8_error_len (drop (valid_up_to e) bytes.now)) }
+{
+    if ascii {
+        Ok(ascii_text(bytes))
+    } else {
+        simdutf8::compat::from_utf8(bytes)
     }
 }
 
 // The text of a string with no backslash, whose closing quote is at `to`.
 #[tactic(auto, using(crate::proofs::DecodeSteps::checked_text))]
-fn borrow_text<'j>(bytes: &'j [u8], from: usize, to: usize) -> Result<(CowStr<'j>, usize), Fault>
-    requires { (from ≤ to) × (to < length bytes.now) }
+fn borrow_text<'j>(
+    bytes: &'j [u8],
+    from: usize,
+    to: usize,
+    ascii: bool,
+) -> Result<(CowStr<'j>, usize), Fault>
+    requires within { (from ≤ to) × (to < length bytes.now) }
+    requires ascii { IsTrue ascii → IsAsciiTo bytes.now from to }
     ensures { Scans (with_end text_view) result
         (if_utf8 from false (slice_range bytes.now from to) (to + 1)) }
 {
-    match simdutf8::compat::from_utf8(&bytes[from..to]) {
+    match text_of(&bytes[from..to], ascii) {
         Ok(text) => Ok((CowStr::Borrowed(text), to + 1)),
         Err(e) => Err(Fault {
             kind: FaultKind::InvalidUnicodeCodePoint,
@@ -277,14 +300,16 @@ fn borrow_text<'j>(bytes: &'j [u8], from: usize, to: usize) -> Result<(CowStr<'j
 fn own_text<'j>(
     alloc: Global,
     bytes: &[u8],
+    ascii: bool,
     from: usize,
     end: usize,
 ) -> Result<(CowStr<'j>, usize), ReadError>
-    requires { from + length bytes.now < 2 ^ 64 }
+    requires fits { from + length bytes.now < 2 ^ 64 }
+    requires ascii { IsTrue ascii → AllPass is_ascii bytes.now }
     ensures { UnlessRefused result (λ r. Scans (with_end text_view) r
         (if_utf8 from true bytes.now end)) }
 {
-    match simdutf8::compat::from_utf8(bytes) {
+    match text_of(bytes, ascii) {
         Ok(text) => match copy_text(alloc, text) {
             Ok(own) => Ok((CowStr::Owned(own), end)),
             Err(refused) => Err(ReadError::Memory(refused)),
@@ -296,16 +321,25 @@ fn own_text<'j>(
     }
 }
 
-// The tape's bytes of a content that begins at `from`, and how it ends there.
-fn decode_from(tape: &mut Vec<u8>, bytes: &[u8], from: usize, to: usize) -> Result<Ending, Refused>
+// The tape's bytes of a content that begins at `from`, and how it ends there; and whether they are below 80
+// hex, as far as is known, where those to before `to` are.
+fn decode_from(
+    tape: &mut Vec<u8>,
+    bytes: &[u8],
+    from: usize,
+    to: usize,
+    ascii: bool,
+) -> Result<(Ending, bool), Refused>
     requires within { from ≤ length bytes.now }
     requires stop { to ≡ scan_stop bytes.now from }
+    requires ascii { IsTrue ascii → IsAsciiTo bytes.now from to }
     ensures text { IfOk result (λ _. tape.new.items ≡ (body_at bytes.now from).bytes) }
-    ensures stop { IfOk result (λ ending. stop_view ending ≡ (body_at bytes.now from).stop) }
+    ensures stop { IfOk result (λ r. stop_view r.0 ≡ (body_at bytes.now from).stop) }
+    ensures ascii { IfOk result (λ r. IsTrue r.1 → AllPass is_ascii tape.new.items) }
 {
     tape.clear();
     extend(tape, &bytes[from..to])?;
-    decode(tape, bytes, to)
+    decode(tape, bytes, to, ascii)
 }
 
 // The input ends inside the string.
@@ -329,18 +363,20 @@ fn decode_text<'j>(
     bytes: &'j [u8],
     at: usize,
     to: usize,
+    ascii: bool,
 ) -> Result<(CowStr<'j>, usize), ReadError>
     requires within { at < length bytes.now }
     requires stop { to ≡ scan_stop bytes.now (at + 1) }
     requires backslash { slice_get bytes.now to ≡ Some 92 }
+    requires ascii { IsTrue ascii → IsAsciiTo bytes.now (at + 1) to }
     ensures { UnlessRefused result (λ r. Scans (with_end text_view) r
         (string_at whole bytes.now at)) }
 {
-    match decode_from(tape, bytes, at + 1, to) {
-        Ok(Ending::Closed(end)) => own_text(alloc, tape.as_slice(), at + 1, end),
-        Ok(Ending::Wrong(fault)) => Err(ReadError::Fault(fault)),
-        Ok(Ending::Unclosed) => Err(ReadError::Fault(cut_short(bytes))),
-        Ok(Ending::Cut) => Err(ReadError::Fault(cut_short(bytes))),
+    match decode_from(tape, bytes, at + 1, to, ascii) {
+        Ok((Ending::Closed(end), clean)) => own_text(alloc, tape.as_slice(), clean, at + 1, end),
+        Ok((Ending::Wrong(fault), _)) => Err(ReadError::Fault(fault)),
+        Ok((Ending::Unclosed, _)) => Err(ReadError::Fault(cut_short(bytes))),
+        Ok((Ending::Cut, _)) => Err(ReadError::Fault(cut_short(bytes))),
         Err(refused) => Err(ReadError::Memory(refused)),
     }
 }
@@ -364,14 +400,14 @@ pub fn string_at<'j>(
     ensures advances { IfOk result (λ x. (at < x.1) × (x.1 ≤ length bytes.now)) }
     ensures memory { WhereRefused result (WantsMemory bytes.now at) }
 {
-    let to = plain_end(bytes, at + 1);
+    let (to, ascii) = scan_string(bytes, at + 1);
     match byte_at(bytes, to) {
         None => Err(ReadError::Fault(cut_short(bytes))),
-        Some(b'"') => match borrow_text(bytes, at + 1, to) {
+        Some(b'"') => match borrow_text(bytes, at + 1, to, ascii) {
             Ok(text) => Ok(text),
             Err(fault) => Err(ReadError::Fault(fault)),
         },
-        Some(b'\\') => decode_text(alloc, tape, bytes, at, to),
+        Some(b'\\') => decode_text(alloc, tape, bytes, at, to, ascii),
         Some(_) => Err(ReadError::Fault(Fault {
             kind: FaultKind::ControlCharacterWhileParsingString,
             index: to,
@@ -382,13 +418,14 @@ pub fn string_at<'j>(
 // The bytes as a text, without an unfinished character at their end; or how many are right before one that is
 // wrong.
 #[tactic(auto, using(crate::proofs::FrontTexts::kept_whole, crate::proofs::FrontTexts::kept_front, crate::proofs::FrontTexts::kept_wrong))]
-fn front_text(content: &[u8]) -> Result<&str, usize>
+fn front_text(content: &[u8], ascii: bool) -> Result<&str, usize>
+    requires { IsTrue ascii → AllPass is_ascii content.now }
     ensures value { (i e : ℕ) → (owned : Bool) → MatchResult result
         (λ text. valid_front i owned content.now e ≡ taken (record { owned = owned; bytes = text.now }) e)
         (λ n. valid_front i owned content.now e ≡ failed invalid_code_point (i + n)) }
     ensures within { IfErr result (λ n. n ≤ length content.now) }
 {
-    match simdutf8::compat::from_utf8(content) {
+    match text_of(content, ascii) {
         Ok(text) => Ok(text),
         Err(e) => match e.error_len() {
             None => match simdutf8::compat::from_utf8(&content[..e.valid_up_to()]) {
@@ -406,12 +443,14 @@ fn borrow_front<'j>(
     from: usize,
     to: usize,
     end: usize,
+    ascii: bool,
 ) -> Result<(CowStr<'j>, usize), Fault>
-    requires { (from ≤ to) × (to ≤ length bytes.now) }
+    requires within { (from ≤ to) × (to ≤ length bytes.now) }
+    requires ascii { IsTrue ascii → IsAsciiTo bytes.now from to }
     ensures { Scans (with_end text_view) result
         (valid_front from false (slice_range bytes.now from to) end) }
 {
-    match front_text(&bytes[from..to]) {
+    match front_text(&bytes[from..to], ascii) {
         Ok(text) => Ok((CowStr::Borrowed(text), end)),
         Err(right) => Err(Fault {
             kind: FaultKind::InvalidUnicodeCodePoint,
@@ -424,14 +463,16 @@ fn borrow_front<'j>(
 fn own_front<'j>(
     alloc: Global,
     bytes: &[u8],
+    ascii: bool,
     from: usize,
     end: usize,
 ) -> Result<(CowStr<'j>, usize), ReadError>
-    requires { from + length bytes.now < 2 ^ 64 }
+    requires fits { from + length bytes.now < 2 ^ 64 }
+    requires ascii { IsTrue ascii → AllPass is_ascii bytes.now }
     ensures { UnlessRefused result (λ r. Scans (with_end text_view) r
         (valid_front from true bytes.now end)) }
 {
-    match front_text(bytes) {
+    match front_text(bytes, ascii) {
         Ok(text) => match copy_text(alloc, text) {
             Ok(own) => Ok((CowStr::Owned(own), end)),
             Err(refused) => Err(ReadError::Memory(refused)),
@@ -450,18 +491,26 @@ fn decode_front<'j>(
     bytes: &'j [u8],
     at: usize,
     to: usize,
+    ascii: bool,
 ) -> Result<(CowStr<'j>, usize), ReadError>
     requires within { at < length bytes.now }
     requires stop { to ≡ scan_stop bytes.now (at + 1) }
     requires backslash { slice_get bytes.now to ≡ Some 92 }
+    requires ascii { IsTrue ascii → IsAsciiTo bytes.now (at + 1) to }
     ensures { UnlessRefused result (λ r. Scans (with_end text_view) r
         (string_at kept bytes.now at)) }
 {
-    match decode_from(tape, bytes, at + 1, to) {
-        Ok(Ending::Closed(end)) => own_front(alloc, tape.as_slice(), at + 1, end),
-        Ok(Ending::Wrong(fault)) => Err(ReadError::Fault(fault)),
-        Ok(Ending::Unclosed) => own_front(alloc, tape.as_slice(), at + 1, bytes.len()),
-        Ok(Ending::Cut) => own_front(alloc, tape.as_slice(), at + 1, bytes.len()),
+    match decode_from(tape, bytes, at + 1, to, ascii) {
+        Ok((Ending::Closed(end), clean)) => own_front(alloc, tape.as_slice(), clean, at + 1, end),
+        Ok((Ending::Wrong(fault), _)) => Err(ReadError::Fault(fault)),
+        Ok((Ending::Unclosed, clean)) => own_front(
+            alloc,
+            tape.as_slice(),
+            clean,
+            at + 1,
+            bytes.len(),
+        ),
+        Ok((Ending::Cut, clean)) => own_front(alloc, tape.as_slice(), clean, at + 1, bytes.len()),
         Err(refused) => Err(ReadError::Memory(refused)),
     }
 }
@@ -480,17 +529,17 @@ pub fn string_front_at<'j>(
     ensures advances { IfOk result (λ x. (at < x.1) × (x.1 ≤ length bytes.now)) }
     ensures memory { WhereRefused result (WantsMemory bytes.now at) }
 {
-    let to = plain_end(bytes, at + 1);
+    let (to, ascii) = scan_string(bytes, at + 1);
     match byte_at(bytes, to) {
-        None => match borrow_front(bytes, at + 1, to, to) {
+        None => match borrow_front(bytes, at + 1, to, to, ascii) {
             Ok(text) => Ok(text),
             Err(fault) => Err(ReadError::Fault(fault)),
         },
-        Some(b'"') => match borrow_front(bytes, at + 1, to, to + 1) {
+        Some(b'"') => match borrow_front(bytes, at + 1, to, to + 1, ascii) {
             Ok(text) => Ok(text),
             Err(fault) => Err(ReadError::Fault(fault)),
         },
-        Some(b'\\') => decode_front(alloc, tape, bytes, at, to),
+        Some(b'\\') => decode_front(alloc, tape, bytes, at, to, ascii),
         Some(_) => Err(ReadError::Fault(fault_at(
             FaultKind::ControlCharacterWhileParsingString,
             to,

@@ -3,53 +3,69 @@ use Rattle.std.specs.Prelude.{slice_range}
 use Rattle.std.specs.Char.{encode_utf8}
 use Rattle.std.proofs.lemmas.Grind.{common_steps}
 use Rattle.jiter_steps.specs.StringDecoder.{stop_view}
+use Rattle.jiter_steps.proofs.AsciiTexts.{ascii-run, ascii-more}
 use Rattle.jiter_steps.proofs.PlainRuns.{decode_more, decode_over}
 use Rattle.jiter_steps.proofs.string_decoder.decode.Goals as goal
 
-pub loop-c-smaller : goal.loop-c-smaller
-loop-c-smaller c =
-    let l = c.loop-c in
+pub loop-clean-smaller : goal.loop-clean-smaller
+loop-clean-smaller c =
+    let l = c.loop-clean in
     let t = c.args.bytes.now in
-    let tape : c.extend.new.bytes.items ≡ l.tape.items ++ slice_range t l.at c.plain_end-to.result =
+    let tape : c.extend.new.bytes.items ≡ l.tape.items ++ slice_range t l.at c.scan_string-to.result.0 =
     grind (arith, common_steps) in
     let m = decode_more t c.args.tape.now.items l.tape.items c.extend.new.bytes.items c.push_char.new.tape.items
-    (encode_utf8 c.in-Escape.c) c.args.from l.at c.plain_end-to.result c.in-Escape.end l.invariant.text
-    l.invariant.stop l.invariant.within c.plain_end-to.ensures.stop tape c.in-Escape.ensures
+    (encode_utf8 c.in-Escape.c) c.args.from l.at c.scan_string-to.result.0 c.in-Escape.end l.invariant.text
+    l.invariant.stop l.invariant.within c.scan_string-to.ensures.stop tape c.in-Escape.ensures
     c.in_ok-push_char-in-Escape.ensures in
     omega (arith, m.2, m.3)
 
-pub loop-c-preserved : goal.loop-c-preserved
-loop-c-preserved c =
-    let l = c.loop-c in
+pub loop-clean-preserved : goal.loop-clean-preserved
+loop-clean-preserved c =
+    let l = c.loop-clean in
     let t = c.args.bytes.now in
-    let tape : c.extend.new.bytes.items ≡ l.tape.items ++ slice_range t l.at c.plain_end-to.result =
+    let tape : c.extend.new.bytes.items ≡ l.tape.items ++ slice_range t l.at c.scan_string-to.result.0 =
     grind (arith, common_steps) in
     let m = decode_more t c.args.tape.now.items l.tape.items c.extend.new.bytes.items c.push_char.new.tape.items
-    (encode_utf8 c.in-Escape.c) c.args.from l.at c.plain_end-to.result c.in-Escape.end l.invariant.text
-    l.invariant.stop l.invariant.within c.plain_end-to.ensures.stop tape c.in-Escape.ensures
+    (encode_utf8 c.in-Escape.c) c.args.from l.at c.scan_string-to.result.0 c.in-Escape.end l.invariant.text
+    l.invariant.stop l.invariant.within c.scan_string-to.ensures.stop tape c.in-Escape.ensures
     c.in_ok-push_char-in-Escape.ensures in
-    record { text = m.0; stop = m.1; within = m.3 }
+    record {
+      ascii = ascii-more l.clean c.scan_string-to.result.1 c.is_ascii-clean.result l.tape.items _ c.extend.new.bytes.items
+          c.push_char.new.tape.items c.in-Escape.c l.invariant.ascii c.scan_string-to.ensures.ascii.0 tape
+          c.is_ascii-clean.ensures c.in_ok-push_char-in-Escape.ensures;
+      text = m.0;
+      stop = m.1;
+      within = m.3;
+    }
 
 pub returns-in-End-clause-text : goal.returns-in-End-clause-text
 returns-in-End-clause-text c =
-    let l = c.loop-c in
+    let l = c.loop-clean in
     let t = c.args.bytes.now in
-    let tape : c.extend.new.bytes.items ≡ l.tape.items ++ slice_range t l.at c.plain_end-to.result =
+    let tape : c.extend.new.bytes.items ≡ l.tape.items ++ slice_range t l.at c.scan_string-to.result.0 =
     grind (arith, common_steps) in
     let m = decode_over t c.args.tape.now.items l.tape.items c.extend.new.bytes.items c.args.from l.at
-    c.plain_end-to.result
-    (stop_view c.in-End.ending) l.invariant.text l.invariant.stop l.invariant.within c.plain_end-to.ensures.stop
+    c.scan_string-to.result.0
+    (stop_view c.in-End.ending) l.invariant.text l.invariant.stop l.invariant.within c.scan_string-to.ensures.stop
     tape c.in-End.ensures in
     m.0
 
 pub returns-in-End-clause-stop : goal.returns-in-End-clause-stop
 returns-in-End-clause-stop c =
-    let l = c.loop-c in
+    let l = c.loop-clean in
     let t = c.args.bytes.now in
-    let tape : c.extend.new.bytes.items ≡ l.tape.items ++ slice_range t l.at c.plain_end-to.result =
+    let tape : c.extend.new.bytes.items ≡ l.tape.items ++ slice_range t l.at c.scan_string-to.result.0 =
     grind (arith, common_steps) in
     let m = decode_over t c.args.tape.now.items l.tape.items c.extend.new.bytes.items c.args.from l.at
-    c.plain_end-to.result
-    (stop_view c.in-End.ending) l.invariant.text l.invariant.stop l.invariant.within c.plain_end-to.ensures.stop
+    c.scan_string-to.result.0
+    (stop_view c.in-End.ending) l.invariant.text l.invariant.stop l.invariant.within c.scan_string-to.ensures.stop
     tape c.in-End.ensures in
     m.1
+
+pub returns-in-End-clause-ascii : goal.returns-in-End-clause-ascii
+returns-in-End-clause-ascii c =
+    let l = c.loop-clean in
+    let tape : c.extend.new.bytes.items ≡ l.tape.items ++ slice_range c.args.bytes.now l.at c.scan_string-to.result.0 =
+    grind (arith, common_steps) in
+    ascii-run l.clean c.scan_string-to.result.1 l.tape.items _ c.extend.new.bytes.items l.invariant.ascii
+    c.scan_string-to.ensures.ascii.0 tape

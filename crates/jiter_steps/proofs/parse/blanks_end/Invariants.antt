@@ -1,6 +1,6 @@
 use Rattle.std.proofs.Common.{length, ◌-◌, ◌≡◌, ◌≤◌}
 use Rattle.jiter_steps.specs.Blank.{past_blanks}
-use Rattle.jiter_steps.proofs.parse.past_blanks.Given as goal
+use Rattle.jiter_steps.proofs.parse.blanks_end.Given as goal
 
 abbrev pub invariant-loop-at : goal.invariant-loop-at
 invariant-loop-at l =
