@@ -4,7 +4,7 @@
 pub use jiter_scan::{
     JsonError, JsonErrorType, JsonResult, LinePosition, NumberAny, NumberInt, PartialMode,
 };
-pub use jiter_value::{JsonArray, JsonObject, JsonValue};
+pub use jiter_value::{JsonArray, JsonObject, JsonValue, Machine, Turn};
 
 #[cfg(test)]
 mod tests;

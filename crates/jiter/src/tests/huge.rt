@@ -30,7 +30,7 @@ fn ten_million_bytes_of_items_are_read(rt: HostRuntime) -> Result<(), Fail> {
     let text = "7,".repeat(alloc, TEN_MILLION / 2)?;
     let text = format!(in alloc; "[{text}7]")?;
     let value = JsonValue::parse(alloc, text.as_bytes(), false)?;
-    let JsonValue::Array(items) = value else {
+    let JsonValue::Array(items) = &value else {
         return Err("no array".into());
     };
     assert_eq!(rt; items.len(), TEN_MILLION / 2 + 1);
@@ -46,7 +46,7 @@ fn ten_million_bytes_of_members_are_read(rt: HostRuntime) -> Result<(), Fail> {
     let text = "\"k\":7,".repeat(alloc, TEN_MILLION / 6)?;
     let text = format!(in alloc; "{{{text}\"k\":7}}")?;
     let value = JsonValue::parse(alloc, text.as_bytes(), false)?;
-    let JsonValue::Object(members) = value else {
+    let JsonValue::Object(members) = &value else {
         return Err("no object".into());
     };
     assert_eq!(rt; members.len(), TEN_MILLION / 6 + 1);
@@ -66,7 +66,8 @@ fn ten_million_bytes_of_a_string_are_read(rt: HostRuntime) -> Result<(), Fail> {
     ] {
         let times = TEN_MILLION / letter.len().max(1);
         let source = format!(in alloc; "\"{}\"", letter.repeat(alloc, times)?)?;
-        let JsonValue::Str(decoded) = JsonValue::parse(alloc, source.as_bytes(), false)? else {
+        let value = JsonValue::parse(alloc, source.as_bytes(), false)?;
+        let JsonValue::Str(decoded) = &value else {
             return Err("no string".into());
         };
         assert_eq!(rt; matches!(decoded, CowStr::Owned(_)), owned);
@@ -86,7 +87,8 @@ fn ten_million_digits_are_read(rt: HostRuntime) -> Result<(), Fail> {
         let text = format!(in alloc; "{front}{digits}")?;
         let number = NumberAny::from_bytes(text.as_bytes(), false)?;
         assert!(rt; number == NumberAny::Float(text.as_str()), "{front}");
-        let JsonValue::Float(seen) = JsonValue::parse(alloc, text.as_bytes(), false)? else {
+        let value = JsonValue::parse(alloc, text.as_bytes(), false)?;
+        let JsonValue::Float(seen) = &value else {
             return Err("no float".into());
         };
         assert!(rt; seen.as_str() == text.as_str(), "{front}");

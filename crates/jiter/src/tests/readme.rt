@@ -1,7 +1,7 @@
 //! The examples of README.md, with what each prints, and each name that this crate exports.
 use crate::{
-    JsonArray, JsonError, JsonErrorType, JsonObject, JsonResult, JsonValue, LinePosition,
-    NumberAny, NumberInt, PartialMode,
+    JsonArray, JsonError, JsonErrorType, JsonObject, JsonResult, JsonValue, LinePosition, Machine,
+    NumberAny, NumberInt, PartialMode, Turn,
 };
 use std::alloc::{AllocError, Global};
 use std::borrow::CowStr;
@@ -9,7 +9,7 @@ use std::test::*;
 
 // A whole document, word for word.
 fn told(alloc: Global, bytes: &[u8]) -> Result<String, AllocError> {
-    match JsonValue::parse(alloc, bytes, false) {
+    match &JsonValue::parse(alloc, bytes, false) {
         Ok(JsonValue::Array(items)) => format!(in alloc; "an array of {}", items.len()),
         Ok(JsonValue::Object(members)) => format!(in alloc; "an object of {}", members.len()),
         Ok(_) => String::from_str(alloc, "a scalar"),
@@ -28,6 +28,36 @@ fn a_document_is_told(rt: HostRuntime) -> Result<(), Fail> {
         assert_eq!(rt; told(rt.alloc(), text.as_bytes())?.as_str(), wanted);
     }
     Ok(())
+}
+
+// How many items have arrived; none, where the bytes are no array yet.
+fn items_arrived(alloc: Global, bytes: &[u8]) -> usize {
+    match &JsonValue::parse_with_config(alloc, bytes, false, PartialMode::TrailingStrings) {
+        Ok(JsonValue::Array(items)) => items.len(),
+        _ => 0,
+    }
+}
+
+#[test]
+fn a_document_arrives_in_pieces(rt: HostRuntime) {
+    let document = b"[12, \"a b\", {\"k\": tru";
+    for (length, items) in [
+        (0, 0),
+        (1, 0),
+        (2, 1),
+        (5, 1),
+        (6, 2),
+        (11, 2),
+        (12, 2),
+        (13, 3),
+        (21, 3),
+    ] {
+        assert_eq!(rt;
+            items_arrived(rt.alloc(), &document[..length]),
+            items,
+            "{length}"
+        );
+    }
 }
 
 // A number alone; each arm makes the line that README's prints.
@@ -75,6 +105,8 @@ fn each_name_stands_for_its_own_type(rt: HostRuntime) -> Result<(), Fail> {
     let position: LinePosition = error.get_position(b"1e");
     assert_eq!(rt; (position.line, position.column), (1, 2));
     assert_eq!(rt; PartialMode::default(), PartialMode::Off);
+    let machine: Machine<'_> = Machine::new(alloc, b"12", false, PartialMode::Off);
+    assert!(rt; matches!(&machine.turn(), Turn::Done(Ok(JsonValue::Int(12)))));
     let items: JsonArray<'_> = vec![in alloc; JsonValue::Null]?;
     let members: JsonObject<'_> = vec![in alloc; (CowStr::Borrowed("a"), JsonValue::Array(items))]?;
     let value: JsonValue<'_> = JsonValue::Object(members);
