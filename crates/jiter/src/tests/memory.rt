@@ -55,14 +55,14 @@ impl Held {
 // whether one request was refused behind the item that begins at `last`.
 fn refusals_are_told(
     alloc: Global,
-    held: &mut Held,
     bytes: &[u8],
     mode: PartialMode,
     wanted: &str,
     last: usize,
 ) -> Result<bool, Fail> {
+    let mut held = Held::all(alloc)?;
     let mut refused_in_last = false;
-    for steps in 0..256usize {
+    for steps in 0..128usize {
         held.leave(alloc, 16 * steps)?;
         let answer = JsonValue::parse_with_config(alloc, bytes, false, mode);
         held.give_back(alloc);
@@ -84,7 +84,6 @@ fn each_refused_request_is_told(rt: HostRuntime) -> Result<(), Fail> {
     let alloc = rt.alloc();
     let whole = br#"[1,["a\nb"],{"k":"\u0061"}]"#.as_slice();
     let front = br#"[1,["a\nb"],{"k":"\u0061","l":["\n"#.as_slice();
-    let mut held = Held::all(alloc)?;
     for (bytes, mode, wanted) in [
         (
             whole,
@@ -109,7 +108,7 @@ fn each_refused_request_is_told(rt: HostRuntime) -> Result<(), Fail> {
         ),
     ] {
         // The third item begins at index 12.
-        let told = refusals_are_told(alloc, &mut held, bytes, mode, wanted, 12)?;
+        let told = refusals_are_told(alloc, bytes, mode, wanted, 12)?;
         assert!(rt; told, "{bytes:?}");
     }
     Ok(())
