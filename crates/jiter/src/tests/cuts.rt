@@ -66,8 +66,8 @@ fn bytes_before(place: usize, begin: usize, length: usize) -> usize {
 struct Cutter {
     place: usize,
     keeps_strings: bool,
-    // What is told so far, and whether a comma stands before what comes next.
-    told: String,
+    // What stands so far, and whether a comma stands before what comes next.
+    line: String,
     follows: bool,
     // The key of the value that comes next.
     key: &'static str,
@@ -80,7 +80,7 @@ impl Cutter {
         Cutter {
             place,
             keeps_strings,
-            told: String::new(alloc),
+            line: String::new(alloc),
             follows: false,
             key: "",
             unreached: 0,
@@ -90,10 +90,10 @@ impl Cutter {
     // Tells a value behind its key.
     fn tell(&mut self, value: &str) -> Result<(), AllocError> {
         if self.follows {
-            self.told.push_str(",")?;
+            self.line.push_str(",")?;
         }
-        self.told.push_str(self.key)?;
-        self.told.push_str(value)?;
+        self.line.push_str(self.key)?;
+        self.line.push_str(value)?;
         self.follows = true;
         Ok(())
     }
@@ -113,7 +113,7 @@ impl Cutter {
             self.unreached = self.unreached.saturating_sub(1);
             return Ok(());
         }
-        self.told.push_str(bracket)?;
+        self.line.push_str(bracket)?;
         self.follows = true;
         Ok(())
     }
@@ -138,7 +138,7 @@ impl Cutter {
         characters: &[(&'static str, &'static str)],
         reached: usize,
     ) -> Result<(), AllocError> {
-        let alloc = *self.told.allocator();
+        let alloc = *self.line.allocator();
         let mut text = String::new(alloc);
         let mut owned = false;
         let mut end = 1usize;
@@ -160,8 +160,8 @@ impl Cutter {
     fn part(&mut self, part: Part, reached: usize) -> Result<(), AllocError> {
         match part {
             Part::Gap(_) => return Ok(()),
-            Part::Key(_, told) => {
-                self.key = told;
+            Part::Key(_, text) => {
+                self.key = text;
                 return Ok(());
             }
             Part::Open(bracket) => self.open(bracket, reached)?,
@@ -191,7 +191,7 @@ fn cut(
         let length = source.len().saturating_sub(begin);
         cutter.part(*part, bytes_before(place, begin, length))?;
     }
-    cutter.told.clone()
+    cutter.line.clone()
 }
 
 // The first place behind the first bracket, which stands at this index, at which a parse does not answer the cut,
@@ -216,7 +216,11 @@ fn first_miss(
 }
 
 // Where a parse first misses, in the one partial mode or else in the other.
-fn missed(alloc: Global, parts: &[Part], bracket: usize) -> Result<Option<(usize, String)>, Fail> {
+fn first_miss_in_either(
+    alloc: Global,
+    parts: &[Part],
+    bracket: usize,
+) -> Result<Option<(usize, String)>, Fail> {
     match first_miss(alloc, parts, bracket, PartialMode::On)? {
         None => first_miss(alloc, parts, bracket, PartialMode::TrailingStrings),
         miss => Ok(miss),
@@ -250,7 +254,7 @@ fn literals_and_empty_containers_are_cut(rt: HostRuntime) -> Result<(), Fail> {
         Close("]"),
         Gap(" \n"),
     ];
-    assert_eq!(rt; missed(rt.alloc(), &parts, 2)?, None);
+    assert_eq!(rt; first_miss_in_either(rt.alloc(), &parts, 2)?, None);
     Ok(())
 }
 
@@ -272,7 +276,7 @@ fn strings_are_cut(rt: HostRuntime) -> Result<(), Fail> {
         Text(&[("€", "€"), (r"\/", "/"), ("😀", "😀")]),
         Close("]"),
     ];
-    assert_eq!(rt; missed(rt.alloc(), &parts, 0)?, None);
+    assert_eq!(rt; first_miss_in_either(rt.alloc(), &parts, 0)?, None);
     Ok(())
 }
 
@@ -306,7 +310,7 @@ fn numbers_are_cut(rt: HostRuntime) -> Result<(), Fail> {
         Number("7E2", &[(1, "7"), (3, "float '7E2'")]),
         Close("]"),
     ];
-    assert_eq!(rt; missed(rt.alloc(), &parts, 0)?, None);
+    assert_eq!(rt; first_miss_in_either(rt.alloc(), &parts, 0)?, None);
     Ok(())
 }
 
@@ -333,7 +337,7 @@ fn names_are_cut(rt: HostRuntime) -> Result<(), Fail> {
         Gap(" "),
         Close("}"),
     ];
-    assert_eq!(rt; missed(rt.alloc(), &parts, 1)?, None);
+    assert_eq!(rt; first_miss_in_either(rt.alloc(), &parts, 1)?, None);
     Ok(())
 }
 
@@ -362,7 +366,7 @@ fn keys_and_members_are_cut(rt: HostRuntime) -> Result<(), Fail> {
         Close("}"),
         Gap("\t"),
     ];
-    assert_eq!(rt; missed(rt.alloc(), &parts, 0)?, None);
+    assert_eq!(rt; first_miss_in_either(rt.alloc(), &parts, 0)?, None);
     Ok(())
 }
 
@@ -396,6 +400,6 @@ fn nested_containers_are_cut(rt: HostRuntime) -> Result<(), Fail> {
         Close("]"),
         Close("]"),
     ];
-    assert_eq!(rt; missed(rt.alloc(), &parts, 0)?, None);
+    assert_eq!(rt; first_miss_in_either(rt.alloc(), &parts, 0)?, None);
     Ok(())
 }
