@@ -2,16 +2,19 @@
 //!
 //! Contracts let a parse answer want of memory of most documents, and let a description fail always. These
 //! tests show that with ample memory neither does.
-use crate::{JsonErrorType as Kind, JsonValue};
+use crate::{JsonError, JsonErrorType as Kind, JsonValue, PartialMode};
 use std::alloc::{AllocError, Global};
 use std::borrow::CowStr;
 use std::test::Fail;
 
+mod cuts;
 mod faults;
 mod huge;
 mod large;
 mod memory;
+mod partial;
 mod readme;
+mod turns;
 mod values;
 
 // A text in quotes, behind the word `owned` where it is not borrowed.
@@ -97,4 +100,28 @@ fn fault_of(alloc: Global, bytes: &[u8], allow_inf_nan: bool) -> Option<(Kind, u
         Ok(_) => None,
         Err(error) => Some((error.error_type, error.index)),
     }
+}
+
+// The value on one line, or the kind and the index of the fault.
+fn outcome_text(
+    alloc: Global,
+    outcome: &Result<JsonValue<'_>, JsonError>,
+) -> Result<String, AllocError> {
+    match outcome {
+        Ok(value) => text_of(alloc, value),
+        Err(error) => format!(in alloc; "{} at {}", error.error_type, error.index),
+    }
+}
+
+// What a parse answers in this mode, on one line.
+fn answer_text(
+    alloc: Global,
+    bytes: &[u8],
+    allow_inf_nan: bool,
+    mode: PartialMode,
+) -> Result<String, AllocError> {
+    outcome_text(
+        alloc,
+        &JsonValue::parse_with_config(alloc, bytes, allow_inf_nan, mode),
+    )
 }

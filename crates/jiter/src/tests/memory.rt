@@ -1,6 +1,6 @@
 //! What calls answer where memory is refused.
 use super::text_of;
-use crate::{JsonErrorType as Kind, JsonValue};
+use crate::{JsonErrorType as Kind, JsonValue, PartialMode};
 use std::alloc::{AllocError, Global};
 use std::test::*;
 
@@ -51,32 +51,67 @@ impl Held {
     }
 }
 
+// Whether a parse of these bytes is asked with more and more memory until it answers, and answers this value; and
+// whether one request was refused behind the item that begins at `last`.
+fn refusals_are_told(
+    alloc: Global,
+    bytes: &[u8],
+    mode: PartialMode,
+    wanted: &str,
+    last: usize,
+) -> Result<bool, Fail> {
+    let mut held = Held::all(alloc)?;
+    let mut refused_in_last = false;
+    for steps in 0..128usize {
+        held.leave(alloc, 16 * steps)?;
+        let answer = JsonValue::parse_with_config(alloc, bytes, false, mode);
+        held.give_back(alloc);
+        match &answer {
+            Ok(value) => {
+                return Ok(refused_in_last && text_of(alloc, value)?.as_str() == wanted);
+            }
+            Err(error) if error.error_type == Kind::OutOfMemory => {
+                refused_in_last = refused_in_last || error.index >= last;
+            }
+            Err(_) => return Ok(false),
+        }
+    }
+    Ok(false)
+}
+
 #[test]
 fn each_refused_request_is_told(rt: HostRuntime) -> Result<(), Fail> {
     let alloc = rt.alloc();
-    let bytes = br#"[1,["a\nb"],{"k":"\u0061"}]"#.as_slice();
-    let mut held = Held::all(alloc)?;
-    // The third item begins at index 12.
-    let mut refused_in_third_item = false;
-    for steps in 0..128usize {
-        held.leave(alloc, 16 * steps)?;
-        let answer = JsonValue::parse(alloc, bytes, false);
-        held.give_back(alloc);
-        match answer {
-            Ok(value) => {
-                let wanted = "[1,[owned 'a\nb'],{'k':owned 'a'}]";
-                assert_eq!(rt; text_of(alloc, &value)?.as_str(), wanted);
-                assert!(rt; refused_in_third_item);
-                return Ok(());
-            }
-            Err(error) => {
-                assert_eq!(rt; error.error_type, Kind::OutOfMemory);
-                assert!(rt; error.index <= bytes.len());
-                refused_in_third_item = refused_in_third_item || error.index >= 12;
-            }
-        }
+    let whole = br#"[1,["a\nb"],{"k":"\u0061"}]"#.as_slice();
+    let front = br#"[1,["a\nb"],{"k":"\u0061","l":["\n"#.as_slice();
+    for (bytes, mode, wanted) in [
+        (
+            whole,
+            PartialMode::Off,
+            "[1,[owned 'a\nb'],{'k':owned 'a'}]",
+        ),
+        (whole, PartialMode::On, "[1,[owned 'a\nb'],{'k':owned 'a'}]"),
+        (
+            whole,
+            PartialMode::TrailingStrings,
+            "[1,[owned 'a\nb'],{'k':owned 'a'}]",
+        ),
+        (
+            front,
+            PartialMode::On,
+            "[1,[owned 'a\nb'],{'k':owned 'a','l':[]}]",
+        ),
+        (
+            front,
+            PartialMode::TrailingStrings,
+            "[1,[owned 'a\nb'],{'k':owned 'a','l':[owned '\n']}]",
+        ),
+    ] {
+        // The third item begins at index 12.
+        let told = refusals_are_told(alloc, bytes, mode, wanted, 12)?;
+        assert!(rt; told, "{bytes:?}");
     }
-    Err("never answered".into())
+    Ok(())
 }
 
 #[test]
