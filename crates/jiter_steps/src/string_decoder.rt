@@ -223,35 +223,24 @@ fn push_char(tape: &mut Vec<u8>, c: char) -> Result<(), Refused>
     extend(tape, encoded.as_bytes())
 }
 
-// Adds what stands from `from` on to the tape, decoded: a run of plain bytes and an escape at a time. And
-// whether the tape is then below 80 hex, as far as the runs and the escapes tell, and what it held before.
+// Adds what stands from `from` on to the tape, decoded: a run of plain bytes and an escape at a time.
 #[tactic(auto, using(crate::proofs::PlainRuns::scan_stop_stops))]
-fn decode(
-    tape: &mut Vec<u8>,
-    bytes: &[u8],
-    from: usize,
-    ascii: bool,
-) -> Result<(Ending, bool), Refused>
-    requires within { from ≤ length bytes.now }
-    requires ascii { IsTrue ascii → AllPass is_ascii tape.old.items }
+fn decode(tape: &mut Vec<u8>, bytes: &[u8], from: usize) -> Result<Ending, Refused>
+    requires { from ≤ length bytes.now }
     ensures text { IfOk result (λ _. tape.new.items
         ≡ tape.old.items ++ (body_at bytes.now from).bytes) }
-    ensures stop { IfOk result (λ r. stop_view r.0 ≡ (body_at bytes.now from).stop) }
-    ensures ascii { IfOk result (λ r. IsTrue r.1 → AllPass is_ascii tape.new.items) }
+    ensures stop { IfOk result (λ ending. stop_view ending ≡ (body_at bytes.now from).stop) }
 {
     let mut at = from;
-    let mut clean = ascii;
     loop {
-        let (to, plain) = scan_string(bytes, at);
+        let (to, _) = scan_string(bytes, at);
         extend(tape, &bytes[at..to])?;
-        clean = clean & plain;
         match place_at(bytes, to) {
             AtStop::Escape(c, end) => {
                 push_char(tape, c)?;
-                clean = clean & c.is_ascii();
                 at = end;
             }
-            AtStop::End(ending) => return Ok((ending, clean)),
+            AtStop::End(ending) => return Ok(ending),
         }
     }
 }
@@ -300,16 +289,14 @@ fn borrow_text<'j>(
 fn own_text<'j>(
     alloc: Global,
     bytes: &[u8],
-    ascii: bool,
     from: usize,
     end: usize,
 ) -> Result<(CowStr<'j>, usize), ReadError>
-    requires fits { from + length bytes.now < 2 ^ 64 }
-    requires ascii { IsTrue ascii → AllPass is_ascii bytes.now }
+    requires { from + length bytes.now < 2 ^ 64 }
     ensures { UnlessRefused result (λ r. Scans (with_end text_view) r
         (if_utf8 from true bytes.now end)) }
 {
-    match text_of(bytes, ascii) {
+    match simdutf8::compat::from_utf8(bytes) {
         Ok(text) => match copy_text(alloc, text) {
             Ok(own) => Ok((CowStr::Owned(own), end)),
             Err(refused) => Err(ReadError::Memory(refused)),
@@ -321,25 +308,16 @@ fn own_text<'j>(
     }
 }
 
-// The tape's bytes of a content that begins at `from`, and how it ends there; and whether they are below 80
-// hex, as far as is known, where those to before `to` are.
-fn decode_from(
-    tape: &mut Vec<u8>,
-    bytes: &[u8],
-    from: usize,
-    to: usize,
-    ascii: bool,
-) -> Result<(Ending, bool), Refused>
+// The tape's bytes of a content that begins at `from`, and how it ends there.
+fn decode_from(tape: &mut Vec<u8>, bytes: &[u8], from: usize, to: usize) -> Result<Ending, Refused>
     requires within { from ≤ length bytes.now }
     requires stop { to ≡ scan_stop bytes.now from }
-    requires ascii { IsTrue ascii → IsAsciiTo bytes.now from to }
     ensures text { IfOk result (λ _. tape.new.items ≡ (body_at bytes.now from).bytes) }
-    ensures stop { IfOk result (λ r. stop_view r.0 ≡ (body_at bytes.now from).stop) }
-    ensures ascii { IfOk result (λ r. IsTrue r.1 → AllPass is_ascii tape.new.items) }
+    ensures stop { IfOk result (λ ending. stop_view ending ≡ (body_at bytes.now from).stop) }
 {
     tape.clear();
     extend(tape, &bytes[from..to])?;
-    decode(tape, bytes, to, ascii)
+    decode(tape, bytes, to)
 }
 
 // The input ends inside the string.
@@ -363,20 +341,18 @@ fn decode_text<'j>(
     bytes: &'j [u8],
     at: usize,
     to: usize,
-    ascii: bool,
 ) -> Result<(CowStr<'j>, usize), ReadError>
     requires within { at < length bytes.now }
     requires stop { to ≡ scan_stop bytes.now (at + 1) }
     requires backslash { slice_get bytes.now to ≡ Some 92 }
-    requires ascii { IsTrue ascii → IsAsciiTo bytes.now (at + 1) to }
     ensures { UnlessRefused result (λ r. Scans (with_end text_view) r
         (string_at whole bytes.now at)) }
 {
-    match decode_from(tape, bytes, at + 1, to, ascii) {
-        Ok((Ending::Closed(end), clean)) => own_text(alloc, tape.as_slice(), clean, at + 1, end),
-        Ok((Ending::Wrong(fault), _)) => Err(ReadError::Fault(fault)),
-        Ok((Ending::Unclosed, _)) => Err(ReadError::Fault(cut_short(bytes))),
-        Ok((Ending::Cut, _)) => Err(ReadError::Fault(cut_short(bytes))),
+    match decode_from(tape, bytes, at + 1, to) {
+        Ok(Ending::Closed(end)) => own_text(alloc, tape.as_slice(), at + 1, end),
+        Ok(Ending::Wrong(fault)) => Err(ReadError::Fault(fault)),
+        Ok(Ending::Unclosed) => Err(ReadError::Fault(cut_short(bytes))),
+        Ok(Ending::Cut) => Err(ReadError::Fault(cut_short(bytes))),
         Err(refused) => Err(ReadError::Memory(refused)),
     }
 }
@@ -407,7 +383,7 @@ pub fn string_at<'j>(
             Ok(text) => Ok(text),
             Err(fault) => Err(ReadError::Fault(fault)),
         },
-        Some(b'\\') => decode_text(alloc, tape, bytes, at, to, ascii),
+        Some(b'\\') => decode_text(alloc, tape, bytes, at, to),
         Some(_) => Err(ReadError::Fault(Fault {
             kind: FaultKind::ControlCharacterWhileParsingString,
             index: to,
@@ -463,16 +439,14 @@ fn borrow_front<'j>(
 fn own_front<'j>(
     alloc: Global,
     bytes: &[u8],
-    ascii: bool,
     from: usize,
     end: usize,
 ) -> Result<(CowStr<'j>, usize), ReadError>
-    requires fits { from + length bytes.now < 2 ^ 64 }
-    requires ascii { IsTrue ascii → AllPass is_ascii bytes.now }
+    requires { from + length bytes.now < 2 ^ 64 }
     ensures { UnlessRefused result (λ r. Scans (with_end text_view) r
         (valid_front from true bytes.now end)) }
 {
-    match front_text(bytes, ascii) {
+    match front_text(bytes, false) {
         Ok(text) => match copy_text(alloc, text) {
             Ok(own) => Ok((CowStr::Owned(own), end)),
             Err(refused) => Err(ReadError::Memory(refused)),
@@ -491,26 +465,18 @@ fn decode_front<'j>(
     bytes: &'j [u8],
     at: usize,
     to: usize,
-    ascii: bool,
 ) -> Result<(CowStr<'j>, usize), ReadError>
     requires within { at < length bytes.now }
     requires stop { to ≡ scan_stop bytes.now (at + 1) }
     requires backslash { slice_get bytes.now to ≡ Some 92 }
-    requires ascii { IsTrue ascii → IsAsciiTo bytes.now (at + 1) to }
     ensures { UnlessRefused result (λ r. Scans (with_end text_view) r
         (string_at kept bytes.now at)) }
 {
-    match decode_from(tape, bytes, at + 1, to, ascii) {
-        Ok((Ending::Closed(end), clean)) => own_front(alloc, tape.as_slice(), clean, at + 1, end),
-        Ok((Ending::Wrong(fault), _)) => Err(ReadError::Fault(fault)),
-        Ok((Ending::Unclosed, clean)) => own_front(
-            alloc,
-            tape.as_slice(),
-            clean,
-            at + 1,
-            bytes.len(),
-        ),
-        Ok((Ending::Cut, clean)) => own_front(alloc, tape.as_slice(), clean, at + 1, bytes.len()),
+    match decode_from(tape, bytes, at + 1, to) {
+        Ok(Ending::Closed(end)) => own_front(alloc, tape.as_slice(), at + 1, end),
+        Ok(Ending::Wrong(fault)) => Err(ReadError::Fault(fault)),
+        Ok(Ending::Unclosed) => own_front(alloc, tape.as_slice(), at + 1, bytes.len()),
+        Ok(Ending::Cut) => own_front(alloc, tape.as_slice(), at + 1, bytes.len()),
         Err(refused) => Err(ReadError::Memory(refused)),
     }
 }
@@ -539,7 +505,7 @@ pub fn string_front_at<'j>(
             Ok(text) => Ok(text),
             Err(fault) => Err(ReadError::Fault(fault)),
         },
-        Some(b'\\') => decode_front(alloc, tape, bytes, at, to, ascii),
+        Some(b'\\') => decode_front(alloc, tape, bytes, at, to),
         Some(_) => Err(ReadError::Fault(fault_at(
             FaultKind::ControlCharacterWhileParsingString,
             to,

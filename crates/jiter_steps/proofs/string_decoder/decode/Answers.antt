@@ -3,13 +3,12 @@ use Rattle.std.specs.Prelude.{slice_range}
 use Rattle.std.specs.Char.{encode_utf8}
 use Rattle.std.proofs.lemmas.Grind.{common_steps}
 use Rattle.jiter_steps.specs.StringDecoder.{stop_view}
-use Rattle.jiter_steps.proofs.AsciiTexts.{ascii-run, ascii-more}
 use Rattle.jiter_steps.proofs.PlainRuns.{decode_more, decode_over}
 use Rattle.jiter_steps.proofs.string_decoder.decode.Goals as goal
 
-pub loop-clean-smaller : goal.loop-clean-smaller
-loop-clean-smaller c =
-    let l = c.loop-clean in
+pub loop-c-smaller : goal.loop-c-smaller
+loop-c-smaller c =
+    let l = c.loop-c in
     let t = c.args.bytes.now in
     let tape : c.extend.new.bytes.items ≡ l.tape.items ++ slice_range t l.at c.scan_string-to.result.0 =
     grind (arith, common_steps) in
@@ -19,9 +18,9 @@ loop-clean-smaller c =
     c.in_ok-push_char-in-Escape.ensures in
     omega (arith, m.2, m.3)
 
-pub loop-clean-preserved : goal.loop-clean-preserved
-loop-clean-preserved c =
-    let l = c.loop-clean in
+pub loop-c-preserved : goal.loop-c-preserved
+loop-c-preserved c =
+    let l = c.loop-c in
     let t = c.args.bytes.now in
     let tape : c.extend.new.bytes.items ≡ l.tape.items ++ slice_range t l.at c.scan_string-to.result.0 =
     grind (arith, common_steps) in
@@ -29,18 +28,11 @@ loop-clean-preserved c =
     (encode_utf8 c.in-Escape.c) c.args.from l.at c.scan_string-to.result.0 c.in-Escape.end l.invariant.text
     l.invariant.stop l.invariant.within c.scan_string-to.ensures.stop tape c.in-Escape.ensures
     c.in_ok-push_char-in-Escape.ensures in
-    record {
-      ascii = ascii-more l.clean c.scan_string-to.result.1 c.is_ascii-clean.result l.tape.items _ c.extend.new.bytes.items
-          c.push_char.new.tape.items c.in-Escape.c l.invariant.ascii c.scan_string-to.ensures.ascii.0 tape
-          c.is_ascii-clean.ensures c.in_ok-push_char-in-Escape.ensures;
-      text = m.0;
-      stop = m.1;
-      within = m.3;
-    }
+    record { text = m.0; stop = m.1; within = m.3 }
 
 pub returns-in-End-clause-text : goal.returns-in-End-clause-text
 returns-in-End-clause-text c =
-    let l = c.loop-clean in
+    let l = c.loop-c in
     let t = c.args.bytes.now in
     let tape : c.extend.new.bytes.items ≡ l.tape.items ++ slice_range t l.at c.scan_string-to.result.0 =
     grind (arith, common_steps) in
@@ -52,7 +44,7 @@ returns-in-End-clause-text c =
 
 pub returns-in-End-clause-stop : goal.returns-in-End-clause-stop
 returns-in-End-clause-stop c =
-    let l = c.loop-clean in
+    let l = c.loop-c in
     let t = c.args.bytes.now in
     let tape : c.extend.new.bytes.items ≡ l.tape.items ++ slice_range t l.at c.scan_string-to.result.0 =
     grind (arith, common_steps) in
@@ -61,11 +53,3 @@ returns-in-End-clause-stop c =
     (stop_view c.in-End.ending) l.invariant.text l.invariant.stop l.invariant.within c.scan_string-to.ensures.stop
     tape c.in-End.ensures in
     m.1
-
-pub returns-in-End-clause-ascii : goal.returns-in-End-clause-ascii
-returns-in-End-clause-ascii c =
-    let l = c.loop-clean in
-    let tape : c.extend.new.bytes.items ≡ l.tape.items ++ slice_range c.args.bytes.now l.at c.scan_string-to.result.0 =
-    grind (arith, common_steps) in
-    ascii-run l.clean c.scan_string-to.result.1 l.tape.items _ c.extend.new.bytes.items l.invariant.ascii
-    c.scan_string-to.ensures.ascii.0 tape

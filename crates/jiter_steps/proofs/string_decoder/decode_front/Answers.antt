@@ -2,29 +2,29 @@ use Rattle.std.proofs.Common.{◌∙◌, sym}
 use Rattle.jiter_steps.proofs.FrontSteps.{front-closed, front-wrong, front-unclosed, front-cut}
 use Rattle.jiter_steps.proofs.string_decoder.decode_front.Goals as goal
 
-pub returns-in-Ok-Closed-default : goal.returns-in-Ok-Closed-default
-returns-in-Ok-Closed-default c =
+pub returns-in-Ok-Closed : goal.returns-in-Ok-Closed
+returns-in-Ok-Closed c =
     let a = c.args in
-    let d = rw c.in-Ok-Closed-default.field-0-0-is at c.in-Ok-Closed-default.ensures in
+    let d = rw c.in-Ok-Closed.field-0-is at c.in-Ok-Closed.ensures in
     let text = c.as_slice.ensures.value ∙ d.text in
-    rw (front-closed a.bytes.now a.at c.requires.within a.to c.requires.stop c.in-Ok-Closed-default.end c.requires.backslash (sym d.stop), ← text) c.own_front.ensures
+    rw (front-closed a.bytes.now a.at c.requires.within a.to c.requires.stop c.in-Ok-Closed.end c.requires.backslash (sym d.stop), ← text) c.own_front.ensures
 
-pub returns-in-Ok-Wrong-default : goal.returns-in-Ok-Wrong-default
-returns-in-Ok-Wrong-default c =
+pub returns-in-Ok-Wrong : goal.returns-in-Ok-Wrong
+returns-in-Ok-Wrong c =
     let a = c.args in
-    let d = rw c.in-Ok-Wrong-default.field-0-0-is at c.in-Ok-Wrong-default.ensures in
+    let d = rw c.in-Ok-Wrong.field-0-is at c.in-Ok-Wrong.ensures in
     front-wrong a.bytes.now a.at c.requires.within _ _ (sym d.stop)
 
-pub returns-in-Ok-Unclosed-default : goal.returns-in-Ok-Unclosed-default
-returns-in-Ok-Unclosed-default c =
+pub returns-in-Ok-Unclosed : goal.returns-in-Ok-Unclosed
+returns-in-Ok-Unclosed c =
     let a = c.args in
-    let d = rw c.in-Ok-Unclosed-default.field-0-0-is at c.in-Ok-Unclosed-default.ensures in
-    let text = c.as_slice-in-Ok-Unclosed-default.ensures.value ∙ d.text in
-    rw (front-unclosed a.bytes.now a.at c.requires.within a.to c.requires.stop c.requires.backslash (sym d.stop), ← text) c.own_front-in-Ok-Unclosed-default.ensures
+    let d = rw c.in-Ok-Unclosed.field-0-is at c.in-Ok-Unclosed.ensures in
+    let text = c.as_slice-in-Ok-Unclosed.ensures.value ∙ d.text in
+    rw (front-unclosed a.bytes.now a.at c.requires.within a.to c.requires.stop c.requires.backslash (sym d.stop), ← text) c.own_front-in-Ok-Unclosed.ensures
 
-pub returns-in-Ok-Cut-default : goal.returns-in-Ok-Cut-default
-returns-in-Ok-Cut-default c =
+pub returns-in-Ok-Cut : goal.returns-in-Ok-Cut
+returns-in-Ok-Cut c =
     let a = c.args in
-    let d = rw c.in-Ok-Cut-default.field-0-0-is at c.in-Ok-Cut-default.ensures in
-    let text = c.as_slice-in-Ok-Cut-default.ensures.value ∙ d.text in
-    rw (front-cut a.bytes.now a.at c.requires.within a.to c.requires.stop c.requires.backslash (sym d.stop), ← text) c.own_front-in-Ok-Cut-default.ensures
+    let d = rw c.in-Ok-Cut.field-0-is at c.in-Ok-Cut.ensures in
+    let text = c.as_slice-in-Ok-Cut.ensures.value ∙ d.text in
+    rw (front-cut a.bytes.now a.at c.requires.within a.to c.requires.stop c.requires.backslash (sym d.stop), ← text) c.own_front-in-Ok-Cut.ensures
