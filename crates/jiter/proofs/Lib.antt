@@ -1,2 +1,7 @@
-mod Rows
+pub mod Building
+pub mod Containers
+pub mod OwnedTrees
 pub mod Peeking
+pub mod Refusals
+pub mod SkipReplies
+mod Rows

@@ -1,7 +1,11 @@
--- A second peek replies as the first, and a refused read of a scalar leaves the reader where the value begins.
+-- A second peek replies as the first, a known_ call as the next_ call, and a refused read of a scalar leaves the reader
+-- where the value begins.
 use Rattle.std.proofs.Common.{◌≡◌, ◌⊎◌, inl, inr, ℕ, ◌+◌, ◌<◌, ◌≤◌, Bool, true, false, if◌then◌else◌, arith}
 use Rattle.std.proofs.Common.{refl, ap, ◌∙◌, subst, Option, Some, None, List, length, drop, drop-drop}
-use Rattle.std.proofs.Common.{slice_get, slice_range}
+use Rattle.std.proofs.Common.{slice_get, slice_index, slice_range}
+use Rattle.std.proofs.lemmas.Option.{get_or_from_slice_get, slice_get_within}
+use Rattle.jiter_steps.proofs.Blanks.{past_blanks-other}
+use Rattle.jiter.specs.Jiter.{StandsAt}
 use Rattle.std.specs.List.{prefix_len}
 use Rattle.std.proofs.lemmas.Bool.{cases_lt}
 use Rattle.std.proofs.lemmas.List.Sums.{prefix_len_stops, prefix_len-drop_no, prefix_len-drop_all}
@@ -19,7 +23,7 @@ use Rattle.jiter_steps.specs.declared.parse.Start.{Start}
 use Rattle.jiter_steps.specs.declared.parse.Start.TheVariants as start
 use Rattle.jiter.specs.Cause.{ValueType, null, bool, int, float, string}
 use Rattle.jiter.specs.Reader.{ReaderState, Reply, gave, StaysAt, with_position, position_after, value_place, if_byte}
-use Rattle.jiter.specs.Reader.{peek, next, scalar_reply, refused_as_number, refused_as, integer_reply, null_read}
+use Rattle.jiter.specs.Reader.{peek, next, known, scalar_reply, refused_as, integer_reply, null_read}
 use Rattle.jiter.specs.Reader.{bool_read, number_read, int_read, number_bytes_read, string_read, str_read, bytes_read}
 
 abbrev blanks : List ℕ → ℕ
@@ -63,20 +67,8 @@ module _ (s : ReaderState) (i : ℕ) where
   scalar_reply-stays (taken a e) = tt
   scalar_reply-stays (failed k j) = refl
 
-  refused_as_number-stays : (A : Type 0) (wanted : ValueType) (x : Scanned Number)
-      → StaysAt i (refused_as_number {A = A} i wanted x)
-  refused_as_number-stays A wanted (taken n e) = refl
-  refused_as_number-stays A wanted (failed k j) = refl
-
   refused_as-stays : (A : Type 0) (wanted : ValueType) (b : Start) → StaysAt i (refused_as {A = A} s i wanted b)
-  refused_as-stays A wanted start.Array = refl
-  refused_as-stays A wanted start.Object = refl
-  refused_as-stays A wanted start.String = refl
-  refused_as-stays A wanted start.Number = refused_as_number-stays A wanted (number_at s.names s.text i)
-  refused_as-stays A wanted (start.Literal literal.Null) = refl
-  refused_as-stays A wanted (start.Literal literal.True) = refl
-  refused_as-stays A wanted (start.Literal literal.False) = refl
-  refused_as-stays A wanted start.Nothing = refl
+  refused_as-stays A wanted b = refl
 
   null_read-stays : (b : Start) → StaysAt i (null_read s i b)
   null_read-stays (start.Literal literal.Null) = scalar_reply-stays (literal_at s.text literal.Null i)
@@ -148,3 +140,19 @@ scalars-stay s =
       next-stays s (str_read s) (str_read-stays s i),
       next-stays s (bytes_read s) (bytes_read-stays s i),
     )
+
+-- Behind a peek that gave a byte, a known_ call replies as the next_ call would have before it.
+pub known-peeked : {A : Type 0} (s : ReaderState) (read : ℕ → Start → Reply A) (c : ℕ)
+    → slice_get s.text (value_place s) ≡ Some c → known (with_position s (value_place s)) read ≡ next s read
+known-peeked s read c e =
+    let b : slice_index s.text (value_place s) ≡ c = get_or_from_slice_get s.text (value_place s) c 0 e in
+    rw (e, b) refl
+
+-- Where a byte stands that is no blank, a known_ call replies as the next_ call.
+pub known-next : {A : Type 0} (s : ReaderState) (read : ℕ → Start → Reply A) (c : ℕ)
+    → StandsAt s c → is_blank c ≡ false → known s read ≡ next s read
+known-next s read c e other =
+    let b : slice_index s.text s.position ≡ c = get_or_from_slice_get s.text s.position c 0 e in
+    let inside = slice_get_within s.text s.position c e in
+    let here : value_place s ≡ s.position = past_blanks-other s.text s.position inside (ap is_blank b ∙ other) in
+    rw (here, e, b) refl

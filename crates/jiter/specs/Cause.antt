@@ -1,7 +1,7 @@
 -- Why a call of the pull reader refuses, and its texts.
-use Rattle.std.specs.Prelude.{ℕ, ◌++◌, List, codes, decimal}
+use Rattle.std.specs.Prelude.{ℕ, ◌++◌, List, codes}
 use Rattle.jiter_scan.specs.Kind.{Kind, kind_text}
-use Rattle.jiter_scan.specs.Position.{position_of, position_text}
+use Rattle.jiter_scan.specs.Position.{at_index, position_of, position_text}
 
 -- the types of values
 pub data ValueType : Type 0 where
@@ -36,7 +36,7 @@ cause_text (wrong_type wanted actual) =
 
 -- `CAUSE at index N`
 abbrev pub error_text : Cause → ℕ → List ℕ
-error_text c index = cause_text c ++ (codes " at index " ++ decimal index)
+error_text c index = at_index (cause_text c) index
 
 -- `CAUSE at line L column C`, of an index in a text
 abbrev pub error_description : Cause → ℕ → List ℕ → List ℕ

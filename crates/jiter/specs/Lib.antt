@@ -1,2 +1,7 @@
 pub mod Cause
+pub mod Client
+pub mod Errors
+pub mod Jiter
+pub mod Lending
 pub mod Reader
+pub mod Skipping

@@ -80,21 +80,30 @@ number_type (integer z) = int
 number_type (big w) = int
 number_type (number.float w) = float
 
+-- why a call refuses, and at which index
+pub record Refusal : Type 0 where
+  pub cause : Cause
+  pub index : ℕ
+
 -- a number where another type was wanted: its own fault goes first
-abbrev pub refused_as_number : {A : Type 0} → ℕ → ValueType → Scanned Number → Reply A
-refused_as_number i wanted (taken n e) = refused (wrong_type wanted (number_type n)) i i
-refused_as_number i wanted (failed k j) = refused (json_error k) j i
+abbrev pub number_refusal : ℕ → ValueType → Scanned Number → Refusal
+number_refusal i wanted (taken n e) = record { cause = wrong_type wanted (number_type n); index = i }
+number_refusal i wanted (failed k j) = record { cause = json_error k; index = j }
 
 -- another type was wanted than what begins so at i
+abbrev pub type_refusal : ReaderState → ℕ → ValueType → Start → Refusal
+type_refusal s i wanted start.Array = record { cause = wrong_type wanted array; index = i }
+type_refusal s i wanted start.Object = record { cause = wrong_type wanted object; index = i }
+type_refusal s i wanted start.String = record { cause = wrong_type wanted string; index = i }
+type_refusal s i wanted start.Number = number_refusal i wanted (number_at s.names s.text i)
+type_refusal s i wanted (start.Literal literal.Null) = record { cause = wrong_type wanted null; index = i }
+type_refusal s i wanted (start.Literal literal.True) = record { cause = wrong_type wanted bool; index = i }
+type_refusal s i wanted (start.Literal literal.False) = record { cause = wrong_type wanted bool; index = i }
+type_refusal s i wanted start.Nothing = record { cause = json_error expected_value; index = i }
+
+-- The reader stays at the value then.
 abbrev pub refused_as : {A : Type 0} → ReaderState → ℕ → ValueType → Start → Reply A
-refused_as s i wanted start.Array = refused (wrong_type wanted array) i i
-refused_as s i wanted start.Object = refused (wrong_type wanted object) i i
-refused_as s i wanted start.String = refused (wrong_type wanted string) i i
-refused_as s i wanted start.Number = refused_as_number i wanted (number_at s.names s.text i)
-refused_as s i wanted (start.Literal literal.Null) = refused (wrong_type wanted null) i i
-refused_as s i wanted (start.Literal literal.True) = refused (wrong_type wanted bool) i i
-refused_as s i wanted (start.Literal literal.False) = refused (wrong_type wanted bool) i i
-refused_as s i wanted start.Nothing = refused (json_error expected_value) i i
+refused_as s i wanted b = refused (type_refusal s i wanted b).cause (type_refusal s i wanted b).index i
 
 -- What a call reads at a place, of what begins there. First the scalars: `null`.
 abbrev pub null_read : ReaderState → ℕ → Start → Reply (Unit {0})

@@ -7,13 +7,19 @@ use std::alloc::{AllocError, Global};
 use std::borrow::CowStr;
 use std::test::Fail;
 
+mod client;
 mod cuts;
 mod faults;
 mod huge;
+mod kernels;
 mod large;
 mod memory;
+mod owned;
 mod partial;
+mod reader;
 mod readme;
+mod skips;
+mod texts;
 mod turns;
 mod values;
 

@@ -4,6 +4,7 @@ use Rattle.std.proofs.Common.{length, drop, take, refl, sym, ap, ap₂, take-add
 use Rattle.std.proofs.Common.{suc}
 use Rattle.std.proofs.lemmas.Simd.{chunk-drop, length-chunk, trailing_mask_l}
 use Rattle.std.proofs.lemmas.List.Folds.{prefix_len-append, list_all-append}
+use Rattle.std.proofs.lemmas.List.Sums.{prefix_len-le-length}
 use Rattle.std.proofs.lemmas.Bool.{eq-eqb, ne_eqb, cases_eq, false≢true}
 use Rattle.std.specs.List.{prefix_len, list_all}
 use lib.Lanes.{chunk}
@@ -107,6 +108,11 @@ module _ (test : ℕ → Bool) where
         ap (λ k. i + k)
         (prefix_len-inside (one_fails some)
         ∙ prefix_len-failing (chunk i n t) (omega (arith, length-chunk i n t room)) some)
+
+    pub run_end-near : i + n ≤ length t → 0 < failing test (chunk i n t) → run_end test t i ≤ i + n
+    run_end-near room some =
+        omega
+        (arith, prefix_len-inside (one_fails some), prefix_len-le-length test (chunk i n t), length-chunk i n t room)
 
   -- a chunk of 64 by its four parts
   pub list_all-four : (t : List ℕ) (i : ℕ) → list_all test (chunk i 64 t)

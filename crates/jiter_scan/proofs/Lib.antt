@@ -9,6 +9,7 @@ pub mod NumberSound
 pub mod NumberComplete
 pub mod NumberBytes
 pub mod NumberValues
+pub mod NumberExtents
 pub mod NumberTests
 pub mod NumberLaws
 pub mod Pins
@@ -20,3 +21,5 @@ pub mod PlainRuns
 pub mod DigitWords
 pub mod Magnitudes
 pub mod ShortNumbers
+pub mod Tapes
+pub mod ShortValues

@@ -1,14 +1,14 @@
 -- Numbers whose digits end within a chunk.
-use Rattle.std.proofs.Common.{◌≡◌, ◌≢◌, ◌⊎◌, inl, inr, ℕ, ◌+◌, ◌-◌, ◌<◌, ◌≤◌, ◌==◌, ◌||◌, Bool, true, false, List, []}
-use Rattle.std.proofs.Common.{◌∷◌, length, take, drop, get_or, refl, sym, ap, ◌∙◌, subst, slice_range, arith}
-use Rattle.std.specs.Prelude.{slice_get, Option, Some, None, IfSome}
+use Rattle.std.proofs.Common.{◌≡◌, ◌≢◌, ◌⊎◌, inl, inr, ℕ, ◌+◌, ◌-◌, ◌<◌, ◌≤◌, ◌==◌, ◌||◌, true, false, List, []}
+use Rattle.std.proofs.Common.{◌∷◌, length, take, drop, get_or, refl, sym, ap, ◌∙◌, slice_range, arith}
+use Rattle.std.specs.Prelude.{slice_get, Option, Some, None}
 use Rattle.std.specs.List.{prefix_len}
 use Rattle.std.proofs.lemmas.Bool.{cases_lt}
 use Rattle.std.proofs.lemmas.Bool.Decides.{nat_tests}
 use Rattle.std.proofs.lemmas.List.{length-take}
 use Rattle.std.proofs.lemmas.Option.{slice_get-get_or, slice_get_within, get_or_from_slice_get}
 use Rattle.jiter_scan.specs.Digits.{is_digit, digit_run_end}
-use Rattle.jiter_scan.specs.Number.{IsWhole, IsDigits, float, number_value}
+use Rattle.jiter_scan.specs.Number.{IsDigits}
 use Rattle.jiter_scan.specs.NumberReading.{extent_then, whole_at, fraction_at, exponent_at, decimal_at, fraction_from}
 use Rattle.jiter_scan.specs.NumberReading.{exponent_from, digits_from, power_from, is_float_sign}
 use Rattle.jiter_scan.specs.Scanned.{taken, failed}
@@ -18,7 +18,6 @@ use Rattle.jiter_scan.proofs.Choices.{if-false, if-true}
 use Rattle.jiter_scan.proofs.Chunks.{prefix_len-front, prefix_len-pass, run_end-on}
 use Rattle.jiter_scan.proofs.Magnitudes.{slice_range-count}
 use Rattle.jiter_scan.proofs.NumberComplete.{whole_at-complete}
-use Rattle.jiter_scan.proofs.NumberValues.{number_value-tail}
 use Rattle.jiter_scan.proofs.Runs.{run_end-passes, run_end-stops, NoDigit}
 use Rattle.jiter_scan.proofs.Standing.{stands-slice}
 

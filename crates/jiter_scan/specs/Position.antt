@@ -28,6 +28,14 @@ position_of t index = record { line = line_of (bytes_through t index); column = 
 abbrev pub position_text : LinePosition → List ℕ
 position_text p = codes "line " ++ (decimal p.line ++ (codes " column " ++ decimal p.column))
 
+-- `L:C`
+abbrev pub short_text : LinePosition → List ℕ
+short_text p = decimal p.line ++ (codes ":" ++ decimal p.column)
+
+-- `TEXT at index N`
+abbrev pub at_index : List ℕ → ℕ → List ℕ
+at_index text index = text ++ (codes " at index " ++ decimal index)
+
 -- `KIND at line L column C`, of an index in a text
 abbrev pub description_text : Kind → ℕ → List ℕ → List ℕ
 description_text kind index t = kind_text kind ++ (codes " at " ++ position_text (position_of t index))

@@ -1,10 +1,11 @@
 //! The kinds of fault, where a fault stands, and their texts.
-ghost use Rattle.std.specs.Prelude.{◌≡◌, Some, IfOk, string_bytes};
+ghost use Rattle.std.specs.Prelude.{◌≡◌, ◌++◌, Some, IfOk, OnOk, codes, string_bytes};
 ghost use Rattle.jiter_scan.specs.Kind.{kind_of, fault_kind, kind_text};
-ghost use Rattle.jiter_scan.specs.Position.{position_of, position_text, description_text};
+ghost use Rattle.jiter_scan.specs.Position.{at_index, position_of, position_text, short_text, description_text};
 
 use crate::memory::{Refused, copy_text, push_number, push_text};
 use std::alloc::{AllocError, Global};
+use std::error::Error;
 use std::fmt;
 
 /// Why bytes are refused.
@@ -56,36 +57,34 @@ pub enum JsonErrorType {
     OutOfMemory,
 }
 
-impl JsonErrorType {
-    // What the kind prints.
-    fn text(&self) -> &'static str
-        ensures { result.now ≡ kind_text (kind_of self.now) }
-    {
-        match self {
-            Self::FloatExpectingInt => "float value was found where an int was expected",
-            Self::EofWhileParsingList => "EOF while parsing a list",
-            Self::EofWhileParsingObject => "EOF while parsing an object",
-            Self::EofWhileParsingString => "EOF while parsing a string",
-            Self::EofWhileParsingValue => "EOF while parsing a value",
-            Self::ExpectedColon => "expected `:`",
-            Self::ExpectedListCommaOrEnd => "expected `,` or `]`",
-            Self::ExpectedObjectCommaOrEnd => "expected `,` or `}`",
-            Self::ExpectedSomeIdent => "expected ident",
-            Self::ExpectedSomeValue => "expected value",
-            Self::InvalidEscape => "invalid escape",
-            Self::InvalidNumber => "invalid number",
-            Self::NumberOutOfRange => "number out of range",
-            Self::InvalidUnicodeCodePoint => "invalid unicode code point",
-            Self::ControlCharacterWhileParsingString =>
-                "control character (\\u0000-\\u001F) found while parsing a string",
-            Self::KeyMustBeAString => "key must be a string",
-            Self::LoneLeadingSurrogateInHexEscape => "lone leading surrogate in hex escape",
-            Self::TrailingComma => "trailing comma",
-            Self::TrailingCharacters => "trailing characters",
-            Self::UnexpectedEndOfHexEscape => "unexpected end of hex escape",
-            Self::RecursionLimitExceeded => "recursion limit exceeded",
-            Self::OutOfMemory => "out of memory",
-        }
+/// What a kind prints.
+pub fn kind_text(kind: &JsonErrorType) -> &'static str
+    ensures { result.now ≡ kind_text (kind_of kind.now) }
+{
+    match kind {
+        JsonErrorType::FloatExpectingInt => "float value was found where an int was expected",
+        JsonErrorType::EofWhileParsingList => "EOF while parsing a list",
+        JsonErrorType::EofWhileParsingObject => "EOF while parsing an object",
+        JsonErrorType::EofWhileParsingString => "EOF while parsing a string",
+        JsonErrorType::EofWhileParsingValue => "EOF while parsing a value",
+        JsonErrorType::ExpectedColon => "expected `:`",
+        JsonErrorType::ExpectedListCommaOrEnd => "expected `,` or `]`",
+        JsonErrorType::ExpectedObjectCommaOrEnd => "expected `,` or `}`",
+        JsonErrorType::ExpectedSomeIdent => "expected ident",
+        JsonErrorType::ExpectedSomeValue => "expected value",
+        JsonErrorType::InvalidEscape => "invalid escape",
+        JsonErrorType::InvalidNumber => "invalid number",
+        JsonErrorType::NumberOutOfRange => "number out of range",
+        JsonErrorType::InvalidUnicodeCodePoint => "invalid unicode code point",
+        JsonErrorType::ControlCharacterWhileParsingString =>
+            "control character (\\u0000-\\u001F) found while parsing a string",
+        JsonErrorType::KeyMustBeAString => "key must be a string",
+        JsonErrorType::LoneLeadingSurrogateInHexEscape => "lone leading surrogate in hex escape",
+        JsonErrorType::TrailingComma => "trailing comma",
+        JsonErrorType::TrailingCharacters => "trailing characters",
+        JsonErrorType::UnexpectedEndOfHexEscape => "unexpected end of hex escape",
+        JsonErrorType::RecursionLimitExceeded => "recursion limit exceeded",
+        JsonErrorType::OutOfMemory => "out of memory",
     }
 }
 
@@ -96,7 +95,7 @@ impl fmt::Display for JsonErrorType {
     ghost styled_output = { λ kind _. Some (kind_text (kind_of kind)) };
 
     fn fmt<W: fmt::Write>(&self, f: &mut fmt::Formatter<W>) -> fmt::Result {
-        f.write_str(self.text())
+        f.write_str(kind_text(self))
     }
 }
 
@@ -111,6 +110,16 @@ pub struct JsonError {
     /// The byte index, from 0 and at most the length.
     pub index: usize,
 }
+
+impl fmt::Display for JsonError {
+    ghost output = { λ error. Some (at_index (kind_text (kind_of error.error_type)) error.index) };
+
+    fn fmt<W: fmt::Write>(&self, f: &mut fmt::Formatter<W>) -> fmt::Result {
+        write!(f, "{} at index {}", self.error_type, self.index)
+    }
+}
+
+impl Error for JsonError {}
 
 /// A kind of fault of the bytes: each kind of [`JsonErrorType`] that the bytes alone can cause.
 #[derive(Debug, Clone, Copy, PartialEq, Eq)]
@@ -238,13 +247,21 @@ impl JsonError {
             ≡ description_text (kind_of self.now.error_type) self.now.index bytes.now) }
     {
         let position = self.get_position(bytes);
-        let mut text = copy_text(alloc, self.error_type.text())?;
-        push_text(&mut text, " at line ")?;
-        push_number(&mut text, position.line)?;
-        push_text(&mut text, " column ")?;
-        push_number(&mut text, position.column)?;
+        let mut text = copy_text(alloc, kind_text(&self.error_type))?;
+        push_position(&mut text, &position)?;
         Ok(text)
     }
+}
+
+/// Appends ` at line L column C`.
+pub fn push_position(text: &mut String, position: &LinePosition) -> Result<(), Refused>
+    ensures { OnOk result (string_bytes text.new
+        ≡ string_bytes text.old ++ (codes " at " ++ position_text position.now)) }
+{
+    push_text(text, " at line ")?;
+    push_number(text, position.line)?;
+    push_text(text, " column ")?;
+    push_number(text, position.column)
 }
 
 /// A line and a column. Lines count from 1. A column is the count of bytes behind the last line feed, so
@@ -271,6 +288,24 @@ impl LinePosition {
         ensures { result ≡ record { line = line; column = column } }
     {
         Self { line, column }
+    }
+
+    /// `L:C`. It fails only where memory is refused.
+    pub fn short(&self, alloc: Global) -> Result<String, AllocError>
+        ensures { IfOk result (λ text. string_bytes text ≡ short_text self.now) }
+    {
+        Ok(self.shorten(alloc)?)
+    }
+
+    // The short text, or the evidence that memory was refused.
+    fn shorten(&self, alloc: Global) -> Result<String, Refused>
+        ensures { IfOk result (λ text. string_bytes text ≡ short_text self.now) }
+    {
+        let mut text = copy_text(alloc, "")?;
+        push_number(&mut text, self.line)?;
+        push_text(&mut text, ":")?;
+        push_number(&mut text, self.column)?;
+        Ok(text)
     }
 
     /// The line and column of a byte index; at or past the length, those of the whole.

@@ -1,6 +1,6 @@
 //! What grows: the few requests for memory that the parser makes. Each answers, where it is refused, with
 //! the evidence of it, and nothing outside this module can make that evidence.
-ghost use Rattle.std.specs.Prelude.{◌≡◌, ◌+◌, ◌<◌, ◌≤◌, ◌∷◌, ◌++◌, [], take, drop, IfOk, OnOk, OnErr, decimal, length, string_bytes, string_capacity, string_len, vec_capacity, vec_len};
+ghost use Rattle.std.specs.Prelude.{◌≡◌, ◌+◌, ◌^◌, ◌<◌, ◌≤◌, ◌∷◌, ◌++◌, [], take, drop, IfOk, OnOk, OnErr, decimal, length, replicate, string_bytes, string_capacity, string_len, vec_capacity, vec_len};
 
 use smallvec::SmallVec;
 use std::alloc::{AllocError, Global};
@@ -19,6 +19,18 @@ impl From<Refused> for AllocError {
     }
 }
 
+/// An empty vector with room for exactly so many items. Room for none takes no memory.
+pub fn with_capacity<T: Drop>(alloc: Global, capacity: usize) -> Result<Vec<T>, Refused>
+    ensures items { IfOk result (λ v. v.items ≡ []) }
+    ensures capacity { IfOk result (λ v. vec_capacity v ≡ capacity) }
+    ensures none { OnErr result (0 < capacity) }
+{
+    match Vec::with_capacity(alloc, capacity) {
+        Ok(items) => Ok(items),
+        Err(error) => Err(Refused { error }),
+    }
+}
+
 /// Appends an item.
 pub fn push<T: Drop>(items: &mut Vec<T>, item: T) -> Result<(), Refused>
     ensures ok { OnOk result (items.new.items ≡ items.old.items ++ item ∷ []) }
@@ -28,6 +40,18 @@ pub fn push<T: Drop>(items: &mut Vec<T>, item: T) -> Result<(), Refused>
     match items.push(item) {
         Ok(()) => Ok(()),
         Err(_) => Err(Refused { error: AllocError }),
+    }
+}
+
+/// Room for one more item.
+pub fn make_room<T: Drop>(items: &mut Vec<T>) -> Result<(), Refused>
+    ensures same { items.new.items ≡ items.old.items }
+    ensures ok { OnOk result (vec_len items.new < vec_capacity items.new) }
+    ensures full { OnErr result (vec_capacity items.old ≤ vec_len items.old) }
+{
+    match items.reserve(1) {
+        Ok(()) => Ok(()),
+        Err(error) => Err(Refused { error }),
     }
 }
 
@@ -64,6 +88,19 @@ pub fn extend(bytes: &mut Vec<u8>, more: &[u8]) -> Result<(), Refused>
     ensures full { OnErr result (vec_capacity bytes.old < vec_len bytes.old + length more.now) }
 {
     match bytes.extend_from_slice(more) {
+        Ok(()) => Ok(()),
+        Err(error) => Err(Refused { error }),
+    }
+}
+
+/// Appends as many zeros.
+pub fn lengthen(bytes: &mut Vec<u8>, more: usize) -> Result<(), Refused>
+    requires { vec_len bytes.old + more < 2 ^ 64 }
+    ensures ok { OnOk result (bytes.new.items ≡ bytes.old.items ++ replicate more 0) }
+    ensures err { OnErr result (bytes.new.items ≡ bytes.old.items) }
+    ensures full { OnErr result (vec_capacity bytes.old < vec_len bytes.old + more) }
+{
+    match bytes.resize(bytes.len() + more, 0) {
         Ok(()) => Ok(()),
         Err(error) => Err(Refused { error }),
     }

@@ -1,17 +1,18 @@
 //! Numbers: integers that 64 signed bits hold, and the text of all others (RFC 8259, 6).
-ghost use Rattle.std.specs.Prelude.{◌≡◌, ◌+◌, ◌<◌, ◌≤◌, ◌==◌, ◌||◌, IfOk, IfErr, min, length, slice_get, slice_index, slice_range, Some, true};
+ghost use Rattle.std.specs.Prelude.{◌≡◌, ◌+◌, ◌<◌, ◌≤◌, ◌==◌, ◌||◌, IfOk, min, length, slice_get, slice_index, slice_range, Some, true};
 ghost use Rattle.std.specs.Str.{IsAscii};
 ghost use Rattle.jiter_scan.specs.Ascii as ascii;
 ghost use Rattle.jiter_scan.specs.Scanned.{Scans, with_end, whole_text, AnswersAlone, taken};
 ghost use Rattle.jiter_scan.specs.Word.{word_at};
-ghost use Rattle.jiter_scan.specs.Digits.{is_digit, digit_run_end};
-ghost use Rattle.jiter_scan.specs.Number.{digit_limit, is_float_byte, positive_value, negative_value, number_value};
-ghost use Rattle.jiter_scan.specs.NumberReading.{extent_then, digits_from, behind_zero, within_limit, whole_at, fraction_at, exponent_at, power_from, decimal_at, is_float_sign, behind_minus, name_at, with_value, number_at, int_at, integer_behind, integer_behind_minus, begins_number, number_alone, int_alone};
+ghost use Rattle.jiter_scan.specs.Digits.{digit_run_end};
+ghost use Rattle.jiter_scan.specs.Number.{is_float_byte, positive_value, negative_value, number_value};
+ghost use Rattle.jiter_scan.specs.NumberReading.{whole_at, decimal_at, is_float_sign, behind_minus, name_at, with_value, number_at, int_at, integer_behind, integer_behind_minus, begins_number, number_alone, int_alone};
 ghost use Rattle.jiter_scan.specs.NumberDecoder.{int_view, number_view, integer_view, EndsWithin, magnitude_of, IsMinusTo};
 
 use crate::errors::{Fault, FaultKind, JsonError, JsonResult, fault_at};
+use crate::number_extent::{tail_end, whole_end};
 use crate::short_number::{Short, short_at};
-use crate::simd::{chunk_at, digit_run_end, digit_word, digits_end, joined};
+use crate::simd::{chunk_at, digit_word, joined};
 use crate::text::ascii_text;
 use crate::word::{byte_at, word_end};
 
@@ -122,60 +123,11 @@ pub enum Integer<'j> {
     FloatSeen,
 }
 
-// The longest integer part that is read, in digits.
-const DIGIT_LIMIT: usize = 4300;
-
 // One more than the greatest integer of 64 signed bits.
 const INT_LIMIT: u64 = 1 << 63;
 
 // The least number of twenty digits.
 const MAGNITUDE_LIMIT: u64 = 10_000_000_000_000_000_000;
-
-fn is_digit(byte: u8) -> bool
-    ensures { result ≡ is_digit byte }
-{
-    byte.is_ascii_digit()
-}
-
-// One digit or more: the place behind them.
-fn some_digits_end(bytes: &[u8], from: usize) -> Result<usize, Fault>
-    requires { from ≤ length bytes.now }
-    ensures value { Scans (taken tt) result
-        (digits_from bytes.now from (slice_get bytes.now from)) }
-    ensures place { IfOk result (λ e. (from ≤ e) × (e ≤ length bytes.now)) }
-{
-    match byte_at(bytes, from) {
-        None => Err(fault_at(FaultKind::EofWhileParsingValue, from)),
-        Some(byte) => {
-            if is_digit(byte) {
-                Ok(digit_run_end(bytes, from))
-            } else {
-                Err(fault_at(FaultKind::InvalidNumber, from))
-            }
-        }
-    }
-}
-
-// The zero at `at`, behind which no digit may stand.
-fn read_zero(bytes: &[u8], at: usize) -> Result<(u64, usize), Fault>
-    requires { slice_get bytes.now at ≡ Some ascii.digit_zero }
-    ensures value { Scans (with_end (λ _. tt)) result
-        (behind_zero (at + 1) (slice_get bytes.now (at + 1))) }
-    ensures place { IfOk result (λ x. (at < x.1) × (x.1 ≤ length bytes.now)) }
-    ensures magnitude { IfOk result
-        (λ x. x.0 ≡ magnitude_of (slice_range bytes.now at x.1)) }
-{
-    match byte_at(bytes, at + 1) {
-        None => Ok((0, at + 1)),
-        Some(byte) => {
-            if is_digit(byte) {
-                Err(fault_at(FaultKind::InvalidNumber, at + 1))
-            } else {
-                Ok((0, at + 1))
-            }
-        }
-    }
-}
 
 // The magnitude of the digits from `at` to before `end`, or the least of twenty digits.
 #[inline(always)]
@@ -197,26 +149,6 @@ pub(crate) fn digits_magnitude(bytes: &[u8], at: usize, end: usize) -> u64
     }
 }
 
-// The digits at `at`, of which the first is no zero, unless they are too many.
-fn read_within_limit(bytes: &[u8], at: usize) -> Result<(u64, usize), Fault>
-    requires within { at ≤ length bytes.now }
-    requires some { at < digit_run_end bytes.now at }
-    requires first { ascii.digit_zero < slice_index bytes.now at }
-    ensures value { Scans (with_end (λ _. tt)) result
-        (within_limit at (digit_run_end bytes.now at)) }
-    ensures place { IfOk result (λ x. (at < x.1) × (x.1 ≤ length bytes.now)) }
-    ensures magnitude { IfOk result
-        (λ x. x.0 ≡ magnitude_of (slice_range bytes.now at x.1)) }
-{
-    match digits_end(bytes, at, DIGIT_LIMIT) {
-        Some(end) => {
-            let magnitude = digits_magnitude(bytes, at, end);
-            Ok((magnitude, end))
-        }
-        None => Err(fault_at(FaultKind::NumberOutOfRange, at + (DIGIT_LIMIT + 1))),
-    }
-}
-
 // The integer part: its magnitude, or the least of twenty digits, and the place behind it.
 fn read_whole(bytes: &[u8], at: usize) -> Result<(u64, usize), Fault>
     requires { at ≤ length bytes.now }
@@ -225,72 +157,13 @@ fn read_whole(bytes: &[u8], at: usize) -> Result<(u64, usize), Fault>
     ensures magnitude { IfOk result
         (λ x. x.0 ≡ magnitude_of (slice_range bytes.now at x.1)) }
 {
-    match byte_at(bytes, at) {
-        None => Err(fault_at(FaultKind::EofWhileParsingValue, at)),
-        Some(byte) => {
-            if byte == b'0' {
-                read_zero(bytes, at)
-            } else if is_digit(byte) {
-                read_within_limit(bytes, at)
-            } else {
-                Err(fault_at(FaultKind::InvalidNumber, at))
-            }
-        }
-    }
-}
-
-// Behind a fraction, or where none stands.
-fn fraction_end(bytes: &[u8], at: usize) -> Result<usize, Fault>
-    requires { at ≤ length bytes.now }
-    ensures value { Scans (taken tt) result (fraction_at bytes.now at) }
-    ensures place { IfOk result (λ e. (at ≤ e) × (e ≤ length bytes.now)) }
-{
-    match byte_at(bytes, at) {
-        None => Ok(at),
-        Some(byte) => {
-            if byte == b'.' {
-                some_digits_end(bytes, at + 1)
-            } else {
-                Ok(at)
-            }
-        }
-    }
-}
-
-// The sign of an exponent, or none, and its digits: the place behind them.
-fn power_end(bytes: &[u8], at: usize) -> Result<usize, Fault>
-    requires { at ≤ length bytes.now }
-    ensures value { Scans (taken tt) result (power_from bytes.now at (slice_get bytes.now at)) }
-    ensures place { IfOk result (λ e. (at ≤ e) × (e ≤ length bytes.now)) }
-{
-    match byte_at(bytes, at) {
-        None => Err(fault_at(FaultKind::EofWhileParsingValue, at)),
-        Some(byte) => {
-            if byte == b'+' || byte == b'-' {
-                some_digits_end(bytes, at + 1)
-            } else {
-                some_digits_end(bytes, at)
-            }
-        }
-    }
-}
-
-// Behind an exponent, or where none stands.
-fn exponent_end(bytes: &[u8], at: usize) -> Result<usize, Fault>
-    requires { at ≤ length bytes.now }
-    ensures value { Scans (taken tt) result (exponent_at bytes.now at) }
-    ensures place { IfOk result (λ e. (at ≤ e) × (e ≤ length bytes.now)) }
-{
-    match byte_at(bytes, at) {
-        None => Ok(at),
-        Some(byte) => {
-            if byte == b'e' || byte == b'E' {
-                power_end(bytes, at + 1)
-            } else {
-                Ok(at)
-            }
-        }
-    }
+    let end = whole_end(bytes, at)?;
+    let magnitude = if bytes[at] == b'0' {
+        0
+    } else {
+        digits_magnitude(bytes, at, end)
+    };
+    Ok((magnitude, end))
 }
 
 // The integer of that magnitude, or its text.
@@ -339,17 +212,6 @@ fn integer_of<'j>(
     } else {
         negative_int(text, magnitude)
     }
-}
-
-// Behind a fraction, if one stands at `at`, and an exponent, if one follows.
-pub(crate) fn tail_end(bytes: &[u8], at: usize) -> Result<usize, Fault>
-    requires { at ≤ length bytes.now }
-    ensures value { Scans (taken tt) result
-        (extent_then (fraction_at bytes.now at) (exponent_at bytes.now)) }
-    ensures place { IfOk result (λ e. (at ≤ e) × (e ≤ length bytes.now)) }
-{
-    let end = fraction_end(bytes, at)?;
-    exponent_end(bytes, end)
 }
 
 // The decimal number that begins at `from`, its minus apart at `at`, part by part.

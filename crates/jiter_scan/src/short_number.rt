@@ -6,7 +6,8 @@ ghost use Rattle.jiter_scan.specs.NumberReading.{extent_then, fraction_at, expon
 ghost use Rattle.jiter_scan.specs.Scanned.{taken};
 ghost use Rattle.jiter_scan.specs.ShortNumber.{IsShort};
 
-use crate::number_decoder::{digits_magnitude, is_float_sign, tail_end};
+use crate::number_decoder::{digits_magnitude, is_float_sign};
+use crate::number_extent::tail_end;
 use crate::simd::{digit_count, digit_word, full_chunk_at};
 
 /// What stands at a number's first digit.

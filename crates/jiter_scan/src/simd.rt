@@ -12,7 +12,7 @@ use std::simd::prelude::*;
 
 // A bit for each byte that ends a string's plain bytes.
 #[inline(always)]
-fn stops(v: u8x16) -> u64
+pub(crate) fn stops(v: u8x16) -> u64
     ensures { result ≡ failing is_plain v }
 {
     (v.simd_eq(u8x16::splat(b'"'))

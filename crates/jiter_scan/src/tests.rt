@@ -1,6 +1,6 @@
 //! Rows of positions, texts and modes.
 use crate::errors::{Fault, FaultKind, JsonError, JsonErrorType, LinePosition};
-use crate::memory::{copy_text, extend, push, push_number, push_text};
+use crate::memory::{copy_text, extend, lengthen, push, push_number, push_text};
 use crate::partial_mode::PartialMode;
 use crate::word::word_end;
 use std::alloc::{AllocError, Global};
@@ -304,7 +304,8 @@ fn growths_answer_with_ample_memory(rt: HostRuntime) {
         assert!(rt; extend(&mut bytes, b"0123456789").is_ok());
     }
     assert_eq!(rt; items.len(), 10_000);
-    assert_eq!(rt; bytes.len(), 100_000);
+    assert!(rt; lengthen(&mut bytes, 10).is_ok());
+    assert_eq!(rt; bytes.len(), 100_010);
     match copy_text(rt.alloc(), "at ") {
         Ok(mut text) => {
             assert!(rt; push_number(&mut text, 1_234_567).is_ok());
@@ -313,4 +314,56 @@ fn growths_answer_with_ample_memory(rt: HostRuntime) {
         }
         Err(_) => panic!(rt; "there is memory"),
     }
+}
+
+#[test]
+fn an_error_prints_its_kind_and_index(rt: HostRuntime) -> Result<(), Fail> {
+    for (error_type, index, text) in [
+        (JsonErrorType::TrailingComma, 3, "trailing comma at index 3"),
+        (
+            JsonErrorType::EofWhileParsingValue,
+            0,
+            "EOF while parsing a value at index 0",
+        ),
+        (
+            JsonErrorType::OutOfMemory,
+            1_234_567,
+            "out of memory at index 1234567",
+        ),
+    ] {
+        let error = JsonError { error_type, index };
+        assert_eq!(rt; error.to_string(rt.alloc())?.as_str(), text);
+    }
+    Ok(())
+}
+
+#[test]
+fn a_short_position_has_a_colon(rt: HostRuntime) -> Result<(), Fail> {
+    for (line, column, text) in [(1, 8, "1:8"), (1, 0, "1:0"), (12, 1_234_567, "12:1234567")] {
+        let position = LinePosition::new(line, column);
+        assert_eq!(rt; position.short(rt.alloc())?.as_str(), text);
+    }
+    Ok(())
+}
+
+#[test]
+fn errors_show_their_fields(rt: HostRuntime) -> Result<(), Fail> {
+    let alloc = rt.alloc();
+    let error = JsonError {
+        error_type: JsonErrorType::TrailingComma,
+        index: 3,
+    };
+    assert_eq!(rt;
+        format!(in alloc; "{error:?}")?.as_str(),
+        "JsonError { error_type: TrailingComma, index: 3 }"
+    );
+    assert_eq!(rt;
+        format!(in alloc; "{:?}", JsonErrorType::OutOfMemory)?.as_str(),
+        "OutOfMemory"
+    );
+    assert_eq!(rt;
+        format!(in alloc; "{:?}", LinePosition::new(1, 8))?.as_str(),
+        "LinePosition { line: 1, column: 8 }"
+    );
+    Ok(())
 }

@@ -1,17 +1,23 @@
 -- Where steps and readings end: within the text, and a fault of the input's end at its length alone. One walk over the rows.
-use Rattle.std.proofs.Common.{◌≡◌, ◌≢◌, ℕ, ◌+◌, ◌<◌, ◌≤◌, ◌==◌, Bool, true, false, cond, length, List, refl, sym, ◌∙◌, arith}
+use Rattle.std.proofs.Common.{◌≡◌, ◌≢◌, ℕ, ◌+◌, ◌<◌, ◌≤◌, ◌==◌, Bool, true, false, cond, length, List, refl, sym, ◌∙◌}
+use Rattle.std.proofs.Common.{arith}
 use Rattle.std.specs.Prelude.{slice_get, Option, Some, None}
 use Rattle.std.proofs.lemmas.Bool.{false≢true}
 use Rattle.std.proofs.lemmas.Option.{slice_get_within}
-use Rattle.jiter_scan.specs.Kind.{Kind, is_end_kind, out_of_memory, eof_list, eof_object, eof_value, expected_colon, expected_list_comma_or_end, expected_object_comma_or_end, key_must_be_a_string, trailing_comma}
+use Rattle.jiter_scan.specs.Kind.{Kind, is_end_kind, out_of_memory, eof_object, eof_value, expected_colon}
+use Rattle.jiter_scan.specs.Kind.{key_must_be_a_string, trailing_comma}
 use Rattle.jiter_scan.specs.Scanned.{taken, failed}
 use Rattle.jiter_scan.specs.Word.{Extent}
 use Rattle.jiter_scan.specs.NumberReading.{extent_then}
 use Rattle.jiter_scan.proofs.Scanning.{FaultAt}
 use Rattle.jiter_scan.proofs.Standing.{get-none}
 use Rattle.jiter_steps.specs.Blank.{past_blanks}
-use Rattle.jiter_steps.specs.Step.{Step, more, closed, stuck, step, array_first, array_comma, array_step, object_first, object_comma, object_step, colon, value_first, object_colon}
+use Rattle.jiter_steps.specs.Step.{Step, more, closed, stuck, step, closer_of, begins_part, end_kind_of, comma_kind_of}
+use Rattle.jiter_steps.specs.Step.{container_first, container_comma, container_step}
+use Rattle.jiter_steps.specs.Step.{colon, value_first, object_colon}
+use Rattle.jiter_steps.specs.declared.parse.Shape.{Shape}
 use Rattle.jiter_steps.specs.Read.{Reading, done, fault}
+use Rattle.jiter_steps.proofs.BothShapes.{end_kind-bytes, comma_kind-late, comma_kind-bytes}
 use Rattle.jiter_steps.proofs.Blanks.{past_blanks-bound, past_blanks-after}
 
 -- a step from i leads on, and not past the length
@@ -67,66 +73,49 @@ module _ (t : List ℕ) where
   ahead-later i j (closed k) le h = (omega (arith, h.0), h.1)
   ahead-later i j (stuck x k) le h = (omega (arith, h.0), h.1)
 
-  -- behind `[`
-  first-item : RowAhead array_first
-  first-item i j None a h = (a, fault-end eof_list j (λ e. cc) h)
-  first-item i j (Some c) a h = either (Ahead t i) (c == 93) (closed (j + 1)) (more j) (omega arith, omega arith) (a, h)
+  -- Between the parts of a container.
+  module _ (b : Shape) where
+    end-fault : (j : ℕ) → j ≡ length t → FaultAt t (end_kind_of b) j
+    end-fault j h = record { within = omega arith; ends = λ e. h; bytes = end_kind-bytes b }
 
-  pub array_first-ahead : (i : ℕ) → i ≤ length t → Ahead t i (step t array_first i)
-  array_first-ahead = step-ahead array_first first-item
+    comma-fault : (j : ℕ) → j ≤ length t → FaultAt t (comma_kind_of b) j
+    comma-fault j le = fault-byte (comma_kind_of b) j (comma_kind-bytes b) (comma_kind-late b) le
 
-  -- behind a comma in an array
-  comma-item : RowAhead array_comma
-  comma-item i j None a h = (a, fault-end eof_value j (λ e. cc) h)
-  comma-item i j (Some c) a h =
-      either (Ahead t i) (c == 93) (stuck trailing_comma j) (more j) (a, fault-byte trailing_comma j (λ e. cc) refl (omega arith)) (a, h)
+    key-fault : (i j : ℕ) → i ≤ j → j < length t → Ahead t i (stuck key_must_be_a_string j)
+    key-fault i j a h = (a, fault-byte key_must_be_a_string j (λ e. cc) refl (omega arith))
 
-  pub array_comma-ahead : (i : ℕ) → i ≤ length t → Ahead t i (step t array_comma i)
-  array_comma-ahead = step-ahead array_comma comma-item
+    -- behind the opening bracket
+    first-here : RowAhead (container_first b)
+    first-here i j None a h = (a, end-fault j h)
+    first-here i j (Some c) a h =
+        either (Ahead t i) (begins_part b c) (more j) _ (a, h)
+        (either (Ahead t i) (c == closer_of b) (closed (j + 1)) (stuck key_must_be_a_string j)
+        (omega arith, omega arith) (key-fault i j a h))
 
-  -- behind an item
-  next-item : RowAhead (array_step t)
-  next-item i j None a h = (a, fault-end eof_list j (λ e. cc) h)
-  next-item i j (Some c) a h =
-      either (Ahead t i) (c == 93) (closed (j + 1)) _ (omega arith, omega arith)
-      (either (Ahead t i) (c == 44) _ (stuck expected_list_comma_or_end j) (ahead-later i (j + 1) _ (omega arith) (array_comma-ahead (j + 1) (omega arith)))
-      (a, fault-byte expected_list_comma_or_end j (λ e. cc) refl (omega arith)))
+    pub container_first-ahead : (i : ℕ) → i ≤ length t → Ahead t i (step t (container_first b) i)
+    container_first-ahead = step-ahead (container_first b) first-here
 
-  pub array_step-ahead : (i : ℕ) → i ≤ length t → Ahead t i (step t (array_step t) i)
-  array_step-ahead = step-ahead (array_step t) next-item
+    -- behind a comma
+    comma-here : RowAhead (container_comma b)
+    comma-here i j None a h = (a, fault-end eof_value j (λ e. cc) h)
+    comma-here i j (Some c) a h =
+        either (Ahead t i) (begins_part b c) (more j) _ (a, h)
+        (either (Ahead t i) (c == closer_of b) (stuck trailing_comma j) (stuck key_must_be_a_string j)
+        (a, fault-byte trailing_comma j (λ e. cc) refl (omega arith)) (key-fault i j a h))
 
-  -- behind `{`
-  first-key : RowAhead object_first
-  first-key i j None a h = (a, fault-end eof_object j (λ e. cc) h)
-  first-key i j (Some c) a h =
-      either (Ahead t i) (c == 34) (more j) _ (a, h)
-      (either (Ahead t i) (c == 125) (closed (j + 1)) (stuck key_must_be_a_string j) (omega arith, omega arith)
-      (a, fault-byte key_must_be_a_string j (λ e. cc) refl (omega arith)))
+    comma-ahead : (i : ℕ) → i ≤ length t → Ahead t i (step t (container_comma b) i)
+    comma-ahead = step-ahead (container_comma b) comma-here
 
-  pub object_first-ahead : (i : ℕ) → i ≤ length t → Ahead t i (step t object_first i)
-  object_first-ahead = step-ahead object_first first-key
+    -- behind a part
+    step-here : RowAhead (container_step b t)
+    step-here i j None a h = (a, end-fault j h)
+    step-here i j (Some c) a h =
+        let behind = ahead-later i (j + 1) _ (omega arith) (comma-ahead (j + 1) (omega arith)) in
+        either (Ahead t i) (c == closer_of b) (closed (j + 1)) _ (omega arith, omega arith)
+        (either (Ahead t i) (c == 44) _ (stuck (comma_kind_of b) j) behind (a, comma-fault j (omega arith)))
 
-  -- behind a comma in an object
-  comma-key : RowAhead object_comma
-  comma-key i j None a h = (a, fault-end eof_value j (λ e. cc) h)
-  comma-key i j (Some c) a h =
-      either (Ahead t i) (c == 34) (more j) _ (a, h)
-      (either (Ahead t i) (c == 125) (stuck trailing_comma j) (stuck key_must_be_a_string j)
-      (a, fault-byte trailing_comma j (λ e. cc) refl (omega arith)) (a, fault-byte key_must_be_a_string j (λ e. cc) refl (omega arith)))
-
-  pub object_comma-ahead : (i : ℕ) → i ≤ length t → Ahead t i (step t object_comma i)
-  object_comma-ahead = step-ahead object_comma comma-key
-
-  -- behind a member
-  next-key : RowAhead (object_step t)
-  next-key i j None a h = (a, fault-end eof_object j (λ e. cc) h)
-  next-key i j (Some c) a h =
-      either (Ahead t i) (c == 125) (closed (j + 1)) _ (omega arith, omega arith)
-      (either (Ahead t i) (c == 44) _ (stuck expected_object_comma_or_end j) (ahead-later i (j + 1) _ (omega arith) (object_comma-ahead (j + 1) (omega arith)))
-      (a, fault-byte expected_object_comma_or_end j (λ e. cc) refl (omega arith)))
-
-  pub object_step-ahead : (i : ℕ) → i ≤ length t → Ahead t i (step t (object_step t) i)
-  object_step-ahead = step-ahead (object_step t) next-key
+    pub container_step-ahead : (i : ℕ) → i ≤ length t → Ahead t i (step t (container_step b t) i)
+    container_step-ahead = step-ahead (container_step b t) step-here
 
   -- behind a key: its colon
   colon-here : (i j : ℕ) (o : Option ℕ) → i ≤ j → Reaches t j o → ExtentAhead t i 1 (colon j o)

@@ -2,7 +2,9 @@
 -- the front answers exactly what the cut leaves of the document, with the marks of its texts, and never a fault.
 -- The front is read along the node (ReadFront): what ends by the cut is read whole, and what the cut falls into leaves
 -- what `Leaves` says, a scalar by its own laws and a container by induction over its parts.
-use Rattle.std.proofs.Common.{◌≡◌, ◌⊎◌, inl, inr, ℕ, ◌+◌, ◌<◌, ◌≤◌, Bool, true, false, Option, Some, None, List, [], ◌∷◌, ◌++◌, length, take, refl, sym, ap, ap₂, ◌∙◌, subst, arith, if◌then◌else◌, append-nil, append_assoc}
+use Rattle.std.proofs.Common.{◌≡◌, ◌⊎◌, inl, inr, ℕ, ◌+◌, ◌<◌, ◌≤◌, Bool, true, false, Option, Some, None, List, []}
+use Rattle.std.proofs.Common.{◌∷◌, ◌++◌, length, take, refl, sym, ap, ap₂, ◌∙◌, subst, arith, if◌then◌else◌, append-nil}
+use Rattle.std.proofs.Common.{append_assoc}
 use Rattle.std.specs.Prelude.{slice_get, slice_range}
 use Rattle.std.specs.List.{filter_map, cons_option}
 use Rattle.std.proofs.lemmas.Bool.{cases_lt}
@@ -20,27 +22,34 @@ use Rattle.jiter_steps.specs.Answer.{seen_as, value_form, partial_trees, answer,
 use Rattle.jiter_steps.specs.Cut.{cut, cut_number, cut_string, IsBegunContainer}
 use Rattle.jiter_steps.specs.Literal.{word_of, literal_at, literal_tree}
 use Rattle.jiter_steps.specs.Node as grammar
-use Rattle.jiter_steps.specs.Node.{Key, Node, Nodes, NodeMembers, begin, end, SpellsNumber, Spells, nesting, nesting_round, nesting_round_members, nesting_limit, text_at, number_tree, value_of, values_of, IsContainer, IsDocument}
+use Rattle.jiter_steps.specs.Node.{Key, Node, Nodes, NodeMembers, begin, end, SpellsNumber, Spells, nesting}
+use Rattle.jiter_steps.specs.Node.{nesting_round, nesting_round_members, nesting_limit, text_at, number_tree, value_of}
+use Rattle.jiter_steps.specs.Node.{values_of, IsContainer, IsDocument}
 use Rattle.jiter_steps.specs.Piece.{Piece, SpellsString}
-use Rattle.jiter_steps.specs.Read.{Reading, done, fault, Rules, Container, scalar_at, with_key, if_forgiven, follow, parts_at, container_at, array_of, object_of}
+use Rattle.jiter_steps.specs.Read.{Reading, done, fault, Rules, Container, scalar_at, with_key, if_forgiven, follow}
+use Rattle.jiter_steps.specs.Read.{parts_at, container_at, array_of, object_of}
 use Rattle.jiter_steps.specs.Step.{Step, stuck, step}
 use Rattle.jiter_steps.specs.StringReading.{whole, kept, string_at}
 use Rattle.jiter_steps.specs.Tree as tree
 use Rattle.jiter_steps.specs.Tree.{Text, Tree, items_of, members_of}
 use Rattle.jiter_steps.specs.declared.parse.Literal.{Literal}
-use Rattle.jiter_steps.proofs.Answered.{front-begins}
-use Rattle.jiter_steps.proofs.CutNodes.{under_key, cut_item, cut_member, literal-left, number-left, cut_string_if, string-left, array-left, object-left, none-late}
+use Rattle.jiter_steps.proofs.WholeTexts.{front-begins}
+use Rattle.jiter_steps.proofs.CutNodes.{under_key, cut_item, cut_member, literal-left, number-left, cut_string_if}
+use Rattle.jiter_steps.proofs.CutNodes.{string-left, array-left, object-left, none-late}
 use Rattle.jiter_steps.proofs.CutParts.{EndsInput, CutParts}
 use Rattle.jiter_steps.proofs.Documents.{key_text, IsRead, values-of, members-of, answer-of, answer-is}
 use Rattle.jiter_steps.proofs.Front.{front-length, front-get, front-blank, front-stands, front-word}
 use Rattle.jiter_steps.proofs.Growth.{node-late, node-whole}
-use Rattle.jiter_steps.proofs.Halting.{Halts, StuckAt, end-forgiven, byte-halts, cut-halts, begin-halts, array-halts, object-halts}
+use Rattle.jiter_steps.specs.declared.parse.Shape.TheVariants as shape
+use Rattle.jiter_steps.proofs.Halting.{Halts, StuckAt, end-forgiven, byte-halts, cut-halts, begin-halts}
+use Rattle.jiter_steps.proofs.Halting.{container-halts}
 use Rattle.jiter_steps.proofs.Instances.{trees-advances}
 use Rattle.jiter_steps.proofs.Blanks.{blank-passed}
 use Rattle.jiter_steps.proofs.NumberCutLaws.{CutNumber, number_at-before, number_at-cuts}
 use Rattle.jiter_steps.proofs.ReadFront.{IsCutMember, CutRules, value_at-front}
 use Rattle.jiter_steps.proofs.ScalarLaws.{ScalarLaws, scalar-laws, EndsNumber}
-use Rattle.jiter_steps.proofs.SpelledParts.{begins-value, begin-within, node-within, ends-end, nodes_list, members_list, nodes-listed, members-listed, InOrder, items-order, members-order}
+use Rattle.jiter_steps.proofs.SpelledParts.{begins-value, begin-within, node-within, ends-end, nodes_list, members_list}
+use Rattle.jiter_steps.proofs.SpelledParts.{nodes-listed, members-listed, InOrder, items-order, members-order}
 use Rattle.jiter_steps.proofs.StringCutLaws.{string_at-cut, string_at-cut_whole, string_at-before}
 use Rattle.jiter_steps.proofs.Values.{Goes, parts-part, parts-fault}
 
@@ -267,7 +276,7 @@ module _ (names : Bool) (t : List ℕ) (k : ℕ) (within : k ≤ length t) (mode
       → Keeps (array_of rules inner front b) (λ n. n) (value_of t) IsCut (cut_item names t k mode)
   items-keep inner b goes = record {
     goes = goes;
-    halts = array-halts front;
+    halts = container-halts front shape.Array;
     ends = λ n h le. node-whole names t mode k n h le;
     late = λ n h ge. node-late names t mode k n h ge;
     leaves = λ n x h cuts. cuts;
@@ -277,7 +286,7 @@ module _ (names : Bool) (t : List ℕ) (k : ℕ) (within : k ≤ length t) (mode
       → Keeps (object_of rules inner front b) (λ m. m.1) see_member CutsMember (cut_member names t k mode)
   members-keep inner b goes = record {
     goes = goes;
-    halts = object-halts front;
+    halts = container-halts front shape.Object;
     ends = λ m h le. ap (under_key (key_text t m.0)) (node-whole names t mode k m.1 h le);
     late = λ m h ge. ap (under_key (key_text t m.0)) (node-late names t mode k m.1 h ge);
     leaves = member-leaves;
@@ -391,9 +400,3 @@ pub partial_answer-accepts : (names : Bool) (t : List ℕ) (mode : PartialMode) 
 partial_answer-accepts names t mode v e h =
     let read = subst (IsRead names t) h (answer-is names t) in
     partial_answer-of names t mode read.0 read.1 ∙ sym (answer-of names t read.0 read.1) ∙ h
-
-pub answer_in-accepts : (names : Bool) (t : List ℕ) (mode : PartialMode) (v : Tree) (e : ℕ)
-    → answer names t ≡ done v e → answer_in names mode t ≡ done v e
-answer_in-accepts names t mode v e h =
-    if_case (λ x. x ≡ done v e) (is_active mode) (partial_answer names mode t) (answer names t)
-    (λ active. partial_answer-accepts names t mode v e h) (λ off. h)

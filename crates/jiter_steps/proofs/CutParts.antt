@@ -1,15 +1,20 @@
 -- A container in a front of the text: its parts before the cut are read, and then the input ends, between two parts or
 -- in one.
-use Rattle.std.proofs.Common.{◌≡◌, ◌⊎◌, inl, inr, ℕ, ◌+◌, ◌<◌, ◌≤◌, true, List, [], ◌∷◌, ◌++◌, length, length, map, take, refl, sym, ap, ◌∙◌, arith, append-nil, append_assoc}
-use Rattle.std.specs.Prelude.{Option, Some, None}
+use Rattle.std.proofs.Common.{◌≡◌, ◌⊎◌, inl, inr, ℕ, ◌+◌, ◌<◌, ◌≤◌, true, List, [], ◌∷◌, ◌++◌, length, map, take, refl}
+use Rattle.std.proofs.Common.{sym, ap, ◌∙◌, arith, append-nil, append_assoc}
+use Rattle.std.specs.Prelude.{Option}
 use Rattle.std.proofs.lemmas.Bool.{cases_lt}
-use Rattle.jiter_scan.specs.Kind.{Kind, is_end_kind, eof_list, eof_object, eof_value}
+use Rattle.jiter_scan.specs.Kind.{Kind, is_end_kind, eof_object, eof_value}
 use Rattle.jiter_scan.specs.Scanned.{failed}
 use Rattle.jiter_scan.specs.NumberReading.{extent_then}
+use Rattle.jiter_scan.proofs.Choices.{if-false}
 use Rattle.jiter_steps.specs.Blank.{IsBlank}
 use Rattle.jiter_steps.specs.Node.{Node, begin, end, StandsBehind}
 use Rattle.jiter_steps.specs.Read.{Reading, done, Rules, Container, follow, parts_at, container_at}
-use Rattle.jiter_steps.specs.Step.{Step, more, stuck, step, array_first, array_comma, array_step, object_first, object_comma, object_step, colon, value_first, object_colon}
+use Rattle.jiter_steps.specs.Step.{Step, more, closed, stuck, step, end_kind_of, container_first, container_comma}
+use Rattle.jiter_steps.specs.Step.{container_step, colon, value_first, object_colon}
+use Rattle.jiter_steps.specs.declared.parse.Shape.{Shape}
+use Rattle.jiter_steps.proofs.BothShapes.{end_kind-early, closer-no_comma}
 use Rattle.jiter_steps.proofs.Front.{front-length, front-blank, front-behind, row-cut, row-end}
 use Rattle.jiter_steps.proofs.Parts.{PartThen, MoreParts, Parts}
 use Rattle.jiter_steps.proofs.RowSteps.{Delimits, row-at}
@@ -30,24 +35,22 @@ module _ (t : List ℕ) (k : ℕ) (within : k ≤ length t) where
     pub comma-cut : (i m j : ℕ) → StandsBehind t i 44 m → m ≤ k → IsBlank t m j → k ≤ j → EndsInput (step u next i)
     pub end-cut : (i : ℕ) → i ≡ k → EndsInput (step u next i)
 
-  cuts : (first next comma : ℕ → Option ℕ → Step) (kind : Kind) → is_end_kind kind ≡ true
-      → first k None ≡ stuck kind k → next k None ≡ stuck kind k
-      → comma k None ≡ stuck eof_value k → ((j : ℕ) → next j (Some 44) ≡ step u comma (j + 1)) → Cuts first next
-  cuts first next comma kind is a b c d = record {
-    first-cut = λ i j blanks le ge. (kind, row-cut t k within first i j blanks le ge ∙ a, is);
-    next-cut = λ i j blanks le ge. (kind, row-cut t k within next i j blanks le ge ∙ b, is);
-    comma-cut = λ i m j h le blanks ge.
-        let g = front-behind t k within i 44 m h le in
-        let here = row-at u next i g.at 44 g.blanks g.here refl ∙ d g.at ∙ ap (step u comma) (sym g.ends) in
-        (eof_value, here ∙ row-cut t k within comma m j blanks le ge ∙ c, refl);
-    end-cut = λ i h. (kind, row-end t k within next i h ∙ b, is);
-  }
-
-  pub array-cuts : Cuts array_first (array_step u)
-  array-cuts = cuts array_first (array_step u) array_comma eof_list refl refl refl refl (λ j. refl)
-
-  pub object-cuts : Cuts object_first (object_step u)
-  object-cuts = cuts object_first (object_step u) object_comma eof_object refl refl refl refl (λ j. refl)
+  pub cuts : (b : Shape) → Cuts (container_first b) (container_step b u)
+  cuts b =
+      let next = container_step b u in
+      let comma = container_comma b in
+      let early = end_kind-early b in
+      record {
+        first-cut = λ i j blanks le ge. (end_kind_of b, row-cut t k within (container_first b) i j blanks le ge, early);
+        next-cut = λ i j blanks le ge. (end_kind_of b, row-cut t k within next i j blanks le ge, early);
+        comma-cut = λ i m j h le blanks ge.
+            let g = front-behind t k within i 44 m h le in
+            let here = row-at u next i g.at 44 g.blanks g.here refl in
+            let there = if-false _ (closed (g.at + 1)) (step u comma (g.at + 1)) (closer-no_comma b) in
+            let ends = here ∙ there ∙ ap (step u comma) (sym g.ends) ∙ row-cut t k within comma m j blanks le ge in
+            (eof_value, ends, refl);
+        end-cut = λ i h. (end_kind_of b, row-end t k within next i h, early);
+      }
 
   -- behind a key: its colon, and what stands before its value
   pub colon-cut : (i c : ℕ) → StandsBehind t i 58 c → i ≤ k → k < c → object_colon u i ≡ failed eof_object k

@@ -1,11 +1,14 @@
 -- Steps of the code's loops.
-use Rattle.std.proofs.Common.{◌≡◌, ◌≢◌, ℕ, ◌+◌, ◌<◌, ◌≤◌, Bool, true, false, List, [], ◌∷◌, ◌++◌, length, refl, sym, ap, ◌∙◌, subst, arith, append_assoc, append-nil, ap₂}
+use Rattle.std.proofs.Common.{◌≡◌, ◌≢◌, ℕ, ◌+◌, ◌<◌, ◌≤◌, Bool, true, false, List, [], ◌∷◌, ◌++◌, length, refl, sym, ap}
+use Rattle.std.proofs.Common.{◌∙◌, subst, arith, append_assoc, append-nil, ap₂}
 use Rattle.std.specs.Prelude.{slice_get, slice_index, slice_range, Some, None, ◌==◌, nat_lt}
 use Rattle.std.proofs.lemmas.Bool.{ne_eqb, lt-ltb, eq-eqb}
 use Rattle.std.proofs.lemmas.List.Edits.{between_more}
 use Rattle.std.proofs.lemmas.Option.{none-some, same_Some}
 use Rattle.jiter_scan.specs.Scanned.{failed, taken}
-use Rattle.jiter_steps.specs.StringReading.{Place, part, over, Stop, closed, unclosed, cut, wrong, place_by, place_at, behind_backslash, plain, escape_or_plain, Body, before, body_at, whole, if_utf8, text_in_form, content_at, join}
+use Rattle.jiter_steps.specs.StringReading.{Place, part, over, Stop, closed, unclosed, cut, wrong, place_by, place_at}
+use Rattle.jiter_steps.specs.StringReading.{behind_backslash, plain, escape_or_plain, Body, before, body_at, whole}
+use Rattle.jiter_steps.specs.StringReading.{if_utf8, text_in_form, content_at, join}
 use Rattle.jiter_scan.specs.Kind.{Kind, eof_string, control_character, invalid_code_point}
 use Rattle.std.specs.Str.{IsUtf8}
 use Rattle.std.specs.Str.Lossy.{utf8_valid_len}

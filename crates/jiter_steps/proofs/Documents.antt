@@ -11,8 +11,10 @@ use Rattle.jiter_steps.specs.Answer.{seen_as, whole_trees, answer}
 use Rattle.jiter_steps.specs.Blank.{past_blanks, IsBlank}
 use Rattle.jiter_steps.specs.Literal.{literal_at, literal_tree}
 use Rattle.jiter_steps.specs.Node as grammar
-use Rattle.jiter_steps.specs.Node.{Key, Node, begin, end, text_at, number_tree, value_of, values_of, nesting_limit, IsDocument}
-use Rattle.jiter_steps.specs.Read.{Reading, done, fault, value_at, if_last, to_end, if_begun, front_answer, whole_answer}
+use Rattle.jiter_steps.specs.Node.{Key, Node, begin, end, text_at, number_tree, value_of, values_of, nesting_limit}
+use Rattle.jiter_steps.specs.Node.{IsDocument}
+use Rattle.jiter_steps.specs.Read.{Reading, done, fault, value_at, if_last, to_end, if_begun, front_answer}
+use Rattle.jiter_steps.specs.Read.{whole_answer}
 use Rattle.jiter_steps.specs.StringReading.{whole, string_at}
 use Rattle.jiter_steps.specs.Tree.{Text, Tree, items_of}
 use Rattle.jiter_steps.specs.Tree as tree

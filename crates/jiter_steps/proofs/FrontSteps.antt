@@ -1,5 +1,6 @@
 -- What the reader of strings that may be cut answers, from what it has place_by.
-use Rattle.std.proofs.Common.{◌≡◌, ◌≢◌, ℕ, ◌+◌, ◌<◌, ◌≤◌, Bool, true, false, List, [], ◌∷◌, length, refl, sym, ap, ap₂, ◌∙◌, subst, arith, append-nil}
+use Rattle.std.proofs.Common.{◌≡◌, ◌≢◌, ℕ, ◌+◌, ◌<◌, ◌≤◌, Bool, true, false, List, [], ◌∷◌, length, refl, sym, ap, ap₂}
+use Rattle.std.proofs.Common.{◌∙◌, subst, arith, append-nil}
 use Rattle.std.specs.Prelude.{slice_get, slice_range, Some, None, Result, Ok, Err, IfOk, ◌==◌, nat_lt}
 use Rattle.std.specs.declared.alloc.Global.{Global}
 use Rattle.std.specs.declared.borrow.CowStr.{CowStr}
@@ -14,7 +15,9 @@ use Rattle.jiter_scan.proofs.Scanning.{ScalarWithin}
 use Rattle.jiter_steps.specs.Tree.{Text}
 use Rattle.jiter_steps.specs.ReadError.{UnlessRefused}
 use Rattle.jiter_steps.specs.StringDecoder.{text_view}
-use Rattle.jiter_steps.specs.StringReading.{Place, part, over, place_by, place_at, behind_backslash, plain, escape_or_plain, Stop, closed, unclosed, cut, wrong, Body, before, join, body_at, valid_front, kept, text_in_form, content_at, string_at}
+use Rattle.jiter_steps.specs.StringReading.{Place, part, over, place_by, place_at, behind_backslash, plain}
+use Rattle.jiter_steps.specs.StringReading.{escape_or_plain, Stop, closed, unclosed, cut, wrong, Body, before, join}
+use Rattle.jiter_steps.specs.StringReading.{body_at, valid_front, kept, text_in_form, content_at, string_at}
 use Rattle.jiter_steps.specs.declared.read_error.ReadError.{ReadError}
 use Rattle.jiter_steps.specs.declared.read_error.ReadError.TheVariants.{Fault, Memory}
 use Rattle.jiter_steps.proofs.Bodies.{body_at-is, body_at-place_by}

@@ -1,5 +1,6 @@
 -- What is built of one reading of a text maps to what is built of another.
-use Rattle.std.proofs.Common.{◌≡◌, ℕ, zero, suc, ◌+◌, ◌<◌, Bool, true, false, cond, List, [], ◌∷◌, ◌++◌, length, map, refl, sym, ap, ◌∙◌}
+use Rattle.std.proofs.Common.{◌≡◌, ℕ, zero, suc, ◌+◌, ◌<◌, Bool, true, false, cond, List, [], ◌∷◌, ◌++◌, length, map}
+use Rattle.std.proofs.Common.{refl, sym, ap, ◌∙◌}
 use Rattle.std.specs.Prelude.{slice_index, slice_get, Option, Some, None}
 use Rattle.std.proofs.lemmas.List.{map_push}
 use Rattle.jiter_scan.specs.Kind.{Kind}
@@ -8,12 +9,17 @@ use Rattle.jiter_scan.specs.Word.{Extent}
 use Rattle.jiter_steps.specs.Blank.{past_blanks}
 use Rattle.jiter_steps.specs.Literal.{start_of}
 use Rattle.jiter_steps.specs.Node.{nesting_limit}
-use Rattle.jiter_steps.specs.Step.{Step, more, closed, stuck, step, array_first, array_step, object_colon}
-use Rattle.jiter_steps.specs.Read.{Reading, done, fault, Rules, Container, scalar_at, with_key, behind_colon, behind_key, if_forgiven, follow, behind_part, parts_at, container_at, array_of, object_of, value_with, inside_at, value_at, if_last, to_end, if_begun, front_answer, whole_answer}
+use Rattle.jiter_steps.specs.Step.{Step, more, closed, stuck, step, object_colon}
+use Rattle.jiter_steps.specs.Read.{Reading, done, fault, Rules, Container, scalar_at, with_key, behind_colon}
+use Rattle.jiter_steps.specs.Read.{behind_key, if_forgiven, follow, behind_part, parts_at, container_at, array_of}
+use Rattle.jiter_steps.specs.Read.{object_of, value_with, inside_at, value_at, if_last, to_end, if_begun, front_answer}
+use Rattle.jiter_steps.specs.Read.{whole_answer}
 use Rattle.jiter_steps.specs.declared.parse.Literal.{Literal}
 use Rattle.jiter_steps.specs.declared.parse.Start.{Start}
 use Rattle.jiter_steps.specs.declared.parse.Start.TheVariants as start
-use Rattle.jiter_steps.proofs.Firsts.{begins-within, string-begins, GoesTo, object_first-key, object_step-key}
+use Rattle.jiter_steps.specs.declared.parse.Shape.TheVariants as shape
+use Rattle.jiter_steps.proofs.FirstBytes.{begins-within, string-begins, GoesTo, BeginsAt, key-quote}
+use Rattle.jiter_steps.proofs.FirstBytes.{container_first-begins, container_step-begins}
 
 abbrev pub mapped : {A B : Type 0} → (A → B) → Reading A → Reading B
 mapped h (done a e) = done (h a) e
@@ -50,12 +56,6 @@ pub record Maps {P Q A B : Type 0} (c : Container P A) (d : Container Q B) (m : 
   pub next-begins : (i : ℕ) → GoesTo Begins (step t c.next i)
   pub part : (i : ℕ) → Begins i → mapped m (c.part i) ≡ d.part i
   pub build : (e : ℕ) (parts : List P) → h (c.build e parts) ≡ d.build e (map m parts)
-
--- any place begins an item
-any-begins : (s : Step) → GoesTo (λ j. Unit {0}) s
-any-begins (more j) = tt
-any-begins (closed e) = tt
-any-begins (stuck k j) = tt
 
 module _ {K L A B : Type 0} (p : Rules K A) (q : Rules L B) (g : K → L) (h : A → B) (t : List ℕ)
     (leads : Leads p q g h t) where
@@ -125,23 +125,23 @@ module _ {K L A B : Type 0} (p : Rules K A) (q : Rules L B) (g : K → L) (h : A
     behind_key-mapped i (taken k e) = behind_colon-mapped k (object_colon t e)
     behind_key-mapped i (failed kind j) = refl
 
-    array-maps : (i : ℕ) → Maps (array_of p f t i) (array_of q f' t i) h h t (λ j. Unit {0})
+    array-maps : (i : ℕ) → Maps (array_of p f t i) (array_of q f' t i) h h t (BeginsAt shape.Array t)
     array-maps i = record {
       first = λ j. refl;
       next = λ j. refl;
-      first-begins = λ j. any-begins (step t array_first j);
-      next-begins = λ j. any-begins (step t (array_step t) j);
+      first-begins = container_first-begins shape.Array t;
+      next-begins = container_step-begins shape.Array t;
       part = λ j b. same j;
       build = leads.array i;
     }
 
-    object-maps : (i : ℕ) → Maps (object_of p f t i) (object_of q f' t i) (pair g h) h t (λ j. slice_get t j ≡ Some 34)
+    object-maps : (i : ℕ) → Maps (object_of p f t i) (object_of q f' t i) (pair g h) h t (BeginsAt shape.Object t)
     object-maps i = record {
       first = λ j. refl;
       next = λ j. refl;
-      first-begins = object_first-key t;
-      next-begins = object_step-key t;
-      part = λ j quote. behind_key-mapped j (p.key t j) ∙ ap (behind_key f' t j) (leads.key j quote);
+      first-begins = container_first-begins shape.Object t;
+      next-begins = container_step-begins shape.Object t;
+      part = λ j h. behind_key-mapped j (p.key t j) ∙ ap (behind_key f' t j) (leads.key j (key-quote t j h));
       build = leads.object i;
     }
 

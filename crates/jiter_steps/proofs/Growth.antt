@@ -1,5 +1,7 @@
 -- A later cut of a document goes on where an earlier one stopped.
-use Rattle.std.proofs.Common.{◌≡◌, ◌⊎◌, inl, inr, ℕ, zero, suc, ◌+◌, ◌<◌, ◌≤◌, Bool, Option, Some, None, List, [], ◌∷◌, ◌++◌, refl, sym, ap, ap₂, ◌∙◌, subst, arith, nat_le, min, if◌then◌else◌, slice_range, append-nil}
+use Rattle.std.proofs.Common.{◌≡◌, ◌⊎◌, inl, inr, ℕ, zero, suc, ◌+◌, ◌<◌, ◌≤◌, Bool, Option, Some, None, List, [], ◌∷◌}
+use Rattle.std.proofs.Common.{◌++◌, refl, sym, ap, ap₂, ◌∙◌, subst, arith, nat_le, min, if◌then◌else◌, slice_range}
+use Rattle.std.proofs.Common.{append-nil}
 use Rattle.std.specs.Str.{encode_utf8_all}
 use Rattle.std.proofs.lemmas.Bool.{cases_lt, le-leb, lt-leb, leb-true, leb-false}
 use Rattle.std.proofs.lemmas.List.{map-append}
@@ -13,11 +15,14 @@ use Rattle.jiter_steps.specs.Literal.{literal_tree}
 use Rattle.jiter_steps.specs.Piece.{Piece, characters, text_of, pieces_to}
 use Rattle.jiter_steps.specs.Tree.{Text, Tree, Items, Members}
 use Rattle.jiter_steps.specs.Tree as tree
-use Rattle.jiter_steps.specs.Node.{Key, Node, Nodes, no_nodes, node, NodeMembers, no_members, member, begin, end, Spells, nesting, text_at, number_tree, value_of, values_of, members_of}
+use Rattle.jiter_steps.specs.Node.{Key, Node, Nodes, no_nodes, node, NodeMembers, no_members, member, begin, end}
+use Rattle.jiter_steps.specs.Node.{Spells, nesting, text_at, number_tree, value_of, values_of, members_of}
 use Rattle.jiter_steps.specs.Node as grammar
 use Rattle.jiter_steps.specs.Cut.{cut, cut_items, cut_members, cut_number, cut_string, with_item, with_member}
-use Rattle.jiter_steps.specs.Extends.{Extends, ExtendsItems, ExtendsMembers, CutsNoNumber, CutsNoNumberOf, CutsNoNumberOfMembers}
-use Rattle.jiter_steps.proofs.SpelledParts.{nodes_list, members_list, InOrder, items-order, members-order, node-ahead, order-ahead}
+use Rattle.jiter_steps.specs.Extends.{Extends, ExtendsItems, ExtendsMembers, CutsNoNumber, CutsNoNumberOf}
+use Rattle.jiter_steps.specs.Extends.{CutsNoNumberOfMembers}
+use Rattle.jiter_steps.proofs.SpelledParts.{nodes_list, members_list, InOrder, items-order, members-order, node-ahead}
+use Rattle.jiter_steps.proofs.SpelledParts.{order-ahead}
 
 -- A tree goes on from itself.
 items-more : (v : Tree) (vs ws : Items) → Extends v v → ExtendsItems vs ws

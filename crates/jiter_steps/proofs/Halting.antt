@@ -1,17 +1,21 @@
 -- Where a partial reading halts in a container that the text leaves open: no container round it takes a byte there.
-use Rattle.std.proofs.Common.{◌≡◌, ◌≢◌, ℕ, ◌<◌, ◌≤◌, ◌==◌, Bool, true, false, cond, List, length, take, refl, ap, ap₂, ◌∙◌, subst, sym, arith, IfSome}
+use Rattle.std.proofs.Common.{◌≡◌, ◌≢◌, ℕ, ◌<◌, ◌≤◌, ◌==◌, Bool, true, false, cond, List, length, take, refl, ap, ap₂}
+use Rattle.std.proofs.Common.{◌∙◌, subst, sym, arith, IfSome}
 use Rattle.std.specs.Prelude.{◌||◌, slice_get, Option, Some, None}
 use Rattle.std.proofs.lemmas.Bool.{eqb-true}
 use Rattle.std.proofs.lemmas.Option.{slice_get_within}
-use Rattle.jiter_scan.specs.Kind.{Kind, is_end_kind, is_forgiven, eof_list, eof_object, expected_list_comma_or_end, expected_object_comma_or_end}
+use Rattle.jiter_scan.specs.Kind.{Kind, is_end_kind, is_forgiven, expected_list_comma_or_end}
+use Rattle.jiter_scan.specs.Kind.{expected_object_comma_or_end}
 use Rattle.jiter_scan.proofs.Standing.{get-none}
 use Rattle.jiter_steps.specs.Blank.{is_blank, IsBlank}
 use Rattle.jiter_steps.specs.Literal.{start_of}
 use Rattle.jiter_steps.specs.Node as grammar
 use Rattle.jiter_steps.specs.Node.{Node, begin, Spells}
-use Rattle.jiter_steps.specs.Step.{Step, stuck, step, array_step, object_step}
+use Rattle.jiter_steps.specs.Step.{Step, stuck, step, closer_of, end_kind_of, comma_kind_of, container_step}
+use Rattle.jiter_steps.specs.declared.parse.Shape.{Shape}
 use Rattle.jiter_steps.specs.declared.parse.Start.TheVariants as start
 use Rattle.jiter_steps.proofs.Blanks.{past_blanks-end}
+use Rattle.jiter_steps.proofs.BothShapes.{end_kind-early, comma_kind-forgiven, closer-begins_none}
 use Rattle.jiter_steps.proofs.Front.{front-get, front-past}
 use Rattle.jiter_steps.proofs.RowSteps.{row-at}
 use Rattle.jiter_steps.proofs.SpelledParts.{start_is, begins-value}
@@ -88,22 +92,12 @@ module _ (t : List ℕ) where
         record { ordered = omega arith; within = omega arith; each = λ m l lt. absurd (omega arith) } in
         subst (StuckAt p) (sym (row-at t row p p c here e (begins-no_blank c h))) (some p c h)
 
-  -- behind an item
-  pub array-halts : (p : ℕ) → Halts t p → StuckAt p (step t (array_step t) p)
-  array-halts =
-      row-halts (array_step t) (λ p. (eof_list, refl, refl))
+  -- behind a part
+  pub container-halts : (b : Shape) (p : ℕ) → Halts t p → StuckAt p (step t (container_step b t) p)
+  container-halts b =
+      row-halts (container_step b t) (λ p. (end_kind_of b, refl, end-forgiven _ (end_kind-early b)))
       (λ p c h. (
-        expected_list_comma_or_end,
-        past-tests (c == 93) (c == 44) _ _ _ (other c 93 refl h) (other c 44 refl h),
-        refl,
-      ))
-
-  -- behind a member
-  pub object-halts : (p : ℕ) → Halts t p → StuckAt p (step t (object_step t) p)
-  object-halts =
-      row-halts (object_step t) (λ p. (eof_object, refl, refl))
-      (λ p c h. (
-        expected_object_comma_or_end,
-        past-tests (c == 125) (c == 44) _ _ _ (other c 125 refl h) (other c 44 refl h),
-        refl,
+        comma_kind_of b,
+        past-tests (c == closer_of b) (c == 44) _ _ _ (other c (closer_of b) (closer-begins_none b) h) (other c 44 refl h),
+        comma_kind-forgiven b,
       ))

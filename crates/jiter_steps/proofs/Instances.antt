@@ -11,12 +11,13 @@ use Rattle.jiter_scan.proofs.NumberLaws.{number_at-within}
 use Rattle.jiter_steps.specs.Literal.{word_of, literal_at}
 use Rattle.jiter_steps.specs.StringReading.{Form, whole, raw, string_at}
 use Rattle.jiter_steps.specs.Node.{nesting_limit}
-use Rattle.jiter_steps.specs.Answer.{seen_as, trees, ends, whole_trees, partial_trees, value_form, answer, partial_answer, read_at, skip_at}
+use Rattle.jiter_steps.specs.Answer.{seen_as, trees, ends, whole_trees, partial_trees, value_form, answer}
+use Rattle.jiter_steps.specs.Answer.{partial_answer, read_at, skip_at}
 use Rattle.jiter_steps.specs.declared.parse.Literal.{Literal}
 use Rattle.jiter_steps.specs.declared.parse.Literal.TheVariants as literal
 use Rattle.jiter_steps.proofs.Bounds.{Within}
 use Rattle.jiter_steps.proofs.Values.{Advances, value_at-within}
-use Rattle.jiter_steps.proofs.Answered.{front_answer-within, whole_answer-within}
+use Rattle.jiter_steps.proofs.WholeTexts.{front_answer-within, whole_answer-within}
 use Rattle.jiter_steps.proofs.NodeRules.{nodes}
 use Rattle.jiter_steps.proofs.StringLaws.{string_at-within}
 

@@ -1,6 +1,7 @@
 -- The front of a text, read as nodes: what ends before the cut is read as its node, and where a value is cut the input
 -- ends too early.
-use Rattle.std.proofs.Common.{◌≡◌, inl, inr, ℕ, ◌+◌, ◌<◌, ◌≤◌, Bool, true, false, cond, List, [], ◌∷◌, ◌++◌, length, take, refl, sym, ap, ◌∙◌, subst, arith}
+use Rattle.std.proofs.Common.{◌≡◌, inl, inr, ℕ, ◌+◌, ◌<◌, ◌≤◌, Bool, true, false, cond, List, [], ◌∷◌, ◌++◌, length}
+use Rattle.std.proofs.Common.{take, refl, sym, ap, ◌∙◌, subst, arith}
 use Rattle.std.specs.Prelude.{slice_range, Option}
 use Rattle.std.specs.Str.{chars}
 use Rattle.std.proofs.lemmas.List.{map-id}
@@ -13,15 +14,18 @@ use Rattle.jiter_scan.specs.Word.{Extent}
 use Rattle.jiter_steps.specs.Answer.{seen_as}
 use Rattle.jiter_steps.specs.Literal.{word_of, literal_at}
 use Rattle.jiter_steps.specs.Node as grammar
-use Rattle.jiter_steps.specs.Node.{Key, Node, begin, end, SpellsNumber, Spells, nesting, nesting_limit, value_of, IsContainer, IsDocument}
+use Rattle.jiter_steps.specs.Node.{Key, Node, begin, end, SpellsNumber, Spells, nesting, nesting_limit, value_of}
+use Rattle.jiter_steps.specs.Node.{IsContainer, IsDocument}
 use Rattle.jiter_steps.specs.Piece.{Piece, SpellsString}
-use Rattle.jiter_steps.specs.Read.{Reading, done, fault, Rules, Container, scalar_at, with_key, if_forgiven, follow, parts_at, container_at, array_of, object_of, value_at}
+use Rattle.jiter_steps.specs.Read.{Reading, done, fault, Rules, Container, scalar_at, with_key, if_forgiven, follow}
+use Rattle.jiter_steps.specs.Read.{parts_at, container_at, array_of, object_of, value_at}
 use Rattle.jiter_steps.specs.Step.{Step, stuck, step}
 use Rattle.jiter_steps.specs.StringReading.{whole, string_at}
 use Rattle.jiter_steps.specs.Tree.{Text}
 use Rattle.jiter_steps.specs.declared.parse.Literal.{Literal}
 use Rattle.jiter_steps.proofs.SpelledParts.{nodes_list, members_list, nodes-listed, members-listed, key-taken}
-use Rattle.jiter_steps.proofs.CutParts.{EndsInput, Cuts, array-cuts, object-cuts, CutParts}
+use Rattle.jiter_steps.specs.declared.parse.Shape.TheVariants as shape
+use Rattle.jiter_steps.proofs.CutParts.{EndsInput, Cuts, cuts, CutParts}
 use Rattle.jiter_steps.proofs.Front.{front-length, front-stands, front-word}
 use Rattle.jiter_steps.proofs.Instances.{nodes-advances}
 use Rattle.jiter_steps.proofs.NodeRules.{nodes, nodes_of, node_members_of, key_of}
@@ -193,12 +197,12 @@ module _ (names : Bool) (t : List ℕ) (k : ℕ) (within : k ≤ length t) where
     array-cut = λ inner b e ns h lt goes parts.
         container-early t k within (nodes names) (λ kind. refl)
         (array_of (nodes names) inner front b) goes (λ n. n) same_node IsCut cut-short
-        (array-cuts t k within) b (nodes_list ns) parts;
+        (cuts t k within shape.Array) b (nodes_list ns) parts;
     object-cut = λ inner b e ms h lt goes parts.
         container-early t k within (nodes names) (λ kind. refl) (object_of (nodes names) inner front b) goes (λ m. m.1)
         (see_member (nodes names) names t k within same_key same_node IsCut)
         (IsCutMember (nodes names) names t k within same_key same_node IsCut) member-short
-        (object-cuts t k within) b (members_list ms) parts;
+        (cuts t k within shape.Object) b (members_list ms) parts;
   }
 
   -- A value that begins before the cut.

@@ -1,12 +1,16 @@
 -- A number in a front of the text: read as in the whole text, or up to the cut.
-use Rattle.std.proofs.Common.{◌≡◌, ◌⊎◌, inl, inr, ℕ, zero, suc, ◌+◌, ◌-◌, ◌<◌, ◌≤◌, ◌==◌, ◌||◌, Bool, true, false, List, [], ◌∷◌, length, get_or, take, min, refl, sym, ap, ◌∙◌, subst, arith}
+use Rattle.std.proofs.Common.{◌≡◌, ◌⊎◌, inl, inr, ℕ, zero, suc, ◌+◌, ◌-◌, ◌<◌, ◌≤◌, ◌==◌, ◌||◌, Bool, true, false, List}
+use Rattle.std.proofs.Common.{[], ◌∷◌, length, get_or, take, min, refl, sym, ap, ◌∙◌, subst, arith}
 use Rattle.std.specs.Prelude.{slice_get, slice_range, Option, Some, None, if◌then◌else◌, nat_le, codes}
 use Rattle.std.proofs.lemmas.Bool.{cases_lt, le-leb, lt-leb}
 use Rattle.std.proofs.lemmas.Option.{slice_get-get_or}
 use Rattle.jiter_scan.specs.Digits.{is_digit, digit_run_end}
-use Rattle.jiter_scan.specs.Kind.{Kind, is_end_kind, expected_ident, expected_value, invalid_number, number_out_of_range}
+use Rattle.jiter_scan.specs.Kind.{Kind, is_end_kind, expected_ident, expected_value, invalid_number}
+use Rattle.jiter_scan.specs.Kind.{number_out_of_range}
 use Rattle.jiter_scan.specs.Number.{Number, number_value, digit_limit}
-use Rattle.jiter_scan.specs.NumberReading.{extent_then, digits_from, behind_zero, within_limit, whole_from, whole_at, fraction_from, fraction_at, power_from, exponent_from, exponent_at, decimal_at, behind_minus, extent_from, number_extent, with_value, number_at}
+use Rattle.jiter_scan.specs.NumberReading.{extent_then, digits_from, behind_zero, within_limit, whole_from, whole_at}
+use Rattle.jiter_scan.specs.NumberReading.{fraction_from, fraction_at, power_from, exponent_from, exponent_at}
+use Rattle.jiter_scan.specs.NumberReading.{decimal_at, behind_minus, extent_from, number_extent, with_value, number_at}
 use Rattle.jiter_scan.specs.Scanned.{Scanned, taken, failed}
 use Rattle.jiter_scan.specs.Word.{Extent, byte_then, word_at}
 use Rattle.jiter_scan.proofs.Choices.{failed-taken, same_taken, if-true, if-false}

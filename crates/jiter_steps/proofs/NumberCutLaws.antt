@@ -1,5 +1,6 @@
 -- A number that the front of a text cuts is read up to the cut exactly where its bytes up to there are a number's text.
-use Rattle.std.proofs.Common.{◌≡◌, ℕ, ◌<◌, ◌≤◌, Bool, true, false, List, length, take, sym, ap, ◌∙◌, subst, arith, refl, IfSome}
+use Rattle.std.proofs.Common.{◌≡◌, ℕ, ◌<◌, ◌≤◌, Bool, true, false, List, length, take, sym, ap, ◌∙◌, subst, arith, refl}
+use Rattle.std.proofs.Common.{IfSome}
 use Rattle.std.specs.Prelude.{slice_range}
 use Rattle.jiter_scan.specs.Kind.{is_end_kind}
 use Rattle.jiter_scan.specs.Number.{Number, IsNumberText, number_value}

@@ -39,16 +39,16 @@ use Rattle.jiter_steps.proofs.OpenParts.{Anywhere, CanEndHere, CanEnd, Grows, co
 use Rattle.jiter_steps.proofs.Parts.{Grammar, parts-are}
 use Rattle.jiter_steps.proofs.Pieces.{pieces_from}
 use Rattle.jiter_steps.proofs.Places.{IsPlaceKind}
-use Rattle.jiter_steps.proofs.RowSteps.{Delimits, ByteAt, ItemAt, KeyBegins, PartBehind, Behind, ExtentIs}
-use Rattle.jiter_steps.proofs.RowSteps.{array-delimits}
-use Rattle.jiter_steps.proofs.RowSteps.{object-delimits, object_colon-is}
+use Rattle.jiter_steps.specs.declared.parse.Shape.TheVariants as shape
+use Rattle.jiter_steps.proofs.RowSteps.{Delimits, ByteAt, PartAt, begins-quote, PartBehind, Behind, ExtentIs, delimits}
+use Rattle.jiter_steps.proofs.RowSteps.{object_colon-is}
 use Rattle.jiter_steps.proofs.SameFront.{SameBefore, place-too, key-too, spells-too}
 use Rattle.jiter_steps.proofs.Sound.{array-byte, object-byte, byte-here, IsNodeAt, IsItemAt, IsMemberAt, array, object}
 use Rattle.jiter_steps.proofs.Sound.{array-goes, object-goes, ItemsAre, MoreItemsAre, MembersAre, MoreMembersAre}
 use Rattle.jiter_steps.proofs.Sound.{items-grammar, members-grammar, item-read, member-read, inside_at-sound}
 use Rattle.jiter_steps.proofs.ScalarLaws.{scalar-laws}
 use Rattle.jiter_steps.proofs.SpelledParts.{key-ahead, node-ahead}
-use Rattle.jiter_steps.proofs.StuckSteps.{Sticks, array-sticks, object-sticks}
+use Rattle.jiter_steps.proofs.StuckSteps.{Sticks, sticks}
 use Rattle.jiter_steps.proofs.Values.{Goes}
 
 -- at a fault that can go on, something like this can be ended
@@ -162,7 +162,7 @@ module _ (names : Bool) where
     abbrev inner : ℕ → Reading Node
     inner i = inside_at (nodes names) t room i
 
-    items-grow : (b : ℕ) → Grows 93 (IsItem room) t (array names t room b) (ItemAt t)
+    items-grow : (b : ℕ) → Grows 93 (IsItem room) t (array names t room b) (PartAt shape.Array t)
     items-grow b = record {
       is_closer = (inl refl, tt);
       too = λ u v i e n same is. (node-too u v i e n same is.0, is.1);
@@ -206,7 +206,7 @@ module _ (names : Bool) where
         (all j (slice_get_within t j h.2.begins.byte h.2.begins.here))
     behind_colon-open i key begins string (failed k j) h dead = dead
 
-    behind_key-open : (i : ℕ) → KeyBegins t i → (x : Scanned Text) → string_at whole t i ≡ x → ScalarWithin t i x
+    behind_key-open : (i : ℕ) → slice_get t i ≡ Some 34 → (x : Scanned Text) → string_at whole t i ≡ x → ScalarWithin t i x
         → LiveIs (CanEndHere (IsMember room) t i) x
         → OpenAs (IsMember room) t i (behind_key inner t i (seen_as (key_of t i) x))
     behind_key-open i quote (taken s e) is w dead =
@@ -215,15 +215,15 @@ module _ (names : Bool) where
         (object_colon-live t (CanEndHere (IsMember room) t i) e)
     behind_key-open i quote (failed k j) is w dead = dead
 
-    members-grow : (b : ℕ) → Grows 125 (IsMember room) t (object names t room b) (KeyBegins t)
+    members-grow : (b : ℕ) → Grows 125 (IsMember room) t (object names t room b) (PartAt shape.Object t)
     members-grow b = record {
       is_closer = (inr refl, tt);
       too = λ u v i e m same is. member-too room u v i e m same is;
       is = λ i e m at is. member-read names t room (inside_at-sound names t room) b i m e at is;
       begun = λ i x stop k at is.
-          let within = slice_get_within t i 34 at in
+          let within = slice_get_within t i at.byte at.here in
           subst (OpenAs (IsMember room) t i) is
-          (behind_key-open i at (string_at whole t i) refl ((scalar-laws names t).string-within i within)
+          (behind_key-open i (begins-quote t i at) (string_at whole t i) refl ((scalar-laws names t).string-within i within)
           (string-live t (CanEndHere (IsMember room) t i) i));
       filler = codes "\"\":0";
       is_filler = inr (inr refl);
@@ -301,14 +301,14 @@ module _ (names : Bool) where
     value_with-open : (i : ℕ) → i < length t → (s : Start) → start_of (slice_index t i) ≡ s
         → OpenAs (IsValue room) t i (value_with (nodes names) inner t i s)
     value_with-open i h start.Array e =
-        container-open 93 (ItemAt t) (IsItem room) (λ u. ItemsAre names u room) (λ u. MoreItemsAre names u room)
-        (array names t room i) (array-delimits t) (array-sticks t) (array-goes names t room i) (items-grow i)
+        container-open 93 (PartAt shape.Array t) (IsItem room) (λ u. ItemsAre names u room) (λ u. MoreItemsAre names u room)
+        (array names t room i) (delimits t shape.Array) (sticks t shape.Array) (array-goes names t room i) (items-grow i)
         (λ u. items-grammar names u room Anywhere (IsItem room u) (λ j n m at is. is))
         i 91 (byte-here names t room i 91 h (array-byte _ e))
         (λ u ps opens are. value-here u (grammar.array i (length u) (nodes_of ps)) (opens, are.0) refl are.1)
     value_with-open i h start.Object e =
-        container-open 125 (KeyBegins t) (IsMember room) (λ u. MembersAre names u room)
-        (λ u. MoreMembersAre names u room) (object names t room i) (object-delimits t) (object-sticks t)
+        container-open 125 (PartAt shape.Object t) (IsMember room) (λ u. MembersAre names u room)
+        (λ u. MoreMembersAre names u room) (object names t room i) (delimits t shape.Object) (sticks t shape.Object)
         (object-goes names t room i) (members-grow i)
         (λ u. members-grammar names u room Anywhere (IsMember room u) (λ j m e at is. is))
         i 123 (byte-here names t room i 123 h (object-byte _ e))

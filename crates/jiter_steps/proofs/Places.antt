@@ -1,5 +1,6 @@
 -- What is found at a place, in the grammar's words.
-use Rattle.std.proofs.Common.{◌≡◌, ◌≢◌, ◌⊎◌, inl, inr, ℕ, ◌+◌, ◌-◌, ◌*◌, ◌<◌, ◌≤◌, true, false, List, [], ◌∷◌, ◌++◌, length, refl, sym, ap, ◌∙◌, subst, arith}
+use Rattle.std.proofs.Common.{◌≡◌, ◌≢◌, ◌⊎◌, inl, inr, ℕ, ◌+◌, ◌-◌, ◌*◌, ◌<◌, ◌≤◌, true, false, List, [], ◌∷◌, ◌++◌}
+use Rattle.std.proofs.Common.{length, refl, sym, ap, ◌∙◌, subst, arith}
 use Rattle.std.specs.Prelude.{slice_get, slice_index, Option, Some, None, if◌then◌else◌, ◌==◌, nat_lt}
 use Rattle.std.specs.Char.{IsScalar, encode_utf8, digit_value}
 use Rattle.std.proofs.lemmas.Bool.{eqb-true, eqb-false, ltb-true, ltb-false}
@@ -10,7 +11,10 @@ use Rattle.jiter_scan.specs.Kind.{Kind, invalid_escape, lone_surrogate, end_of_h
 use Rattle.jiter_steps.specs.Escape.{short_escape, is_hex, unit_of, is_high, is_low, pair_of}
 use Rattle.jiter_scan.specs.Stands.{Stands}
 use Rattle.jiter_steps.specs.Piece.{IsUnit, IsEscape}
-use Rattle.jiter_steps.specs.StringReading.{closed, unclosed, cut, wrong, Place, part, over, bad_digit, unit_at, few, hex_digits_or, hex_digits_at, behind, unit_then, surrogate_pair, behind_high_backslash, behind_high, single, unicode_escape, short, behind_backslash, plain, escape_or_plain, place_by, place_at}
+use Rattle.jiter_steps.specs.StringReading.{closed, unclosed, cut, wrong, Place, part, over, bad_digit, unit_at, few}
+use Rattle.jiter_steps.specs.StringReading.{hex_digits_or, hex_digits_at, behind, unit_then, surrogate_pair}
+use Rattle.jiter_steps.specs.StringReading.{behind_high_backslash, behind_high, single, unicode_escape, short}
+use Rattle.jiter_steps.specs.StringReading.{behind_backslash, plain, escape_or_plain, place_by, place_at}
 use Rattle.jiter_scan.proofs.Choices.{if_case}
 use Rattle.jiter_scan.proofs.Standing.{stands-append}
 use Rattle.jiter_steps.proofs.StringStand.{stands-more, got}

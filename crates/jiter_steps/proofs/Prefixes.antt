@@ -4,7 +4,7 @@ use Rattle.std.proofs.lemmas.Bool.{cases_lt}
 use Rattle.jiter_steps.specs.Answer.{answer}
 use Rattle.jiter_steps.specs.Node.{Node, begin, end, nesting_limit, value_of, IsContainer, IsDocument}
 use Rattle.jiter_steps.specs.Read.{Reading, done, fault, to_end, whole_answer}
-use Rattle.jiter_steps.proofs.Answered.{whole-empty, whole-begins}
+use Rattle.jiter_steps.proofs.WholeTexts.{whole-empty, whole-begins}
 use Rattle.jiter_steps.proofs.SpelledParts.{begins-value, ends-end}
 use Rattle.jiter_steps.proofs.Documents.{answer-value}
 use Rattle.jiter_steps.proofs.Front.{front-length, front-get, front-blank, cut-blank}

@@ -1,6 +1,7 @@
 -- The front of a text is read along the node that the whole text spells, by any rules: what ends before the cut is read
 -- whole, and what the cut falls into is cut.
-use Rattle.std.proofs.Common.{◌≡◌, ◌⊎◌, inl, inr, ℕ, zero, suc, ◌+◌, ◌<◌, ◌≤◌, Bool, true, List, length, map, take, refl, sym, ap, ◌∙◌, subst, arith}
+use Rattle.std.proofs.Common.{◌≡◌, ◌⊎◌, inl, inr, ℕ, zero, suc, ◌+◌, ◌<◌, ◌≤◌, Bool, true, List, length, map, take}
+use Rattle.std.proofs.Common.{refl, sym, ap, ◌∙◌, subst, arith}
 use Rattle.std.specs.Prelude.{slice_get, Some}
 use Rattle.std.proofs.lemmas.Bool.{cases_lt}
 use Rattle.jiter_scan.specs.Kind.{Kind, is_end_kind, eof_object, eof_string, eof_value}
@@ -10,17 +11,23 @@ use Rattle.jiter_steps.specs.Literal.{word_of, start_of}
 use Rattle.jiter_steps.specs.Node as grammar
 use Rattle.jiter_steps.specs.Node.{Key, Node, Nodes, NodeMembers, begin, end, SpellsNumber, SpellsKey, Spells, nesting}
 use Rattle.jiter_steps.specs.Piece.{Piece, SpellsString}
-use Rattle.jiter_steps.specs.Read.{Reading, done, fault, Rules, Container, scalar_at, with_key, behind_key, container_at, array_of, object_of, value_with, inside_at, value_at}
+use Rattle.jiter_steps.specs.Read.{Reading, done, fault, Rules, Container, scalar_at, with_key, behind_key}
+use Rattle.jiter_steps.specs.Read.{container_at, array_of, object_of, value_with, inside_at, value_at}
 use Rattle.jiter_steps.specs.Step.{array_first, object_first, object_colon}
+use Rattle.jiter_steps.specs.declared.parse.Shape.{Shape}
+use Rattle.jiter_steps.specs.declared.parse.Shape.TheVariants as shape
 use Rattle.jiter_steps.specs.declared.parse.Literal.{Literal}
 use Rattle.jiter_steps.specs.declared.parse.Start.{Start}
-use Rattle.jiter_steps.proofs.SpelledParts.{start_is, node-starts, begins-value, nodes_list, members_list, IsItem, IsMember, items-parts, members-parts, behind-ahead, key-ahead, node-ahead}
-use Rattle.jiter_steps.proofs.CutParts.{ReadTo, CutParts, ReadsFront, array-cuts, object-cuts, colon-cut, value_first-cut, container-whole, parts-cut}
+use Rattle.jiter_steps.proofs.SpelledParts.{start_is, node-starts, begins-value, nodes_list, members_list, IsItem}
+use Rattle.jiter_steps.proofs.SpelledParts.{IsMember, items-parts, members-parts, behind-ahead, key-ahead, node-ahead}
+use Rattle.jiter_steps.proofs.CutParts.{ReadTo, CutParts, ReadsFront, cuts, colon-cut, value_first-cut, container-whole}
+use Rattle.jiter_steps.proofs.CutParts.{parts-cut}
 use Rattle.jiter_steps.proofs.Front.{front-get, front-index, front-blank, front-behind}
 use Rattle.jiter_steps.proofs.Parts.{Parts}
-use Rattle.jiter_steps.proofs.RowSteps.{ItemAt, KeyBegins, array-delimits, object-delimits, object_colon-taken}
+use Rattle.jiter_steps.proofs.RowSteps.{PartAt, delimits, object_colon-taken}
 use Rattle.jiter_steps.proofs.ScalarLaws.{EndsNumber}
-use Rattle.jiter_steps.proofs.Values.{Advances, AllWithin, Goes, array_of-goes, object_of-goes, inside_at-within, inside_at-suc, value-starts, member-key, member-colon, member-value}
+use Rattle.jiter_steps.proofs.Values.{Advances, AllWithin, Goes, array_of-goes, object_of-goes, inside_at-within}
+use Rattle.jiter_steps.proofs.Values.{inside_at-suc, value-starts, member-key, member-colon, member-value}
 
 module _ {K A : Type 0} (r : Rules K A) (names : Bool) (t : List ℕ) (k : ℕ) (within : k ≤ length t)
     (see_key : Key → K) (see : Node → A) (IsCut : Node → Reading A → Type 0) where
@@ -96,12 +103,13 @@ module _ {K A : Type 0} (r : Rules K A) (names : Bool) (t : List ℕ) (k : ℕ) 
           (n : Node) → Spells names t n → nesting n < room → EndsNumber t (end n) → begin n < k
           → Reads n (inner (begin n))
 
-      -- items
-      item-front : (j : ℕ) → j < k → ItemAt t j → ItemAt u j
-      item-front j lt h =
+      -- where a part begins
+      part-front : (b : Shape) (j : ℕ) → j < k → PartAt b t j → PartAt b u j
+      part-front b j lt h =
           let here = front-get t k within j h.byte lt h.here in
-          record { byte = h.byte; here = here; no_blank = h.no_blank; no_closer = h.no_closer }
+          record { byte = h.byte; here = here; no_blank = h.no_blank; begins = h.begins }
 
+      -- items
       item-ahead : (j : ℕ) (n : Node) (e : ℕ) → IsItem names t room j n e → j < e
       item-ahead j n e is = omega (arith, node-ahead names t n is.spelled, is.begins, is.ends)
 
@@ -113,11 +121,11 @@ module _ {K A : Type 0} (r : Rules K A) (names : Bool) (t : List ℕ) (k : ℕ) 
           subst (λ f. ReadTo t k within see IsCut n f (inner j)) is.ends (subst (λ i. Reads n (inner i)) is.begins read)
 
       items-front : InnerReads → (b : ℕ)
-          → ReadsFront t k within (array b) (λ n. n) see IsCut 93 ItemAt (IsItem names t room)
+          → ReadsFront t k within (array b) (λ n. n) see IsCut 93 (PartAt shape.Array) (IsItem names t room)
       items-front all b = record {
-        delimits = array-delimits u;
-        ends = array-cuts t k within;
-        begins = item-front;
+        delimits = delimits u shape.Array;
+        ends = cuts t k within shape.Array;
+        begins = part-front shape.Array;
         value-begins = λ j n e is. omega (arith, is.begins);
         value-ends = λ j n e is. is.ends;
         ahead = item-ahead;
@@ -208,11 +216,11 @@ module _ {K A : Type 0} (r : Rules K A) (names : Bool) (t : List ℕ) (k : ℕ) 
             cut gt = by gt (cases_lt k m.0.end) (cases_lt (begin m.1) k)
 
       members-front : InnerReads → (b : ℕ)
-          → ReadsFront t k within (object b) member_value see_member IsCutMember 125 KeyBegins (IsMember names t room)
+          → ReadsFront t k within (object b) member_value see_member IsCutMember 125 (PartAt shape.Object) (IsMember names t room)
       members-front all b = record {
-        delimits = object-delimits u;
-        ends = object-cuts t k within;
-        begins = λ j lt h. front-get t k within j 34 lt h;
+        delimits = delimits u shape.Object;
+        ends = cuts t k within shape.Object;
+        begins = part-front shape.Object;
         value-begins = λ j m e is. omega (arith, is.begins, key-ahead names t m.0 (begin m.1) is.key);
         value-ends = λ j m e is. is.value.ends;
         ahead = member-ahead;
@@ -248,12 +256,12 @@ module _ {K A : Type 0} (r : Rules K A) (names : Bool) (t : List ℕ) (k : ℕ) 
       value-reads all (grammar.string ps b e) h d q lt = rules.text ps b e h lt
       value-reads all (grammar.array b e ns) h d q lt =
           let goes = array_of-goes r u good inner inner-within b in
-          container-reads (array b) (λ n. n) see IsCut 93 ItemAt (IsItem names t room) (items-front all b) goes
+          container-reads (array b) (λ n. n) see IsCut 93 (PartAt shape.Array) (IsItem names t room) (items-front all b) goes
           (grammar.array b e ns) (nodes_list ns) (items-parts names t room ns (b + 1) e h.1 d) lt
           (rules.array b e ns) (rules.array-cut inner b e ns h lt goes)
       value-reads all (grammar.object b e ms) h d q lt =
           let goes = object_of-goes r u good inner inner-within b in
-          container-reads (object b) member_value see_member IsCutMember 125 KeyBegins (IsMember names t room)
+          container-reads (object b) member_value see_member IsCutMember 125 (PartAt shape.Object) (IsMember names t room)
           (members-front all b) goes
           (grammar.object b e ms) (members_list ms) (members-parts names t room ms (b + 1) e h.1 d) lt
           (rules.object b e ms) (rules.object-cut inner b e ms h lt goes)

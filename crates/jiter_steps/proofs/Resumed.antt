@@ -1,15 +1,14 @@
 -- The turns of the machine, as what the open containers complete a reading to.
-use Rattle.std.proofs.Common.{◌≡◌, ℕ, zero, suc, ◌+◌, ◌-◌, ◌<◌, ◌≤◌, Bool, true, false, cond, List, [], ◌∷◌, ◌++◌, length, refl, sym, ap, ◌∙◌, arith}
+use Rattle.std.proofs.Common.{◌≡◌, ℕ, suc, ◌+◌, ◌-◌, ◌<◌, ◌≤◌, Bool, true, false, cond, List, [], ◌∷◌, length, refl, ap, ◌∙◌, arith}
 use Rattle.std.specs.Prelude.{slice_index}
 use Rattle.jiter_scan.specs.Kind.{Kind, recursion_limit}
 use Rattle.jiter_scan.specs.Scanned.{taken, failed}
 use Rattle.jiter_steps.specs.Literal.{start_of}
-use Rattle.jiter_steps.specs.Node.{nesting_limit}
 use Rattle.jiter_steps.specs.Step.{Step, more, closed, stuck, step, array_first, array_step, object_first, object_step, object_colon}
-use Rattle.jiter_steps.specs.Read.{Reading, done, fault, Rules, Container, if_forgiven, follow, with_key, behind_part, parts_at, container_at, array_of, object_of, value_with, inside_at, value_at}
+use Rattle.jiter_steps.specs.Read.{Reading, done, fault, Rules, Container, if_forgiven, follow, behind_part, container_at, array_of, object_of, inside_at, value_at}
 use Rattle.jiter_steps.specs.declared.parse.Start.TheVariants as start
-use Rattle.jiter_steps.proofs.Values.{Advances, AllWithin, Goes, inside_at-within, inside_at-suc, inside_at-starts, inside_at-none, array_of-goes, object_of-goes, parts_at_is, parts-fault, member-key, member-colon, member-value}
-use Rattle.jiter_steps.specs.Frames.{Frame, items_frame, members_frame, resolve_step, parts_from, parts_step, value_in, array_in, object_in, behind_value, resume, value_from, key_from, items_from, members_from}
+use Rattle.jiter_steps.proofs.Values.{Advances, Goes, inside_at-within, inside_at-suc, inside_at-starts, inside_at-none, array_of-goes, object_of-goes, parts_at_is, parts-fault, member-key, member-colon, member-value}
+use Rattle.jiter_steps.specs.Frames.{Frame, items_frame, members_frame, resolve_step, parts_from, parts_step, value_in, array_in, object_in, resume, value_from, key_from}
 
 -- Where a container begins is not built into its value.
 pub record IgnoresBegin {K A : Type 0} (r : Rules K A) : Type 0 where
@@ -89,7 +88,7 @@ module _ {K A : Type 0} (r : Rules K A) (t : List ℕ) where
     array_in-goes depth =
         array_of-goes r t good (value_in r t (suc depth)) (inside_at-within r t good (201 - suc depth)) 0
 
-    object_in-goes : (depth : ℕ) → Goes (object_in r t depth) t
+    pub object_in-goes : (depth : ℕ) → Goes (object_in r t depth) t
     object_in-goes depth =
         object_of-goes r t good (value_in r t (suc depth)) (inside_at-within r t good (201 - suc depth)) 0
 

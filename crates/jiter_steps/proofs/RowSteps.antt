@@ -1,15 +1,23 @@
 -- Steps between the parts of a container, by the grammar.
-use Rattle.std.proofs.Common.{◌≡◌, ℕ, ◌+◌, ◌<◌, ◌≤◌, ◌==◌, Bool, true, false, cond, List, length, IfSome, refl, sym, ap, ◌∙◌, arith}
+use Rattle.std.proofs.Common.{◌≡◌, ℕ, ◌+◌, ◌<◌, ◌≤◌, ◌==◌, Bool, true, false, cond, List, length, IfSome, refl, sym, ap}
+use Rattle.std.proofs.Common.{◌∙◌, arith}
 use Rattle.std.specs.Prelude.{slice_get, Option, Some, None}
 use Rattle.std.proofs.lemmas.Option.{slice_get_within}
-use Rattle.std.proofs.lemmas.Bool.{eqb-true}
-use Rattle.jiter_scan.specs.Kind.{Kind, trailing_comma, expected_colon, expected_list_comma_or_end, expected_object_comma_or_end, key_must_be_a_string}
+use Rattle.std.proofs.lemmas.Bool.{eqb-true, eq-eqb}
+use Rattle.jiter_scan.specs.Kind.{trailing_comma, expected_colon, key_must_be_a_string}
 use Rattle.jiter_scan.specs.Scanned.{taken, failed}
 use Rattle.jiter_scan.specs.Word.{Extent}
 use Rattle.jiter_scan.specs.NumberReading.{extent_then}
+use Rattle.jiter_scan.proofs.Choices.{if_case, if-true, if-false}
 use Rattle.jiter_steps.specs.Blank.{is_blank, past_blanks, IsBlank}
 use Rattle.jiter_steps.specs.Node.{StandsBehind}
-use Rattle.jiter_steps.specs.Step.{Step, more, closed, stuck, step, array_first, array_comma, array_step, object_first, object_comma, object_step, colon, value_first, object_colon}
+use Rattle.jiter_steps.specs.Step.{Step, more, closed, stuck, step, closer_of, begins_part, comma_kind_of}
+use Rattle.jiter_steps.specs.Step.{container_first, container_comma, container_step}
+use Rattle.jiter_steps.specs.Step.{colon, value_first, object_colon}
+use Rattle.jiter_steps.specs.declared.parse.Shape.{Shape}
+use Rattle.jiter_steps.specs.declared.parse.Shape.TheVariants as shape
+use Rattle.jiter_steps.proofs.Bounds.{either}
+use Rattle.jiter_steps.proofs.BothShapes.{closer-no_blank, closer-no_comma, closer-begins_no_part}
 use Rattle.jiter_steps.proofs.Blanks.{blank-passed, passed-blank, no_blank-behind}
 
 -- what a part of a container may begin with: a byte that is no blank
@@ -18,16 +26,19 @@ pub record ByteAt (t : List ℕ) (j : ℕ) : Type 0 where
   pub here : slice_get t j ≡ Some byte
   pub no_blank : is_blank byte ≡ false
 
--- an item: no closer of arrays either
-pub record ItemAt (t : List ℕ) (j : ℕ) : Type 0 where
+-- a part of an array or an object: one that begins it
+pub record PartAt (b : Shape) (t : List ℕ) (j : ℕ) : Type 0 where
   pub byte : ℕ
   pub here : slice_get t j ≡ Some byte
   pub no_blank : is_blank byte ≡ false
-  pub no_closer : (byte == 93) ≡ false
+  pub begins : begins_part b byte ≡ true
 
 -- a key: its quote
-abbrev pub KeyBegins : List ℕ → ℕ → Type 0
-KeyBegins t j = slice_get t j ≡ Some 34
+pub quote-begins : (t : List ℕ) (j : ℕ) → slice_get t j ≡ Some 34 → PartAt shape.Object t j
+quote-begins t j h = record { byte = 34; here = h; no_blank = refl; begins = refl }
+
+pub begins-quote : (t : List ℕ) (j : ℕ) → PartAt shape.Object t j → slice_get t j ≡ Some 34
+begins-quote t j h = h.here ∙ ap Some (eqb-true h.byte 34 h.begins)
 
 -- a part may begin at j, behind blanks from i on
 pub record PartBehind (t : List ℕ) (Begins : ℕ → Type 0) (i j : ℕ) : Type 0 where
@@ -91,42 +102,13 @@ module _ (t : List ℕ) where
   pub behind : (i j c d : ℕ) → Stops i j (Some c) → c ≡ d → StandsBehind t i d (j + 1)
   behind i j c d s e = record { at = j; blanks = s.blanks; here = s.here ∙ ap Some e; ends = refl }
 
-  item-behind : (i j c : ℕ) → Stops i j (Some c) → (c == 93) ≡ false → PartBehind t (ItemAt t) i j
-  item-behind i j c s e =
-      record { blanks = s.blanks; begins = record { byte = c; here = s.here; no_blank = s.no_blank; no_closer = e } }
+  -- a row at what stands behind blanks
+  pub row-at : {A : Type 0} (row : ℕ → Option ℕ → A) (i j c : ℕ) → IsBlank t i j → slice_get t j ≡ Some c
+      → is_blank c ≡ false
+      → step t row i ≡ row j (Some c)
+  row-at row i j c b e other = ap (λ k. row k (slice_get t k)) (blank-passed t i j c b e other) ∙ ap (row j) e
 
-  key-behind : (i j c : ℕ) → Stops i j (Some c) → c ≡ 34 → PartBehind t (KeyBegins t) i j
-  key-behind i j c s e = record { blanks = s.blanks; begins = s.here ∙ ap Some e }
-
-  -- behind a bracket
-  first-item : (i j : ℕ) (o : Option ℕ) → Stops i j o → StepIs t i 93 (PartBehind t (ItemAt t) i) (array_first j o)
-  first-item i j None s = tt
-  first-item i j (Some c) s =
-      tested (StepIs t i 93 (PartBehind t (ItemAt t) i)) c 93 (closed (j + 1)) (more j) (behind i j c 93 s)
-      (item-behind i j c s)
-
-  first-key : (i j : ℕ) (o : Option ℕ) → Stops i j o → StepIs t i 125 (PartBehind t (KeyBegins t) i) (object_first j o)
-  first-key i j None s = tt
-  first-key i j (Some c) s =
-      let Is = StepIs t i 125 (PartBehind t (KeyBegins t) i) in
-      tested Is c 34 (more j) _ (key-behind i j c s)
-      (λ e. tested Is c 125 (closed (j + 1)) (stuck key_must_be_a_string j) (behind i j c 125 s) (λ e. tt))
-
-  -- behind a comma
-  comma-item : (i j : ℕ) (o : Option ℕ) → Stops i j o → OpenStepIs (PartBehind t (ItemAt t) i) (array_comma j o)
-  comma-item i j None s = tt
-  comma-item i j (Some c) s =
-      tested (OpenStepIs (PartBehind t (ItemAt t) i)) c 93 (stuck trailing_comma j) (more j) (λ e. tt)
-      (item-behind i j c s)
-
-  comma-key : (i j : ℕ) (o : Option ℕ) → Stops i j o → OpenStepIs (PartBehind t (KeyBegins t) i) (object_comma j o)
-  comma-key i j None s = tt
-  comma-key i j (Some c) s =
-      let Is = OpenStepIs (PartBehind t (KeyBegins t) i) in
-      tested Is c 34 (more j) _ (key-behind i j c s)
-      (λ e. tested Is c 125 (stuck trailing_comma j) (stuck key_must_be_a_string j) (λ e. tt) (λ e. tt))
-
-  -- behind a part: the closer, or a comma and the step behind it
+  -- a comma, and what follows it
   comma-then : (i m closer : ℕ) (Begins : ℕ → Type 0) (s : Step) → StandsBehind t i 44 m
       → OpenStepIs (PartBehind t Begins m) s
       → StepIs t i closer (Behind t i 44 (PartBehind t Begins)) s
@@ -134,65 +116,80 @@ module _ (t : List ℕ) where
   comma-then i m closer Begins (closed e) b h = absurd h
   comma-then i m closer Begins (stuck k j) b h = tt
 
-  behind-part : (closer : ℕ) (Begins : ℕ → Type 0) (comma : ℕ → Option ℕ → Step) (k : Kind)
-      → ((i j : ℕ) (o : Option ℕ) → Stops i j o → OpenStepIs (PartBehind t Begins i) (comma j o))
-      → (i j c : ℕ) → Stops i j (Some c)
-      → StepIs t i closer (Behind t i 44 (PartBehind t Begins))
-      (cond (c == closer) (closed (j + 1)) (cond (c == 44) (step t comma (j + 1)) (stuck k j)))
-  behind-part closer Begins comma k all i j c s =
-      let Is = StepIs t i closer (Behind t i 44 (PartBehind t Begins)) in
-      let inside = slice_get_within t j c s.here in
-      let behind-comma = row-is (OpenStepIs (PartBehind t Begins (j + 1))) comma (j + 1) (all (j + 1)) (omega arith) in
-      tested Is c closer (closed (j + 1)) _ (behind i j c closer s)
-      (λ e. tested Is c 44 (step t comma (j + 1)) (stuck k j)
-      (λ e. comma-then i (j + 1) closer Begins _ (behind i j c 44 s e) behind-comma) (λ e. tt))
+  -- The steps of arrays and of objects.
+  module _ (b : Shape) where
+    abbrev Part : ℕ → ℕ → Type 0
+    Part i j = PartBehind t (PartAt b t) i j
 
-  next-item : (i j : ℕ) (o : Option ℕ) → Stops i j o
-      → StepIs t i 93 (Behind t i 44 (PartBehind t (ItemAt t))) (array_step t j o)
-  next-item i j None s = tt
-  next-item i j (Some c) s = behind-part 93 (ItemAt t) array_comma expected_list_comma_or_end comma-item i j c s
+    part-behind : (i j c : ℕ) → Stops i j (Some c) → begins_part b c ≡ true → Part i j
+    part-behind i j c s begins =
+        let at : PartAt b t j = record { byte = c; here = s.here; no_blank = s.no_blank; begins = begins } in
+        record { blanks = s.blanks; begins = at }
 
-  next-key : (i j : ℕ) (o : Option ℕ) → Stops i j o
-      → StepIs t i 125 (Behind t i 44 (PartBehind t (KeyBegins t))) (object_step t j o)
-  next-key i j None s = tt
-  next-key i j (Some c) s = behind-part 125 (KeyBegins t) object_comma expected_object_comma_or_end comma-key i j c s
+    -- what they find
+    first-is : (i j : ℕ) (o : Option ℕ) → Stops i j o → StepIs t i (closer_of b) (Part i) (container_first b j o)
+    first-is i j None s = tt
+    first-is i j (Some c) s =
+        let Is = StepIs t i (closer_of b) (Part i) in
+        if_case Is (begins_part b c) (more j) _ (part-behind i j c s)
+        (λ e. tested Is c (closer_of b) (closed (j + 1)) (stuck key_must_be_a_string j) (behind i j c (closer_of b) s)
+        (λ e. tt))
 
-  -- a row at what stands behind blanks
-  pub row-at : {A : Type 0} (row : ℕ → Option ℕ → A) (i j c : ℕ) → IsBlank t i j → slice_get t j ≡ Some c
-      → is_blank c ≡ false
-      → step t row i ≡ row j (Some c)
-  row-at row i j c b e other = ap (λ k. row k (slice_get t k)) (blank-passed t i j c b e other) ∙ ap (row j) e
+    comma-is : (i j : ℕ) (o : Option ℕ) → Stops i j o → OpenStepIs (Part i) (container_comma b j o)
+    comma-is i j None s = tt
+    comma-is i j (Some c) s =
+        let Is = OpenStepIs (Part i) in
+        if_case Is (begins_part b c) (more j) _ (part-behind i j c s)
+        (λ e. either Is (c == closer_of b) (stuck trailing_comma j) (stuck key_must_be_a_string j) tt tt)
 
-  item-at : (row : ℕ → Option ℕ → Step) (x : ℕ → Step) → ((j c : ℕ) → row j (Some c) ≡ cond (c == 93) (x j) (more j))
-      → (i j : ℕ) → IsBlank t i j → ItemAt t j → step t row i ≡ more j
-  item-at row x is i j b h =
-      row-at row i j h.byte b h.here h.no_blank ∙ is j h.byte ∙ ap (λ y. cond y (x j) (more j)) h.no_closer
+    step-is : (i j : ℕ) (o : Option ℕ) → Stops i j o
+        → StepIs t i (closer_of b) (Behind t i 44 (PartBehind t (PartAt b t))) (container_step b t j o)
+    step-is i j None s = tt
+    step-is i j (Some c) s =
+        let Is = StepIs t i (closer_of b) (Behind t i 44 (PartBehind t (PartAt b t))) in
+        let inside = slice_get_within t j c s.here in
+        let next = row-is (OpenStepIs (Part (j + 1))) (container_comma b) (j + 1) (comma-is (j + 1)) (omega arith) in
+        tested Is c (closer_of b) (closed (j + 1)) _ (behind i j c (closer_of b) s)
+        (λ e. tested Is c 44 (step t (container_comma b) (j + 1)) (stuck (comma_kind_of b) j)
+        (λ e. comma-then i (j + 1) (closer_of b) (PartAt b t) _ (behind i j c 44 s e) next) (λ e. tt))
 
-  pub array-delimits : Delimits t array_first (array_step t) 93 (ItemAt t)
-  array-delimits = record {
-    within = λ j h. slice_get_within t j h.byte h.here;
-    first-is = λ i. row-is (StepIs t i 93 (PartBehind t (ItemAt t) i)) array_first i (first-item i);
-    next-is = λ i. row-is (StepIs t i 93 (Behind t i 44 (PartBehind t (ItemAt t)))) (array_step t) i (next-item i);
-    first-closed = λ i e h. row-at array_first i h.at 93 h.blanks h.here refl ∙ ap closed (sym h.ends);
-    first-more = item-at array_first (λ j. closed (j + 1)) (λ j c. refl);
-    next-closed = λ i e h. row-at (array_step t) i h.at 93 h.blanks h.here refl ∙ ap closed (sym h.ends);
-    next-more = λ i m j h b x.
-        row-at (array_step t) i h.at 44 h.blanks h.here refl ∙ ap (step t array_comma) (sym h.ends)
-        ∙ item-at array_comma (stuck trailing_comma) (λ j c. refl) m j b x;
-  }
+    -- they find what is there
+    begins : (row : ℕ → Option ℕ → Step) (other : ℕ → ℕ → Step)
+        → ((j c : ℕ) → row j (Some c) ≡ cond (begins_part b c) (more j) (other j c))
+        → (i j : ℕ) → IsBlank t i j → PartAt b t j → step t row i ≡ more j
+    begins row other is i j blanks h =
+        row-at row i j h.byte blanks h.here h.no_blank ∙ is j h.byte
+        ∙ if-true _ (more j) (other j h.byte) h.begins
 
-  pub object-delimits : Delimits t object_first (object_step t) 125 (KeyBegins t)
-  object-delimits = record {
-    within = λ j h. slice_get_within t j 34 h;
-    first-is = λ i. row-is (StepIs t i 125 (PartBehind t (KeyBegins t) i)) object_first i (first-key i);
-    next-is = λ i. row-is (StepIs t i 125 (Behind t i 44 (PartBehind t (KeyBegins t)))) (object_step t) i (next-key i);
-    first-closed = λ i e h. row-at object_first i h.at 125 h.blanks h.here refl ∙ ap closed (sym h.ends);
-    first-more = λ i j b x. row-at object_first i j 34 b x refl;
-    next-closed = λ i e h. row-at (object_step t) i h.at 125 h.blanks h.here refl ∙ ap closed (sym h.ends);
-    next-more = λ i m j h b x.
-        row-at (object_step t) i h.at 44 h.blanks h.here refl ∙ ap (step t object_comma) (sym h.ends)
-        ∙ row-at object_comma m j 34 b x refl;
-  }
+    closes : (row : ℕ → Option ℕ → Step) → ((j : ℕ) → row j (Some (closer_of b)) ≡ closed (j + 1))
+        → (i e : ℕ) → StandsBehind t i (closer_of b) e → step t row i ≡ closed e
+    closes row is i e h =
+        row-at row i h.at (closer_of b) h.blanks h.here (closer-no_blank b) ∙ is h.at ∙ ap closed (sym h.ends)
+
+    is_closer : (closer_of b == closer_of b) ≡ true
+    is_closer = eq-eqb (closer_of b) (closer_of b) refl
+
+    first-closes : (j : ℕ) → container_first b j (Some (closer_of b)) ≡ closed (j + 1)
+    first-closes j =
+        if-false _ (more j) _ (closer-begins_no_part b)
+        ∙ if-true _ (closed (j + 1)) (stuck key_must_be_a_string j) is_closer
+
+    pub delimits : Delimits t (container_first b) (container_step b t) (closer_of b) (PartAt b t)
+    delimits = record {
+      within = λ j h. slice_get_within t j h.byte h.here;
+      first-is = λ i. row-is (StepIs t i (closer_of b) (Part i)) (container_first b) i (first-is i);
+      next-is = λ i.
+          let Next = Behind t i 44 (PartBehind t (PartAt b t)) in
+          row-is (StepIs t i (closer_of b) Next) (container_step b t) i (step-is i);
+      first-closed = closes (container_first b) first-closes;
+      first-more = begins (container_first b) _ (λ j c. refl);
+      next-closed = closes (container_step b t) (λ j. if-true _ (closed (j + 1)) _ is_closer);
+      next-more = λ i m j h blanks x.
+          row-at (container_step b t) i h.at 44 h.blanks h.here refl
+          ∙ if-false _ (closed (h.at + 1)) (step t (container_comma b) (h.at + 1)) (closer-no_comma b)
+          ∙ ap (step t (container_comma b)) (sym h.ends)
+          ∙ begins (container_comma b) _ (λ j c. refl) m j blanks x;
+    }
 
   -- behind a key: its colon, and the byte where its value may begin
   value-at : (i j : ℕ) (o : Option ℕ) → Stops i j o → ExtentIs (PartBehind t (ByteAt t) i) (value_first j o)

@@ -1,5 +1,6 @@
 -- Values in two texts with the same bytes before a place: what one reading shows of these bytes, the other meets too.
-use Rattle.std.proofs.Common.{◌≡◌, ℕ, zero, suc, ◌+◌, ◌<◌, false, cond, List, [], ◌∷◌, ◌++◌, length, refl, sym, ap, ◌∙◌, subst, arith}
+use Rattle.std.proofs.Common.{◌≡◌, ℕ, zero, suc, ◌+◌, ◌<◌, false, cond, List, [], ◌∷◌, ◌++◌, length, refl, sym, ap, ◌∙◌}
+use Rattle.std.proofs.Common.{subst, arith}
 use Rattle.std.specs.Prelude.{slice_get, slice_index, Option, Some, None}
 use Rattle.std.proofs.lemmas.Bool.{true≢false}
 use Rattle.std.proofs.lemmas.Option.{slice_get_within}
@@ -11,18 +12,23 @@ use Rattle.jiter_steps.specs.Blank.{past_blanks}
 use Rattle.jiter_steps.specs.Literal.{start_of}
 use Rattle.jiter_steps.specs.Node.{nesting_limit}
 use Rattle.jiter_steps.specs.Step.{Step, more, closed, stuck, step, object_colon}
-use Rattle.jiter_steps.specs.Read.{Reading, done, fault, Rules, Container, scalar_at, with_key, behind_colon, behind_key, if_last, to_end, if_forgiven, follow, behind_part, parts_at, container_at, array_of, object_of, value_with, inside_at, value_at, if_begun, front_answer, whole_answer}
+use Rattle.jiter_steps.specs.Read.{Reading, done, fault, Rules, Container, scalar_at, with_key, behind_colon}
+use Rattle.jiter_steps.specs.Read.{behind_key, if_last, to_end, if_forgiven, follow, behind_part, parts_at}
+use Rattle.jiter_steps.specs.Read.{container_at, array_of, object_of, value_with, inside_at, value_at, if_begun}
+use Rattle.jiter_steps.specs.Read.{front_answer, whole_answer}
+use Rattle.jiter_steps.specs.declared.parse.Shape.TheVariants as shape
 use Rattle.jiter_steps.specs.declared.parse.Literal.{Literal}
 use Rattle.jiter_steps.specs.declared.parse.Start.{Start}
 use Rattle.jiter_steps.specs.declared.parse.Start.TheVariants as start
 use Rattle.jiter_steps.proofs.SameFront.{SameBefore, index-same}
 use Rattle.jiter_steps.proofs.SameRuns.{IsOfByte, within-too, past_blanks-same}
 use Rattle.jiter_steps.proofs.SameNumbers.{Shown}
-use Rattle.jiter_steps.proofs.SameSteps.{ShownStep, SameStep, array_first-same, array_step-same, object_first-same, object_step-same, object_colon-same}
+use Rattle.jiter_steps.proofs.SameSteps.{ShownStep, SameStep, first-same, next-same, object_colon-same}
 use Rattle.jiter_steps.proofs.SameStrings.{IsRefused, SameScalar}
 use Rattle.jiter_steps.proofs.Blanks.{past_blanks-after}
 use Rattle.jiter_steps.proofs.Bounds.{Ahead, ExtentAhead, Within, object_colon-ahead}
-use Rattle.jiter_steps.proofs.Values.{Advances, AllWithin, Goes, parts-fault, parts-part, array_of-goes, object_of-goes, inside_at-within}
+use Rattle.jiter_steps.proofs.Values.{Advances, AllWithin, Goes, parts-fault, parts-part, array_of-goes, object_of-goes}
+use Rattle.jiter_steps.proofs.Values.{inside_at-within}
 
 -- an end before m, where the text goes on; or a fault of a byte there
 abbrev pub ShownReading : {A : Type 0} → List ℕ → ℕ → Reading A → Type 0
@@ -210,16 +216,16 @@ module _ (t u : List ℕ) (m : ℕ) (same : SameBefore t u m) where
 
         items-keep : Keeps items items_too
         items-keep = record {
-          first = array_first-same t u m same;
-          next = array_step-same t u m same;
+          first = first-same t u m same shape.Array;
+          next = next-same t u m same shape.Array;
           part = all;
           build = λ e ps. refl;
         }
 
         members-keep : Keeps members members_too
         members-keep = record {
-          first = object_first-same t u m same;
-          next = object_step-same t u m same;
+          first = first-same t u m same shape.Object;
+          next = next-same t u m same shape.Object;
           part = λ j lt. key-stays inner inner_too all j (r.key t j) (r.key u j) (good.key j lt) (kept.key j lt);
           build = λ e ps. refl;
         }

@@ -1,16 +1,20 @@
 -- The steps of containers in two texts with the same bytes before a place.
-use Rattle.std.proofs.Common.{◌≡◌, ℕ, ◌+◌, ◌<◌, ◌==◌, cond, List, length, refl, ap, ◌∙◌, arith}
+use Rattle.std.proofs.Common.{◌≡◌, ℕ, ◌+◌, ◌<◌, ◌==◌, List, length, refl, sym, ap, ◌∙◌, arith}
 use Rattle.std.specs.Prelude.{slice_get, Option, Some, None}
 use Rattle.std.proofs.lemmas.Bool.{true≢false}
 use Rattle.std.proofs.lemmas.Option.{slice_get_within}
-use Rattle.jiter_scan.specs.Kind.{Kind, expected_colon, expected_list_comma_or_end, expected_object_comma_or_end, key_must_be_a_string, trailing_comma}
+use Rattle.jiter_scan.specs.Kind.{expected_colon, key_must_be_a_string, trailing_comma}
 use Rattle.jiter_scan.specs.Scanned.{taken, failed}
 use Rattle.jiter_scan.specs.Word.{Extent}
 use Rattle.jiter_steps.specs.Blank.{past_blanks}
-use Rattle.jiter_steps.specs.Step.{Step, more, closed, stuck, step, array_first, array_comma, array_step, object_first, object_comma, object_step, colon, value_first, object_colon}
+use Rattle.jiter_steps.specs.Step.{Step, more, closed, stuck, step, closer_of, begins_part, end_kind_of, comma_kind_of}
+use Rattle.jiter_steps.specs.Step.{container_first, container_comma, container_step}
+use Rattle.jiter_steps.specs.Step.{colon, value_first, object_colon}
+use Rattle.jiter_steps.specs.declared.parse.Shape.{Shape}
 use Rattle.jiter_steps.proofs.SameFront.{SameBefore}
 use Rattle.jiter_steps.proofs.SameRuns.{IsOfByte, both, past_blanks-same}
 use Rattle.jiter_steps.proofs.SameNumbers.{Shown, then-same}
+use Rattle.jiter_steps.proofs.BothShapes.{end_kind-early}
 use Rattle.jiter_steps.proofs.Blanks.{past_blanks-after}
 use Rattle.jiter_steps.proofs.Bounds.{either}
 
@@ -51,55 +55,39 @@ module _ (t u : List ℕ) (m : ℕ) (same : SameBefore t u m) where
       → (i : ℕ) → SameStep ShownOf i (step t f i) (step u f i)
   row-same ShownOf f none some = step-same ShownOf f f none (λ j c lt s. (some j c s, refl))
 
-  -- behind brackets
+  -- between the parts of a container
   abbrev At : ℕ → Step → Type 0
   At j s = ShownStep m s → j < m
 
-  pub array_first-same : (i : ℕ) → SameStep (ShownStep m) i (step t array_first i) (step u array_first i)
-  array_first-same =
-      row-same (ShownStep m) array_first (λ j s. true≢false s.1.0)
-      (λ j c. either (At j) (c == 93) (closed (j + 1)) (more j) (λ s. omega arith) (λ s. s))
+  module _ (b : Shape) where
+    end-shown : (j : ℕ) → ShownStep m (stuck (end_kind_of b) j) → ⊥
+    end-shown j s = true≢false (sym (end_kind-early b) ∙ s.1.0)
 
-  pub object_first-same : (i : ℕ) → SameStep (ShownStep m) i (step t object_first i) (step u object_first i)
-  object_first-same =
-      row-same (ShownStep m) object_first (λ j s. true≢false s.1.0)
-      (λ j c. either (At j) (c == 34) (more j) _ (λ s. s)
-      (either (At j) (c == 125) (closed (j + 1)) (stuck key_must_be_a_string j) (λ s. omega arith) (λ s. s.0)))
+    -- behind the opening bracket
+    pub first-same : (i : ℕ) → SameStep (ShownStep m) i (step t (container_first b) i) (step u (container_first b) i)
+    first-same =
+        row-same (ShownStep m) (container_first b) end-shown
+        (λ j c. either (At j) (begins_part b c) (more j) _ (λ s. s)
+        (either (At j) (c == closer_of b) (closed (j + 1)) (stuck key_must_be_a_string j) (λ s. omega arith) (λ s. s.0)))
 
-  -- behind commas
-  array_comma-same : (i : ℕ) → SameStep (ShownStep m) i (step t array_comma i) (step u array_comma i)
-  array_comma-same =
-      row-same (ShownStep m) array_comma (λ j s. true≢false s.1.0)
-      (λ j c. either (At j) (c == 93) (stuck trailing_comma j) (more j) (λ s. s.0) (λ s. s))
+    -- behind a comma
+    comma-same : (i : ℕ) → SameStep (ShownStep m) i (step t (container_comma b) i) (step u (container_comma b) i)
+    comma-same =
+        row-same (ShownStep m) (container_comma b) (λ j s. true≢false s.1.0)
+        (λ j c. either (At j) (begins_part b c) (more j) _ (λ s. s)
+        (either (At j) (c == closer_of b) (stuck trailing_comma j) (stuck key_must_be_a_string j) (λ s. s.0) (λ s. s.0)))
 
-  object_comma-same : (i : ℕ) → SameStep (ShownStep m) i (step t object_comma i) (step u object_comma i)
-  object_comma-same =
-      row-same (ShownStep m) object_comma (λ j s. true≢false s.1.0)
-      (λ j c. either (At j) (c == 34) (more j) _ (λ s. s)
-      (either (At j) (c == 125) (stuck trailing_comma j) (stuck key_must_be_a_string j) (λ s. s.0) (λ s. s.0)))
+    -- behind a part
+    part-same : (j c : ℕ) → SameHere (ShownStep m) j (container_step b t j (Some c)) (container_step b u j (Some c))
+    part-same j c =
+        let last = stuck (comma_kind_of b) j in
+        both (SameHere (ShownStep m) j) (c == closer_of b) (closed (j + 1)) _ (closed (j + 1)) _ (λ s. (omega arith, refl))
+        (both (SameHere (ShownStep m) j) (c == 44) _ last _ last
+        (λ s. let r = comma-same (j + 1) s in (omega (arith, r.0), r.2)) (λ s. (s.0, refl)))
 
-  -- behind parts: the closer, or a comma and the step behind it
-  abbrev at_closer : List ℕ → ℕ → Kind → (ℕ → Option ℕ → Step) → ℕ → ℕ → Step
-  at_closer l closer k comma j c =
-      cond (c == closer) (closed (j + 1)) (cond (c == 44) (step l comma (j + 1)) (stuck k j))
-
-  behind-same : (closer : ℕ) (k : Kind) (comma : ℕ → Option ℕ → Step)
-      → ((i : ℕ) → SameStep (ShownStep m) i (step t comma i) (step u comma i))
-      → (j c : ℕ) → SameHere (ShownStep m) j (at_closer t closer k comma j c) (at_closer u closer k comma j c)
-  behind-same closer k comma all j c =
-      both (SameHere (ShownStep m) j) (c == closer) (closed (j + 1)) _ (closed (j + 1)) _ (λ s. (omega arith, refl))
-      (both (SameHere (ShownStep m) j) (c == 44) _ (stuck k j) _ (stuck k j)
-      (λ s. let r = all (j + 1) s in (omega (arith, r.0), r.2)) (λ s. (s.0, refl)))
-
-  pub array_step-same : (i : ℕ) → SameStep (ShownStep m) i (step t (array_step t) i) (step u (array_step u) i)
-  array_step-same =
-      step-same (ShownStep m) (array_step t) (array_step u) (λ j s. true≢false s.1.0)
-      (λ j c lt. behind-same 93 expected_list_comma_or_end array_comma array_comma-same j c)
-
-  pub object_step-same : (i : ℕ) → SameStep (ShownStep m) i (step t (object_step t) i) (step u (object_step u) i)
-  object_step-same =
-      step-same (ShownStep m) (object_step t) (object_step u) (λ j s. true≢false s.1.0)
-      (λ j c lt. behind-same 125 expected_object_comma_or_end object_comma object_comma-same j c)
+    pub next-same : (i : ℕ)
+        → SameStep (ShownStep m) i (step t (container_step b t) i) (step u (container_step b u) i)
+    next-same = step-same (ShownStep m) (container_step b t) (container_step b u) end-shown (λ j c lt. part-same j c)
 
   -- behind keys
   colon-same : (i : ℕ) → SameStep (Shown t m) i (step t colon i) (step u colon i)

@@ -1,17 +1,20 @@
 -- Strings in two texts with the same bytes before a place.
-use Rattle.std.proofs.Common.{◌≡◌, ◌⊎◌, inl, inr, ℕ, zero, suc, ◌+◌, ◌-◌, ◌<◌, ◌≤◌, Bool, true, false, List, [], ◌∷◌, length, refl, sym, ap, ◌∙◌, subst, arith}
+use Rattle.std.proofs.Common.{◌≡◌, ◌⊎◌, inl, inr, ℕ, zero, suc, ◌+◌, ◌-◌, ◌<◌, ◌≤◌, Bool, true, false, List, [], ◌∷◌}
+use Rattle.std.proofs.Common.{length, refl, sym, ap, ◌∙◌, subst, arith}
 use Rattle.std.specs.Prelude.{slice_get, slice_index, Option, Some, None, ◌==◌, if◌then◌else◌, nat_lt}
 use Rattle.std.specs.Char.{encode_utf8}
 use Rattle.std.specs.Str.Lossy.{utf8_valid_len}
 use Rattle.std.proofs.lemmas.Bool.{ltb-false, le-ltb, true≢false}
 use Rattle.std.proofs.lemmas.Option.{none-some}
-use Rattle.jiter_scan.specs.Kind.{Kind, invalid_code_point, invalid_escape, lone_surrogate, end_of_hex_escape, control_character}
+use Rattle.jiter_scan.specs.Kind.{Kind, invalid_code_point, invalid_escape, lone_surrogate, end_of_hex_escape}
+use Rattle.jiter_scan.specs.Kind.{control_character}
 use Rattle.jiter_scan.specs.Scanned.{Scanned, taken, failed}
 use Rattle.jiter_scan.proofs.Choices.{if_case, if-false}
 use Rattle.jiter_steps.specs.Escape.{short_escape, is_hex, unit_of, is_high, is_low, pair_of}
 use Rattle.jiter_steps.specs.StringReading.{Stop, closed, unclosed, cut, wrong, Place, part, over}
 use Rattle.jiter_steps.specs.StringReading.{bad_digit, unit_at, HexDigits, few, hex_digits_or, hex_digits_at, behind}
-use Rattle.jiter_steps.specs.StringReading.{unit_then, surrogate_pair, behind_high_backslash, behind_high, single, unicode_escape, short, behind_backslash, plain}
+use Rattle.jiter_steps.specs.StringReading.{unit_then, surrogate_pair, behind_high_backslash, behind_high, single}
+use Rattle.jiter_steps.specs.StringReading.{unicode_escape, short, behind_backslash, plain}
 use Rattle.jiter_steps.specs.StringReading.{place_by, place_at, Body, before, join, body_at}
 use Rattle.jiter_steps.specs.StringReading.{whole, text_in_form, content_at, string_at}
 use Rattle.jiter_steps.specs.Tree.{Text}

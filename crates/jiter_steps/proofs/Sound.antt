@@ -13,9 +13,12 @@ use Rattle.jiter_steps.specs.Answer.{seen_as}
 use Rattle.jiter_steps.specs.Blank.{IsBlank}
 use Rattle.jiter_steps.specs.Literal.{start_of, literal_at}
 use Rattle.jiter_steps.specs.Node as grammar
-use Rattle.jiter_steps.specs.Node.{Key, Node, Nodes, no_nodes, node, NodeMembers, no_members, member, begin, end, StandsBehind, SpellsNumber, SpellsKey, Spells, SpellsItems, SpellsMoreItems, SpellsMembers, SpellsMoreMembers, nesting, nesting_round, nesting_round_members}
+use Rattle.jiter_steps.specs.Node.{Key, Node, Nodes, no_nodes, node, NodeMembers, no_members, member, begin, end}
+use Rattle.jiter_steps.specs.Node.{StandsBehind, SpellsNumber, SpellsKey, Spells, SpellsItems, SpellsMoreItems}
+use Rattle.jiter_steps.specs.Node.{SpellsMembers, SpellsMoreMembers, nesting, nesting_round, nesting_round_members}
 use Rattle.jiter_steps.specs.Piece.{SpellsString}
-use Rattle.jiter_steps.specs.Read.{Reading, done, fault, Container, scalar_at, with_key, behind_colon, behind_key, container_at, array_of, object_of, value_with, inside_at, value_at}
+use Rattle.jiter_steps.specs.Read.{Reading, done, fault, Container, scalar_at, with_key, behind_colon, behind_key}
+use Rattle.jiter_steps.specs.Read.{container_at, array_of, object_of, value_with, inside_at, value_at}
 use Rattle.jiter_steps.specs.Step.{object_colon}
 use Rattle.jiter_steps.specs.StringReading.{whole, string_at}
 use Rattle.jiter_steps.specs.Tree.{Text}
@@ -23,14 +26,17 @@ use Rattle.jiter_steps.specs.declared.parse.Literal.{Literal}
 use Rattle.jiter_steps.specs.declared.parse.Start.{Start}
 use Rattle.jiter_steps.specs.declared.parse.Start.TheVariants as start
 use Rattle.jiter_steps.proofs.Bounds.{Within}
-use Rattle.jiter_steps.proofs.Firsts.{string-first}
+use Rattle.jiter_steps.proofs.FirstBytes.{string-first}
 use Rattle.jiter_steps.proofs.Instances.{nodes-advances}
 use Rattle.jiter_steps.proofs.NodeRules.{nodes, nodes_of, node_members_of, key_of}
 use Rattle.jiter_steps.proofs.Parts.{Grammar, parts-are, Reads, ReadParts, BuiltOf, container_at-built}
 use Rattle.jiter_steps.proofs.Pieces.{pieces_from}
-use Rattle.jiter_steps.proofs.RowSteps.{ByteAt, ItemAt, KeyBegins, PartBehind, Behind, ExtentIs, array-delimits, object-delimits, object_colon-is, Delimits}
+use Rattle.jiter_steps.specs.declared.parse.Shape.TheVariants as shape
+use Rattle.jiter_steps.proofs.RowSteps.{ByteAt, PartAt, begins-quote, PartBehind, Behind, ExtentIs, delimits}
+use Rattle.jiter_steps.proofs.RowSteps.{object_colon-is, Delimits}
 use Rattle.jiter_steps.proofs.ScalarLaws.{ScalarLaws, scalar-laws}
-use Rattle.jiter_steps.proofs.Values.{AllWithin, Goes, array_of-goes, object_of-goes, container_at-within, inside_at-within}
+use Rattle.jiter_steps.proofs.Values.{AllWithin, Goes, array_of-goes, object_of-goes, container_at-within}
+use Rattle.jiter_steps.proofs.Values.{inside_at-within}
 
 round-items : (n : Node) (ns : Nodes) (room : ℕ) → nesting n < room → nesting_round ns ≤ room
     → nesting_round (node n ns) ≤ room
@@ -141,7 +147,7 @@ module _ (names : Bool) (t : List ℕ) where
         (all j (slice_get_within t j h.2.begins.byte h.2.begins.here))
     behind_colon-sound all i k begins string (failed kind j) h = tt
 
-    behind_key-sound : InnerSound → (i : ℕ) → KeyBegins t i → (x : Scanned Text) → string_at whole t i ≡ x
+    behind_key-sound : InnerSound → (i : ℕ) → slice_get t i ≡ Some 34 → (x : Scanned Text) → string_at whole t i ≡ x
         → ScalarWithin t i x → MemberSound names t room i (behind_key inner t i (seen_as (key_of t i) x))
     behind_key-sound all i quote (taken s e) is w =
         behind_colon-sound all i (key_of t i s e) refl (laws.string-sound i e s quote is).0 (object_colon t e)
@@ -210,13 +216,14 @@ module _ (names : Bool) (t : List ℕ) where
     }
 
     -- what is read of a container is a part of it
-    pub item-read : InnerSound → (j : ℕ) (n : Node) (m : ℕ) → ItemAt t j → inner j ≡ done n m
+    pub item-read : InnerSound → (j : ℕ) (n : Node) (m : ℕ) → PartAt shape.Array t j → inner j ≡ done n m
         → IsItemAt names t room j n m
     item-read all j n m at is = subst (InsideSound names t room j) is (all j (slice_get_within t j at.byte at.here))
 
-    pub member-read : InnerSound → (b j : ℕ) (p : Key × Node) (m : ℕ) → KeyBegins t j → Reads (object b) j p m
+    pub member-read : InnerSound → (b j : ℕ) (p : Key × Node) (m : ℕ) → PartAt shape.Object t j → Reads (object b) j p m
         → IsMemberAt names t room j p.0 p.1 m
-    member-read all b j p m quote is =
+    member-read all b j p m at is =
+        let quote = begins-quote t j at in
         let within = laws.string-within j (slice_get_within t j 34 quote) in
         subst (MemberSound names t room j) is (behind_key-sound all j quote _ refl within)
 
@@ -249,13 +256,13 @@ module _ (names : Bool) (t : List ℕ) where
         → Sound names t room i (value_with (nodes names) inner t i s)
     value_with-sound all i h start.Array e =
         let here = byte-here i 91 h (array-byte _ e) in
-        container-sound (array i) 93 (ItemAt t) ItemsAre MoreItemsAre (array-delimits t) (array-goes i)
-        (items-grammar (ItemAt t) (Reads (array i)) (item-read all)) i h
+        container-sound (array i) 93 (PartAt shape.Array t) ItemsAre MoreItemsAre (delimits t shape.Array) (array-goes i)
+        (items-grammar (PartAt shape.Array t) (Reads (array i)) (item-read all)) i h
         (λ ns f x le. sound-at room (grammar.array i f (nodes_of ns)) (here, x.0) le x.1)
     value_with-sound all i h start.Object e =
         let here = byte-here i 123 h (object-byte _ e) in
-        container-sound (object i) 125 (KeyBegins t) MembersAre MoreMembersAre (object-delimits t) (object-goes i)
-        (members-grammar (KeyBegins t) (Reads (object i)) (member-read all i)) i h
+        container-sound (object i) 125 (PartAt shape.Object t) MembersAre MoreMembersAre (delimits t shape.Object) (object-goes i)
+        (members-grammar (PartAt shape.Object t) (Reads (object i)) (member-read all i)) i h
         (λ ms f x le. sound-at room (grammar.object i f (node_members_of ms)) (here, x.0) le x.1)
     value_with-sound all i h start.String e =
         text-sound room i (string_at whole t i) (byte-here i 34 h (string-first _ e)) refl (laws.string-within i h)

@@ -1,5 +1,6 @@
 -- What the grammar spells of a container is parts that stand one behind another; and what a value begins with.
-use Rattle.std.proofs.Common.{◌≡◌, ◌≢◌, ℕ, zero, suc, ◌+◌, ◌-◌, ◌<◌, ◌≤◌, ◌⊎◌, inl, inr, Bool, true, false, List, [], ◌∷◌, length, drop, take, refl, sym, ap, ◌∙◌, subst, arith, ◌==◌, IfSome}
+use Rattle.std.proofs.Common.{◌≡◌, ◌≢◌, ℕ, zero, suc, ◌+◌, ◌-◌, ◌<◌, ◌≤◌, ◌⊎◌, inl, inr, Bool, not, true, false, List}
+use Rattle.std.proofs.Common.{[], ◌∷◌, length, drop, take, refl, sym, ap, ◌∙◌, subst, arith, ◌==◌, IfSome}
 use Rattle.std.specs.Prelude.{slice_get, slice_index, slice_range, Some}
 use Rattle.std.proofs.lemmas.List.{drop_more}
 use Rattle.std.proofs.lemmas.Option.{slice_get_within, slice_get-get_or, slice_get_past, get_or_from_slice_get}
@@ -15,7 +16,10 @@ use Rattle.jiter_scan.specs.Stands.{Stands}
 use Rattle.jiter_scan.proofs.Standing.{stands-length, stands-within}
 use Rattle.jiter_steps.specs.Literal.{word_of, start_of}
 use Rattle.jiter_steps.specs.Node as grammar
-use Rattle.jiter_steps.specs.Node.{Key, Node, Nodes, no_nodes, node, NodeMembers, no_members, member, begin, end, StandsBehind, SpellsNumber, SpellsKey, Spells, SpellsItems, SpellsMoreItems, SpellsMembers, SpellsMoreMembers, nesting, nesting_of, nesting_of_members, nesting_round, nesting_round_members}
+use Rattle.jiter_steps.specs.Node.{Key, Node, Nodes, no_nodes, node, NodeMembers, no_members, member, begin, end}
+use Rattle.jiter_steps.specs.Node.{StandsBehind, SpellsNumber, SpellsKey, Spells, SpellsItems, SpellsMoreItems}
+use Rattle.jiter_steps.specs.Node.{SpellsMembers, SpellsMoreMembers, nesting, nesting_of, nesting_of_members}
+use Rattle.jiter_steps.specs.Node.{nesting_round, nesting_round_members}
 use Rattle.jiter_steps.specs.Piece.{SpellsString}
 use Rattle.jiter_steps.specs.StringReading.{whole, string_at}
 use Rattle.jiter_steps.specs.declared.parse.Literal.{Literal}
@@ -24,7 +28,8 @@ use Rattle.jiter_steps.specs.declared.parse.Start.{Start}
 use Rattle.jiter_steps.specs.declared.parse.Start.TheVariants as start
 use Rattle.jiter_steps.proofs.NodeRules.{nodes_of, node_members_of, key_of}
 use Rattle.jiter_steps.proofs.Parts.{MoreParts, Parts}
-use Rattle.jiter_steps.proofs.RowSteps.{ItemAt, KeyBegins}
+use Rattle.jiter_steps.specs.declared.parse.Shape.TheVariants as shape
+use Rattle.jiter_steps.proofs.RowSteps.{PartAt, quote-begins}
 use Rattle.jiter_steps.proofs.ScalarLaws.{ScalarLaws, scalar-laws, EndsNumber}
 
 -- what kind of value a node is
@@ -168,10 +173,11 @@ module _ (names : Bool) (t : List ℕ) where
       ∙ first.starts
 
   -- where an item begins
-  item-begins : (n : Node) → Spells names t n → ItemAt t (begin n)
+  item-begins : (n : Node) → Spells names t n → PartAt shape.Array t (begin n)
   item-begins n h =
       let first = begins-value n h in
-      record { byte = first.byte; here = first.here; no_blank = first.no_blank; no_closer = first.no_closer }
+      let other = ap not first.no_closer in
+      record { byte = first.byte; here = first.here; no_blank = first.no_blank; begins = other }
 
   pub key-taken : (k : Key) → SpellsString t k.begin k.pieces k.end
       → seen_as (key_of t k.begin) (string_at whole t k.begin) ≡ taken k k.end
@@ -183,16 +189,16 @@ module _ (names : Bool) (t : List ℕ) where
   -- the parts of a container, by the grammar
   module _ (room : ℕ) where
     abbrev MoreItems : List Node → ℕ → ℕ → Type 0
-    MoreItems ns i e = MoreParts t 93 (ItemAt t) (IsItem names t room) ns i e
+    MoreItems ns i e = MoreParts t 93 (PartAt shape.Array t) (IsItem names t room) ns i e
 
     abbrev MoreMembers : List (Key × Node) → ℕ → ℕ → Type 0
-    MoreMembers ms i e = MoreParts t 125 (KeyBegins t) (IsMember names t room) ms i e
+    MoreMembers ms i e = MoreParts t 125 (PartAt shape.Object t) (IsMember names t room) ms i e
 
     abbrev pub Items : List Node → ℕ → ℕ → Type 0
-    Items ns i e = Parts t 93 (ItemAt t) (IsItem names t room) ns i e
+    Items ns i e = Parts t 93 (PartAt shape.Array t) (IsItem names t room) ns i e
 
     abbrev pub Members : List (Key × Node) → ℕ → ℕ → Type 0
-    Members ms i e = Parts t 125 (KeyBegins t) (IsMember names t room) ms i e
+    Members ms i e = Parts t 125 (PartAt shape.Object t) (IsMember names t room) ms i e
 
     is_item : (n : Node) → Spells names t n → nesting n < room → EndsNumber t (end n)
         → IsItem names t room (begin n) n (end n)
@@ -201,7 +207,7 @@ module _ (names : Bool) (t : List ℕ) where
     item-first : (n : Node) (ns : List Node) (i e : ℕ) → IsBlank t i (begin n) → Spells names t n → nesting n < room
         → MoreItems ns (end n) e → Items (n ∷ ns) i e
     item-first n ns i e blanks h d rest =
-        let quiet = more_parts-quiet t 93 (ItemAt t) (IsItem names t room) refl ns (end n) e rest in
+        let quiet = more_parts-quiet t 93 (PartAt shape.Array t) (IsItem names t room) refl ns (end n) e rest in
         let is = is_item n h d quiet in
         record { begin = begin n; end = end n; blanks = blanks; begins = item-begins n h; is = is; rest = rest }
 
@@ -222,10 +228,11 @@ module _ (names : Bool) (t : List ℕ) where
         → SpellsKey t k (begin n) → Spells names t n → nesting n < room → MoreMembers ms (end n) e
         → Members ((k, n) ∷ ms) i e
     member-first k n ms i e blanks key h d rest =
-        let quiet = more_parts-quiet t 125 (KeyBegins t) (IsMember names t room) refl ms (end n) e rest in
+        let quiet = more_parts-quiet t 125 (PartAt shape.Object t) (IsMember names t room) refl ms (end n) e rest in
         let value = is_item n h d quiet in
         let is : IsMember names t room k.begin (k, n) (end n) = record { begins = refl; key = key; value = value } in
-        record { begin = k.begin; end = end n; blanks = blanks; begins = key.string.opens; is = is; rest = rest }
+        let begins = quote-begins t k.begin key.string.opens in
+        record { begin = k.begin; end = end n; blanks = blanks; begins = begins; is = is; rest = rest }
 
     more_members-parts : (ms : NodeMembers) (i e : ℕ) → SpellsMoreMembers names t i ms e → nesting_of_members ms < room
         → MoreMembers (members_list ms) i e
@@ -262,11 +269,11 @@ module _ (names : Bool) (t : List ℕ) where
   node-within (grammar.string ps b e) h = (laws.string-ordered b e ps h).1
   node-within (grammar.array b e ns) h =
       let room = nesting_round ns in
-      parts-within 93 (ItemAt t) (IsItem names t room) (nodes_list ns) (b + 1) e
+      parts-within 93 (PartAt shape.Array t) (IsItem names t room) (nodes_list ns) (b + 1) e
       (items-parts room ns (b + 1) e h.1 (omega arith))
   node-within (grammar.object b e ms) h =
       let room = nesting_round_members ms in
-      parts-within 125 (KeyBegins t) (IsMember names t room) (members_list ms) (b + 1) e
+      parts-within 125 (PartAt shape.Object t) (IsMember names t room) (members_list ms) (b + 1) e
       (members-parts room ms (b + 1) e h.1 (omega arith))
 
   -- A node ends behind its begin.

@@ -1,5 +1,6 @@
 -- What is spelled is read.
-use Rattle.std.proofs.Common.{◌≡◌, ◌≢◌, ◌⊎◌, inl, inr, ℕ, ◌+◌, ◌<◌, ◌≤◌, Bool, true, false, ◌||◌, ◌&&◌, ap₂, List, [], ◌∷◌, length, refl, sym, ap, ◌∙◌, subst, arith}
+use Rattle.std.proofs.Common.{◌≡◌, ◌≢◌, ◌⊎◌, inl, inr, ℕ, ◌+◌, ◌<◌, ◌≤◌, Bool, true, false, ◌||◌, ◌&&◌, ap₂, List, []}
+use Rattle.std.proofs.Common.{◌∷◌, length, refl, sym, ap, ◌∙◌, subst, arith}
 use Rattle.std.specs.Prelude.{slice_get, slice_index, Some, None, ◌==◌, nat_lt}
 use Rattle.std.specs.Char.{IsScalar, encode_utf8}
 use Rattle.std.specs.Str.{all_scalars}
@@ -10,9 +11,14 @@ use Rattle.std.proofs.lemmas.Option.{slice_get_within, get_or_from_slice_get}
 use Rattle.std.proofs.lemmas.Str.{utf8_valid_len-IsUtf8}
 use Rattle.jiter_steps.specs.Escape.{short_escape, is_hex, unit_of, is_high, is_low, pair_of}
 use Rattle.jiter_scan.specs.Stands.{Stands}
-use Rattle.jiter_steps.specs.Piece.{IsUnit, IsEscape, IsPiece, Piece, SpellsChar, SpellsPieces, SpellsString, characters, text_of}
+use Rattle.jiter_steps.specs.Piece.{IsUnit, IsEscape, IsPiece, Piece, SpellsChar, SpellsPieces, SpellsString}
+use Rattle.jiter_steps.specs.Piece.{characters, text_of}
 use Rattle.jiter_scan.specs.Scanned.{taken}
-use Rattle.jiter_steps.specs.StringReading.{closed, part, over, bad_digit, unit_at, few, number, hex_digits_or, hex_digits_at, behind, surrogate_pair, behind_high_backslash, behind_high, single, unicode_escape, short, behind_backslash, plain, escape_or_plain, place_by, place_at, Body, before, body_at, whole, content_at, string_at, text_in_form}
+use Rattle.jiter_steps.specs.StringReading.{closed, part, over, bad_digit, unit_at, few, number, hex_digits_or}
+use Rattle.jiter_steps.specs.StringReading.{hex_digits_at, behind, surrogate_pair, behind_high_backslash, behind_high}
+use Rattle.jiter_steps.specs.StringReading.{single, unicode_escape, short, behind_backslash, plain, escape_or_plain}
+use Rattle.jiter_steps.specs.StringReading.{place_by, place_at, Body, before, body_at, whole, content_at, string_at}
+use Rattle.jiter_steps.specs.StringReading.{text_in_form}
 use Rattle.jiter_scan.proofs.Choices.{if-true, if-false}
 use Rattle.jiter_scan.proofs.Standing.{stands-split}
 use Rattle.jiter_steps.proofs.Utf8Shape.{AllFollow, Lead, lead}

@@ -1,5 +1,6 @@
 -- A string that is cut, where it is kept: the characters of the pieces that end before the cut.
-use Rattle.std.proofs.Common.{◌≡◌, ◌⊎◌, inl, inr, ℕ, suc, ◌+◌, ◌<◌, ◌≤◌, Bool, true, false, ◌&&◌, List, [], ◌∷◌, ◌++◌, length, take, refl, sym, ap, ap₂, ◌∙◌, subst, arith, append-nil, append_assoc}
+use Rattle.std.proofs.Common.{◌≡◌, ◌⊎◌, inl, inr, ℕ, suc, ◌+◌, ◌<◌, ◌≤◌, Bool, true, false, ◌&&◌, List, [], ◌∷◌, ◌++◌}
+use Rattle.std.proofs.Common.{length, take, refl, sym, ap, ap₂, ◌∙◌, subst, arith, append-nil, append_assoc}
 use Rattle.std.specs.Prelude.{slice_get, Some, nat_le, nat_lt}
 use Rattle.std.specs.Char.{encode_utf8}
 use Rattle.std.specs.Str.{all_scalars, IsUtf8}
@@ -8,18 +9,24 @@ use Rattle.std.proofs.lemmas.Bool.Decides.{nat_tests}
 use Rattle.std.proofs.lemmas.Option.{slice_get_past}
 use Rattle.jiter_steps.specs.Escape.{is_high}
 use Rattle.jiter_scan.specs.Stands.{Stands}
-use Rattle.jiter_steps.specs.Piece.{IsPlain, IsEscape, IsPiece, Piece, SpellsChar, SpellsPieces, SpellsString, characters, text_of, pieces_to}
+use Rattle.jiter_steps.specs.Piece.{IsPlain, IsEscape, IsPiece, Piece, SpellsChar, SpellsPieces, SpellsString}
+use Rattle.jiter_steps.specs.Piece.{characters, text_of, pieces_to}
 use Rattle.jiter_scan.specs.Scanned.{taken, failed}
-use Rattle.jiter_steps.specs.StringReading.{Stop, unclosed, cut, over, few, hex_digits_or, bad_digit, unit_at, hex_digits_at, behind, surrogate_pair, behind_high_backslash, behind_high, single, unicode_escape, behind_backslash, place_at, Body, before, body_at, kept, valid_front_by, valid_front, text_in_form, content_at, string_at, whole, raw}
+use Rattle.jiter_steps.specs.StringReading.{Stop, unclosed, cut, over, few, hex_digits_or, bad_digit, unit_at}
+use Rattle.jiter_steps.specs.StringReading.{hex_digits_at, behind, surrogate_pair, behind_high_backslash, behind_high}
+use Rattle.jiter_steps.specs.StringReading.{single, unicode_escape, behind_backslash, place_at, Body, before, body_at}
+use Rattle.jiter_steps.specs.StringReading.{kept, valid_front_by, valid_front, text_in_form, content_at, string_at}
+use Rattle.jiter_steps.specs.StringReading.{whole, raw}
 use Rattle.jiter_steps.proofs.Utf8Shape.{lead}
 use Rattle.jiter_scan.proofs.Choices.{if-true, if-false}
 use Rattle.jiter_scan.proofs.Standing.{stands-split}
 use Rattle.jiter_steps.proofs.Front.{front-length, front-get, front-stands}
 use Rattle.jiter_steps.proofs.SameFront.{string-too}
 use Rattle.jiter_steps.proofs.Bodies.{body_at-place_by, place_by-end}
-use Rattle.jiter_steps.proofs.StringComplete.{ArePrinted, plain-printed, bytes-read, char-read, place_by-backslash, place_by-number, UnitAt, unit-at}
+use Rattle.jiter_steps.proofs.StringComplete.{ArePrinted, plain-printed, bytes-read, char-read, place_by-backslash}
+use Rattle.jiter_steps.proofs.StringComplete.{place_by-number, UnitAt, unit-at}
 use Rattle.jiter_scan.specs.Kind.{eof_string}
-use Rattle.jiter_steps.proofs.Tails.{IsFront, tail-unfinished, tail-taken}
+use Rattle.jiter_steps.proofs.CutCharacters.{IsFront, tail-unfinished, tail-taken}
 
 module _ (t : List ℕ) (k : ℕ) (within : k ≤ length t) where
   abbrev u : List ℕ

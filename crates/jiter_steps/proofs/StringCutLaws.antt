@@ -1,5 +1,6 @@
 -- A string whose text is cut, with its mark.
-use Rattle.std.proofs.Common.{◌≡◌, ℕ, ◌+◌, ◌-◌, ◌<◌, ◌≤◌, ◌==◌, Bool, List, length, take, drop, sym, ap, ◌∙◌, subst, arith}
+use Rattle.std.proofs.Common.{◌≡◌, ℕ, ◌+◌, ◌-◌, ◌<◌, ◌≤◌, ◌==◌, Bool, List, length, take, drop, sym, ap, ◌∙◌, subst}
+use Rattle.std.proofs.Common.{arith}
 use Rattle.std.specs.Prelude.{slice_get, slice_range, Option, Some, None}
 use Rattle.std.specs.List.{list_any}
 use Rattle.std.specs.Str.Lossy.{utf8_valid_len, utf8_error_len}
@@ -11,7 +12,8 @@ use Rattle.jiter_scan.proofs.Scanning.{ScalarWithin}
 use Rattle.jiter_steps.specs.Tree.{Text}
 use Rattle.jiter_steps.specs.Piece.{Piece, SpellsString, text_of, pieces_to}
 use Rattle.jiter_steps.specs.Node.{has_backslash, text_at}
-use Rattle.jiter_steps.specs.StringReading.{Stop, closed, unclosed, cut, wrong, body_at, whole, kept, raw, valid_front_by, text_in_form, content_at, string_at}
+use Rattle.jiter_steps.specs.StringReading.{Stop, closed, unclosed, cut, wrong, body_at, whole, kept, raw}
+use Rattle.jiter_steps.specs.StringReading.{valid_front_by, text_in_form, content_at, string_at}
 use Rattle.jiter_steps.proofs.StringMarks.{EndOf, mark-is}
 use Rattle.jiter_steps.proofs.StringCut.{same, string-still, kept-cut, whole-cut}
 use Rattle.jiter_steps.proofs.StringLaws.{string_at-within, string_at-complete, string-ordered, kept-whole}

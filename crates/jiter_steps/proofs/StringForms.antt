@@ -1,15 +1,15 @@
 -- How the four forms stand to one another.
-use Rattle.std.proofs.Common.{◌≡◌, ◌≢◌, ℕ, ◌+◌, ◌-◌, Bool, true, false, List, [], length, take, drop, None, refl, sym, ap, ◌∙◌, arith}
+use Rattle.std.proofs.Common.{◌≡◌, ◌≢◌, ℕ, ◌+◌, ◌-◌, Bool, true, false, List, [], length, drop, None, refl, sym}
+use Rattle.std.proofs.Common.{ap, ◌∙◌, arith}
 use Rattle.std.specs.Prelude.{◌==◌, if◌then◌else◌}
 use Rattle.std.specs.Str.Lossy.{utf8_valid_len, utf8_error_len}
-use Rattle.std.specs.Str.{IsUtf8}
-use Rattle.std.proofs.lemmas.Str.{utf8_valid_len-IsUtf8}
 use Rattle.std.proofs.lemmas.Bool.{eqb-true}
 use Rattle.std.proofs.lemmas.List.{take_all, drop_all}
 use Rattle.jiter_scan.specs.Kind.{Kind, invalid_code_point}
 use Rattle.jiter_scan.specs.Scanned.{Scanned, taken, failed}
 use Rattle.jiter_steps.specs.Tree.{Text}
-use Rattle.jiter_steps.specs.StringReading.{Stop, closed, unclosed, cut, wrong, body_at, whole, kept, raw, if_utf8, valid_front_by, valid_front, between, text_in_form, content_at}
+use Rattle.jiter_steps.specs.StringReading.{Stop, closed, unclosed, cut, wrong, body_at, whole, kept, raw, if_utf8}
+use Rattle.jiter_steps.specs.StringReading.{valid_front_by, valid_front, between, text_in_form, content_at}
 
 pub utf8_error_len-nil : utf8_error_len [] ≡ None
 unfolding utf8_error_len
@@ -74,13 +74,3 @@ module _ (t : List ℕ) (i : ℕ) where
       → content_at raw t i ≡ failed k j
   unfolding content_at
   content-raw k j ne h = whole-raw (body_at t i).bytes (body_at t i).owned (body_at t i).stop k j ne h
-
--- bytes that are UTF-8 lose nothing
-pub text_kept : (bs s : List ℕ) → IsUtf8 bs → s ≡ bs
-    → (utf8_error_len (drop (utf8_valid_len bs) bs) ≡ None) × (s ≡ take (utf8_valid_len bs) bs)
-text_kept bs s u e =
-    let h = utf8_valid_len-IsUtf8 bs u in (
-      ap utf8_error_len (drop_all (utf8_valid_len bs) bs (omega arith)) ∙ utf8_error_len-nil,
-      e
-          ∙ sym (take_all (utf8_valid_len bs) bs (omega arith)),
-    )

@@ -1,17 +1,21 @@
 -- The laws of reading a string that the layers above stand on.
-use Rattle.std.proofs.Common.{◌≡◌, ◌≢◌, inl, inr, ℕ, ◌+◌, ◌-◌, ◌<◌, ◌≤◌, Bool, List, length, drop, refl, sym, ap, ◌∙◌, subst, arith}
+use Rattle.std.proofs.Common.{◌≡◌, ◌≢◌, inl, inr, ℕ, ◌+◌, ◌-◌, ◌<◌, ◌≤◌, Bool, List, length, drop, refl, sym, ap, ◌∙◌}
+use Rattle.std.proofs.Common.{subst, arith}
 use Rattle.std.specs.Prelude.{slice_get, Option, Some, None, ◌==◌}
 use Rattle.std.specs.Str.{chars}
 use Rattle.std.specs.Str.Lossy.{utf8_valid_len, utf8_error_len}
 use Rattle.std.proofs.lemmas.Option.{slice_get_within}
 use Rattle.std.proofs.lemmas.Str.{chars-encodes, utf8_valid_len_le}
-use Rattle.jiter_scan.specs.Kind.{Kind, eof_string, invalid_escape, invalid_code_point, lone_surrogate, end_of_hex_escape, control_character}
+use Rattle.jiter_scan.specs.Kind.{Kind, eof_string, invalid_escape, invalid_code_point, lone_surrogate}
+use Rattle.jiter_scan.specs.Kind.{end_of_hex_escape, control_character}
 use Rattle.jiter_scan.specs.Scanned.{Scanned, taken, failed}
 use Rattle.jiter_scan.proofs.Scanning.{ScalarWithin, FaultAt}
 use Rattle.jiter_steps.specs.Tree.{Text}
 use Rattle.jiter_steps.specs.Piece.{Piece, SpellsString, characters, text_of}
 use Rattle.jiter_steps.specs.Node.{has_backslash, text_at}
-use Rattle.jiter_steps.specs.StringReading.{Stop, closed, unclosed, cut, wrong, body_at, Form, whole, kept, raw, raw_kept, if_utf8, valid_front_by, valid_front, between, text_in_form, content_at, string_at}
+use Rattle.jiter_steps.specs.StringReading.{Stop, closed, unclosed, cut, wrong, body_at, Form, whole, kept, raw}
+use Rattle.jiter_steps.specs.StringReading.{raw_kept, if_utf8, valid_front_by, valid_front, between, text_in_form}
+use Rattle.jiter_steps.specs.StringReading.{content_at, string_at}
 use Rattle.jiter_scan.proofs.Choices.{if_case}
 use Rattle.jiter_steps.proofs.Bounds.{fault-end, fault-byte}
 use Rattle.jiter_steps.proofs.Pieces.{pieces_from}

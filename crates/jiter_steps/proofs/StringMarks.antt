@@ -1,12 +1,14 @@
 -- A text is owned exactly where a backslash was read.
-use Rattle.std.proofs.Common.{◌≡◌, ◌≢◌, inl, inr, ℕ, zero, suc, ◌+◌, ◌-◌, ◌<◌, ◌≤◌, ◌==◌, Bool, true, false, List, length, drop, get_or, refl, sym, ap, ◌∙◌, subst, arith}
+use Rattle.std.proofs.Common.{◌≡◌, ◌≢◌, inl, inr, ℕ, zero, suc, ◌+◌, ◌-◌, ◌<◌, ◌≤◌, ◌==◌, Bool, true, false, List}
+use Rattle.std.proofs.Common.{length, drop, get_or, refl, sym, ap, ◌∙◌, subst, arith}
 use Rattle.std.specs.Prelude.{slice_get, slice_range, Some, None}
 use Rattle.std.proofs.lemmas.Bool.{cases_eq, true≢false, ne_eqb}
 use Rattle.std.proofs.lemmas.Option.{slice_get-get_or, slice_get_within, get_or_from_slice_get, same_Some}
 use Rattle.std.proofs.lemmas.List.{length-take, length-drop, get_or-take, get_or-drop}
 use Rattle.std.proofs.lemmas.List.Folds.{list_any_at, list_any_none}
 use Rattle.jiter_steps.specs.Node.{has_backslash}
-use Rattle.jiter_steps.specs.StringReading.{Stop, closed, unclosed, cut, wrong, Place, part, over, place_at, Body, join, body_at}
+use Rattle.jiter_steps.specs.StringReading.{Stop, closed, unclosed, cut, wrong, Place, part, over, place_at, Body, join}
+use Rattle.jiter_steps.specs.StringReading.{body_at}
 use Rattle.jiter_steps.proofs.Places.{Explains, place_at-explains}
 use Rattle.jiter_steps.proofs.Bodies.{body_at-is, place_by-end, part-ahead, body_at-place_by}
 

@@ -1,25 +1,29 @@
 -- What is read is spelled, and in one way.
-use Rattle.std.proofs.Common.{◌≡◌, ◌≢◌, ◌⊎◌, inl, inr, ℕ, zero, suc, ◌+◌, ◌<◌, ◌≤◌, Bool, true, false, List, [], ◌∷◌, ◌++◌, length, take, refl, sym, ap, ◌∙◌, subst, arith}
+use Rattle.std.proofs.Common.{◌≡◌, ◌≢◌, ◌⊎◌, inl, inr, ℕ, zero, suc, ◌+◌, ◌<◌, ◌≤◌, Bool, true, false, List, [], ◌∷◌}
+use Rattle.std.proofs.Common.{◌++◌, length, take, refl, sym, ap, ◌∙◌, subst, arith}
 use Rattle.std.specs.Prelude.{slice_get, Some, ◌==◌, if◌then◌else◌}
 use Rattle.std.specs.Char.{IsScalar, encode_utf8}
 use Rattle.std.specs.Str.{encode_utf8_all, all_scalars, IsUtf8, is_utf8, chars}
 use Rattle.std.specs.Str.Lossy.{utf8_valid_len, valid_len_up_to}
 use Rattle.std.proofs.lemmas.Bool.{eqb-true, and_parts, cases_lt}
-use Rattle.std.proofs.lemmas.Str.{encode_same, encodes_same, IsUtf8-from_is_utf8, IsUtf8-nil, scalars-chars, encodes-chars}
+use Rattle.std.proofs.lemmas.Str.{encode_same, IsUtf8-from_is_utf8, IsUtf8-nil, scalars-chars}
+use Rattle.std.proofs.lemmas.Str.{encodes-chars}
 use Rattle.std.proofs.lemmas.List.{take_all}
 use Rattle.jiter_scan.specs.Kind.{invalid_code_point}
 use Rattle.jiter_scan.specs.Stands.{Stands}
-use Rattle.jiter_steps.specs.Piece.{IsPlain, IsEscape, IsPiece, Piece, SpellsChar, SpellsPieces, SpellsString, characters, text_of}
+use Rattle.jiter_steps.specs.Piece.{IsPlain, IsEscape, IsPiece, Piece, SpellsChar, SpellsPieces, SpellsString}
+use Rattle.jiter_steps.specs.Piece.{characters, text_of}
 use Rattle.jiter_scan.specs.Scanned.{taken, failed}
 use Rattle.jiter_steps.specs.Tree.{Text}
-use Rattle.jiter_steps.specs.StringReading.{Stop, closed, unclosed, cut, wrong, Place, part, over, place_at, Body, body_at, whole, content_at, string_at, text_in_form}
+use Rattle.jiter_steps.specs.StringReading.{Stop, closed, unclosed, cut, wrong, Place, part, over, place_at, Body}
+use Rattle.jiter_steps.specs.StringReading.{body_at, whole, content_at, string_at, text_in_form}
 use Rattle.jiter_steps.proofs.Pieces.{end_of, pieces_from}
 use Rattle.jiter_steps.proofs.Utf8Shape.{Follows, AllFollow, Lead, lead}
 use Rattle.jiter_scan.proofs.Choices.{if_case}
 use Rattle.jiter_scan.proofs.Standing.{stands-length}
 use Rattle.jiter_steps.proofs.Places.{Explains, place_at-explains}
 use Rattle.jiter_steps.proofs.Bodies.{body_at-place_by}
-use Rattle.jiter_steps.proofs.StringComplete.{ArePrinted, plain-printed, place_by-byte, place_by-escape, string-complete}
+use Rattle.jiter_steps.proofs.StringComplete.{ArePrinted, plain-printed, place_by-byte, place_by-escape}
 
 -- what is left of a body behind some of its bytes
 pub record Leaves (t : List ℕ) (i j : ℕ) (bs : List ℕ) : Type 0 where
@@ -248,20 +252,4 @@ module _ (t : List ℕ) where
         record { opens = q; close = r.0; spelled = r.1; closes = r.2; ends = r.3 },
         sym (encodes-chars x.bytes u)
             ∙ ap encode_utf8_all (sym (characters-from cs (i + 1))),
-      )
-
-  -- at most one string begins at a place
-  pub string-unique : (i e f : ℕ) (ps qs : List Piece) → SpellsString t i ps e → SpellsString t i qs f
-      → (ps ≡ qs) × (e ≡ f)
-  string-unique i e f ps qs s r =
-      let a = string-complete t i e ps s in
-      let b = string-complete t i f qs r in
-      let same =
-      taken-parts (record { owned = a.0; bytes = text_of ps }) (record { owned = b.0; bytes = text_of qs }) e f
-      (sym a.1 ∙ b.1) in
-      let text : text_of ps ≡ text_of qs = ap (λ (y : Text). y.bytes) same.0 in
-      let cs = encodes_same (characters ps) (characters qs) text in (
-        pieces-unique ps (i + 1) s.close s.spelled ∙ ap (pieces_from t (i + 1)) cs
-            ∙ sym (pieces-unique qs (i + 1) r.close r.spelled),
-        same.1,
       )

@@ -1,5 +1,6 @@
 -- The equations of reading.
-use Rattle.std.proofs.Common.{◌≡◌, ℕ, zero, suc, ◌+◌, ◌<◌, ◌≤◌, length, List, [], ◌∷◌, ◌++◌, refl, sym, ap, ◌∙◌, ◌-◌, arith}
+use Rattle.std.proofs.Common.{◌≡◌, ℕ, zero, suc, ◌+◌, ◌<◌, ◌≤◌, length, List, [], ◌∷◌, ◌++◌, refl, sym, ap, ◌∙◌, ◌-◌}
+use Rattle.std.proofs.Common.{arith}
 use Rattle.std.specs.Prelude.{slice_index}
 use Rattle.jiter_scan.specs.Kind.{Kind, recursion_limit, expected_value}
 use Rattle.jiter_scan.specs.Scanned.{Scanned, taken, failed}
@@ -7,11 +8,15 @@ use Rattle.jiter_scan.specs.Word.{Extent}
 use Rattle.jiter_scan.proofs.Scanning.{ScalarWithin, FaultAt}
 use Rattle.jiter_steps.specs.Literal.{start_of}
 use Rattle.jiter_steps.specs.Step.{Step, more, closed, stuck, step, object_colon}
-use Rattle.jiter_steps.specs.Read.{Reading, done, fault, Rules, Container, scalar_at, with_key, behind_colon, behind_key, if_forgiven, follow, behind_part, parts_at, container_at, array_of, object_of, value_with, inside_at, value_at}
+use Rattle.jiter_steps.specs.Read.{Reading, done, fault, Rules, Container, scalar_at, with_key, behind_colon}
+use Rattle.jiter_steps.specs.Read.{behind_key, if_forgiven, follow, behind_part, parts_at, container_at, array_of}
+use Rattle.jiter_steps.specs.Read.{object_of, value_with, inside_at, value_at}
+use Rattle.jiter_steps.specs.declared.parse.Shape.TheVariants as shape
 use Rattle.jiter_steps.specs.declared.parse.Literal.{Literal}
 use Rattle.jiter_steps.specs.declared.parse.Start.{Start}
 use Rattle.jiter_steps.specs.declared.parse.Start.TheVariants as start
-use Rattle.jiter_steps.proofs.Bounds.{Ahead, ExtentAhead, Within, either, fault-byte, array_first-ahead, array_step-ahead, object_first-ahead, object_step-ahead, object_colon-ahead}
+use Rattle.jiter_steps.proofs.Bounds.{Ahead, ExtentAhead, Within, either, fault-byte, container_first-ahead}
+use Rattle.jiter_steps.proofs.Bounds.{container_step-ahead, object_colon-ahead}
 
 -- scalars and keys end behind their begin and within the text
 pub record Advances {K A : Type 0} (r : Rules K A) (t : List ℕ) : Type 0 where
@@ -108,10 +113,10 @@ module _ {K A : Type 0} (r : Rules K A) (t : List ℕ) where
 
   module _ (good : Advances r t) (inner : ℕ → Reading A) (all : AllWithin t inner) (i : ℕ) where
     pub array_of-goes : Goes (array_of r inner t i) t
-    array_of-goes = record { first = array_first-ahead t; next = array_step-ahead t; part = all }
+    array_of-goes = record { first = container_first-ahead t shape.Array; next = container_step-ahead t shape.Array; part = all }
 
     pub object_of-goes : Goes (object_of r inner t i) t
-    object_of-goes = record { first = object_first-ahead t; next = object_step-ahead t; part = λ j h. behind_key-within j inner (r.key t j) h (good.key j h) all (object_colon-ahead t) }
+    object_of-goes = record { first = container_first-ahead t shape.Object; next = container_step-ahead t shape.Object; part = λ j h. behind_key-within j inner (r.key t j) h (good.key j h) all (object_colon-ahead t) }
 
     scalar_at-within : (x : Scanned A) → i < length t → ScalarWithin t i x → Within t i (scalar_at i x)
     scalar_at-within (taken a e) h w = w

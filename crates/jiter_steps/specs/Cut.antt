@@ -1,6 +1,7 @@
 -- What is left of a document when its text ends before the place k. It speaks of a finished derivation, and not of
 -- reading.
-use Rattle.std.specs.Prelude.{◌≡◌, ◌<◌, ◌≤◌, length, take, ℕ, Bool, Option, Some, None, List, nat_le, min, if◌then◌else◌, slice_range}
+use Rattle.std.specs.Prelude.{◌≡◌, ◌<◌, ◌≤◌, length, take, ℕ, Bool, Option, Some, None, List, nat_le, min}
+use Rattle.std.specs.Prelude.{if◌then◌else◌, slice_range}
 use Rattle.jiter_scan.specs.Number.{number_value}
 use Rattle.jiter_scan.specs.NumberReading.{is_number_text}
 use Rattle.jiter_scan.specs.PartialMode.{allows_trailing_strings}
@@ -9,7 +10,8 @@ use Rattle.jiter_steps.specs.Literal.{literal_tree}
 use Rattle.jiter_steps.specs.Piece.{Piece, pieces_to}
 use Rattle.jiter_steps.specs.Tree.{Text, Tree, Items, Members}
 use Rattle.jiter_steps.specs.Tree as tree
-use Rattle.jiter_steps.specs.Node.{Node, Nodes, no_nodes, node, NodeMembers, no_members, member, begin, text_at, number_tree, IsContainer, IsDocument}
+use Rattle.jiter_steps.specs.Node.{Node, Nodes, no_nodes, node, NodeMembers, no_members, member, begin, text_at}
+use Rattle.jiter_steps.specs.Node.{number_tree, IsContainer, IsDocument}
 use Rattle.jiter_steps.specs.Node as grammar
 
 -- these bytes of a number, where they are a number still

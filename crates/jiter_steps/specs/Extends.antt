@@ -1,6 +1,7 @@
 -- One tree goes on where another stopped, as a longer front of a document does.
 use Rattle.std.specs.Prelude.{◌≡◌, ◌⊎◌, ℕ, ◌≤◌, List, ◌++◌}
-use Rattle.jiter_steps.specs.Tree.{Text, Tree, string, array, object, Items, no_items, item, Members, no_members, member}
+use Rattle.jiter_steps.specs.Tree.{Text, Tree, string, array, object, Items, no_items, item, Members, no_members}
+use Rattle.jiter_steps.specs.Tree.{member}
 use Rattle.jiter_steps.specs.Node.{Node, Nodes, no_nodes, node, NodeMembers}
 use Rattle.jiter_steps.specs.Node as grammar
 

@@ -3,7 +3,8 @@ use Rattle.std.specs.Prelude.{ℕ, suc, ◌-◌, if◌then◌else◌, Bool, List
 use Rattle.jiter_scan.specs.Kind.{Kind}
 use Rattle.jiter_steps.specs.Node.{nesting_limit}
 use Rattle.jiter_steps.specs.Step.{Step, more, closed, stuck, step}
-use Rattle.jiter_steps.specs.Read.{Reading, Rules, Container, with_key, follow, behind_part, parts_at, array_of, object_of, inside_at}
+use Rattle.jiter_steps.specs.Read.{Reading, Rules, Container, with_key, follow, behind_part, parts_at, array_of}
+use Rattle.jiter_steps.specs.Read.{object_of, inside_at}
 
 -- an open container: the items so far; or the members so far, and the key that awaits its value
 pub data Frame (K A : Type 0) : Type 0 where

@@ -6,6 +6,7 @@ pub mod Escape
 pub mod Piece
 pub mod StringReading
 pub mod StringDecoder
+pub mod RawString
 pub mod Read
 pub mod ReadError
 pub mod Parse
@@ -15,3 +16,5 @@ pub mod Answer
 pub mod Extends
 pub mod Frames
 pub mod FirstFault
+pub mod Skip
+pub mod Plain

@@ -1,5 +1,6 @@
 -- The grammar of a whole document (RFC 8259, 2 to 5): a text and the nodes that it spells.
-use Rattle.std.specs.Prelude.{◌≡◌, ℕ, suc, ◌+◌, ◌≤◌, ◌<◌, take, ◌==◌, max, Bool, false, List, length, slice_get, slice_range, Some}
+use Rattle.std.specs.Prelude.{◌≡◌, ℕ, suc, ◌+◌, ◌≤◌, ◌<◌, take, ◌==◌, max, Bool, false, List, length, slice_get}
+use Rattle.std.specs.Prelude.{slice_range, Some}
 use Rattle.std.specs.List.{list_any}
 use Rattle.jiter_scan.specs.Ascii as ascii
 use Rattle.jiter_scan.specs.Stands.{Stands}

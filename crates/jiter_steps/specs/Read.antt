@@ -1,12 +1,14 @@
 -- Reading a value from the left. What a scalar gives, what is built and what is forgiven are the caller's rules.
-use Rattle.std.specs.Prelude.{ℕ, zero, suc, ◌+◌, Bool, if◌then◌else◌, List, [], ◌∷◌, ◌++◌, length, slice_index, slice_get, Option, Some, None}
+use Rattle.std.specs.Prelude.{ℕ, zero, suc, ◌+◌, Bool, if◌then◌else◌, List, [], ◌∷◌, ◌++◌, length, slice_index}
+use Rattle.std.specs.Prelude.{slice_get, Option, Some, None}
 use Rattle.jiter_scan.specs.Kind.{Kind, eof_value, expected_value, trailing_characters, recursion_limit}
 use Rattle.jiter_scan.specs.Scanned.{Scanned, taken, failed}
 use Rattle.jiter_scan.specs.Word.{Extent}
 use Rattle.jiter_steps.specs.Blank.{past_blanks}
 use Rattle.jiter_steps.specs.Literal.{start_of}
 use Rattle.jiter_steps.specs.Node.{nesting_limit}
-use Rattle.jiter_steps.specs.Step.{Step, more, closed, stuck, step, array_first, array_step, object_first, object_colon, object_step}
+use Rattle.jiter_steps.specs.Step.{Step, more, closed, stuck, step, array_first, array_step, object_first, object_colon}
+use Rattle.jiter_steps.specs.Step.{object_step}
 use Rattle.jiter_steps.specs.declared.parse.Literal.{Literal}
 use Rattle.jiter_steps.specs.declared.parse.Start.{Start}
 use Rattle.jiter_steps.specs.declared.parse.Start.TheVariants as start

@@ -1,11 +1,15 @@
 -- The steps between the parts of a container (RFC 8259, 4 and 5): blanks are passed, and then a byte decides.
-use Rattle.std.specs.Prelude.{ℕ, ◌+◌, ◌==◌, if◌then◌else◌, List, slice_get, Option, Some, None}
+use Rattle.std.specs.Prelude.{ℕ, ◌+◌, ◌==◌, if◌then◌else◌, Bool, not, List, slice_get, Option, Some, None}
 use Rattle.jiter_scan.specs.Ascii as ascii
-use Rattle.jiter_scan.specs.Kind.{Kind, eof_list, eof_object, eof_value, expected_colon, expected_list_comma_or_end, expected_object_comma_or_end, key_must_be_a_string, trailing_comma, trailing_characters}
+use Rattle.jiter_scan.specs.Kind.{Kind, eof_list, eof_object, eof_value, expected_colon, expected_list_comma_or_end}
+use Rattle.jiter_scan.specs.Kind.{expected_object_comma_or_end, key_must_be_a_string, trailing_comma}
+use Rattle.jiter_scan.specs.Kind.{trailing_characters}
 use Rattle.jiter_scan.specs.Scanned.{taken, failed}
 use Rattle.jiter_scan.specs.Word.{Extent}
 use Rattle.jiter_scan.specs.NumberReading.{extent_then}
 use Rattle.jiter_steps.specs.Blank.{past_blanks}
+use Rattle.jiter_steps.specs.declared.parse.Shape.{Shape}
+use Rattle.jiter_steps.specs.declared.parse.Shape.TheVariants as shape
 
 -- where the reading goes on, the end of the container, or a fault at its place
 pub data Step : Type 0 where
@@ -17,47 +21,63 @@ pub data Step : Type 0 where
 abbrev pub step : {A : Type 0} → List ℕ → (ℕ → Option ℕ → A) → ℕ → A
 step t row i = row (past_blanks t i) (slice_get t (past_blanks t i))
 
--- behind `[`: an item, or the closer
+-- What the steps of arrays and those of objects differ in: the byte that closes,
+abbrev pub closer_of : Shape → ℕ
+closer_of shape.Array = ascii.right_bracket
+closer_of shape.Object = ascii.right_brace
+
+-- what a part begins with: an item with any other byte, a member with its key's quote,
+abbrev pub begins_part : Shape → ℕ → Bool
+begins_part shape.Array c = not (c == ascii.right_bracket)
+begins_part shape.Object c = c == ascii.quote
+
+-- the fault where the input ends before it is closed,
+abbrev pub end_kind_of : Shape → Kind
+end_kind_of shape.Array = eof_list
+end_kind_of shape.Object = eof_object
+
+-- and the fault where neither a comma nor the closer stands behind a part.
+abbrev pub comma_kind_of : Shape → Kind
+comma_kind_of shape.Array = expected_list_comma_or_end
+comma_kind_of shape.Object = expected_object_comma_or_end
+
+-- behind the opening bracket: a part, or the closer
+abbrev pub container_first : Shape → ℕ → Option ℕ → Step
+container_first b j None = stuck (end_kind_of b) j
+container_first b j (Some c) =
+    if begins_part b c then more j
+    else (if c == closer_of b then closed (j + 1)
+    else stuck key_must_be_a_string j)
+
+-- behind a comma: a part
+abbrev pub container_comma : Shape → ℕ → Option ℕ → Step
+container_comma b j None = stuck eof_value j
+container_comma b j (Some c) =
+    if begins_part b c then more j
+    else (if c == closer_of b then stuck trailing_comma j
+    else stuck key_must_be_a_string j)
+
+-- behind a part: a comma and the part behind it, or the closer
+abbrev pub container_step : Shape → List ℕ → ℕ → Option ℕ → Step
+container_step b t j None = stuck (end_kind_of b) j
+container_step b t j (Some c) =
+    if c == closer_of b then closed (j + 1)
+    else (if c == ascii.comma then step t (container_comma b) (j + 1)
+    else stuck (comma_kind_of b) j)
+
+-- behind `[`, and behind an item
 abbrev pub array_first : ℕ → Option ℕ → Step
-array_first j None = stuck eof_list j
-array_first j (Some c) = if c == ascii.right_bracket then closed (j + 1) else more j
+array_first = container_first shape.Array
 
--- behind a comma in an array
-abbrev pub array_comma : ℕ → Option ℕ → Step
-array_comma j None = stuck eof_value j
-array_comma j (Some c) = if c == ascii.right_bracket then stuck trailing_comma j else more j
-
--- behind an item: a comma and what follows it, or the closer
 abbrev pub array_step : List ℕ → ℕ → Option ℕ → Step
-array_step t j None = stuck eof_list j
-array_step t j (Some c) =
-    if c == ascii.right_bracket then closed (j + 1)
-    else (if c == ascii.comma then step t array_comma (j + 1)
-    else stuck expected_list_comma_or_end j)
+array_step = container_step shape.Array
 
--- behind `{`: a key, or the closer
+-- behind `{`, and behind a member
 abbrev pub object_first : ℕ → Option ℕ → Step
-object_first j None = stuck eof_object j
-object_first j (Some c) =
-    if c == ascii.quote then more j
-    else (if c == ascii.right_brace then closed (j + 1)
-    else stuck key_must_be_a_string j)
+object_first = container_first shape.Object
 
--- behind a comma in an object
-abbrev pub object_comma : ℕ → Option ℕ → Step
-object_comma j None = stuck eof_value j
-object_comma j (Some c) =
-    if c == ascii.quote then more j
-    else (if c == ascii.right_brace then stuck trailing_comma j
-    else stuck key_must_be_a_string j)
-
--- behind a member: a comma and the key that follows it, or the closer
 abbrev pub object_step : List ℕ → ℕ → Option ℕ → Step
-object_step t j None = stuck eof_object j
-object_step t j (Some c) =
-    if c == ascii.right_brace then closed (j + 1)
-    else (if c == ascii.comma then step t object_comma (j + 1)
-    else stuck expected_object_comma_or_end j)
+object_step = container_step shape.Object
 
 -- the colon behind a key
 abbrev pub colon : ℕ → Option ℕ → Extent

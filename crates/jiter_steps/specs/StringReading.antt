@@ -1,12 +1,14 @@
 -- Reading a string from the left (RFC 8259, 7 and 8.1): what stands at each place, these joined up to the end,
 -- and what each form makes of it.
-use Rattle.std.specs.Prelude.{ℕ, zero, suc, ◌+◌, ◌-◌, ◌==◌, ◌||◌, Bool, true, false, if◌then◌else◌, List, [], ◌∷◌, ◌++◌, length, take, drop, slice_get, slice_index, slice_range, Option, Some, None, nat_lt}
+use Rattle.std.specs.Prelude.{ℕ, zero, suc, ◌+◌, ◌-◌, ◌==◌, ◌||◌, Bool, true, false, if◌then◌else◌, List, [], ◌∷◌, ◌++◌}
+use Rattle.std.specs.Prelude.{length, take, drop, slice_get, slice_index, slice_range, Option, Some, None, nat_lt}
 use Rattle.std.specs.Char.{encode_utf8}
 use Rattle.std.specs.Str.Lossy.{utf8_valid_len, utf8_error_len}
 use Rattle.jiter_scan.specs.Ascii as ascii
 use Rattle.jiter_scan.specs.Scanned.{Scanned, taken, failed}
 use Rattle.jiter_steps.specs.Tree.{Text}
-use Rattle.jiter_scan.specs.Kind.{Kind, eof_string, invalid_escape, invalid_code_point, control_character, lone_surrogate, end_of_hex_escape}
+use Rattle.jiter_scan.specs.Kind.{Kind, eof_string, invalid_escape, invalid_code_point, control_character}
+use Rattle.jiter_scan.specs.Kind.{lone_surrogate, end_of_hex_escape}
 use Rattle.jiter_steps.specs.Escape.{short_escape, is_hex, unit_of, is_high, is_low, pair_of}
 
 -- how a string ends: by its quote, by the end of input before a piece or within an escape, or by a fault

@@ -3,5 +3,8 @@
 #![tactic(auto)]
 
 pub mod parse;
+pub mod plain;
+pub mod raw_string;
 pub mod read_error;
+pub mod skip;
 pub mod string_decoder;

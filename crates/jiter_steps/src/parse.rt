@@ -1,12 +1,16 @@
 //! A reader that stands at a place of the bytes: blanks, literals, numbers, strings, and the steps between
 //! the parts of arrays and objects.
 ghost use Rattle.std.specs.Prelude.{◌≡◌, ◌+◌, ◌≤◌, ◌<◌, IfOk, OnOk, OnErr, IfSome, true, length, slice_get};
+ghost use Rattle.jiter_scan.specs.Kind.{fault_kind};
 ghost use Rattle.jiter_scan.specs.NumberReading.{number_at};
 ghost use Rattle.jiter_scan.specs.NumberDecoder.{number_view};
 ghost use Rattle.jiter_scan.specs.Scanned.{Scans, taken};
 ghost use Rattle.jiter_steps.specs.Blank.{is_blank, past_blanks};
 ghost use Rattle.jiter_steps.specs.Literal.{start_of, word_of, literal_at};
-ghost use Rattle.jiter_steps.specs.Step.{step, array_first, array_comma, array_step, object_first, object_comma, object_step, colon, value_first, object_colon, document_end};
+ghost use Rattle.jiter_steps.specs.Step.{step, closer_of, begins_part, end_kind_of, comma_kind_of};
+ghost use Rattle.jiter_steps.specs.Step.{container_first, container_comma, container_step};
+ghost use Rattle.jiter_steps.specs.Step.{array_first, array_step, object_first, object_step};
+ghost use Rattle.jiter_steps.specs.Step.{colon, value_first, object_colon, document_end};
 ghost use Rattle.jiter_steps.specs.Read.{scalar_at};
 ghost use Rattle.jiter_steps.specs.ReadError.{WhereRefused};
 ghost use Rattle.jiter_steps.specs.StringReading.{string_at, whole, kept};
@@ -112,6 +116,61 @@ pub fn literal_end(bytes: &[u8], from: usize, literal: Literal) -> Result<usize,
     word_end(bytes, from, literal.word())
 }
 
+/// Which container stands open: all that the steps of arrays and of objects differ in.
+#[derive(Clone, Copy, Debug, PartialEq, Eq)]
+pub enum Shape {
+    /// An array.
+    Array,
+    /// An object.
+    Object,
+}
+
+impl Shape {
+    // The byte that closes.
+    #[inline(always)]
+    pub(crate) fn closer(self) -> u8
+        ensures { result ≡ closer_of self }
+    {
+        match self {
+            Shape::Array => b']',
+            Shape::Object => b'}',
+        }
+    }
+
+    // Whether a part begins with the byte: an item with any but the closer, a member with its key's quote.
+    #[inline(always)]
+    pub(crate) fn begins_part(self, byte: u8) -> bool
+        ensures { result ≡ begins_part self byte }
+    {
+        match self {
+            Shape::Array => byte != b']',
+            Shape::Object => byte == b'"',
+        }
+    }
+
+    // The fault where the input ends before the closer.
+    #[inline(always)]
+    fn end_kind(self) -> FaultKind
+        ensures { fault_kind result ≡ end_kind_of self }
+    {
+        match self {
+            Shape::Array => FaultKind::EofWhileParsingList,
+            Shape::Object => FaultKind::EofWhileParsingObject,
+        }
+    }
+
+    // The fault where neither a comma nor the closer stands behind a part.
+    #[inline(always)]
+    fn comma_kind(self) -> FaultKind
+        ensures { fault_kind result ≡ comma_kind_of self }
+    {
+        match self {
+            Shape::Array => FaultKind::ExpectedListCommaOrEnd,
+            Shape::Object => FaultKind::ExpectedObjectCommaOrEnd,
+        }
+    }
+}
+
 /// The bytes, and the place in them where the reader stands.
 #[derive(Debug, Drop)]
 pub struct Parser<'j> {
@@ -131,6 +190,15 @@ impl<'j> Parser<'j> {
         ensures begin { result.index ≡ 0 }
     {
         Self { bytes, index: 0 }
+    }
+
+    /// A reader that stands at a place of the bytes.
+    pub fn at(bytes: &'j [u8], index: usize) -> Self
+        requires { index ≤ length bytes.now }
+        ensures same { result.bytes ≡ bytes.entry }
+        ensures place { result.index ≡ index }
+    {
+        Self { bytes, index }
     }
 
     // A fault where the reader stands.
@@ -168,18 +236,7 @@ impl<'j> Parser<'j> {
         ensures inside { IfOk result (λ more. more ≡ true
             → self.new.index < length self.old.bytes.now) }
     {
-        self.index += 1;
-        match self.next_byte() {
-            None => Err(self.fault(FaultKind::EofWhileParsingList)),
-            Some(byte) => {
-                if byte == b']' {
-                    self.index += 1;
-                    Ok(false)
-                } else {
-                    Ok(true)
-                }
-            }
-        }
+        self.first(Shape::Array)
     }
 
     /// Whether another item begins where the reader then stands; else the array has ended. The reader stood
@@ -192,41 +249,7 @@ impl<'j> Parser<'j> {
         ensures inside { IfOk result (λ more. more ≡ true
             → self.new.index < length self.old.bytes.now) }
     {
-        match self.next_byte() {
-            None => Err(self.fault(FaultKind::EofWhileParsingList)),
-            Some(byte) => {
-                if byte == b']' {
-                    self.index += 1;
-                    Ok(false)
-                } else if byte == b',' {
-                    self.index += 1;
-                    self.array_comma()
-                } else {
-                    Err(self.fault(FaultKind::ExpectedListCommaOrEnd))
-                }
-            }
-        }
-    }
-
-    // Behind a comma of an array: an item.
-    #[inline(always)]
-    fn array_comma(&mut self) -> Result<bool, Fault>
-        ensures moves { Moves self.old self.new }
-        ensures value { Steps result self.new.index
-            (step self.old.bytes.now array_comma self.old.index) }
-        ensures inside { IfOk result (λ more. more ≡ true
-            → self.new.index < length self.old.bytes.now) }
-    {
-        match self.next_byte() {
-            None => Err(self.fault(FaultKind::EofWhileParsingValue)),
-            Some(byte) => {
-                if byte == b']' {
-                    Err(self.fault(FaultKind::TrailingComma))
-                } else {
-                    Ok(true)
-                }
-            }
-        }
+        self.step(Shape::Array)
     }
 
     /// Whether a key begins where the reader then stands; else the object has ended behind its bracket,
@@ -241,20 +264,7 @@ impl<'j> Parser<'j> {
         ensures inside { IfOk result (λ more. more ≡ true
             → self.new.index < length self.old.bytes.now) }
     {
-        self.index += 1;
-        match self.next_byte() {
-            None => Err(self.fault(FaultKind::EofWhileParsingObject)),
-            Some(byte) => {
-                if byte == b'"' {
-                    Ok(true)
-                } else if byte == b'}' {
-                    self.index += 1;
-                    Ok(false)
-                } else {
-                    Err(self.fault(FaultKind::KeyMustBeAString))
-                }
-            }
-        }
+        self.first(Shape::Object)
     }
 
     /// Whether another key begins where the reader then stands; else the object has ended. The reader stood
@@ -267,37 +277,76 @@ impl<'j> Parser<'j> {
         ensures inside { IfOk result (λ more. more ≡ true
             → self.new.index < length self.old.bytes.now) }
     {
+        self.step(Shape::Object)
+    }
+
+    // Behind the opening bracket: a part, or the closer.
+    #[inline(always)]
+    fn first(&mut self, shape: Shape) -> Result<bool, Fault>
+        requires { self.old.index < length self.old.bytes.now }
+        ensures moves { Moves self.old self.new }
+        ensures value { Steps result self.new.index
+            (step self.old.bytes.now (container_first shape) (self.old.index + 1)) }
+        ensures ahead { self.old.index < self.new.index }
+        ensures inside { IfOk result (λ more. more ≡ true
+            → self.new.index < length self.old.bytes.now) }
+    {
+        self.index += 1;
         match self.next_byte() {
-            None => Err(self.fault(FaultKind::EofWhileParsingObject)),
+            None => Err(self.fault(shape.end_kind())),
             Some(byte) => {
-                if byte == b'}' {
+                if shape.begins_part(byte) {
+                    Ok(true)
+                } else if byte == shape.closer() {
                     self.index += 1;
                     Ok(false)
-                } else if byte == b',' {
-                    self.index += 1;
-                    self.object_comma()
                 } else {
-                    Err(self.fault(FaultKind::ExpectedObjectCommaOrEnd))
+                    Err(self.fault(FaultKind::KeyMustBeAString))
                 }
             }
         }
     }
 
-    // Behind a comma of an object: a key.
+    // Behind a part: a comma and the part behind it, or the closer.
     #[inline(always)]
-    fn object_comma(&mut self) -> Result<bool, Fault>
+    fn step(&mut self, shape: Shape) -> Result<bool, Fault>
         ensures moves { Moves self.old self.new }
         ensures value { Steps result self.new.index
-            (step self.old.bytes.now object_comma self.old.index) }
+            (step self.old.bytes.now (container_step shape self.old.bytes.now) self.old.index) }
+        ensures inside { IfOk result (λ more. more ≡ true
+            → self.new.index < length self.old.bytes.now) }
+    {
+        match self.next_byte() {
+            None => Err(self.fault(shape.end_kind())),
+            Some(byte) => {
+                if byte == shape.closer() {
+                    self.index += 1;
+                    Ok(false)
+                } else if byte == b',' {
+                    self.index += 1;
+                    self.comma(shape)
+                } else {
+                    Err(self.fault(shape.comma_kind()))
+                }
+            }
+        }
+    }
+
+    // Behind a comma: a part.
+    #[inline(always)]
+    fn comma(&mut self, shape: Shape) -> Result<bool, Fault>
+        ensures moves { Moves self.old self.new }
+        ensures value { Steps result self.new.index
+            (step self.old.bytes.now (container_comma shape) self.old.index) }
         ensures inside { IfOk result (λ more. more ≡ true
             → self.new.index < length self.old.bytes.now) }
     {
         match self.next_byte() {
             None => Err(self.fault(FaultKind::EofWhileParsingValue)),
             Some(byte) => {
-                if byte == b'"' {
+                if shape.begins_part(byte) {
                     Ok(true)
-                } else if byte == b'}' {
+                } else if byte == shape.closer() {
                     Err(self.fault(FaultKind::TrailingComma))
                 } else {
                     Err(self.fault(FaultKind::KeyMustBeAString))
@@ -320,9 +369,9 @@ impl<'j> Parser<'j> {
         }
     }
 
-    // Behind a key: its colon.
+    /// From behind a key to behind its colon (RFC 8259, 4).
     #[inline(always)]
-    fn colon(&mut self) -> Result<(), Fault>
+    pub fn colon(&mut self) -> Result<(), Fault>
         ensures moves { Moves self.old self.new }
         ensures value { Leads result self.new.index
             (step self.old.bytes.now colon self.old.index) }

@@ -1,5 +1,5 @@
 //! Reading a string (RFC 8259, 7 and 8.1): its own bytes where it has no backslash, or else its text decoded.
-ghost use Rattle.std.specs.Prelude.{◌≡◌, ℕ, Bool, ◌+◌, ◌^◌, ◌<◌, ◌≤◌, ◌++◌, length, true, false, slice_get, slice_range, IfOk, IfErr, IfSome, IsTrue, MatchResult, Some, None, drop};
+ghost use Rattle.std.specs.Prelude.{◌≡◌, ℕ, Bool, ◌+◌, ◌^◌, ◌<◌, ◌≤◌, ◌++◌, length, true, false, slice_get, slice_range, IfOk, IfErr, IfSome, IsTrue, MatchResult, Some, None, take, drop, vec_len};
 ghost use Rattle.std.specs.Char.{digit_value, encode_utf8};
 ghost use Rattle.std.specs.List.{AllPass};
 ghost use Rattle.std.specs.Str.{IsUtf8, IsValidUpTo};
@@ -10,15 +10,16 @@ ghost use Rattle.jiter_scan.specs.Kind.{invalid_code_point};
 ghost use Rattle.jiter_scan.specs.Scanned.{Scans, with_end, taken, failed};
 ghost use Rattle.jiter_steps.specs.Escape.{short_escape, is_hex, is_high, is_low};
 ghost use Rattle.jiter_steps.specs.ReadError.{UnlessRefused, WhereRefused};
-ghost use Rattle.jiter_steps.specs.StringReading.{hex_digits_at, place_at, unit_then, behind_backslash, unicode_escape, behind_high, behind_high_backslash, surrogate_pair, body_at, if_utf8, valid_front, whole, kept, string_at};
+ghost use Rattle.jiter_steps.specs.StringReading.{number, part, hex_digits_at, place_at, unit_then, behind_backslash, unicode_escape, behind_high, behind_high_backslash, surrogate_pair, body_at, if_utf8, valid_front, whole, kept, string_at};
 ghost use Rattle.jiter_steps.specs.StringDecoder.{text_view, digits_view, IfNumber, place_view, stop_view, WantsMemory};
 ghost use Rattle.jiter_steps.specs.declared.string_decoder.AtStop.TheVariants as at_stop;
 ghost use Rattle.jiter_steps.specs.declared.string_decoder.Ending.TheVariants as ending;
 
 use crate::read_error::ReadError;
 use jiter_scan::errors::{Fault, FaultKind, fault_at};
-use jiter_scan::memory::{Refused, copy_text, extend};
+use jiter_scan::memory::{Refused, copy_text};
 use jiter_scan::simd::scan_string;
+use jiter_scan::tape::{put_char, put_plain};
 use jiter_scan::text::ascii_text;
 use jiter_scan::word::byte_at;
 use simdutf8::compat::Utf8Error;
@@ -35,7 +36,7 @@ enum Hex {
 
 // How a string ends: behind its quote, before a piece, within an escape, or at a fault.
 #[derive(Clone, Copy, Debug)]
-enum Ending {
+pub(crate) enum Ending {
     Closed(usize),
     Unclosed,
     Cut,
@@ -44,7 +45,7 @@ enum Ending {
 
 // What ends a run of plain bytes: an escape's character with its end, or the end of the string.
 #[derive(Clone, Copy, Debug)]
-enum AtStop {
+pub(crate) enum AtStop {
     Escape(char, usize),
     End(Ending),
 }
@@ -203,7 +204,7 @@ fn behind_backslash(bytes: &[u8], at: usize) -> AtStop
 
 // What stands where a run of plain bytes ends.
 #[tactic(auto, unfolding(crate::specs::StringReading::place_at))]
-fn place_at(bytes: &[u8], at: usize) -> AtStop
+pub(crate) fn place_at(bytes: &[u8], at: usize) -> AtStop
     requires { IfSome (slice_get bytes.now at) (λ b. is_stop b ≡ true) }
     ensures { place_view result ≡ place_at bytes.now at }
 {
@@ -215,32 +216,73 @@ fn place_at(bytes: &[u8], at: usize) -> AtStop
     }
 }
 
-fn push_char(tape: &mut Vec<u8>, c: char) -> Result<(), Refused>
-    ensures { IfOk result (λ _. tape.new.items ≡ tape.old.items ++ encode_utf8 c) }
+// The number that the four hex digits at `at` spell, if they are there.
+#[inline(always)]
+fn unit_at(bytes: &[u8], at: usize) -> Option<u32>
+    requires { at + 4 ≤ length bytes.now }
+    ensures value { IfSome result (λ u. hex_digits_at bytes.now at ≡ number u) }
+    ensures bound { IfSome result (λ u. u < 65536) }
 {
-    let mut buffer = [0; 4];
-    let encoded = c.encode_utf8(&mut buffer);
-    extend(tape, encoded.as_bytes())
+    let a = digit(bytes[at])?;
+    let b = digit(bytes[at + 1])?;
+    let c = digit(bytes[at + 2])?;
+    let d = digit(bytes[at + 3])?;
+    Some(a * 4096 + b * 256 + c * 16 + d)
 }
 
-// Adds what stands from `from` on to the tape, decoded: a run of plain bytes and an escape at a time.
+// The character of the escape at `at`, and its end, where it is at once seen to be whole and no pair.
+#[inline(always)]
+#[tactic(auto, unfolding(crate::specs::StringReading::place_at))]
+fn escape_at(bytes: &[u8], at: usize) -> Option<(char, usize)>
+    requires { at ≤ length bytes.now }
+    ensures { IfSome result (λ r. part (encode_utf8 r.0) true r.1 ≡ place_at bytes.now at) }
+{
+    if bytes.len() - at < 6 || bytes[at] != b'\\' {
+        return None;
+    }
+    let letter = bytes[at + 1];
+    if letter == b'u' {
+        let unit = unit_at(bytes, at + 2)?;
+        let c = char::from_u32(unit)?;
+        return Some((c, at + 6));
+    }
+    let c = short_escape(letter)?;
+    Some((c as char, at + 2))
+}
+
+// What stands where a run of plain bytes ends, an escape at once.
+#[inline(always)]
+fn next_place(bytes: &[u8], at: usize) -> AtStop
+    requires within { at ≤ length bytes.now }
+    requires stop { IfSome (slice_get bytes.now at) (λ b. is_stop b ≡ true) }
+    ensures { place_view result ≡ place_at bytes.now at }
+{
+    match escape_at(bytes, at) {
+        Some((c, end)) => AtStop::Escape(c, end),
+        None => place_at(bytes, at),
+    }
+}
+
+// Decodes what stands from `from` on to the front of the tape, a run of plain bytes and an escape at a time,
+// and gives how many bytes that makes.
 #[tactic(auto, using(crate::proofs::PlainRuns::scan_stop_stops))]
-fn decode(tape: &mut Vec<u8>, bytes: &[u8], from: usize) -> Result<Ending, Refused>
+fn decode(tape: &mut Vec<u8>, bytes: &[u8], from: usize) -> Result<(usize, Ending), Refused>
     requires { from ≤ length bytes.now }
-    ensures text { IfOk result (λ _. tape.new.items
-        ≡ tape.old.items ++ (body_at bytes.now from).bytes) }
-    ensures stop { IfOk result (λ ending. stop_view ending ≡ (body_at bytes.now from).stop) }
+    ensures text { IfOk result (λ r. take r.0 tape.new.items ≡ (body_at bytes.now from).bytes) }
+    ensures within { IfOk result (λ r. r.0 ≤ vec_len tape.new) }
+    ensures stop { IfOk result (λ r. stop_view r.1 ≡ (body_at bytes.now from).stop) }
 {
     let mut at = from;
+    let mut count = 0;
     loop {
-        let (to, _) = scan_string(bytes, at);
-        extend(tape, &bytes[at..to])?;
-        match place_at(bytes, to) {
+        let to = put_plain(tape, count, bytes, at)?;
+        let plain = count + (to - at);
+        match next_place(bytes, to) {
             AtStop::Escape(c, end) => {
-                push_char(tape, c)?;
+                count = put_char(tape, plain, c);
                 at = end;
             }
-            AtStop::End(ending) => return Ok(ending),
+            AtStop::End(ending) => return Ok((plain, ending)),
         }
     }
 }
@@ -308,21 +350,9 @@ fn own_text<'j>(
     }
 }
 
-// The tape's bytes of a content that begins at `from`, and how it ends there.
-fn decode_from(tape: &mut Vec<u8>, bytes: &[u8], from: usize, to: usize) -> Result<Ending, Refused>
-    requires within { from ≤ length bytes.now }
-    requires stop { to ≡ scan_stop bytes.now from }
-    ensures text { IfOk result (λ _. tape.new.items ≡ (body_at bytes.now from).bytes) }
-    ensures stop { IfOk result (λ ending. stop_view ending ≡ (body_at bytes.now from).stop) }
-{
-    tape.clear();
-    extend(tape, &bytes[from..to])?;
-    decode(tape, bytes, to)
-}
-
 // The input ends inside the string.
 #[cold]
-fn cut_short(bytes: &[u8]) -> Fault
+pub(crate) fn cut_short(bytes: &[u8]) -> Fault
     ensures { result ≡ record {
       kind = FaultKind.EofWhileParsingString;
       index = length bytes.now;
@@ -334,25 +364,26 @@ fn cut_short(bytes: &[u8]) -> Fault
     }
 }
 
-// The text of a string whose plain bytes end at `to`, with a backslash.
+// The text of a string with a backslash.
+#[inline(never)]
 fn decode_text<'j>(
     alloc: Global,
     tape: &mut Vec<u8>,
     bytes: &'j [u8],
     at: usize,
-    to: usize,
 ) -> Result<(CowStr<'j>, usize), ReadError>
     requires within { at < length bytes.now }
-    requires stop { to ≡ scan_stop bytes.now (at + 1) }
-    requires backslash { slice_get bytes.now to ≡ Some 92 }
+    requires backslash { WantsMemory bytes.now at }
     ensures { UnlessRefused result (λ r. Scans (with_end text_view) r
         (string_at whole bytes.now at)) }
 {
-    match decode_from(tape, bytes, at + 1, to) {
-        Ok(Ending::Closed(end)) => own_text(alloc, tape.as_slice(), at + 1, end),
-        Ok(Ending::Wrong(fault)) => Err(ReadError::Fault(fault)),
-        Ok(Ending::Unclosed) => Err(ReadError::Fault(cut_short(bytes))),
-        Ok(Ending::Cut) => Err(ReadError::Fault(cut_short(bytes))),
+    match decode(tape, bytes, at + 1) {
+        Ok((count, Ending::Closed(end))) => {
+            own_text(alloc, &tape.as_slice()[..count], at + 1, end)
+        }
+        Ok((_, Ending::Wrong(fault))) => Err(ReadError::Fault(fault)),
+        Ok((_, Ending::Unclosed)) => Err(ReadError::Fault(cut_short(bytes))),
+        Ok((_, Ending::Cut)) => Err(ReadError::Fault(cut_short(bytes))),
         Err(refused) => Err(ReadError::Memory(refused)),
     }
 }
@@ -383,7 +414,7 @@ pub fn string_at<'j>(
             Ok(text) => Ok(text),
             Err(fault) => Err(ReadError::Fault(fault)),
         },
-        Some(b'\\') => decode_text(alloc, tape, bytes, at, to),
+        Some(b'\\') => decode_text(alloc, tape, bytes, at),
         Some(_) => Err(ReadError::Fault(Fault {
             kind: FaultKind::ControlCharacterWhileParsingString,
             index: to,
@@ -458,25 +489,30 @@ fn own_front<'j>(
     }
 }
 
-// The text of a string that may be cut, whose plain bytes end at `to`, with a backslash.
+// The text of a string with a backslash, that may be cut.
+#[inline(never)]
 fn decode_front<'j>(
     alloc: Global,
     tape: &mut Vec<u8>,
     bytes: &'j [u8],
     at: usize,
-    to: usize,
 ) -> Result<(CowStr<'j>, usize), ReadError>
     requires within { at < length bytes.now }
-    requires stop { to ≡ scan_stop bytes.now (at + 1) }
-    requires backslash { slice_get bytes.now to ≡ Some 92 }
+    requires backslash { WantsMemory bytes.now at }
     ensures { UnlessRefused result (λ r. Scans (with_end text_view) r
         (string_at kept bytes.now at)) }
 {
-    match decode_from(tape, bytes, at + 1, to) {
-        Ok(Ending::Closed(end)) => own_front(alloc, tape.as_slice(), at + 1, end),
-        Ok(Ending::Wrong(fault)) => Err(ReadError::Fault(fault)),
-        Ok(Ending::Unclosed) => own_front(alloc, tape.as_slice(), at + 1, bytes.len()),
-        Ok(Ending::Cut) => own_front(alloc, tape.as_slice(), at + 1, bytes.len()),
+    match decode(tape, bytes, at + 1) {
+        Ok((count, Ending::Closed(end))) => {
+            own_front(alloc, &tape.as_slice()[..count], at + 1, end)
+        }
+        Ok((_, Ending::Wrong(fault))) => Err(ReadError::Fault(fault)),
+        Ok((count, Ending::Unclosed)) => {
+            own_front(alloc, &tape.as_slice()[..count], at + 1, bytes.len())
+        }
+        Ok((count, Ending::Cut)) => {
+            own_front(alloc, &tape.as_slice()[..count], at + 1, bytes.len())
+        }
         Err(refused) => Err(ReadError::Memory(refused)),
     }
 }
@@ -505,7 +541,7 @@ pub fn string_front_at<'j>(
             Ok(text) => Ok(text),
             Err(fault) => Err(ReadError::Fault(fault)),
         },
-        Some(b'\\') => decode_front(alloc, tape, bytes, at, to),
+        Some(b'\\') => decode_front(alloc, tape, bytes, at),
         Some(_) => Err(ReadError::Fault(fault_at(
             FaultKind::ControlCharacterWhileParsingString,
             to,

@@ -16,7 +16,7 @@ use Rattle.jiter_steps.specs.Step.{step, value_first, document_end}
 use Rattle.jiter_steps.specs.Tree.{Text, Tree}
 use Rattle.jiter_steps.specs.declared.read_error.ReadError.{ReadError}
 use Rattle.jiter_steps.specs.declared.read_error.ReadError.TheVariants as error
-use Rattle.jiter_steps.proofs.Answered.{front-begins, whole-is, whole-begins}
+use Rattle.jiter_steps.proofs.WholeTexts.{front-begins, whole-is, whole-begins}
 use Rattle.jiter_steps.proofs.Bounds.{Within}
 use Rattle.jiter_steps.proofs.Instances.{answer-within, partial_answer-within}
 use Rattle.jiter_value.specs.Reading.{GivesWhole, IsErrorOf}

@@ -84,6 +84,7 @@ length-frames awaits.Value (o ∷ os) n m es ms h = ap suc (length-frames o.oute
 length-frames awaits.Root (o ∷ os) n m es ms h = absurd h
 length-frames awaits.Key (o ∷ os) n m es ms h = absurd h
 length-frames awaits.Done (o ∷ os) n m es ms h = absurd h
+length-frames awaits.Refused (o ∷ os) n m es ms h = absurd h
 
 limit-kept : (mode : PartialMode) → forgives mode recursion_limit ≡ false
 limit-kept Off = refl

@@ -5,3 +5,9 @@ pub mod Pins
 pub mod Reached
 pub mod Sizes
 pub mod Views
+pub mod OwnedAnswers
+pub mod Owning
+pub mod Codes
+pub mod Equal
+pub mod Shapes
+pub mod Placed

@@ -1,7 +1,8 @@
 -- What a turn reaches.
-use Rattle.std.proofs.Common.{◌≡◌, ℕ, List, ◌∙◌, arith}
+use Rattle.std.proofs.Common.{◌≡◌, ℕ, List, sym, subst, ◌∙◌, arith}
 use Rattle.std.specs.Prelude.{Result, Ok, Err, IfOk, OnOk}
-use Rattle.jiter_scan.specs.Kind.{Kind}
+use Rattle.jiter_scan.specs.Kind.{Kind, fault_kind}
+use Rattle.jiter_scan.specs.declared.errors.Fault.{Fault}
 use Rattle.jiter_scan.specs.Scanned.{Scanned, taken, failed}
 use Rattle.jiter_steps.specs.Parse.{Moves}
 use Rattle.jiter_steps.specs.Read.{Reading, done, fault, scalar_at}
@@ -10,7 +11,7 @@ use Rattle.jiter_steps.specs.Tree.{Tree}
 use Rattle.jiter_steps.specs.declared.read_error.ReadError.{ReadError}
 use Rattle.jiter_steps.specs.declared.read_error.ReadError.TheVariants as error
 use Rattle.jiter_steps.specs.ReadError.{WhereRefused}
-use Rattle.jiter_value.specs.Turns.{Fails, Reaches, MayGrowFor}
+use Rattle.jiter_value.specs.Turns.{Fails, Reaches, MayGrowFor, outcome}
 use Rattle.jiter_value.specs.declared.settings.Settings.{Settings}
 use Rattle.jiter_value.specs.declared.stacks.Awaits.{Awaits}
 use Rattle.jiter_value.specs.declared.stacks.Awaits.TheVariants as awaits
@@ -53,6 +54,7 @@ root-grows (Ok awaits.Root) P d h = absurd (cc)
 root-grows (Ok awaits.Item) P d h = absurd (cc)
 root-grows (Ok awaits.Value) P d h = absurd (cc)
 root-grows (Ok awaits.Key) P d h = absurd (cc)
+root-grows (Ok awaits.Refused) P d h = absurd (cc)
 root-grows (Err (error.Fault f)) P d h = tt
 root-grows (Err (error.Memory m)) P d h = h
 
@@ -60,3 +62,23 @@ pub never-grows : (r : Result Awaits ReadError) (P : Type 0) → OnOk r ⊥ → 
 never-grows (Ok a) P d h = absurd d
 never-grows (Err (error.Fault f)) P d h = tt
 never-grows (Err (error.Memory m)) P d h = absurd h
+
+-- the reading was given up for this fault
+pub gave-up : (p : Settings) (t : List ℕ) (s : Stacks) (r : ℕ × Awaits) (f : Fault) (j : ℕ) (x : Reading Tree)
+    → r ≡ (j, awaits.Refused) → s.error ≡ error.Fault f → x ≡ fault (fault_kind f.kind) f.index j
+    → Reaches p t s r.0 (outcome s r.1) x
+gave-up p t s r f j x place is h =
+    subst (λ y. Reaches p t s y.0 (outcome s y.1) x) (sym place) (subst (λ e. Fails e j x) (sym is) h)
+
+pub grows-always : (r : Result Awaits ReadError) (P : Type 0) → P → MayGrowFor r P
+grows-always (Ok awaits.Done) P h = tt
+grows-always (Ok awaits.Root) P h = h
+grows-always (Ok awaits.Item) P h = h
+grows-always (Ok awaits.Value) P h = h
+grows-always (Ok awaits.Key) P h = h
+grows-always (Ok awaits.Refused) P h = h
+grows-always (Err (error.Fault f)) P h = tt
+grows-always (Err (error.Memory m)) P h = h
+
+pub fault-grows : (e : ReadError) (f : Fault) (P : Type 0) → e ≡ error.Fault f → MayGrowFor (Err e) P
+fault-grows e f P is = subst (λ x. MayGrowFor (Err x) P) (sym is) tt

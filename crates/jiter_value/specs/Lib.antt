@@ -6,3 +6,6 @@ pub mod Turns
 pub mod Reading
 pub mod Machine
 pub mod TurnsTo
+pub mod Owned
+pub mod Scratch
+pub mod Equality

@@ -1,6 +1,8 @@
 -- How many scalars, containers and keys there are.
 use Rattle.std.specs.Prelude.{ℕ, suc, ◌+◌, List, [], ◌∷◌, take, drop, reverse, map}
 use Rattle.jiter_steps.specs.Tree.{Text, Tree, null, boolean, int, big, float, string, array, object, Items, no_items, item, Members, no_members, member, items_of, members_of}
+use Rattle.jiter_steps.specs.declared.parse.Shape.{Shape}
+use Rattle.jiter_steps.specs.declared.parse.Shape.TheVariants as shape
 use Rattle.jiter_value.specs.Value.{view}
 use Rattle.jiter_value.specs.declared.value.JsonValue.{JsonValue}
 use Rattle.jiter_value.specs.declared.stacks.Open.{Open}
@@ -57,6 +59,7 @@ behind_size_in awaits.Value (o ∷ os) items members root =
 behind_size_in awaits.Root (o ∷ os) items members root = size (view root)
 behind_size_in awaits.Key (o ∷ os) items members root = size (view root)
 behind_size_in awaits.Done (o ∷ os) items members root = size (view root)
+behind_size_in awaits.Refused (o ∷ os) items members root = size (view root)
 
 -- the same of all that is held: where a value is awaited, a key, and behind a value
 abbrev pub value_size : Stacks → Awaits → ℕ
@@ -68,6 +71,11 @@ key_size s = key_size_in (reverse s.nest.items) s.items.items s.members.items
 abbrev pub behind_size : Stacks → Awaits → ℕ
 behind_size s a = behind_size_in a (reverse s.nest.items) s.items.items s.members.items s.root
 
+-- the same where the innermost container is of this shape, and awaits no value
+abbrev pub inside_size : Shape → Stacks → ℕ
+inside_size shape.Array s = value_size s awaits.Item
+inside_size shape.Object s = key_size s
+
 -- How many scalars, containers and keys the machine holds; at its end, how many the value has.
 abbrev pub held : Stacks → Awaits → ℕ
 held s awaits.Root = value_size s awaits.Root
@@ -75,3 +83,4 @@ held s awaits.Item = value_size s awaits.Item
 held s awaits.Value = value_size s awaits.Value
 held s awaits.Key = key_size s
 held s awaits.Done = size (view s.root)
+held s awaits.Refused = size (view s.root)

@@ -1,11 +1,15 @@
 -- What the two stacks hold, and what the rest of a text completes them to.
-use Rattle.std.specs.Prelude.{◌≡◌, ℕ, ◌-◌, ◌≤◌, ◌<◌, false, List, [], ◌∷◌, length, take, drop, reverse, map}
+use Rattle.std.specs.Prelude.{◌≡◌, ℕ, ◌-◌, ◌≤◌, ◌<◌, false, List, [], ◌∷◌, length, take, drop, reverse, map, vec_len, vec_capacity}
 use Rattle.std.specs.declared.alloc.Global.{Global}
 use Rattle.std.specs.declared.borrow.CowStr.{CowStr}
 use Rattle.jiter_scan.specs.Kind.{Kind, eof_list, eof_object}
 use Rattle.jiter_steps.specs.Tree.{Text, Tree, array, object, items_of, members_of}
 use Rattle.jiter_steps.specs.Read.{Reading, done, fault, if_forgiven}
 use Rattle.jiter_steps.specs.StringDecoder.{text_view}
+use Rattle.jiter_steps.specs.declared.parse.Start.{Start}
+use Rattle.jiter_steps.specs.declared.parse.Start.TheVariants as start
+use Rattle.jiter_steps.specs.declared.parse.Shape.{Shape}
+use Rattle.jiter_steps.specs.declared.parse.Shape.TheVariants as shape
 use Rattle.jiter_steps.specs.Frames.{Frame, items_frame, members_frame, resume, value_from, key_from, items_from, members_from}
 use Rattle.jiter_value.specs.Settings.{rules}
 use Rattle.jiter_value.specs.Value.{view}
@@ -48,6 +52,7 @@ frames awaits.Value (o ∷ os) items members =
 frames awaits.Root (o ∷ os) items members = []
 frames awaits.Key (o ∷ os) items members = []
 frames awaits.Done (o ∷ os) items members = []
+frames awaits.Refused (o ∷ os) items members = []
 
 -- the bases lie within the stacks, and below the outermost there is nothing
 abbrev pub HaveBases : Awaits → List Open → ℕ → ℕ → Type 0
@@ -59,6 +64,7 @@ HaveBases awaits.Value [] n m = ⊥
 HaveBases awaits.Value (o ∷ os) n m = (o.base < m) × HaveBases o.outer os n o.base
 HaveBases awaits.Key os n m = ⊥
 HaveBases awaits.Done os n m = ⊥
+HaveBases awaits.Refused os n m = ⊥
 
 -- the same where the innermost is an object that awaits a key
 abbrev pub HaveKeyBase : List Open → ℕ → ℕ → Type 0
@@ -89,6 +95,7 @@ module _ (p : Settings) (t : List ℕ) where
   behind_in awaits.Root (o ∷ os) items members root e = done (view root) e
   behind_in awaits.Key (o ∷ os) items members root e = done (view root) e
   behind_in awaits.Done (o ∷ os) items members root e = done (view root) e
+  behind_in awaits.Refused (o ∷ os) items members root e = done (view root) e
 
   -- where the innermost container ends at e
   abbrev pub array_in : List Open → List JsonValue → List Member → ℕ → Reading Tree
@@ -119,11 +126,9 @@ module _ (p : Settings) (t : List ℕ) where
   abbrev pub behind : Stacks → Awaits → ℕ → Reading Tree
   behind s a e = behind_in a (reverse s.nest.items) s.items.items s.members.items s.root e
 
-  abbrev pub array_ends : Stacks → ℕ → Reading Tree
-  array_ends s e = array_in (reverse s.nest.items) s.items.items s.members.items e
-
-  abbrev pub object_ends : Stacks → ℕ → Reading Tree
-  object_ends s e = object_in (reverse s.nest.items) s.items.items s.members.items e
+  abbrev pub container_ends : Shape → Stacks → ℕ → Reading Tree
+  container_ends shape.Array s e = array_in (reverse s.nest.items) s.items.items s.members.items e
+  container_ends shape.Object s e = object_in (reverse s.nest.items) s.items.items s.members.items e
 
   -- What the rest of the text completes the machine to.
   abbrev pub meaning : Stacks → Awaits → ℕ → Reading Tree
@@ -132,9 +137,42 @@ module _ (p : Settings) (t : List ℕ) where
   meaning s awaits.Value j = from_value s awaits.Value j
   meaning s awaits.Key j = from_key s j
   meaning s awaits.Done j = done (view s.root) j
+  meaning s awaits.Refused j = done (view s.root) j
 
 abbrev pub Stands : Stacks → Awaits → Type 0
 Stands s a = HaveBases a (reverse s.nest.items) (length s.items.items) (length s.members.items)
 
 abbrev pub StandsAtKey : Stacks → Type 0
 StandsAtKey s = HaveKeyBase (reverse s.nest.items) (length s.items.items) (length s.members.items)
+
+-- the innermost container is of this shape, and awaits no value
+abbrev pub StandsInside : Shape → Stacks → Type 0
+StandsInside shape.Array s = Stands s awaits.Item
+StandsInside shape.Object s = StandsAtKey s
+
+-- what is awaited where a value of a container begins, and where a part of it does
+abbrev pub awaited_in : Shape → Awaits
+awaited_in shape.Array = awaits.Item
+awaited_in shape.Object = awaits.Value
+
+abbrev pub part_of : Shape → Awaits
+part_of shape.Array = awaits.Item
+part_of shape.Object = awaits.Key
+
+-- how many parts lie below those of a container that begins
+abbrev pub base_of : Shape → Stacks → ℕ
+base_of shape.Array s = length s.items.items
+base_of shape.Object s = length s.members.items
+
+-- what its first byte says, and its tree where it has no part
+abbrev pub start_with : Shape → Start
+start_with shape.Array = start.Array
+start_with shape.Object = start.Object
+
+abbrev pub empty_tree : Shape → Tree
+empty_tree shape.Array = array (items_of [])
+empty_tree shape.Object = object (members_of [])
+
+-- a value that is awaited can go where it belongs without a request for memory
+abbrev pub HasRoom : Stacks → Awaits → Type 0
+HasRoom s a = a ≡ awaits.Item → vec_len s.items < vec_capacity s.items

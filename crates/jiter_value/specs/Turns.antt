@@ -1,12 +1,17 @@
 -- What a turn leads to, and how much is left behind it.
-use Rattle.std.specs.Prelude.{◌≡◌, ℕ, ◌+◌, ◌-◌, ◌*◌, ◌≤◌, ◌<◌, Result, Ok, Err, List, length}
+use Rattle.std.specs.Prelude.{◌≡◌, ℕ, ◌+◌, ◌-◌, ◌*◌, ◌≤◌, ◌<◌, Result, Ok, Err, Bool, true, false, List, length}
 use Rattle.jiter_scan.specs.Kind.{fault_kind}
+use Rattle.jiter_scan.specs.declared.errors.Fault.{Fault}
+use Rattle.jiter_steps.specs.Frames.{resolve_step}
 use Rattle.jiter_steps.specs.Node.{nesting_limit}
 use Rattle.jiter_steps.specs.Read.{Reading, fault}
+use Rattle.jiter_steps.specs.Step.{Step, closed, stuck}
 use Rattle.jiter_steps.specs.Tree.{Tree}
+use Rattle.jiter_value.specs.Settings.{forgives}
 use Rattle.jiter_steps.specs.declared.read_error.ReadError.{ReadError}
 use Rattle.jiter_steps.specs.declared.read_error.ReadError.TheVariants as error
-use Rattle.jiter_value.specs.Stacks.{meaning, Stands, StandsAtKey}
+use Rattle.jiter_value.specs.Size.{value_size, key_size, behind_size}
+use Rattle.jiter_value.specs.Stacks.{from_value, from_key, behind, meaning, Stands, StandsAtKey}
 use Rattle.jiter_value.specs.declared.settings.Settings.{Settings}
 use Rattle.jiter_value.specs.declared.stacks.Awaits.{Awaits}
 use Rattle.jiter_value.specs.declared.stacks.Awaits.TheVariants as awaits
@@ -23,6 +28,16 @@ IsWithin t s awaits.Item j = IsAtValue t s awaits.Item j
 IsWithin t s awaits.Value j = IsAtValue t s awaits.Value j
 IsWithin t s awaits.Key j = StandsAtKey s × (length s.nest.items ≤ nesting_limit + 1) × (j < length t)
 IsWithin t s awaits.Done j = Stands s awaits.Root × (j ≤ length t)
+IsWithin t s awaits.Refused j = ⊥
+
+-- what is awaited then, or why the reading was given up
+abbrev pub outcome : Stacks → Awaits → Result Awaits ReadError
+outcome s awaits.Root = Ok awaits.Root
+outcome s awaits.Item = Ok awaits.Item
+outcome s awaits.Value = Ok awaits.Value
+outcome s awaits.Key = Ok awaits.Key
+outcome s awaits.Done = Ok awaits.Done
+outcome s awaits.Refused = Err s.error
 
 -- a fault is the reading's, and leaves the reader at j
 abbrev pub Fails : ReadError → ℕ → Reading Tree → Type 0
@@ -44,3 +59,28 @@ MayGrowFor (Ok awaits.Done) P = Unit {0}
 MayGrowFor (Ok a) P = P
 MayGrowFor (Err (error.Fault f)) P = Unit {0}
 MayGrowFor (Err (error.Memory m)) P = P
+
+-- The value that is awaited at i is put where it belongs, and ends at e: a scalar.
+pub record IsPutAt (t : List ℕ) (old : Stacks) (i : ℕ) (a : Awaits) (new : Stacks) (e : ℕ) : Type 0 where
+  pub value : (p : Settings) → from_value p t old a i ≡ behind p t new a e
+  pub stands : Stands new a
+  pub nest : new.nest ≡ old.nest
+  pub held : behind_size new a ≡ value_size old a + 1
+  pub ahead : i < e
+  pub within : e ≤ length t
+
+-- The key at i is put where it belongs, and its value begins at j.
+pub record IsKeyAt (t : List ℕ) (old : Stacks) (i : ℕ) (new : Stacks) (j : ℕ) : Type 0 where
+  pub value : (p : Settings) → from_key p t old i ≡ from_value p t new awaits.Value j
+  pub stands : Stands new awaits.Value
+  pub nest : new.nest ≡ old.nest
+  pub held : value_size new awaits.Value ≡ key_size old + 1
+  pub ahead : i < j
+  pub within : j < length t
+
+-- A container's fault at j is forgiven and ends it, or is why the reading was given up.
+abbrev pub IsResolved : Settings → Bool → ReadError → ℕ → Step → Type 0
+IsResolved p true e j s = resolve_step (forgives p.mode) s ≡ closed j
+IsResolved p false e j s =
+    (f : Fault) × (e ≡ error.Fault f) × (f.index ≡ j) ×
+    (resolve_step (forgives p.mode) s ≡ stuck (fault_kind f.kind) j) × (forgives p.mode (fault_kind f.kind) ≡ false)

@@ -1,13 +1,19 @@
 //! JSON as a tree whose unescaped texts borrow from the input.
 #![tactic(auto)]
 
+pub mod copy;
+pub mod equality;
 pub mod machine;
-pub(crate) mod reading;
+pub mod owned;
+pub mod parse_owned;
+pub mod reading;
 pub(crate) mod scalar;
+pub mod scratch;
 pub mod settings;
 pub mod stacks;
 pub(crate) mod turns;
 pub mod value;
 
 pub use machine::{Machine, Turn};
+pub use scratch::JsonValueScratch;
 pub use value::{JsonArray, JsonObject, JsonValue};

@@ -4,7 +4,7 @@ ghost use Rattle.jiter_value.specs.Machine.{Progress, progress, IsUnderWay};
 
 use crate::reading::{error_at, finish_whole};
 use crate::settings::Settings;
-use crate::stacks::{Awaits, Stacks};
+use crate::stacks::{Awaits, Stacks, take_error};
 use crate::turns::turn;
 use crate::value::JsonValue;
 use jiter_scan::{JsonError, PartialMode};
@@ -118,15 +118,29 @@ impl<'j> Machine<'j> {
         let mut parser = old_parser;
         let mut tape = old_tape;
         let mut stacks = old_stacks;
-        match turn(alloc, &mut tape, &mut stacks, &mut parser, settings, awaits) {
-            Ok(Awaits::Done) => {
+        let (at, what) = turn(
+            alloc,
+            &mut tape,
+            &mut stacks,
+            parser.bytes,
+            parser.index,
+            settings,
+            awaits,
+        );
+        parser.index = at;
+        match what {
+            Awaits::Done => {
                 let value = mem::replace(&mut stacks.root, JsonValue::Null);
                 match finish_whole(&mut parser, settings, value) {
                     Ok(whole) => Turn::Done(Ok(whole)),
                     Err(error) => Turn::Done(Err(error_at(error, parser.index))),
                 }
             }
-            Ok(next) => Turn::More(Machine {
+            Awaits::Refused => {
+                let error = take_error(&mut stacks);
+                Turn::Done(Err(error_at(error, parser.index)))
+            }
+            next => Turn::More(Machine {
                 alloc,
                 parser,
                 settings,
@@ -135,7 +149,6 @@ impl<'j> Machine<'j> {
                 awaits: next,
                 begun: true,
             }),
-            Err(error) => Turn::Done(Err(error_at(error, parser.index))),
         }
     }
 }

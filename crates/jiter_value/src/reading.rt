@@ -6,6 +6,7 @@ ghost use Rattle.jiter_steps.specs.Parse.{Moves, Gives};
 ghost use Rattle.jiter_steps.specs.Read.{done, value_at};
 ghost use Rattle.jiter_steps.specs.ReadError.{WhereRefused};
 ghost use Rattle.jiter_value.specs.Reading.{GivesWhole, IsErrorOf};
+ghost use Rattle.jiter_value.specs.Scratch.{HoldsNothing};
 ghost use Rattle.jiter_value.specs.Settings.{answer_by, rules};
 ghost use Rattle.jiter_value.specs.Value.{view, MayGrowAt, MayGrow};
 
@@ -20,7 +21,7 @@ use std::alloc::Global;
 
 /// The error that a public call answers, where the reader stands at `index`.
 #[cold]
-pub(crate) fn error_at(error: ReadError, index: usize) -> JsonError
+pub fn error_at(error: ReadError, index: usize) -> JsonError
     ensures { IsErrorOf error index result }
 {
     match error {
@@ -55,8 +56,8 @@ pub(crate) fn finish_whole<'j>(
     }
 }
 
-// The value that begins where the reader stands.
-fn read_value<'j>(
+/// The value that begins where the reader stands.
+pub fn read_value<'j>(
     alloc: Global,
     parser: &mut Parser<'j>,
     settings: Settings,
@@ -85,11 +86,31 @@ pub(crate) fn read_whole<'j>(
     ensures memory { WhereRefused result (MayGrow parser.old.bytes.now) }
     ensures place { WhereRefused result (past_blanks parser.old.bytes.now 0 ≤ parser.new.index) }
 {
+    let mut tape = Vec::new(alloc);
+    let mut stacks = Stacks::new(alloc);
+    read_whole_on(alloc, &mut tape, &mut stacks, parser, settings)
+}
+
+/// The same, read by way of this tape and these stacks.
+pub(crate) fn read_whole_on<'j>(
+    alloc: Global,
+    tape: &mut Vec<u8>,
+    stacks: &mut Stacks<'j>,
+    parser: &mut Parser<'j>,
+    settings: Settings,
+) -> Result<JsonValue<'j>, ReadError>
+    requires begins { parser.old.index ≡ 0 }
+    requires empty { HoldsNothing stacks.old }
+    ensures moves { Moves parser.old parser.new }
+    ensures value { GivesWhole result parser.new.index (answer_by settings parser.old.bytes.now) }
+    ensures memory { WhereRefused result (MayGrow parser.old.bytes.now) }
+    ensures place { WhereRefused result (past_blanks parser.old.bytes.now 0 ≤ parser.new.index) }
+{
     match parser.value_first() {
         Ok(()) => {}
         Err(fault) => return Err(ReadError::Fault(fault)),
     }
-    match read_value(alloc, parser, settings) {
+    match run(alloc, tape, stacks, parser, settings) {
         Ok(value) => finish_whole(parser, settings, value),
         Err(error) => Err(error),
     }

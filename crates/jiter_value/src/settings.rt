@@ -1,13 +1,10 @@
 //! How a document is read, and which faults a partial reading forgives.
-ghost use Rattle.std.specs.Prelude.{◌≡◌, ◌<◌, ℕ, IfOk, IfErr, true, false};
+ghost use Rattle.std.specs.Prelude.{◌≡◌};
 ghost use Rattle.jiter_scan.specs.Kind.{fault_kind};
-ghost use Rattle.jiter_steps.specs.Frames.{resolve_step};
-ghost use Rattle.jiter_steps.specs.Parse.{Steps};
-ghost use Rattle.jiter_steps.specs.Step.{Step};
 ghost use Rattle.jiter_value.specs.Settings.{forgives};
 
 use jiter_scan::PartialMode;
-use jiter_scan::errors::{Fault, FaultKind};
+use jiter_scan::errors::FaultKind;
 
 /// How a document is read.
 #[derive(Clone, Copy, Debug)]
@@ -32,25 +29,4 @@ pub fn forgives(mode: PartialMode, kind: FaultKind) -> bool
                 | FaultKind::ExpectedListCommaOrEnd
                 | FaultKind::ExpectedObjectCommaOrEnd
         )
-}
-
-/// A step inside a container, whose forgiven fault closes it.
-#[inline(always)]
-pub fn resolve(mode: PartialMode, step: Result<bool, Fault>) -> Result<bool, Fault>
-    ensures value { (i : ℕ) → (s : Step) → Steps step i s
-        → Steps result i (resolve_step (forgives mode) s) }
-    ensures inside { (i n : ℕ) → IfOk step (λ more. more ≡ true → i < n)
-        → IfOk result (λ more. more ≡ true → i < n) }
-    ensures kept { IfErr result (λ f. forgives mode (fault_kind f.kind) ≡ false) }
-{
-    match step {
-        Ok(more) => Ok(more),
-        Err(fault) => {
-            if forgives(mode, fault.kind) {
-                Ok(false)
-            } else {
-                Err(fault)
-            }
-        }
-    }
 }

@@ -1,17 +1,20 @@
 //! The two stacks that all containers share.
-ghost use Rattle.std.specs.Prelude.{◌≡◌, ◌≢◌, ℕ, List, ◌+◌, ◌≤◌, ◌<◌, ◌∷◌, ◌++◌, [], IfOk, OnOk, OnErr, length, take, drop, map, vec_len};
+ghost use Rattle.std.specs.Prelude.{◌≡◌, ◌≢◌, ℕ, List, ◌+◌, ◌≤◌, ◌<◌, ◌∷◌, ◌++◌, [], IfOk, IsTrue, OnOk, OnErr, length, take, drop, false, map, vec_len};
 ghost use Rattle.std.specs.declared.alloc.Global.{Global};
 ghost use Rattle.std.specs.declared.borrow.CowStr.{CowStr as CowStrView};
-ghost use Rattle.jiter_steps.specs.Tree.{array, object, items_of, members_of};
 ghost use Rattle.jiter_steps.specs.Read.{done};
+ghost use Rattle.jiter_steps.specs.Tree.{object, members_of};
 ghost use Rattle.jiter_value.specs.Value.{view};
-ghost use Rattle.jiter_value.specs.Size.{size, value_size, key_size, behind_size};
-ghost use Rattle.jiter_value.specs.Stacks.{member_view, Member, resume_with, behind, array_ends, object_ends, Stands, StandsAtKey};
+ghost use Rattle.jiter_value.specs.Size.{size, value_size, inside_size, behind_size};
+ghost use Rattle.jiter_value.specs.Stacks.{Member, member_view, resume_with, behind, container_ends, Stands, StandsInside, HasRoom};
 ghost use Rattle.jiter_value.specs.declared.settings.Settings.{Settings as SettingsView};
 ghost use Rattle.jiter_value.specs.declared.value.JsonValue.{JsonValue as JsonValueView};
 
-use crate::value::JsonValue;
-use jiter_scan::memory::{Refused, push, split_off};
+use crate::value::{JsonObject, JsonValue};
+use jiter_scan::errors::{Fault, FaultKind};
+use jiter_scan::memory::{Refused, make_room, split_off};
+use jiter_steps::parse::Shape;
+use jiter_steps::read_error::ReadError;
 use smallvec::SmallVec;
 use std::alloc::Global;
 use std::borrow::CowStr;
@@ -31,6 +34,8 @@ pub enum Awaits {
     Key,
     /// Nothing: the value is whole.
     Done,
+    /// Nothing: the reading was given up.
+    Refused,
 }
 
 /// An open container: what stood where it began, and its base in its stack.
@@ -54,6 +59,8 @@ pub struct Stacks<'j> {
     pub nest: SmallVec<Open, 8>,
     /// The value of the document, once it is whole.
     pub root: JsonValue<'j>,
+    /// Why the reading was given up, once it was.
+    pub error: ReadError,
 }
 
 // The value of the last key.
@@ -68,44 +75,55 @@ fn set_last<'j>(members: &mut Vec<(CowStr<'j>, JsonValue<'j>)>, value: JsonValue
     mem::forget(mem::replace(&mut members[last].1, value));
 }
 
-// Takes the items of a container that ends as an array: the root takes the stack itself.
-fn take_items<'j>(
+// Takes the parts of a container that ends: the root takes the stack itself.
+fn take_parts<T: Drop>(
     alloc: Global,
-    items: &mut Vec<JsonValue<'j>>,
+    parts: &mut Vec<T>,
     container: Open,
-) -> Result<JsonValue<'j>, Refused>
-    requires { container.base ≤ vec_len items.old }
-    ensures rest { OnOk result (items.new.items ≡ take container.base items.old.items) }
-    ensures value { IfOk result (λ v. view v
-        ≡ array (items_of (map view (drop container.base items.old.items)))) }
+) -> Result<Vec<T>, Refused>
+    requires { container.base ≤ vec_len parts.old }
+    ensures rest { OnOk result (parts.new.items ≡ take container.base parts.old.items) }
+    ensures value { IfOk result (λ v. v.items ≡ drop container.base parts.old.items) }
 {
     if container.base == 0 && matches!(container.outer, Awaits::Root) {
         let empty = Vec::new(alloc);
-        let all = mem::replace(items, empty);
-        return Ok(JsonValue::Array(all));
+        return Ok(mem::replace(parts, empty));
     }
-    let part = split_off(items, container.base)?;
-    Ok(JsonValue::Array(part))
+    split_off(parts, container.base)
 }
 
-// Takes the members of a container that ends as an object: the root takes the stack itself.
-fn take_members<'j>(
-    alloc: Global,
-    members: &mut Vec<(CowStr<'j>, JsonValue<'j>)>,
-    container: Open,
-) -> Result<JsonValue<'j>, Refused>
-    requires { container.base ≤ vec_len members.old }
-    ensures rest { OnOk result (members.new.items ≡ take container.base members.old.items) }
-    ensures value { IfOk result (λ v. view v
-        ≡ object (members_of (map member_view (drop container.base members.old.items)))) }
+/// Whether a value that is awaited can go where it belongs without a request for memory.
+#[inline(always)]
+pub fn has_room<'j>(stacks: &Stacks<'j>, awaits: Awaits) -> bool
+    ensures room { IsTrue result → HasRoom stacks.now awaits }
+    ensures full { result ≡ false → awaits ≡ Awaits.Item }
 {
-    if container.base == 0 && matches!(container.outer, Awaits::Root) {
-        let empty = Vec::new(alloc);
-        let all = mem::replace(members, empty);
-        return Ok(JsonValue::Object(all));
+    match awaits {
+        Awaits::Item => stacks.items.len() < stacks.items.capacity(),
+        _ => true,
     }
-    let part = split_off(members, container.base)?;
-    Ok(JsonValue::Object(part))
+}
+
+/// The value that was awaited goes where it belongs, where there is room for it.
+#[inline(always)]
+pub fn put_reserved<'j>(stacks: &mut Stacks<'j>, awaits: Awaits, value: JsonValue<'j>)
+    requires stands { Stands stacks.old awaits }
+    requires room { HasRoom stacks.old awaits }
+    ensures value { (p : SettingsView) → (t : List ℕ) → (e : ℕ)
+        → resume_with p t stacks.old awaits (done (view value.entry) e) ≡ behind p t stacks.new awaits e }
+    ensures stands { Stands stacks.new awaits }
+    ensures nest { stacks.new.nest ≡ stacks.old.nest }
+    ensures held { behind_size stacks.new awaits
+        ≡ value_size stacks.old awaits + size (view value.entry) }
+{
+    match awaits {
+        Awaits::Item => stacks.items.push_reserved(value),
+        Awaits::Value => set_last(&mut stacks.members, value),
+        Awaits::Root => stacks.root = value,
+        Awaits::Key => unreachable!(),
+        Awaits::Done => unreachable!(),
+        Awaits::Refused => unreachable!(),
+    }
 }
 
 /// The value that was awaited goes where it belongs.
@@ -120,60 +138,62 @@ pub fn put<'j>(stacks: &mut Stacks<'j>, awaits: Awaits, value: JsonValue<'j>) ->
         ≡ value_size stacks.old awaits + size (view value.entry)) }
     ensures refused { OnErr result (awaits ≢ Awaits.Root) }
 {
-    match awaits {
-        Awaits::Item => {
-            push(&mut stacks.items, value)?;
-            Ok(())
-        }
-        Awaits::Value => {
-            set_last(&mut stacks.members, value);
-            Ok(())
-        }
-        Awaits::Root => {
-            stacks.root = value;
-            Ok(())
-        }
-        Awaits::Key => unreachable!(),
-        Awaits::Done => unreachable!(),
+    if !has_room(stacks, awaits) {
+        make_room(&mut stacks.items)?;
     }
+    put_reserved(stacks, awaits, value);
+    Ok(())
 }
 
-/// The innermost container, an array, ends and goes where it belongs.
-pub fn close_array<'j>(alloc: Global, stacks: &mut Stacks<'j>) -> Result<Awaits, Refused>
-    requires { Stands stacks.old Awaits.Item }
+/// The object of these members.
+#[inline(always)]
+pub fn object_of<'j>(members: JsonObject<'j>) -> JsonValue<'j>
+    ensures { view result ≡ object (members_of (map member_view members.entry.items)) }
+{
+    JsonValue::Object(members)
+}
+
+/// The innermost container ends and goes where it belongs.
+#[inline(never)]
+pub fn close<'j>(alloc: Global, stacks: &mut Stacks<'j>, shape: Shape) -> Result<Awaits, Refused>
+    requires { StandsInside shape stacks.old }
     ensures value { IfOk result (λ a. (p : SettingsView) → (t : List ℕ) → (e : ℕ)
-        → array_ends p t stacks.old e ≡ behind p t stacks.new a e) }
+        → container_ends p t shape stacks.old e ≡ behind p t stacks.new a e) }
     ensures stands { IfOk result (λ a. Stands stacks.new a) }
     ensures nest { length stacks.new.nest.items + 1 ≡ length stacks.old.nest.items }
-    ensures held { IfOk result (λ a. behind_size stacks.new a ≡ value_size stacks.old Awaits.Item) }
+    ensures held { IfOk result (λ a. behind_size stacks.new a ≡ inside_size shape stacks.old) }
 {
     match stacks.nest.pop() {
         None => unreachable!(),
         Some(container) => {
-            let array = take_items(alloc, &mut stacks.items, container)?;
-            put(stacks, container.outer, array)?;
+            match shape {
+                Shape::Array => {
+                    let items = take_parts(alloc, &mut stacks.items, container)?;
+                    put(stacks, container.outer, JsonValue::Array(items))?;
+                }
+                Shape::Object => {
+                    let members = take_parts(alloc, &mut stacks.members, container)?;
+                    put(stacks, container.outer, object_of(members))?;
+                }
+            }
             Ok(container.outer)
         }
     }
 }
 
-/// The innermost container, an object that awaits no value, ends and goes where it belongs.
-pub fn close_object<'j>(alloc: Global, stacks: &mut Stacks<'j>) -> Result<Awaits, Refused>
-    requires { StandsAtKey stacks.old }
-    ensures value { IfOk result (λ a. (p : SettingsView) → (t : List ℕ) → (e : ℕ)
-        → object_ends p t stacks.old e ≡ behind p t stacks.new a e) }
-    ensures stands { IfOk result (λ a. Stands stacks.new a) }
-    ensures nest { length stacks.new.nest.items + 1 ≡ length stacks.old.nest.items }
-    ensures held { IfOk result (λ a. behind_size stacks.new a ≡ key_size stacks.old) }
+/// Takes out why the reading was given up.
+pub fn take_error<'j>(stacks: &mut Stacks<'j>) -> ReadError
+    ensures { result ≡ stacks.old.error }
 {
-    match stacks.nest.pop() {
-        None => unreachable!(),
-        Some(container) => {
-            let object = take_members(alloc, &mut stacks.members, container)?;
-            put(stacks, container.outer, object)?;
-            Ok(container.outer)
-        }
-    }
+    mem::replace(&mut stacks.error, no_error())
+}
+
+// What stands where a reading was not given up.
+fn no_error() -> ReadError {
+    ReadError::Fault(Fault {
+        kind: FaultKind::ExpectedSomeValue,
+        index: 0,
+    })
 }
 
 impl<'j> Stacks<'j> {
@@ -188,6 +208,7 @@ impl<'j> Stacks<'j> {
             members: Vec::new(alloc),
             nest: SmallVec::new(alloc),
             root: JsonValue::Null,
+            error: no_error(),
         }
     }
 }

@@ -29,7 +29,7 @@ use Rattle.look.specs.Print.{print_more_members}
 use Rattle.look.specs.Printed.{borrow_tree, borrow_items, borrow_members, IsLineOf, PrintsAgain}
 use Rattle.look.proofs.PrintLawNumbers.{number-again}
 use Rattle.look.proofs.PrintLawStrings.{string-again}
-use Rattle.look.proofs.Giving.{Gives}
+use Rattle.look.proofs.GivenValues.{Gives}
 use Rattle.look.proofs.Printable.{IsNumber, IsPrintable, ArePrintable, MembersArePrintable, Fits, answer_in-printable}
 use Rattle.look.proofs.Printable.{tree_nesting, tree_nesting_round, tree_nesting_of, tree_nesting_round_members}
 use Rattle.look.proofs.Printable.{tree_nesting_of_members}

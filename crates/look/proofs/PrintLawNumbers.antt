@@ -1,17 +1,17 @@
 -- What is printed of a number is a number's text, and stands for the same number.
 use Rattle.std.proofs.Common.{◌≡◌, ◌≢◌, ◌⊎◌, inl, inr, ℕ, ℤ, pos, negsuc, zero, suc, ◌+◌, ◌-◌, ◌*◌, ◌/◌, ◌%◌, ◌^◌, ◌<◌}
 use Rattle.std.proofs.Common.{◌≤◌, Bool, true, false, List, [], ◌∷◌, ◌++◌, length, refl, sym, ap, ◌∙◌, subst, arith}
-use Rattle.std.specs.Prelude.{◌==◌, ◌||◌, if◌then◌else◌, nat_lt, nat_le}
-use Rattle.std.specs.List.{list_any}
+use Rattle.std.specs.Prelude.{◌==◌, if◌then◌else◌, nat_lt, nat_le}
 use Rattle.std.specs.Fmt.{decimal, signed_decimal}
 use Rattle.std.proofs.lemmas.Bool.{lt-ltb, le-leb, ltb-true, leb-true}
 use Rattle.std.proofs.lemmas.Bool.Decides.{nat_tests}
 use Rattle.std.proofs.lemmas.Fmt.{decimal_by_steps, length-decimal-le}
 use Rattle.jiter_scan.specs.Digits.{is_digit, decimal_of}
 use Rattle.jiter_scan.specs.Number.{Number, integer, big, float, AreDigits, IsWhole, IsDecimal, IsNumberText}
-use Rattle.jiter_scan.specs.Number.{digit_limit, is_float_byte, is_integral, minus_of, positive_value, negative_value}
+use Rattle.jiter_scan.specs.Number.{digit_limit, is_integral, minus_of, positive_value, negative_value}
 use Rattle.jiter_scan.specs.Number.{integral_value, number_value}
 use Rattle.jiter_scan.proofs.Digits.{decimal_of-append}
+use Rattle.jiter_scan.proofs.NumberValues.{digits-no_float}
 use Rattle.jiter_scan.proofs.Choices.{if_case, if-true, if-false}
 use Rattle.jiter_steps.specs.Node.{number_tree}
 use Rattle.look.specs.Print.{print_of}
@@ -54,13 +54,6 @@ decimal-writes : (n : ℕ) → n < 2 ^ 64 → Writes n (decimal n)
 decimal-writes n h = decimal_by_steps Writes writes-one writes-more n h
 
 -- ---- a number of digits alone
-digit-no_float : (c : ℕ) → is_digit c ≡ true → is_float_byte c ≡ false
-digit-no_float c h = grind (arith, nat_tests)
-
-digits-no_float : (w : List ℕ) → AreDigits w → list_any is_float_byte w ≡ false
-digits-no_float [] h = refl
-digits-no_float (c ∷ w) h = ap (λ b. b || list_any is_float_byte w) (digit-no_float c h.0) ∙ digits-no_float w h.1
-
 whole-digits : (w : List ℕ) → IsWhole w → AreDigits w
 whole-digits [] h = absurd h
 whole-digits (c ∷ w) h = h.0

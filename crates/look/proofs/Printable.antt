@@ -26,7 +26,7 @@ use Rattle.jiter_steps.specs.Tree.{Members, no_members, member, members_of}
 use Rattle.jiter_steps.specs.declared.parse.Literal.{Literal}
 use Rattle.jiter_steps.specs.declared.parse.Literal.TheVariants as name
 use Rattle.jiter_steps.proofs.StringSound.{IsUtf8-valid, valid-IsUtf8}
-use Rattle.look.proofs.Giving.{Takes, Gives, Both, Each, Builds, front_answer-gives, whole_answer-gives}
+use Rattle.look.proofs.GivenValues.{Takes, Gives, Both, Each, Builds, front_answer-gives, whole_answer-gives}
 
 -- ---- the values
 -- a number's text stands for it

@@ -7,7 +7,7 @@ use Rattle.jiter_steps.specs.StringReading.{whole, raw}
 use Rattle.jiter_steps.specs.Tree.{Text}
 use Rattle.jiter.specs.Cause.{json_error, wrong_type, int, array, object}
 use Rattle.jiter.specs.Reader.{gave, refused, peek, next, array_read, item_step, object_read, key_step, finish}
-use Rattle.jiter.proofs.Rows.Tables.{Row, Replies, computed_replies, at, partly, borrowed, owned}
+use Rattle.jiter.proofs.Rows.Tables.{Row, RepliesOn, computed_replies, at, partly, borrowed, owned}
 
 abbrev arrays : List (Row (Option ℕ))
 arrays =
@@ -19,7 +19,7 @@ arrays =
     (at (codes "-x") 0, refused (json_error invalid_number) 1 0) ∷
     []
 
-arrays-reply : Replies (λ s. next s (array_read s)) arrays
+arrays-reply : RepliesOn (λ s. next s (array_read s)) arrays
 unfolding computed_replies
 arrays-reply = refl
 
@@ -35,7 +35,7 @@ items =
     (at (codes "[1,]") 3, gave None 4) ∷
     []
 
-items-reply : Replies (item_step) items
+items-reply : RepliesOn (item_step) items
 unfolding computed_replies
 items-reply = refl
 
@@ -56,7 +56,7 @@ objects =
     (at (codes "{\"" ++ (255 ∷ (codes "\":1}"))) 0, refused (json_error invalid_code_point) 2 1) ∷
     []
 
-objects-reply : Replies (λ s. next s (object_read whole s)) objects
+objects-reply : RepliesOn (λ s. next s (object_read whole s)) objects
 unfolding computed_replies
 objects-reply = refl
 
@@ -67,7 +67,7 @@ objects_by_bytes =
     (at (codes "{\"" ++ (255 ∷ (codes "\":1}"))) 0, gave (Some (borrowed (255 ∷ []))) 5) ∷
     []
 
-objects_by_bytes-reply : Replies (λ s. next s (object_read raw s)) objects_by_bytes
+objects_by_bytes-reply : RepliesOn (λ s. next s (object_read raw s)) objects_by_bytes
 unfolding computed_replies
 objects_by_bytes-reply = refl
 
@@ -83,7 +83,7 @@ keys =
     (at (codes "{\"a\":1,2") 6, refused (json_error key_must_be_a_string) 7 7) ∷
     []
 
-keys-reply : Replies (key_step whole) keys
+keys-reply : RepliesOn (key_step whole) keys
 unfolding computed_replies
 keys-reply = refl
 
@@ -92,7 +92,7 @@ bytes_of_keys =
     (at (codes "{\"a\":1,\"\\n\":2}") 6, gave (Some (borrowed (codes "\\n"))) 12) ∷
     []
 
-bytes_of_keys-reply : Replies (key_step raw) bytes_of_keys
+bytes_of_keys-reply : RepliesOn (key_step raw) bytes_of_keys
 unfolding computed_replies
 bytes_of_keys-reply = refl
 
@@ -102,7 +102,7 @@ peeks =
     (at (32 ∷ 10 ∷ []) 0, refused (json_error eof_value) 2 2) ∷
     []
 
-peeks-reply : Replies (peek) peeks
+peeks-reply : RepliesOn (peek) peeks
 unfolding computed_replies
 peeks-reply = refl
 
@@ -112,6 +112,6 @@ ends =
     (at (codes " x") 0, refused (json_error trailing_characters) 1 1) ∷
     []
 
-ends-reply : Replies (finish) ends
+ends-reply : RepliesOn (finish) ends
 unfolding computed_replies
 ends-reply = refl

@@ -3,7 +3,7 @@ use Rattle.std.proofs.Common.{ℕ, List, [], ◌∷◌, ◌++◌, length, map, r
 use Rattle.std.specs.Prelude.{replicate}
 use Rattle.std.specs.List.{flat_map}
 use Rattle.jiter.specs.Reader.{gave, next, number_bytes_read}
-use Rattle.jiter.proofs.Rows.Tables.{Row, Replies, computed_replies, at}
+use Rattle.jiter.proofs.Rows.Tables.{Row, RepliesOn, computed_replies, at}
 
 -- numbers of the digits d: alone, behind a minus, of a fraction, of a power, and all at once
 abbrev numbers_of : List ℕ → List (List ℕ)
@@ -25,7 +25,7 @@ rows_of w = map (λ f. (at (w ++ f) 0, gave w (length w))) followers
 
 -- the numbers of runs of n digits are read so
 abbrev RunsOf : ℕ → Type 0
-RunsOf n = Replies (λ s. next s (number_bytes_read s)) (flat_map rows_of (numbers_of (replicate n 55)))
+RunsOf n = RepliesOn (λ s. next s (number_bytes_read s)) (flat_map rows_of (numbers_of (replicate n 55)))
 
 short_runs : RunsOf 1 × RunsOf 7 × RunsOf 8 × RunsOf 9 × RunsOf 15
 unfolding computed_replies

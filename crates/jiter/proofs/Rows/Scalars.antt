@@ -8,7 +8,7 @@ use Rattle.jiter_steps.specs.Tree.{Text}
 use Rattle.jiter.specs.Cause.{json_error, wrong_type, null, bool, int, float, string, array, object}
 use Rattle.jiter.specs.Reader.{gave, refused, next, null_read, bool_read, number_read, int_read, number_bytes_read}
 use Rattle.jiter.specs.Reader.{str_read, bytes_read}
-use Rattle.jiter.proofs.Rows.Tables.{Row, Replies, computed_replies, at, named, partly, borrowed, owned}
+use Rattle.jiter.proofs.Rows.Tables.{Row, RepliesOn, computed_replies, at, named, partly, borrowed, owned}
 
 abbrev nulls : List (Row (Unit {0}))
 nulls =
@@ -19,7 +19,7 @@ nulls =
     (at (codes "  ") 0, refused (json_error eof_value) 2 2) ∷
     []
 
-nulls-reply : Replies (λ s. next s (null_read s)) nulls
+nulls-reply : RepliesOn (λ s. next s (null_read s)) nulls
 unfolding computed_replies
 nulls-reply = refl
 
@@ -34,7 +34,7 @@ bools =
     (named (codes "NaN") 0, refused (wrong_type bool float) 0 0) ∷
     []
 
-bools-reply : Replies (λ s. next s (bool_read s)) bools
+bools-reply : RepliesOn (λ s. next s (bool_read s)) bools
 unfolding computed_replies
 bools-reply = refl
 
@@ -56,7 +56,7 @@ integers =
     (named (codes "NaN") 0, refused (wrong_type int float) 0 0) ∷
     []
 
-integers-reply : Replies (λ s. next s (int_read s)) integers
+integers-reply : RepliesOn (λ s. next s (int_read s)) integers
 unfolding computed_replies
 integers-reply = refl
 
@@ -71,7 +71,7 @@ numbers =
     (at (codes "12.") 0, refused (json_error eof_value) 3 0) ∷
     []
 
-numbers-reply : Replies (λ s. next s (number_read s)) numbers
+numbers-reply : RepliesOn (λ s. next s (number_read s)) numbers
 unfolding computed_replies
 numbers-reply = refl
 
@@ -82,7 +82,7 @@ bytes_of_numbers =
     (named (codes "[NaN]") 1, gave (codes "NaN") 4) ∷
     []
 
-bytes_of_numbers-reply : Replies (λ s. next s (number_bytes_read s)) bytes_of_numbers
+bytes_of_numbers-reply : RepliesOn (λ s. next s (number_bytes_read s)) bytes_of_numbers
 unfolding computed_replies
 bytes_of_numbers-reply = refl
 
@@ -104,7 +104,7 @@ texts =
     (partly (codes "\"a\\q") 0, refused (json_error invalid_escape) 3 0) ∷
     []
 
-texts-reply : Replies (λ s. next s (str_read s)) texts
+texts-reply : RepliesOn (λ s. next s (str_read s)) texts
 unfolding computed_replies
 texts-reply = refl
 
@@ -118,6 +118,6 @@ bytes_of_texts =
     (partly (codes "\"ab\\") 0, refused (json_error eof_string) 4 0) ∷
     []
 
-bytes_of_texts-reply : Replies (λ s. next s (bytes_read s)) bytes_of_texts
+bytes_of_texts-reply : RepliesOn (λ s. next s (bytes_read s)) bytes_of_texts
 unfolding computed_replies
 bytes_of_texts-reply = refl

@@ -10,8 +10,8 @@ abbrev pub Row : Type 0 → Type 0
 Row A = ReaderState × Reply A
 
 -- The call replies so on each row.
-abbrev pub Replies : {A : Type 0} → (ReaderState → Reply A) → List (Row A) → Type 0
-Replies call rows = map (λ r. call r.0) rows ≡ map (λ r. r.1) rows
+abbrev pub RepliesOn : {A : Type 0} → (ReaderState → Reply A) → List (Row A) → Type 0
+RepliesOn call rows = map (λ r. call r.0) rows ≡ map (λ r. r.1) rows
 
 -- a reader of these bytes that stands at the place
 abbrev pub at : List ℕ → ℕ → ReaderState

@@ -8,7 +8,7 @@ use Rattle.jiter_steps.specs.Tree.{Text, Tree, items_of}
 use Rattle.jiter_steps.specs.Tree as tree
 use Rattle.jiter.specs.Cause.{json_error}
 use Rattle.jiter.specs.Reader.{ReaderState, gave, refused, next, bytes_read, value_read, skip_read}
-use Rattle.jiter.proofs.Rows.Tables.{Row, Replies, computed_replies, at, partly, borrowed}
+use Rattle.jiter.proofs.Rows.Tables.{Row, RepliesOn, computed_replies, at, partly, borrowed}
 
 abbrev a_list : Tree
 a_list = tree.array (items_of (tree.int (pos 1) ∷ tree.string (borrowed (codes "a")) ∷ []))
@@ -24,7 +24,7 @@ values =
     (partly (codes "[\"a") 0, refused (json_error eof_string) 3 1) ∷
     []
 
-values-reply : Replies (λ s. next s (value_read s)) values
+values-reply : RepliesOn (λ s. next s (value_read s)) values
 unfolding computed_replies
 values-reply = refl
 
@@ -39,7 +39,7 @@ skips =
     (at (replicate 300 91 ++ replicate 300 93) 0, refused (json_error recursion_limit) 201 201) ∷
     []
 
-skips-reply : Replies (λ s. next s (skip_read s)) skips
+skips-reply : RepliesOn (λ s. next s (skip_read s)) skips
 unfolding computed_replies
 skips-reply = refl
 
@@ -58,7 +58,7 @@ skips_of_damage n =
     []
 
 skips_of_damage-reply :
-    Replies (λ s. next s (skip_read s)) (skips_of_damage 0 ++ (skips_of_damage 1 ++ skips_of_damage 16))
+    RepliesOn (λ s. next s (skip_read s)) (skips_of_damage 0 ++ (skips_of_damage 1 ++ skips_of_damage 16))
 unfolding computed_replies
 skips_of_damage-reply = refl
 
@@ -72,6 +72,6 @@ bytes_of_damage n =
     []
 
 bytes_of_damage-reply :
-    Replies (λ s. next s (bytes_read s)) (bytes_of_damage 0 ++ (bytes_of_damage 1 ++ bytes_of_damage 16))
+    RepliesOn (λ s. next s (bytes_read s)) (bytes_of_damage 0 ++ (bytes_of_damage 1 ++ bytes_of_damage 16))
 unfolding computed_replies
 bytes_of_damage-reply = refl

@@ -10,7 +10,7 @@ const RESERVE: usize = 65_536;
 // All memory, but what was left of the reserve. Under `rt try` the allocator keeps some to itself, and the tests
 // that refuse requests fail there.
 #[derive(Drop)]
-struct Held {
+pub(super) struct Held {
     blocks: Vec<Vec<u8>>,
     reserve: Vec<u8>,
 }
@@ -28,7 +28,7 @@ fn take_blocks(alloc: Global, size: usize, blocks: &mut Vec<Vec<u8>>) {
 }
 
 impl Held {
-    fn all(alloc: Global) -> Result<Self, AllocError> {
+    pub(super) fn all(alloc: Global) -> Result<Self, AllocError> {
         let mut blocks = Vec::with_capacity(alloc, 100_000)?;
         let reserve = Vec::with_capacity(alloc, RESERVE)?;
         let mut size = 1usize << 46;
@@ -40,13 +40,13 @@ impl Held {
     }
 
     // Leaves so many bytes of the reserve to others.
-    fn leave(&mut self, alloc: Global, bytes: usize) -> Result<(), AllocError> {
+    pub(super) fn leave(&mut self, alloc: Global, bytes: usize) -> Result<(), AllocError> {
         self.give_back(alloc);
         self.reserve = Vec::with_capacity(alloc, RESERVE.saturating_sub(bytes))?;
         Ok(())
     }
 
-    fn give_back(&mut self, alloc: Global) {
+    pub(super) fn give_back(&mut self, alloc: Global) {
         self.reserve = Vec::new(alloc);
     }
 }

@@ -20,7 +20,7 @@ use Rattle.jiter_steps.specs.Read.{Reading, done, fault, scalar_at}
 use Rattle.jiter_steps.specs.StringReading.{Body, before, over, unclosed, whole, text_in_form, content_at, string_at}
 use Rattle.jiter_steps.specs.Tree.{Text, Tree}
 use Rattle.jiter_steps.specs.Tree as tree
-use Rattle.jiter_steps.proofs.Answered.{whole-fault}
+use Rattle.jiter_steps.proofs.WholeTexts.{whole-fault}
 use Rattle.jiter_steps.proofs.Blanks.{past_blanks-other}
 use Rattle.jiter_steps.proofs.Bodies.{body_at-place_by, place_by-end}
 use Rattle.jiter_steps.proofs.Dead.{dead}

@@ -2,8 +2,9 @@
 use Rattle.std.proofs.Common.{◌≡◌, ℕ, List, [], ◌∷◌, ◌++◌, refl, codes, map}
 use Rattle.jiter_scan.specs.Kind.{eof_list, eof_object, eof_value, expected_list_comma_or_end}
 use Rattle.jiter_scan.specs.Kind.{expected_object_comma_or_end, key_must_be_a_string, trailing_comma}
-use Rattle.jiter_steps.specs.Step.{Step, more, closed, stuck, step, array_first, array_comma, array_step}
-use Rattle.jiter_steps.specs.Step.{object_first, object_comma, object_step}
+use Rattle.jiter_steps.specs.Step.{Step, more, closed, stuck, step, container_comma}
+use Rattle.jiter_steps.specs.Step.{array_first, array_step, object_first, object_step}
+use Rattle.jiter_steps.specs.declared.parse.Shape.TheVariants as shape
 use Rattle.jiter_steps.proofs.Computed.{computed_steps}
 
 -- behind an opening bracket
@@ -45,7 +46,7 @@ array_goes_on =
     (codes "[1,,", 3, more 3) ∷
     []
 
-array_goes_on_answer : map (λ r. step r.0 array_comma r.1) array_goes_on ≡ map (λ r. r.2) array_goes_on
+array_goes_on_answer : map (λ r. step r.0 (container_comma shape.Array) r.1) array_goes_on ≡ map (λ r. r.2) array_goes_on
 unfolding computed_steps
 array_goes_on_answer = refl
 
@@ -84,6 +85,6 @@ object_goes_on =
     (codes "{\"a\":1,2", 7, stuck key_must_be_a_string 7) ∷
     []
 
-object_goes_on_answer : map (λ r. step r.0 object_comma r.1) object_goes_on ≡ map (λ r. r.2) object_goes_on
+object_goes_on_answer : map (λ r. step r.0 (container_comma shape.Object) r.1) object_goes_on ≡ map (λ r. r.2) object_goes_on
 unfolding computed_steps
 object_goes_on_answer = refl

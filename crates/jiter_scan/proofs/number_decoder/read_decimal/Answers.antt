@@ -1,9 +1,4 @@
-use Rattle.std.proofs.Common.{◌∙◌, ap, sym, arith, slice_range}
-use Rattle.jiter_scan.specs.Scanned.{taken}
-use Rattle.jiter_scan.specs.Number.{float}
-use Rattle.jiter_scan.specs.NumberReading.{with_value}
-use Rattle.jiter_scan.specs.NumberDecoder.{number_view}
-use Rattle.jiter_scan.proofs.NumberBytes.{IsAscii-decimal, IsMinusTo-le}
+use Rattle.jiter_scan.proofs.NumberBytes.{IsAscii-decimal}
 use Rattle.jiter_scan.proofs.number_decoder.read_decimal.Goals as goal
 
 pub ascii_text-text-requires : goal.ascii_text-text-requires

@@ -1,15 +1,12 @@
-use Rattle.std.proofs.Common.{◌+◌, ◌∙◌, ap, sym, arith}
-use Rattle.std.proofs.lemmas.Option.{slice_get_within, get_or_from_slice_get}
-use Rattle.jiter_scan.specs.Digits.{is_digit}
-use Rattle.jiter_scan.proofs.Runs.{run_end-passing, run_end-ahead}
+use Rattle.std.proofs.Common.{arith}
+use Rattle.jiter_scan.proofs.NumberExtents.{magnitude_of-zero, byte-got}
 use Rattle.jiter_scan.proofs.number_decoder.read_whole.Goals as goal
 
-pub read_within_limit-requires-clause-some : goal.read_within_limit-requires-clause-some
-read_within_limit-requires-clause-some c =
-    let here = sym c.byte_at.ensures.value ∙ c.in-Some.is in
-    let byte = get_or_from_slice_get c.args.bytes.now c.args.at c.in-Some.byte 0 here in
-    let within = slice_get_within c.args.bytes.now c.args.at c.in-Some.byte here in
-    let more =
-    run_end-passing is_digit c.args.bytes.now c.args.at within
-    (ap is_digit byte ∙ sym c.is_digit.ensures ∙ c.if-is_digit.true) in
-    omega (arith, run_end-ahead is_digit c.args.bytes.now (c.args.at + 1))
+pub returns-then-bytes-at-eq48-clause-magnitude : goal.returns-then-bytes-at-eq48-clause-magnitude
+returns-then-bytes-at-eq48-clause-magnitude c =
+    let t = c.args.bytes.now in
+    let at = c.args.at in
+    let end = c.in_ok-end in
+    magnitude_of-zero t at end.end
+    (byte-got t at 48 (omega (arith, end.ensures.place.0, end.ensures.place.1)) c.if-bytes-at-eq48.true)
+    end.ensures.value

@@ -1,7 +1,5 @@
 use Rattle.std.proofs.Common.{◌+◌, ◌&&◌, ap, sym, ◌∙◌, arith}
-use Rattle.std.specs.List.{list_all}
-use lib.Lanes.{chunk}
-use Rattle.jiter_scan.specs.Scan.{is_plain, is_ascii}
+use Rattle.jiter_scan.specs.Scan.{is_plain}
 use Rattle.jiter_scan.specs.Simd.{ascii_from}
 use Rattle.jiter_scan.proofs.Chunks.{prefix_len-through}
 use Rattle.jiter_scan.proofs.PlainRuns.{and-assoc, ascii_from-through}

@@ -1,55 +1,39 @@
-use Rattle.std.proofs.Common.{◌≡◌, ◌++◌, arith}
-use Rattle.std.specs.Prelude.{slice_range}
+use Rattle.std.proofs.Common.{[], take, arith}
 use Rattle.std.specs.Char.{encode_utf8}
-use Rattle.std.proofs.lemmas.Grind.{common_steps}
 use Rattle.jiter_steps.specs.StringDecoder.{stop_view}
 use Rattle.jiter_steps.proofs.PlainRuns.{decode_more, decode_over}
 use Rattle.jiter_steps.proofs.string_decoder.decode.Goals as goal
 
-pub loop-c-smaller : goal.loop-c-smaller
-loop-c-smaller c =
-    let l = c.loop-c in
-    let t = c.args.bytes.now in
-    let tape : c.extend.new.bytes.items ≡ l.tape.items ++ slice_range t l.at c.scan_string-to.result.0 =
-    grind (arith, common_steps) in
-    let m = decode_more t c.args.tape.now.items l.tape.items c.extend.new.bytes.items c.push_char.new.tape.items
-    (encode_utf8 c.in-Escape.c) c.args.from l.at c.scan_string-to.result.0 c.in-Escape.end l.invariant.text
-    l.invariant.stop l.invariant.within c.scan_string-to.ensures.stop tape c.in-Escape.ensures
-    c.in_ok-push_char-in-Escape.ensures in
+pub loop-to-smaller : goal.loop-to-smaller
+loop-to-smaller c =
+    let l = c.loop-to in
+    let e = c.in_ok-to.ensures in
+    let m = decode_more c.args.bytes.now [] (take l.count l.tape.items) _ _ (encode_utf8 c.in-Escape.c) c.args.from l.at
+    c.in_ok-to.to c.in-Escape.end l.invariant.text l.invariant.stop l.invariant.within e.stop e.text c.in-Escape.ensures
+    c.put_char-count.ensures.text in
     omega (arith, m.2, m.3)
 
-pub loop-c-preserved : goal.loop-c-preserved
-loop-c-preserved c =
-    let l = c.loop-c in
-    let t = c.args.bytes.now in
-    let tape : c.extend.new.bytes.items ≡ l.tape.items ++ slice_range t l.at c.scan_string-to.result.0 =
-    grind (arith, common_steps) in
-    let m = decode_more t c.args.tape.now.items l.tape.items c.extend.new.bytes.items c.push_char.new.tape.items
-    (encode_utf8 c.in-Escape.c) c.args.from l.at c.scan_string-to.result.0 c.in-Escape.end l.invariant.text
-    l.invariant.stop l.invariant.within c.scan_string-to.ensures.stop tape c.in-Escape.ensures
-    c.in_ok-push_char-in-Escape.ensures in
-    record { text = m.0; stop = m.1; within = m.3 }
+pub loop-to-preserved : goal.loop-to-preserved
+loop-to-preserved c =
+    let l = c.loop-to in
+    let e = c.in_ok-to.ensures in
+    let m = decode_more c.args.bytes.now [] (take l.count l.tape.items) _ _ (encode_utf8 c.in-Escape.c) c.args.from l.at
+    c.in_ok-to.to c.in-Escape.end l.invariant.text l.invariant.stop l.invariant.within e.stop e.text c.in-Escape.ensures
+    c.put_char-count.ensures.text in
+    record { text = m.0; stop = m.1; within = m.3; room = c.put_char-count.ensures.place }
 
 pub returns-in-End-clause-text : goal.returns-in-End-clause-text
 returns-in-End-clause-text c =
-    let l = c.loop-c in
-    let t = c.args.bytes.now in
-    let tape : c.extend.new.bytes.items ≡ l.tape.items ++ slice_range t l.at c.scan_string-to.result.0 =
-    grind (arith, common_steps) in
-    let m = decode_over t c.args.tape.now.items l.tape.items c.extend.new.bytes.items c.args.from l.at
-    c.scan_string-to.result.0
-    (stop_view c.in-End.ending) l.invariant.text l.invariant.stop l.invariant.within c.scan_string-to.ensures.stop
-    tape c.in-End.ensures in
+    let l = c.loop-to in
+    let e = c.in_ok-to.ensures in
+    let m = decode_over c.args.bytes.now [] (take l.count l.tape.items) _ c.args.from l.at c.in_ok-to.to
+    (stop_view c.in-End.ending) l.invariant.text l.invariant.stop l.invariant.within e.stop e.text c.in-End.ensures in
     m.0
 
 pub returns-in-End-clause-stop : goal.returns-in-End-clause-stop
 returns-in-End-clause-stop c =
-    let l = c.loop-c in
-    let t = c.args.bytes.now in
-    let tape : c.extend.new.bytes.items ≡ l.tape.items ++ slice_range t l.at c.scan_string-to.result.0 =
-    grind (arith, common_steps) in
-    let m = decode_over t c.args.tape.now.items l.tape.items c.extend.new.bytes.items c.args.from l.at
-    c.scan_string-to.result.0
-    (stop_view c.in-End.ending) l.invariant.text l.invariant.stop l.invariant.within c.scan_string-to.ensures.stop
-    tape c.in-End.ensures in
+    let l = c.loop-to in
+    let e = c.in_ok-to.ensures in
+    let m = decode_over c.args.bytes.now [] (take l.count l.tape.items) _ c.args.from l.at c.in_ok-to.to
+    (stop_view c.in-End.ending) l.invariant.text l.invariant.stop l.invariant.within e.stop e.text c.in-End.ensures in
     m.1

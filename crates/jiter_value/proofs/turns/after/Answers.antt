@@ -1,72 +1,65 @@
-use Rattle.std.proofs.Common.{◌≡◌, ◌<◌, ◌∙◌, sym, ap, subst, length, reverse}
-use Rattle.jiter_scan.specs.Kind.{fault_kind}
-use Rattle.jiter_steps.specs.Frames.{resolve_step}
-use Rattle.jiter_steps.specs.Parse.{going}
-use Rattle.jiter_steps.specs.Read.{fault}
-use Rattle.jiter_steps.specs.Step.{more, stuck, step, array_step, object_step}
-use Rattle.jiter_value.specs.Settings.{forgives}
-use Rattle.jiter_value.specs.Stacks.{behind, Stands}
-use Rattle.jiter_value.specs.declared.stacks.Awaits.TheVariants as awaits
-use Rattle.jiter_value.proofs.Kept.{items-more, items-stuck, members-stuck}
+use Rattle.std.proofs.Common.{◌≡◌, ◌<◌, ◌∙◌, refl, sym, ap, subst, arith, length}
+use Rattle.jiter_steps.specs.Step.{container_step}
+use Rattle.jiter_steps.specs.Step.{more, step}
+use Rattle.jiter_value.specs.Size.{behind_size, inside_size}
+use Rattle.jiter_value.specs.Stacks.{behind, container_ends, Stands, awaited_in}
+use Rattle.jiter_value.proofs.Reached.{fails-along}
+use Rattle.jiter_value.proofs.Shapes.{reaches-part, inside-more, inside-ends, inside-fails, inside-stands, inside-size, part-within, not-root}
 use Rattle.jiter_value.proofs.turns.after.Goals as goal
 
-pub returns-in-Ok-true-clause-reaches : goal.returns-in-Ok-true-clause-reaches
-returns-in-Ok-true-clause-reaches c =
-    let a = c.args in
+pub returns-in-Part-clause-reaches : goal.returns-in-Part-clause-reaches
+returns-in-Part-clause-reaches c =
+    let p = c.args.settings in
+    let t = c.args.bytes.now in
     let l = c.closing in
     let s = l.stacks in
-    let p = a.settings in
-    let t = a.parser.now.bytes.now in
-    let i = l.parser.index in
-    let j = c.array_step.new.self.index in
-    let same : l.parser.bytes.now ≡ t = ap (λ b. b.now) l.invariant.0.same in
-    let so : behind p t a.stacks.now a.awaits a.parser.now.index ≡ behind p t s awaits.Item i = rw c.in-Item.is at l.invariant.1 in
-    let b : Stands s awaits.Item = rw c.in-Item.is at l.invariant.2 in
-    let at : resolve_step (forgives p.mode) (step t (array_step t) i) ≡ more j =
-    ap (λ u. resolve_step (forgives p.mode) (step u (array_step u) i)) (sym same)
-    ∙ c.in-Ok-true.ensures.value _ _ c.array_step.ensures.value ∙ ap (λ y. going y j) c.in-Ok-true.field-0-test in
-    let place : j < length t = subst (λ u. j < length u) same
-    (c.in-Ok-true.ensures.inside _ _ c.array_step.ensures.inside c.in-Ok-true.field-0-test) in
-    (so ∙ items-more p t (reverse s.nest.items) s.items.items s.members.items s.root i j b at place, (b, l.invariant.3, place))
+    let h = c.in-Some.shape in
+    let j = c.step_at-next.result.0 in
+    let in_shape : l.inside ≡ awaited_in h = c.in-Some.ensures.some in
+    let b : Stands s (awaited_in h) = subst (Stands s) in_shape l.invariant.3 in
+    let next : step t (container_step h t) l.at ≡ more j = rw c.in-Part.is at c.step_at-next.ensures.next in
+    let lt : j < length t = c.step_at-next.ensures.part c.in-Part.is in
+    rw c.part_of.ensures
+    (reaches-part p t s h j (behind p t c.args.stacks.now c.args.awaits c.args.from)
+    (l.invariant.2 ∙ ap (λ a. behind p t s a l.at) in_shape ∙ inside-more p t s h l.at j b next lt)
+    (part-within t s h j (inside-stands s h b) l.invariant.4 lt))
 
-pub returns-in-Err-clause-reaches : goal.returns-in-Err-clause-reaches
-returns-in-Err-clause-reaches c =
-    let a = c.args in
+pub returns-then-not-ends-clause-reaches : goal.returns-then-not-ends-clause-reaches
+returns-then-not-ends-clause-reaches c =
+    let p = c.args.settings in
+    let t = c.args.bytes.now in
     let l = c.closing in
     let s = l.stacks in
-    let p = a.settings in
-    let t = a.parser.now.bytes.now in
-    let i = l.parser.index in
-    let f = c.in-Err.fault in
-    let k = fault_kind f.kind in
-    let same : l.parser.bytes.now ≡ t = ap (λ b. b.now) l.invariant.0.same in
-    let h = c.in-Err.ensures.value _ _ c.array_step.ensures.value in
-    let so : behind p t a.stacks.now a.awaits a.parser.now.index ≡ behind p t s awaits.Item i = rw c.in-Item.is at l.invariant.1 in
-    let b : Stands s awaits.Item = rw c.in-Item.is at l.invariant.2 in
-    let at : resolve_step (forgives p.mode) (step t (array_step t) i) ≡ stuck k f.index = ap
-    (λ u. resolve_step (forgives p.mode) (step u (array_step u) i)) (sym same) ∙ h.0 in
-    so
-    ∙ items-stuck p t
-    (reverse s.nest.items) s.items.items s.members.items s.root i f.index k b at c.in-Err.ensures.kept
-    ∙ ap (fault k f.index) (sym h.1)
+    let h = c.in-Some.shape in
+    let j = c.step_at-next.result.0 in
+    let in_shape : l.inside ≡ awaited_in h = c.in-Some.ensures.some in
+    let b : Stands s (awaited_in h) = subst (Stands s) in_shape l.invariant.3 in
+    fails-along c.ends.new.stacks.error j (behind p t c.args.stacks.now c.args.awaits c.args.from)
+    (behind p t s (awaited_in h) l.at) (l.invariant.2 ∙ ap (λ a. behind p t s a l.at) in_shape)
+    (inside-fails p t s h l.at j c.ends.new.stacks.error b c.if-not-ends.ensures.resolved)
 
-pub returns-in-Err-resolve-clause-reaches : goal.returns-in-Err-resolve-clause-reaches
-returns-in-Err-resolve-clause-reaches c =
-    let a = c.args in
+pub closing-preserved : goal.closing-preserved
+closing-preserved c =
+    let p = c.args.settings in
+    let t = c.args.bytes.now in
     let l = c.closing in
     let s = l.stacks in
-    let p = a.settings in
-    let t = a.parser.now.bytes.now in
-    let i = l.parser.index in
-    let f = c.in-Err-resolve.fault in
-    let k = fault_kind f.kind in
-    let same : l.parser.bytes.now ≡ t = ap (λ b. b.now) l.invariant.0.same in
-    let h = c.in-Err-resolve.ensures.value _ _ c.object_step.ensures.value in
-    let so : behind p t a.stacks.now a.awaits a.parser.now.index ≡ behind p t s awaits.Value i = rw c.in-Value.is at l.invariant.1 in
-    let b : Stands s awaits.Value = rw c.in-Value.is at l.invariant.2 in
-    let at : resolve_step (forgives p.mode) (step t (object_step t) i) ≡ stuck k f.index = ap
-    (λ u. resolve_step (forgives p.mode) (step u (object_step u) i)) (sym same) ∙ h.0 in
-    so
-    ∙ members-stuck p t
-    (reverse s.nest.items) s.items.items s.members.items s.root i f.index k b at c.in-Err-resolve.ensures.kept
-    ∙ ap (fault k f.index) (sym h.1)
+    let h = c.in-Some.shape in
+    let j = c.step_at-next.result.0 in
+    let in_shape : l.inside ≡ awaited_in h = c.in-Some.ensures.some in
+    let b : Stands s (awaited_in h) = subst (Stands s) in_shape l.invariant.3 in
+    let same : c.ends.new.stacks ≡ s = c.if-not-ends.ensures.same refl in
+    let forward = c.step_at-next.ensures.within.0 in
+    let nest = ap (λ x. length x.nest.items) same in
+    let fewer = c.in-Ok.ensures.nest in (
+      omega (arith, l.invariant.0, forward),
+      c.step_at-next.ensures.within.1,
+      l.invariant.2 ∙ ap (λ a. behind p t s a l.at) in_shape ∙ inside-ends p t s h l.at j b c.if-not-ends.ensures.resolved
+          ∙ ap (λ x. container_ends p t h x j) (sym same) ∙ c.in-Ok.ensures.value p t j,
+      c.in-Ok.ensures.stands,
+      omega (arith, l.invariant.4, nest, fewer),
+      omega (arith, l.invariant.5, forward, nest, fewer),
+      c.in-Ok.ensures.held ∙ ap (inside_size h) same ∙ sym (inside-size s h b) ∙ ap (behind_size s) (sym in_shape)
+          ∙ l.invariant.6,
+      λ r. absurd (not-root h (sym in_shape ∙ l.invariant.7 r)),
+    )

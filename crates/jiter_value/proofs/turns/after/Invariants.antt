@@ -1,5 +1,4 @@
 use Rattle.std.proofs.Common.{◌≡◌, ◌≤◌, length}
-use Rattle.jiter_steps.specs.Parse.{Moves}
 use Rattle.jiter_value.specs.Size.{behind_size}
 use Rattle.jiter_value.specs.Stacks.{behind, Stands}
 use Rattle.jiter_value.specs.Turns.{left}
@@ -8,11 +7,11 @@ use Rattle.jiter_value.proofs.turns.after.Given as goal
 
 abbrev pub invariant-closing : goal.invariant-closing
 invariant-closing l =
-    Moves l.fn.parser l.parser
+    (l.fn.from ≤ l.at) × (l.at ≤ length l.fn.bytes)
     ×
-    (behind l.settings l.fn.parser.bytes.now l.fn.stacks l.fn.awaits l.fn.parser.index ≡ behind l.settings l.fn.parser.bytes.now l.stacks l.inside l.parser.index)
+    (behind l.settings l.fn.bytes l.fn.stacks l.fn.awaits l.fn.from ≡ behind l.settings l.fn.bytes l.stacks l.inside l.at)
     × Stands l.stacks l.inside × (length l.stacks.nest.items ≤ 200)
-    × (left l.fn.parser.bytes.now l.stacks l.parser.index ≤ left l.fn.parser.bytes.now l.fn.stacks l.fn.parser.index)
+    × (left l.fn.bytes l.stacks l.at ≤ left l.fn.bytes l.fn.stacks l.fn.from)
     × (behind_size l.stacks l.inside ≡ behind_size l.fn.stacks l.fn.awaits)
     × (l.fn.awaits ≡ awaits.Root → l.inside ≡ awaits.Root)
 

@@ -1,7 +1,9 @@
 use Rattle.std.proofs.Common.{◌≡◌, ◌∙◌, sym, false, reverse}
 use Rattle.jiter_scan.specs.Kind.{fault_kind}
 use Rattle.jiter_value.specs.Settings.{forgives}
+use Rattle.jiter_value.specs.Stacks.{key_fault}
 use Rattle.jiter_value.proofs.Kept.{key-kept}
+use Rattle.jiter_value.proofs.Reached.{gave-up}
 use Rattle.jiter_value.proofs.turns.fault_at_key.Goals as goal
 
 pub returns-then-not-forgives-clause-reaches : goal.returns-then-not-forgives-clause-reaches
@@ -10,5 +12,6 @@ returns-then-not-forgives-clause-reaches c =
     let s = a.stacks.now in
     let k = fault_kind a.problem.kind in
     let bad : forgives a.settings.mode k ≡ false = sym c.forgives.ensures ∙ c.if-not-forgives.true in
-    key-kept a.settings a.parser.now.bytes.now
-    (reverse s.nest.items) s.items.items s.members.items k a.problem.index a.parser.now.index bad
+    gave-up a.settings a.bytes.now c.give_up.new.stacks c.give_up.result a.problem a.at
+    (key_fault a.settings a.bytes.now s k a.problem.index a.at) c.give_up.ensures.place c.give_up.ensures.error
+    (key-kept a.settings a.bytes.now (reverse s.nest.items) s.items.items s.members.items k a.problem.index a.at bad)

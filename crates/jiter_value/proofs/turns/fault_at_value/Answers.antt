@@ -5,11 +5,12 @@ use Rattle.jiter_scan.specs.Kind.{fault_kind}
 use Rattle.jiter_steps.specs.Frames.{resume}
 use Rattle.jiter_steps.specs.Read.{fault}
 use Rattle.jiter_value.specs.Settings.{forgives, rules}
-use Rattle.jiter_value.specs.Size.{frames_size, key_size_in, behind_size}
-use Rattle.jiter_value.specs.Stacks.{frames, object_in, HaveBases, HaveKeyBase}
+use Rattle.jiter_value.specs.Size.{frames_size, key_size_in}
+use Rattle.jiter_value.specs.Stacks.{frames, object_in, resume_with, HaveBases, HaveKeyBase}
+use Rattle.jiter_value.specs.Turns.{outcome}
 use Rattle.jiter_value.specs.declared.stacks.Awaits.TheVariants as awaits
 use Rattle.jiter_value.proofs.Kept.{fault-kept, fault-value, last-split, value-base, key-of-value}
-use Rattle.jiter_value.proofs.Reached.{reaches-along}
+use Rattle.jiter_value.proofs.Reached.{reaches-along, gave-up}
 use Rattle.jiter_value.proofs.Sizes.{key-size}
 use Rattle.jiter_value.proofs.turns.fault_at_value.Goals as goal
 
@@ -19,16 +20,19 @@ returns-then-not-forgives-clause-reaches c =
     let s = a.stacks.now in
     let k = fault_kind a.problem.kind in
     let bad : forgives a.settings.mode k ≡ false = sym c.forgives.ensures ∙ c.if-not-forgives.true in
-    fault-kept a.settings a.parser.now.bytes.now a.awaits
-    (reverse s.nest.items) s.items.items s.members.items k a.problem.index a.parser.now.index bad
+    gave-up a.settings a.bytes.now c.give_up.new.stacks c.give_up.result a.problem a.at
+    (resume_with a.settings a.bytes.now s a.awaits (fault k a.problem.index a.at)) c.give_up.ensures.place
+    c.give_up.ensures.error
+    (fault-kept a.settings a.bytes.now a.awaits
+    (reverse s.nest.items) s.items.items s.members.items k a.problem.index a.at bad)
 
-pub returns-in_ok-outer-in-Value-clause-reaches : goal.returns-in_ok-outer-in-Value-clause-reaches
-returns-in_ok-outer-in-Value-clause-reaches c =
+pub returns-in-Value-clause-reaches : goal.returns-in-Value-clause-reaches
+returns-in-Value-clause-reaches c =
     let a = c.args in
     let s = a.stacks.now in
     let p = a.settings in
-    let t = a.parser.now.bytes.now in
-    let i = a.parser.now.index in
+    let t = a.bytes.now in
+    let i = a.at in
     let k = fault_kind a.problem.kind in
     let os = reverse s.nest.items in
     let es = s.items.items in
@@ -45,13 +49,13 @@ returns-in_ok-outer-in-Value-clause-reaches c =
     let x = fault k a.problem.index i in
     let closes = ap (λ ys. resume (rules p) t (frames awaits.Value os es ys) x) last.1
     ∙ fault-value p t os es before last.0.0 last.0.1 k a.problem.index i below ok
-    ∙ ap (λ ys. object_in p t os es ys i) (sym popped)
-    ∙ c.in_ok-outer-in-Value.ensures.value p t i in
+    ∙ ap (λ ys. object_in p t os es ys i) (sym popped) in
+    let n = c.close_and_go_on-in-Value in
     rw c.in-Value.is
-    (reaches-along p t c.after-in-Value.new.stacks c.after-in-Value.new.parser.index c.after-in-Value.result _ _ closes c.after-in-Value.ensures.reaches)
+    (reaches-along p t n.new.stacks n.result.0 (outcome n.new.stacks n.result.1) _ _ closes n.ensures.reaches)
 
-pub returns-in_ok-outer-in-Value-clause-held : goal.returns-in_ok-outer-in-Value-clause-held
-returns-in_ok-outer-in-Value-clause-held c =
+pub returns-in-Value-clause-held : goal.returns-in-Value-clause-held
+returns-in-Value-clause-held c =
     let a = c.args in
     let s = a.stacks.now in
     let os = reverse s.nest.items in
@@ -67,6 +71,7 @@ returns-in_ok-outer-in-Value-clause-held c =
     (key-of-value os (length es) (length ms) b) in
     let was : frames_size (frames awaits.Value os es ms) ≡ key_size_in os es before + 1 = ap
     (λ ys. frames_size (frames awaits.Value os es ys)) last.1 ∙ key-size os es before last.0.0 last.0.1 below in
-    let outer : behind_size c.close_object.new.stacks c.in_ok-outer-in-Value.outer ≡ key_size_in os es before = c.in_ok-outer-in-Value.ensures.held ∙ ap (λ ys. key_size_in os es ys) popped in
+    let outer : key_size_in os es c.pop.new.self.items ≡ key_size_in os es before = ap (λ ys. key_size_in os es ys) popped in
+    let n = c.close_and_go_on-in-Value in
     rw c.in-Value.is
-    (IfOk-weaker c.after-in-Value.result _ _ (λ x e. omega (arith, e, outer, was)) c.after-in-Value.ensures.held)
+    (IfOk-weaker (outcome n.new.stacks n.result.1) _ _ (λ x e. omega (arith, e, outer, was)) n.ensures.held)

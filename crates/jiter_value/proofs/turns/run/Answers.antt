@@ -7,9 +7,11 @@ turning-init c =
     let a = c.args in
     let s = a.stacks.now in
     let none : length s.nest.items ≡ 0 = ap length c.requires.nest in (
-      record { same = refl; forward = omega arith },
+      omega arith,
+      a.parser.now.within,
       root-begins a.settings a.parser.now.bytes.now s.nest.items s.items.items s.members.items a.parser.now.index c.requires.nest,
       (root-stands s.nest.items s.items.items s.members.items c.requires.nest c.requires.items c.requires.members, omega (arith, none), c.requires.within),
       λ e. cc,
       inl (refl, refl),
+      refl,
     )

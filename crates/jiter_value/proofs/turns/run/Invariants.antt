@@ -1,6 +1,5 @@
-use Rattle.std.proofs.Common.{◌≡◌, ◌≢◌, ◌⊎◌}
+use Rattle.std.proofs.Common.{◌≡◌, ◌≢◌, ◌≤◌, ◌⊎◌, length}
 use Rattle.jiter_steps.specs.Read.{value_at}
-use Rattle.jiter_steps.specs.Parse.{Moves}
 use Rattle.jiter_value.specs.declared.stacks.Awaits.TheVariants as awaits
 use Rattle.jiter_value.specs.Settings.{rules}
 use Rattle.jiter_value.specs.Stacks.{meaning}
@@ -10,12 +9,13 @@ use Rattle.jiter_value.proofs.turns.run.Given as goal
 
 abbrev pub invariant-turning : goal.invariant-turning
 invariant-turning l =
-    Moves l.fn.parser l.parser
+    (l.fn.parser.index ≤ l.at) × (l.at ≤ length l.fn.parser.bytes.now)
     ×
-    (value_at (rules l.settings) l.fn.parser.bytes.now 200 l.fn.parser.index ≡ meaning l.settings l.fn.parser.bytes.now l.stacks l.awaits l.parser.index)
-    × IsWithin l.fn.parser.bytes.now l.stacks l.awaits l.parser.index × (l.awaits ≢ awaits.Done)
+    (value_at (rules l.settings) l.fn.parser.bytes.now 200 l.fn.parser.index ≡ meaning l.settings l.fn.parser.bytes.now l.stacks l.awaits l.at)
+    × IsWithin l.fn.parser.bytes.now l.stacks l.awaits l.at × (l.awaits ≢ awaits.Done)
     ×
-    (((l.awaits ≡ awaits.Root) × (l.parser.index ≡ l.fn.parser.index)) ⊎ MayGrowAt l.fn.parser.bytes.now l.fn.parser.index)
+    (((l.awaits ≡ awaits.Root) × (l.at ≡ l.fn.parser.index)) ⊎ MayGrowAt l.fn.parser.bytes.now l.fn.parser.index)
+    × (l.parser ≡ l.fn.parser)
 
 abbrev pub decreases-turning : goal.decreases-turning
-decreases-turning l = left l.fn.parser.bytes.now l.stacks l.parser.index
+decreases-turning l = left l.fn.parser.bytes.now l.stacks l.at

@@ -1,14 +1,20 @@
+use Rattle.std.proofs.Common.{sym, subst}
 use Rattle.jiter_value.specs.Settings.{answer_by}
+use Rattle.jiter_value.specs.Stacks.{meaning}
+use Rattle.jiter_value.specs.Turns.{Fails}
 use Rattle.jiter_value.proofs.Answering.{answer_by-refused, error-answers, fails-gives}
 use Rattle.jiter_value.proofs.machine.Machine.go.Goals as goal
 
-pub returns : goal.returns
-returns c =
+pub returns-in-Refused : goal.returns-in-Refused
+returns-in-Refused c =
     let p = c.args.settings in
     let t = c.args.old_parser.bytes.now in
-    let e = c.in-Err.error in
-    let j = c.turn.new.parser.index in (
-      error-answers e j c.error_at-in-Err.result (answer_by p t) c.error_at-in-Err.ensures
-          (answer_by-refused p t c.requires.3 e j (fails-gives e j _ _ c.requires.0 c.in-Err.ensures.reaches)),
+    let e = c.take_error-error.result in
+    let j = c.turn-at.result.0 in
+    let x = meaning p t c.args.old_stacks c.args.awaits c.args.old_parser.index in
+    let fails = rw c.in-Refused.is at c.turn-at.ensures.reaches in (
+      error-answers e j c.error_at-in-Refused.result (answer_by p t) c.error_at-in-Refused.ensures
+          (answer_by-refused p t c.requires.3 e j
+          (fails-gives e j _ x c.requires.0 (subst (λ y. Fails y j x) (sym c.take_error-error.ensures) fails))),
       tt,
     )

@@ -1,0 +1,88 @@
+-- What the client builds is the value that is read, each of its texts owned.
+use Rattle.std.proofs.Common.{◌≡◌, ◌∙◌, refl, sym, ap, ℕ, Bool, List, [], ◌∷◌, map, Some}
+use Rattle.std.specs.Prelude.{slice_get}
+use Rattle.jiter_scan.specs.Scanned.{Scanned, taken, failed}
+use Rattle.jiter_scan.specs.NumberReading.{number_at}
+use Rattle.jiter_steps.specs.Literal.{literal_at, literal_tree, start_of}
+use Rattle.jiter_steps.specs.Node.{nesting_limit}
+use Rattle.jiter_steps.specs.StringReading.{whole, string_at}
+use Rattle.jiter_steps.specs.Tree.{Text, Tree, item, member, items_of, members_of}
+use Rattle.jiter_steps.specs.Tree as tree
+use Rattle.jiter_steps.specs.Read.{Reading, done, fault, value_at}
+use Rattle.jiter_steps.specs.Answer.{seen_as, whole_trees}
+use Rattle.jiter_steps.specs.declared.parse.Literal.{Literal}
+use Rattle.jiter_steps.specs.declared.parse.Literal.TheVariants as literal
+use Rattle.jiter_steps.proofs.Fused.{Leads, mapped, scanned_as, pairs, value_at-mapped}
+use Rattle.jiter_value.specs.Owned.{owned_text, owned_tree, owned_items, owned_members}
+use Rattle.jiter.specs.Client.{owned_trees, built}
+use Rattle.jiter.specs.Jiter.{MovesOn, StandsAt, reply_seen}
+use Rattle.jiter.specs.Reader.{ReaderState, Reply, value_place, if_byte, next, value_reply, value_read}
+use Rattle.jiter.proofs.Building.{known-first}
+
+items_of-owned : (vs : List Tree) → owned_items (items_of vs) ≡ items_of (map owned_tree vs)
+items_of-owned [] = refl
+items_of-owned (v ∷ vs) = ap (item (owned_tree v)) (items_of-owned vs)
+
+members_of-owned : (ms : List (Text × Tree))
+    → owned_members (members_of ms) ≡ members_of (pairs owned_text owned_tree ms)
+members_of-owned [] = refl
+members_of-owned (m ∷ ms) = ap (member (owned_text m.0) (owned_tree m.1)) (members_of-owned ms)
+
+owned-literal : (l : Literal) → owned_tree (literal_tree l) ≡ literal_tree l
+owned-literal literal.Null = refl
+owned-literal literal.True = refl
+owned-literal literal.False = refl
+
+seen-owned : {A B C : Type 0} (f : B → C) (g : A → ℕ → B) (h : A → ℕ → C) (x : Scanned A)
+    → ((a : A) (e : ℕ) → f (g a e) ≡ h a e) → scanned_as f (seen_as g x) ≡ seen_as h x
+seen-owned f g h (taken a e) same = ap (λ c. taken c e) (same a e)
+seen-owned f g h (failed k j) same = refl
+
+key-owned : (x : Scanned Text) → scanned_as owned_text x ≡ seen_as (λ s e. owned_text s) x
+key-owned (taken s e) = refl
+key-owned (failed k j) = refl
+
+module _ (names : Bool) (t : List ℕ) where
+  owned-leads : Leads (whole_trees names) (owned_trees names) owned_text owned_tree t
+  owned-leads = record {
+    forgives = λ k. refl;
+    literal = λ l i lt begins. seen-owned owned_tree _ _ (literal_at t l i) (λ u e. owned-literal l);
+    number = λ i lt begins. seen-owned owned_tree _ _ (number_at names t i) (λ n e. refl);
+    text = λ i quote. seen-owned owned_tree _ _ (string_at whole t i) (λ s e. refl);
+    key = λ i quote. key-owned (string_at whole t i);
+    array = λ b e items. ap tree.array (items_of-owned items);
+    object = λ b e members. ap tree.object (members_of-owned members);
+  }
+
+  value_at-owned : (room i : ℕ)
+      → mapped owned_tree (value_at (whole_trees names) t room i) ≡ value_at (owned_trees names) t room i
+  value_at-owned room i =
+      value_at-mapped (whole_trees names) (owned_trees names) owned_text owned_tree t owned-leads room i
+
+  reply-owned : (x : Reading Tree) → reply_seen owned_tree (value_reply x) ≡ value_reply (mapped owned_tree x)
+  reply-owned (done v e) = refl
+  reply-owned (fault k i stop) = refl
+
+  -- the reply with its texts owned
+  pub value-owned : (room i : ℕ)
+      → reply_seen owned_tree (value_reply (value_at (whole_trees names) t room i))
+      ≡ value_reply (value_at (owned_trees names) t room i)
+  value-owned room i = reply-owned (value_at (whole_trees names) t room i) ∙ ap value_reply (value_at-owned room i)
+
+-- where a value begins at the place that a peek moves to
+pub whole-begun : (s0 s : ReaderState) (c : ℕ) → MovesOn s0 s → s.position ≡ value_place s0 → StandsAt s c
+    → reply_seen owned_tree (next s0 (value_read s0)) ≡ built s nesting_limit (start_of c)
+whole-begun s0 s c moves place here =
+    let p = value_place s0 in
+    let owned : ReaderState → ℕ → Reply Tree = λ x i. value_reply
+    (value_at (owned_trees x.names) x.text nesting_limit i) in
+    let text : s.text ≡ s0.text = ap (λ (x : ReaderState). x.text) moves.same in
+    let byte : slice_get s0.text p ≡ Some c = ap (slice_get s0.text) (sym place)
+    ∙ ap (λ x. slice_get x s.position) (sym text) ∙ here in
+    let begun : next s0 (value_read s0) ≡ value_reply (value_at (whole_trees s0.names) s0.text nesting_limit p) = ap
+    (λ o. if_byte p o (λ c. value_read s0 p (start_of c))) byte in
+    let first : built s nesting_limit (start_of c) ≡ owned s s.position = ap (built s nesting_limit)
+    (sym (known-first s c here)) in
+    let same : owned s s.position ≡ owned s0 s.position = ap (λ x. owned x s.position) moves.same in
+    ap (reply_seen owned_tree) begun ∙ value-owned s0.names s0.text nesting_limit p
+    ∙ sym (first ∙ same ∙ ap (owned s0) place)

@@ -1,0 +1,36 @@
+use Rattle.std.proofs.Common.{◌+◌, ◌-◌, ◌*◌, length, map, option_map}
+use Rattle.jiter_steps.specs.StringDecoder.{text_view}
+use Rattle.jiter_value.specs.Stacks.{member_view}
+use Rattle.jiter_value.specs.Value.{view}
+use Rattle.jiter.proofs.Containers.{InArray, InObject}
+use Rattle.jiter.specs.Jiter.{byte_of}
+use Rattle.jiter.proofs.client.+build.Given as goal
+
+abbrev pub decreases-build_value : goal.decreases-build_value
+decreases-build_value l = 4 * l.room + 3
+
+abbrev pub decreases-build_array : goal.decreases-build_array
+decreases-build_array l = 4 * l.room + 2
+
+abbrev pub decreases-build_object : goal.decreases-build_object
+decreases-build_object l = 4 * l.room + 2
+
+abbrev pub decreases-build_member : goal.decreases-build_member
+decreases-build_member l = 4 * l.room + 1
+
+abbrev pub decreases-build_inside : goal.decreases-build_inside
+decreases-build_inside l = 4 * l.room
+
+abbrev pub invariant-build_array-loop-next : goal.invariant-build_array-loop-next
+invariant-build_array-loop-next l =
+    InArray l.fn.jiter l.jiter l.room (option_map byte_of l.next) (map view l.items.items)
+
+abbrev pub decreases-build_array-loop-next : goal.decreases-build_array-loop-next
+decreases-build_array-loop-next l = length l.fn.jiter.text - l.jiter.position
+
+abbrev pub invariant-build_object-loop-next : goal.invariant-build_object-loop-next
+invariant-build_object-loop-next l =
+    InObject l.fn.jiter l.jiter l.room (option_map text_view l.next) (map member_view l.members.items)
+
+abbrev pub decreases-build_object-loop-next : goal.decreases-build_object-loop-next
+decreases-build_object-loop-next l = length l.fn.jiter.text - l.jiter.position

@@ -1,0 +1,9 @@
+use Rattle.jiter_scan.proofs.NumberLaws.{int_at-within}
+use Rattle.jiter.proofs.Refusals.{refusal-failed}
+use Rattle.jiter.proofs.jiter.Jiter.integer.Goals as goal
+
+pub returns-in-Err-clause-refusal : goal.returns-in-Err-clause-refusal
+returns-in-Err-clause-refusal c =
+    let p = c.self.inside.parser in
+    rw (← c.self.view_is) (refusal-failed p.bytes.now _ _ _ c.refusal.ensures.value _
+    (int_at-within p.bytes.now p.index p.within) c.in-Err.ensures.value)

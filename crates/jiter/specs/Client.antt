@@ -1,0 +1,43 @@
+-- What the client builds of a text: the value that is read, each of its texts owned.
+use Rattle.std.specs.Prelude.{ℕ, Bool}
+use Rattle.jiter_scan.specs.NumberReading.{number_at}
+use Rattle.jiter_steps.specs.Literal.{literal_at, literal_tree}
+use Rattle.jiter_steps.specs.StringReading.{whole, string_at}
+use Rattle.jiter_steps.specs.Tree.{Text, Tree, items_of, members_of}
+use Rattle.jiter_steps.specs.Tree as tree
+use Rattle.jiter_steps.specs.Node.{number_tree}
+use Rattle.jiter_steps.specs.Read.{Rules, inside_at, value_with}
+use Rattle.jiter_steps.specs.Answer.{seen_as, nothing_forgiven}
+use Rattle.jiter_steps.specs.declared.parse.Literal.TheVariants as literal
+use Rattle.jiter_steps.specs.declared.parse.Start.{Start}
+use Rattle.jiter_steps.specs.declared.parse.Start.TheVariants as start
+use Rattle.jiter_value.specs.Owned.{owned_text, owned_tree}
+use Rattle.jiter.specs.Reader.{ReaderState, Reply, value_reply}
+
+-- values as trees that own their texts
+abbrev pub owned_trees : Bool → Rules Text Tree
+owned_trees names = record {
+  forgives = nothing_forgiven;
+  literal = λ t l i. seen_as (λ u e. literal_tree l) (literal_at t l i);
+  number = λ t i. seen_as (λ n e. owned_tree (number_tree n)) (number_at names t i);
+  text = λ t i. seen_as (λ s e. tree.string (owned_text s)) (string_at whole t i);
+  key = λ t i. seen_as (λ s e. owned_text s) (string_at whole t i);
+  array = λ b e items. tree.array (items_of items);
+  object = λ b e members. tree.object (members_of members);
+}
+
+-- The value that begins so where the reader stands, with room for so many containers inside it that are not empty.
+abbrev pub built : ReaderState → ℕ → Start → Reply Tree
+built s room b =
+    value_reply (value_with (owned_trees s.names) (inside_at (owned_trees s.names) s.text room) s.text s.position b)
+
+-- The value at i inside a container with this room.
+abbrev pub built_inside : ReaderState → ℕ → ℕ → Reply Tree
+built_inside s room i = value_reply (inside_at (owned_trees s.names) s.text room i)
+
+-- `true` or `false` begins so, or nothing does
+abbrev pub IsTruthOrNothing : Start → Type 0
+IsTruthOrNothing (start.Literal literal.True) = Unit {0}
+IsTruthOrNothing (start.Literal literal.False) = Unit {0}
+IsTruthOrNothing start.Nothing = Unit {0}
+IsTruthOrNothing b = ⊥

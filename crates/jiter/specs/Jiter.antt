@@ -1,0 +1,97 @@
+-- What the calls of the pull reader return, and where they leave it.
+use Rattle.std.specs.Prelude.{◌≡◌, ◌≢◌, ◌<◌, ◌≤◌, ℕ, false, List, length, Result, Ok, Err, IfErr}
+use Rattle.std.specs.Prelude.{slice_get, slice_index, Option, Some, option_map}
+use Rattle.jiter_scan.specs.Kind.{fault_kind, out_of_memory}
+use Rattle.jiter_steps.specs.Literal.{start_of}
+use Rattle.jiter_steps.specs.Tree.{Text}
+use Rattle.jiter_steps.specs.declared.parse.Start.{Start}
+use Rattle.jiter_steps.specs.declared.read_error.ReadError.{ReadError}
+use Rattle.jiter_steps.specs.declared.read_error.ReadError.TheVariants as error
+use Rattle.jiter.specs.Cause.{json_error}
+use Rattle.jiter.specs.Errors.{cause_of}
+use Rattle.jiter.specs.Reader.{ReaderState, Reply, gave, refused, Refusal, with_position}
+use Rattle.jiter.specs.declared.errors.JiterError.{JiterError}
+use Rattle.jiter.specs.declared.peek.Peek.{Peek}
+
+-- a reader that stands before the first byte, with both settings off
+abbrev pub at_start : List ℕ → ReaderState
+at_start t = record { text = t; position = 0; names = false; partial_strings = false }
+
+-- How a call moves the reader: over the same bytes with the same settings, never back and never past the length.
+pub record MovesOn (old new : ReaderState) : Type 0 where
+  pub same : new ≡ with_position old new.position
+  pub forward : old.position ≤ new.position
+  pub within : new.position ≤ length old.text
+
+-- why an error was returned, and at which index
+abbrev pub refusal_view : JiterError → Refusal
+refusal_view e = record { cause = cause_of e.error_type; index = e.index }
+
+-- What was returned, seen by view, and the place where the reader then stands, are this reply.
+abbrev pub Replies : {X A : Type 0} → (X → A) → Result X JiterError → ReaderState → Reply A → Type 0
+Replies view (Ok x) new r = r ≡ gave (view x) new.position
+Replies view (Err e) new r = r ≡ refused (cause_of e.error_type) e.index new.position
+
+-- An error that is no want of memory, with its index within the text.
+pub record IsRefusalOf (t : List ℕ) (e : JiterError) : Type 0 where
+  pub bytes : cause_of e.error_type ≢ json_error out_of_memory
+  pub within : e.index ≤ length t
+
+-- A call that takes no memory refuses for the bytes alone.
+abbrev pub RefusesBytes : {X : Type 0} → List ℕ → Result X JiterError → Type 0
+RefusesBytes t result = IfErr result (IsRefusalOf t)
+
+-- want of memory
+abbrev pub IsMemory : JiterError → Type 0
+IsMemory e = cause_of e.error_type ≡ json_error out_of_memory
+
+-- unless memory was refused, P
+abbrev pub UnlessMemory : {X : Type 0} → Result X JiterError → Type 0 → Type 0
+UnlessMemory (Ok x) P = P
+UnlessMemory (Err e) P = (IsMemory e → ⊥) → P
+
+-- where memory was refused, P of the error
+abbrev pub WhereMemory : {X : Type 0} → Result X JiterError → (JiterError → Type 0) → Type 0
+WhereMemory result P = IfErr result (λ e. IsMemory e → P e)
+
+-- a refusal's index lies within the text
+abbrev pub IndexWithin : {X : Type 0} → List ℕ → Result X JiterError → Type 0
+IndexWithin t result = IfErr result (λ e. e.index ≤ length t)
+
+-- The refusal that the error of a reading becomes, where the reader stands at i: its fault, or want of memory there.
+abbrev pub IsErrorAt : ReadError → ℕ → JiterError → Type 0
+IsErrorAt (error.Fault f) i e = refusal_view e ≡ record { cause = json_error (fault_kind f.kind); index = f.index }
+IsErrorAt (error.Memory m) i e = refusal_view e ≡ record { cause = json_error out_of_memory; index = i }
+
+-- How a call that lends a text leaves the reader: where the reply says; where memory was refused, at the error's index.
+pub record LeavesAt {X A : Type 0} (view : X → A) (result : Result X JiterError) (old new : ReaderState) (r : Reply A)
+    : Type 0 where
+  pub moves : MovesOn old new
+  pub value : UnlessMemory result (Replies view result new r)
+  pub place : WhereMemory result (λ e. new.position ≡ e.index)
+
+-- a reply, what it gave seen so
+abbrev pub reply_seen : {A B : Type 0} → (A → B) → Reply A → Reply B
+reply_seen f (gave a e) = gave (f a) e
+reply_seen f (refused c i stop) = refused c i stop
+
+-- the bytes of a text
+abbrev pub text_bytes : Text → List ℕ
+text_bytes x = x.bytes
+
+-- the bytes of a key, if there is one
+abbrev pub key_bytes : Option Text → Option (List ℕ)
+key_bytes = option_map text_bytes
+
+-- the byte c stands where the reader stands
+abbrev pub StandsAt : ReaderState → ℕ → Type 0
+StandsAt s c = slice_get s.text s.position ≡ Some c
+
+-- the byte of a peek
+abbrev pub byte_of : Peek → ℕ
+byte_of p = p.0
+
+-- where the reader stands a value begins so
+pub record BeginsAs (s : ReaderState) (b : Start) : Type 0 where
+  pub within : s.position < length s.text
+  pub is : b ≡ start_of (slice_index s.text s.position)

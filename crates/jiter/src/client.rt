@@ -1,0 +1,302 @@
+//! A client of the pull reader: it builds a value by peeks, steps and scalar reads alone.
+ghost use Rattle.std.specs.Prelude.{◌≡◌, ◌≤◌, IfOk, false, option_map};
+ghost use Rattle.jiter_scan.specs.Ascii as ascii;
+ghost use Rattle.jiter_scan.specs.Kind.{out_of_memory};
+ghost use Rattle.jiter_scan.specs.NumberDecoder.{number_view};
+ghost use Rattle.jiter_steps.specs.Literal.{start_of};
+ghost use Rattle.jiter_steps.specs.Node.{number_tree};
+ghost use Rattle.jiter_steps.specs.StringDecoder.{text_view};
+ghost use Rattle.jiter_steps.specs.StringReading.{whole};
+ghost use Rattle.jiter_value.specs.Owned.{owned_text, owned_tree};
+ghost use Rattle.jiter_value.specs.Value.{view};
+ghost use Rattle.jiter.specs.Cause.{json_error};
+ghost use Rattle.jiter.specs.Client.{built, built_inside, IsTruthOrNothing};
+ghost use Rattle.jiter.specs.Jiter.{MovesOn, Replies, UnlessMemory, WhereMemory, LeavesAt, IndexWithin};
+ghost use Rattle.jiter.specs.Jiter.{reply_seen, StandsAt, byte_of, refusal_view};
+ghost use Rattle.jiter.specs.Reader.{value_place, next, known, value_read, object_read, key_step};
+
+use crate::errors::{JiterError, JiterErrorType, JiterResult};
+use crate::jiter::Jiter;
+use crate::peek::Peek;
+use jiter_scan::memory::{copy_text, push};
+use jiter_scan::{JsonErrorType, NumberAny, NumberInt, Refused};
+use jiter_steps::parse::{Literal, Start, start_of};
+use jiter_value::JsonValue;
+use std::alloc::Global;
+use std::borrow::CowStr;
+
+// How many containers that are not empty may stand one inside another.
+const NESTING_LIMIT: usize = 200;
+
+// What a refused request for memory becomes, where the reader stands.
+#[cold]
+fn out_of_memory(refused: Refused, jiter: &Jiter<'_>) -> JiterError
+    ensures { refusal_view result
+        ≡ record { cause = json_error out_of_memory; index = jiter.now.position } }
+{
+    let _ = refused;
+    JiterError {
+        error_type: JiterErrorType::JsonError(JsonErrorType::OutOfMemory),
+        index: jiter.current_index(),
+    }
+}
+
+// The value of a number, its text copied.
+fn number_value(alloc: Global, number: NumberAny<'_>) -> Result<JsonValue<'static>, Refused>
+    ensures { IfOk result (λ v. view v ≡ owned_tree (number_tree (number_view number.entry))) }
+{
+    match number {
+        NumberAny::Int(NumberInt::Int(integer)) => Ok(JsonValue::Int(integer)),
+        NumberAny::Int(NumberInt::BigInt(text)) => {
+            let copy = copy_text(alloc, text)?;
+            Ok(JsonValue::BigInt(CowStr::Owned(copy)))
+        }
+        NumberAny::Float(text) => {
+            let copy = copy_text(alloc, text)?;
+            Ok(JsonValue::Float(CowStr::Owned(copy)))
+        }
+    }
+}
+
+// The number where the reader stands.
+fn build_number(alloc: Global, jiter: &mut Jiter<'_>, peek: Peek) -> JiterResult<JsonValue<'static>>
+    requires here { StandsAt jiter.old (byte_of peek) }
+    requires begins { start_of (byte_of peek) ≡ Start.Number }
+    ensures value { LeavesAt view result jiter.old jiter.new (built jiter.old 0 Start.Number) }
+    ensures index { IndexWithin jiter.old.text result }
+{
+    let number = match jiter.known_number(peek) {
+        Ok(number) => number,
+        Err(error) => return Err(error),
+    };
+    match number_value(alloc, number) {
+        Ok(value) => Ok(value),
+        Err(refused) => Err(out_of_memory(refused, jiter)),
+    }
+}
+
+// The string where the reader stands.
+fn build_string(alloc: Global, jiter: &mut Jiter<'_>) -> JiterResult<JsonValue<'static>>
+    requires whole { jiter.old.partial_strings ≡ false }
+    requires here { StandsAt jiter.old ascii.quote }
+    ensures value { LeavesAt view result jiter.old jiter.new (built jiter.old 0 Start.String) }
+    ensures index { IndexWithin jiter.old.text result }
+{
+    let copy = match jiter.known_str(alloc) {
+        Ok(text) => copy_text(alloc, text),
+        Err(error) => return Err(error),
+    };
+    match copy {
+        Ok(text) => Ok(JsonValue::Str(CowStr::Owned(text))),
+        Err(refused) => Err(out_of_memory(refused, jiter)),
+    }
+}
+
+// `null`, where its first byte stands.
+fn build_null(jiter: &mut Jiter<'_>) -> JiterResult<JsonValue<'static>>
+    requires { StandsAt jiter.old ascii.small_n }
+    ensures value { LeavesAt view result jiter.old jiter.new
+        (built jiter.old 0 (Start.Literal Literal.Null)) }
+    ensures index { IndexWithin jiter.old.text result }
+{
+    match jiter.known_null() {
+        Ok(()) => Ok(JsonValue::Null),
+        Err(error) => Err(error),
+    }
+}
+
+// `true` or `false`, where the reader stands. The call refuses what begins no value.
+fn build_bool(jiter: &mut Jiter<'_>, peek: Peek) -> JiterResult<JsonValue<'static>>
+    requires here { StandsAt jiter.old (byte_of peek) }
+    requires begins { IsTruthOrNothing (start_of (byte_of peek)) }
+    ensures value { LeavesAt view result jiter.old jiter.new
+        (built jiter.old 0 (start_of (byte_of peek))) }
+    ensures index { IndexWithin jiter.old.text result }
+{
+    match jiter.known_bool(peek) {
+        Ok(truth) => Ok(JsonValue::Bool(truth)),
+        Err(error) => Err(error),
+    }
+}
+
+// The array whose bracket stands where the reader stands.
+#[cycle(build)]
+fn build_array(alloc: Global, jiter: &mut Jiter<'_>, room: usize) -> JiterResult<JsonValue<'static>>
+    requires whole { jiter.old.partial_strings ≡ false }
+    requires here { StandsAt jiter.old ascii.left_bracket }
+    ensures value { LeavesAt view result jiter.old jiter.new (built jiter.old room Start.Array) }
+    ensures index { IndexWithin jiter.old.text result }
+{
+    let mut items = Vec::new(alloc);
+    let mut next = match jiter.known_array() {
+        Ok(next) => next,
+        Err(error) => return Err(error),
+    };
+    while let Some(peek) = next {
+        let item = match build_inside(alloc, jiter, peek, room) {
+            Ok(item) => item,
+            Err(error) => return Err(error),
+        };
+        if let Err(refused) = push(&mut items, item) {
+            return Err(out_of_memory(refused, jiter));
+        }
+        next = match jiter.array_step() {
+            Ok(next) => next,
+            Err(error) => return Err(error),
+        };
+    }
+    Ok(JsonValue::Array(items))
+}
+
+// The first key of the object whose bracket stands where the reader stands, copied.
+fn first_key(alloc: Global, jiter: &mut Jiter<'_>) -> JiterResult<Option<CowStr<'static>>>
+    requires { StandsAt jiter.old ascii.left_brace }
+    ensures value { LeavesAt (option_map text_view) result jiter.old jiter.new
+        (reply_seen (option_map owned_text) (known jiter.old (object_read whole jiter.old))) }
+    ensures index { IndexWithin jiter.old.text result }
+{
+    let copy = match jiter.known_object(alloc) {
+        Ok(Some(key)) => copy_text(alloc, key),
+        Ok(None) => return Ok(None),
+        Err(error) => return Err(error),
+    };
+    match copy {
+        Ok(key) => Ok(Some(CowStr::Owned(key))),
+        Err(refused) => Err(out_of_memory(refused, jiter)),
+    }
+}
+
+// Behind a member: the next key, copied.
+fn next_key(alloc: Global, jiter: &mut Jiter<'_>) -> JiterResult<Option<CowStr<'static>>>
+    ensures value { LeavesAt (option_map text_view) result jiter.old jiter.new
+        (reply_seen (option_map owned_text) (key_step whole jiter.old)) }
+    ensures index { IndexWithin jiter.old.text result }
+{
+    let copy = match jiter.next_key(alloc) {
+        Ok(Some(key)) => copy_text(alloc, key),
+        Ok(None) => return Ok(None),
+        Err(error) => return Err(error),
+    };
+    match copy {
+        Ok(key) => Ok(Some(CowStr::Owned(key))),
+        Err(refused) => Err(out_of_memory(refused, jiter)),
+    }
+}
+
+// The object whose bracket stands where the reader stands.
+#[cycle(build)]
+fn build_object(
+    alloc: Global,
+    jiter: &mut Jiter<'_>,
+    room: usize,
+) -> JiterResult<JsonValue<'static>>
+    requires whole { jiter.old.partial_strings ≡ false }
+    requires here { StandsAt jiter.old ascii.left_brace }
+    ensures value { LeavesAt view result jiter.old jiter.new (built jiter.old room Start.Object) }
+    ensures index { IndexWithin jiter.old.text result }
+{
+    let mut members = Vec::new(alloc);
+    let mut next = match first_key(alloc, jiter) {
+        Ok(next) => next,
+        Err(error) => return Err(error),
+    };
+    while let Some(key) = next {
+        let value = match build_member(alloc, jiter, room) {
+            Ok(value) => value,
+            Err(error) => return Err(error),
+        };
+        if let Err(refused) = push(&mut members, (key, value)) {
+            return Err(out_of_memory(refused, jiter));
+        }
+        next = match next_key(alloc, jiter) {
+            Ok(next) => next,
+            Err(error) => return Err(error),
+        };
+    }
+    Ok(JsonValue::Object(members))
+}
+
+// Behind a key and its colon: the value.
+#[cycle(build)]
+fn build_member(
+    alloc: Global,
+    jiter: &mut Jiter<'_>,
+    room: usize,
+) -> JiterResult<JsonValue<'static>>
+    requires { jiter.old.partial_strings ≡ false }
+    ensures value { LeavesAt view result jiter.old jiter.new
+        (next jiter.old (λ i _. built_inside jiter.old room i)) }
+    ensures index { IndexWithin jiter.old.text result }
+{
+    match jiter.peek() {
+        Ok(peek) => build_inside(alloc, jiter, peek, room),
+        Err(error) => Err(error),
+    }
+}
+
+// A value inside a container with this room: without room it is refused at its first byte.
+#[cycle(build)]
+fn build_inside(
+    alloc: Global,
+    jiter: &mut Jiter<'_>,
+    peek: Peek,
+    room: usize,
+) -> JiterResult<JsonValue<'static>>
+    requires whole { jiter.old.partial_strings ≡ false }
+    requires here { StandsAt jiter.old (byte_of peek) }
+    ensures value { LeavesAt view result jiter.old jiter.new
+        (built_inside jiter.old room jiter.old.position) }
+    ensures index { IndexWithin jiter.old.text result }
+{
+    if room == 0 {
+        return Err(JiterError {
+            error_type: JiterErrorType::JsonError(JsonErrorType::RecursionLimitExceeded),
+            index: jiter.current_index(),
+        });
+    }
+    build_value(alloc, jiter, peek, room - 1)
+}
+
+// The value where the reader stands, with room for so many containers inside it that are not empty.
+#[cycle(build)]
+fn build_value(
+    alloc: Global,
+    jiter: &mut Jiter<'_>,
+    peek: Peek,
+    room: usize,
+) -> JiterResult<JsonValue<'static>>
+    requires whole { jiter.old.partial_strings ≡ false }
+    requires here { StandsAt jiter.old (byte_of peek) }
+    ensures value { LeavesAt view result jiter.old jiter.new
+        (built jiter.old room (start_of (byte_of peek))) }
+    ensures index { IndexWithin jiter.old.text result }
+{
+    match start_of(peek.into_inner()) {
+        Start::Array => build_array(alloc, jiter, room),
+        Start::Object => build_object(alloc, jiter, room),
+        Start::String => build_string(alloc, jiter),
+        Start::Number => build_number(alloc, jiter, peek),
+        Start::Literal(Literal::Null) => build_null(jiter),
+        Start::Literal(Literal::True | Literal::False) | Start::Nothing => build_bool(jiter, peek),
+    }
+}
+
+/// Builds the next value by peeks, steps and scalar reads alone, each of its texts owned: what
+/// [`Jiter::next_value`] reads, with the same refusals at the same places, and the reader where that leaves
+/// it. It asks that partial strings were not allowed.
+pub fn value_by_steps(alloc: Global, jiter: &mut Jiter<'_>) -> JiterResult<JsonValue<'static>>
+    requires { jiter.old.partial_strings ≡ false }
+    ensures moves { MovesOn jiter.old jiter.new }
+    // As the reading of a whole value, each text owned, unless memory is refused.
+    ensures value { UnlessMemory result (Replies view result jiter.new
+        (reply_seen owned_tree (next jiter.old (value_read jiter.old)))) }
+    ensures index { IndexWithin jiter.old.text result }
+    // Where memory is refused the reader stands within the value.
+    ensures place { WhereMemory result (λ e. (jiter.new.position ≡ e.index)
+        × (value_place jiter.old ≤ e.index)) }
+{
+    match jiter.peek() {
+        Ok(peek) => build_value(alloc, jiter, peek, NESTING_LIMIT),
+        Err(error) => Err(error),
+    }
+}

@@ -1,0 +1,69 @@
+//! The pull reader's steps through arrays.
+ghost use Rattle.std.specs.Prelude.{◌≡◌, ◌<◌, length, option_map};
+ghost use Rattle.jiter_scan.specs.Ascii as ascii;
+ghost use Rattle.jiter.specs.Reader.{next, known, array_read, item_step};
+ghost use Rattle.jiter.specs.Jiter.{MovesOn, Replies, RefusesBytes, BeginsAs, StandsAt, byte_of};
+
+use crate::errors::{JiterResult, JsonType};
+use crate::jiter::{Jiter, refusal};
+use crate::peek::Peek;
+use jiter_steps::parse::{Start, start_of};
+
+impl<'j> Jiter<'j> {
+    // The first item of an array, at a value that begins so.
+    fn read_array(&mut self, start: Start) -> JiterResult<Option<Peek>>
+        requires { BeginsAs self.old start }
+        ensures moves { MovesOn self.old self.new }
+        ensures value { Replies (option_map byte_of) result self.new
+            (array_read self.old self.old.position start) }
+        ensures refusal { RefusesBytes self.old.text result }
+    {
+        match start {
+            Start::Array => match self.parser.array_first() {
+                Ok(true) => Ok(Some(Peek::new(self.parser.bytes[self.parser.index]))),
+                Ok(false) => Ok(None),
+                Err(fault) => Err(refusal(fault)),
+            },
+            _ => Err(self.refused_as(JsonType::Array, start)),
+        }
+    }
+
+    /// The first byte of an array's first item, which is not consumed; None where the array is empty, and
+    /// then its bracket is consumed (RFC 8259, 5).
+    pub fn next_array(&mut self) -> JiterResult<Option<Peek>>
+        ensures moves { MovesOn self.old self.new }
+        ensures value { Replies (option_map byte_of) result self.new
+            (next self.old (array_read self.old)) }
+        ensures refusal { RefusesBytes self.old.text result }
+    {
+        match self.peek() {
+            Ok(peek) => self.read_array(start_of(peek.into_inner())),
+            Err(error) => Err(error),
+        }
+    }
+
+    /// The same where its bracket stands.
+    pub fn known_array(&mut self) -> JiterResult<Option<Peek>>
+        requires { StandsAt self.old ascii.left_bracket }
+        ensures moves { MovesOn self.old self.new }
+        ensures value { Replies (option_map byte_of) result self.new
+            (known self.old (array_read self.old)) }
+        ensures refusal { RefusesBytes self.old.text result }
+    {
+        self.read_array(Start::Array)
+    }
+
+    /// Behind an item: the first byte of the next one, which is not consumed; None where the array ends, and
+    /// then its bracket is consumed (RFC 8259, 5).
+    pub fn array_step(&mut self) -> JiterResult<Option<Peek>>
+        ensures moves { MovesOn self.old self.new }
+        ensures value { Replies (option_map byte_of) result self.new (item_step self.old) }
+        ensures refusal { RefusesBytes self.old.text result }
+    {
+        match self.parser.array_step() {
+            Ok(true) => Ok(Some(Peek::new(self.parser.bytes[self.parser.index]))),
+            Ok(false) => Ok(None),
+            Err(fault) => Err(refusal(fault)),
+        }
+    }
+}

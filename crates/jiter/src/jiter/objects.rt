@@ -1,0 +1,239 @@
+//! The pull reader's steps through objects.
+ghost use Rattle.std.specs.Borrow.{sem};
+ghost use Rattle.std.specs.Prelude.{◌≡◌, ◌+◌, ◌<◌, ◌≤◌, ℕ, IfOk, Some, length, option_map};
+ghost use Rattle.jiter_scan.specs.Ascii as ascii;
+ghost use Rattle.jiter_steps.specs.RawString.{raw_view};
+ghost use Rattle.jiter_steps.specs.Step.{step, colon, object_first, object_step, more};
+ghost use Rattle.jiter_steps.specs.StringDecoder.{text_view, WantsMemory};
+ghost use Rattle.jiter_steps.specs.StringReading.{string_at, whole, raw};
+ghost use Rattle.jiter_steps.specs.Tree.{Text};
+ghost use Rattle.jiter.specs.Reader.{value_place, next, known, gave, key_reply, colon_reply, object_read, key_step};
+ghost use Rattle.jiter.specs.Jiter.{MovesOn, Replies, RefusesBytes, UnlessMemory, WhereMemory, IndexWithin, reply_seen, key_bytes, BeginsAs, StandsAt};
+ghost use Rattle.jiter.specs.Lending.{LeavesReader};
+
+use crate::errors::{JiterResult, JsonType};
+use crate::jiter::{Jiter, refusal};
+use jiter_steps::parse::{Start, start_of};
+use std::alloc::Global;
+use std::borrow::CowStr;
+
+impl<'j> Jiter<'j> {
+    // Behind a key: its colon.
+    fn colon(&mut self) -> JiterResult<()>
+        ensures moves { MovesOn self.old self.new }
+        ensures value { (key : Text) → Replies (λ _. Some key) result self.new
+            (colon_reply key (step self.old.text colon self.old.position)) }
+        ensures refusal { RefusesBytes self.old.text result }
+    {
+        match self.parser.colon() {
+            Ok(()) => Ok(()),
+            Err(fault) => Err(refusal(fault)),
+        }
+    }
+
+    // The key where the reader stands, with its colon.
+    fn key(&mut self, alloc: Global) -> JiterResult<Option<CowStr<'j>>>
+        requires { self.old.position < length self.old.text }
+        ensures moves { MovesOn self.old self.new }
+        ensures value { UnlessMemory result (Replies (option_map text_view) result self.new
+            (key_reply self.old.text self.old.position
+            (string_at whole self.old.text self.old.position))) }
+        ensures index { IndexWithin self.old.text result }
+        ensures memory { WhereMemory result (λ _. WantsMemory self.old.text self.old.position) }
+        ensures place { WhereMemory result (λ e. (self.new.position ≡ e.index)
+            × (e.index ≡ self.old.position)) }
+    {
+        match self.string(alloc, false) {
+            Ok(text) => match self.colon() {
+                Ok(()) => Ok(Some(text)),
+                Err(error) => Err(error),
+            },
+            Err(error) => Err(error),
+        }
+    }
+
+    // The first key of an object, at a value that begins so.
+    fn first_key(&mut self, alloc: Global, start: Start) -> JiterResult<Option<CowStr<'j>>>
+        requires { BeginsAs self.old start }
+        ensures moves { MovesOn self.old self.new }
+        ensures value { UnlessMemory result (Replies (option_map text_view) result self.new
+            (object_read whole self.old self.old.position start)) }
+        ensures index { IndexWithin self.old.text result }
+        ensures memory { WhereMemory result (λ e. WantsMemory self.old.text e.index
+            × (step self.old.text object_first (self.old.position + 1) ≡ more e.index)) }
+        ensures place { WhereMemory result (λ e. self.new.position ≡ e.index) }
+    {
+        match start {
+            Start::Object => match self.parser.object_first() {
+                Ok(true) => self.key(alloc),
+                Ok(false) => Ok(None),
+                Err(fault) => Err(refusal(fault)),
+            },
+            _ => Err(self.refused_as(JsonType::Object, start)),
+        }
+    }
+
+    // The first key of the object that comes next.
+    fn take_first_key(&mut self, alloc: Global) -> JiterResult<Option<CowStr<'j>>>
+        ensures moves { MovesOn self.old self.new }
+        ensures value { UnlessMemory result (Replies (option_map text_view) result self.new
+            (next self.old (object_read whole self.old))) }
+        ensures index { IndexWithin self.old.text result }
+        ensures memory { WhereMemory result (λ e. WantsMemory self.old.text e.index
+            × (step self.old.text object_first (value_place self.old + 1) ≡ more e.index)) }
+        ensures place { WhereMemory result (λ e. self.new.position ≡ e.index) }
+    {
+        match self.peek() {
+            Ok(peek) => self.first_key(alloc, start_of(peek.into_inner())),
+            Err(error) => Err(error),
+        }
+    }
+
+    // Behind a member: the next key.
+    fn take_key(&mut self, alloc: Global) -> JiterResult<Option<CowStr<'j>>>
+        ensures moves { MovesOn self.old self.new }
+        ensures value { UnlessMemory result (Replies (option_map text_view) result self.new
+            (key_step whole self.old)) }
+        ensures index { IndexWithin self.old.text result }
+        ensures memory { WhereMemory result (λ e. WantsMemory self.old.text e.index
+            × (step self.old.text (object_step self.old.text) self.old.position ≡ more e.index)) }
+        ensures place { WhereMemory result (λ e. self.new.position ≡ e.index) }
+    {
+        match self.parser.object_step() {
+            Ok(true) => self.key(alloc),
+            Ok(false) => Ok(None),
+            Err(fault) => Err(refusal(fault)),
+        }
+    }
+
+    // The raw key where the reader stands, with its colon.
+    fn key_bytes(&mut self) -> JiterResult<Option<&'j [u8]>>
+        requires { self.old.position < length self.old.text }
+        ensures moves { MovesOn self.old self.new }
+        ensures value { Replies (option_map raw_view) result self.new (key_reply self.old.text
+            self.old.position (string_at raw self.old.text self.old.position)) }
+        ensures refusal { RefusesBytes self.old.text result }
+    {
+        match self.raw_string(false) {
+            Ok(content) => match self.colon() {
+                Ok(()) => Ok(Some(content)),
+                Err(error) => Err(error),
+            },
+            Err(error) => Err(error),
+        }
+    }
+
+    // The first raw key of an object, at a value that begins so.
+    fn first_key_bytes(&mut self, start: Start) -> JiterResult<Option<&'j [u8]>>
+        requires { BeginsAs self.old start }
+        ensures moves { MovesOn self.old self.new }
+        ensures value { Replies (option_map raw_view) result self.new
+            (object_read raw self.old self.old.position start) }
+        ensures refusal { RefusesBytes self.old.text result }
+    {
+        match start {
+            Start::Object => match self.parser.object_first() {
+                Ok(true) => self.key_bytes(),
+                Ok(false) => Ok(None),
+                Err(fault) => Err(refusal(fault)),
+            },
+            _ => Err(self.refused_as(JsonType::Object, start)),
+        }
+    }
+
+    /// The bytes of an object's first key, as they stand between its quotes, with its colon consumed; None
+    /// where the object is empty, and then its bracket is consumed (RFC 8259, 4). Escapes are checked and not
+    /// decoded, UTF-8 is not checked.
+    pub fn next_object_bytes(&mut self) -> JiterResult<Option<&'j [u8]>>
+        ensures moves { MovesOn self.old self.new }
+        ensures value { Replies (option_map raw_view) result self.new
+            (next self.old (object_read raw self.old)) }
+        ensures refusal { RefusesBytes self.old.text result }
+    {
+        match self.peek() {
+            Ok(peek) => self.first_key_bytes(start_of(peek.into_inner())),
+            Err(error) => Err(error),
+        }
+    }
+
+    /// Behind a member: the bytes of the next key, as they stand between its quotes, with its colon consumed;
+    /// None where the object ends, and then its bracket is consumed.
+    pub fn next_key_bytes(&mut self) -> JiterResult<Option<&'j [u8]>>
+        ensures moves { MovesOn self.old self.new }
+        ensures value { Replies (option_map raw_view) result self.new (key_step raw self.old) }
+        ensures refusal { RefusesBytes self.old.text result }
+    {
+        match self.parser.object_step() {
+            Ok(true) => self.key_bytes(),
+            Ok(false) => Ok(None),
+            Err(fault) => Err(refusal(fault)),
+        }
+    }
+
+    /// An object's first key, decoded, with its colon consumed; None where the object is empty, and then its
+    /// bracket is consumed (RFC 8259, 4). The key lies in the reader's bytes where its source has no
+    /// backslash.
+    pub fn next_object(&mut self, alloc: Global) -> JiterResult<Option<&str>>
+        ensures key { IfOk result (λ key. (e : ℕ)
+            × (reply_seen key_bytes (next self.old (object_read whole self.old))
+            ≡ gave (option_map (λ x. x.now) key) e)) }
+        ensures index { IndexWithin self.old.text result }
+        ensures memory { WhereMemory result (λ e. WantsMemory self.old.text e.index
+            × (step self.old.text object_first (value_place self.old + 1) ≡ more e.index)) }
+        ensures* after { sem 𝓛 (LeavesReader (option_map (λ x. x.now)) result self.entry
+            (reply_seen key_bytes (next self.old (object_read whole self.old)))) }
+    {
+        match self.take_first_key(alloc) {
+            Ok(Some(text)) => {
+                self.text = text;
+                Ok(Some(self.text.as_str()))
+            }
+            Ok(None) => Ok(None),
+            Err(error) => Err(error),
+        }
+    }
+
+    /// The same where its bracket stands.
+    pub fn known_object(&mut self, alloc: Global) -> JiterResult<Option<&str>>
+        requires { StandsAt self.old ascii.left_brace }
+        ensures key { IfOk result (λ key. (e : ℕ)
+            × (reply_seen key_bytes (known self.old (object_read whole self.old))
+            ≡ gave (option_map (λ x. x.now) key) e)) }
+        ensures index { IndexWithin self.old.text result }
+        ensures memory { WhereMemory result (λ e. WantsMemory self.old.text e.index
+            × (step self.old.text object_first (self.old.position + 1) ≡ more e.index)) }
+        ensures* after { sem 𝓛 (LeavesReader (option_map (λ x. x.now)) result self.entry
+            (reply_seen key_bytes (known self.old (object_read whole self.old)))) }
+    {
+        match self.first_key(alloc, Start::Object) {
+            Ok(Some(text)) => {
+                self.text = text;
+                Ok(Some(self.text.as_str()))
+            }
+            Ok(None) => Ok(None),
+            Err(error) => Err(error),
+        }
+    }
+
+    /// Behind a member: the next key, decoded, with its colon consumed; None where the object ends, and then
+    /// its bracket is consumed. The key lies in the reader's bytes where its source has no backslash.
+    pub fn next_key(&mut self, alloc: Global) -> JiterResult<Option<&str>>
+        ensures key { IfOk result (λ key. (e : ℕ)
+            × (reply_seen key_bytes (key_step whole self.old)
+            ≡ gave (option_map (λ x. x.now) key) e)) }
+        ensures index { IndexWithin self.old.text result }
+        ensures memory { WhereMemory result (λ e. WantsMemory self.old.text e.index
+            × (step self.old.text (object_step self.old.text) self.old.position ≡ more e.index)) }
+        ensures* after { sem 𝓛 (LeavesReader (option_map (λ x. x.now)) result self.entry
+            (reply_seen key_bytes (key_step whole self.old))) }
+    {
+        match self.take_key(alloc) {
+            Ok(Some(text)) => {
+                self.text = text;
+                Ok(Some(self.text.as_str()))
+            }
+            Ok(None) => Ok(None),
+            Err(error) => Err(error),
+        }
+    }
+}

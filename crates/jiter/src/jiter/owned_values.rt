@@ -1,0 +1,77 @@
+//! The pull reader's whole values that own their texts.
+ghost use Rattle.std.specs.Prelude.{◌≡◌, ◌<◌, ◌≤◌, ◌⊎◌, length};
+ghost use Rattle.jiter_steps.specs.Answer.{read_at};
+ghost use Rattle.jiter_value.specs.Owned.{owned_tree, ReadHolds};
+ghost use Rattle.jiter_value.specs.Value.{view, MayGrowAt};
+ghost use Rattle.jiter.specs.Reader.{value_place, next, known, value_reply, value_read};
+ghost use Rattle.jiter.specs.Jiter.{MovesOn, Replies, UnlessMemory, WhereMemory, IndexWithin, StandsAt};
+ghost use Rattle.jiter.specs.Jiter.{byte_of, reply_seen};
+
+use crate::errors::JiterResult;
+use crate::jiter::{Jiter, refusal_at};
+use crate::peek::Peek;
+use jiter_scan::PartialMode;
+use jiter_value::JsonValue;
+use jiter_value::parse_owned::read_owned;
+use jiter_value::settings::Settings;
+use std::alloc::Global;
+
+impl<'j> Jiter<'j> {
+    // The value where the reader stands, each of its texts owned.
+    fn owned_value(&mut self, alloc: Global) -> JiterResult<JsonValue<'static>>
+        requires { self.old.position < length self.old.text }
+        ensures moves { MovesOn self.old self.new }
+        ensures value { UnlessMemory result (Replies view result self.new (reply_seen owned_tree
+            (value_reply (read_at self.old.names self.old.text self.old.position)))) }
+        ensures index { IndexWithin self.old.text result }
+        ensures memory { WhereMemory result (λ _. MayGrowAt self.old.text self.old.position
+            ⊎ ReadHolds (read_at self.old.names self.old.text self.old.position)) }
+        ensures place { WhereMemory result (λ e. self.new.position ≡ e.index) }
+    {
+        let settings = Settings {
+            allow_inf_nan: self.allow_inf_nan,
+            mode: PartialMode::Off,
+        };
+        match read_owned(alloc, &mut self.parser, settings) {
+            Ok(value) => Ok(value),
+            Err(error) => Err(refusal_at(error, self.parser.index)),
+        }
+    }
+
+    /// What [`Jiter::next_value`] reads, each text owned.
+    pub fn next_value_owned(&mut self, alloc: Global) -> JiterResult<JsonValue<'static>>
+        ensures moves { MovesOn self.old self.new }
+        ensures value { UnlessMemory result (Replies view result self.new
+            (reply_seen owned_tree (next self.old (value_read self.old)))) }
+        ensures index { IndexWithin self.old.text result }
+        ensures memory { WhereMemory result (λ _. MayGrowAt self.old.text (value_place self.old)
+            ⊎ ReadHolds (read_at self.old.names self.old.text (value_place self.old))) }
+        ensures place { WhereMemory result (λ e. (self.new.position ≡ e.index)
+            × (value_place self.old ≤ e.index)) }
+    {
+        match self.peek() {
+            Ok(_) => self.owned_value(alloc),
+            Err(error) => Err(error),
+        }
+    }
+
+    /// The same where the caller has peeked.
+    pub fn known_value_owned(
+        &mut self,
+        alloc: Global,
+        peek: Peek,
+    ) -> JiterResult<JsonValue<'static>>
+        requires { StandsAt self.old (byte_of peek) }
+        ensures moves { MovesOn self.old self.new }
+        ensures value { UnlessMemory result (Replies view result self.new
+            (reply_seen owned_tree (known self.old (value_read self.old)))) }
+        ensures index { IndexWithin self.old.text result }
+        ensures memory { WhereMemory result (λ _. MayGrowAt self.old.text self.old.position
+            ⊎ ReadHolds (read_at self.old.names self.old.text self.old.position)) }
+        ensures place { WhereMemory result (λ e. (self.new.position ≡ e.index)
+            × (self.old.position ≤ e.index)) }
+    {
+        let _ = peek;
+        self.owned_value(alloc)
+    }
+}

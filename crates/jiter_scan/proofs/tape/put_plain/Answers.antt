@@ -1,0 +1,76 @@
+use Rattle.std.proofs.Common.{◌≡◌, ◌+◌, ◌-◌, ◌∙◌, ap, length, take, drop, arith}
+use Rattle.std.specs.Prelude.{slice_range}
+use Rattle.std.proofs.lemmas.List.{length-take}
+use lib.Count.{count_trailing_zeros}
+use Rattle.jiter_scan.specs.Scan.{is_plain}
+use Rattle.jiter_scan.proofs.Chunks.{run_end-through, run_end-inside, run_end-near}
+use Rattle.jiter_scan.proofs.Tapes.{put-chunk, put-range}
+use Rattle.jiter_scan.proofs.tape.put_plain.Goals as goal
+
+pub returns-then-found-ne0-clause-stop : goal.returns-then-found-ne0-clause-stop
+returns-then-found-ne0-clause-stop c =
+    let found = c.stops-found in
+    let run = run_end-inside is_plain c.args.bytes.now c.loop-at.at 16 (omega arith) (omega arith)
+    (omega (arith, found.ensures)) in
+    let count = ap (count_trailing_zeros 64) found.ensures in
+    omega arith
+
+pub returns-then-found-ne0-clause-place : goal.returns-then-found-ne0-clause-place
+returns-then-found-ne0-clause-place c =
+    let found = c.stops-found in
+    let run = run_end-inside is_plain c.args.bytes.now c.loop-at.at 16 (omega arith) (omega arith)
+    (omega (arith, found.ensures)) in
+    let near = run_end-near is_plain c.args.bytes.now c.loop-at.at 16 (omega arith) (omega (arith, found.ensures)) in
+    let count = ap (count_trailing_zeros 64) found.ensures in
+    (omega arith, omega arith)
+
+pub returns-then-found-ne0-clause-room : goal.returns-then-found-ne0-clause-room
+returns-then-found-ne0-clause-room c =
+    let found = c.stops-found in
+    let run = run_end-inside is_plain c.args.bytes.now c.loop-at.at 16 (omega arith) (omega arith)
+    (omega (arith, found.ensures)) in
+    let near = run_end-near is_plain c.args.bytes.now c.loop-at.at 16 (omega arith) (omega (arith, found.ensures)) in
+    let count = ap (count_trailing_zeros 64) found.ensures in
+    omega arith
+
+pub returns-then-found-ne0-clause-text : goal.returns-then-found-ne0-clause-text
+returns-then-found-ne0-clause-text c =
+    let found = c.stops-found in
+    let t = c.args.bytes.now in
+    let l = c.loop-at in
+    let run = run_end-inside is_plain t l.at 16 (omega arith) (omega arith) (omega (arith, found.ensures)) in
+    let near = run_end-near is_plain t l.at 16 (omega arith) (omega (arith, found.ensures)) in
+    let count = ap (count_trailing_zeros 64) found.ensures in
+    let n = count_trailing_zeros 64 found.result in
+    let end : c.args.count + (l.at + n - c.args.from) ≡ l.end + n = omega arith in
+    ap (λ m. take m c.put_sixteen.new.tape.items) end
+    ∙ put-chunk t c.args.from l.at l.invariant.ahead (take c.args.count c.args.tape.now.items) l.tape.items
+    c.put_sixteen.new.tape.items l.end n (omega arith) (omega arith) l.invariant.text c.put_sixteen.ensures.text
+
+pub loop-at-preserved : goal.loop-at-preserved
+loop-at-preserved c =
+    let t = c.args.bytes.now in
+    let l = c.loop-at in
+    let run = run_end-through is_plain t l.at 16 (omega arith) (omega (arith, c.stops-found.ensures)) in
+    record {
+      stop = omega arith;
+      ahead = omega arith;
+      within = omega arith;
+      end = omega arith;
+      room = omega (arith, c.in_ok-make_room-2.ensures.room);
+      text = c.in_ok-make_room-2.ensures.kept
+          ∙ put-chunk t c.args.from l.at l.invariant.ahead (take c.args.count c.args.tape.now.items) l.tape.items
+          c.put_sixteen.new.tape.items l.end 16 (omega arith) (omega arith) l.invariant.text c.put_sixteen.ensures.text;
+    }
+
+pub returns-clause-text : goal.returns-clause-text
+returns-clause-text c =
+    let t = c.args.bytes.now in
+    let l = c.loop-at in
+    let to = c.scan_string-to.result.0 in
+    let long : length (slice_range t l.at to) ≡ to - l.at = omega (arith, length-take (to - l.at) (drop l.at t)) in
+    let end : c.args.count + (to - c.args.from) ≡ l.end + length (slice_range t l.at to) = omega arith in
+    ap (λ m. take m c.put_few.new.tape.items) end
+    ∙ put-range t c.args.from l.at l.invariant.ahead (take c.args.count c.args.tape.now.items) l.tape.items
+    c.put_few.new.tape.items l.end (l.end + length (slice_range t l.at to)) to (omega arith) (omega arith)
+    l.invariant.text c.put_few.ensures.text

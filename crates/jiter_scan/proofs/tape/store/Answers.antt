@@ -1,0 +1,6 @@
+use Rattle.std.proofs.Common.{arith}
+use Rattle.std.proofs.lemmas.Simd.{put_chunk_whole}
+use Rattle.jiter_scan.proofs.tape.store.Goals as goal
+
+pub returns : goal.returns
+returns c = put_chunk_whole c.args.room.now c.args.v (omega arith)

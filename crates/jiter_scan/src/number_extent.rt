@@ -1,0 +1,254 @@
+//! Where numbers end, with no value made (RFC 8259, 6).
+ghost use Rattle.std.specs.Prelude.{◌≡◌, ◌+◌, ◌<◌, ◌≤◌, Bool, IfOk, IfSome, length, slice_get};
+ghost use Rattle.jiter_scan.specs.Digits.{is_digit, digit_run_end};
+ghost use Rattle.jiter_scan.specs.NumberReading.{extent_then, digits_from, behind_zero, within_limit, whole_at, fraction_at, exponent_at, power_from, decimal_at, behind_minus, name_at, number_extent};
+ghost use Rattle.jiter_scan.specs.Scanned.{Scans, taken};
+
+use crate::errors::{Fault, FaultKind, fault_at};
+use crate::short_number::{Short, short_at};
+use crate::simd::{digit_run_end, digits_end};
+use crate::word::{byte_at, word_end};
+
+// The longest integer part that is read, in digits.
+const DIGIT_LIMIT: usize = 4300;
+
+fn is_digit(byte: u8) -> bool
+    ensures { result ≡ is_digit byte }
+{
+    byte.is_ascii_digit()
+}
+
+// One digit or more: the place behind them.
+fn some_digits_end(bytes: &[u8], from: usize) -> Result<usize, Fault>
+    requires { from ≤ length bytes.now }
+    ensures value { Scans (taken tt) result
+        (digits_from bytes.now from (slice_get bytes.now from)) }
+    ensures place { IfOk result (λ e. (from ≤ e) × (e ≤ length bytes.now)) }
+{
+    match byte_at(bytes, from) {
+        None => Err(fault_at(FaultKind::EofWhileParsingValue, from)),
+        Some(byte) => {
+            if is_digit(byte) {
+                Ok(digit_run_end(bytes, from))
+            } else {
+                Err(fault_at(FaultKind::InvalidNumber, from))
+            }
+        }
+    }
+}
+
+// Behind a leading zero, where no digit may stand.
+fn zero_end(bytes: &[u8], at: usize) -> Result<usize, Fault>
+    ensures value { Scans (taken tt) result (behind_zero at (slice_get bytes.now at)) }
+    ensures place { IfOk result (λ e. e ≡ at) }
+{
+    match byte_at(bytes, at) {
+        None => Ok(at),
+        Some(byte) => {
+            if is_digit(byte) {
+                Err(fault_at(FaultKind::InvalidNumber, at))
+            } else {
+                Ok(at)
+            }
+        }
+    }
+}
+
+// Behind the digits at `at`, unless they are too many.
+fn limited_end(bytes: &[u8], at: usize) -> Result<usize, Fault>
+    requires within { at ≤ length bytes.now }
+    requires some { at < digit_run_end bytes.now at }
+    ensures value { Scans (taken tt) result (within_limit at (digit_run_end bytes.now at)) }
+    ensures place { IfOk result (λ e. (at < e) × (e ≤ length bytes.now)) }
+{
+    match digits_end(bytes, at, DIGIT_LIMIT) {
+        Some(end) => Ok(end),
+        None => Err(fault_at(FaultKind::NumberOutOfRange, at + (DIGIT_LIMIT + 1))),
+    }
+}
+
+// Behind the integer part.
+pub(crate) fn whole_end(bytes: &[u8], at: usize) -> Result<usize, Fault>
+    requires { at ≤ length bytes.now }
+    ensures value { Scans (taken tt) result (whole_at bytes.now at) }
+    ensures place { IfOk result (λ e. (at < e) × (e ≤ length bytes.now)) }
+{
+    match byte_at(bytes, at) {
+        None => Err(fault_at(FaultKind::EofWhileParsingValue, at)),
+        Some(byte) => {
+            if byte == b'0' {
+                zero_end(bytes, at + 1)
+            } else if is_digit(byte) {
+                limited_end(bytes, at)
+            } else {
+                Err(fault_at(FaultKind::InvalidNumber, at))
+            }
+        }
+    }
+}
+
+// Behind a fraction, or where none stands.
+fn fraction_end(bytes: &[u8], at: usize) -> Result<usize, Fault>
+    requires { at ≤ length bytes.now }
+    ensures value { Scans (taken tt) result (fraction_at bytes.now at) }
+    ensures place { IfOk result (λ e. (at ≤ e) × (e ≤ length bytes.now)) }
+{
+    match byte_at(bytes, at) {
+        None => Ok(at),
+        Some(byte) => {
+            if byte == b'.' {
+                some_digits_end(bytes, at + 1)
+            } else {
+                Ok(at)
+            }
+        }
+    }
+}
+
+// The sign of an exponent, or none, and its digits: the place behind them.
+fn power_end(bytes: &[u8], at: usize) -> Result<usize, Fault>
+    requires { at ≤ length bytes.now }
+    ensures value { Scans (taken tt) result (power_from bytes.now at (slice_get bytes.now at)) }
+    ensures place { IfOk result (λ e. (at ≤ e) × (e ≤ length bytes.now)) }
+{
+    match byte_at(bytes, at) {
+        None => Err(fault_at(FaultKind::EofWhileParsingValue, at)),
+        Some(byte) => {
+            if byte == b'+' || byte == b'-' {
+                some_digits_end(bytes, at + 1)
+            } else {
+                some_digits_end(bytes, at)
+            }
+        }
+    }
+}
+
+// Behind an exponent, or where none stands.
+fn exponent_end(bytes: &[u8], at: usize) -> Result<usize, Fault>
+    requires { at ≤ length bytes.now }
+    ensures value { Scans (taken tt) result (exponent_at bytes.now at) }
+    ensures place { IfOk result (λ e. (at ≤ e) × (e ≤ length bytes.now)) }
+{
+    match byte_at(bytes, at) {
+        None => Ok(at),
+        Some(byte) => {
+            if byte == b'e' || byte == b'E' {
+                power_end(bytes, at + 1)
+            } else {
+                Ok(at)
+            }
+        }
+    }
+}
+
+// Behind a fraction, if one stands at `at`, and an exponent, if one follows.
+pub(crate) fn tail_end(bytes: &[u8], at: usize) -> Result<usize, Fault>
+    requires { at ≤ length bytes.now }
+    ensures value { Scans (taken tt) result
+        (extent_then (fraction_at bytes.now at) (exponent_at bytes.now)) }
+    ensures place { IfOk result (λ e. (at ≤ e) × (e ≤ length bytes.now)) }
+{
+    let end = fraction_end(bytes, at)?;
+    exponent_end(bytes, end)
+}
+
+// Behind a decimal number without its minus.
+fn decimal_end(bytes: &[u8], at: usize) -> Result<usize, Fault>
+    requires { at ≤ length bytes.now }
+    ensures value { Scans (taken tt) result (decimal_at bytes.now at) }
+    ensures place { IfOk result (λ e. (at < e) × (e ≤ length bytes.now)) }
+{
+    let end = whole_end(bytes, at)?;
+    tail_end(bytes, end)
+}
+
+// Behind the name at `at`, if names are allowed.
+fn name_end(bytes: &[u8], at: usize, name: &[u8], allow_inf_nan: bool) -> Result<usize, Fault>
+    requires within { at ≤ length bytes.now }
+    requires name { 0 < length name.now }
+    ensures value { Scans (taken tt) result (name_at allow_inf_nan bytes.now name.now at) }
+    ensures place { IfOk result (λ e. (at < e) × (e ≤ length bytes.now)) }
+{
+    if allow_inf_nan {
+        word_end(bytes, at, name)
+    } else {
+        Err(fault_at(FaultKind::ExpectedSomeValue, at))
+    }
+}
+
+// Behind a number whose minus stands before `at`.
+fn negative_end(bytes: &[u8], at: usize, allow_inf_nan: bool) -> Result<usize, Fault>
+    requires { at ≤ length bytes.now }
+    ensures value { Scans (taken tt) result
+        (behind_minus allow_inf_nan bytes.now at (slice_get bytes.now at)) }
+    ensures place { IfOk result (λ e. (at < e) × (e ≤ length bytes.now)) }
+{
+    match byte_at(bytes, at) {
+        None => Err(fault_at(FaultKind::EofWhileParsingValue, at)),
+        Some(byte) => {
+            if byte != b'I' {
+                decimal_end(bytes, at)
+            } else if allow_inf_nan {
+                word_end(bytes, at, b"Infinity")
+            } else {
+                Err(fault_at(FaultKind::InvalidNumber, at))
+            }
+        }
+    }
+}
+
+// Behind the number at `at`, part by part.
+#[inline(never)]
+fn long_end(bytes: &[u8], at: usize, allow_inf_nan: bool) -> Result<usize, Fault>
+    requires { at < length bytes.now }
+    ensures value { Scans (taken tt) result (number_extent allow_inf_nan bytes.now at) }
+    ensures place { IfOk result (λ e. (at < e) × (e ≤ length bytes.now)) }
+{
+    match byte_at(bytes, at) {
+        None => Err(fault_at(FaultKind::EofWhileParsingValue, at)),
+        Some(byte) => {
+            if byte == b'-' {
+                negative_end(bytes, at + 1, allow_inf_nan)
+            } else if byte == b'N' {
+                name_end(bytes, at, b"NaN", allow_inf_nan)
+            } else if byte == b'I' {
+                name_end(bytes, at, b"Infinity", allow_inf_nan)
+            } else {
+                decimal_end(bytes, at)
+            }
+        }
+    }
+}
+
+// Behind the number at `at`, if it is short.
+#[inline(always)]
+fn short_end(bytes: &[u8], at: usize) -> Option<usize>
+    requires { at < length bytes.now }
+    ensures end { IfSome result
+        (λ e. (names : Bool) → number_extent names bytes.now at ≡ taken tt e) }
+    ensures place { IfSome result (λ e. (at < e) × (e ≤ length bytes.now)) }
+{
+    let digits = if bytes[at] == b'-' { at + 1 } else { at };
+    match short_at(bytes, digits) {
+        Short::Int(_, end) => Some(end),
+        Short::Float(end) => Some(end),
+        Short::Other => None,
+    }
+}
+
+/// The byte index behind the number that begins at `at`, with no value made: where
+/// [`number_at`](crate::number_decoder::number_at) ends it, and its refusals (RFC 8259, 6).
+#[inline(always)]
+pub fn number_end(bytes: &[u8], at: usize, allow_inf_nan: bool) -> Result<usize, Fault>
+    requires { at < length bytes.now }
+    ensures value { Scans (taken tt) result (number_extent allow_inf_nan bytes.now at) }
+    ensures advances { IfOk result (λ e. (at < e) × (e ≤ length bytes.now)) }
+{
+    match short_end(bytes, at) {
+        Some(end) => Ok(end),
+        None => long_end(bytes, at, allow_inf_nan),
+    }
+}
+
+#[cfg(test)]
+mod tests;

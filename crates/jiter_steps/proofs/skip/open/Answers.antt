@@ -1,0 +1,21 @@
+use Rattle.std.proofs.Common.{◌<◌, ◌∙◌, length, ap, sym, arith}
+use Rattle.jiter_steps.specs.Answer.{ends}
+use Rattle.jiter_steps.specs.Frames.{value_from}
+use Rattle.jiter_steps.specs.Skip.{frame_of, open_frames}
+use Rattle.jiter_steps.proofs.Skipping.{value_from-limit, length-open_frames, open_frames-opens}
+use Rattle.jiter_steps.proofs.skip.open.Goals as goal
+
+pub returns-then-nest-eq-NESTING_LIMIT : goal.returns-then-nest-eq-NESTING_LIMIT
+returns-then-nest-eq-NESTING_LIMIT c = λ names.
+    let p = c.args.parser.now in
+    let n = c.args.nest.now in
+    value_from-limit names p.bytes.now (frame_of c.args.is_object) (open_frames n.objects n.depth) p.index
+    (length-open_frames n.objects n.depth ∙ c.if-nest-eq-NESTING_LIMIT.true)
+
+pub returns : goal.returns
+returns c = λ names.
+    let p = c.args.parser.now in
+    let n = c.args.nest.now in
+    let place : n.depth < length n.objects = omega (arith, n.within) in
+    let opens = open_frames-opens n.objects n.depth c.args.is_object place in
+    (ap (λ fs. value_from (ends names) p.bytes.now fs p.index) (sym opens), c.requires)

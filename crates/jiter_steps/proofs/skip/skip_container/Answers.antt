@@ -1,0 +1,13 @@
+use Rattle.std.proofs.Common.{refl, sym, arith}
+use Rattle.jiter_steps.specs.Answer.{ends}
+use Rattle.jiter_steps.proofs.Resumed.{value_in-room}
+use Rattle.jiter_steps.proofs.skip.skip_container.Goals as goal
+
+pub skipping-init : goal.skipping-init
+skipping-init c =
+    let a = c.args in
+    record {
+      moves = record { same = refl; forward = omega arith };
+      inside = c.requires;
+      same = sym (value_in-room (ends a.allow_inf_nan) a.parser.now.bytes.now 0 a.parser.now.index (omega arith));
+    }

@@ -1,0 +1,18 @@
+use Rattle.std.proofs.Common.{◌≡◌, ◌<◌, ◌-◌, length}
+use Rattle.jiter_steps.specs.Answer.{ends, skip_at}
+use Rattle.jiter_steps.specs.Frames.{value_from}
+use Rattle.jiter_steps.specs.Parse.{Moves}
+use Rattle.jiter_steps.specs.Skip.{open_frames}
+use Rattle.jiter_steps.proofs.skip.skip_container.Given as goal
+
+abbrev pub invariant-skipping : goal.invariant-skipping
+invariant-skipping l = record {
+  moves : Moves l.fn.parser l.parser;
+  inside : l.parser.index < length l.fn.parser.bytes.now;
+  same : skip_at l.allow_inf_nan l.fn.parser.bytes.now l.fn.parser.index
+      ≡ value_from (ends l.allow_inf_nan) l.fn.parser.bytes.now (open_frames l.nest.objects l.nest.depth)
+      l.parser.index;
+}
+
+abbrev pub decreases-skipping : goal.decreases-skipping
+decreases-skipping l = length l.fn.parser.bytes.now - l.parser.index

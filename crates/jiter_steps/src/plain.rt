@@ -1,0 +1,194 @@
+//! The plain way between the parts of a document, by the bytes and a place, with answers that come back in
+//! registers. What is not plain is told and no more: the reader's own calls say what is wrong there.
+ghost use Rattle.std.specs.Prelude.{◌≡◌, ◌≢◌, ◌+◌, ◌≤◌, ◌<◌, IfSome, IsTrue, length, slice_get, slice_range, Some};
+ghost use Rattle.std.specs.Str.{IsAscii};
+ghost use Rattle.jiter_scan.specs.Scanned.{taken};
+ghost use Rattle.jiter_steps.specs.Blank.{past_blanks};
+ghost use Rattle.jiter_steps.specs.Literal.{literal_at};
+ghost use Rattle.jiter_steps.specs.Plain.{IsNext};
+ghost use Rattle.jiter_steps.specs.Step.{step, container_first, container_comma, container_step, object_colon};
+ghost use Rattle.jiter_steps.specs.StringReading.{Form, string_at, between, whole, kept};
+
+use crate::parse::{Literal, Shape, past_blanks};
+use jiter_scan::simd::scan_string;
+use jiter_scan::word::byte_at;
+
+/// What a step between the parts of a container leads to.
+#[derive(Clone, Copy, Debug, PartialEq, Eq)]
+pub enum Next {
+    /// A part begins.
+    Part,
+    /// The container has ended.
+    End,
+    /// A fault.
+    Stuck,
+}
+
+/// The first byte from `from` on that is no blank, if there is one, with its place.
+#[inline(always)]
+pub fn peek(bytes: &[u8], from: usize) -> (usize, Option<u8>)
+    requires { from ≤ length bytes.now }
+    ensures place { result.0 ≡ past_blanks bytes.now from }
+    ensures byte { result.1 ≡ slice_get bytes.now result.0 }
+    ensures within { (from ≤ result.0) × (result.0 ≤ length bytes.now) }
+    ensures inside { IfSome result.1 (λ _. result.0 < length bytes.now) }
+{
+    let at = past_blanks(bytes, from);
+    (at, byte_at(bytes, at))
+}
+
+/// Behind a container's bracket: its first part, or its end (RFC 8259, 4 and 5).
+#[inline(always)]
+pub fn first_at(bytes: &[u8], from: usize, shape: Shape) -> (usize, Next)
+    requires { from ≤ length bytes.now }
+    ensures next { IsNext result.0 result.1 (step bytes.now (container_first shape) from) }
+    ensures within { (from ≤ result.0) × (result.0 ≤ length bytes.now) }
+    ensures part { result.1 ≡ Next.Part → result.0 < length bytes.now }
+{
+    let (at, byte) = peek(bytes, from);
+    match byte {
+        None => (at, Next::Stuck),
+        Some(byte) => {
+            if shape.begins_part(byte) {
+                (at, Next::Part)
+            } else if byte == shape.closer() {
+                (at + 1, Next::End)
+            } else {
+                (at, Next::Stuck)
+            }
+        }
+    }
+}
+
+// Behind a comma: another part.
+#[inline(always)]
+fn comma_at(bytes: &[u8], from: usize, shape: Shape) -> (usize, Next)
+    requires { from ≤ length bytes.now }
+    ensures next { IsNext result.0 result.1 (step bytes.now (container_comma shape) from) }
+    ensures within { (from ≤ result.0) × (result.0 ≤ length bytes.now) }
+    ensures part { result.1 ≡ Next.Part → result.0 < length bytes.now }
+{
+    let (at, byte) = peek(bytes, from);
+    match byte {
+        None => (at, Next::Stuck),
+        Some(byte) => {
+            if shape.begins_part(byte) {
+                (at, Next::Part)
+            } else {
+                (at, Next::Stuck)
+            }
+        }
+    }
+}
+
+// Behind a part: another one, or the container's end, by a shape that is known where it is inlined.
+#[inline(always)]
+fn known_step_at(bytes: &[u8], from: usize, shape: Shape) -> (usize, Next)
+    requires { from ≤ length bytes.now }
+    ensures next { IsNext result.0 result.1 (step bytes.now (container_step shape bytes.now) from) }
+    ensures within { (from ≤ result.0) × (result.0 ≤ length bytes.now) }
+    ensures part { result.1 ≡ Next.Part → result.0 < length bytes.now }
+{
+    let (at, byte) = peek(bytes, from);
+    match byte {
+        None => (at, Next::Stuck),
+        Some(byte) => {
+            if byte == b',' {
+                comma_at(bytes, at + 1, shape)
+            } else if byte == shape.closer() {
+                (at + 1, Next::End)
+            } else {
+                (at, Next::Stuck)
+            }
+        }
+    }
+}
+
+/// Behind a part: another one, or the container's end (RFC 8259, 4 and 5).
+#[inline(always)]
+pub fn step_at(bytes: &[u8], from: usize, shape: Shape) -> (usize, Next)
+    requires { from ≤ length bytes.now }
+    ensures next { IsNext result.0 result.1 (step bytes.now (container_step shape bytes.now) from) }
+    ensures within { (from ≤ result.0) × (result.0 ≤ length bytes.now) }
+    ensures part { result.1 ≡ Next.Part → result.0 < length bytes.now }
+{
+    match shape {
+        Shape::Array => known_step_at(bytes, from, Shape::Array),
+        Shape::Object => known_step_at(bytes, from, Shape::Object),
+    }
+}
+
+/// From behind a key to the place where its value begins, if a colon and a value stand there (RFC 8259, 4).
+#[inline(always)]
+pub fn colon_at(bytes: &[u8], from: usize) -> Option<usize>
+    requires { from ≤ length bytes.now }
+    ensures value { IfSome result (λ j. object_colon bytes.now from ≡ taken tt j) }
+    ensures within { IfSome result (λ j. (from ≤ j) × (j < length bytes.now)) }
+{
+    let (at, byte) = peek(bytes, from);
+    match byte {
+        None => None,
+        Some(byte) => {
+            if byte != b':' {
+                return None;
+            }
+            let (next, first) = peek(bytes, at + 1);
+            match first {
+                None => None,
+                Some(_) => Some(next),
+            }
+        }
+    }
+}
+
+/// The place of the closing quote of the string whose opening quote is at `at`, if each byte between them
+/// stands for itself and is below 80 hex (RFC 8259, 7).
+#[inline(always)]
+pub fn plain_text_end(bytes: &[u8], at: usize) -> Option<usize>
+    requires { at < length bytes.now }
+    ensures whole { IfSome result
+        (λ to. string_at whole bytes.now at ≡ taken (between bytes.now (at + 1) to) (to + 1)) }
+    ensures kept { IfSome result
+        (λ to. string_at kept bytes.now at ≡ taken (between bytes.now (at + 1) to) (to + 1)) }
+    ensures ascii { IfSome result (λ to. IsAscii (slice_range bytes.now (at + 1) to)) }
+    ensures within { IfSome result (λ to. (at < to) × (to < length bytes.now)) }
+{
+    let (to, ascii) = scan_string(bytes, at + 1);
+    if ascii && to < bytes.len() && bytes[to] == b'"' {
+        Some(to)
+    } else {
+        None
+    }
+}
+
+// Whether these four bytes stand at a place.
+#[inline(always)]
+fn has_four(bytes: &[u8], at: usize, a: u8, b: u8, c: u8, d: u8) -> bool
+    requires { at + 4 ≤ length bytes.now }
+    ensures first { IsTrue result → slice_get bytes.now at ≡ Some a }
+    ensures second { IsTrue result → slice_get bytes.now (at + 1) ≡ Some b }
+    ensures third { IsTrue result → slice_get bytes.now (at + 2) ≡ Some c }
+    ensures fourth { IsTrue result → slice_get bytes.now (at + 3) ≡ Some d }
+{
+    bytes[at] == a && bytes[at + 1] == b && bytes[at + 2] == c && bytes[at + 3] == d
+}
+
+/// The place behind the literal at `at`, if it stands there and not at the input's end (RFC 8259, 3).
+#[inline(always)]
+pub fn plain_literal_end(bytes: &[u8], at: usize, literal: Literal) -> Option<usize>
+    requires { at < length bytes.now }
+    ensures value { IfSome result (λ e. literal_at bytes.now literal at ≡ taken tt e) }
+    ensures within { IfSome result (λ e. (at < e) × (e ≤ length bytes.now)) }
+{
+    if bytes.len() - at < 5 {
+        return None;
+    }
+    match literal {
+        Literal::Null if has_four(bytes, at, b'n', b'u', b'l', b'l') => Some(at + 4),
+        Literal::True if has_four(bytes, at, b't', b'r', b'u', b'e') => Some(at + 4),
+        Literal::False if has_four(bytes, at + 1, b'a', b'l', b's', b'e') && bytes[at] == b'f' => {
+            Some(at + 5)
+        }
+        _ => None,
+    }
+}

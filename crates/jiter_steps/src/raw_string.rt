@@ -1,0 +1,168 @@
+//! Strings as they stand in the source (RFC 8259, 7): the bytes between the quotes, their escapes checked but not
+//! decoded and their UTF-8 not tested; and where a string ends. Nothing here takes memory.
+ghost use Rattle.std.specs.Prelude.{◌≡◌, ◌≢◌, ◌+◌, ◌<◌, ◌≤◌, ℕ, length, slice_get, IfOk, IfSome, OnOk, OnErr, Some, true};
+ghost use Rattle.jiter_scan.specs.Ascii as ascii;
+ghost use Rattle.jiter_scan.specs.Kind.{fault_kind};
+ghost use Rattle.jiter_scan.specs.Scan.{is_stop};
+ghost use Rattle.jiter_scan.specs.Scanned.{Scans, taken, failed, with_end};
+ghost use Rattle.jiter_steps.specs.Answer.{seen_as};
+ghost use Rattle.jiter_steps.specs.RawString.{EndsAt, raw_view};
+ghost use Rattle.jiter_steps.specs.Read.{scalar_at};
+ghost use Rattle.jiter_steps.specs.StringReading.{content_at, string_at, raw, raw_kept};
+
+use crate::parse::Parser;
+use crate::string_decoder::{AtStop, Ending, cut_short, place_at};
+use jiter_scan::errors::Fault;
+use jiter_scan::simd::scan_string;
+use jiter_scan::word::byte_at;
+
+// The place at which a content is over that goes on at `from` with a backslash.
+#[inline(never)]
+fn escaped_end(bytes: &[u8], from: usize) -> usize
+    requires within { from ≤ length bytes.now }
+    requires stop { IfSome (slice_get bytes.now from) (λ b. is_stop b ≡ true) }
+    ensures over { EndsAt bytes.now from result }
+    ensures place { (from ≤ result) × (result ≤ length bytes.now) }
+    ensures stop { IfSome (slice_get bytes.now result) (λ b. is_stop b ≡ true) }
+{
+    let mut at = from;
+    loop {
+        match place_at(bytes, at) {
+            AtStop::Escape(_, end) => {
+                let (to, _) = scan_string(bytes, end);
+                at = to;
+            }
+            AtStop::End(_) => return at,
+        }
+    }
+}
+
+// The place at which the content that begins at `from` is over: that of its closing quote or of what is wrong
+// there, or the length.
+#[inline(always)]
+fn content_end(bytes: &[u8], from: usize) -> usize
+    requires { from ≤ length bytes.now }
+    ensures over { EndsAt bytes.now from result }
+    ensures place { (from ≤ result) × (result ≤ length bytes.now) }
+    ensures stop { IfSome (slice_get bytes.now result) (λ b. is_stop b ≡ true) }
+{
+    let (to, _) = scan_string(bytes, from);
+    match byte_at(bytes, to) {
+        None => to,
+        Some(b'\\') => escaped_end(bytes, to),
+        Some(_) => to,
+    }
+}
+
+// The fault of a string whose content is over at `at` without a closing quote.
+#[cold]
+fn fault_of(bytes: &[u8], at: usize) -> Fault
+    requires stop { IfSome (slice_get bytes.now at) (λ b. is_stop b ≡ true) }
+    requires over { (i : ℕ) × EndsAt bytes.now i at }
+    requires no_quote { slice_get bytes.now at ≢ Some ascii.quote }
+    ensures raw { (i : ℕ) → EndsAt bytes.now i at
+        → content_at raw bytes.now i ≡ failed (fault_kind result.kind) result.index }
+    ensures front { (i : ℕ) → EndsAt bytes.now i at → at < length bytes.now
+        → content_at raw_kept bytes.now i ≡ failed (fault_kind result.kind) result.index }
+{
+    match place_at(bytes, at) {
+        AtStop::End(Ending::Wrong(fault)) => fault,
+        AtStop::End(Ending::Unclosed) => cut_short(bytes),
+        AtStop::End(Ending::Cut) => cut_short(bytes),
+        AtStop::End(Ending::Closed(_)) => unreachable!(),
+        AtStop::Escape(_, _) => unreachable!(),
+    }
+}
+
+/// The byte index behind the closing quote of the string whose opening quote is at `at`. Its escapes are
+/// checked, its UTF-8 is not; the faults are those of [`string_at`](crate::string_decoder::string_at) but for
+/// that of UTF-8 (RFC 8259, 7).
+#[inline(always)]
+pub fn string_end(bytes: &[u8], at: usize) -> Result<usize, Fault>
+    requires { at < length bytes.now }
+    ensures value { Scans (taken tt) result (seen_as (λ s e. tt {0}) (string_at raw bytes.now at)) }
+    ensures advances { IfOk result (λ e. (at + 1 < e) × (e ≤ length bytes.now)) }
+{
+    let end = content_end(bytes, at + 1);
+    match byte_at(bytes, end) {
+        Some(b'"') => Ok(end + 1),
+        _ => Err(fault_of(bytes, end)),
+    }
+}
+
+/// The bytes between the quotes of the string whose opening quote is at the byte index `at`, with the index
+/// behind its closing quote. Escapes stand in them undecoded, but checked; UTF-8 is not tested (RFC 8259, 7).
+#[inline(always)]
+pub fn raw_string_at<'j>(bytes: &'j [u8], at: usize) -> Result<(&'j [u8], usize), Fault>
+    requires { at < length bytes.now }
+    ensures value { Scans (with_end raw_view) result (string_at raw bytes.now at) }
+    ensures advances { IfOk result (λ x. (at < x.1) × (x.1 ≤ length bytes.now)) }
+{
+    match string_end(bytes, at) {
+        Ok(end) => Ok((&bytes[at + 1..end - 1], end)),
+        Err(fault) => Err(fault),
+    }
+}
+
+/// The same of a string that the end of the input may cut, though not inside an escape: its bytes then go to
+/// the length, and so does its end.
+#[inline(always)]
+pub fn raw_string_front_at<'j>(bytes: &'j [u8], at: usize) -> Result<(&'j [u8], usize), Fault>
+    requires { at < length bytes.now }
+    ensures value { Scans (with_end raw_view) result (string_at raw_kept bytes.now at) }
+    ensures advances { IfOk result (λ x. (at < x.1) × (x.1 ≤ length bytes.now)) }
+{
+    let end = content_end(bytes, at + 1);
+    match byte_at(bytes, end) {
+        None => Ok((&bytes[at + 1..], end)),
+        Some(b'"') => Ok((&bytes[at + 1..end], end + 1)),
+        Some(_) => Err(fault_of(bytes, end)),
+    }
+}
+
+impl<'j> Parser<'j> {
+    ghost use Rattle.jiter_steps.specs.Parse.{Moves, Reads};
+
+    /// The bytes between the quotes of the string whose opening quote is where the reader stands, escapes
+    /// checked but not decoded and UTF-8 not tested; a fault leaves it there (RFC 8259, 7).
+    #[inline(always)]
+    pub fn raw_string(&mut self) -> Result<&'j [u8], Fault>
+        requires { self.old.index < length self.old.bytes.now }
+        ensures moves { Moves self.old self.new }
+        ensures value { Reads raw_view result self.new.index
+            (scalar_at self.old.index (string_at raw self.old.bytes.now self.old.index)) }
+        ensures ahead { OnOk result (self.old.index < self.new.index) }
+        ensures place { OnErr result (self.new.index ≡ self.old.index) }
+    {
+        match raw_string_at(self.bytes, self.index) {
+            Ok((content, end)) => {
+                self.index = end;
+                Ok(content)
+            }
+            Err(fault) => Err(fault),
+        }
+    }
+
+    /// The same of a string that the end of the input may cut, though not inside an escape.
+    #[inline(always)]
+    pub fn raw_string_front(&mut self) -> Result<&'j [u8], Fault>
+        requires { self.old.index < length self.old.bytes.now }
+        ensures moves { Moves self.old self.new }
+        ensures value { Reads raw_view result self.new.index
+            (scalar_at self.old.index
+            (string_at raw_kept self.old.bytes.now self.old.index)) }
+        ensures ahead { OnOk result (self.old.index < self.new.index) }
+        ensures place { OnErr result (self.new.index ≡ self.old.index) }
+    {
+        match raw_string_front_at(self.bytes, self.index) {
+            Ok((content, end)) => {
+                self.index = end;
+                Ok(content)
+            }
+            Err(fault) => Err(fault),
+        }
+    }
+}
+
+#[cfg(test)]
+mod tests;

@@ -1,0 +1,293 @@
+//! Skipping a value: its end alone, with no value made, no text decoded and no memory taken.
+ghost use Rattle.std.specs.Prelude.{◌≡◌, ◌≢◌, ℕ, Bool, true, false, ◌+◌, ◌<◌, ◌≤◌, ◌∷◌, IfOk, OnOk, length};
+ghost use Rattle.std.specs.Prelude.{slice_index};
+ghost use Rattle.jiter_steps.specs.Answer.{ends, skip_at};
+ghost use Rattle.jiter_steps.specs.Frames.{resume, value_from};
+ghost use Rattle.jiter_steps.specs.Literal.{start_of};
+ghost use Rattle.jiter_steps.specs.Node.{nesting_limit};
+ghost use Rattle.jiter_steps.specs.Parse.{Moves, Reads};
+ghost use Rattle.jiter_steps.specs.Read.{done, scalar_at, value_at};
+ghost use Rattle.jiter_steps.specs.Skip.{opening, key_end, first_inside, next_inside, frame_of, open_frames, Continues};
+
+use crate::parse::{Parser, Start, start_of};
+use crate::raw_string::string_end;
+use jiter_scan::errors::{Fault, FaultKind};
+use jiter_scan::number_extent::number_end;
+
+// How many containers that are not empty may stand one inside another.
+const NESTING_LIMIT: usize = 200;
+
+// How many open containers the table has places for.
+const PLACES: usize = 256;
+
+// The open containers, the outermost first: of each whether it is an object.
+#[derive(Drop)]
+struct Nest {
+    objects: [bool; PLACES],
+    depth: usize,
+    ghost within: { depth ≤ nesting_limit },
+}
+
+// A container opens, whose first value begins where the reader stands.
+#[inline(always)]
+fn open(parser: &Parser<'_>, nest: &mut Nest, is_object: bool) -> Result<bool, Fault>
+    requires { parser.now.index < length parser.now.bytes.now }
+    ensures { (names : Bool) → Continues names parser.now.bytes.now
+        (open_frames nest.new.objects nest.new.depth) result parser.now.index
+        (value_from (ends names) parser.now.bytes.now
+        (frame_of is_object ∷ open_frames nest.old.objects nest.old.depth) parser.now.index) }
+{
+    if nest.depth == NESTING_LIMIT {
+        return Err(Fault {
+            kind: FaultKind::RecursionLimitExceeded,
+            index: parser.index,
+        });
+    }
+    nest.objects[nest.depth] = is_object;
+    nest.depth += 1;
+    Ok(true)
+}
+
+// The number where the reader stands; a fault leaves it there.
+#[inline(always)]
+fn number(parser: &mut Parser<'_>, allow_inf_nan: bool) -> Result<(), Fault>
+    requires { parser.old.index < length parser.old.bytes.now }
+    ensures moves { Moves parser.old parser.new }
+    ensures value { Reads (λ u. u) result parser.new.index (scalar_at parser.old.index
+        ((ends allow_inf_nan).number parser.old.bytes.now parser.old.index)) }
+    ensures ahead { OnOk result (parser.old.index < parser.new.index) }
+{
+    match number_end(parser.bytes, parser.index, allow_inf_nan) {
+        Ok(end) => {
+            parser.index = end;
+            Ok(())
+        }
+        Err(fault) => Err(fault),
+    }
+}
+
+// The key where the reader stands, and its colon: to where its value begins.
+#[inline(always)]
+fn key(parser: &mut Parser<'_>) -> Result<(), Fault>
+    requires { parser.old.index < length parser.old.bytes.now }
+    ensures moves { Moves parser.old parser.new }
+    ensures value { Reads (λ u. (u, u)) result parser.new.index
+        (key_end parser.old.bytes.now parser.old.index) }
+    ensures inside { OnOk result (parser.new.index < length parser.old.bytes.now) }
+{
+    match string_end(parser.bytes, parser.index) {
+        Ok(end) => {
+            parser.index = end;
+            parser.object_colon()
+        }
+        Err(fault) => Err(fault),
+    }
+}
+
+// From the bracket of an object to its first value, or behind its closer.
+#[inline(always)]
+fn first_member(parser: &mut Parser<'_>) -> Result<bool, Fault>
+    requires { parser.old.index < length parser.old.bytes.now }
+    ensures moves { Moves parser.old parser.new }
+    ensures value { Reads (λ more. more) result parser.new.index
+        (first_inside true parser.old.bytes.now parser.old.index) }
+    ensures ahead { OnOk result (parser.old.index < parser.new.index) }
+    ensures inside { IfOk result (λ more. more ≡ true
+        → parser.new.index < length parser.old.bytes.now) }
+{
+    match parser.object_first() {
+        Ok(true) => match key(parser) {
+            Ok(()) => Ok(true),
+            Err(fault) => Err(fault),
+        },
+        Ok(false) => Ok(false),
+        Err(fault) => Err(fault),
+    }
+}
+
+// From behind a value of an object to its next one, or behind its closer.
+#[inline(always)]
+fn next_member(parser: &mut Parser<'_>) -> Result<bool, Fault>
+    ensures moves { Moves parser.old parser.new }
+    ensures value { Reads (λ more. more) result parser.new.index
+        (next_inside true parser.old.bytes.now parser.old.index) }
+    ensures inside { IfOk result (λ more. more ≡ true
+        → parser.new.index < length parser.old.bytes.now) }
+{
+    match parser.object_step() {
+        Ok(true) => match key(parser) {
+            Ok(()) => Ok(true),
+            Err(fault) => Err(fault),
+        },
+        Ok(false) => Ok(false),
+        Err(fault) => Err(fault),
+    }
+}
+
+// From the bracket of a container to the first value inside, or behind its closer.
+#[inline(always)]
+fn first_inside(parser: &mut Parser<'_>, is_object: bool) -> Result<bool, Fault>
+    requires { parser.old.index < length parser.old.bytes.now }
+    ensures moves { Moves parser.old parser.new }
+    ensures value { Reads (λ more. more) result parser.new.index
+        (first_inside is_object parser.old.bytes.now parser.old.index) }
+    ensures ahead { OnOk result (parser.old.index < parser.new.index) }
+    ensures inside { IfOk result (λ more. more ≡ true
+        → parser.new.index < length parser.old.bytes.now) }
+{
+    if is_object {
+        first_member(parser)
+    } else {
+        parser.array_first()
+    }
+}
+
+// From behind a value inside a container to the next one, or behind the container's closer.
+#[inline(always)]
+fn next_inside(parser: &mut Parser<'_>, is_object: bool) -> Result<bool, Fault>
+    ensures moves { Moves parser.old parser.new }
+    ensures value { Reads (λ more. more) result parser.new.index
+        (next_inside is_object parser.old.bytes.now parser.old.index) }
+    ensures inside { IfOk result (λ more. more ≡ true
+        → parser.new.index < length parser.old.bytes.now) }
+{
+    if is_object {
+        next_member(parser)
+    } else {
+        parser.array_step()
+    }
+}
+
+// The container whose bracket is where the reader stands: to its first value, or behind its closer.
+#[inline(always)]
+fn begin(parser: &mut Parser<'_>, nest: &mut Nest, is_object: bool) -> Result<bool, Fault>
+    requires within { parser.old.index < length parser.old.bytes.now }
+    requires bracket { start_of (slice_index parser.old.bytes.now parser.old.index)
+        ≡ opening is_object }
+    ensures moves { Moves parser.old parser.new }
+    ensures value { (names : Bool) → Continues names parser.old.bytes.now
+        (open_frames nest.new.objects nest.new.depth) result parser.new.index
+        (value_from (ends names) parser.old.bytes.now
+        (open_frames nest.old.objects nest.old.depth) parser.old.index) }
+    ensures ahead { OnOk result (parser.old.index < parser.new.index) }
+{
+    match first_inside(parser, is_object) {
+        Ok(true) => open(parser, nest, is_object),
+        Ok(false) => Ok(false),
+        Err(fault) => Err(fault),
+    }
+}
+
+// The scalar where the reader stands: to its end; a fault leaves the reader there.
+#[inline(always)]
+fn skip_scalar(parser: &mut Parser<'_>, allow_inf_nan: bool) -> Result<(), Fault>
+    requires within { parser.old.index < length parser.old.bytes.now }
+    requires array { start_of (slice_index parser.old.bytes.now parser.old.index) ≢ Start.Array }
+    requires object { start_of (slice_index parser.old.bytes.now parser.old.index) ≢ Start.Object }
+    ensures moves { Moves parser.old parser.new }
+    ensures value { (room : ℕ) → Reads (λ u. u) result parser.new.index
+        (value_at (ends allow_inf_nan) parser.old.bytes.now room parser.old.index) }
+    ensures ahead { OnOk result (parser.old.index < parser.new.index) }
+{
+    match start_of(parser.bytes[parser.index]) {
+        Start::Literal(literal) => parser.literal(literal),
+        Start::Number => number(parser, allow_inf_nan),
+        Start::String => match string_end(parser.bytes, parser.index) {
+            Ok(end) => {
+                parser.index = end;
+                Ok(())
+            }
+            Err(fault) => Err(fault),
+        },
+        Start::Nothing => Err(Fault {
+            kind: FaultKind::ExpectedSomeValue,
+            index: parser.index,
+        }),
+        Start::Array => unreachable!(),
+        Start::Object => unreachable!(),
+    }
+}
+
+// The value where the reader stands: to the first value inside it, or to its end.
+#[inline(always)]
+fn begin_value(parser: &mut Parser<'_>, nest: &mut Nest, allow_inf_nan: bool) -> Result<bool, Fault>
+    requires { parser.old.index < length parser.old.bytes.now }
+    ensures moves { Moves parser.old parser.new }
+    ensures value { Continues allow_inf_nan parser.old.bytes.now
+        (open_frames nest.new.objects nest.new.depth) result parser.new.index
+        (value_from (ends allow_inf_nan) parser.old.bytes.now
+        (open_frames nest.old.objects nest.old.depth) parser.old.index) }
+    ensures ahead { OnOk result (parser.old.index < parser.new.index) }
+{
+    match start_of(parser.bytes[parser.index]) {
+        Start::Array => begin(parser, nest, false),
+        Start::Object => begin(parser, nest, true),
+        _ => match skip_scalar(parser, allow_inf_nan) {
+            Ok(()) => Ok(false),
+            Err(fault) => Err(fault),
+        },
+    }
+}
+
+// From behind a value to the next one; containers that end are closed.
+#[inline(always)]
+fn end_value(parser: &mut Parser<'_>, nest: &mut Nest) -> Result<bool, Fault>
+    ensures moves { Moves parser.old parser.new }
+    ensures value { (names : Bool) → Continues names parser.old.bytes.now
+        (open_frames nest.new.objects nest.new.depth) result parser.new.index (resume (ends names)
+        parser.old.bytes.now (open_frames nest.old.objects nest.old.depth)
+        (done tt parser.old.index)) }
+    ensures all { IfOk result (λ more. more ≡ false → nest.new.depth ≡ 0) }
+{
+    'closing: loop {
+        if nest.depth == 0 {
+            return Ok(false);
+        }
+        match next_inside(parser, nest.objects[nest.depth - 1]) {
+            Ok(true) => return Ok(true),
+            Ok(false) => nest.depth -= 1,
+            Err(fault) => return Err(fault),
+        }
+    }
+}
+
+// The container that begins where the reader stands.
+fn skip_container(parser: &mut Parser<'_>, allow_inf_nan: bool) -> Result<(), Fault>
+    requires { parser.old.index < length parser.old.bytes.now }
+    ensures moves { Moves parser.old parser.new }
+    ensures value { Reads (λ u. u) result parser.new.index
+        (skip_at allow_inf_nan parser.old.bytes.now parser.old.index) }
+    ensures ahead { OnOk result (parser.old.index < parser.new.index) }
+{
+    let mut nest = Nest {
+        objects: [false; PLACES],
+        depth: 0,
+    };
+    'skipping: loop {
+        if begin_value(parser, &mut nest, allow_inf_nan)? {
+            continue 'skipping;
+        }
+        if !end_value(parser, &mut nest)? {
+            return Ok(());
+        }
+    }
+}
+
+/// From the first byte of a value to its end, with no value made, no text decoded and no UTF-8 tested
+/// (RFC 8259, 3). A fault leaves the reader at the first byte of the scalar or key that has it, else at its index.
+pub fn skip(parser: &mut Parser<'_>, allow_inf_nan: bool) -> Result<(), Fault>
+    requires { parser.old.index < length parser.old.bytes.now }
+    ensures moves { Moves parser.old parser.new }
+    ensures value { Reads (λ u. u) result parser.new.index
+        (skip_at allow_inf_nan parser.old.bytes.now parser.old.index) }
+    ensures ahead { OnOk result (parser.old.index < parser.new.index) }
+{
+    match start_of(parser.bytes[parser.index]) {
+        Start::Array => skip_container(parser, allow_inf_nan),
+        Start::Object => skip_container(parser, allow_inf_nan),
+        _ => skip_scalar(parser, allow_inf_nan),
+    }
+}
+
+#[cfg(test)]
+mod tests;

@@ -1,0 +1,113 @@
+-- What equality compares.
+use Rattle.std.proofs.Common.{◌≡◌, ℕ, zero, suc, Bool, false, List, [], ◌∷◌, map, refl, sym, ap, ◌∙◌, true≢false, Vec, Global}
+use Rattle.std.specs.Bool.{Decides}
+use Rattle.std.specs.Prelude.{slice_get, Some}
+use Rattle.jiter_steps.specs.StringDecoder.{text_view}
+use Rattle.jiter_steps.specs.Tree.{Text, Tree, array, object, Items, item, Members, member}
+use Rattle.jiter_steps.specs.Tree.{items_of, members_of}
+use Rattle.jiter_value.specs.Owned.{owned_text, owned_tree, owned_member, HoldSame}
+use Rattle.jiter_value.specs.Stacks.{Member, member_view}
+use Rattle.jiter_value.specs.Value.{view}
+use Rattle.jiter_value.specs.declared.value.JsonValue.{JsonValue, Array, Object}
+use Rattle.jiter_value.proofs.Owning.{owned_items-of, owned_members-of}
+use Rattle.jiter_value.proofs.Views.{view_array, view_object}
+
+pub along : {b : Bool} {P Q : Type 0} → Decides b P → (P → Q) → (Q → P) → Decides b Q
+along d there back = (λ e. there (d.0 e), λ q. d.1 (back q))
+
+pub differs : {P : Type 0} → (P → ⊥) → Decides false P
+differs never = (λ e. absurd (true≢false (sym e)), λ p. absurd (never p))
+
+-- ---- containers
+inside-array : (is js : Items) → array is ≡ array js → is ≡ js
+inside-array is js e = cc
+
+inside-object : (ms ns : Members) → object ms ≡ object ns → ms ≡ ns
+inside-object ms ns e = cc
+
+first-item : (v w : Tree) (is js : Items) → item v is ≡ item w js → v ≡ w
+first-item v w is js e = cc
+
+other-items : (v w : Tree) (is js : Items) → item v is ≡ item w js → is ≡ js
+other-items v w is js e = cc
+
+first-member : (m n : Text × Tree) (ms ns : Members) → member m.0 m.1 ms ≡ member n.0 n.1 ns → m ≡ n
+first-member (k, v) (l, w) ms ns e = let keys : k ≡ l = cc in let values : v ≡ w = cc in rw (keys, values) refl
+
+other-members : (m n : Text × Tree) (ms ns : Members) → member m.0 m.1 ms ≡ member n.0 n.1 ns → ms ≡ ns
+other-members m n ms ns e = cc
+
+same-lists : (xs ys : List Tree) → items_of xs ≡ items_of ys → xs ≡ ys
+same-lists [] [] e = refl
+same-lists [] (y ∷ ys) e = absurd (cc)
+same-lists (x ∷ xs) [] e = absurd (cc)
+same-lists (x ∷ xs) (y ∷ ys) e =
+    rw (first-item x y (items_of xs) (items_of ys) e, same-lists xs ys (other-items x y (items_of xs) (items_of ys) e)) refl
+
+same-member_lists : (ms ns : List (Text × Tree)) → members_of ms ≡ members_of ns → ms ≡ ns
+same-member_lists [] [] e = refl
+same-member_lists [] (n ∷ ns) e = absurd (cc)
+same-member_lists (m ∷ ms) [] e = absurd (cc)
+same-member_lists (m ∷ ms) (n ∷ ns) e =
+    rw (
+      first-member m n (members_of ms) (members_of ns) e,
+      same-member_lists ms ns (other-members m n (members_of ms) (members_of ns) e),
+    ) refl
+
+owned-view-Array : (v : Vec JsonValue Global)
+    → owned_tree (view (Array v)) ≡ array (items_of (map owned_tree (map view v.items)))
+owned-view-Array v = ap owned_tree (view_array v) ∙ ap array (owned_items-of (map view v.items))
+
+owned-view-Object : (v : Vec Member Global)
+    → owned_tree (view (Object v)) ≡ object (members_of (map owned_member (map member_view v.items)))
+owned-view-Object v = ap owned_tree (view_object v) ∙ ap object (owned_members-of (map member_view v.items))
+
+pub array-decides : (b : Bool) (v w : Vec JsonValue Global)
+    → Decides b (map owned_tree (map view v.items) ≡ map owned_tree (map view w.items))
+    → Decides b (HoldSame (view (Array v)) (view (Array w)))
+array-decides b v w d =
+    along d (λ h. owned-view-Array v ∙ ap (λ ts. array (items_of ts)) h ∙ sym (owned-view-Array w))
+    (λ e. same-lists (map owned_tree (map view v.items)) (map owned_tree (map view w.items))
+    (inside-array (items_of (map owned_tree (map view v.items))) (items_of (map owned_tree (map view w.items)))
+    (sym (owned-view-Array v) ∙ e ∙ owned-view-Array w)))
+
+pub object-decides : (b : Bool) (v w : Vec Member Global)
+    → Decides b (map owned_member (map member_view v.items) ≡ map owned_member (map member_view w.items))
+    → Decides b (HoldSame (view (Object v)) (view (Object w)))
+object-decides b v w d =
+    along d (λ h. owned-view-Object v ∙ ap (λ ms. object (members_of ms)) h ∙ sym (owned-view-Object w))
+    (λ e. same-member_lists (map owned_member (map member_view v.items)) (map owned_member (map member_view w.items))
+    (inside-object (members_of (map owned_member (map member_view v.items))) (members_of (map owned_member (map member_view w.items)))
+    (sym (owned-view-Object v) ∙ e ∙ owned-view-Object w)))
+
+-- what stands at one place of two lists that are the same
+pub at-same : {X Y Z : Type 0} (f : X → Y) (g : Y → Z) (xs ys : List X) (i : ℕ) (x y : X) → slice_get xs i ≡ Some x
+    → slice_get ys i ≡ Some y → map g (map f xs) ≡ map g (map f ys) → g (f x) ≡ g (f y)
+at-same f g [] ys i x y hx hy e = absurd (cc)
+at-same f g (a ∷ xs) [] i x y hx hy e = absurd (cc)
+at-same f g (a ∷ xs) (b ∷ ys) zero x y hx hy e = let p : a ≡ x = cc in let q : b ≡ y = cc in rw (sym p, sym q) (cc)
+at-same f g (a ∷ xs) (b ∷ ys) (suc i) x y hx hy e = at-same f g xs ys i x y hx hy (cc)
+
+-- where two lists differ at a place
+pub items-differ : (xs ys : List JsonValue) (i : ℕ) (x y : JsonValue) (b : Bool) → slice_get xs i ≡ Some x
+    → slice_get ys i ≡ Some y → Decides b (HoldSame (view x) (view y)) → b ≡ false
+    → Decides false (map owned_tree (map view xs) ≡ map owned_tree (map view ys))
+items-differ xs ys i x y b hx hy d not = differs
+    (λ e. true≢false (sym (d.1 (at-same view owned_tree xs ys i x y hx hy e)) ∙ not))
+
+keys-differ-at : (ms ns : List Member) (i : ℕ) (m n : Member) (b : Bool) → slice_get ms i ≡ Some m
+    → slice_get ns i ≡ Some n → Decides b (owned_text (text_view m.0) ≡ owned_text (text_view n.0)) → b ≡ false
+    → map owned_member (map member_view ms) ≡ map owned_member (map member_view ns) → ⊥
+keys-differ-at ms ns i m n b hm hn d not e =
+    true≢false (sym (d.1 (ap (λ (p : Text × Tree). p.0) (at-same member_view owned_member ms ns i m n hm hn e))) ∙ not)
+
+pub keys-differ : (ms ns : List Member) (i : ℕ) (m n : Member) (b : Bool) → slice_get ms i ≡ Some m
+    → slice_get ns i ≡ Some n → Decides b (owned_text (text_view m.0) ≡ owned_text (text_view n.0)) → b ≡ false
+    → Decides false (map owned_member (map member_view ms) ≡ map owned_member (map member_view ns))
+keys-differ ms ns i m n b hm hn d not = differs (keys-differ-at ms ns i m n b hm hn d not)
+
+pub values-differ : (ms ns : List Member) (i : ℕ) (m n : Member) (b : Bool) → slice_get ms i ≡ Some m
+    → slice_get ns i ≡ Some n → Decides b (HoldSame (view m.1) (view n.1)) → b ≡ false
+    → Decides false (map owned_member (map member_view ms) ≡ map owned_member (map member_view ns))
+values-differ ms ns i m n b hm hn d not = differs
+    (λ e. true≢false (sym (d.1 (ap (λ (p : Text × Tree). p.1) (at-same member_view owned_member ms ns i m n hm hn e))) ∙ not))

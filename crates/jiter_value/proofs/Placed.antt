@@ -1,0 +1,126 @@
+-- Plain scalars, read and put where they belong.
+use Rattle.std.proofs.Common.{◌≡◌, inl, inr, ℕ, ◌+◌, ◌<◌, ◌≤◌, Bool, true, false, List, [], ◌∷◌, ◌++◌, length, length-append, Vec, refl, sym, ap, subst, ◌∙◌, slice_range, arith}
+use Rattle.std.specs.Prelude.{reverse, slice_index, nat_lt, pos, if◌then◌else◌}
+use Rattle.std.proofs.lemmas.Bool.Decides.{nat_tests}
+use Rattle.std.proofs.lemmas.List.{length-reverse}
+use Rattle.jiter_scan.specs.Number.{Number, integer, float, minus_of}
+use Rattle.jiter_scan.specs.NumberDecoder.{IsMinusTo}
+use Rattle.jiter_scan.specs.ShortNumber.{IsShortInteger, IsShortFloat}
+use Rattle.jiter_scan.proofs.ShortValues.{short-integer, short-negative, short-float, short-negative_float}
+use Rattle.jiter_scan.specs.NumberReading.{number_at}
+use Rattle.jiter_scan.specs.Scanned.{taken}
+use Rattle.jiter_scan.specs.declared.partial_mode.PartialMode.{PartialMode}
+use Rattle.jiter_scan.specs.declared.partial_mode.PartialMode.TheVariants.{Off, On, TrailingStrings}
+use Rattle.jiter_steps.specs.Answer.{seen_as, value_form}
+use Rattle.jiter_steps.specs.Literal.{start_of, literal_at, literal_tree}
+use Rattle.jiter_steps.specs.Node.{number_tree}
+use Rattle.jiter_steps.specs.Read.{done, scalar_at, value_with, inside_at, value_at}
+use Rattle.jiter_steps.specs.StringReading.{string_at, whole, kept}
+use Rattle.jiter_steps.specs.Tree.{Text, Tree, string}
+use Rattle.jiter_steps.specs.declared.parse.Literal.{Literal}
+use Rattle.jiter_steps.specs.declared.parse.Start.{Start}
+use Rattle.jiter_steps.specs.declared.parse.Start.TheVariants as start
+use Rattle.jiter_value.specs.Settings.{rules}
+use Rattle.jiter_value.specs.Size.{size, value_size, behind_size, frames_size}
+use Rattle.jiter_value.specs.Stacks.{Member, resume_with, behind, frames, HaveBases, Stands, StandsAtKey}
+use Rattle.jiter_value.specs.Turns.{IsPutAt, IsKeyAt}
+use Rattle.jiter_value.specs.Value.{view}
+use Rattle.jiter_value.specs.declared.settings.Settings.{Settings}
+use Rattle.jiter_value.specs.declared.stacks.Awaits.{Awaits}
+use Rattle.jiter_value.specs.declared.stacks.Stacks.{Stacks}
+use Rattle.jiter_value.specs.declared.value.JsonValue.{JsonValue}
+use Rattle.jiter_value.specs.declared.value.JsonValue.TheVariants.{Null}
+use Rattle.jiter_value.specs.declared.stacks.Awaits.TheVariants as awaits
+use Rattle.std.specs.declared.alloc.Global.{Global}
+use Rattle.std.specs.declared.borrow.CowStr.{CowStr}
+use Rattle.jiter_steps.specs.Frames.{value_from}
+use Rattle.jiter_steps.specs.Step.{object_colon}
+use Rattle.jiter_steps.specs.StringDecoder.{text_view}
+use Rattle.jiter_value.proofs.Kept.{value-read, key-opens, key-above}
+use Rattle.jiter_value.proofs.Sizes.{key-size}
+
+module _ (p : Settings) (t : List ℕ) (i e room : ℕ) where
+  begins : (s : Start) → start_of (slice_index t i) ≡ s
+      → value_at (rules p) t room i ≡ value_with (rules p) (inside_at (rules p) t room) t i s
+  begins s h = ap (value_with (rules p) (inside_at (rules p) t room) t i) h
+
+  in-form : (mode : PartialMode) (s : Text) → string_at whole t i ≡ taken s e → string_at kept t i ≡ taken s e
+      → string_at (value_form mode) t i ≡ taken s e
+  in-form Off s w k = w
+  in-form On s w k = w
+  in-form TrailingStrings s w k = k
+
+  pub text-read : (s : Text) → start_of (slice_index t i) ≡ start.String → string_at whole t i ≡ taken s e
+      → string_at kept t i ≡ taken s e → value_at (rules p) t room i ≡ done (string s) e
+  text-read s h w k =
+      begins start.String h ∙ ap (λ x. scalar_at i (seen_as (λ s e. string s) x)) (in-form p.mode s w k)
+
+  pub number-read : (n : Number) → start_of (slice_index t i) ≡ start.Number
+      → number_at p.allow_inf_nan t i ≡ taken n e → value_at (rules p) t room i ≡ done (number_tree n) e
+  number-read n h is = begins start.Number h ∙ ap (λ x. scalar_at i (seen_as (λ n e. number_tree n) x)) is
+
+  pub literal-read : (l : Literal) → start_of (slice_index t i) ≡ start.Literal l → literal_at t l i ≡ taken tt e
+      → value_at (rules p) t room i ≡ done (literal_tree l) e
+  literal-read l h is = begins (start.Literal l) h ∙ ap (λ x. scalar_at i (seen_as (λ u e. literal_tree l) x)) is
+
+-- a scalar that was read so, and put so
+module _ (t : List ℕ) (old new : Stacks) (a : Awaits) (i e : ℕ) (v : JsonValue) (x : Tree) (seen : view v ≡ x) where
+  pub put-at : Stands old a → length old.nest.items ≤ 200
+      → ((p : Settings) (u : List ℕ) (j : ℕ) → resume_with p u old a (done (view v) j) ≡ behind p u new a j)
+      → Stands new a → new.nest ≡ old.nest → behind_size new a ≡ value_size old a + size (view v) → size x ≡ 1
+      → i < e → e ≤ length t → ((p : Settings) (room : ℕ) → value_at (rules p) t room i ≡ done x e)
+      → IsPutAt t old i a new e
+  put-at b few put stands nest held one ahead within read =
+      let os = reverse old.nest.items in
+      let low : length os ≤ 200 = omega (arith, length-reverse old.nest.items) in
+      let counts : size (view v) ≡ 1 = ap size seen ∙ one in
+      record {
+        value = λ p.
+            value-read p t a os old.items.items old.members.items b low i (done x e) (read p)
+            ∙ ap (λ y. resume_with p t old a (done y e)) (sym seen) ∙ put p t e;
+        stands = stands;
+        nest = nest;
+        held = omega (arith, held, counts);
+        ahead = ahead;
+        within = within;
+      }
+
+-- short numbers with their sign
+module _ (t : List ℕ) (names : Bool) (i e : ℕ) where
+  pub short-signed : (j n : ℕ) → IsMinusTo t i j → IsShortInteger t j n e
+      → number_at names t i ≡ taken (integer (if nat_lt i j then minus_of n else pos n)) e
+  short-signed j n (inl same) s =
+      let no : nat_lt i j ≡ false = grind (arith, nat_tests, same) in
+      short-integer t names e i n (subst (λ k. IsShortInteger t k n e) same s)
+      ∙ ap (λ (b : Bool). taken (integer (if b then minus_of n else pos n)) e) (sym no)
+  short-signed j n (inr (next, minus)) s =
+      let yes : nat_lt i j ≡ true = grind (arith, nat_tests, next) in
+      short-negative t names e i minus n (subst (λ k. IsShortInteger t k n e) next s)
+      ∙ ap (λ (b : Bool). taken (integer (if b then minus_of n else pos n)) e) (sym yes)
+
+  pub short-signed_float : (j : ℕ) → IsMinusTo t i j → IsShortFloat t j e
+      → number_at names t i ≡ taken (float (slice_range t i e)) e
+  short-signed_float j (inl same) s = short-float t names e i (subst (λ k. IsShortFloat t k e) same s)
+  short-signed_float j (inr (next, minus)) s =
+      short-negative_float t names e i minus (subst (λ k. IsShortFloat t k e) next s)
+
+-- a key that was read so, and put so
+pub key-at : (t : List ℕ) (s : Stacks) (ms : Vec Member Global) (i e j : ℕ) (k : CowStr Global) (x : Text) → text_view k ≡ x
+    → StandsAtKey s → i < length t → string_at whole t i ≡ taken x e → object_colon t e ≡ taken tt j
+    → ms.items ≡ s.members.items ++ (k, Null) ∷ [] → i < j → j < length t
+    → IsKeyAt t s i (record { items = s.items; members = ms; nest = s.nest; root = s.root; error = s.error }) j
+key-at t s ms i e j k x seen b inside read colon pushed ahead within =
+    let os = reverse s.nest.items in
+    let es = s.items.items in
+    let n = length s.members.items in
+    let long : n + 1 ≡ length ms.items = omega (arith, ap length pushed, length-append s.members.items ((k, Null) ∷ [])) in
+    record {
+      value = λ p.
+          key-opens p t os es s.members.items i k e j b inside (read ∙ ap (λ y. taken y e) (sym seen)) colon
+          ∙ ap (λ ys. value_from (rules p) t (frames awaits.Value os es ys) j) (sym pushed);
+      stands = subst (λ m. HaveBases awaits.Value os (length es) m) long (key-above os (length es) n b);
+      nest = refl;
+      held = ap (λ ys. frames_size (frames awaits.Value os es ys)) pushed ∙ key-size os es s.members.items k Null b;
+      ahead = ahead;
+      within = within;
+    }

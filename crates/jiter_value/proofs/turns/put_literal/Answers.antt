@@ -1,0 +1,44 @@
+use Rattle.std.proofs.Common.{◌∙◌, sym, ap, true, false}
+use Rattle.jiter_steps.specs.Literal.{literal_tree}
+use Rattle.jiter_value.specs.Size.{size}
+use Rattle.jiter_value.proofs.Placed.{put-at, literal-read}
+use Rattle.jiter_value.proofs.Views.{view_null, view_bool}
+use Rattle.jiter_value.proofs.turns.put_literal.Goals as goal
+
+pub returns-in-Null-clause-put : goal.returns-in-Null-clause-put
+returns-in-Null-clause-put c =
+    let a = c.args in
+    let t = a.bytes.now in
+    let e = c.in-Some.end in
+    let n = c.put_reserved in
+    let l = a.literal in
+    put-at t a.stacks.now n.new.stacks a.awaits a.at e _ (literal_tree l) (view_null ∙ ap literal_tree (sym c.in-Null.is))
+    c.requires.stands c.requires.few n.ensures.value n.ensures.stands n.ensures.nest n.ensures.held
+    (ap (λ x. size (literal_tree x)) c.in-Null.is) c.in-Some.ensures.within.0 c.in-Some.ensures.within.1
+    (λ p room. literal-read p t a.at e room l c.requires.begins c.in-Some.ensures.value)
+
+pub returns-in-True-clause-put : goal.returns-in-True-clause-put
+returns-in-True-clause-put c =
+    let a = c.args in
+    let t = a.bytes.now in
+    let e = c.in-Some.end in
+    let n = c.put_reserved-in-True in
+    let l = a.literal in
+    put-at t a.stacks.now n.new.stacks a.awaits a.at e _ (literal_tree l)
+    (view_bool true ∙ ap literal_tree (sym c.in-True.is)) c.requires.stands c.requires.few n.ensures.value
+    n.ensures.stands n.ensures.nest n.ensures.held (ap (λ x. size (literal_tree x)) c.in-True.is)
+    c.in-Some.ensures.within.0 c.in-Some.ensures.within.1
+    (λ p room. literal-read p t a.at e room l c.requires.begins c.in-Some.ensures.value)
+
+pub returns-in-False-clause-put : goal.returns-in-False-clause-put
+returns-in-False-clause-put c =
+    let a = c.args in
+    let t = a.bytes.now in
+    let e = c.in-Some.end in
+    let n = c.put_reserved-in-False in
+    let l = a.literal in
+    put-at t a.stacks.now n.new.stacks a.awaits a.at e _ (literal_tree l)
+    (view_bool false ∙ ap literal_tree (sym c.in-False.is)) c.requires.stands c.requires.few n.ensures.value
+    n.ensures.stands n.ensures.nest n.ensures.held (ap (λ x. size (literal_tree x)) c.in-False.is)
+    c.in-Some.ensures.within.0 c.in-Some.ensures.within.1
+    (λ p room. literal-read p t a.at e room l c.requires.begins c.in-Some.ensures.value)

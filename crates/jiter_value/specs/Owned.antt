@@ -1,0 +1,84 @@
+-- Trees whose texts are all owned, and trees that are the same wherever their texts lie.
+use Rattle.std.specs.Prelude.{◌≡◌, ◌⊎◌, ℕ, Bool, true, List, Result, Ok, Err}
+use Rattle.jiter_scan.specs.Kind.{kind_of}
+use Rattle.jiter_scan.specs.declared.errors.JsonError.{JsonError}
+use Rattle.jiter_scan.specs.declared.errors.JsonErrorType.TheVariants.{OutOfMemory}
+use Rattle.jiter_scan.specs.declared.partial_mode.PartialMode.{PartialMode}
+use Rattle.jiter_steps.specs.Answer.{answer_in}
+use Rattle.jiter_steps.specs.Read.{Reading, done, fault}
+use Rattle.jiter_steps.specs.Tree.{Text, Tree, null, boolean, int, big, float, string, array, object}
+use Rattle.jiter_steps.specs.Tree.{Items, no_items, item, Members, no_members, member}
+use Rattle.jiter_value.specs.Value.{view, MayGrow}
+use Rattle.jiter_value.specs.declared.value.JsonValue.{JsonValue}
+
+-- the same bytes, in memory of their own
+abbrev pub owned_text : Text → Text
+owned_text s = record { owned = true; bytes = s.bytes }
+
+-- the same tree, each of its texts owned
+abbrev mutual
+  pub owned_tree : Tree → Tree
+  owned_tree null = null
+  owned_tree (boolean b) = boolean b
+  owned_tree (int z) = int z
+  owned_tree (big s) = big (owned_text s)
+  owned_tree (float s) = float (owned_text s)
+  owned_tree (string s) = string (owned_text s)
+  owned_tree (array is) = array (owned_items is)
+  owned_tree (object ms) = object (owned_members ms)
+
+  pub owned_items : Items → Items
+  owned_items no_items = no_items
+  owned_items (item v is) = item (owned_tree v) (owned_items is)
+
+  pub owned_members : Members → Members
+  owned_members no_members = no_members
+  owned_members (member k v ms) = member (owned_text k) (owned_tree v) (owned_members ms)
+
+-- the same of a member
+abbrev pub owned_member : Text × Tree → Text × Tree
+owned_member m = (owned_text m.0, owned_tree m.1)
+
+-- Two trees hold the same, wherever their texts lie.
+abbrev pub HoldSame : Tree → Tree → Type 0
+HoldSame v w = owned_tree v ≡ owned_tree w
+
+-- A tree that holds a text or a part; owning any other takes no memory.
+abbrev pub HoldsTextOrPart : Tree → Type 0
+HoldsTextOrPart null = ⊥
+HoldsTextOrPart (boolean b) = ⊥
+HoldsTextOrPart (int z) = ⊥
+HoldsTextOrPart (big s) = Unit {0}
+HoldsTextOrPart (float s) = Unit {0}
+HoldsTextOrPart (string s) = Unit {0}
+HoldsTextOrPart (array no_items) = ⊥
+HoldsTextOrPart (array (item v is)) = Unit {0}
+HoldsTextOrPart (object no_members) = ⊥
+HoldsTextOrPart (object (member k v ms)) = Unit {0}
+
+-- What a parse returns whose value owns its texts: the value that was read, each text owned, or the fault's kind and
+-- index, unless memory was refused.
+abbrev pub AnswersOwned : Result JsonValue JsonError → Reading Tree → Type 0
+AnswersOwned (Ok v) r = (read : Tree) × (e : ℕ) × (r ≡ done read e) × (view v ≡ owned_tree read)
+AnswersOwned (Err e) r = (e.error_type ≡ OutOfMemory) ⊎ ((stop : ℕ) × (r ≡ fault (kind_of e.error_type) e.index stop))
+
+-- the owned value that a text answers may want memory: reading it does, or it holds a text or a part
+abbrev pub ReadHolds : Reading Tree → Type 0
+ReadHolds (done v e) = HoldsTextOrPart v
+ReadHolds (fault k x stop) = ⊥
+
+abbrev pub OwnedMayGrow : Bool → PartialMode → List ℕ → Type 0
+OwnedMayGrow names mode t = MayGrow t ⊎ ReadHolds (answer_in names mode t)
+
+-- What became of an answer: the same value, each text owned, or want of memory at an index, where there was a text or
+-- a part to own; the same fault.
+abbrev pub IsOwnedAnswer : Result JsonValue JsonError → ℕ → Result JsonValue JsonError → Type 0
+IsOwnedAnswer (Ok v) i (Ok w) = view w ≡ owned_tree (view v)
+IsOwnedAnswer (Ok v) i (Err e) = (e ≡ record { error_type = OutOfMemory; index = i }) × HoldsTextOrPart (view v)
+IsOwnedAnswer (Err f) i (Ok w) = ⊥
+IsOwnedAnswer (Err f) i (Err e) = e ≡ f
+
+-- a reading, its value with each text owned
+abbrev pub owned_reading : Reading Tree → Reading Tree
+owned_reading (done v e) = done (owned_tree v) e
+owned_reading (fault k i stop) = fault k i stop

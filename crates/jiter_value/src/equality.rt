@@ -1,0 +1,101 @@
+//! Equality of values: that of what they hold, wherever their texts lie.
+ghost use Rattle.std.specs.Prelude.{◌≡◌, true, map};
+ghost use Rattle.std.specs.Bool.{Decides};
+ghost use Rattle.std.specs.Cmp.{on_per, on_equiv, partial_equiv_from_equiv};
+ghost use Rattle.std.specs.Cmp.Lexicographic.{nat_list_eq_equiv};
+ghost use Rattle.jiter_steps.specs.StringDecoder.{text_view};
+ghost use Rattle.jiter_steps.specs.Tree.{Tree};
+ghost use Rattle.jiter_value.specs.Equality.{code, same_content};
+ghost use Rattle.jiter_value.specs.Owned.{owned_text, owned_tree, owned_member, HoldSame};
+ghost use Rattle.jiter_value.specs.Stacks.{member_view};
+ghost use Rattle.jiter_value.specs.Value.{view};
+
+use crate::value::{JsonArray, JsonObject, JsonValue};
+use std::borrow::CowStr;
+
+impl<'s> PartialEq for JsonValue<'s> {
+    ghost eq = { λ v w. same_content (view v) (view w) };
+
+    ghost laws = { on_per (λ v. code (view v)) (partial_equiv_from_equiv nat_list_eq_equiv) };
+
+    /// Whether two values hold the same: texts by their bytes, borrowed or owned, and numbers that are kept
+    /// as text by that text.
+    fn eq(&self, other: &Self) -> bool
+        ensures value { result ≡ same_content (view self.now) (view other.now) }
+        ensures decided { Decides result (HoldSame (view self.now) (view other.now)) }
+    {
+        same_values(self, other)
+    }
+}
+
+impl<'s> Eq for JsonValue<'s> {
+    ghost laws = { on_equiv (λ v. code (view v)) nat_list_eq_equiv };
+}
+
+/// What equality has of an equivalence, for a caller to cite.
+pub fn equality_is_an_equivalence()
+    ensures reflexive { (v : Tree) → same_content v v ≡ true }
+    ensures symmetric { (v w : Tree) → same_content v w ≡ same_content w v }
+    ensures transitive { (v w x : Tree) → same_content v w ≡ true → same_content w x ≡ true
+        → same_content v x ≡ true }
+{}
+
+#[cycle(same)]
+fn same_values(one: &JsonValue<'_>, other: &JsonValue<'_>) -> bool
+    ensures { Decides result (HoldSame (view one.now) (view other.now)) }
+{
+    match (one, other) {
+        (JsonValue::Null, JsonValue::Null) => true,
+        (JsonValue::Bool(a), JsonValue::Bool(b)) => *a == *b,
+        (JsonValue::Int(a), JsonValue::Int(b)) => *a == *b,
+        (JsonValue::BigInt(a), JsonValue::BigInt(b)) => same_texts(a, b),
+        (JsonValue::Float(a), JsonValue::Float(b)) => same_texts(a, b),
+        (JsonValue::Str(a), JsonValue::Str(b)) => same_texts(a, b),
+        (JsonValue::Array(a), JsonValue::Array(b)) => same_items(a, b),
+        (JsonValue::Object(a), JsonValue::Object(b)) => same_members(a, b),
+        _ => false,
+    }
+}
+
+#[cycle(same)]
+fn same_items(one: &JsonArray<'_>, other: &JsonArray<'_>) -> bool
+    ensures { Decides result (map owned_tree (map view one.now.items)
+        ≡ map owned_tree (map view other.now.items)) }
+{
+    if one.len() != other.len() {
+        return false;
+    }
+    for i in 0..one.len() {
+        if !same_values(&one[i], &other[i]) {
+            return false;
+        }
+    }
+    true
+}
+
+#[cycle(same)]
+fn same_members(one: &JsonObject<'_>, other: &JsonObject<'_>) -> bool
+    ensures { Decides result (map owned_member (map member_view one.now.items)
+        ≡ map owned_member (map member_view other.now.items)) }
+{
+    if one.len() != other.len() {
+        return false;
+    }
+    for i in 0..one.len() {
+        let member = &one[i];
+        let mate = &other[i];
+        if !same_texts(&member.0, &mate.0) {
+            return false;
+        }
+        if !same_values(&member.1, &mate.1) {
+            return false;
+        }
+    }
+    true
+}
+
+fn same_texts(one: &CowStr<'_>, other: &CowStr<'_>) -> bool
+    ensures { Decides result (owned_text (text_view one.now) ≡ owned_text (text_view other.now)) }
+{
+    one.as_str() == other.as_str()
+}
