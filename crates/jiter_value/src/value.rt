@@ -23,7 +23,7 @@ pub type JsonArray<'s> = Vec<JsonValue<'s>>;
 pub type JsonObject<'s> = Vec<(CowStr<'s>, JsonValue<'s>)>;
 
 /// A JSON value (RFC 8259, 3). A text is borrowed from the input where its source has no backslash.
-#[derive(Debug, Drop)]
+#[derive(Debug)]
 pub enum JsonValue<'s> {
     /// `null`
     Null,
@@ -41,6 +41,48 @@ pub enum JsonValue<'s> {
     Array(JsonArray<'s>),
     /// An object.
     Object(JsonObject<'s>),
+}
+
+impl<'s> Drop for JsonValue<'s> {
+    #[cycle(drop)]
+    #[inline(always)]
+    fn drop(self) {
+        match self {
+            JsonValue::Null => {}
+            JsonValue::Bool(_) => {}
+            JsonValue::Int(_) => {}
+            JsonValue::BigInt(text) => drop_text(text),
+            JsonValue::Float(text) => drop_text(text),
+            JsonValue::Str(text) => drop_text(text),
+            JsonValue::Array(items) => drop_items(items),
+            JsonValue::Object(members) => drop_members(members),
+        }
+    }
+}
+
+#[inline(always)]
+fn drop_text(text: CowStr<'_>) {
+    match text {
+        CowStr::Borrowed(_) => {}
+        CowStr::Owned(owned) => drop_owned(owned),
+    }
+}
+
+#[inline(never)]
+fn drop_owned(text: String) {
+    drop(text);
+}
+
+#[cycle(drop)]
+#[inline(never)]
+fn drop_items(items: JsonArray<'_>) {
+    drop(items);
+}
+
+#[cycle(drop)]
+#[inline(never)]
+fn drop_members(members: JsonObject<'_>) {
+    drop(members);
 }
 
 impl<'j> JsonValue<'j> {
