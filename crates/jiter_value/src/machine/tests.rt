@@ -43,7 +43,7 @@ fn a_cut_document_is_read_as_far_as_it_goes(rt: HostRuntime) {
 
 // How many items the answer has, where it is an array.
 fn items_of(alloc: Global, bytes: &[u8], mode: PartialMode) -> Option<usize> {
-    match JsonValue::parse_with_config(alloc, bytes, false, mode) {
+    match &JsonValue::parse_with_config(alloc, bytes, false, mode) {
         Ok(JsonValue::Array(items)) => Some(items.len()),
         Ok(_) => None,
         Err(_) => None,
