@@ -1,6 +1,8 @@
 //! Rows of documents, each with the value that a parse of the whole answers.
 use super::value_text;
 use crate::JsonValue;
+use std::borrow::CowStr;
+use std::mem;
 use std::test::*;
 
 #[test]
@@ -77,4 +79,17 @@ fn two_hundred_containers_around_an_empty_one_are_read(rt: HostRuntime) -> Resul
         text.as_str()
     );
     Ok(())
+}
+
+#[test]
+fn a_text_is_taken_out_of_a_value(rt: HostRuntime) {
+    let alloc = rt.alloc();
+    match &mut JsonValue::parse(alloc, br#""a\u0062""#, false) {
+        Ok(JsonValue::Str(text)) => {
+            let taken = mem::replace(text, CowStr::Borrowed(""));
+            assert_eq!(rt; taken.as_str(), "ab");
+            assert_eq!(rt; text.as_str(), "");
+        }
+        _ => assert!(rt; false),
+    }
 }
