@@ -9,6 +9,10 @@ use Rattle.std.proofs.lemmas.Bool.Decides.{nat_tests}
 use Rattle.jiter_scan.proofs.Runs.{run_end-passing, run_end-stopping, run_end-past, run_end-within, run_end-ahead}
 use Rattle.jiter_scan.proofs.Runs.{run_end-passes, run_end-stops}
 use Rattle.jiter_scan.proofs.Standing.{get-none}
+use Rattle.jiter_scan.proofs.Chunks.{run_end-through, run_end-inside}
+use Rattle.jiter_scan.specs.Simd.{failing}
+use lib.Lanes.{chunk}
+use lib.Count.{count_trailing_zeros}
 use Rattle.jiter_steps.specs.Blank.{is_blank, past_blanks, IsBlankByte, IsBlank}
 
 blank-is : (c : ℕ) → IsBlankByte c → is_blank c ≡ true
@@ -47,6 +51,17 @@ module _ (t : List ℕ) where
   pub past_blanks-after : (i : ℕ) → i ≤ past_blanks t i
   unfolding past_blanks
   past_blanks-after = run_end-ahead is_blank t
+
+  -- sixteen bytes at a time, by a bit for each that is no blank
+  pub past_blanks-through : (i : ℕ) → i + 16 ≤ length t → failing is_blank (chunk i 16 t) ≡ 0
+      → past_blanks t i ≡ past_blanks t (i + 16)
+  unfolding past_blanks
+  past_blanks-through i room none = run_end-through is_blank t i 16 room none
+
+  pub past_blanks-inside : (i : ℕ) → i + 16 ≤ length t → 0 < failing is_blank (chunk i 16 t)
+      → past_blanks t i ≡ i + count_trailing_zeros 64 (failing is_blank (chunk i 16 t))
+  unfolding past_blanks
+  past_blanks-inside i room some = run_end-inside is_blank t i 16 room (omega arith) some
 
   -- blanks that stand are passed, up to a byte that is none or the end
   passes : (i j : ℕ) → IsBlank t i j → (j < length t → is_blank (get_or t j 0) ≡ false) → past_blanks t i ≡ j

@@ -2,6 +2,7 @@
 //! between the parts of containers, by a reader that stands at a place.
 #![tactic(auto)]
 
+pub mod blank;
 pub mod parse;
 pub mod plain;
 pub mod raw_string;

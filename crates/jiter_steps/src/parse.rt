@@ -1,11 +1,11 @@
-//! A reader that stands at a place of the bytes: blanks, literals, numbers, strings, and the steps between
-//! the parts of arrays and objects.
+//! A reader that stands at a place of the bytes: literals, numbers, strings, and the steps between the parts
+//! of arrays and objects.
 ghost use Rattle.std.specs.Prelude.{◌≡◌, ◌+◌, ◌≤◌, ◌<◌, IfOk, OnOk, OnErr, IfSome, true, length, slice_get};
 ghost use Rattle.jiter_scan.specs.Kind.{fault_kind};
 ghost use Rattle.jiter_scan.specs.NumberReading.{number_at};
 ghost use Rattle.jiter_scan.specs.NumberDecoder.{number_view};
 ghost use Rattle.jiter_scan.specs.Scanned.{Scans, taken};
-ghost use Rattle.jiter_steps.specs.Blank.{is_blank, past_blanks};
+ghost use Rattle.jiter_steps.specs.Blank.{past_blanks};
 ghost use Rattle.jiter_steps.specs.Literal.{start_of, word_of, literal_at};
 ghost use Rattle.jiter_steps.specs.Step.{step, closer_of, begins_part, end_kind_of, comma_kind_of};
 ghost use Rattle.jiter_steps.specs.Step.{container_first, container_comma, container_step};
@@ -16,6 +16,7 @@ ghost use Rattle.jiter_steps.specs.ReadError.{WhereRefused};
 ghost use Rattle.jiter_steps.specs.StringReading.{string_at, whole, kept};
 ghost use Rattle.jiter_steps.specs.StringDecoder.{text_view, WantsMemory};
 
+use crate::blank::past_blanks;
 use crate::read_error::ReadError;
 use crate::string_decoder::{string_at, string_front_at};
 use jiter_scan::NumberAny;
@@ -70,41 +71,6 @@ pub fn start_of(byte: u8) -> Start
         b'0'..=b'9' | b'-' | b'N' | b'I' => Start::Number,
         _ => Start::Nothing,
     }
-}
-
-fn is_blank(byte: u8) -> bool
-    ensures { result ≡ is_blank byte }
-{
-    matches!(byte, b' ' | b'\t' | b'\n' | b'\r')
-}
-
-// The first byte index from `from` on that has no blank, or the length, byte by byte.
-#[inline(never)]
-fn blanks_end(bytes: &[u8], from: usize) -> usize
-    requires { from ≤ length bytes.now }
-    ensures value { result ≡ past_blanks bytes.now from }
-    ensures bound { result ≤ length bytes.now }
-    ensures after { from ≤ result }
-{
-    let mut at = from;
-    while at < bytes.len() && is_blank(bytes[at]) {
-        at += 1;
-    }
-    at
-}
-
-/// The first byte index from `from` on that has no blank, or the length (RFC 8259, 2).
-#[inline(always)]
-pub fn past_blanks(bytes: &[u8], from: usize) -> usize
-    requires { from ≤ length bytes.now }
-    ensures value { result ≡ past_blanks bytes.now from }
-    ensures bound { result ≤ length bytes.now }
-    ensures after { from ≤ result }
-{
-    if from < bytes.len() && bytes[from] > b' ' {
-        return from;
-    }
-    blanks_end(bytes, from)
 }
 
 /// The byte index behind the literal at `from` (RFC 8259, 3).

@@ -9,7 +9,8 @@ ghost use Rattle.jiter_steps.specs.Plain.{IsNext};
 ghost use Rattle.jiter_steps.specs.Step.{step, container_first, container_comma, container_step, object_colon};
 ghost use Rattle.jiter_steps.specs.StringReading.{Form, string_at, between, whole, kept};
 
-use crate::parse::{Literal, Shape, past_blanks};
+use crate::blank::past_blanks;
+use crate::parse::{Literal, Shape};
 use jiter_scan::simd::scan_string;
 use jiter_scan::word::byte_at;
 

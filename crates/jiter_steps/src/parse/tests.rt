@@ -66,28 +66,6 @@ fn a_first_byte_says_what_begins(rt: HostRuntime) {
 }
 
 #[test]
-fn four_bytes_are_blanks(rt: HostRuntime) {
-    for (bytes, end) in [
-        (b"".as_slice(), 0),
-        (b"1 ", 0),
-        (b" \t\n\r", 4),
-        (b" \t\n\r1 ", 4),
-        (b" \x00", 1),
-        (b" \x0b", 1),
-        (b" \x0c", 1),
-        (b" \x1f", 1),
-        (b" /", 1),
-        (b" \x85", 1),
-        (b" \xa0", 1),
-        (b" \xef\xbb\xbf1", 1),
-    ] {
-        assert_eq!(rt; past_blanks(bytes, 0), end, "of {bytes:?}");
-    }
-    assert_eq!(rt; past_blanks(b"1 \n2", 1), 3);
-    assert_eq!(rt; past_blanks(b"1 2 ", 4), 4);
-}
-
-#[test]
 fn a_literal_ends_behind_its_last_letter(rt: HostRuntime) {
     for (bytes, begin, literal, end) in [
         (b"null".as_slice(), 0, Literal::Null, 4),

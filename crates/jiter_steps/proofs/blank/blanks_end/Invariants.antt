@@ -1,10 +1,13 @@
 use Rattle.std.proofs.Common.{length, ◌-◌, ◌≡◌, ◌≤◌}
 use Rattle.jiter_steps.specs.Blank.{past_blanks}
-use Rattle.jiter_steps.proofs.parse.blanks_end.Given as goal
+use Rattle.jiter_steps.proofs.blank.blanks_end.Given as goal
 
 abbrev pub invariant-loop-at : goal.invariant-loop-at
-invariant-loop-at l =
-    (past_blanks l.bytes l.from ≡ past_blanks l.bytes l.at) × (l.at ≤ length l.bytes) × (l.from ≤ l.at)
+invariant-loop-at l = record {
+  above : l.from ≤ l.at;
+  within : l.at ≤ length l.bytes;
+  run : past_blanks l.bytes l.from ≡ past_blanks l.bytes l.at;
+}
 
 abbrev pub decreases-loop-at : goal.decreases-loop-at
 decreases-loop-at l = length l.bytes - l.at

@@ -1,7 +1,7 @@
 use Rattle.std.proofs.Common.{arith}
 use Rattle.std.proofs.lemmas.Grind.{common_steps}
 use Rattle.jiter_steps.proofs.Blanks.{past_blanks-blank, past_blanks-other, past_blanks-end}
-use Rattle.jiter_steps.proofs.parse.blanks_end.Goals as goal
+use Rattle.jiter_steps.proofs.blank.blank_bytes_end.Goals as goal
 
 pub loop-at-preserved : goal.loop-at-preserved
 loop-at-preserved c = grind (arith, common_steps, past_blanks-blank c.args.bytes.now c.loop-at.at)

@@ -1,0 +1,10 @@
+use Rattle.std.proofs.Common.{length, ◌-◌, ◌≡◌, ◌≤◌}
+use Rattle.jiter_steps.specs.Blank.{past_blanks}
+use Rattle.jiter_steps.proofs.blank.blank_bytes_end.Given as goal
+
+abbrev pub invariant-loop-at : goal.invariant-loop-at
+invariant-loop-at l =
+    (past_blanks l.bytes l.from ≡ past_blanks l.bytes l.at) × (l.at ≤ length l.bytes) × (l.from ≤ l.at)
+
+abbrev pub decreases-loop-at : goal.decreases-loop-at
+decreases-loop-at l = length l.bytes - l.at

@@ -1,0 +1,15 @@
+use Rattle.std.proofs.Common.{ℕ, bit_and, refl}
+use Rattle.std.proofs.lemmas.Simd.{zip2_splat, zip2_of_maps}
+use Rattle.jiter_scan.proofs.Lanes.{failing-lanes}
+use Rattle.jiter_steps.specs.Blank.{is_blank}
+use Rattle.jiter_steps.proofs.blank.no_blanks.Goals as goal
+
+pub returns : goal.returns
+returns c =
+    let v = c.args.v in
+    let long = c.fits-v.0 in
+    let spaces = zip2_splat {Y = ℕ} _ v 16 32 long in
+    let tabs = zip2_of_maps bit_and _ _ v spaces (zip2_splat {Y = ℕ} _ v 16 9 long) in
+    let feeds = zip2_of_maps bit_and _ _ v tabs (zip2_splat {Y = ℕ} _ v 16 10 long) in
+    failing-lanes _ is_blank v _ long c.fits-v.1
+    (zip2_of_maps bit_and _ _ v feeds (zip2_splat {Y = ℕ} _ v 16 13 long)) refl

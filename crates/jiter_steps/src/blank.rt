@@ -1,0 +1,81 @@
+//! Blanks: the first place that has none.
+ghost use Rattle.std.specs.Prelude.{◌≡◌, ◌≤◌, length};
+ghost use Rattle.jiter_scan.specs.Simd.{failing};
+ghost use Rattle.jiter_steps.specs.Blank.{is_blank, past_blanks};
+
+use std::simd::prelude::*;
+
+fn is_blank(byte: u8) -> bool
+    ensures { result ≡ is_blank byte }
+{
+    matches!(byte, b' ' | b'\t' | b'\n' | b'\r')
+}
+
+// A bit for each byte that is no blank.
+#[inline(always)]
+fn no_blanks(v: u8x16) -> u64
+    ensures { result ≡ failing is_blank v }
+{
+    (v.simd_ne(u8x16::splat(b' '))
+        & v.simd_ne(u8x16::splat(b'\t'))
+        & v.simd_ne(u8x16::splat(b'\n'))
+        & v.simd_ne(u8x16::splat(b'\r'))).to_bitmask()
+}
+
+// The first byte index from `from` on that has no blank, or the length, byte by byte.
+#[inline(always)]
+fn blank_bytes_end(bytes: &[u8], from: usize) -> usize
+    requires { from ≤ length bytes.now }
+    ensures value { result ≡ past_blanks bytes.now from }
+    ensures bound { result ≤ length bytes.now }
+    ensures after { from ≤ result }
+{
+    let mut at = from;
+    while at < bytes.len() && is_blank(bytes[at]) {
+        at += 1;
+    }
+    at
+}
+
+// The same sixteen bytes at a time, but where one blank alone stands.
+#[inline(never)]
+fn blanks_end(bytes: &[u8], from: usize) -> usize
+    requires { from ≤ length bytes.now }
+    ensures value { result ≡ past_blanks bytes.now from }
+    ensures bound { result ≤ length bytes.now }
+    ensures after { from ≤ result }
+{
+    if bytes.len() - from > 1 && bytes[from + 1] > b' ' {
+        return if is_blank(bytes[from]) {
+            from + 1
+        } else {
+            from
+        };
+    }
+    let mut at = from;
+    while bytes.len() - at >= 16 {
+        let others = no_blanks(u8x16::from_slice(&bytes[at..]));
+        if others != 0 {
+            return at + others.trailing_zeros() as usize;
+        }
+        at += 16;
+    }
+    blank_bytes_end(bytes, at)
+}
+
+/// The first byte index from `from` on that has no blank, or the length (RFC 8259, 2).
+#[inline(always)]
+pub fn past_blanks(bytes: &[u8], from: usize) -> usize
+    requires { from ≤ length bytes.now }
+    ensures value { result ≡ past_blanks bytes.now from }
+    ensures bound { result ≤ length bytes.now }
+    ensures after { from ≤ result }
+{
+    if from < bytes.len() && bytes[from] > b' ' {
+        return from;
+    }
+    blanks_end(bytes, from)
+}
+
+#[cfg(test)]
+mod tests;
