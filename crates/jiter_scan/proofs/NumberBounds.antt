@@ -40,7 +40,7 @@ module _ (t : List ℕ) where
       farther i n e 0 (next e) (omega (arith, h.0)) (omega (arith, h.0)) (go e h.1)
   extent_then-reaches i n (failed k j) next h go = h
 
-  digits_from-reaches : (i : ℕ) (o : Option ℕ) → slice_get t i ≡ o → i ≤ length t → Reaches t i 1 (digits_from t i o)
+  pub digits_from-reaches : (i : ℕ) (o : Option ℕ) → slice_get t i ≡ o → i ≤ length t → Reaches t i 1 (digits_from t i o)
   digits_from-reaches i None s le = end-reaches i 1 eof_value (λ e. cc) le s
   digits_from-reaches i (Some c) s le =
       let run = run_end-within is_digit t i le in
@@ -85,7 +85,7 @@ module _ (t : List ℕ) where
       (digits_from-reaches (i + 1) (slice_get t (i + 1)) refl (omega arith)))
       (λ p. (omega arith, le))
 
-  power_from-reaches : (i : ℕ) (o : Option ℕ) → slice_get t i ≡ o → i ≤ length t → Reaches t i 0 (power_from t i o)
+  pub power_from-reaches : (i : ℕ) (o : Option ℕ) → slice_get t i ≡ o → i ≤ length t → Reaches t i 0 (power_from t i o)
   power_from-reaches i None s le = end-reaches i 0 eof_value (λ e. cc) le s
   power_from-reaches i (Some c) s le =
       let lt = slice_get_within t i c s in

@@ -1,12 +1,12 @@
 -- Numbers whose digits end within a chunk.
-use Rattle.std.proofs.Common.{◌≡◌, ◌≢◌, ◌⊎◌, inl, inr, ℕ, ◌+◌, ◌-◌, ◌<◌, ◌≤◌, ◌==◌, ◌||◌, true, false, List, []}
-use Rattle.std.proofs.Common.{◌∷◌, length, take, drop, get_or, refl, sym, ap, ◌∙◌, slice_range, arith}
+use Rattle.std.proofs.Common.{◌≡◌, ◌≢◌, ◌⊎◌, inl, inr, ℕ, ◌+◌, ◌-◌, ◌<◌, ◌≤◌, ◌==◌, ◌||◌, Bool, true, false, List, []}
+use Rattle.std.proofs.Common.{◌∷◌, length, take, drop, get_or, refl, sym, ap, ◌∙◌, subst, slice_range, arith}
 use Rattle.std.specs.Prelude.{slice_get, Option, Some, None}
 use Rattle.std.specs.List.{prefix_len}
 use Rattle.std.proofs.lemmas.Bool.{cases_lt}
 use Rattle.std.proofs.lemmas.Bool.Decides.{nat_tests}
 use Rattle.std.proofs.lemmas.List.{length-take}
-use Rattle.std.proofs.lemmas.Option.{slice_get-get_or, slice_get_within, get_or_from_slice_get}
+use Rattle.std.proofs.lemmas.Option.{slice_get-get_or, slice_get_within}
 use Rattle.jiter_scan.specs.Digits.{is_digit, digit_run_end}
 use Rattle.jiter_scan.specs.Number.{IsDigits}
 use Rattle.jiter_scan.specs.NumberReading.{extent_then, whole_at, fraction_at, exponent_at, decimal_at, fraction_from}
@@ -14,9 +14,11 @@ use Rattle.jiter_scan.specs.NumberReading.{exponent_from, digits_from, power_fro
 use Rattle.jiter_scan.specs.Scanned.{taken, failed}
 use Rattle.jiter_scan.specs.Kind.{invalid_number}
 use Rattle.jiter_scan.specs.Stands.{Stands}
-use Rattle.jiter_scan.proofs.Choices.{if-false, if-true}
+use Rattle.jiter_scan.proofs.Choices.{if-false, if-true, extent_then-taken, same_taken}
 use Rattle.jiter_scan.proofs.Chunks.{prefix_len-front, prefix_len-pass, run_end-on}
 use Rattle.jiter_scan.proofs.Magnitudes.{slice_range-count}
+use Rattle.jiter_scan.proofs.NumberBounds.{Reaches, digits_from-reaches, fraction_at-reaches, power_from-reaches}
+use Rattle.jiter_scan.proofs.NumberBounds.{exponent_at-reaches}
 use Rattle.jiter_scan.proofs.NumberComplete.{whole_at-complete}
 use Rattle.jiter_scan.proofs.Runs.{run_end-passes, run_end-stops, NoDigit}
 use Rattle.jiter_scan.proofs.Standing.{stands-slice}
@@ -95,20 +97,52 @@ module _ (t : List ℕ) where
       sym (run_end-on is_digit t i 16 run (omega arith))
       ∙ digits-counted back (i + 16) n counted few (omega arith) front
 
+  -- one digit or more
+  digits_from-run : (i e : ℕ) → digit_run_end t i ≡ e → i < e → i < length t
+      → digits_from t i (slice_get t i) ≡ taken tt e
+  digits_from-run i e run some inside =
+      let digit = run_end-passes is_digit t i i (omega arith) (omega arith) in
+      ap (digits_from t i) (slice_get-get_or t i 0 inside)
+      ∙ if-true (is_digit (get_or t i 0)) (taken tt (digit_run_end t i)) (failed invalid_number i) digit
+      ∙ ap (taken tt) run
+
+  -- a point and digits
+  pub fraction_at-run : (i e : ℕ) → slice_get t i ≡ Some 46 → digit_run_end t (i + 1) ≡ e → i + 1 < e
+      → i + 1 < length t → fraction_at t i ≡ taken tt e
+  fraction_at-run i e point run some inside =
+      ap (fraction_from t i) point ∙ digits_from-run (i + 1) e run some inside
+
+  -- no point
+  pub fraction_at-none : (i c : ℕ) → slice_get t i ≡ Some c → (c == 46) ≡ false → fraction_at t i ≡ taken tt i
+  fraction_at-none i c here no_point =
+      ap (fraction_from t i) here
+      ∙ if-false (c == 46) (digits_from t (i + 1) (slice_get t (i + 1))) (taken tt i) no_point
+
+  -- a letter and digits, a sign between them or not
+  pub exponent_at-run : (i s e c : ℕ) → slice_get t i ≡ Some c → ((c == 101) || (c == 69)) ≡ true
+      → power_from t (i + 1) (slice_get t (i + 1)) ≡ digits_from t s (slice_get t s)
+      → digit_run_end t s ≡ e → s < e → s < length t → exponent_at t i ≡ taken tt e
+  exponent_at-run i s e c here letter power run some inside =
+      ap (exponent_from t i) here
+      ∙ if-true ((c == 101) || (c == 69)) (power_from t (i + 1) (slice_get t (i + 1))) (taken tt i) letter
+      ∙ power ∙ digits_from-run s e run some inside
+
+  -- no letter
+  pub exponent_at-none : (i c : ℕ) → slice_get t i ≡ Some c → ((c == 101) || (c == 69)) ≡ false
+      → exponent_at t i ≡ taken tt i
+  exponent_at-none i c here no_letter =
+      ap (exponent_from t i) here
+      ∙ if-false ((c == 101) || (c == 69)) (power_from t (i + 1) (slice_get t (i + 1))) (taken tt i) no_letter
+
   -- no point and no exponent behind it
   pub decimal_at-whole : (i e c : ℕ) → whole_at t i ≡ taken tt e → slice_get t e ≡ Some c → is_float_sign c ≡ false
       → decimal_at t i ≡ taken tt e
   decimal_at-whole i e c whole here no_sign =
       let point : (c == 46) ≡ false = grind (arith, nat_tests) in
       let letter : ((c == 101) || (c == 69)) ≡ false = grind (arith, nat_tests) in
-      let fraction : fraction_at t e ≡ taken tt e =
-      ap (fraction_from t e) here ∙ if-false (c == 46) (digits_from t (e + 1) (slice_get t (e + 1)))
-      (taken tt e) point in
-      let exponent : exponent_at t e ≡ taken tt e =
-      ap (exponent_from t e) here ∙ if-false ((c == 101) || (c == 69)) (power_from t (e + 1) (slice_get t (e + 1)))
-      (taken tt e) letter in
       ap (λ x. extent_then x (λ j. extent_then (fraction_at t j) (λ k. exponent_at t k))) whole
-      ∙ ap (λ x. extent_then x (λ k. exponent_at t k)) fraction ∙ exponent
+      ∙ ap (λ x. extent_then x (λ k. exponent_at t k)) (fraction_at-none e c here point)
+      ∙ exponent_at-none e c here letter
 
   -- a point or an exponent behind it
   pub decimal_at-tail : (i k e : ℕ) → whole_at t i ≡ taken tt k
@@ -116,21 +150,44 @@ module _ (t : List ℕ) where
   decimal_at-tail i k e whole tail =
       ap (λ x. extent_then x (λ j. extent_then (fraction_at t j) (λ k. exponent_at t k))) whole ∙ tail
 
-  -- a point, digits, and no exponent behind them
-  pub tail-fraction : (i e b c : ℕ) → slice_get t i ≡ Some 46 → digit_run_end t (i + 1) ≡ e → i + 1 < e
-      → slice_get t (i + 1) ≡ Some b
-      → slice_get t e ≡ Some c → ((c == 101) || (c == 69)) ≡ false
+  -- a fraction and what follows it
+  pub tail-parts : (i j e : ℕ) → fraction_at t i ≡ taken tt j → exponent_at t j ≡ taken tt e
       → extent_then (fraction_at t i) (exponent_at t) ≡ taken tt e
-  tail-fraction i e b c point run some first here no_letter =
-      let inside = slice_get_within t (i + 1) b first in
-      let digit : is_digit b ≡ true =
-      ap is_digit (sym (get_or_from_slice_get t (i + 1) b 0 first))
-      ∙ run_end-passes is_digit t (i + 1) (i + 1) (omega arith) (omega arith) in
-      let fraction : fraction_at t i ≡ taken tt e =
-      ap (fraction_from t i) point ∙ ap (digits_from t (i + 1)) first
-      ∙ if-true (is_digit b) (taken tt (digit_run_end t (i + 1))) (failed invalid_number (i + 1)) digit
-      ∙ ap (taken tt) run in
-      let exponent : exponent_at t e ≡ taken tt e =
-      ap (exponent_from t e) here ∙ if-false ((c == 101) || (c == 69)) (power_from t (e + 1) (slice_get t (e + 1)))
-      (taken tt e) no_letter in
-      ap (λ x. extent_then x (λ k. exponent_at t k)) fraction ∙ exponent
+  tail-parts i j e fraction exponent = ap (λ x. extent_then x (exponent_at t)) fraction ∙ exponent
+
+  -- a point or an exponent takes a byte or more
+  pub tail-place : (i e c : ℕ) → slice_get t i ≡ Some c → is_float_sign c ≡ true
+      → extent_then (fraction_at t i) (exponent_at t) ≡ taken tt e → (i < e) × (e ≤ length t)
+  tail-place i e c here sign tail =
+      let inside = slice_get_within t i c here in
+      let parts = extent_then-taken (fraction_at t i) (exponent_at t) tt e tail in
+      let j = parts.0 in
+      let fraction : (i + 0 ≤ j) × (j ≤ length t) =
+      subst (Reaches t i 0) parts.1 (fraction_at-reaches t i (omega arith)) in
+      let exponent : (j + 0 ≤ e) × (e ≤ length t) =
+      subst (Reaches t j 0) parts.2 (exponent_at-reaches t j fraction.1) in
+      (by (c == 46) refl j parts.1 parts.2 (omega arith), exponent.1) where
+        by : (b : Bool) → (c == 46) ≡ b → (j : ℕ) → fraction_at t i ≡ taken tt j → exponent_at t j ≡ taken tt e → j ≤ e
+            → i < e
+        by true point j fraction exponent ahead =
+            let inside = slice_get_within t i c here in
+            let digits : digits_from t (i + 1) (slice_get t (i + 1)) ≡ taken tt j =
+            sym (ap (fraction_from t i) here
+            ∙ if-true (c == 46) (digits_from t (i + 1) (slice_get t (i + 1))) (taken tt i) point)
+            ∙ fraction in
+            let some : (i + 1 + 1 ≤ j) × (j ≤ length t) =
+            subst (Reaches t (i + 1) 1) digits
+            (digits_from-reaches t (i + 1) (slice_get t (i + 1)) refl (omega arith)) in
+            omega (arith, some.0)
+        by false no_point j fraction exponent ahead =
+            let inside = slice_get_within t i c here in
+            let letter : ((c == 101) || (c == 69)) ≡ true = grind (arith, nat_tests) in
+            let place : i ≡ j = (same_taken tt tt i j (sym (fraction_at-none i c here no_point) ∙ fraction)).1 in
+            let power : power_from t (i + 1) (slice_get t (i + 1)) ≡ taken tt e =
+            sym (ap (exponent_from t i) here
+            ∙ if-true ((c == 101) || (c == 69)) (power_from t (i + 1) (slice_get t (i + 1))) (taken tt i) letter)
+            ∙ ap (exponent_at t) place ∙ exponent in
+            let some : (i + 1 + 0 ≤ e) × (e ≤ length t) =
+            subst (Reaches t (i + 1) 0) power
+            (power_from-reaches t (i + 1) (slice_get t (i + 1)) refl (omega arith)) in
+            omega (arith, some.0)

@@ -1,14 +1,16 @@
 //! Short numbers that do not stand near the end of the input, by one load, with the answer in registers.
-ghost use Rattle.std.specs.Prelude.{◌≡◌, ◌==◌, ◌||◌, ◌<◌, ◌≤◌, ◌+◌, IfSome, length};
+ghost use Rattle.std.specs.Prelude.{◌≡◌, ◌==◌, ◌||◌, ◌<◌, ◌≤◌, ◌+◌, IfSome, length, slice_get};
 ghost use Rattle.jiter_scan.specs.Ascii as ascii;
 ghost use Rattle.jiter_scan.specs.Digits.{digit_run_end};
-ghost use Rattle.jiter_scan.specs.NumberReading.{extent_then, fraction_at, exponent_at};
+ghost use Rattle.jiter_scan.specs.NumberReading.{extent_then, digits_from, fraction_at, power_from, exponent_at};
 ghost use Rattle.jiter_scan.specs.Scanned.{taken};
 ghost use Rattle.jiter_scan.specs.ShortNumber.{IsShort};
 
 use crate::number_decoder::{digits_magnitude, is_float_sign};
-use crate::number_extent::tail_end;
 use crate::simd::{digit_count, digit_word, full_chunk_at};
+
+// From a number's first digit on: fifteen digits, a point and 31 more, a letter and a sign, and a chunk of digits.
+const ROOM: usize = 65;
 
 /// What stands at a number's first digit.
 #[derive(Debug, Clone, Copy, PartialEq, Eq)]
@@ -21,18 +23,55 @@ pub enum Short {
     Other,
 }
 
-// Behind the fraction and the exponent that stand at `at`, if they are well formed.
-#[inline(never)]
-fn float_end(bytes: &[u8], at: usize) -> Option<usize>
-    requires { at ≤ length bytes.now }
-    ensures end { IfSome result
-        (λ e. extent_then (fraction_at bytes.now at) (exponent_at bytes.now) ≡ taken tt e) }
-    ensures place { IfSome result (λ e. e ≤ length bytes.now) }
+// Behind the digits at `at`, if there are one to fifteen of them.
+#[inline(always)]
+fn few_digits_end(bytes: &[u8], at: usize) -> Option<usize>
+    requires { at + 16 ≤ length bytes.now }
+    ensures { IfSome result (λ e. (digit_run_end bytes.now at ≡ e) × (at < e)) }
 {
-    match tail_end(bytes, at) {
-        Ok(end) => Some(end),
-        Err(_) => None,
+    let chunk = full_chunk_at(bytes, at);
+    let count = digit_count(chunk);
+    if count == 0 || count > 15 {
+        return None;
     }
+    Some(at + count)
+}
+
+// Behind the digits at `at`, if there are 16 to 31 of them.
+#[inline(always)]
+fn more_digits_end(bytes: &[u8], at: usize) -> Option<usize>
+    requires room { at + 32 ≤ length bytes.now }
+    requires digits { at + 16 ≤ digit_run_end bytes.now at }
+    ensures { IfSome result
+        (λ e. (digit_run_end bytes.now at ≡ e) × (at < e) × (e < at + 32)) }
+{
+    let back = full_chunk_at(bytes, at + 16);
+    let more = digit_count(back);
+    if more > 15 {
+        return None;
+    }
+    Some(at + 16 + more)
+}
+
+// Behind a fraction of up to 31 digits, or where none stands.
+#[inline(always)]
+fn short_fraction_end(bytes: &[u8], at: usize) -> Option<usize>
+    requires { at + 33 ≤ length bytes.now }
+    ensures end { IfSome result (λ e. fraction_at bytes.now at ≡ taken tt e) }
+    ensures place { IfSome result (λ e. (at ≤ e) × (e ≤ at + 32)) }
+{
+    if bytes[at] != b'.' {
+        return Some(at);
+    }
+    let chunk = full_chunk_at(bytes, at + 1);
+    let count = digit_count(chunk);
+    if count == 0 {
+        return None;
+    }
+    if count > 15 {
+        return more_digits_end(bytes, at + 1);
+    }
+    Some(at + 1 + count)
 }
 
 fn is_exponent_letter(byte: u8) -> bool
@@ -41,27 +80,45 @@ fn is_exponent_letter(byte: u8) -> bool
     byte == b'e' || byte == b'E'
 }
 
-// The same, at once where there is a point, few digits and no exponent.
+// Behind the sign of an exponent, or where none stands.
+#[inline(always)]
+fn sign_end(bytes: &[u8], at: usize) -> usize
+    requires { at < length bytes.now }
+    ensures end { power_from bytes.now at (slice_get bytes.now at)
+        ≡ digits_from bytes.now result (slice_get bytes.now result) }
+    ensures place { (at ≤ result) × (result ≤ at + 1) }
+{
+    let byte = bytes[at];
+    if byte == b'+' || byte == b'-' {
+        at + 1
+    } else {
+        at
+    }
+}
+
+// Behind an exponent of up to fifteen digits, or where none stands.
+#[inline(always)]
+fn short_exponent_end(bytes: &[u8], at: usize) -> Option<usize>
+    requires { at + 18 ≤ length bytes.now }
+    ensures { IfSome result (λ e. exponent_at bytes.now at ≡ taken tt e) }
+{
+    if !is_exponent_letter(bytes[at]) {
+        return Some(at);
+    }
+    few_digits_end(bytes, sign_end(bytes, at + 1))
+}
+
+// Behind the fraction and the exponent that stand at `at`, or where none stands, if they are short.
 #[inline(always)]
 fn short_float_end(bytes: &[u8], at: usize) -> Option<usize>
-    requires { at < length bytes.now }
-    ensures end { IfSome result
+    requires { at + 50 ≤ length bytes.now }
+    ensures { IfSome result
         (λ e. extent_then (fraction_at bytes.now at) (exponent_at bytes.now) ≡ taken tt e) }
-    ensures place { IfSome result (λ e. e ≤ length bytes.now) }
 {
-    if bytes.len() - at < 32 || bytes[at] != b'.' {
-        return float_end(bytes, at);
+    match short_fraction_end(bytes, at) {
+        Some(end) => short_exponent_end(bytes, end),
+        None => None,
     }
-    let chunk = full_chunk_at(bytes, at + 1);
-    let count = digit_count(chunk);
-    if count == 0 || count > 15 {
-        return float_end(bytes, at);
-    }
-    let end = at + 1 + count;
-    if is_exponent_letter(bytes[end]) {
-        return float_end(bytes, at);
-    }
-    Some(end)
 }
 
 // The integer of sixteen to eighteen digits at `at`.
@@ -90,7 +147,7 @@ pub fn short_at(bytes: &[u8], at: usize) -> Short
     requires { at ≤ length bytes.now }
     ensures { IsShort bytes.now at result }
 {
-    if bytes.len() - at < 32 {
+    if bytes.len() - at < ROOM {
         return Short::Other;
     }
     let chunk = full_chunk_at(bytes, at);
@@ -106,8 +163,8 @@ pub fn short_at(bytes: &[u8], at: usize) -> Short
         return Short::Int(digit_word(chunk, count), end);
     }
     match short_float_end(bytes, end) {
-        Some(behind) if behind > end => Short::Float(behind),
-        _ => Short::Other,
+        Some(behind) => Short::Float(behind),
+        None => Short::Other,
     }
 }
 

@@ -4,7 +4,7 @@ use Rattle.jiter_scan.specs.Digits.{decimal_of}
 use Rattle.jiter_scan.proofs.Magnitudes.{decimal_of-few, magnitude_of-short}
 use Rattle.jiter_scan.proofs.NumberValues.{number_value-tail}
 use Rattle.jiter_scan.proofs.ShortNumbers.{digits-counted, digits-of_chunk, whole_at-counted, decimal_at-whole}
-use Rattle.jiter_scan.proofs.ShortNumbers.{decimal_at-tail}
+use Rattle.jiter_scan.proofs.ShortNumbers.{decimal_at-tail, tail-place}
 use Rattle.jiter_scan.proofs.short_number.short_at.Goals as goal
 
 pub returns-then-not-is_float_sign : goal.returns-then-not-is_float_sign
@@ -40,12 +40,13 @@ returns-in-Some c =
     whole_at-counted t chunk.result i n c.digit_count-count.ensures (omega arith) (omega arith) chunk.ensures
     (omega arith) c.if-count-ne1.either in
     let end = c.in-Some.behind in
+    let place = tail-place t (i + n) end (get_or t (i + n) 0) (slice_get-get_or t (i + n) 0 (omega arith))
+    (sym c.is_float_sign.ensures ∙ c.if-not-is_float_sign.false) c.in-Some.ensures in
     record {
-      decimal = decimal_at-tail t i (i + n) end whole c.in-Some.ensures.end;
-      value = λ j le. number_value-tail t j (i + n) end (omega arith) c.if-behind-end.true
-          (omega arith) c.in-Some.ensures.end;
-      some = omega arith;
-      within = c.in-Some.ensures.place;
+      decimal = decimal_at-tail t i (i + n) end whole c.in-Some.ensures;
+      value = λ j le. number_value-tail t j (i + n) end (omega arith) place.0 (omega arith) c.in-Some.ensures;
+      some = omega (arith, place.0);
+      within = place.1;
     }
 
 pub two_words_at-requires-clause-digits : goal.two_words_at-requires-clause-digits
