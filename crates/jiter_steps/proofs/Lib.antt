@@ -37,6 +37,7 @@ pub mod Pins
 pub mod Places
 pub mod PlainRuns
 pub mod Prefixes
+pub mod QuotedTexts
 pub mod RawStrings
 pub mod ReadFront
 pub mod Resumed

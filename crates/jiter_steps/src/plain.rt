@@ -2,6 +2,8 @@
 //! registers. What is not plain is told and no more: the reader's own calls say what is wrong there.
 ghost use Rattle.std.specs.Prelude.{◌≡◌, ◌≢◌, ◌+◌, ◌≤◌, ◌<◌, IfSome, IsTrue, length, slice_get, slice_range, Some};
 ghost use Rattle.std.specs.Str.{IsAscii};
+ghost use Rattle.jiter_scan.specs.Ascii as ascii;
+ghost use Rattle.jiter_scan.specs.Scan.{scan_stop, IsAsciiTo};
 ghost use Rattle.jiter_scan.specs.Scanned.{taken};
 ghost use Rattle.jiter_steps.specs.Blank.{past_blanks};
 ghost use Rattle.jiter_steps.specs.Literal.{literal_at};
@@ -12,6 +14,7 @@ ghost use Rattle.jiter_steps.specs.StringReading.{Form, string_at, between, whol
 use crate::blank::past_blanks;
 use crate::parse::{Literal, Shape};
 use jiter_scan::simd::scan_string;
+use jiter_scan::text::ascii_text;
 use jiter_scan::word::byte_at;
 
 /// What a step between the parts of a container leads to.
@@ -159,6 +162,38 @@ pub fn plain_text_end(bytes: &[u8], at: usize) -> Option<usize>
         Some(to)
     } else {
         None
+    }
+}
+
+/// The text between the quotes at `at` and `to`, with no look at its bytes, which are below 80 hex.
+#[inline(always)]
+pub fn ascii_between(bytes: &[u8], at: usize, to: usize) -> &str
+    requires within { (at < to) × (to < length bytes.now) }
+    requires stop { to ≡ scan_stop bytes.now (at + 1) }
+    requires quote { slice_get bytes.now to ≡ Some ascii.quote }
+    requires ascii { IsAsciiTo bytes.now (at + 1) to }
+    ensures text { result.now ≡ slice_range bytes.now (at + 1) to }
+    ensures whole { string_at whole bytes.now at ≡ taken (between bytes.now (at + 1) to) (to + 1) }
+    ensures kept { string_at kept bytes.now at ≡ taken (between bytes.now (at + 1) to) (to + 1) }
+{
+    ascii_text(&bytes[at + 1..to])
+}
+
+/// The text between the quotes at `at` and `to`, if it is UTF-8 (RFC 8259, 8.1).
+#[inline(always)]
+pub fn text_between(bytes: &[u8], at: usize, to: usize) -> Option<&str>
+    requires within { (at < to) × (to < length bytes.now) }
+    requires stop { to ≡ scan_stop bytes.now (at + 1) }
+    requires quote { slice_get bytes.now to ≡ Some ascii.quote }
+    ensures text { IfSome result (λ text. text.now ≡ slice_range bytes.now (at + 1) to) }
+    ensures whole { IfSome result
+        (λ _. string_at whole bytes.now at ≡ taken (between bytes.now (at + 1) to) (to + 1)) }
+    ensures kept { IfSome result
+        (λ _. string_at kept bytes.now at ≡ taken (between bytes.now (at + 1) to) (to + 1)) }
+{
+    match simdutf8::compat::from_utf8(&bytes[at + 1..to]) {
+        Ok(text) => Some(text),
+        Err(_) => None,
     }
 }
 

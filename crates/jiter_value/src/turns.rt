@@ -1,9 +1,11 @@
 //! The turns of a reading over the two stacks: one value, opening or key a turn, and the steps behind it. The
 //! place and what is awaited there go from call to call in registers, and so do all answers of the plain way.
-ghost use Rattle.std.specs.Prelude.{◌≡◌, ◌≢◌, ℕ, ◌+◌, ◌^◌, ◌≤◌, ◌<◌, List, [], IfOk, IfSome, None, OnOk, OnErr, length, pos, slice_index, true, false, if◌then◌else◌, vec_len, vec_capacity};
+ghost use Rattle.std.specs.Prelude.{◌≡◌, ◌≢◌, ℕ, ◌+◌, ◌^◌, ◌≤◌, ◌<◌, List, [], IfOk, IfSome, None, OnOk, OnErr, length, pos, slice_get, slice_index, Some, true, false, if◌then◌else◌, vec_len, vec_capacity};
+ghost use Rattle.jiter_scan.specs.Ascii as ascii;
 ghost use Rattle.jiter_scan.specs.Kind.{fault_kind};
 ghost use Rattle.jiter_scan.specs.Number.{minus_of};
 ghost use Rattle.jiter_scan.specs.NumberDecoder.{IsMinusTo};
+ghost use Rattle.jiter_scan.specs.Scan.{scan_stop};
 ghost use Rattle.jiter_steps.specs.Literal.{start_of};
 ghost use Rattle.jiter_steps.specs.Node.{nesting_limit};
 ghost use Rattle.jiter_steps.specs.Parse.{Moves, Steps, Gives};
@@ -30,9 +32,13 @@ use crate::value::JsonValue;
 use jiter_scan::errors::{Fault, FaultKind};
 use jiter_scan::memory::{Refused, make_room, push_small};
 use jiter_scan::short_number::{Short, short_at};
+use jiter_scan::simd::scan_string;
 use jiter_scan::text::ascii_text;
 use jiter_steps::parse::{Literal, Parser, Shape};
-use jiter_steps::plain::{Next, colon_at, first_at, plain_literal_end, plain_text_end, step_at};
+use jiter_steps::plain::{
+    Next, ascii_between, colon_at, first_at, plain_literal_end, plain_text_end, step_at,
+    text_between,
+};
 use jiter_steps::read_error::ReadError;
 use std::alloc::Global;
 use std::borrow::CowStr;
@@ -514,7 +520,36 @@ fn open<'j>(
     }
 }
 
-// A plain string goes where it belongs: the place behind it.
+// A string with no backslash and with characters beyond ASCII goes where it belongs, if it is UTF-8: the place
+// behind it.
+#[inline(never)]
+fn put_tested_text<'j>(
+    stacks: &mut Stacks<'j>,
+    bytes: &'j [u8],
+    at: usize,
+    to: usize,
+    awaits: Awaits,
+) -> Option<usize>
+    requires stands { Stands stacks.old awaits }
+    requires few { length stacks.old.nest.items ≤ nesting_limit }
+    requires room { HasRoom stacks.old awaits }
+    requires begins { start_of (slice_index bytes.now at) ≡ Start.String }
+    requires within { (at < to) × (to < length bytes.now) }
+    requires stop { to ≡ scan_stop bytes.now (at + 1) }
+    requires quote { slice_get bytes.now to ≡ Some ascii.quote }
+    ensures put { IfSome result (λ e. IsPutAt bytes.now stacks.old at awaits stacks.new e) }
+    ensures same { result ≡ None → stacks.new ≡ stacks.old }
+{
+    match text_between(bytes, at, to) {
+        None => None,
+        Some(text) => {
+            put_reserved(stacks, awaits, JsonValue::Str(CowStr::Borrowed(text)));
+            Some(to + 1)
+        }
+    }
+}
+
+// A string with no backslash goes where it belongs, if it is UTF-8: the place behind it.
 #[inline(always)]
 fn put_plain_text<'j>(
     stacks: &mut Stacks<'j>,
@@ -526,18 +561,20 @@ fn put_plain_text<'j>(
     requires few { length stacks.old.nest.items ≤ nesting_limit }
     requires room { HasRoom stacks.old awaits }
     requires within { at < length bytes.now }
-    requires quote { start_of (slice_index bytes.now at) ≡ Start.String }
+    requires begins { start_of (slice_index bytes.now at) ≡ Start.String }
     ensures put { IfSome result (λ e. IsPutAt bytes.now stacks.old at awaits stacks.new e) }
     ensures same { result ≡ None → stacks.new ≡ stacks.old }
 {
-    match plain_text_end(bytes, at) {
-        None => None,
-        Some(to) => {
-            let text = ascii_text(&bytes[at + 1..to]);
-            put_reserved(stacks, awaits, JsonValue::Str(CowStr::Borrowed(text)));
-            Some(to + 1)
-        }
+    let (to, low) = scan_string(bytes, at + 1);
+    if to >= bytes.len() || bytes[to] != b'"' {
+        return None;
     }
+    if !low {
+        return put_tested_text(stacks, bytes, at, to, awaits);
+    }
+    let text = ascii_between(bytes, at, to);
+    put_reserved(stacks, awaits, JsonValue::Str(CowStr::Borrowed(text)));
+    Some(to + 1)
 }
 
 // The integer of a magnitude, with a minus or none.

@@ -5,15 +5,16 @@ use Rattle.jiter_value.proofs.Placed.{put-at, text-read}
 use Rattle.jiter_value.proofs.Views.{view_str}
 use Rattle.jiter_value.proofs.turns.put_plain_text.Goals as goal
 
-pub returns-in-Some-clause-put : goal.returns-in-Some-clause-put
-returns-in-Some-clause-put c =
+pub returns-clause-put : goal.returns-clause-put
+returns-clause-put c =
     let a = c.args in
     let t = a.bytes.now in
-    let to = c.in-Some.to in
-    let found = c.in-Some.ensures in
+    let scanned = c.scan_string-to in
+    let to = scanned.result.0 in
+    let text = c.ascii_between-text.ensures in
     let n = c.put_reserved in
     put-at t a.stacks.now n.new.stacks a.awaits a.at (to + 1) _ (string (between t (a.at + 1) to))
-    (view_str _ ∙ ap (λ w. string (record { owned = false; bytes = w })) c.ascii_text-text.ensures)
+    (view_str _ ∙ ap (λ w. string (record { owned = false; bytes = w })) text.text)
     c.requires.stands c.requires.few n.ensures.value n.ensures.stands n.ensures.nest n.ensures.held
-    refl (omega (arith, found.within.0)) (omega (arith, found.within.1))
-    (λ p room. text-read p t a.at (to + 1) room (between t (a.at + 1) to) c.requires.quote found.whole found.kept)
+    refl (omega (arith, scanned.ensures.within.0)) (omega (arith, c.if-to-bytes.false))
+    (λ p room. text-read p t a.at (to + 1) room (between t (a.at + 1) to) c.requires.begins text.whole text.kept)
