@@ -1,8 +1,8 @@
-//! Short numbers that do not stand near the end of the input, by one load, with the answer in registers.
+//! Short numbers that do not stand near the end of the input, sixteen bytes at a time, with the answer in registers.
 ghost use Rattle.std.specs.Prelude.{◌≡◌, ◌==◌, ◌||◌, ◌<◌, ◌≤◌, ◌+◌, IfSome, length, slice_get};
 ghost use Rattle.jiter_scan.specs.Ascii as ascii;
 ghost use Rattle.jiter_scan.specs.Digits.{digit_run_end};
-ghost use Rattle.jiter_scan.specs.NumberReading.{extent_then, digits_from, fraction_at, power_from, exponent_at};
+ghost use Rattle.jiter_scan.specs.NumberReading.{extent_then, digits_from, fraction_at, power_from, exponent_at, is_float_sign};
 ghost use Rattle.jiter_scan.specs.Scanned.{taken};
 ghost use Rattle.jiter_scan.specs.ShortNumber.{IsShort};
 
@@ -74,10 +74,19 @@ fn short_fraction_end(bytes: &[u8], at: usize) -> Option<usize>
     Some(at + 1 + count)
 }
 
+#[inline(always)]
 fn is_exponent_letter(byte: u8) -> bool
     ensures { result ≡ ((byte == ascii.small_e) || (byte == ascii.capital_e)) }
 {
     byte == b'e' || byte == b'E'
+}
+
+// Whether a float goes on with this byte behind an integer: one comparison tells both a point and a comma.
+#[inline(always)]
+fn goes_on(byte: u8) -> bool
+    ensures { result ≡ is_float_sign byte }
+{
+    byte == b'.' || byte > b'.' && is_float_sign(byte)
 }
 
 // Behind the sign of an exponent, or where none stands.
@@ -134,7 +143,7 @@ fn two_words_at(bytes: &[u8], at: usize) -> Short
         return Short::Other;
     }
     let end = at + 16 + more;
-    if is_float_sign(bytes[end]) {
+    if goes_on(bytes[end]) {
         return Short::Other;
     }
     let magnitude = digits_magnitude(bytes, at, end);
@@ -152,14 +161,14 @@ pub fn short_at(bytes: &[u8], at: usize) -> Short
     }
     let chunk = full_chunk_at(bytes, at);
     let count = digit_count(chunk);
-    if count == 16 {
+    if count > 15 {
         return two_words_at(bytes, at);
     }
-    if count == 0 || count > 15 || bytes[at] == b'0' && count != 1 {
+    if count == 0 || bytes[at] == b'0' && count != 1 {
         return Short::Other;
     }
     let end = at + count;
-    if !is_float_sign(bytes[end]) {
+    if !goes_on(bytes[end]) {
         return Short::Int(digit_word(chunk, count), end);
     }
     match short_float_end(bytes, end) {

@@ -7,8 +7,8 @@ use Rattle.jiter_scan.proofs.ShortNumbers.{digits-counted, digits-of_chunk, whol
 use Rattle.jiter_scan.proofs.ShortNumbers.{decimal_at-tail, tail-place}
 use Rattle.jiter_scan.proofs.short_number.short_at.Goals as goal
 
-pub returns-then-not-is_float_sign : goal.returns-then-not-is_float_sign
-returns-then-not-is_float_sign c =
+pub returns-then-not-goes_on : goal.returns-then-not-goes_on
+returns-then-not-goes_on c =
     let t = c.args.bytes.now in
     let i = c.args.at in
     let chunk = c.full_chunk_at-chunk in
@@ -21,7 +21,7 @@ returns-then-not-is_float_sign c =
     record {
       whole = whole;
       decimal = decimal_at-whole t i (i + n) (get_or t (i + n) 0) whole (slice_get-get_or t (i + n) 0 (omega arith))
-          (sym c.is_float_sign.ensures ∙ c.if-not-is_float_sign.true);
+          (sym c.goes_on.ensures ∙ c.if-not-goes_on.true);
       magnitude = magnitude_of-short t i (i + n) (omega arith) (omega arith) (omega arith) c.digit_word.result
           (omega arith) value;
       small = omega
@@ -41,7 +41,7 @@ returns-in-Some c =
     (omega arith) c.if-count-ne1.either in
     let end = c.in-Some.behind in
     let place = tail-place t (i + n) end (get_or t (i + n) 0) (slice_get-get_or t (i + n) 0 (omega arith))
-    (sym c.is_float_sign.ensures ∙ c.if-not-is_float_sign.false) c.in-Some.ensures in
+    (sym c.goes_on.ensures ∙ c.if-not-goes_on.false) c.in-Some.ensures in
     record {
       decimal = decimal_at-tail t i (i + n) end whole c.in-Some.ensures;
       value = λ j le. number_value-tail t j (i + n) end (omega arith) place.0 (omega arith) c.in-Some.ensures;

@@ -25,7 +25,7 @@ returns c =
     record {
       whole = whole;
       decimal = decimal_at-whole t i e (get_or t e 0) whole (slice_get-get_or t e 0 (omega arith))
-          (sym c.is_float_sign.ensures ∙ c.if-is_float_sign.false);
+          (sym c.goes_on.ensures ∙ c.if-goes_on.false);
       magnitude = c.digits_magnitude-magnitude.ensures;
       small = omega (
         arith,
