@@ -22,7 +22,7 @@ use Rattle.jiter_steps.specs.Skip.{frame_of, open_frames, Continues}
 use Rattle.jiter_steps.proofs.Bounds.{Ahead, container_first-ahead, container_step-ahead}
 use Rattle.jiter_steps.proofs.Instances.{ends-advances}
 use Rattle.jiter_steps.proofs.Resumed.{IgnoresBegin, value_in-room, value_in-limit, resume-fault, items-value}
-use Rattle.jiter_steps.proofs.Resumed.{array-begins, object-begins, object_in-goes}
+use Rattle.jiter_steps.proofs.Resumed.{container-begins, container_in-goes}
 use Rattle.jiter_steps.proofs.Values.{Advances, parts_at_is}
 
 abbrev Frames : Type 0
@@ -127,7 +127,7 @@ module _ (names : Bool) (t : List ℕ) where
   members-step fs members i (more j) h =
       ap (resume (ends names) t fs)
       (parts_at_is (ends names) t (object_in (ends names) t (length fs))
-      (object_in-goes (ends names) t good (length fs)) members j h.1)
+      (container_in-goes (ends names) t good shape.Object (length fs)) members j h.1)
       ∙ key-step fs members j (seen_as (λ s e. tt) (string_at raw t j))
   members-step fs members i (closed e) h = refl
   members-step fs members i (stuck k j) h = fault-passes fs k j j
@@ -144,11 +144,11 @@ module _ (names : Bool) (t : List ℕ) where
       → value_from (ends names) t fs i ≡ led_on o fs (first_inside o t i)
   first_inside-is true fs i few h is =
       let s = step t object_first (i + 1) in
-      object-begins (ends names) t good any fs i s few is (step-kept s)
+      container-begins (ends names) t good any fs i s few shape.Object is (step-kept s)
       ∙ members-step fs [] (i + 1) s (container_first-ahead t shape.Object (i + 1) (omega arith))
   first_inside-is false fs i few h is =
       let s = step t array_first (i + 1) in
-      array-begins (ends names) t good any fs i s few is (step-kept s)
+      container-begins (ends names) t good any fs i s few shape.Array is (step-kept s)
       ∙ items-step fs [] (i + 1) s (container_first-ahead t shape.Array (i + 1) (omega arith))
 
   -- a scalar's end, or its fault
