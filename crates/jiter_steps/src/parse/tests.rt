@@ -161,7 +161,7 @@ fn behind_the_bracket_of_an_array(rt: HostRuntime) {
             bytes,
             index: begin,
         };
-        let answer = parser.array_first();
+        let answer = parser.first(Shape::Array);
         assert_eq!(rt; leads_to(&parser, answer), wanted, "of {bytes:?}");
     }
 }
@@ -192,7 +192,7 @@ fn behind_an_item(rt: HostRuntime) {
             bytes,
             index: begin,
         };
-        let answer = parser.array_step();
+        let answer = parser.step(Shape::Array);
         assert_eq!(rt; leads_to(&parser, answer), wanted, "of {bytes:?}");
     }
 }
@@ -218,7 +218,7 @@ fn behind_a_comma_in_an_array(rt: HostRuntime) {
             bytes,
             index: begin,
         };
-        let answer = parser.array_step();
+        let answer = parser.step(Shape::Array);
         assert_eq!(rt; leads_to(&parser, answer), wanted, "of {bytes:?}");
     }
 }
@@ -246,7 +246,7 @@ fn behind_the_bracket_of_an_object(rt: HostRuntime) {
             bytes,
             index: begin,
         };
-        let answer = parser.object_first();
+        let answer = parser.first(Shape::Object);
         assert_eq!(rt; leads_to(&parser, answer), wanted, "of {bytes:?}");
     }
 }
@@ -329,7 +329,7 @@ fn behind_a_member(rt: HostRuntime) {
             bytes,
             index: begin,
         };
-        let answer = parser.object_step();
+        let answer = parser.step(Shape::Object);
         assert_eq!(rt; leads_to(&parser, answer), wanted, "of {bytes:?}");
     }
 }
@@ -355,7 +355,7 @@ fn behind_a_comma_in_an_object(rt: HostRuntime) {
             bytes,
             index: begin,
         };
-        let answer = parser.object_step();
+        let answer = parser.step(Shape::Object);
         assert_eq!(rt; leads_to(&parser, answer), wanted, "of {bytes:?}");
     }
 }
