@@ -9,7 +9,7 @@ use Rattle.jiter_steps.specs.Read.{Reading, done, fault, Rules, Container, if_fo
 use Rattle.jiter_steps.specs.declared.parse.Shape.{Shape}
 use Rattle.jiter_steps.specs.declared.parse.Shape.TheVariants as shape
 use Rattle.jiter_steps.proofs.Values.{Advances, Goes, inside_at-within, inside_at-suc, inside_at-starts, inside_at-none, array_of-goes, object_of-goes, parts_at_is, parts-fault, member-key, member-colon, member-value}
-use Rattle.jiter_steps.specs.Frames.{Frame, items_frame, members_frame, resolve_step, parts_from, parts_step, value_in, array_in, object_in, resume, value_from, key_from}
+use Rattle.jiter_steps.specs.Frames.{Frame, items_frame, members_frame, resolve_step, parts_from, parts_step, value_in, array_in, object_in, behind_value, resume, value_from, key_from}
 
 -- Where a container begins is not built into its value.
 pub record IgnoresBegin {K A : Type 0} (r : Rules K A) : Type 0 where
@@ -70,21 +70,24 @@ module _ {K A : Type 0} (r : Rules K A) (t : List ℕ) where
       → if_forgiven r close k i stop ≡ fault k i stop
   if_forgiven-no close k i stop h = ap (λ y. cond y (done (close stop) stop) (fault k i stop)) h
 
+  -- a fault of the value that an open container awaits
+  behind-fault : (depth : ℕ) (f : Frame K A) (k : Kind) (i stop : ℕ)
+      → behind_value r t depth f (fault k i stop) ≡ if_forgiven r (build_of f) k i stop
+  behind-fault depth (items_frame items) k i stop = refl
+  behind-fault depth (members_frame members m) k i stop = refl
+
   -- A fault that is not forgiven passes all containers; one that is closes the innermost.
   pub resume-fault : (fs : Frames) (k : Kind) (i stop : ℕ) → r.forgives k ≡ false
       → resume r t fs (fault k i stop) ≡ fault k i stop
   resume-fault [] k i stop h = refl
-  resume-fault (items_frame items ∷ fs) k i stop h =
-      ap (resume r t fs) (if_forgiven-no (λ e. r.array 0 e items) k i stop h) ∙ resume-fault fs k i stop h
-  resume-fault (members_frame members m ∷ fs) k i stop h =
-      ap (resume r t fs) (if_forgiven-no (λ e. r.object 0 e members) k i stop h) ∙ resume-fault fs k i stop h
+  resume-fault (f ∷ fs) k i stop h =
+      ap (resume r t fs) (behind-fault (length fs) f k i stop ∙ if_forgiven-no (build_of f) k i stop h)
+      ∙ resume-fault fs k i stop h
 
   pub resume-forgiven : (f : Frame K A) (fs : Frames) (k : Kind) (i stop : ℕ) → r.forgives k ≡ true
       → resume r t (f ∷ fs) (fault k i stop) ≡ resume r t fs (done (build_of f stop) stop)
-  resume-forgiven (items_frame items) fs k i stop h =
-      ap (resume r t fs) (if_forgiven-yes (λ e. r.array 0 e items) k i stop h)
-  resume-forgiven (members_frame members m) fs k i stop h =
-      ap (resume r t fs) (if_forgiven-yes (λ e. r.object 0 e members) k i stop h)
+  resume-forgiven f fs k i stop h =
+      ap (resume r t fs) (behind-fault (length fs) f k i stop ∙ if_forgiven-yes (build_of f) k i stop h)
 
   -- A step inside these containers, by where it leads.
   module _ {P : Type 0} (c : Container P A) (fs : Frames) (parts : List P) where

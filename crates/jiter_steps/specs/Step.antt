@@ -28,7 +28,7 @@ abbrev pub closer_of : Shape → ℕ
 closer_of shape.Array = ascii.right_bracket
 closer_of shape.Object = ascii.right_brace
 
--- what begins so,
+-- what its first byte says,
 abbrev pub opening : Shape → Start
 opening shape.Array = start.Array
 opening shape.Object = start.Object
