@@ -112,7 +112,8 @@ module _ {K A : Type 0} (r : Rules K A) (t : List ℕ) where
     pub items-value : (fs : Frames) (items : List A) (j : ℕ) → j < length t
         → resume r t fs (parts_from r t (array_in r t (length fs)) items j) ≡ value_from r t (items_frame items ∷ fs) j
     items-value fs items j h =
-        ap (resume r t fs) (parts_at_is r t (array_in r t (length fs)) (container_in-goes shape.Array (length fs)) items j h)
+        ap (resume r t fs)
+        (parts_at_is r t (array_in r t (length fs)) (container_in-goes shape.Array (length fs)) items j h)
 
     -- The rest of an object is its next key, the colon and its value, and what follows that.
     pub key-value : (fs : Frames) (members : List (K × A)) (j e m : ℕ) (k : K) → j < length t → r.key t j ≡ taken k e
@@ -130,7 +131,8 @@ module _ {K A : Type 0} (r : Rules K A) (t : List ℕ) where
         → key_from r t fs members j ≡ resume r t fs (if_forgiven r (λ e. r.object 0 e members) k x stop)
     key-fault fs members j x stop k h v =
         ap (resume r t fs)
-        (parts-fault r t (object_in r t (length fs)) (container_in-goes shape.Object (length fs)) j x stop members k h v)
+        (parts-fault r t (object_in r t (length fs)) (container_in-goes shape.Object (length fs)) j x stop members
+        k h v)
 
     pub key-failed : (fs : Frames) (members : List (K × A)) (j x : ℕ) (k : Kind) → j < length t → r.key t j ≡ failed k x
         → key_from r t fs members j ≡ resume r t fs (if_forgiven r (λ e. r.object 0 e members) k x j)

@@ -308,7 +308,8 @@ module _ (names : Bool) (t : List ℕ) where
       more_parts-order : (ps : List P) (i e : ℕ) → MoreParts t closer Begins IsPart ps i e → InOrder value i ps e
       more_parts-order [] i e h = behind-ahead i closer e h
       more_parts-order (p ∷ ps) i e h =
-          part-order i h.0 p ps e (omega (arith, behind-ahead i 44 h.0 h.1)) h.2 (more_parts-order ps h.2.end e h.2.rest)
+          part-order i h.0 p ps e (omega (arith, behind-ahead i 44 h.0 h.1)) h.2
+          (more_parts-order ps h.2.end e h.2.rest)
 
       parts-order : (ps : List P) (i e : ℕ) → Parts t closer Begins IsPart ps i e → InOrder value i ps e
       parts-order [] i e h = behind-ahead i closer e h

@@ -8,6 +8,7 @@ use Rattle.jiter_steps.proofs.skip.end_value.Goals as goal
 
 pub returns-in-Ok-true-clause-value : goal.returns-in-Ok-true-clause-value
 returns-in-Ok-true-clause-value c = λ names.
+    let t = c.args.parser.now.bytes.now in
     let p = c.closing.parser in
     let n = c.closing.nest in
     let b = c.shape_of.result in
@@ -16,13 +17,14 @@ returns-in-Ok-true-clause-value c = λ names.
     let inner = open_frames-innermost n.objects n.depth b (omega arith) c.shape_of.ensures in
     let at : next_inside b p.bytes.now p.index ≡ done true m =
     c.in-Ok-true.ensures.value ∙ ap (λ more. done more m) c.in-Ok-true.field-0-test in (
-      c.closing.invariant.same names ∙ innermost-led names c.args.parser.now.bytes.now p.bytes.now _ _ b p.index _ inner same p.within at
-          ∙ ap (λ fs. value_from (ends names) c.args.parser.now.bytes.now fs m) (sym inner),
+      c.closing.invariant.same names ∙ innermost-led names t p.bytes.now _ _ b p.index _ inner same p.within at
+          ∙ ap (λ fs. value_from (ends names) t fs m) (sym inner),
       subst (λ u. m < length u) same (c.in-Ok-true.ensures.inside c.in-Ok-true.field-0-test),
     )
 
 pub closing-preserved : goal.closing-preserved
 closing-preserved c =
+    let t = c.args.parser.now.bytes.now in
     let p = c.closing.parser in
     let n = c.closing.nest in
     let b = c.shape_of.result in
@@ -37,16 +39,17 @@ closing-preserved c =
         forward = omega (arith, c.closing.invariant.moves.forward, c.in-Ok-false.ensures.moves.forward);
       };
       same = λ names. c.closing.invariant.same names
-          ∙ innermost-led names c.args.parser.now.bytes.now p.bytes.now _ _ b p.index _ inner same p.within at;
+          ∙ innermost-led names t p.bytes.now _ _ b p.index _ inner same p.within at;
     }
 
 pub returns-in-Err-clause-value : goal.returns-in-Err-clause-value
 returns-in-Err-clause-value c = λ names.
+    let t = c.args.parser.now.bytes.now in
     let p = c.closing.parser in
     let n = c.closing.nest in
     let b = c.shape_of.result in
     let same = ap (λ bytes. bytes.now) c.closing.invariant.moves.same in
     let inner = open_frames-innermost n.objects n.depth b (omega arith) c.shape_of.ensures in
     c.closing.invariant.same names
-    ∙ innermost-led names c.args.parser.now.bytes.now p.bytes.now _ _ b p.index _ inner same p.within
+    ∙ innermost-led names t p.bytes.now _ _ b p.index _ inner same p.within
     c.in-Err.ensures.value
