@@ -20,13 +20,10 @@ use crate::jiter::Jiter;
 use crate::peek::Peek;
 use jiter_scan::memory::{copy_text, push};
 use jiter_scan::{JsonErrorType, NumberAny, NumberInt, Refused};
-use jiter_steps::parse::{Literal, Start, start_of};
+use jiter_steps::parse::{Literal, NESTING_LIMIT, Start, start_of};
 use jiter_value::JsonValue;
 use std::alloc::Global;
 use std::borrow::CowStr;
-
-// How many containers that are not empty may stand one inside another.
-const NESTING_LIMIT: usize = 200;
 
 // What a refused request for memory becomes, where the reader stands.
 #[cold]

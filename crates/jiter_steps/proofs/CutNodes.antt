@@ -75,19 +75,21 @@ module _ (names : Bool) (t : List ℕ) (k : ℕ) (mode : PartialMode) where
       if-false (nat_le k b) None (if nat_le e k then Some all else left) (lt-leb k b lt)
       ∙ if-false (nat_le e k) (Some all) left (lt-leb e k gt)
 
+  -- a container, by what is left of its parts
+  container-left : {Parts : Type 0} (b : ℕ) (build : Parts → Tree) (left listed : Parts) → b < k → left ≡ listed
+      → (if nat_le k b then None else Some (build left)) ≡ Some (build listed)
+  container-left b build left listed lt same =
+      if-false (nat_le k b) None (Some (build left)) (lt-leb k b lt) ∙ ap (λ x. Some (build x)) same
+
   pub array-left : (b e : ℕ) (ns : Nodes) → b < k
       → cut names t (grammar.array b e ns) k mode
       ≡ Some (tree.array (items_of (filter_map cut_item (nodes_list ns))))
-  array-left b e ns lt =
-      if-false (nat_le k b) None (Some (tree.array (cut_items names t ns k mode))) (lt-leb k b lt)
-      ∙ ap (λ x. Some (tree.array x)) (items-listed ns)
+  array-left b e ns lt = container-left b tree.array _ _ lt (items-listed ns)
 
   pub object-left : (b e : ℕ) (ms : NodeMembers) → b < k
       → cut names t (grammar.object b e ms) k mode
       ≡ Some (tree.object (members_of (filter_map cut_member (members_list ms))))
-  object-left b e ms lt =
-      if-false (nat_le k b) None (Some (tree.object (cut_members names t ms k mode))) (lt-leb k b lt)
-      ∙ ap (λ x. Some (tree.object x)) (members-listed ms)
+  object-left b e ms lt = container-left b tree.object _ _ lt (members-listed ms)
 
   -- Parts behind k leave nothing.
   pub none-late : {P Q : Type 0} (value : P → Node) (kept : P → Option Q)

@@ -4,11 +4,12 @@ use Rattle.std.specs.Prelude.{slice_index}
 use Rattle.jiter_scan.specs.Kind.{Kind, recursion_limit}
 use Rattle.jiter_scan.specs.Scanned.{taken, failed}
 use Rattle.jiter_steps.specs.Literal.{start_of}
-use Rattle.jiter_steps.specs.Step.{Step, more, closed, stuck, step, array_first, array_step, object_first, object_step, object_colon}
-use Rattle.jiter_steps.specs.Read.{Reading, done, fault, Rules, Container, if_forgiven, follow, behind_part, container_at, array_of, object_of, inside_at, value_at}
-use Rattle.jiter_steps.specs.declared.parse.Start.TheVariants as start
+use Rattle.jiter_steps.specs.Step.{Step, more, closed, stuck, step, opening, container_first, object_colon}
+use Rattle.jiter_steps.specs.Read.{Reading, done, fault, Rules, Container, if_forgiven, follow, behind_part, container_at, value_with, inside_at, value_at}
+use Rattle.jiter_steps.specs.declared.parse.Shape.{Shape}
+use Rattle.jiter_steps.specs.declared.parse.Shape.TheVariants as shape
 use Rattle.jiter_steps.proofs.Values.{Advances, Goes, inside_at-within, inside_at-suc, inside_at-starts, inside_at-none, array_of-goes, object_of-goes, parts_at_is, parts-fault, member-key, member-colon, member-value}
-use Rattle.jiter_steps.specs.Frames.{Frame, items_frame, members_frame, resolve_step, parts_from, parts_step, value_in, array_in, object_in, resume, value_from, key_from}
+use Rattle.jiter_steps.specs.Frames.{Frame, items_frame, members_frame, resolve_step, parts_from, parts_step, value_in, array_in, object_in, behind_value, resume, value_from, key_from}
 
 -- Where a container begins is not built into its value.
 pub record IgnoresBegin {K A : Type 0} (r : Rules K A) : Type 0 where
@@ -18,6 +19,20 @@ pub record IgnoresBegin {K A : Type 0} (r : Rules K A) : Type 0 where
 module _ {K A : Type 0} (r : Rules K A) (t : List ℕ) where
   abbrev Frames : Type 0
   Frames = List (Frame K A)
+
+  -- what the parts of a container are
+  abbrev pub Part : Shape → Type 0
+  Part shape.Array = A
+  Part shape.Object = K × A
+
+  -- an array or an object that stands in so many open containers
+  abbrev pub container_in : (b : Shape) → ℕ → Container (Part b) A
+  container_in shape.Array depth = array_in r t depth
+  container_in shape.Object depth = object_in r t depth
+
+  -- a container of the same parts that is built so
+  abbrev rebuilt : {P : Type 0} → Container P A → (ℕ → List P → A) → Container P A
+  rebuilt c build = record { first = c.first; next = c.next; part = c.part; build = build }
 
   -- what closes a container before the value that it awaits
   abbrev pub build_of : Frame K A → ℕ → A
@@ -55,21 +70,24 @@ module _ {K A : Type 0} (r : Rules K A) (t : List ℕ) where
       → if_forgiven r close k i stop ≡ fault k i stop
   if_forgiven-no close k i stop h = ap (λ y. cond y (done (close stop) stop) (fault k i stop)) h
 
+  -- a fault of the value that an open container awaits
+  behind-fault : (depth : ℕ) (f : Frame K A) (k : Kind) (i stop : ℕ)
+      → behind_value r t depth f (fault k i stop) ≡ if_forgiven r (build_of f) k i stop
+  behind-fault depth (items_frame items) k i stop = refl
+  behind-fault depth (members_frame members m) k i stop = refl
+
   -- A fault that is not forgiven passes all containers; one that is closes the innermost.
   pub resume-fault : (fs : Frames) (k : Kind) (i stop : ℕ) → r.forgives k ≡ false
       → resume r t fs (fault k i stop) ≡ fault k i stop
   resume-fault [] k i stop h = refl
-  resume-fault (items_frame items ∷ fs) k i stop h =
-      ap (resume r t fs) (if_forgiven-no (λ e. r.array 0 e items) k i stop h) ∙ resume-fault fs k i stop h
-  resume-fault (members_frame members m ∷ fs) k i stop h =
-      ap (resume r t fs) (if_forgiven-no (λ e. r.object 0 e members) k i stop h) ∙ resume-fault fs k i stop h
+  resume-fault (f ∷ fs) k i stop h =
+      ap (resume r t fs) (behind-fault (length fs) f k i stop ∙ if_forgiven-no (build_of f) k i stop h)
+      ∙ resume-fault fs k i stop h
 
   pub resume-forgiven : (f : Frame K A) (fs : Frames) (k : Kind) (i stop : ℕ) → r.forgives k ≡ true
       → resume r t (f ∷ fs) (fault k i stop) ≡ resume r t fs (done (build_of f stop) stop)
-  resume-forgiven (items_frame items) fs k i stop h =
-      ap (resume r t fs) (if_forgiven-yes (λ e. r.array 0 e items) k i stop h)
-  resume-forgiven (members_frame members m) fs k i stop h =
-      ap (resume r t fs) (if_forgiven-yes (λ e. r.object 0 e members) k i stop h)
+  resume-forgiven f fs k i stop h =
+      ap (resume r t fs) (behind-fault (length fs) f k i stop ∙ if_forgiven-yes (build_of f) k i stop h)
 
   -- A step inside these containers, by where it leads.
   module _ {P : Type 0} (c : Container P A) (fs : Frames) (parts : List P) where
@@ -84,19 +102,18 @@ module _ {K A : Type 0} (r : Rules K A) (t : List ℕ) where
         ∙ resume-fault fs k j j bad
 
   module _ (good : Advances r t) where
-    array_in-goes : (depth : ℕ) → Goes (array_in r t depth) t
-    array_in-goes depth =
+    pub container_in-goes : (b : Shape) (depth : ℕ) → Goes (container_in b depth) t
+    container_in-goes shape.Array depth =
         array_of-goes r t good (value_in r t (suc depth)) (inside_at-within r t good (201 - suc depth)) 0
-
-    pub object_in-goes : (depth : ℕ) → Goes (object_in r t depth) t
-    object_in-goes depth =
+    container_in-goes shape.Object depth =
         object_of-goes r t good (value_in r t (suc depth)) (inside_at-within r t good (201 - suc depth)) 0
 
     -- The rest of an array is its next item, and what follows that.
     pub items-value : (fs : Frames) (items : List A) (j : ℕ) → j < length t
         → resume r t fs (parts_from r t (array_in r t (length fs)) items j) ≡ value_from r t (items_frame items ∷ fs) j
     items-value fs items j h =
-        ap (resume r t fs) (parts_at_is r t (array_in r t (length fs)) (array_in-goes (length fs)) items j h)
+        ap (resume r t fs)
+        (parts_at_is r t (array_in r t (length fs)) (container_in-goes shape.Array (length fs)) items j h)
 
     -- The rest of an object is its next key, the colon and its value, and what follows that.
     pub key-value : (fs : Frames) (members : List (K × A)) (j e m : ℕ) (k : K) → j < length t → r.key t j ≡ taken k e
@@ -104,7 +121,7 @@ module _ {K A : Type 0} (r : Rules K A) (t : List ℕ) where
         → key_from r t fs members j ≡ value_from r t (members_frame members k ∷ fs) m
     key-value fs members j e m k h v w =
         let c = object_in r t (length fs) in
-        ap (resume r t fs) (parts_at_is r t c (object_in-goes (length fs)) members j h
+        ap (resume r t fs) (parts_at_is r t c (container_in-goes shape.Object (length fs)) members j h
         ∙ ap (behind_part r c t (parts_from r t c) members)
         (member-value r t (value_in r t (suc (length fs))) j e m k _ v w refl))
 
@@ -114,7 +131,8 @@ module _ {K A : Type 0} (r : Rules K A) (t : List ℕ) where
         → key_from r t fs members j ≡ resume r t fs (if_forgiven r (λ e. r.object 0 e members) k x stop)
     key-fault fs members j x stop k h v =
         ap (resume r t fs)
-        (parts-fault r t (object_in r t (length fs)) (object_in-goes (length fs)) j x stop members k h v)
+        (parts-fault r t (object_in r t (length fs)) (container_in-goes shape.Object (length fs)) j x stop members
+        k h v)
 
     pub key-failed : (fs : Frames) (members : List (K × A)) (j x : ℕ) (k : Kind) → j < length t → r.key t j ≡ failed k x
         → key_from r t fs members j ≡ resume r t fs (if_forgiven r (λ e. r.object 0 e members) k x j)
@@ -129,25 +147,18 @@ module _ {K A : Type 0} (r : Rules K A) (t : List ℕ) where
 
     -- A container begins.
     module _ (any : IgnoresBegin r) (fs : Frames) (i : ℕ) (u : Step) (few : length fs ≤ 200) where
-      pub array-begins : start_of (slice_index t i) ≡ start.Array → resolve_step r.forgives (step t array_first (i + 1)) ≡ u
-          → value_from r t fs i ≡ resume r t fs (parts_step r t (array_in r t (length fs)) [] u)
-      array-begins is h =
-          let d = length fs in
-          let e : 201 - d - 1 ≡ 201 - suc d = omega arith in
-          ap (resume r t fs) (inside_at-starts r t (201 - d) i start.Array (omega arith) is
-          ∙ ap (λ n. container_at r (array_of r (λ j. inside_at r t n j) t i) t i) e
-          ∙ ap
-          (λ build. container_at r (record { first = array_first; next = array_step t; part = value_in r t (suc d); build = build }) t i) (any.array i))
-          ∙ step-to (array_in r t d) fs [] (step t array_first (i + 1)) u h
+      -- what is read at its bracket
+      begun : (b : Shape) → value_with r (value_in r t (suc (length fs))) t i (opening b)
+          ≡ parts_step r t (container_in b (length fs)) [] (step t (container_first b) (i + 1))
+      begun shape.Array = ap (λ build. container_at r (rebuilt (array_in r t (length fs)) build) t i) (any.array i)
+      begun shape.Object = ap (λ build. container_at r (rebuilt (object_in r t (length fs)) build) t i) (any.object i)
 
-      pub object-begins : start_of (slice_index t i) ≡ start.Object
-          → resolve_step r.forgives (step t object_first (i + 1)) ≡ u
-          → value_from r t fs i ≡ resume r t fs (parts_step r t (object_in r t (length fs)) [] u)
-      object-begins is h =
+      pub container-begins : (b : Shape) → start_of (slice_index t i) ≡ opening b
+          → resolve_step r.forgives (step t (container_first b) (i + 1)) ≡ u
+          → value_from r t fs i ≡ resume r t fs (parts_step r t (container_in b (length fs)) [] u)
+      container-begins b is h =
           let d = length fs in
           let e : 201 - d - 1 ≡ 201 - suc d = omega arith in
-          ap (resume r t fs) (inside_at-starts r t (201 - d) i start.Object (omega arith) is
-          ∙ ap (λ n. container_at r (object_of r (λ j. inside_at r t n j) t i) t i) e
-          ∙ ap
-          (λ build. container_at r (record { first = object_first; next = object_step t; part = (object_in r t d).part; build = build }) t i) (any.object i))
-          ∙ step-to (object_in r t d) fs [] (step t object_first (i + 1)) u h
+          ap (resume r t fs) (inside_at-starts r t (201 - d) i (opening b) (omega arith) is
+          ∙ ap (λ n. value_with r (λ j. inside_at r t n j) t i (opening b)) e ∙ begun b)
+          ∙ step-to (container_in b d) fs [] (step t (container_first b) (i + 1)) u h

@@ -27,7 +27,7 @@ use Rattle.jiter_steps.specs.declared.parse.Literal.TheVariants as literal
 use Rattle.jiter_steps.specs.declared.parse.Start.{Start}
 use Rattle.jiter_steps.specs.declared.parse.Start.TheVariants as start
 use Rattle.jiter_steps.proofs.NodeRules.{nodes_of, node_members_of, key_of}
-use Rattle.jiter_steps.proofs.Parts.{MoreParts, Parts}
+use Rattle.jiter_steps.proofs.Parts.{PartThen, MoreParts, Parts}
 use Rattle.jiter_steps.specs.declared.parse.Shape.TheVariants as shape
 use Rattle.jiter_steps.proofs.RowSteps.{PartAt, quote-begins}
 use Rattle.jiter_steps.proofs.ScalarLaws.{ScalarLaws, scalar-laws, EndsNumber}
@@ -294,37 +294,62 @@ module _ (names : Bool) (t : List ℕ) where
         (i ≤ begin (value p)) × Spells names t (value p) × (nesting (value p) < room)
         × InOrder value (end (value p)) ps e
 
-    abbrev ItemsOrder : ℕ → Nodes → ℕ → Type 0
-    ItemsOrder i ns e = InOrder (λ n. n) i (nodes_list ns) e
+    -- So stand parts whose values are such, one behind another.
+    module _ {P : Type 0} (closer : ℕ) (Begins : ℕ → Type 0) (IsPart : ℕ → P → ℕ → Type 0) (value : P → Node)
+        (each : (i : ℕ) (p : P) (e : ℕ) → IsPart i p e
+        → (i ≤ begin (value p)) × Spells names t (value p) × (nesting (value p) < room) × (end (value p) ≡ e)) where
+      part-order : (i c : ℕ) (p : P) (ps : List P) (e : ℕ) → i ≤ c
+          → (h : PartThen t closer Begins IsPart c p (λ m. MoreParts t closer Begins IsPart ps m e))
+          → InOrder value h.end ps e → InOrder value i (p ∷ ps) e
+      part-order i c p ps e le h rest =
+          let x = each h.begin p h.end h.is in
+          (omega (arith, h.blanks.ordered, x.0), x.1, x.2, subst (λ j. InOrder value j ps e) (sym x.3) rest)
 
-    abbrev MembersOrder : ℕ → NodeMembers → ℕ → Type 0
-    MembersOrder i ms e = InOrder (λ m. m.1) i (members_list ms) e
+      more_parts-order : (ps : List P) (i e : ℕ) → MoreParts t closer Begins IsPart ps i e → InOrder value i ps e
+      more_parts-order [] i e h = behind-ahead i closer e h
+      more_parts-order (p ∷ ps) i e h =
+          part-order i h.0 p ps e (omega (arith, behind-ahead i 44 h.0 h.1)) h.2
+          (more_parts-order ps h.2.end e h.2.rest)
+
+      parts-order : (ps : List P) (i e : ℕ) → Parts t closer Begins IsPart ps i e → InOrder value i ps e
+      parts-order [] i e h = behind-ahead i closer e h
+      parts-order (p ∷ ps) i e h =
+          part-order i i p ps e (omega arith) h (more_parts-order ps h.end e h.rest)
+
+    item-order : (i : ℕ) (n : Node) (e : ℕ) → IsItem names t room i n e
+        → (i ≤ begin n) × Spells names t n × (nesting n < room) × (end n ≡ e)
+    item-order i n e is = (omega (arith, is.begins), is.spelled, is.limit, is.ends)
+
+    member-order : (i : ℕ) (m : Key × Node) (e : ℕ) → IsMember names t room i m e
+        → (i ≤ begin m.1) × Spells names t m.1 × (nesting m.1 < room) × (end m.1 ≡ e)
+    member-order i m e is =
+        let behind = key-ahead m.0 (begin m.1) is.key in
+        let value = is.value in
+        (omega (arith, is.begins), value.spelled, value.limit, value.ends)
 
     pub more_items-order : (ns : Nodes) (i e : ℕ) → SpellsMoreItems names t i ns e → nesting_of ns < room
-        → ItemsOrder i ns e
-    more_items-order no_nodes i e h d = behind-ahead i 93 e h
-    more_items-order (node n ns) i e h d =
-        let before = behind-ahead i 44 h.0 h.1 in
-        (omega (arith, h.2.ordered), h.3, omega arith, more_items-order ns (end n) e h.4 (omega arith))
+        → InOrder (λ n. n) i (nodes_list ns) e
+    more_items-order ns i e h d =
+        more_parts-order 93 (PartAt shape.Array t) (IsItem names t room) (λ n. n) item-order (nodes_list ns) i e
+        (more_items-parts room ns i e h d)
 
-    pub items-order : (ns : Nodes) (i e : ℕ) → SpellsItems names t i ns e → nesting_round ns ≤ room → ItemsOrder i ns e
-    items-order no_nodes i e h d = behind-ahead i 93 e h
-    items-order (node n ns) i e h d = (h.0.ordered, h.1, omega arith, more_items-order ns (end n) e h.2 (omega arith))
+    pub items-order : (ns : Nodes) (i e : ℕ) → SpellsItems names t i ns e → nesting_round ns ≤ room
+        → InOrder (λ n. n) i (nodes_list ns) e
+    items-order ns i e h d =
+        parts-order 93 (PartAt shape.Array t) (IsItem names t room) (λ n. n) item-order (nodes_list ns) i e
+        (items-parts room ns i e h d)
 
-    pub more_members-order : (ms : NodeMembers) (i e : ℕ) → SpellsMoreMembers names t i ms e → nesting_of_members ms < room
-        → MembersOrder i ms e
-    more_members-order no_members i e h d = behind-ahead i 125 e h
-    more_members-order (member key n ms) i e h d =
-        let before = behind-ahead i 44 h.0 h.1 in
-        let value = key-ahead key (begin n) h.3 in
-        (omega (arith, h.2.ordered), h.4, omega arith, more_members-order ms (end n) e h.5 (omega arith))
+    pub more_members-order : (ms : NodeMembers) (i e : ℕ) → SpellsMoreMembers names t i ms e
+        → nesting_of_members ms < room → InOrder (λ m. m.1) i (members_list ms) e
+    more_members-order ms i e h d =
+        more_parts-order 125 (PartAt shape.Object t) (IsMember names t room) (λ m. m.1) member-order (members_list ms)
+        i e (more_members-parts room ms i e h d)
 
     pub members-order : (ms : NodeMembers) (i e : ℕ) → SpellsMembers names t i ms e → nesting_round_members ms ≤ room
-        → MembersOrder i ms e
-    members-order no_members i e h d = behind-ahead i 125 e h
-    members-order (member key n ms) i e h d =
-        let value = key-ahead key (begin n) h.1 in
-        (omega (arith, h.0.ordered), h.2, omega arith, more_members-order ms (end n) e h.3 (omega arith))
+        → InOrder (λ m. m.1) i (members_list ms) e
+    members-order ms i e h d =
+        parts-order 125 (PartAt shape.Object t) (IsMember names t room) (λ m. m.1) member-order (members_list ms) i e
+        (members-parts room ms i e h d)
 
     abbrev Ahead : Type 0
     Ahead = (n : Node) → Spells names t n → nesting n < room → begin n < end n

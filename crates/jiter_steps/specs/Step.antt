@@ -10,6 +10,8 @@ use Rattle.jiter_scan.specs.NumberReading.{extent_then}
 use Rattle.jiter_steps.specs.Blank.{past_blanks}
 use Rattle.jiter_steps.specs.declared.parse.Shape.{Shape}
 use Rattle.jiter_steps.specs.declared.parse.Shape.TheVariants as shape
+use Rattle.jiter_steps.specs.declared.parse.Start.{Start}
+use Rattle.jiter_steps.specs.declared.parse.Start.TheVariants as start
 
 -- where the reading goes on, the end of the container, or a fault at its place
 pub data Step : Type 0 where
@@ -25,6 +27,11 @@ step t row i = row (past_blanks t i) (slice_get t (past_blanks t i))
 abbrev pub closer_of : Shape → ℕ
 closer_of shape.Array = ascii.right_bracket
 closer_of shape.Object = ascii.right_brace
+
+-- what its first byte says,
+abbrev pub opening : Shape → Start
+opening shape.Array = start.Array
+opening shape.Object = start.Object
 
 -- what a part begins with: an item with any other byte, a member with its key's quote,
 abbrev pub begins_part : Shape → ℕ → Bool

@@ -9,7 +9,6 @@ ghost use Rattle.jiter_steps.specs.Blank.{past_blanks};
 ghost use Rattle.jiter_steps.specs.Literal.{start_of, word_of, literal_at};
 ghost use Rattle.jiter_steps.specs.Step.{step, closer_of, begins_part, end_kind_of, comma_kind_of};
 ghost use Rattle.jiter_steps.specs.Step.{container_first, container_comma, container_step};
-ghost use Rattle.jiter_steps.specs.Step.{array_first, array_step, object_first, object_step};
 ghost use Rattle.jiter_steps.specs.Step.{colon, value_first, object_colon, document_end};
 ghost use Rattle.jiter_steps.specs.Read.{scalar_at};
 ghost use Rattle.jiter_steps.specs.ReadError.{WhereRefused};
@@ -25,6 +24,9 @@ use jiter_scan::number_decoder::number_at;
 use jiter_scan::word::{byte_at, word_end};
 use std::alloc::Global;
 use std::borrow::CowStr;
+
+/// How many containers that are not empty may stand one inside another.
+pub const NESTING_LIMIT: usize = 200;
 
 /// A literal name (RFC 8259, 3).
 #[derive(Clone, Copy, Debug, PartialEq, Eq)]
@@ -158,15 +160,6 @@ impl<'j> Parser<'j> {
         Self { bytes, index: 0 }
     }
 
-    /// A reader that stands at a place of the bytes.
-    pub fn at(bytes: &'j [u8], index: usize) -> Self
-        requires { index ≤ length bytes.now }
-        ensures same { result.bytes ≡ bytes.entry }
-        ensures place { result.index ≡ index }
-    {
-        Self { bytes, index }
-    }
-
     // A fault where the reader stands.
     #[cold]
     fn fault(&self, kind: FaultKind) -> Fault
@@ -190,65 +183,10 @@ impl<'j> Parser<'j> {
         byte_at(self.bytes, self.index)
     }
 
-    /// Whether an item begins where the reader then stands; else the array has ended behind its bracket,
-    /// where the reader stood (RFC 8259, 5).
+    /// Whether a part begins where the reader then stands, an item or a member's key; else the container has
+    /// ended. The reader stood at the opening bracket (RFC 8259, 4 and 5).
     #[inline(always)]
-    pub fn array_first(&mut self) -> Result<bool, Fault>
-        requires { self.old.index < length self.old.bytes.now }
-        ensures moves { Moves self.old self.new }
-        ensures value { Steps result self.new.index
-            (step self.old.bytes.now array_first (self.old.index + 1)) }
-        ensures ahead { self.old.index < self.new.index }
-        ensures inside { IfOk result (λ more. more ≡ true
-            → self.new.index < length self.old.bytes.now) }
-    {
-        self.first(Shape::Array)
-    }
-
-    /// Whether another item begins where the reader then stands; else the array has ended. The reader stood
-    /// behind an item (RFC 8259, 5).
-    #[inline(always)]
-    pub fn array_step(&mut self) -> Result<bool, Fault>
-        ensures moves { Moves self.old self.new }
-        ensures value { Steps result self.new.index
-            (step self.old.bytes.now (array_step self.old.bytes.now) self.old.index) }
-        ensures inside { IfOk result (λ more. more ≡ true
-            → self.new.index < length self.old.bytes.now) }
-    {
-        self.step(Shape::Array)
-    }
-
-    /// Whether a key begins where the reader then stands; else the object has ended behind its bracket,
-    /// where the reader stood (RFC 8259, 4).
-    #[inline(always)]
-    pub fn object_first(&mut self) -> Result<bool, Fault>
-        requires { self.old.index < length self.old.bytes.now }
-        ensures moves { Moves self.old self.new }
-        ensures value { Steps result self.new.index
-            (step self.old.bytes.now object_first (self.old.index + 1)) }
-        ensures ahead { self.old.index < self.new.index }
-        ensures inside { IfOk result (λ more. more ≡ true
-            → self.new.index < length self.old.bytes.now) }
-    {
-        self.first(Shape::Object)
-    }
-
-    /// Whether another key begins where the reader then stands; else the object has ended. The reader stood
-    /// behind a member (RFC 8259, 4).
-    #[inline(always)]
-    pub fn object_step(&mut self) -> Result<bool, Fault>
-        ensures moves { Moves self.old self.new }
-        ensures value { Steps result self.new.index
-            (step self.old.bytes.now (object_step self.old.bytes.now) self.old.index) }
-        ensures inside { IfOk result (λ more. more ≡ true
-            → self.new.index < length self.old.bytes.now) }
-    {
-        self.step(Shape::Object)
-    }
-
-    // Behind the opening bracket: a part, or the closer.
-    #[inline(always)]
-    fn first(&mut self, shape: Shape) -> Result<bool, Fault>
+    pub fn first(&mut self, shape: Shape) -> Result<bool, Fault>
         requires { self.old.index < length self.old.bytes.now }
         ensures moves { Moves self.old self.new }
         ensures value { Steps result self.new.index
@@ -273,9 +211,10 @@ impl<'j> Parser<'j> {
         }
     }
 
-    // Behind a part: a comma and the part behind it, or the closer.
+    /// Whether another part begins where the reader then stands; else the container has ended. The reader
+    /// stood behind a part (RFC 8259, 4 and 5).
     #[inline(always)]
-    fn step(&mut self, shape: Shape) -> Result<bool, Fault>
+    pub fn step(&mut self, shape: Shape) -> Result<bool, Fault>
         ensures moves { Moves self.old self.new }
         ensures value { Steps result self.new.index
             (step self.old.bytes.now (container_step shape self.old.bytes.now) self.old.index) }

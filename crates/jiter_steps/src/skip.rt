@@ -7,15 +7,14 @@ ghost use Rattle.jiter_steps.specs.Literal.{start_of};
 ghost use Rattle.jiter_steps.specs.Node.{nesting_limit};
 ghost use Rattle.jiter_steps.specs.Parse.{Moves, Reads};
 ghost use Rattle.jiter_steps.specs.Read.{done, scalar_at, value_at};
-ghost use Rattle.jiter_steps.specs.Skip.{opening, key_end, first_inside, next_inside, frame_of, open_frames, Continues};
+ghost use Rattle.jiter_steps.specs.Skip.{key_end, value_inside, first_inside, next_inside, frame_of, shape_of};
+ghost use Rattle.jiter_steps.specs.Skip.{open_frames, Continues};
+ghost use Rattle.jiter_steps.specs.Step.{opening};
 
-use crate::parse::{Parser, Start, start_of};
+use crate::parse::{NESTING_LIMIT, Parser, Shape, Start, start_of};
 use crate::raw_string::string_end;
 use jiter_scan::errors::{Fault, FaultKind};
 use jiter_scan::number_extent::number_end;
-
-// How many containers that are not empty may stand one inside another.
-const NESTING_LIMIT: usize = 200;
 
 // How many open containers the table has places for.
 const PLACES: usize = 256;
@@ -28,14 +27,37 @@ struct Nest {
     ghost within: { depth ≤ nesting_limit },
 }
 
+// The shape of a container that is an object or is none.
+#[inline(always)]
+fn shape_of(is_object: bool) -> Shape
+    ensures { result ≡ shape_of is_object }
+{
+    if is_object {
+        Shape::Object
+    } else {
+        Shape::Array
+    }
+}
+
+// Whether a container of this shape is an object.
+#[inline(always)]
+fn is_object(shape: Shape) -> bool
+    ensures { shape ≡ shape_of result }
+{
+    match shape {
+        Shape::Array => false,
+        Shape::Object => true,
+    }
+}
+
 // A container opens, whose first value begins where the reader stands.
 #[inline(always)]
-fn open(parser: &Parser<'_>, nest: &mut Nest, is_object: bool) -> Result<bool, Fault>
+fn open(parser: &Parser<'_>, nest: &mut Nest, shape: Shape) -> Result<bool, Fault>
     requires { parser.now.index < length parser.now.bytes.now }
     ensures { (names : Bool) → Continues names parser.now.bytes.now
         (open_frames nest.new.objects nest.new.depth) result parser.now.index
         (value_from (ends names) parser.now.bytes.now
-        (frame_of is_object ∷ open_frames nest.old.objects nest.old.depth) parser.now.index) }
+        (frame_of shape ∷ open_frames nest.old.objects nest.old.depth) parser.now.index) }
 {
     if nest.depth == NESTING_LIMIT {
         return Err(Fault {
@@ -43,7 +65,7 @@ fn open(parser: &Parser<'_>, nest: &mut Nest, is_object: bool) -> Result<bool, F
             index: parser.index,
         });
     }
-    nest.objects[nest.depth] = is_object;
+    nest.objects[nest.depth] = is_object(shape);
     nest.depth += 1;
     Ok(true)
 }
@@ -84,86 +106,65 @@ fn key(parser: &mut Parser<'_>) -> Result<(), Fault>
     }
 }
 
-// From the bracket of an object to its first value, or behind its closer.
+// Where a part begins: to its value, which stands behind a key and its colon in an object.
 #[inline(always)]
-fn first_member(parser: &mut Parser<'_>) -> Result<bool, Fault>
+fn value_inside(parser: &mut Parser<'_>, shape: Shape) -> Result<bool, Fault>
     requires { parser.old.index < length parser.old.bytes.now }
     ensures moves { Moves parser.old parser.new }
     ensures value { Reads (λ more. more) result parser.new.index
-        (first_inside true parser.old.bytes.now parser.old.index) }
-    ensures ahead { OnOk result (parser.old.index < parser.new.index) }
+        (value_inside shape parser.old.bytes.now parser.old.index) }
     ensures inside { IfOk result (λ more. more ≡ true
         → parser.new.index < length parser.old.bytes.now) }
 {
-    match parser.object_first() {
-        Ok(true) => match key(parser) {
+    match shape {
+        Shape::Array => Ok(true),
+        Shape::Object => match key(parser) {
             Ok(()) => Ok(true),
             Err(fault) => Err(fault),
         },
-        Ok(false) => Ok(false),
-        Err(fault) => Err(fault),
-    }
-}
-
-// From behind a value of an object to its next one, or behind its closer.
-#[inline(always)]
-fn next_member(parser: &mut Parser<'_>) -> Result<bool, Fault>
-    ensures moves { Moves parser.old parser.new }
-    ensures value { Reads (λ more. more) result parser.new.index
-        (next_inside true parser.old.bytes.now parser.old.index) }
-    ensures inside { IfOk result (λ more. more ≡ true
-        → parser.new.index < length parser.old.bytes.now) }
-{
-    match parser.object_step() {
-        Ok(true) => match key(parser) {
-            Ok(()) => Ok(true),
-            Err(fault) => Err(fault),
-        },
-        Ok(false) => Ok(false),
-        Err(fault) => Err(fault),
     }
 }
 
 // From the bracket of a container to the first value inside, or behind its closer.
 #[inline(always)]
-fn first_inside(parser: &mut Parser<'_>, is_object: bool) -> Result<bool, Fault>
+fn first_inside(parser: &mut Parser<'_>, shape: Shape) -> Result<bool, Fault>
     requires { parser.old.index < length parser.old.bytes.now }
     ensures moves { Moves parser.old parser.new }
     ensures value { Reads (λ more. more) result parser.new.index
-        (first_inside is_object parser.old.bytes.now parser.old.index) }
+        (first_inside shape parser.old.bytes.now parser.old.index) }
     ensures ahead { OnOk result (parser.old.index < parser.new.index) }
     ensures inside { IfOk result (λ more. more ≡ true
         → parser.new.index < length parser.old.bytes.now) }
 {
-    if is_object {
-        first_member(parser)
-    } else {
-        parser.array_first()
+    match parser.first(shape) {
+        Ok(true) => value_inside(parser, shape),
+        Ok(false) => Ok(false),
+        Err(fault) => Err(fault),
     }
 }
 
 // From behind a value inside a container to the next one, or behind the container's closer.
 #[inline(always)]
-fn next_inside(parser: &mut Parser<'_>, is_object: bool) -> Result<bool, Fault>
+fn next_inside(parser: &mut Parser<'_>, shape: Shape) -> Result<bool, Fault>
     ensures moves { Moves parser.old parser.new }
     ensures value { Reads (λ more. more) result parser.new.index
-        (next_inside is_object parser.old.bytes.now parser.old.index) }
+        (next_inside shape parser.old.bytes.now parser.old.index) }
     ensures inside { IfOk result (λ more. more ≡ true
         → parser.new.index < length parser.old.bytes.now) }
 {
-    if is_object {
-        next_member(parser)
-    } else {
-        parser.array_step()
+    match parser.step(shape) {
+        Ok(true) => value_inside(parser, shape),
+        Ok(false) => Ok(false),
+        Err(fault) => Err(fault),
     }
 }
 
 // The container whose bracket is where the reader stands: to its first value, or behind its closer.
 #[inline(always)]
-fn begin(parser: &mut Parser<'_>, nest: &mut Nest, is_object: bool) -> Result<bool, Fault>
+fn begin(parser: &mut Parser<'_>, nest: &mut Nest, shape: Shape) -> Result<bool, Fault>
     requires within { parser.old.index < length parser.old.bytes.now }
     requires bracket { start_of (slice_index parser.old.bytes.now parser.old.index)
-        ≡ opening is_object }
+        ≡ opening shape }
     ensures moves { Moves parser.old parser.new }
     ensures value { (names : Bool) → Continues names parser.old.bytes.now
         (open_frames nest.new.objects nest.new.depth) result parser.new.index
@@ -171,8 +172,8 @@ fn begin(parser: &mut Parser<'_>, nest: &mut Nest, is_object: bool) -> Result<bo
         (open_frames nest.old.objects nest.old.depth) parser.old.index) }
     ensures ahead { OnOk result (parser.old.index < parser.new.index) }
 {
-    match first_inside(parser, is_object) {
-        Ok(true) => open(parser, nest, is_object),
+    match first_inside(parser, shape) {
+        Ok(true) => open(parser, nest, shape),
         Ok(false) => Ok(false),
         Err(fault) => Err(fault),
     }
@@ -220,8 +221,8 @@ fn begin_value(parser: &mut Parser<'_>, nest: &mut Nest, allow_inf_nan: bool) ->
     ensures ahead { OnOk result (parser.old.index < parser.new.index) }
 {
     match start_of(parser.bytes[parser.index]) {
-        Start::Array => begin(parser, nest, false),
-        Start::Object => begin(parser, nest, true),
+        Start::Array => begin(parser, nest, Shape::Array),
+        Start::Object => begin(parser, nest, Shape::Object),
         _ => match skip_scalar(parser, allow_inf_nan) {
             Ok(()) => Ok(false),
             Err(fault) => Err(fault),
@@ -243,7 +244,7 @@ fn end_value(parser: &mut Parser<'_>, nest: &mut Nest) -> Result<bool, Fault>
         if nest.depth == 0 {
             return Ok(false);
         }
-        match next_inside(parser, nest.objects[nest.depth - 1]) {
+        match next_inside(parser, shape_of(nest.objects[nest.depth - 1])) {
             Ok(true) => return Ok(true),
             Ok(false) => nest.depth -= 1,
             Err(fault) => return Err(fault),

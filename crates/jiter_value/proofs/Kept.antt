@@ -17,10 +17,11 @@ use Rattle.jiter_steps.specs.StringDecoder.{text_view}
 use Rattle.jiter_steps.specs.StringReading.{whole, string_at}
 use Rattle.jiter_steps.specs.Read.{Reading, done, fault, value_at}
 use Rattle.jiter_steps.specs.Frames.{Frame, items_frame, members_frame, resolve_step, resume, value_in, array_in, object_in, value_from, key_from, items_from, members_from}
+use Rattle.jiter_steps.specs.declared.parse.Shape.TheVariants as shape
 use Rattle.jiter_steps.specs.declared.parse.Start.TheVariants as start
 use Rattle.jiter_steps.proofs.Values.{Advances}
 use Rattle.jiter_steps.proofs.Instances.{trees-advances}
-use Rattle.jiter_steps.proofs.Resumed.{IgnoresBegin, value_in-room, value_in-limit, if_forgiven-yes, if_forgiven-no, resume-fault, resume-forgiven, step-to, step-stuck, items-value, key-value, key-failed, colon-failed, array-begins, object-begins}
+use Rattle.jiter_steps.proofs.Resumed.{IgnoresBegin, value_in-room, value_in-limit, if_forgiven-yes, if_forgiven-no, resume-fault, resume-forgiven, step-to, step-stuck, items-value, key-value, key-failed, colon-failed, container-begins}
 use Rattle.jiter_value.specs.Settings.{forgives, rules}
 use Rattle.jiter_value.specs.Stacks.{Member, member_view, last_key_of, last_key, front, frames, HaveBases, HaveKeyBase, key_in, key_fault_in, behind_in}
 use Rattle.jiter_value.specs.Stacks as stacks
@@ -253,7 +254,7 @@ module _ (p : Settings) (t : List ℕ) where
     array-opens j o eq h is s =
         let none : [] ≡ map view (drop (length es) es) = sym (ap (map view) (drop_all (length es) es (omega arith))) in
         let same : es ≡ take (length es) es = sym (take_all (length es) es (omega arith)) in
-        array-begins (rules p) t good any fs i (more j) low is s ∙ items-value (rules p) t good fs [] j h
+        container-begins (rules p) t good any fs i (more j) low shape.Array is s ∙ items-value (rules p) t good fs [] j h
         ∙ ap₂ (λ xs ys. value_from (rules p) t (items_frame xs ∷ frames a os ys ms) j) none same
         ∙ ap (λ q. value_from (rules p) t (frames awaits.Item (q ∷ os) es ms) j) (sym eq)
 
@@ -263,7 +264,7 @@ module _ (p : Settings) (t : List ℕ) where
     array-limit j full h is s =
         let d : suc (length fs) ≡ 201 = omega (arith, deep) in
         let f : Frame Text Tree = items_frame [] in
-        array-begins (rules p) t good any fs i (more j) low is s ∙ items-value (rules p) t good fs [] j h
+        container-begins (rules p) t good any fs i (more j) low shape.Array is s ∙ items-value (rules p) t good fs [] j h
         ∙ ap (λ n. resume (rules p) t (f ∷ fs) (value_in (rules p) t n j)) d
         ∙ ap (resume (rules p) t (f ∷ fs)) (value_in-limit (rules p) t j)
         ∙ resume-fault (rules p) t (f ∷ fs) recursion_limit j j (limit-kept p.mode)
@@ -272,14 +273,14 @@ module _ (p : Settings) (t : List ℕ) where
         → resolve_step (forgives p.mode) (step t array_first (i + 1)) ≡ closed c → v ≡ array (items_of [])
         → value_from (rules p) t fs i ≡ resume (rules p) t fs (done v c)
     array-empty c v is s made =
-        array-begins (rules p) t good any fs i (closed c) low is s
+        container-begins (rules p) t good any fs i (closed c) low shape.Array is s
         ∙ ap (λ y. resume (rules p) t fs (done y c)) (sym made)
 
     pub array-stuck : (j : ℕ) (k : Kind) → start_of (slice_index t i) ≡ start.Array
         → resolve_step (forgives p.mode) (step t array_first (i + 1)) ≡ stuck k j → forgives p.mode k ≡ false
         → value_from (rules p) t fs i ≡ fault k j j
     array-stuck j k is s bad =
-        array-begins (rules p) t good any fs i (stuck k j) low is s
+        container-begins (rules p) t good any fs i (stuck k j) low shape.Array is s
         ∙ step-stuck (rules p) t (array_in (rules p) t (length fs)) fs [] (stuck k j) k j (kept k j bad) bad
 
     pub object-opens : (j : ℕ) (o : Open) → o ≡ record { outer = a; base = length ms }
@@ -289,7 +290,7 @@ module _ (p : Settings) (t : List ℕ) where
         let none : [] ≡ map member_view (drop (length ms) ms) = sym
         (ap (map member_view) (drop_all (length ms) ms (omega arith))) in
         let same : ms ≡ take (length ms) ms = sym (take_all (length ms) ms (omega arith)) in
-        object-begins (rules p) t good any fs i (more j) low is s
+        container-begins (rules p) t good any fs i (more j) low shape.Object is s
         ∙ ap₂ (λ xs ys. key_from (rules p) t (frames a os es ys) xs j) none same
         ∙ ap (λ q. key_in p t (q ∷ os) es ms j) (sym eq)
 
@@ -297,14 +298,14 @@ module _ (p : Settings) (t : List ℕ) where
         → resolve_step (forgives p.mode) (step t object_first (i + 1)) ≡ closed c → v ≡ object (members_of [])
         → value_from (rules p) t fs i ≡ resume (rules p) t fs (done v c)
     object-empty c v is s made =
-        object-begins (rules p) t good any fs i (closed c) low is s
+        container-begins (rules p) t good any fs i (closed c) low shape.Object is s
         ∙ ap (λ y. resume (rules p) t fs (done y c)) (sym made)
 
     pub object-stuck : (j : ℕ) (k : Kind) → start_of (slice_index t i) ≡ start.Object
         → resolve_step (forgives p.mode) (step t object_first (i + 1)) ≡ stuck k j → forgives p.mode k ≡ false
         → value_from (rules p) t fs i ≡ fault k j j
     object-stuck j k is s bad =
-        object-begins (rules p) t good any fs i (stuck k j) low is s
+        container-begins (rules p) t good any fs i (stuck k j) low shape.Object is s
         ∙ step-stuck (rules p) t (object_in (rules p) t (length fs)) fs [] (stuck k j) k j (kept k j bad) bad
 
   -- A key begins.

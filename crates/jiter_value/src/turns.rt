@@ -34,7 +34,7 @@ use jiter_scan::memory::{Refused, make_room, push_small};
 use jiter_scan::short_number::{Short, short_at};
 use jiter_scan::simd::scan_string;
 use jiter_scan::text::ascii_text;
-use jiter_steps::parse::{Literal, Parser, Shape};
+use jiter_steps::parse::{Literal, NESTING_LIMIT, Parser, Shape};
 use jiter_steps::plain::{
     Next, ascii_between, colon_at, first_at, plain_literal_end, plain_text_end, step_at,
     text_between,
@@ -43,9 +43,6 @@ use jiter_steps::read_error::ReadError;
 use std::alloc::Global;
 use std::borrow::CowStr;
 use std::mem;
-
-// How many containers that are not empty may stand one inside another.
-const NESTING_LIMIT: usize = 200;
 
 // The reading is given up for a fault of the bytes, and stops at `at`.
 #[cold]
@@ -131,10 +128,7 @@ fn is_step_forgiven<'j>(
     ensures same { result ≡ true → stacks.new ≡ stacks.old }
 {
     let mut parser = Parser { bytes, index: from };
-    match shape {
-        Shape::Array => is_forgiven(stacks, parser.array_step(), settings),
-        Shape::Object => is_forgiven(stacks, parser.object_step(), settings),
-    }
+    is_forgiven(stacks, parser.step(shape), settings)
 }
 
 // Whether the fault at `at`, behind the bracket at `from`, is forgiven.
@@ -155,10 +149,7 @@ fn is_first_forgiven<'j>(
     ensures same { result ≡ true → stacks.new ≡ stacks.old }
 {
     let mut parser = Parser { bytes, index: from };
-    match shape {
-        Shape::Array => is_forgiven(stacks, parser.array_first(), settings),
-        Shape::Object => is_forgiven(stacks, parser.object_first(), settings),
-    }
+    is_forgiven(stacks, parser.first(shape), settings)
 }
 
 // The shape of the container that holds what was awaited, if one does.

@@ -7,7 +7,7 @@ ghost use Rattle.jiter.specs.Jiter.{MovesOn, Replies, RefusesBytes, BeginsAs, St
 use crate::errors::{JiterResult, JsonType};
 use crate::jiter::{Jiter, refusal};
 use crate::peek::Peek;
-use jiter_steps::parse::{Start, start_of};
+use jiter_steps::parse::{Shape, Start, start_of};
 
 impl<'j> Jiter<'j> {
     // The first item of an array, at a value that begins so.
@@ -19,7 +19,7 @@ impl<'j> Jiter<'j> {
         ensures refusal { RefusesBytes self.old.text result }
     {
         match start {
-            Start::Array => match self.parser.array_first() {
+            Start::Array => match self.parser.first(Shape::Array) {
                 Ok(true) => Ok(Some(Peek::new(self.parser.bytes[self.parser.index]))),
                 Ok(false) => Ok(None),
                 Err(fault) => Err(refusal(fault)),
@@ -60,7 +60,7 @@ impl<'j> Jiter<'j> {
         ensures value { Replies (option_map byte_of) result self.new (item_step self.old) }
         ensures refusal { RefusesBytes self.old.text result }
     {
-        match self.parser.array_step() {
+        match self.parser.step(Shape::Array) {
             Ok(true) => Ok(Some(Peek::new(self.parser.bytes[self.parser.index]))),
             Ok(false) => Ok(None),
             Err(fault) => Err(refusal(fault)),

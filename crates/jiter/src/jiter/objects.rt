@@ -13,7 +13,7 @@ ghost use Rattle.jiter.specs.Lending.{LeavesReader};
 
 use crate::errors::{JiterResult, JsonType};
 use crate::jiter::{Jiter, refusal};
-use jiter_steps::parse::{Start, start_of};
+use jiter_steps::parse::{Shape, Start, start_of};
 use std::alloc::Global;
 use std::borrow::CowStr;
 
@@ -64,7 +64,7 @@ impl<'j> Jiter<'j> {
         ensures place { WhereMemory result (λ e. self.new.position ≡ e.index) }
     {
         match start {
-            Start::Object => match self.parser.object_first() {
+            Start::Object => match self.parser.first(Shape::Object) {
                 Ok(true) => self.key(alloc),
                 Ok(false) => Ok(None),
                 Err(fault) => Err(refusal(fault)),
@@ -99,7 +99,7 @@ impl<'j> Jiter<'j> {
             × (step self.old.text (object_step self.old.text) self.old.position ≡ more e.index)) }
         ensures place { WhereMemory result (λ e. self.new.position ≡ e.index) }
     {
-        match self.parser.object_step() {
+        match self.parser.step(Shape::Object) {
             Ok(true) => self.key(alloc),
             Ok(false) => Ok(None),
             Err(fault) => Err(refusal(fault)),
@@ -132,7 +132,7 @@ impl<'j> Jiter<'j> {
         ensures refusal { RefusesBytes self.old.text result }
     {
         match start {
-            Start::Object => match self.parser.object_first() {
+            Start::Object => match self.parser.first(Shape::Object) {
                 Ok(true) => self.key_bytes(),
                 Ok(false) => Ok(None),
                 Err(fault) => Err(refusal(fault)),
@@ -163,7 +163,7 @@ impl<'j> Jiter<'j> {
         ensures value { Replies (option_map raw_view) result self.new (key_step raw self.old) }
         ensures refusal { RefusesBytes self.old.text result }
     {
-        match self.parser.object_step() {
+        match self.parser.step(Shape::Object) {
             Ok(true) => self.key_bytes(),
             Ok(false) => Ok(None),
             Err(fault) => Err(refusal(fault)),

@@ -139,7 +139,7 @@ fn behind_the_bracket_of_an_array(rt: HostRuntime) {
             bytes,
             index: begin,
         };
-        let answer = parser.array_first();
+        let answer = parser.first(Shape::Array);
         assert_eq!(rt; leads_to(&parser, answer), wanted, "of {bytes:?}");
     }
 }
@@ -170,7 +170,7 @@ fn behind_an_item(rt: HostRuntime) {
             bytes,
             index: begin,
         };
-        let answer = parser.array_step();
+        let answer = parser.step(Shape::Array);
         assert_eq!(rt; leads_to(&parser, answer), wanted, "of {bytes:?}");
     }
 }
@@ -196,7 +196,7 @@ fn behind_a_comma_in_an_array(rt: HostRuntime) {
             bytes,
             index: begin,
         };
-        let answer = parser.array_step();
+        let answer = parser.step(Shape::Array);
         assert_eq!(rt; leads_to(&parser, answer), wanted, "of {bytes:?}");
     }
 }
@@ -224,7 +224,7 @@ fn behind_the_bracket_of_an_object(rt: HostRuntime) {
             bytes,
             index: begin,
         };
-        let answer = parser.object_first();
+        let answer = parser.first(Shape::Object);
         assert_eq!(rt; leads_to(&parser, answer), wanted, "of {bytes:?}");
     }
 }
@@ -307,7 +307,7 @@ fn behind_a_member(rt: HostRuntime) {
             bytes,
             index: begin,
         };
-        let answer = parser.object_step();
+        let answer = parser.step(Shape::Object);
         assert_eq!(rt; leads_to(&parser, answer), wanted, "of {bytes:?}");
     }
 }
@@ -333,7 +333,7 @@ fn behind_a_comma_in_an_object(rt: HostRuntime) {
             bytes,
             index: begin,
         };
-        let answer = parser.object_step();
+        let answer = parser.step(Shape::Object);
         assert_eq!(rt; leads_to(&parser, answer), wanted, "of {bytes:?}");
     }
 }

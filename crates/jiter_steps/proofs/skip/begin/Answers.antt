@@ -10,39 +10,39 @@ pub returns-in-Ok-true-clause-value : goal.returns-in-Ok-true-clause-value
 returns-in-Ok-true-clause-value c = λ names.
     let t = c.args.parser.now.bytes.now in
     let n = c.args.nest.now in
-    let o = c.args.is_object in
+    let b = c.args.shape in
     let fs = open_frames n.objects n.depth in
     let gs = open_frames c.open.new.nest.objects c.open.new.nest.depth in
     let m = c.first_inside.new.parser.index in
     let few : length fs ≤ 200 = omega (arith, length-open_frames n.objects n.depth, n.within) in
-    let same : c.first_inside.new.parser.bytes.now ≡ t = ap (λ b. b.now) c.first_inside.ensures.moves.same in
-    let at : first_inside o t c.args.parser.now.index ≡ done true m =
-    c.in-Ok-true.ensures.value ∙ ap (λ b. done b m) c.in-Ok-true.field-0-test in
+    let same : c.first_inside.new.parser.bytes.now ≡ t = ap (λ bytes. bytes.now) c.first_inside.ensures.moves.same in
+    let at : first_inside b t c.args.parser.now.index ≡ done true m =
+    c.in-Ok-true.ensures.value ∙ ap (λ more. done more m) c.in-Ok-true.field-0-test in
     continues-along names t gs c.open.result m _ _
-    (first_inside-is names t o fs c.args.parser.now.index few c.requires.within c.requires.bracket
-    ∙ ap (led_on names t o fs) at)
-    (subst (λ u. Continues names u gs c.open.result m (value_from (ends names) u (frame_of o ∷ fs) m)) same
+    (first_inside-is names t b fs c.args.parser.now.index few c.requires.within c.requires.bracket
+    ∙ ap (led_on names t b fs) at)
+    (subst (λ u. Continues names u gs c.open.result m (value_from (ends names) u (frame_of b ∷ fs) m)) same
     (c.open.ensures names))
 
 pub returns-in-Ok-false-clause-value : goal.returns-in-Ok-false-clause-value
 returns-in-Ok-false-clause-value c = λ names.
     let t = c.args.parser.now.bytes.now in
     let n = c.args.nest.now in
-    let o = c.args.is_object in
+    let b = c.args.shape in
     let fs = open_frames n.objects n.depth in
     let e = c.first_inside.new.parser.index in
     let few : length fs ≤ 200 = omega (arith, length-open_frames n.objects n.depth, n.within) in
-    let at : first_inside o t c.args.parser.now.index ≡ done false e =
-    c.in-Ok-false.ensures.value ∙ ap (λ b. done b e) c.in-Ok-false.field-0-test in
-    first_inside-is names t o fs c.args.parser.now.index few c.requires.within c.requires.bracket
-    ∙ ap (led_on names t o fs) at
+    let at : first_inside b t c.args.parser.now.index ≡ done false e =
+    c.in-Ok-false.ensures.value ∙ ap (λ more. done more e) c.in-Ok-false.field-0-test in
+    first_inside-is names t b fs c.args.parser.now.index few c.requires.within c.requires.bracket
+    ∙ ap (led_on names t b fs) at
 
 pub returns-in-Err-clause-value : goal.returns-in-Err-clause-value
 returns-in-Err-clause-value c = λ names.
     let t = c.args.parser.now.bytes.now in
     let n = c.args.nest.now in
-    let o = c.args.is_object in
+    let b = c.args.shape in
     let fs = open_frames n.objects n.depth in
     let few : length fs ≤ 200 = omega (arith, length-open_frames n.objects n.depth, n.within) in
-    first_inside-is names t o fs c.args.parser.now.index few c.requires.within c.requires.bracket
-    ∙ ap (led_on names t o fs) c.in-Err.ensures.value
+    first_inside-is names t b fs c.args.parser.now.index few c.requires.within c.requires.bracket
+    ∙ ap (led_on names t b fs) c.in-Err.ensures.value
