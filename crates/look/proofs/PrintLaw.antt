@@ -1,9 +1,8 @@
 -- What is printed of a value that was read is a document of the same value.
 use Rattle.std.proofs.Common.{◌≡◌, inl, inr, ℕ, zero, suc, ◌+◌, ◌-◌, ◌≤◌, Bool, true, false, List, [], ◌∷◌, ◌++◌, length}
-use Rattle.std.proofs.Common.{refl, sym, append_assoc}
+use Rattle.std.proofs.Common.{refl, sym}
 use Rattle.std.proofs.Common.{ap, ap₂, ◌∙◌, subst, arith}
-use Rattle.std.specs.Prelude.{slice_get, Option, Some, None, IfSome}
-use Rattle.std.specs.List.{join_with_byte}
+use Rattle.std.specs.Prelude.{Option, Some, None, IfSome}
 use Rattle.std.specs.Str.{IsUtf8}
 use Rattle.std.proofs.lemmas.List.{length-append, take_at, get_or_push}
 use Rattle.std.proofs.lemmas.Option.{slice_get_within}
@@ -13,7 +12,7 @@ use Rattle.jiter_scan.proofs.Standing.{stands-length, stands-within, stands-spli
 use Rattle.jiter_steps.specs.Blank.{IsBlank}
 use Rattle.jiter_steps.specs.Literal.{word_of, literal_tree}
 use Rattle.jiter_steps.specs.Node.{Key, Node, literal, number, string, array, object, no_nodes, node}
-use Rattle.jiter_steps.specs.Node.{no_members, member, begin, end, StandsBehind, SpellsKey, Spells}
+use Rattle.jiter_steps.specs.Node.{Nodes, NodeMembers, no_members, member, begin, end, SpellsKey, Spells}
 use Rattle.jiter_steps.specs.Node.{SpellsItems, SpellsMoreItems, SpellsMembers, SpellsMoreMembers, nesting}
 use Rattle.jiter_steps.specs.Node.{nesting_of, nesting_of_members, number_tree}
 use Rattle.jiter_steps.specs.Node.{value_of, values_of, members_of, nesting_limit}
@@ -28,104 +27,85 @@ use Rattle.jiter_steps.specs.declared.parse.Literal.TheVariants as name
 use Rattle.look.specs.Print.{print_text, with_line_feed, print_of, item_prints, member_prints}
 use Rattle.look.specs.Printed.{borrow_tree, borrow_items, borrow_members, IsLineOf, PrintsAgain}
 use Rattle.look.proofs.PrintLawNumbers.{number-again}
+use Rattle.look.proofs.PrintLawParts.{no_blank, stands_here, Wherever, behind, Again, Parts, parts-again, more-again}
 use Rattle.look.proofs.PrintLawStrings.{string-again}
 use Rattle.look.proofs.GivenValues.{Gives}
 use Rattle.look.proofs.Printable.{IsNumber, Fits, ItemsFit, MembersFit, answer_in-printable}
 
-no_blank : (u : List ℕ) (i : ℕ) → i ≤ length u → IsBlank u i i
-no_blank u i h = record { ordered = omega arith; within = h; each = λ k l m. absurd (omega arith) }
-
--- the byte stands right here
-stands_here : (u : List ℕ) (i c j : ℕ) → slice_get u i ≡ Some c → j ≡ i + 1 → StandsBehind u i c j
-stands_here u i c j h e =
-    let lt = slice_get_within u i c h in record { at = i; blanks = no_blank u i (omega arith); here = h; ends = e }
-
--- ---- what stands wherever something is printed
--- wherever w stands, this is so of its place and of the place behind it
-abbrev Wherever : List ℕ → List ℕ → (ℕ → ℕ → Type 0) → Type 0
-Wherever u w So = (i j : ℕ) → i ≤ length u → Stands u i j w → So i j
-
--- the parts behind a part, with a comma before each
-abbrev behind : List (List ℕ) → List ℕ
-behind [] = []
-behind (p ∷ ps) = 44 ∷ join_with_byte 44 (p ∷ ps)
-
-joined-behind : (p : List ℕ) (ps : List (List ℕ)) (w : List ℕ)
-    → join_with_byte 44 (p ∷ ps) ++ w ≡ p ++ (behind ps ++ w)
-joined-behind p [] w = refl
-joined-behind p (q ∷ ps) w = append_assoc p (behind (q ∷ ps)) w
-
--- A bracket or a comma, a part, and what follows it up to the closer. What is known of the part and of what follows is
--- known of all.
-parts-again : (u : List ℕ) (before closer : ℕ) (p : List ℕ) (ps : List (List ℕ)) (Part Rest So : ℕ → ℕ → Type 0)
-    → Wherever u p Part → Wherever u (behind ps ++ closer ∷ []) Rest
-    → ((i k j : ℕ) → i ≤ length u → slice_get u i ≡ Some before → Part (i + 1) k → Rest k j → So i j)
-    → Wherever u (before ∷ join_with_byte 44 (p ∷ ps) ++ closer ∷ []) So
-parts-again u before closer p ps Part Rest So part rest all i j l h =
-    let lt = slice_get_within u i before h.0 in
-    let inside = subst (Stands u (i + 1) j) (joined-behind p ps (closer ∷ [])) h.1 in
-    let parts = stands-split u (i + 1) j p (behind ps ++ closer ∷ []) inside in
-    let within = stands-within u (i + 1) parts.0 p (omega arith) parts.1 in
-    all i parts.0 j l h.0 (part (i + 1) parts.0 (omega arith) parts.1) (rest parts.0 j within parts.2)
-
 module _ (names : Bool) (u : List ℕ) where
-  -- what from i to before j the text spells, no deeper than there is room for: its value is v
-  record Again {Q V : Type 0} (Spelled : ℕ → Q → ℕ → Type 0) (deep : Q → ℕ) (value : Q → V) (room : ℕ) (v : V) (i j : ℕ)
-      : Type 0 where
-    again : Q
-    spelled : Spelled i again j
-    depth : deep again ≤ room
-    same : value again ≡ v
-
   -- a value and the blanks before it
   record SpellsFrom (i : ℕ) (n : Node) (j : ℕ) : Type 0 where
     blanks : IsBlank u i (begin n)
     spelled : Spells names u n
     ends : end n ≡ j
 
+  -- a member and the blanks before it
+  record SpellsMember (i : ℕ) (m : Key × Node) (j : ℕ) : Type 0 where
+    blanks : IsBlank u i m.0.begin
+    key : SpellsKey u m.0 (begin m.1)
+    spelled : Spells names u m.1
+    ends : end m.1 ≡ j
+
+  -- no deeper than there is room for, and the same value
+  abbrev LikeTree : ℕ → Tree → Node → Type 0
+  LikeTree room v n = (nesting n ≤ room) × (borrow_tree (value_of u n) ≡ borrow_tree v)
+
+  abbrev LikeMember : ℕ → Text × Tree → Key × Node → Type 0
+  LikeMember room p m = (text_of m.0.pieces ≡ p.0.bytes) × LikeTree room p.1 m.1
+
+  abbrev LikeItems : ℕ → Items → Nodes → Type 0
+  LikeItems room vs ns = (nesting_of ns ≤ room) × (borrow_items (values_of u ns) ≡ borrow_items vs)
+
+  abbrev LikeMembers : ℕ → Members → NodeMembers → Type 0
+  LikeMembers room ms ns =
+      (nesting_of_members ns ≤ room) × (borrow_members (members_of u ns) ≡ borrow_members ms)
+
   abbrev AgainTree : ℕ → Tree → ℕ → ℕ → Type 0
-  AgainTree room v = Again SpellsFrom nesting (λ n. borrow_tree (value_of u n)) room (borrow_tree v)
+  AgainTree room v = Again SpellsFrom (LikeTree room) v
 
-  -- behind an item, up to the place behind `]`
-  abbrev AgainItems : ℕ → Items → ℕ → ℕ → Type 0
-  AgainItems room vs =
-      Again (SpellsMoreItems names u) nesting_of (λ ns. borrow_items (values_of u ns)) room (borrow_items vs)
+  items : (room : ℕ) → Parts u SpellsFrom (SpellsItems names u) (SpellsMoreItems names u) (LikeTree room) (LikeItems room)
+      tree.item node
+  items room = record {
+    all = λ n ns i k j a r.
+        (a.blanks, a.spelled, subst (λ o. SpellsMoreItems names u o ns j) (sym a.ends) r);
+    more = λ n ns i c j b a. (c, b, a.0, a.1, a.2);
+    like = λ v vs n ns a r. (omega (arith, a.0, r.0), ap₂ tree.item a.1 r.1);
+  }
 
-  -- behind a member, up to the place behind `}`
-  abbrev AgainMembers : ℕ → Members → ℕ → ℕ → Type 0
-  AgainMembers room ms =
-      Again (SpellsMoreMembers names u) nesting_of_members (λ ns. borrow_members (members_of u ns)) room
-      (borrow_members ms)
-
-  -- a key, its colon and its value
-  record AgainMember (room : ℕ) (k : Text) (v : Tree) (i j : ℕ) : Type 0 where
-    key : Key
-    value_place : ℕ
-    value : AgainTree room v value_place j
-    blanks : IsBlank u i key.begin
-    spelled : SpellsKey u key (begin value.again)
-    same : text_of key.pieces ≡ k.bytes
+  members : (room : ℕ) → Parts u SpellsMember (SpellsMembers names u) (SpellsMoreMembers names u) (LikeMember room)
+      (LikeMembers room) (λ p ms. tree.member p.0 p.1 ms) (λ m ns. member m.0 m.1 ns)
+  members room = record {
+    all = λ m ns i k j a r.
+        (a.blanks, a.key, a.spelled, subst (λ o. SpellsMoreMembers names u o ns j) (sym a.ends) r);
+    more = λ m ns i c j b a. (c, b, a.0, a.1, a.2, a.3);
+    like = λ p ms m ns a r. (
+      omega (arith, a.1.0, r.0),
+      (λ d. tree.member (record { owned = false; bytes = a.0 d }) (a.1.1 d) (r.1 d)),
+    );
+  }
 
   -- What is printed of a member is spelled by a key of the same text, a colon and what spells the value.
   member-again : (room : ℕ) (k : Text) (v : Tree) → IsUtf8 k.bytes → Wherever u (print_of v) (AgainTree room v)
-      → Wherever u (print_text k.bytes ++ 58 ∷ print_of v) (AgainMember room k v)
-  member-again room k v s read i j l h =
+      → Wherever u (print_text k.bytes ++ 58 ∷ print_of v) (Again SpellsMember (LikeMember room) (k, v))
+  member-again room k v s value i j l h =
       let parts = stands-split u i j (print_text k.bytes) (58 ∷ print_of v) h in
       let r = string-again u i parts.0 k.bytes s parts.1 in
       let lt = slice_get_within u parts.0 58 parts.2.0 in
-      let a = read (parts.0 + 1) j (omega arith) parts.2.1 in
+      let a = value (parts.0 + 1) j (omega arith) parts.2.1 in
       record {
-        key = record { pieces = r.0; begin = i; end = parts.0 };
-        value_place = parts.0 + 1;
-        value = a;
-        blanks = no_blank u i l;
+        again = (record { pieces = r.0; begin = i; end = parts.0 }, a.again);
         spelled = record {
-          string = r.1;
-          colon = parts.0 + 1;
-          behind = stands_here u parts.0 58 (parts.0 + 1) parts.2.0 refl;
-          blanks = a.spelled.blanks;
+          blanks = no_blank u i l;
+          key = record {
+            string = r.1;
+            colon = parts.0 + 1;
+            behind = stands_here u parts.0 58 (parts.0 + 1) parts.2.0 refl;
+            blanks = a.spelled.blanks;
+          };
+          spelled = a.spelled.spelled;
+          ends = a.spelled.ends;
         };
-        same = r.2;
+        like = (r.2, a.like);
       }
 
   -- a node that begins right here
@@ -134,8 +114,7 @@ module _ (names : Bool) (u : List ℕ) where
   node-again room v n i j l begins ends spelled depth same = record {
     again = n;
     spelled = record { blanks = subst (IsBlank u i) (sym begins) (no_blank u i l); spelled = spelled; ends = ends };
-    depth = depth;
-    same = same;
+    like = (depth, same);
   }
 
   literal-again : (room : ℕ) (l : Literal) → Wherever u (word_of l) (AgainTree room (literal_tree l))
@@ -162,24 +141,6 @@ module _ (names : Bool) (u : List ℕ) where
       })
       (omega arith) (ap borrow_tree (ap number_tree (ap number_value (sym is) ∙ value) ∙ n.is))
 
-  -- a value and what is spelled behind it, as items and as members
-  items-before : (room : ℕ) (v : Tree) (vs : Items) (i k j : ℕ) (a : AgainTree room v i k) (r : AgainItems room vs k j)
-      → SpellsItems names u i (node a.again r.again) j
-  items-before room v vs i k j a r = (
-    a.spelled.blanks,
-    a.spelled.spelled,
-    subst (λ o. SpellsMoreItems names u o r.again j) (sym a.spelled.ends) r.spelled,
-  )
-
-  members-before : (room : ℕ) (q : Text) (v : Tree) (ms : Members) (i k j : ℕ) (a : AgainMember room q v i k)
-      (r : AgainMembers room ms k j) → SpellsMembers names u i (member a.key a.value.again r.again) j
-  members-before room q v ms i k j a r = (
-    a.blanks,
-    a.spelled,
-    a.value.spelled.spelled,
-    subst (λ o. SpellsMoreMembers names u o r.again j) (sym a.value.spelled.ends) r.spelled,
-  )
-
   -- What is printed of a value is spelled by a node of the same value.
   mutual
     tree-again : (room : ℕ) (v : Tree) → Fits names room v → Wherever u (print_of v) (AgainTree room v)
@@ -197,57 +158,39 @@ module _ (names : Bool) (u : List ℕ) where
         node-again room (tree.array tree.no_items) (array i j no_nodes) i j l refl refl
         (h.0, stands_here u (i + 1) 93 j h.1.0 (sym h.1.1)) (omega arith) refl
     tree-again zero (tree.array (tree.item v vs)) s = absurd s.0
-    tree-again (suc room) (tree.array (tree.item v vs)) s =
-        parts-again u 91 93 (print_of v) (item_prints vs) (AgainTree room v) (AgainItems room vs) _
-        (tree-again room v s.0) (items-again room vs s.1)
-        (λ i k j l opens a r. node-again (suc room) (tree.array (tree.item v vs)) (array i j (node a.again r.again)) i j l
-        refl refl (opens, items-before room v vs (i + 1) k j a r) (omega (arith, a.depth, r.depth))
-        (ap₂ (λ w ws. tree.array (tree.item w ws)) a.same r.same))
+    tree-again (suc room) (tree.array (tree.item v vs)) s = λ i j l h.
+        let r =
+        parts-again (items room) 93 v vs (print_of v) (item_prints vs) (tree-again room v s.0)
+        (items-again room vs s.1) 91 i j l h in
+        node-again (suc room) (tree.array (tree.item v vs)) (array i j (node r.first r.rest)) i j l refl refl
+        (r.stands, r.spelled) (omega (arith, r.like.0)) (ap tree.array r.like.1)
     tree-again room (tree.object tree.no_members) s = λ i j l h.
         node-again room (tree.object tree.no_members) (object i j no_members) i j l refl refl
         (h.0, stands_here u (i + 1) 125 j h.1.0 (sym h.1.1)) (omega arith) refl
-    tree-again zero (tree.object (tree.member q v ms)) s = absurd s.0.1
-    tree-again (suc room) (tree.object (tree.member q v ms)) s =
-        parts-again u 123 125 _ (member_prints ms) (AgainMember room q v) (AgainMembers room ms) _
-        (member-again room q v s.0.0 (tree-again room v s.0.1)) (members-again room ms s.1)
-        (λ i k j l opens a r. node-again (suc room) (tree.object (tree.member q v ms))
-        (object i j (member a.key a.value.again r.again)) i j l refl refl
-        (opens, members-before room q v ms (i + 1) k j a r) (omega (arith, a.value.depth, r.depth))
-        (λ d. tree.object (tree.member (record { owned = false; bytes = a.same d }) (a.value.same d) (r.same d))))
+    tree-again zero (tree.object (tree.member k v ms)) s = absurd s.0.1
+    tree-again (suc room) (tree.object (tree.member k v ms)) s = λ i j l h.
+        let r =
+        parts-again (members room) 125 (k, v) ms _ (member_prints ms)
+        (member-again room k v s.0.0 (tree-again room v s.0.1)) (members-again room ms s.1) 123 i j l h in
+        node-again (suc room) (tree.object (tree.member k v ms)) (object i j (member r.first.0 r.first.1 r.rest)) i j l
+        refl refl (r.stands, r.spelled) (omega (arith, r.like.0)) (ap tree.object r.like.1)
 
     -- behind an item
     items-again : (room : ℕ) (vs : Items) → ItemsFit names (suc room) vs
-        → Wherever u (behind (item_prints vs) ++ 93 ∷ []) (AgainItems room vs)
+        → Wherever u (behind (item_prints vs) ++ 93 ∷ []) (Again (SpellsMoreItems names u) (LikeItems room) vs)
     items-again room tree.no_items s = λ i j l h.
-        record { again = no_nodes; spelled = stands_here u i 93 j h.0 (sym h.1); depth = omega arith; same = refl }
+        record { again = no_nodes; spelled = stands_here u i 93 j h.0 (sym h.1); like = (omega arith, refl) }
     items-again room (tree.item v vs) s =
-        parts-again u 44 93 (print_of v) (item_prints vs) (AgainTree room v) (AgainItems room vs) _
-        (tree-again room v s.0) (items-again room vs s.1)
-        (λ i k j l comma a r.
-        let behind_comma = items-before room v vs (i + 1) k j a r in
-        record {
-          again = node a.again r.again;
-          spelled = (i + 1, stands_here u i 44 (i + 1) comma refl, behind_comma.0, behind_comma.1, behind_comma.2);
-          depth = omega (arith, a.depth, r.depth);
-          same = ap₂ tree.item a.same r.same;
-        })
+        more-again (items room) 93 v vs (print_of v) (item_prints vs) (tree-again room v s.0) (items-again room vs s.1)
 
     -- behind a member
     members-again : (room : ℕ) (ms : Members) → MembersFit names (suc room) ms
-        → Wherever u (behind (member_prints ms) ++ 125 ∷ []) (AgainMembers room ms)
+        → Wherever u (behind (member_prints ms) ++ 125 ∷ []) (Again (SpellsMoreMembers names u) (LikeMembers room) ms)
     members-again room tree.no_members s = λ i j l h.
-        record { again = no_members; spelled = stands_here u i 125 j h.0 (sym h.1); depth = omega arith; same = refl }
-    members-again room (tree.member q v ms) s =
-        parts-again u 44 125 _ (member_prints ms) (AgainMember room q v) (AgainMembers room ms) _
-        (member-again room q v s.0.0 (tree-again room v s.0.1)) (members-again room ms s.1)
-        (λ i k j l comma a r.
-        let x = members-before room q v ms (i + 1) k j a r in
-        record {
-          again = member a.key a.value.again r.again;
-          spelled = (i + 1, stands_here u i 44 (i + 1) comma refl, x.0, x.1, x.2, x.3);
-          depth = omega (arith, a.value.depth, r.depth);
-          same = (λ d. tree.member (record { owned = false; bytes = a.same d }) (a.value.same d) (r.same d));
-        })
+        record { again = no_members; spelled = stands_here u i 125 j h.0 (sym h.1); like = (omega arith, refl) }
+    members-again room (tree.member k v ms) s =
+        more-again (members room) 125 (k, v) ms _ (member_prints ms)
+        (member-again room k v s.0.0 (tree-again room v s.0.1)) (members-again room ms s.1)
 
 -- ---- the whole text
 -- the print and one byte more
@@ -282,9 +225,9 @@ printed-again names v fits =
         before = a.spelled.blanks;
         spelled = a.spelled.spelled;
         after = feed-blank w (end a.again) a.spelled.ends;
-        limit = a.depth;
+        limit = a.like.0;
       },
-      a.same,
+      a.like.1,
     )
 
 read-again : (names : Bool) (x : Reading Tree) → Gives (Fits names nesting_limit) x → PrintsAgain names x
