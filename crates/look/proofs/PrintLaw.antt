@@ -1,8 +1,8 @@
 -- What is printed of a value that was read is a document of the same value.
-use Rattle.std.proofs.Common.{◌≡◌, inl, inr, ℕ, suc, ◌+◌, ◌-◌, ◌≤◌, Bool, true, false, List, [], ◌∷◌, ◌++◌, length}
+use Rattle.std.proofs.Common.{◌≡◌, inl, inr, ℕ, zero, suc, ◌+◌, ◌-◌, ◌≤◌, Bool, true, false, List, [], ◌∷◌, ◌++◌, length}
 use Rattle.std.proofs.Common.{refl, sym}
 use Rattle.std.proofs.Common.{ap, ap₂, ◌∙◌, subst, arith}
-use Rattle.std.specs.Prelude.{slice_get, Option, Some, None, IfSome, max}
+use Rattle.std.specs.Prelude.{Option, Some, None, IfSome}
 use Rattle.std.specs.Str.{IsUtf8}
 use Rattle.std.proofs.lemmas.List.{length-append, take_at, get_or_push}
 use Rattle.std.proofs.lemmas.Option.{slice_get_within}
@@ -11,10 +11,10 @@ use Rattle.jiter_scan.specs.Stands.{Stands}
 use Rattle.jiter_scan.proofs.Standing.{stands-length, stands-within, stands-split, stands-slice, slice-stands}
 use Rattle.jiter_steps.specs.Blank.{IsBlank}
 use Rattle.jiter_steps.specs.Literal.{word_of, literal_tree}
-use Rattle.jiter_steps.specs.Node.{Key, Node, literal, number, string, array, object, Nodes, no_nodes, node}
-use Rattle.jiter_steps.specs.Node.{NodeMembers, no_members, member, begin, end, StandsBehind, SpellsKey, Spells}
+use Rattle.jiter_steps.specs.Node.{Key, Node, literal, number, string, array, object, no_nodes, node}
+use Rattle.jiter_steps.specs.Node.{Nodes, NodeMembers, no_members, member, begin, end, SpellsKey, Spells}
 use Rattle.jiter_steps.specs.Node.{SpellsItems, SpellsMoreItems, SpellsMembers, SpellsMoreMembers, nesting}
-use Rattle.jiter_steps.specs.Node.{nesting_round, nesting_of, nesting_round_members, nesting_of_members, number_tree}
+use Rattle.jiter_steps.specs.Node.{nesting_of, nesting_of_members, number_tree}
 use Rattle.jiter_steps.specs.Node.{value_of, values_of, members_of, nesting_limit}
 use Rattle.jiter_steps.specs.Read.{Reading, done, fault}
 use Rattle.jiter_scan.specs.declared.partial_mode.PartialMode.{PartialMode}
@@ -24,257 +24,173 @@ use Rattle.jiter_steps.specs.Tree as tree
 use Rattle.jiter_steps.specs.Tree.{Text, Tree, Items, Members}
 use Rattle.jiter_steps.specs.declared.parse.Literal.{Literal}
 use Rattle.jiter_steps.specs.declared.parse.Literal.TheVariants as name
-use Rattle.look.specs.Print.{print_text, with_line_feed, print_of, print_items, print_more_items, print_members}
-use Rattle.look.specs.Print.{print_more_members}
+use Rattle.look.specs.Print.{print_text, with_line_feed, print_of, item_prints, member_prints}
 use Rattle.look.specs.Printed.{borrow_tree, borrow_items, borrow_members, IsLineOf, PrintsAgain}
 use Rattle.look.proofs.PrintLawNumbers.{number-again}
+use Rattle.look.proofs.PrintLawParts.{no_blank, stands_here, Wherever, behind, Again, Parts, parts-again, more-again}
 use Rattle.look.proofs.PrintLawStrings.{string-again}
 use Rattle.look.proofs.GivenValues.{Gives}
-use Rattle.look.proofs.Printable.{IsNumber, IsPrintable, ArePrintable, MembersArePrintable, Fits, answer_in-printable}
-use Rattle.look.proofs.Printable.{tree_nesting, tree_nesting_round, tree_nesting_of, tree_nesting_round_members}
-use Rattle.look.proofs.Printable.{tree_nesting_of_members}
-
-no_blank : (u : List ℕ) (i : ℕ) → i ≤ length u → IsBlank u i i
-no_blank u i h = record { ordered = omega arith; within = h; each = λ k l m. absurd (omega arith) }
-
--- the byte stands right here
-stands_here : (u : List ℕ) (i c j : ℕ) → slice_get u i ≡ Some c → j ≡ i + 1 → StandsBehind u i c j
-stands_here u i c j h e =
-    let lt = slice_get_within u i c h in record { at = i; blanks = no_blank u i (omega arith); here = h; ends = e }
-
--- where nothing more is printed the container closes right here
-closes_here : (u : List ℕ) (i k c j : ℕ) → i ≡ k → slice_get u k ≡ Some c → j ≡ k + 1 → StandsBehind u i c j
-closes_here u i k c j same h e = stands_here u i c j (subst (λ o. slice_get u o ≡ Some c) (sym same) h) (omega arith)
+use Rattle.look.proofs.Printable.{IsNumber, Fits, ItemsFit, MembersFit, answer_in-printable}
 
 module _ (names : Bool) (u : List ℕ) where
-  -- from i to before j the text spells v
-  record Again (v : Tree) (i j : ℕ) : Type 0 where
-    again : Node
-    begins : begin again ≡ i
-    ends : end again ≡ j
-    spelled : Spells names u again
-    depth : nesting again ≡ tree_nesting v
-    same : borrow_tree (value_of u again) ≡ borrow_tree v
+  -- a value and the blanks before it
+  record SpellsFrom (i : ℕ) (n : Node) (j : ℕ) : Type 0 where
+    blanks : IsBlank u i (begin n)
+    spelled : Spells names u n
+    ends : end n ≡ j
 
-  -- behind `[` at i, up to the place j behind `]`
-  record AgainItems (vs : Items) (i j : ℕ) : Type 0 where
-    again : Nodes
-    spelled : SpellsItems names u i again j
-    depth : nesting_round again ≡ tree_nesting_round vs
-    same : borrow_items (values_of u again) ≡ borrow_items vs
+  -- a member and the blanks before it
+  record SpellsMember (i : ℕ) (m : Key × Node) (j : ℕ) : Type 0 where
+    blanks : IsBlank u i m.0.begin
+    key : SpellsKey u m.0 (begin m.1)
+    spelled : Spells names u m.1
+    ends : end m.1 ≡ j
 
-  -- behind an item
-  record AgainMoreItems (vs : Items) (i j : ℕ) : Type 0 where
-    again : Nodes
-    spelled : SpellsMoreItems names u i again j
-    depth : nesting_of again ≡ tree_nesting_of vs
-    same : borrow_items (values_of u again) ≡ borrow_items vs
+  -- no deeper than there is room for, and the same value
+  abbrev LikeTree : ℕ → Tree → Node → Type 0
+  LikeTree room v n = (nesting n ≤ room) × (borrow_tree (value_of u n) ≡ borrow_tree v)
 
-  -- behind `{` at i, up to the place j behind `}`
-  record AgainMembers (ms : Members) (i j : ℕ) : Type 0 where
-    again : NodeMembers
-    spelled : SpellsMembers names u i again j
-    depth : nesting_round_members again ≡ tree_nesting_round_members ms
-    same : borrow_members (members_of u again) ≡ borrow_members ms
+  abbrev LikeMember : ℕ → Text × Tree → Key × Node → Type 0
+  LikeMember room p m = (text_of m.0.pieces ≡ p.0.bytes) × LikeTree room p.1 m.1
 
-  -- behind a member
-  record AgainMoreMembers (ms : Members) (i j : ℕ) : Type 0 where
-    again : NodeMembers
-    spelled : SpellsMoreMembers names u i again j
-    depth : nesting_of_members again ≡ tree_nesting_of_members ms
-    same : borrow_members (members_of u again) ≡ borrow_members ms
+  abbrev LikeItems : ℕ → Items → Nodes → Type 0
+  LikeItems room vs ns = (nesting_of ns ≤ room) × (borrow_items (values_of u ns) ≡ borrow_items vs)
 
-  -- a key, the colon right behind it, and the place behind that
-  record AgainKey (k : Text) (i j : ℕ) : Type 0 where
-    again : Key
-    begins : again.begin ≡ i
-    spelled : SpellsKey u again j
-    same : text_of again.pieces ≡ k.bytes
+  abbrev LikeMembers : ℕ → Members → NodeMembers → Type 0
+  LikeMembers room ms ns =
+      (nesting_of_members ns ≤ room) × (borrow_members (members_of u ns) ≡ borrow_members ms)
 
-  -- What is printed of a key and its colon is spelled by a key of the same text.
-  key-again : (k : Text) (i j l : ℕ) → IsUtf8 k.bytes → Stands u i j (print_text k.bytes) → slice_get u j ≡ Some 58
-      → l ≡ j + 1 → AgainKey k i l
-  key-again k i j l s h c x =
-      let r = string-again u i j k.bytes s h in
-      let lt = slice_get_within u j 58 c in
+  abbrev AgainTree : ℕ → Tree → ℕ → ℕ → Type 0
+  AgainTree room v = Again SpellsFrom (LikeTree room) v
+
+  items : (room : ℕ) → Parts u SpellsFrom (SpellsItems names u) (SpellsMoreItems names u) (LikeTree room) (LikeItems room)
+      tree.item node
+  items room = record {
+    all = λ n ns i k j a r.
+        (a.blanks, a.spelled, subst (λ o. SpellsMoreItems names u o ns j) (sym a.ends) r);
+    more = λ n ns i c j b a. (c, b, a.0, a.1, a.2);
+    like = λ v vs n ns a r. (omega (arith, a.0, r.0), ap₂ tree.item a.1 r.1);
+  }
+
+  members : (room : ℕ) → Parts u SpellsMember (SpellsMembers names u) (SpellsMoreMembers names u) (LikeMember room)
+      (LikeMembers room) (λ p ms. tree.member p.0 p.1 ms) (λ m ns. member m.0 m.1 ns)
+  members room = record {
+    all = λ m ns i k j a r.
+        (a.blanks, a.key, a.spelled, subst (λ o. SpellsMoreMembers names u o ns j) (sym a.ends) r);
+    more = λ m ns i c j b a. (c, b, a.0, a.1, a.2, a.3);
+    like = λ p ms m ns a r. (
+      omega (arith, a.1.0, r.0),
+      (λ d. tree.member (record { owned = false; bytes = a.0 d }) (a.1.1 d) (r.1 d)),
+    );
+  }
+
+  -- What is printed of a member is spelled by a key of the same text, a colon and what spells the value.
+  member-again : (room : ℕ) (k : Text) (v : Tree) → IsUtf8 k.bytes → Wherever u (print_of v) (AgainTree room v)
+      → Wherever u (print_text k.bytes ++ 58 ∷ print_of v) (Again SpellsMember (LikeMember room) (k, v))
+  member-again room k v s value i j l h =
+      let parts = stands-split u i j (print_text k.bytes) (58 ∷ print_of v) h in
+      let r = string-again u i parts.0 k.bytes s parts.1 in
+      let lt = slice_get_within u parts.0 58 parts.2.0 in
+      let a = value (parts.0 + 1) j (omega arith) parts.2.1 in
       record {
-        again = record { pieces = r.0; begin = i; end = j };
-        begins = refl;
+        again = (record { pieces = r.0; begin = i; end = parts.0 }, a.again);
         spelled = record {
-          string = r.1;
-          colon = l;
-          behind = stands_here u j 58 l c x;
-          blanks = no_blank u l (omega arith);
+          blanks = no_blank u i l;
+          key = record {
+            string = r.1;
+            colon = parts.0 + 1;
+            behind = stands_here u parts.0 58 (parts.0 + 1) parts.2.0 refl;
+            blanks = a.spelled.blanks;
+          };
+          spelled = a.spelled.spelled;
+          ends = a.spelled.ends;
         };
-        same = r.2;
+        like = (r.2, a.like);
       }
 
-  literal-again : (l : Literal) (i j : ℕ) → Stands u i j (word_of l) → Again (literal_tree l) i j
-  literal-again name.Null i j h =
-      record { again = literal name.Null i j; begins = refl; ends = refl; spelled = h; depth = refl; same = refl }
-  literal-again name.True i j h =
-      record { again = literal name.True i j; begins = refl; ends = refl; spelled = h; depth = refl; same = refl }
-  literal-again name.False i j h =
-      record { again = literal name.False i j; begins = refl; ends = refl; spelled = h; depth = refl; same = refl }
+  -- a node that begins right here
+  node-again : (room : ℕ) (v : Tree) (n : Node) (i j : ℕ) → i ≤ length u → begin n ≡ i → end n ≡ j → Spells names u n
+      → nesting n ≤ room → borrow_tree (value_of u n) ≡ borrow_tree v → AgainTree room v i j
+  node-again room v n i j l begins ends spelled depth same = record {
+    again = n;
+    spelled = record { blanks = subst (IsBlank u i) (sym begins) (no_blank u i l); spelled = spelled; ends = ends };
+    like = (depth, same);
+  }
+
+  literal-again : (room : ℕ) (l : Literal) → Wherever u (word_of l) (AgainTree room (literal_tree l))
+  literal-again room name.Null i j l h =
+      node-again room tree.null (literal name.Null i j) i j l refl refl h (omega arith) refl
+  literal-again room name.True i j l h =
+      node-again room (tree.boolean true) (literal name.True i j) i j l refl refl h (omega arith) refl
+  literal-again room name.False i j l h =
+      node-again room (tree.boolean false) (literal name.False i j) i j l refl refl h (omega arith) refl
 
   -- a number's print is a number's text, of the same number
-  number-node : (v : Tree) → 0 ≡ tree_nesting v → (i j : ℕ) → IsNumber names v → i ≤ length u → Stands u i j (print_of v)
-      → Again v i j
-  number-node v flat i j n w h =
+  number-node : (room : ℕ) (v : Tree) → IsNumber names v → Wherever u (print_of v) (AgainTree room v)
+  number-node room v n i j l h =
       let again = number-again names n.text n.is_text in
       let text = subst (λ x. IsNumberText names (print_of x)) n.is again.0 in
       let value = subst (λ x. number_value (print_of x) ≡ number_value n.text) n.is again.1 in
       let is = slice-stands u i j _ h in
       let long = stands-length u i j _ h in
-      record {
-        again = number i j;
-        begins = refl;
-        ends = refl;
-        spelled = record {
-          ordered = omega arith;
-          within = stands-within u i j _ w h;
-          text = subst (IsNumberText names) is text;
-        };
-        depth = flat;
-        same = ap borrow_tree (ap number_tree (ap number_value (sym is) ∙ value) ∙ n.is);
-      }
+      node-again room v (number i j) i j l refl refl
+      (record {
+        ordered = omega arith;
+        within = stands-within u i j _ l h;
+        text = subst (IsNumberText names) is text;
+      })
+      (omega arith) (ap borrow_tree (ap number_tree (ap number_value (sym is) ∙ value) ∙ n.is))
 
   -- What is printed of a value is spelled by a node of the same value.
   mutual
-    tree-again : (v : Tree) (i j : ℕ) → IsPrintable names v → i ≤ length u → Stands u i j (print_of v) → Again v i j
-    tree-again tree.null i j s w h = literal-again name.Null i j h
-    tree-again (tree.boolean true) i j s w h = literal-again name.True i j h
-    tree-again (tree.boolean false) i j s w h = literal-again name.False i j h
-    tree-again (tree.int z) i j s w h = number-node (tree.int z) refl i j s w h
-    tree-again (tree.big x) i j s w h = number-node (tree.big x) refl i j s w h
-    tree-again (tree.float x) i j s w h = number-node (tree.float x) refl i j s w h
-    tree-again (tree.string x) i j s w h =
+    tree-again : (room : ℕ) (v : Tree) → Fits names room v → Wherever u (print_of v) (AgainTree room v)
+    tree-again room tree.null s = literal-again room name.Null
+    tree-again room (tree.boolean true) s = literal-again room name.True
+    tree-again room (tree.boolean false) s = literal-again room name.False
+    tree-again room (tree.int z) s = number-node room (tree.int z) s
+    tree-again room (tree.big x) s = number-node room (tree.big x) s
+    tree-again room (tree.float x) s = number-node room (tree.float x) s
+    tree-again room (tree.string x) s = λ i j l h.
         let r = string-again u i j x.bytes s h in
-        record {
-          again = string r.0 i j;
-          begins = refl;
-          ends = refl;
-          spelled = r.1;
-          depth = refl;
-          same = ap (λ (y : List ℕ). tree.string (record { owned = false; bytes = y })) r.2;
-        }
-    tree-again (tree.array vs) i j s w h =
-        let parts = stands-split u (i + 1) j (print_items vs) (93 ∷ []) h.1 in
-        let r = items-again vs (i + 1) parts.0 j s parts.1 parts.2.0 (sym parts.2.1) in
-        record {
-          again = array i j r.again;
-          begins = refl;
-          ends = refl;
-          spelled = (h.0, r.spelled);
-          depth = r.depth;
-          same = ap tree.array r.same;
-        }
-    tree-again (tree.object ms) i j s w h =
-        let parts = stands-split u (i + 1) j (print_members ms) (125 ∷ []) h.1 in
-        let r = members-again ms (i + 1) parts.0 j s parts.1 parts.2.0 (sym parts.2.1) in
-        record {
-          again = object i j r.again;
-          begins = refl;
-          ends = refl;
-          spelled = (h.0, r.spelled);
-          depth = r.depth;
-          same = ap tree.object r.same;
-        }
+        node-again room (tree.string x) (string r.0 i j) i j l refl refl r.1 (omega arith)
+        (ap (λ (y : List ℕ). tree.string (record { owned = false; bytes = y })) r.2)
+    tree-again room (tree.array tree.no_items) s = λ i j l h.
+        node-again room (tree.array tree.no_items) (array i j no_nodes) i j l refl refl
+        (h.0, stands_here u (i + 1) 93 j h.1.0 (sym h.1.1)) (omega arith) refl
+    tree-again zero (tree.array (tree.item v vs)) s = absurd s.0
+    tree-again (suc room) (tree.array (tree.item v vs)) s = λ i j l h.
+        let r =
+        parts-again (items room) 93 v vs (print_of v) (item_prints vs) (tree-again room v s.0)
+        (items-again room vs s.1) 91 i j l h in
+        node-again (suc room) (tree.array (tree.item v vs)) (array i j (node r.first r.rest)) i j l refl refl
+        (r.stands, r.spelled) (omega (arith, r.like.0)) (ap tree.array r.like.1)
+    tree-again room (tree.object tree.no_members) s = λ i j l h.
+        node-again room (tree.object tree.no_members) (object i j no_members) i j l refl refl
+        (h.0, stands_here u (i + 1) 125 j h.1.0 (sym h.1.1)) (omega arith) refl
+    tree-again zero (tree.object (tree.member k v ms)) s = absurd s.0.1
+    tree-again (suc room) (tree.object (tree.member k v ms)) s = λ i j l h.
+        let r =
+        parts-again (members room) 125 (k, v) ms _ (member_prints ms)
+        (member-again room k v s.0.0 (tree-again room v s.0.1)) (members-again room ms s.1) 123 i j l h in
+        node-again (suc room) (tree.object (tree.member k v ms)) (object i j (member r.first.0 r.first.1 r.rest)) i j l
+        refl refl (r.stands, r.spelled) (omega (arith, r.like.0)) (ap tree.object r.like.1)
 
-    -- the items and the bracket behind them
-    items-again : (vs : Items) (i k j : ℕ) → ArePrintable names vs → Stands u i k (print_items vs)
-        → slice_get u k ≡ Some 93 → j ≡ k + 1 → AgainItems vs i j
-    items-again tree.no_items i k j s h c e =
-        record { again = no_nodes; spelled = closes_here u i k 93 j h c e; depth = refl; same = refl }
-    items-again (tree.item v vs) i k j s h c e =
-        let l = slice_get_within u k 93 c in
-        let long = stands-length u i k _ h in
-        let parts = stands-split u i k (print_of v) (print_more_items vs) h in
-        let a = tree-again v i parts.0 s.0 (omega arith) parts.1 in
-        let r = more_items-again vs parts.0 k j s.1 parts.2 c e in
-        record {
-          again = node a.again r.again;
-          spelled = (
-            subst (IsBlank u i) (sym a.begins) (no_blank u i (omega arith)),
-            a.spelled,
-            subst (λ o. SpellsMoreItems names u o r.again j) (sym a.ends) r.spelled,
-          );
-          depth = ap₂ (λ p q. suc (max p q)) a.depth r.depth;
-          same = ap₂ tree.item a.same r.same;
-        }
+    -- behind an item
+    items-again : (room : ℕ) (vs : Items) → ItemsFit names (suc room) vs
+        → Wherever u (behind (item_prints vs) ++ 93 ∷ []) (Again (SpellsMoreItems names u) (LikeItems room) vs)
+    items-again room tree.no_items s = λ i j l h.
+        record { again = no_nodes; spelled = stands_here u i 93 j h.0 (sym h.1); like = (omega arith, refl) }
+    items-again room (tree.item v vs) s =
+        more-again (items room) 93 v vs (print_of v) (item_prints vs) (tree-again room v s.0) (items-again room vs s.1)
 
-    more_items-again : (vs : Items) (i k j : ℕ) → ArePrintable names vs → Stands u i k (print_more_items vs)
-        → slice_get u k ≡ Some 93 → j ≡ k + 1 → AgainMoreItems vs i j
-    more_items-again tree.no_items i k j s h c e =
-        record { again = no_nodes; spelled = closes_here u i k 93 j h c e; depth = refl; same = refl }
-    more_items-again (tree.item v vs) i k j s h c e =
-        let l = slice_get_within u i 44 h.0 in
-        let parts = stands-split u (i + 1) k (print_of v) (print_more_items vs) h.1 in
-        let a = tree-again v (i + 1) parts.0 s.0 (omega arith) parts.1 in
-        let r = more_items-again vs parts.0 k j s.1 parts.2 c e in
-        record {
-          again = node a.again r.again;
-          spelled = (
-            i + 1,
-            stands_here u i 44 (i + 1) h.0 refl,
-            subst (IsBlank u (i + 1)) (sym a.begins) (no_blank u (i + 1) (omega arith)),
-            a.spelled,
-            subst (λ o. SpellsMoreItems names u o r.again j) (sym a.ends) r.spelled,
-          );
-          depth = ap₂ max a.depth r.depth;
-          same = ap₂ tree.item a.same r.same;
-        }
-
-    -- the members and the brace behind them
-    members-again : (ms : Members) (i k j : ℕ) → MembersArePrintable names ms → Stands u i k (print_members ms)
-        → slice_get u k ≡ Some 125 → j ≡ k + 1 → AgainMembers ms i j
-    members-again tree.no_members i k j s h c e =
-        record { again = no_members; spelled = closes_here u i k 125 j h c e; depth = refl; same = refl }
-    members-again (tree.member q v ms) i k j s h c e =
-        let front = stands-split u i k (print_text q.bytes) (58 ∷ print_of v ++ print_more_members ms) h in
-        let l = slice_get_within u i 34 front.1.0 in
-        let colon = slice_get_within u front.0 58 front.2.0 in
-        let parts = stands-split u (front.0 + 1) k (print_of v) (print_more_members ms) front.2.1 in
-        let b = key-again q i front.0 (front.0 + 1) s.0 front.1 front.2.0 refl in
-        let a = tree-again v (front.0 + 1) parts.0 s.1 (omega arith) parts.1 in
-        let r = more_members-again ms parts.0 k j s.2 parts.2 c e in
-        record {
-          again = member b.again a.again r.again;
-          spelled = (
-            subst (IsBlank u i) (sym b.begins) (no_blank u i (omega arith)),
-            subst (SpellsKey u b.again) (sym a.begins) b.spelled,
-            a.spelled,
-            subst (λ o. SpellsMoreMembers names u o r.again j) (sym a.ends) r.spelled,
-          );
-          depth = ap₂ (λ p q. suc (max p q)) a.depth r.depth;
-          same = (λ d. tree.member (record { owned = false; bytes = b.same d }) (a.same d) (r.same d));
-        }
-
-    more_members-again : (ms : Members) (i k j : ℕ) → MembersArePrintable names ms
-        → Stands u i k (print_more_members ms) → slice_get u k ≡ Some 125 → j ≡ k + 1 → AgainMoreMembers ms i j
-    more_members-again tree.no_members i k j s h c e =
-        record { again = no_members; spelled = closes_here u i k 125 j h c e; depth = refl; same = refl }
-    more_members-again (tree.member q v ms) i k j s h c e =
-        let l = slice_get_within u i 44 h.0 in
-        let front = stands-split u (i + 1) k (print_text q.bytes) (58 ∷ print_of v ++ print_more_members ms) h.1 in
-        let colon = slice_get_within u front.0 58 front.2.0 in
-        let parts = stands-split u (front.0 + 1) k (print_of v) (print_more_members ms) front.2.1 in
-        let b = key-again q (i + 1) front.0 (front.0 + 1) s.0 front.1 front.2.0 refl in
-        let a = tree-again v (front.0 + 1) parts.0 s.1 (omega arith) parts.1 in
-        let r = more_members-again ms parts.0 k j s.2 parts.2 c e in
-        record {
-          again = member b.again a.again r.again;
-          spelled = (
-            i + 1,
-            stands_here u i 44 (i + 1) h.0 refl,
-            subst (IsBlank u (i + 1)) (sym b.begins) (no_blank u (i + 1) (omega arith)),
-            subst (SpellsKey u b.again) (sym a.begins) b.spelled,
-            a.spelled,
-            subst (λ o. SpellsMoreMembers names u o r.again j) (sym a.ends) r.spelled,
-          );
-          depth = ap₂ max a.depth r.depth;
-          same = (λ d. tree.member (record { owned = false; bytes = b.same d }) (a.same d) (r.same d));
-        }
+    -- behind a member
+    members-again : (room : ℕ) (ms : Members) → MembersFit names (suc room) ms
+        → Wherever u (behind (member_prints ms) ++ 125 ∷ []) (Again (SpellsMoreMembers names u) (LikeMembers room) ms)
+    members-again room tree.no_members s = λ i j l h.
+        record { again = no_members; spelled = stands_here u i 125 j h.0 (sym h.1); like = (omega arith, refl) }
+    members-again room (tree.member k v ms) s =
+        more-again (members room) 125 (k, v) ms _ (member_prints ms)
+        (member-again room k v s.0.0 (tree-again room v s.0.1)) (members-again room ms s.1)
 
 -- ---- the whole text
 -- the print and one byte more
@@ -303,15 +219,15 @@ printed-again : (names : Bool) (v : Tree) → Fits names nesting_limit v → IsL
 printed-again names v fits =
     let w = print_of v in
     let u = with_line_feed w in
-    let a = tree-again names u v 0 (length w) fits.0 (omega arith) (print-stands w) in (
+    let a = tree-again names u nesting_limit v fits 0 (length w) (omega arith) (print-stands w) in (
       a.again,
       record {
-        before = subst (IsBlank u 0) (sym a.begins) (no_blank u 0 (omega arith));
-        spelled = a.spelled;
-        after = feed-blank w (end a.again) a.ends;
-        limit = subst (λ n. n ≤ nesting_limit) (sym a.depth) fits.1;
+        before = a.spelled.blanks;
+        spelled = a.spelled.spelled;
+        after = feed-blank w (end a.again) a.spelled.ends;
+        limit = a.like.0;
       },
-      a.same,
+      a.like.1,
     )
 
 read-again : (names : Bool) (x : Reading Tree) → Gives (Fits names nesting_limit) x → PrintsAgain names x

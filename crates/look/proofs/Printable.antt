@@ -1,7 +1,7 @@
 -- The values that can be printed, and that each reading gives one of them.
-use Rattle.std.proofs.Common.{◌≡◌, ℕ, suc, ◌+◌, ◌<◌, ◌≤◌, ◌==◌, Bool, List, [], ◌∷◌, length, refl, sym, ap}
-use Rattle.std.proofs.Common.{arith, eqb-true}
-use Rattle.std.specs.Prelude.{Option, Some, None, max, drop}
+use Rattle.std.proofs.Common.{◌≡◌, ℕ, zero, suc, ◌+◌, ◌==◌, Bool, List, [], ◌∷◌, length, refl, sym, ap}
+use Rattle.std.proofs.Common.{eqb-true}
+use Rattle.std.specs.Prelude.{Option, Some, None, drop}
 use Rattle.std.specs.Str.{IsUtf8}
 use Rattle.std.specs.Str.Lossy.{utf8_valid_len, utf8_error_len}
 use Rattle.jiter_scan.specs.Kind.{Kind, invalid_code_point, is_forgiven}
@@ -35,71 +35,45 @@ pub record IsNumber (names : Bool) (v : Tree) : Type 0 where
   pub is_text : IsNumberText names text
   pub is : number_tree (number_value text) ≡ v
 
--- Texts are UTF-8, and numbers are what numbers' texts stand for.
-abbrev mutual
-  pub IsPrintable : Bool → Tree → Type 0
-  IsPrintable names null = Unit {0}
-  IsPrintable names (boolean b) = Unit {0}
-  IsPrintable names (int z) = IsNumber names (int z)
-  IsPrintable names (tree.big s) = IsNumber names (tree.big s)
-  IsPrintable names (tree.float s) = IsNumber names (tree.float s)
-  IsPrintable names (string s) = IsUtf8 s.bytes
-  IsPrintable names (array js) = ArePrintable names js
-  IsPrintable names (object ms) = MembersArePrintable names ms
-
-  pub ArePrintable : Bool → Items → Type 0
-  ArePrintable names no_items = Unit {0}
-  ArePrintable names (item j js) = IsPrintable names j × ArePrintable names js
-
-  pub MembersArePrintable : Bool → Members → Type 0
-  MembersArePrintable names no_members = Unit {0}
-  MembersArePrintable names (member k j ms) = IsUtf8 k.bytes × IsPrintable names j × MembersArePrintable names ms
-
--- how deep containers that are not empty stand one inside another
-abbrev mutual
-  pub tree_nesting : Tree → ℕ
-  tree_nesting null = 0
-  tree_nesting (boolean b) = 0
-  tree_nesting (int z) = 0
-  tree_nesting (tree.big s) = 0
-  tree_nesting (tree.float s) = 0
-  tree_nesting (string s) = 0
-  tree_nesting (array js) = tree_nesting_round js
-  tree_nesting (object ms) = tree_nesting_round_members ms
-
-  -- of a container with these items
-  pub tree_nesting_round : Items → ℕ
-  tree_nesting_round no_items = 0
-  tree_nesting_round (item j js) = suc (max (tree_nesting j) (tree_nesting_of js))
-
-  pub tree_nesting_of : Items → ℕ
-  tree_nesting_of no_items = 0
-  tree_nesting_of (item j js) = max (tree_nesting j) (tree_nesting_of js)
-
-  pub tree_nesting_round_members : Members → ℕ
-  tree_nesting_round_members no_members = 0
-  tree_nesting_round_members (member k j ms) = suc (max (tree_nesting j) (tree_nesting_of_members ms))
-
-  pub tree_nesting_of_members : Members → ℕ
-  tree_nesting_of_members no_members = 0
-  tree_nesting_of_members (member k j ms) = max (tree_nesting j) (tree_nesting_of_members ms)
-
--- a value that can be printed, with room for it
-abbrev pub Fits : Bool → ℕ → Tree → Type 0
-Fits names room v = IsPrintable names v × (tree_nesting v ≤ room)
-
--- inside a container, which needs room itself
-abbrev FitsInside : Bool → ℕ → Tree → Type 0
-FitsInside names room v = IsPrintable names v × (tree_nesting v < room)
-
 abbrev IsText : Text → Type 0
 IsText s = IsUtf8 s.bytes
 
+-- inside a container, which needs room itself: so with the room that is left
+abbrev IsInside : (ℕ → Type 0) → ℕ → Type 0
+IsInside Is zero = ⊥
+IsInside Is (suc left) = Is left
+
+-- Texts are UTF-8, numbers are what numbers' texts stand for, and no more containers than there is room for stand one
+-- inside another, empty ones left out.
+abbrev mutual
+  pub Fits : Bool → ℕ → Tree → Type 0
+  Fits names room null = Unit {0}
+  Fits names room (boolean b) = Unit {0}
+  Fits names room (int z) = IsNumber names (int z)
+  Fits names room (tree.big s) = IsNumber names (tree.big s)
+  Fits names room (tree.float s) = IsNumber names (tree.float s)
+  Fits names room (string s) = IsText s
+  Fits names room (array js) = ItemsFit names room js
+  Fits names room (object ms) = MembersFit names room ms
+
+  pub ItemsFit : Bool → ℕ → Items → Type 0
+  ItemsFit names room no_items = Unit {0}
+  ItemsFit names room (item j js) = IsInside (λ left. Fits names left j) room × ItemsFit names room js
+
+  pub MembersFit : Bool → ℕ → Members → Type 0
+  MembersFit names room no_members = Unit {0}
+  MembersFit names room (member k j ms) =
+      (IsText k × IsInside (λ left. Fits names left j) room) × MembersFit names room ms
+
+-- a value inside a container
+abbrev FitsInside : Bool → ℕ → Tree → Type 0
+FitsInside names room v = IsInside (λ left. Fits names left v) room
+
 -- ---- what is scanned
 literal-fits : (names : Bool) (room : ℕ) (l : Literal) → Fits names room (literal_tree l)
-literal-fits names room name.Null = (tt, omega arith)
-literal-fits names room name.True = (tt, omega arith)
-literal-fits names room name.False = (tt, omega arith)
+literal-fits names room name.Null = tt
+literal-fits names room name.True = tt
+literal-fits names room name.False = tt
 
 literal_at-fits : (names : Bool) (room : ℕ) (l : Literal) (x : Extent)
     → Takes (Fits names room) (seen_as (λ u e. literal_tree l) x)
@@ -107,9 +81,9 @@ literal_at-fits names room l (taken u e) = literal-fits names room l
 literal_at-fits names room l (failed k j) = tt
 
 number-fits : (names : Bool) (room : ℕ) (x : Number) → IsNumber names (number_tree x) → Fits names room (number_tree x)
-number-fits names room (integer z) h = (h, omega arith)
-number-fits names room (big w) h = (h, omega arith)
-number-fits names room (float w) h = (h, omega arith)
+number-fits names room (integer z) h = h
+number-fits names room (big w) h = h
+number-fits names room (float w) h = h
 
 number_at-fits : (names : Bool) (t : List ℕ) (room i : ℕ) (x : Scanned Number) → number_at names t i ≡ x
     → Takes (Fits names room) (seen_as (λ n e. number_tree n) x)
@@ -157,23 +131,19 @@ string_at-text form d t i =
 
 string-fits : (names : Bool) (room : ℕ) (x : Scanned Text) → Takes IsText x
     → Takes (Fits names room) (seen_as (λ s e. string s) x)
-string-fits names room (taken s e) h = (h, omega arith)
+string-fits names room (taken s e) h = h
 string-fits names room (failed k j) h = tt
 
 -- ---- what is built
-array-fits : (names : Bool) (room : ℕ) (js : List Tree) → Each (FitsInside names room) js
-    → Fits names room (array (items_of js))
-array-fits names room [] h = (tt, omega arith)
-array-fits names room (j ∷ []) h = ((h.0.0, tt), omega (arith, h.0.1))
-array-fits names room (j ∷ k ∷ js) h =
-    let r = array-fits names room (k ∷ js) h.1 in ((h.0.0, r.0), omega (arith, h.0.1, r.1))
+items-fit : (names : Bool) (room : ℕ) (js : List Tree) → Each (FitsInside names room) js
+    → ItemsFit names room (items_of js)
+items-fit names room [] h = tt
+items-fit names room (j ∷ js) h = (h.0, items-fit names room js h.1)
 
-object-fits : (names : Bool) (room : ℕ) (ms : List (Text × Tree)) → Each (Both IsText (FitsInside names room)) ms
-    → Fits names room (object (members_of ms))
-object-fits names room [] h = (tt, omega arith)
-object-fits names room (m ∷ []) h = ((h.0.0, h.0.1.0, tt), omega (arith, h.0.1.1))
-object-fits names room (m ∷ n ∷ ms) h =
-    let r = object-fits names room (n ∷ ms) h.1 in ((h.0.0, h.0.1.0, r.0), omega (arith, h.0.1.1, r.1))
+members-fit : (names : Bool) (room : ℕ) (ms : List (Text × Tree)) → Each (Both IsText (FitsInside names room)) ms
+    → MembersFit names room (members_of ms)
+members-fit names room [] h = tt
+members-fit names room (m ∷ ms) h = (h.0, members-fit names room ms h.1)
 
 trees-build : (forgives : Kind → Bool) (form : Form) → Decodes form → (names : Bool) (t : List ℕ)
     → Builds (trees forgives form names) t IsText (Fits names) (FitsInside names)
@@ -182,9 +152,9 @@ trees-build forgives form d names t = record {
   number = λ room i. number_at-fits names t room i (number_at names t i) refl;
   text = λ room i. string-fits names room (string_at form t i) (string_at-text form d t i);
   key = λ i. string_at-text whole tt t i;
-  array = λ room b e. array-fits names room;
-  object = λ room b e. object-fits names room;
-  inside = λ room v h. (h.0, omega (arith, h.1));
+  array = λ room b e. items-fit names room;
+  object = λ room b e. members-fit names room;
+  inside = λ room v h. h;
 }
 
 -- What a text is read as can be printed, in each mode.

@@ -3,7 +3,7 @@ ghost use Rattle.std.specs.Prelude.{◌≡◌, true, ◌++◌, ◌<◌, OnOk, If
 ghost use Rattle.std.specs.Fmt.{signed_decimal};
 ghost use Rattle.jiter_steps.specs.Tree.{array, object};
 ghost use Rattle.jiter_value.specs.Value.{view, views, member_views};
-ghost use Rattle.look.specs.Print.{print_of, print_items, print_members, comma, print_text, print_byte, escape_of};
+ghost use Rattle.look.specs.Print.{print_of, comma, print_text, print_byte, escape_of};
 ghost use Rattle.look.specs.Print.{needs_escape, hex_digit};
 
 use jiter::{JsonArray, JsonObject, JsonValue};
