@@ -64,7 +64,7 @@ given-up error j x f is at h =
 
 -- the stacks with other open containers
 abbrev pub with_nest : Stacks → SmallVec Open → Stacks
-with_nest s n = record { items = s.items; members = s.members; nest = n; root = s.root; error = s.error }
+with_nest s n = record { items = s.items; members = s.members; nest = n; root = s.root; error = s.error; kept = s.kept }
 
 module _ (p : Settings) (t : List ℕ) (s : Stacks) where
   pub inside-more : (h : Shape) (e j : ℕ) → Stands s (awaited_in h) → step t (container_step h t) e ≡ more j → j < length t
