@@ -22,7 +22,7 @@ returns-in-Part-clause-reaches c =
     rw c.part_of.ensures
     (reaches-part p t s h j (behind p t c.args.stacks.now c.args.awaits c.args.from)
     (l.invariant.2 ∙ ap (λ a. behind p t s a l.at) in_shape ∙ inside-more p t s h l.at j b next lt)
-    (part-within t s h j (inside-stands s h b) l.invariant.4 lt))
+    (part-within t s h j (inside-stands s h b) (λ array. l.invariant.4) (omega (arith, l.invariant.4)) lt))
 
 pub returns-then-not-ends-clause-reaches : goal.returns-then-not-ends-clause-reaches
 returns-then-not-ends-clause-reaches c =
