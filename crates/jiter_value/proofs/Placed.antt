@@ -36,7 +36,7 @@ use Rattle.std.specs.declared.borrow.CowStr.{CowStr}
 use Rattle.jiter_steps.specs.Frames.{value_from}
 use Rattle.jiter_steps.specs.Step.{object_colon}
 use Rattle.jiter_steps.specs.StringDecoder.{text_view}
-use Rattle.jiter_value.proofs.Kept.{value-read, key-opens, key-above}
+use Rattle.jiter_value.proofs.StackTurns.{value-read, key-opens, key-above}
 use Rattle.jiter_value.proofs.Sizes.{key-size}
 
 module _ (p : Settings) (t : List ℕ) (i e room : ℕ) where

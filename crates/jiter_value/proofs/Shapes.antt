@@ -1,16 +1,16 @@
--- What an array and an object have in common: behind a part, where they begin and where they end.
-use Rattle.std.proofs.Common.{◌≡◌, ◌≢◌, ℕ, ◌+◌, ◌<◌, ◌≤◌, false, List, [], ◌∷◌, ◌++◌, length, take, drop, map, length-append, refl, sym, ap, ap₂, subst, ◌∙◌, arith}
+-- What arrays and objects have in common on the stacks: behind a part, where they begin and where they end.
+use Rattle.std.proofs.Common.{◌≡◌, ◌≢◌, ℕ, ◌+◌, ◌<◌, ◌≤◌, false, List, [], ◌∷◌, ◌++◌, length, map, length-append, refl, sym, ap, ap₂, subst, ◌∙◌, arith}
 use Rattle.std.specs.Prelude.{slice_index, reverse, IfOk}
 use Rattle.std.proofs.lemmas.List.{reverse-append, length-reverse, take_all, drop_all}
 use Rattle.smallvec.specs.SmallVec.{SmallVec}
 use Rattle.jiter_steps.specs.declared.parse.Start.TheVariants as start
-use Rattle.jiter_scan.specs.Kind.{Kind, fault_kind, recursion_limit}
+use Rattle.jiter_scan.specs.Kind.{fault_kind, recursion_limit}
 use Rattle.jiter_scan.specs.declared.errors.Fault.{Fault}
 use Rattle.jiter_steps.specs.Frames.{resolve_step, resume, parts_from}
 use Rattle.jiter_steps.specs.Literal.{start_of}
 use Rattle.jiter_steps.specs.Step.{container_first, container_step}
 use Rattle.jiter_steps.specs.Read.{Reading, done, fault}
-use Rattle.jiter_steps.specs.Step.{more, closed, stuck, step, array_first}
+use Rattle.jiter_steps.specs.Step.{more, closed, step, array_first}
 use Rattle.jiter_steps.specs.Tree.{Tree}
 use Rattle.jiter_steps.specs.declared.parse.Shape.{Shape}
 use Rattle.jiter_steps.specs.declared.parse.Shape.TheVariants as shape
@@ -26,7 +26,7 @@ use Rattle.jiter_value.specs.declared.stacks.Open.{Open}
 use Rattle.jiter_value.specs.declared.stacks.Awaits.{Awaits}
 use Rattle.jiter_value.specs.declared.stacks.Awaits.TheVariants as awaits
 use Rattle.jiter_value.specs.declared.stacks.Stacks.{Stacks}
-use Rattle.jiter_value.proofs.Kept.{behind-more, behind-closed, behind-stuck, begins, begins-closed, begins-stuck, next-part, part_in, container_of, key-base, array-limit}
+use Rattle.jiter_value.proofs.StackTurns.{behind-more, behind-closed, behind-stuck, begins, begins-closed, begins-stuck, next-part, part_in, container_of, key-base, array-limit}
 use Rattle.jiter_value.proofs.Sizes.{behind-part-size, item-size}
 
 -- a part begins
@@ -95,11 +95,10 @@ turned : (s : Stacks) (a : Awaits) (h : Shape) (o : Open) (n : SmallVec Open) �
 turned s a h o n pushed eq =
     ap reverse pushed ∙ reverse-append s.nest.items (o ∷ []) ∙ ap (λ x. x ∷ reverse s.nest.items) eq
 
-module _ (p : Settings) (t : List ℕ) (s : Stacks) where
-  part-meaning : (h : Shape) (j : ℕ)
-      → part_in p t h (reverse s.nest.items) s.items.items s.members.items j ≡ meaning p t s (part_of h) j
-  part-meaning shape.Array j = refl
-  part-meaning shape.Object j = refl
+part-meaning : (p : Settings) (t : List ℕ) (s : Stacks) (h : Shape) (j : ℕ)
+    → part_in p t h (reverse s.nest.items) s.items.items s.members.items j ≡ meaning p t s (part_of h) j
+part-meaning p t s shape.Array j = refl
+part-meaning p t s shape.Object j = refl
 
 module _ (p : Settings) (t : List ℕ) (s : Stacks) where
   pub inside-more : (h : Shape) (e j : ℕ) → Stands s (awaited_in h) → step t (container_step h t) e ≡ more j → j < length t

@@ -15,7 +15,7 @@ use Rattle.jiter_value.specs.declared.stacks.Open.{Open}
 use Rattle.jiter_value.specs.declared.stacks.Awaits.TheVariants as awaits
 use Rattle.jiter_value.specs.Stacks.{Member, member_view, frames, PartTree, built, parts_above, frames_below, HaveBases, HaveKeyBase, awaited_in}
 use Rattle.jiter_value.specs.Size.{size, items_size, members_size, parts_size, frames_size, inside_size_in, behind_size_in}
-use Rattle.jiter_value.proofs.Kept.{value-frames}
+use Rattle.jiter_value.proofs.StackTurns.{value-frames}
 
 items_size-push : (xs : List Tree) (x : Tree) → items_size (xs ++ x ∷ []) ≡ items_size xs + size x
 items_size-push [] x = omega arith

@@ -3,7 +3,7 @@ use Rattle.jiter_steps.specs.Tree.{array, object, items_of, members_of}
 use Rattle.jiter_steps.specs.declared.parse.Shape.TheVariants as shape
 use Rattle.jiter_value.specs.Stacks.{frames, member_view}
 use Rattle.jiter_value.specs.Value.{view}
-use Rattle.jiter_value.proofs.Kept.{container-closes}
+use Rattle.jiter_value.proofs.StackTurns.{container-closes}
 use Rattle.jiter_value.proofs.Sizes.{container-size}
 use Rattle.jiter_value.proofs.Views.{view_array}
 use Rattle.jiter_value.proofs.stacks.close.Goals as goal

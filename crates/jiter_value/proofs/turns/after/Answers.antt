@@ -3,7 +3,7 @@ use Rattle.jiter_steps.specs.Step.{container_step}
 use Rattle.jiter_steps.specs.Step.{more, step}
 use Rattle.jiter_value.specs.Size.{behind_size, inside_size}
 use Rattle.jiter_value.specs.Stacks.{behind, container_ends, Stands, awaited_in}
-use Rattle.jiter_value.proofs.Reached.{fails-along}
+use Rattle.jiter_value.proofs.TurnOutcomes.{fails-along}
 use Rattle.jiter_value.proofs.Shapes.{reaches-part, inside-more, inside-ends, inside-fails, inside-stands, inside-size, part-within, not-root}
 use Rattle.jiter_value.proofs.turns.after.Goals as goal
 

@@ -10,8 +10,8 @@ use Rattle.jiter_value.specs.Size.{frames_size, inside_size_in}
 use Rattle.jiter_value.specs.Stacks.{frames, container_in, resume_with, HaveBases, HaveKeyBase}
 use Rattle.jiter_value.specs.Turns.{outcome}
 use Rattle.jiter_value.specs.declared.stacks.Awaits.TheVariants as awaits
-use Rattle.jiter_value.proofs.Kept.{fault-kept, fault-value, last-split, value-base, key-of-value}
-use Rattle.jiter_value.proofs.Reached.{reaches-along, gave-up}
+use Rattle.jiter_value.proofs.StackTurns.{fault-kept, fault-value, last-split, value-base, key-of-value}
+use Rattle.jiter_value.proofs.TurnOutcomes.{reaches-along, gave-up}
 use Rattle.jiter_value.proofs.Sizes.{key-size}
 use Rattle.jiter_value.proofs.turns.fault_at_value.Goals as goal
 
