@@ -1,11 +1,11 @@
 -- What equality compares.
-use Rattle.std.proofs.Common.{◌≡◌, ℕ, zero, suc, Bool, false, List, [], ◌∷◌, map, refl, sym, ap, ◌∙◌, true≢false, Vec, Global}
+use Rattle.std.proofs.Common.{◌≡◌, ℕ, zero, suc, ◌<◌, Bool, false, List, [], ◌∷◌, length, map, get_or, refl, sym, ap, ◌∙◌, true≢false, Vec, Global}
 use Rattle.std.specs.Bool.{Decides}
+use Rattle.std.proofs.lemmas.Option.{slice_get_read}
 use Rattle.std.specs.Prelude.{slice_get, Some}
-use Rattle.jiter_steps.specs.StringDecoder.{text_view}
 use Rattle.jiter_steps.specs.Tree.{Text, Tree, array, object, Items, item, Members, member}
 use Rattle.jiter_steps.specs.Tree.{items_of, members_of}
-use Rattle.jiter_value.specs.Owned.{owned_text, owned_tree, owned_member, HoldSame}
+use Rattle.jiter_value.specs.Owned.{owned_tree, owned_member, HoldSame}
 use Rattle.jiter_value.specs.Stacks.{Member, member_view}
 use Rattle.jiter_value.specs.Value.{view}
 use Rattle.jiter_value.specs.declared.value.JsonValue.{JsonValue, Array, Object}
@@ -15,7 +15,7 @@ use Rattle.jiter_value.proofs.Views.{view_array, view_object}
 pub along : {b : Bool} {P Q : Type 0} → Decides b P → (P → Q) → (Q → P) → Decides b Q
 along d there back = (λ e. there (d.0 e), λ q. d.1 (back q))
 
-pub differs : {P : Type 0} → (P → ⊥) → Decides false P
+differs : {P : Type 0} → (P → ⊥) → Decides false P
 differs never = (λ e. absurd (true≢false (sym e)), λ p. absurd (never p))
 
 -- ---- containers
@@ -81,33 +81,18 @@ object-decides b v w d =
     (sym (owned-view-Object v) ∙ e ∙ owned-view-Object w)))
 
 -- what stands at one place of two lists that are the same
-pub at-same : {X Y Z : Type 0} (f : X → Y) (g : Y → Z) (xs ys : List X) (i : ℕ) (x y : X) → slice_get xs i ≡ Some x
+at-same : {X Y Z : Type 0} (f : X → Y) (g : Y → Z) (xs ys : List X) (i : ℕ) (x y : X) → slice_get xs i ≡ Some x
     → slice_get ys i ≡ Some y → map g (map f xs) ≡ map g (map f ys) → g (f x) ≡ g (f y)
 at-same f g [] ys i x y hx hy e = absurd (cc)
 at-same f g (a ∷ xs) [] i x y hx hy e = absurd (cc)
 at-same f g (a ∷ xs) (b ∷ ys) zero x y hx hy e = let p : a ≡ x = cc in let q : b ≡ y = cc in rw (sym p, sym q) (cc)
 at-same f g (a ∷ xs) (b ∷ ys) (suc i) x y hx hy e = at-same f g xs ys i x y hx hy (cc)
 
--- where two lists differ at a place
-pub items-differ : (xs ys : List JsonValue) (i : ℕ) (x y : JsonValue) (b : Bool) → slice_get xs i ≡ Some x
-    → slice_get ys i ≡ Some y → Decides b (HoldSame (view x) (view y)) → b ≡ false
-    → Decides false (map owned_tree (map view xs) ≡ map owned_tree (map view ys))
-items-differ xs ys i x y b hx hy d not = differs
-    (λ e. true≢false (sym (d.1 (at-same view owned_tree xs ys i x y hx hy e)) ∙ not))
-
-keys-differ-at : (ms ns : List Member) (i : ℕ) (m n : Member) (b : Bool) → slice_get ms i ≡ Some m
-    → slice_get ns i ≡ Some n → Decides b (owned_text (text_view m.0) ≡ owned_text (text_view n.0)) → b ≡ false
-    → map owned_member (map member_view ms) ≡ map owned_member (map member_view ns) → ⊥
-keys-differ-at ms ns i m n b hm hn d not e =
-    true≢false (sym (d.1 (ap (λ (p : Text × Tree). p.0) (at-same member_view owned_member ms ns i m n hm hn e))) ∙ not)
-
-pub keys-differ : (ms ns : List Member) (i : ℕ) (m n : Member) (b : Bool) → slice_get ms i ≡ Some m
-    → slice_get ns i ≡ Some n → Decides b (owned_text (text_view m.0) ≡ owned_text (text_view n.0)) → b ≡ false
-    → Decides false (map owned_member (map member_view ms) ≡ map owned_member (map member_view ns))
-keys-differ ms ns i m n b hm hn d not = differs (keys-differ-at ms ns i m n b hm hn d not)
-
-pub values-differ : (ms ns : List Member) (i : ℕ) (m n : Member) (b : Bool) → slice_get ms i ≡ Some m
-    → slice_get ns i ≡ Some n → Decides b (HoldSame (view m.1) (view n.1)) → b ≡ false
-    → Decides false (map owned_member (map member_view ms) ≡ map owned_member (map member_view ns))
-values-differ ms ns i m n b hm hn d not = differs
-    (λ e. true≢false (sym (d.1 (ap (λ (p : Text × Tree). p.1) (at-same member_view owned_member ms ns i m n hm hn e))) ∙ not))
+-- two lists differ where what stands at one place of them does
+pub differ-at : {X Y Z : Type 0} (f : X → Y) (g : Y → Z) (xs ys : List X) (i : ℕ) (x y : X) (b : Bool) (P : Type 0)
+    → i < length xs → i < length ys → x ≡ get_or xs i x → y ≡ get_or ys i y → (g (f x) ≡ g (f y) → P)
+    → Decides b P → b ≡ false → Decides false (map g (map f xs) ≡ map g (map f ys))
+differ-at f g xs ys i x y b P in-xs in-ys hx hy part d not =
+    let in-one = slice_get_read xs (length xs) i x refl in-xs hx in
+    let in-other = slice_get_read ys (length ys) i y refl in-ys hy in
+    differs (λ e. true≢false (sym (d.1 (part (at-same f g xs ys i x y in-one in-other e))) ∙ not))

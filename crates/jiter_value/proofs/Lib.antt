@@ -1,8 +1,8 @@
-pub mod Answering
-pub mod Kept
-pub mod Parsed
+pub mod WholeTextAnswers
+pub mod StackTurns
+pub mod ParsedDocuments
 pub mod Pins
-pub mod Reached
+pub mod TurnOutcomes
 pub mod Sizes
 pub mod Views
 pub mod OwnedAnswers

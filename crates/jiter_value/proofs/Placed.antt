@@ -36,7 +36,7 @@ use Rattle.std.specs.declared.borrow.CowStr.{CowStr}
 use Rattle.jiter_steps.specs.Frames.{value_from}
 use Rattle.jiter_steps.specs.Step.{object_colon}
 use Rattle.jiter_steps.specs.StringDecoder.{text_view}
-use Rattle.jiter_value.proofs.Kept.{value-read, key-opens, key-above}
+use Rattle.jiter_value.proofs.StackTurns.{value-read, key-opens, key-above}
 use Rattle.jiter_value.proofs.Sizes.{key-size}
 
 module _ (p : Settings) (t : List ℕ) (i e room : ℕ) where
@@ -108,7 +108,7 @@ module _ (t : List ℕ) (names : Bool) (i e : ℕ) where
 pub key-at : (t : List ℕ) (s : Stacks) (ms : Vec Member Global) (i e j : ℕ) (k : CowStr Global) (x : Text) → text_view k ≡ x
     → StandsAtKey s → i < length t → string_at whole t i ≡ taken x e → object_colon t e ≡ taken tt j
     → ms.items ≡ s.members.items ++ (k, Null) ∷ [] → i < j → j < length t
-    → IsKeyAt t s i (record { items = s.items; members = ms; nest = s.nest; root = s.root; error = s.error }) j
+    → IsKeyAt t s i (record { items = s.items; members = ms; nest = s.nest; root = s.root; error = s.error; kept = s.kept }) j
 key-at t s ms i e j k x seen b inside read colon pushed ahead within =
     let os = reverse s.nest.items in
     let es = s.items.items in

@@ -4,15 +4,18 @@ use Rattle.std.specs.Prelude.{reverse}
 use Rattle.std.specs.declared.alloc.Global.{Global}
 use Rattle.std.specs.declared.borrow.CowStr.{CowStr}
 use Rattle.std.proofs.lemmas.List.{reverse-append, map_push, drop-append-le, take-append-le}
-use Rattle.jiter_steps.specs.Tree.{Text, Tree, array, object, items_of, members_of}
+use Rattle.jiter_steps.specs.Frames.{Frame}
+use Rattle.jiter_steps.specs.Tree.{Text, Tree}
 use Rattle.jiter_steps.specs.StringDecoder.{text_view}
+use Rattle.jiter_steps.specs.declared.parse.Shape.{Shape}
+use Rattle.jiter_steps.specs.declared.parse.Shape.TheVariants as shape
 use Rattle.jiter_value.specs.Value.{view}
 use Rattle.jiter_value.specs.declared.value.JsonValue.{JsonValue}
 use Rattle.jiter_value.specs.declared.stacks.Open.{Open}
 use Rattle.jiter_value.specs.declared.stacks.Awaits.TheVariants as awaits
-use Rattle.jiter_value.specs.Stacks.{Member, member_view, frames, HaveBases, HaveKeyBase}
-use Rattle.jiter_value.specs.Size.{size, items_size, members_size, frames_size, key_size_in, behind_size_in}
-use Rattle.jiter_value.proofs.Kept.{value-frames}
+use Rattle.jiter_value.specs.Stacks.{Member, member_view, frames, PartTree, built, parts_above, frames_below, HaveBases, HaveKeyBase, awaited_in}
+use Rattle.jiter_value.specs.Size.{size, items_size, members_size, parts_size, frames_size, inside_size_in, behind_size_in}
+use Rattle.jiter_value.proofs.StackTurns.{value-frames}
 
 items_size-push : (xs : List Tree) (x : Tree) → items_size (xs ++ x ∷ []) ≡ items_size xs + size x
 items_size-push [] x = omega arith
@@ -57,41 +60,38 @@ put-root-size [] es ms v h = omega arith
 put-root-size (o ∷ os) es ms v h = absurd h
 
 -- a container that ends holds what it held
-pub array-size : (init : List Open) (o : Open) (es rest : List JsonValue) (ms : List Member) (root v : JsonValue)
-    → rest ≡ take o.base es → view v ≡ array (items_of (map view (drop o.base es)))
-    → behind_size_in awaits.Item (reverse (init ++ o ∷ [])) es ms root ≡ frames_size (frames o.outer (reverse init) rest ms) + size (view v)
-array-size init o es rest ms root v left made =
-    let is : behind_size_in awaits.Item (reverse (init ++ o ∷ [])) es ms root ≡ suc (items_size (map view (drop o.base es))) + frames_size (frames o.outer (reverse init) (take o.base es) ms) = ap (λ os. behind_size_in awaits.Item os es ms root) (reverse-append init (o ∷ [])) in
-    let now : size (view v) ≡ suc (items_size (map view (drop o.base es))) = ap size made in
-    let outer : frames_size (frames o.outer (reverse init) rest ms) ≡ frames_size (frames o.outer (reverse init) (take o.base es) ms) = ap (λ ys. frames_size (frames o.outer (reverse init) ys ms)) left in
-    omega (arith, is, now, outer)
+built-size : (h : Shape) (xs : List (PartTree h)) → size (built h xs) ≡ suc (parts_size h xs)
+built-size shape.Array xs = refl
+built-size shape.Object xs = refl
 
-pub object-size : (init : List Open) (o : Open) (es : List JsonValue) (ms rest : List Member) (v : JsonValue)
-    → rest ≡ take o.base ms → view v ≡ object (members_of (map member_view (drop o.base ms)))
-    → key_size_in (reverse (init ++ o ∷ [])) es ms ≡ frames_size (frames o.outer (reverse init) es rest) + size (view v)
-object-size init o es ms rest v left made =
-    let is : key_size_in (reverse (init ++ o ∷ [])) es ms ≡ suc (members_size (map member_view (drop o.base ms))) + frames_size (frames o.outer (reverse init) es (take o.base ms)) = ap (λ os. key_size_in os es ms) (reverse-append init (o ∷ [])) in
-    let now : size (view v) ≡ suc (members_size (map member_view (drop o.base ms))) = ap size made in
-    let outer : frames_size (frames o.outer (reverse init) es rest) ≡ frames_size (frames o.outer (reverse init) es (take o.base ms)) = ap (λ ys. frames_size (frames o.outer (reverse init) es ys)) left in
-    omega (arith, is, now, outer)
+pub container-size : (h : Shape) (nest init : List Open) (o : Open) (es : List JsonValue) (ms : List Member) (fs : List (Frame Text Tree)) (x : Tree)
+    → nest ≡ init ++ o ∷ [] → fs ≡ frames_below h o (reverse init) es ms → x ≡ built h (parts_above h o.base es ms)
+    → inside_size_in h (reverse nest) es ms ≡ frames_size fs + size x
+container-size h nest init o es ms fs x is below made =
+    let last : inside_size_in h (reverse nest) es ms ≡ inside_size_in h (o ∷ reverse init) es ms =
+    ap (λ os. inside_size_in h os es ms) (ap reverse is ∙ reverse-append init (o ∷ [])) in
+    let counts = ap size made ∙ built-size h (parts_above h o.base es ms) in
+    let outer = ap frames_size below in
+    omega (arith, last, counts, outer)
 
--- an object behind a value holds what it holds where it awaits a key
-pub behind-key-size : (os : List Open) (es : List JsonValue) (ms : List Member) (root : JsonValue)
-    → HaveBases awaits.Value os (length es) (length ms)
-    → behind_size_in awaits.Value os es ms root ≡ key_size_in os es ms
-behind-key-size [] es ms root h = absurd h
-behind-key-size (o ∷ os) es ms root h = refl
+-- a container behind a value holds what it holds where it awaits none
+pub behind-part-size : (h : Shape) (os : List Open) (es : List JsonValue) (ms : List Member) (root : JsonValue)
+    → HaveBases (awaited_in h) os (length es) (length ms)
+    → behind_size_in (awaited_in h) os es ms root ≡ inside_size_in h os es ms
+behind-part-size shape.Array [] es ms root b = absurd b
+behind-part-size shape.Array (o ∷ os) es ms root b = refl
+behind-part-size shape.Object [] es ms root b = absurd b
+behind-part-size shape.Object (o ∷ os) es ms root b = refl
 
-pub behind-item-size : (os : List Open) (es : List JsonValue) (ms : List Member) (root : JsonValue)
-    → HaveBases awaits.Item os (length es) (length ms)
-    → behind_size_in awaits.Item os es ms root ≡ frames_size (frames awaits.Item os es ms)
-behind-item-size [] es ms root h = absurd h
-behind-item-size (o ∷ os) es ms root h = refl
+pub item-size : (os : List Open) (es : List JsonValue) (ms : List Member)
+    → frames_size (frames awaits.Item os es ms) ≡ inside_size_in shape.Array os es ms
+item-size [] es ms = refl
+item-size (o ∷ os) es ms = refl
 
 -- a key that awaits its value counts one
 pub key-size : (os : List Open) (es : List JsonValue) (before : List Member) (key : CowStr Global) (old : JsonValue)
     → HaveKeyBase os (length es) (length before)
-    → frames_size (frames awaits.Value os es (before ++ (key, old) ∷ [])) ≡ key_size_in os es before + 1
+    → frames_size (frames awaits.Value os es (before ++ (key, old) ∷ [])) ≡ inside_size_in shape.Object os es before + 1
 key-size [] es before key old h = absurd h
 key-size (o ∷ os) es before key old h =
     let was = ap frames_size (value-frames o os es before key old h.0) in omega (arith, was)

@@ -10,7 +10,7 @@ use Rattle.jiter_value.specs.declared.stacks.Awaits.{Awaits}
 use Rattle.jiter_value.specs.declared.stacks.Awaits.TheVariants as awaits
 use Rattle.jiter_value.specs.declared.stacks.Stacks.{Stacks}
 use Rattle.jiter_steps.specs.Frames.{Frame, items_frame, members_frame}
-use Rattle.jiter_value.specs.Stacks.{Member, member_view, frames}
+use Rattle.jiter_value.specs.Stacks.{Member, member_view, frames, PartTree, parts_above, frames_below}
 
 abbrev mutual
   pub size : Tree → ℕ
@@ -43,11 +43,15 @@ frames_size [] = 0
 frames_size (items_frame xs ∷ fs) = suc (items_size xs) + frames_size fs
 frames_size (members_frame ms k ∷ fs) = suc (suc (members_size ms)) + frames_size fs
 
-abbrev pub key_size_in : List Open → List JsonValue → List Member → ℕ
-key_size_in [] items members = 0
-key_size_in (o ∷ os) items members =
-    suc (members_size (map member_view (drop o.base members))) + frames_size
-    (frames o.outer os items (take o.base members))
+abbrev pub parts_size : (h : Shape) → List (PartTree h) → ℕ
+parts_size shape.Array xs = items_size xs
+parts_size shape.Object xs = members_size xs
+
+-- where the innermost container is of this shape, and awaits no value
+abbrev pub inside_size_in : Shape → List Open → List JsonValue → List Member → ℕ
+inside_size_in h [] items members = 0
+inside_size_in h (o ∷ os) items members =
+    suc (parts_size h (parts_above h o.base items members)) + frames_size (frames_below h o os items members)
 
 abbrev pub behind_size_in : Awaits → List Open → List JsonValue → List Member → JsonValue → ℕ
 behind_size_in a [] items members root = size (view root)
@@ -66,15 +70,14 @@ abbrev pub value_size : Stacks → Awaits → ℕ
 value_size s a = frames_size (frames a (reverse s.nest.items) s.items.items s.members.items)
 
 abbrev pub key_size : Stacks → ℕ
-key_size s = key_size_in (reverse s.nest.items) s.items.items s.members.items
+key_size s = inside_size_in shape.Object (reverse s.nest.items) s.items.items s.members.items
 
 abbrev pub behind_size : Stacks → Awaits → ℕ
 behind_size s a = behind_size_in a (reverse s.nest.items) s.items.items s.members.items s.root
 
 -- the same where the innermost container is of this shape, and awaits no value
 abbrev pub inside_size : Shape → Stacks → ℕ
-inside_size shape.Array s = value_size s awaits.Item
-inside_size shape.Object s = key_size s
+inside_size h s = inside_size_in h (reverse s.nest.items) s.items.items s.members.items
 
 -- How many scalars, containers and keys the machine holds; at its end, how many the value has.
 abbrev pub held : Stacks → Awaits → ℕ

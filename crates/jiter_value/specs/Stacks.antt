@@ -2,12 +2,11 @@
 use Rattle.std.specs.Prelude.{◌≡◌, ℕ, ◌-◌, ◌≤◌, ◌<◌, false, List, [], ◌∷◌, length, take, drop, reverse, map, vec_len, vec_capacity}
 use Rattle.std.specs.declared.alloc.Global.{Global}
 use Rattle.std.specs.declared.borrow.CowStr.{CowStr}
-use Rattle.jiter_scan.specs.Kind.{Kind, eof_list, eof_object}
+use Rattle.jiter_scan.specs.Kind.{Kind, eof_object}
 use Rattle.jiter_steps.specs.Tree.{Text, Tree, array, object, items_of, members_of}
 use Rattle.jiter_steps.specs.Read.{Reading, done, fault, if_forgiven}
+use Rattle.jiter_steps.specs.Step.{end_kind_of}
 use Rattle.jiter_steps.specs.StringDecoder.{text_view}
-use Rattle.jiter_steps.specs.declared.parse.Start.{Start}
-use Rattle.jiter_steps.specs.declared.parse.Start.TheVariants as start
 use Rattle.jiter_steps.specs.declared.parse.Shape.{Shape}
 use Rattle.jiter_steps.specs.declared.parse.Shape.TheVariants as shape
 use Rattle.jiter_steps.specs.Frames.{Frame, items_frame, members_frame, resume, value_from, key_from, items_from, members_from}
@@ -54,6 +53,25 @@ frames awaits.Key (o ∷ os) items members = []
 frames awaits.Done (o ∷ os) items members = []
 frames awaits.Refused (o ∷ os) items members = []
 
+-- What arrays and objects have in common: the tree of a part, and that of a container of these parts,
+abbrev pub PartTree : Shape → Type 0
+PartTree shape.Array = Tree
+PartTree shape.Object = Text × Tree
+
+abbrev pub built : (h : Shape) → List (PartTree h) → Tree
+built shape.Array xs = array (items_of xs)
+built shape.Object xs = object (members_of xs)
+
+-- the parts that stand above a base,
+abbrev pub parts_above : (h : Shape) → ℕ → List JsonValue → List Member → List (PartTree h)
+parts_above shape.Array n items members = map view (drop n items)
+parts_above shape.Object n items members = map member_view (drop n members)
+
+-- and what stands below an open container.
+abbrev pub frames_below : Shape → Open → List Open → List JsonValue → List Member → List (Frame Text Tree)
+frames_below shape.Array o os items members = frames o.outer os (take o.base items) members
+frames_below shape.Object o os items members = frames o.outer os items (take o.base members)
+
 -- the bases lie within the stacks, and below the outermost there is nothing
 abbrev pub HaveBases : Awaits → List Open → ℕ → ℕ → Type 0
 HaveBases awaits.Root [] n m = (n ≡ 0) × (m ≡ 0)
@@ -70,6 +88,11 @@ HaveBases awaits.Refused os n m = ⊥
 abbrev pub HaveKeyBase : List Open → ℕ → ℕ → Type 0
 HaveKeyBase [] n m = ⊥
 HaveKeyBase (o ∷ os) n m = (o.base ≤ m) × HaveBases o.outer os n o.base
+
+-- the same where the innermost is of this shape, and awaits no value
+abbrev pub HavePartBase : Shape → List Open → ℕ → ℕ → Type 0
+HavePartBase shape.Array os n m = HaveBases awaits.Item os n m
+HavePartBase shape.Object os n m = HaveKeyBase os n m
 
 module _ (p : Settings) (t : List ℕ) where
   -- where the innermost object awaits a key at j
@@ -98,17 +121,10 @@ module _ (p : Settings) (t : List ℕ) where
   behind_in awaits.Refused (o ∷ os) items members root e = done (view root) e
 
   -- where the innermost container ends at e
-  abbrev pub array_in : List Open → List JsonValue → List Member → ℕ → Reading Tree
-  array_in [] items members e = fault eof_list e e
-  array_in (o ∷ os) items members e =
-      resume (rules p) t (frames o.outer os (take o.base items) members)
-      (done (array (items_of (map view (drop o.base items)))) e)
-
-  abbrev pub object_in : List Open → List JsonValue → List Member → ℕ → Reading Tree
-  object_in [] items members e = fault eof_object e e
-  object_in (o ∷ os) items members e =
-      resume (rules p) t (frames o.outer os items (take o.base members))
-      (done (object (members_of (map member_view (drop o.base members)))) e)
+  abbrev pub container_in : Shape → List Open → List JsonValue → List Member → ℕ → Reading Tree
+  container_in h [] items members e = fault (end_kind_of h) e e
+  container_in h (o ∷ os) items members e =
+      resume (rules p) t (frames_below h o os items members) (done (built h (parts_above h o.base items members)) e)
 
   -- The same of all that is held.
   abbrev pub resume_with : Stacks → Awaits → Reading Tree → Reading Tree
@@ -127,8 +143,7 @@ module _ (p : Settings) (t : List ℕ) where
   behind s a e = behind_in a (reverse s.nest.items) s.items.items s.members.items s.root e
 
   abbrev pub container_ends : Shape → Stacks → ℕ → Reading Tree
-  container_ends shape.Array s e = array_in (reverse s.nest.items) s.items.items s.members.items e
-  container_ends shape.Object s e = object_in (reverse s.nest.items) s.items.items s.members.items e
+  container_ends h s e = container_in h (reverse s.nest.items) s.items.items s.members.items e
 
   -- What the rest of the text completes the machine to.
   abbrev pub meaning : Stacks → Awaits → ℕ → Reading Tree
@@ -147,8 +162,7 @@ StandsAtKey s = HaveKeyBase (reverse s.nest.items) (length s.items.items) (lengt
 
 -- the innermost container is of this shape, and awaits no value
 abbrev pub StandsInside : Shape → Stacks → Type 0
-StandsInside shape.Array s = Stands s awaits.Item
-StandsInside shape.Object s = StandsAtKey s
+StandsInside h s = HavePartBase h (reverse s.nest.items) (length s.items.items) (length s.members.items)
 
 -- what is awaited where a value of a container begins, and where a part of it does
 abbrev pub awaited_in : Shape → Awaits
@@ -164,11 +178,7 @@ abbrev pub base_of : Shape → Stacks → ℕ
 base_of shape.Array s = length s.items.items
 base_of shape.Object s = length s.members.items
 
--- what its first byte says, and its tree where it has no part
-abbrev pub start_with : Shape → Start
-start_with shape.Array = start.Array
-start_with shape.Object = start.Object
-
+-- its tree where it has no part
 abbrev pub empty_tree : Shape → Tree
 empty_tree shape.Array = array (items_of [])
 empty_tree shape.Object = object (members_of [])

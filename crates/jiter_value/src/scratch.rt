@@ -23,8 +23,8 @@ use std::marker::Model;
 use std::mem;
 
 /// Buffers for reading one document after another: the elements of all open arrays, the members of all open
-/// objects, and a tape for strings. They are kept between the calls, so that documents of one shape make them
-/// grow once. What was read before changes no answer.
+/// objects, and a tape for strings. They are kept between the calls of `parse`, so that documents of one shape
+/// make them grow once, and a further one asks for its value alone. What was read before changes no answer.
 #[derive(Drop)]
 pub struct JsonValueScratch<'j> {
     alloc: Global,
@@ -54,7 +54,7 @@ impl<'j> JsonValueScratch<'j> {
         ensures elements { result.elements ≡ [] }
         ensures members { result.members ≡ [] }
     {
-        JsonValueScratch::with_tape(alloc, Vec::new(alloc))
+        JsonValueScratch::of(alloc, Vec::new(alloc), Stacks::kept(alloc))
     }
 
     /// What [`JsonValue::parse_with_config`] answers, read with these buffers.
@@ -126,15 +126,16 @@ impl<'j> JsonValueScratch<'j> {
         )
     }
 
-    // A scratch with this tape.
-    fn with_tape(alloc: Global, tape: Vec<u8>) -> JsonValueScratch<'j>
+    // A scratch with this tape and these stacks.
+    fn of(alloc: Global, tape: Vec<u8>, stacks: Stacks<'j>) -> JsonValueScratch<'j>
+        requires { HoldsNothing stacks }
         ensures elements { result.elements ≡ [] }
         ensures members { result.members ≡ [] }
     {
         JsonValueScratch {
             alloc,
             tape,
-            stacks: Stacks::new(alloc),
+            stacks,
         }
     }
 
@@ -212,7 +213,7 @@ impl JsonValueScratch<'static> {
     {
         let alloc = self.alloc;
         let tape = mem::replace(&mut self.tape, Vec::new(alloc));
-        let mut borrowing = JsonValueScratch::with_tape(alloc, tape);
+        let mut borrowing = JsonValueScratch::of(alloc, tape, Stacks::new(alloc));
         let read = borrowing.parse(bytes, allow_inf_nan, allow_partial);
         self.tape = borrowing.into_tape();
         own_answer(alloc, read, bytes.len())

@@ -12,13 +12,13 @@ ghost use Rattle.jiter_steps.specs.Parse.{Moves, Steps, Gives};
 ghost use Rattle.jiter_steps.specs.Plain.{IsNext, IsStuckAt};
 ghost use Rattle.jiter_steps.specs.Read.{done, fault, value_at};
 ghost use Rattle.jiter_steps.specs.ReadError.{WhereRefused};
-ghost use Rattle.jiter_steps.specs.Step.{Step, step, more, container_first, container_step};
+ghost use Rattle.jiter_steps.specs.Step.{Step, step, more, container_first, container_step, opening};
 ghost use Rattle.jiter_steps.specs.Tree.{int};
 ghost use Rattle.jiter_steps.specs.declared.parse.Start.{Start};
 ghost use Rattle.jiter_steps.specs.declared.read_error.ReadError.TheVariants as error;
 ghost use Rattle.jiter_value.specs.Settings.{rules};
 ghost use Rattle.jiter_value.specs.Size.{value_size, key_size, inside_size, behind_size, held};
-ghost use Rattle.jiter_value.specs.Stacks.{resume_with, from_value, from_key, key_fault, behind, meaning, container_ends, Stands, StandsInside, StandsAtKey, HasRoom, awaited_in, base_of, part_of, start_with, empty_tree};
+ghost use Rattle.jiter_value.specs.Stacks.{resume_with, from_value, from_key, key_fault, behind, meaning, container_ends, Stands, StandsInside, StandsAtKey, HasRoom, awaited_in, base_of, part_of, empty_tree};
 ghost use Rattle.jiter_value.specs.Turns.{IsWithin, IsPutAt, IsKeyAt, IsResolved, Reaches, MayGrowFor, left, outcome};
 ghost use Rattle.jiter_value.specs.Value.{view, MayGrowAt};
 ghost use Rattle.jiter_value.specs.declared.settings.Settings.{Settings as SettingsView};
@@ -426,7 +426,7 @@ fn begin<'j>(
     requires stands { Stands stacks.old awaits }
     requires room { length stacks.old.nest.items ≤ nesting_limit }
     requires within { at < length bytes.now }
-    requires bracket { start_of (slice_index bytes.now at) ≡ start_with shape }
+    requires bracket { start_of (slice_index bytes.now at) ≡ opening shape }
     ensures within { (at ≤ result.0) × (result.0 ≤ length bytes.now) }
     ensures reaches { Reaches settings bytes.now stacks.new result.0 (outcome stacks.new result.1)
         (from_value settings bytes.now stacks.old awaits at) }
@@ -487,7 +487,7 @@ fn open<'j>(
     requires stands { Stands stacks.old awaits }
     requires room { length stacks.old.nest.items ≤ nesting_limit }
     requires within { (at < next) × (next < length bytes.now) }
-    requires bracket { start_of (slice_index bytes.now at) ≡ start_with shape }
+    requires bracket { start_of (slice_index bytes.now at) ≡ opening shape }
     requires part { step bytes.now (container_first shape) (at + 1) ≡ more next }
     ensures place { result.0 ≡ next }
     ensures reaches { Reaches settings bytes.now stacks.new result.0 (outcome stacks.new result.1)

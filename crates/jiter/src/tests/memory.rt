@@ -1,7 +1,8 @@
 //! What calls answer where memory is refused.
 use super::text_of;
-use crate::{JsonErrorType as Kind, JsonValue, PartialMode};
+use crate::{JsonErrorType as Kind, JsonValue, JsonValueScratch, PartialMode};
 use std::alloc::{AllocError, Global};
+use std::borrow::CowStr;
 use std::test::*;
 
 // The bytes that are kept back while all other memory is taken.
@@ -37,6 +38,13 @@ impl Held {
             size = size / 2;
         }
         Ok(Self { blocks, reserve })
+    }
+
+    // Takes the small blocks too that were let go before: they serve requests of their own size alone.
+    fn take_small(&mut self, alloc: Global) {
+        for taken in 0..64usize {
+            take_blocks(alloc, 1024 - 16 * taken, &mut self.blocks);
+        }
     }
 
     // Leaves so many bytes of the reserve to others.
@@ -111,6 +119,58 @@ fn each_refused_request_is_told(rt: HostRuntime) -> Result<(), Fail> {
         let told = refusals_are_told(alloc, bytes, mode, wanted, 12)?;
         assert!(rt; told, "{bytes:?}");
     }
+    Ok(())
+}
+
+// Asks for one vector for each container of a document that has a part, and one text for each decoded string.
+fn ask_for_value(alloc: Global) -> Result<(), AllocError> {
+    let _text = String::from_str(alloc, "a\nb")?;
+    let _inner: Vec<JsonValue<'static>> = Vec::with_capacity(alloc, 2)?;
+    let _letter = String::from_str(alloc, "l\n")?;
+    let _object: Vec<(CowStr<'static>, JsonValue<'static>)> = Vec::with_capacity(alloc, 2)?;
+    let _root: Vec<JsonValue<'static>> = Vec::with_capacity(alloc, 5)?;
+    Ok(())
+}
+
+// How much memory has to be left, in steps of 16 bytes, so that these requests are met.
+fn steps_for_value(alloc: Global) -> Result<usize, Fail> {
+    let mut held = Held::all(alloc)?;
+    held.take_small(alloc);
+    for steps in 0..128usize {
+        held.leave(alloc, 16 * steps)?;
+        let answer = ask_for_value(alloc);
+        held.give_back(alloc);
+        if answer.is_ok() {
+            return Ok(steps);
+        }
+    }
+    Ok(128)
+}
+
+// The same so that a scratch that has read these bytes reads them again.
+fn steps_for_scratch(alloc: Global, bytes: &[u8]) -> Result<usize, Fail> {
+    let mut scratch = JsonValueScratch::new(alloc);
+    let first = scratch.parse(bytes, false, PartialMode::Off)?;
+    let mut held = Held::all(alloc)?;
+    held.take_small(alloc);
+    for steps in 0..128usize {
+        held.leave(alloc, 16 * steps)?;
+        let answer = scratch.parse(bytes, false, PartialMode::Off);
+        held.give_back(alloc);
+        if let Ok(value) = answer {
+            return Ok(if value == first { steps } else { 128 });
+        }
+    }
+    Ok(128)
+}
+
+#[test]
+fn a_scratch_asks_again_for_its_value_alone(rt: HostRuntime) -> Result<(), Fail> {
+    let alloc = rt.alloc();
+    let bytes = br#"[1,["a\nb",[]],{},{"k":3,"l\n":"m"},"n"]"#.as_slice();
+    let alone = steps_for_value(alloc)?;
+    assert!(rt; 0 < alone && alone < 128);
+    assert_eq!(rt; steps_for_scratch(alloc, bytes)?, alone);
     Ok(())
 }
 

@@ -2,7 +2,7 @@ use Rattle.std.proofs.Common.{◌≡◌, ◌∙◌, sym, true, false}
 use Rattle.jiter_scan.specs.Kind.{fault_kind}
 use Rattle.jiter_scan.specs.PartialMode.{is_active}
 use Rattle.jiter_value.specs.Value.{view}
-use Rattle.jiter_value.proofs.Answering.{answer_by-front, answer_by-end, answer_by-trailing}
+use Rattle.jiter_value.proofs.WholeTextAnswers.{answer_by-front, answer_by-end, answer_by-trailing}
 use Rattle.jiter_value.proofs.reading.finish_whole.Goals as goal
 
 pub returns-then-is_active-clause-value : goal.returns-then-is_active-clause-value

@@ -6,7 +6,7 @@ use Rattle.jiter_steps.specs.Parse.{Gives}
 use Rattle.jiter_steps.specs.Read.{value_at}
 use Rattle.jiter_value.specs.Settings.{rules}
 use Rattle.jiter_value.specs.Value.{view}
-use Rattle.jiter_value.proofs.Answering.{value-begins-at, answer_by-none, answer_by-refused}
+use Rattle.jiter_value.proofs.WholeTextAnswers.{value-begins-at, answer_by-none, answer_by-refused}
 use Rattle.jiter_value.proofs.reading.read_whole_on.Goals as goal
 
 pub returns-in-Err-clause-value : goal.returns-in-Err-clause-value

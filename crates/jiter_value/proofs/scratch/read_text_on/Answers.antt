@@ -1,5 +1,5 @@
 use Rattle.std.proofs.Common.{◌≡◌, ◌≤◌, ◌∙◌, ap, subst, length}
-use Rattle.jiter_value.proofs.Parsed.{error-index, error-ends}
+use Rattle.jiter_value.proofs.ParsedDocuments.{error-index, error-ends}
 use Rattle.jiter_value.proofs.scratch.read_text_on.Goals as goal
 
 pub returns-in-Err-clause-index : goal.returns-in-Err-clause-index

@@ -5,7 +5,7 @@ use Rattle.jiter_value.specs.declared.stacks.Awaits.TheVariants as awaits
 use Rattle.jiter_steps.specs.Frames.{resume}
 use Rattle.jiter_value.specs.Settings.{rules}
 use Rattle.jiter_value.specs.Stacks.{frames, behind_in, HaveBases}
-use Rattle.jiter_value.proofs.Kept.{put-item, put-value, last-split, value-base}
+use Rattle.jiter_value.proofs.StackTurns.{put-item, put-value, last-split, value-base}
 use Rattle.jiter_value.specs.Size.{size, frames_size, behind_size_in}
 use Rattle.jiter_value.proofs.Sizes.{put-item-size, put-value-size, put-root-size}
 use Rattle.jiter_value.proofs.stacks.put_reserved.Goals as goal

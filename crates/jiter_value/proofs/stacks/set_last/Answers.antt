@@ -1,6 +1,6 @@
 use Rattle.std.proofs.Common.{◌≡◌, ◌-◌, ◌∷◌, [], ◌∙◌, ap, arith, length, length-append}
 use Rattle.std.specs.Prelude.{slice_set}
-use Rattle.jiter_value.proofs.Kept.{set-last}
+use Rattle.jiter_value.proofs.StackTurns.{set-last}
 use Rattle.jiter_value.proofs.stacks.set_last.Goals as goal
 
 pub returns : goal.returns

@@ -3,7 +3,7 @@ use Rattle.jiter_steps.specs.Step.{container_step}
 use Rattle.jiter_steps.specs.Step.{more, step}
 use Rattle.jiter_value.specs.Size.{behind_size, inside_size}
 use Rattle.jiter_value.specs.Stacks.{behind, container_ends, Stands, awaited_in}
-use Rattle.jiter_value.proofs.Reached.{fails-along}
+use Rattle.jiter_value.proofs.TurnOutcomes.{fails-along}
 use Rattle.jiter_value.proofs.Shapes.{reaches-part, inside-more, inside-ends, inside-fails, inside-stands, inside-size, part-within, not-root}
 use Rattle.jiter_value.proofs.turns.after.Goals as goal
 
@@ -22,7 +22,7 @@ returns-in-Part-clause-reaches c =
     rw c.part_of.ensures
     (reaches-part p t s h j (behind p t c.args.stacks.now c.args.awaits c.args.from)
     (l.invariant.2 ∙ ap (λ a. behind p t s a l.at) in_shape ∙ inside-more p t s h l.at j b next lt)
-    (part-within t s h j (inside-stands s h b) l.invariant.4 lt))
+    (part-within t s h j (inside-stands s h b) (λ array. l.invariant.4) (omega (arith, l.invariant.4)) lt))
 
 pub returns-then-not-ends-clause-reaches : goal.returns-then-not-ends-clause-reaches
 returns-then-not-ends-clause-reaches c =

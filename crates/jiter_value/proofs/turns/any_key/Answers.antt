@@ -12,8 +12,8 @@ use Rattle.jiter_value.specs.Stacks.{frames, from_key, HaveBases, key_fault}
 use Rattle.jiter_value.specs.Turns.{outcome}
 use Rattle.jiter_value.specs.declared.stacks.Awaits.TheVariants as awaits
 use Rattle.jiter_value.specs.declared.value.JsonValue.TheVariants.{Null}
-use Rattle.jiter_value.proofs.Kept.{key-opens, key-limit, key-fails, colon-fails, key-above}
-use Rattle.jiter_value.proofs.Reached.{gave-up, reaches-along, scalar-taken, scalar-failed}
+use Rattle.jiter_value.proofs.StackTurns.{key-opens, key-limit, key-fails, colon-fails, key-above}
+use Rattle.jiter_value.proofs.TurnOutcomes.{gave-up, reaches-along, scalar-taken, scalar-failed}
 use Rattle.jiter_value.proofs.turns.any_key.Goals as goal
 
 pub returns-then-len-gt-NESTING_LIMIT-clause-reaches : goal.returns-then-len-gt-NESTING_LIMIT-clause-reaches

@@ -5,7 +5,7 @@ use Rattle.jiter_steps.specs.Read.{done}
 use Rattle.jiter_value.specs.Stacks.{from_value, resume_with, empty_tree}
 use Rattle.jiter_value.specs.Size.{value_size}
 use Rattle.jiter_value.specs.Turns.{outcome}
-use Rattle.jiter_value.proofs.Reached.{reaches-along, root-grows, refused-weaker, fault-grows}
+use Rattle.jiter_value.proofs.TurnOutcomes.{reaches-along, root-grows, refused-weaker, fault-grows}
 use Rattle.jiter_value.proofs.Shapes.{first-ends, first-fails}
 use Rattle.jiter_value.proofs.turns.begin.Goals as goal
 

@@ -2,8 +2,8 @@ use Rattle.std.proofs.Common.{◌≡◌, ◌∙◌, sym, false, reverse}
 use Rattle.jiter_scan.specs.Kind.{fault_kind}
 use Rattle.jiter_value.specs.Settings.{forgives}
 use Rattle.jiter_value.specs.Stacks.{key_fault}
-use Rattle.jiter_value.proofs.Kept.{key-kept}
-use Rattle.jiter_value.proofs.Reached.{gave-up}
+use Rattle.jiter_value.proofs.StackTurns.{key-kept}
+use Rattle.jiter_value.proofs.TurnOutcomes.{gave-up}
 use Rattle.jiter_value.proofs.turns.fault_at_key.Goals as goal
 
 pub returns-then-not-forgives-clause-reaches : goal.returns-then-not-forgives-clause-reaches

@@ -4,13 +4,14 @@ use Rattle.std.proofs.lemmas.Result.{IfOk-weaker}
 use Rattle.jiter_scan.specs.Kind.{fault_kind}
 use Rattle.jiter_steps.specs.Frames.{resume}
 use Rattle.jiter_steps.specs.Read.{fault}
+use Rattle.jiter_steps.specs.declared.parse.Shape.TheVariants as shape
 use Rattle.jiter_value.specs.Settings.{forgives, rules}
-use Rattle.jiter_value.specs.Size.{frames_size, key_size_in}
-use Rattle.jiter_value.specs.Stacks.{frames, object_in, resume_with, HaveBases, HaveKeyBase}
+use Rattle.jiter_value.specs.Size.{frames_size, inside_size_in}
+use Rattle.jiter_value.specs.Stacks.{frames, container_in, resume_with, HaveBases, HaveKeyBase}
 use Rattle.jiter_value.specs.Turns.{outcome}
 use Rattle.jiter_value.specs.declared.stacks.Awaits.TheVariants as awaits
-use Rattle.jiter_value.proofs.Kept.{fault-kept, fault-value, last-split, value-base, key-of-value}
-use Rattle.jiter_value.proofs.Reached.{reaches-along, gave-up}
+use Rattle.jiter_value.proofs.StackTurns.{fault-kept, fault-value, last-split, value-base, key-of-value}
+use Rattle.jiter_value.proofs.TurnOutcomes.{reaches-along, gave-up}
 use Rattle.jiter_value.proofs.Sizes.{key-size}
 use Rattle.jiter_value.proofs.turns.fault_at_value.Goals as goal
 
@@ -49,7 +50,7 @@ returns-in-Value-clause-reaches c =
     let x = fault k a.problem.index i in
     let closes = ap (λ ys. resume (rules p) t (frames awaits.Value os es ys) x) last.1
     ∙ fault-value p t os es before last.0.0 last.0.1 k a.problem.index i below ok
-    ∙ ap (λ ys. object_in p t os es ys i) (sym popped) in
+    ∙ ap (λ ys. container_in p t shape.Object os es ys i) (sym popped) in
     let n = c.close_and_go_on-in-Value in
     rw c.in-Value.is
     (reaches-along p t n.new.stacks n.result.0 (outcome n.new.stacks n.result.1) _ _ closes n.ensures.reaches)
@@ -69,9 +70,9 @@ returns-in-Value-clause-held c =
     let long : length before ≡ length ms - 1 = length-take-le (length ms - 1) ms (omega arith) in
     let below : HaveKeyBase os (length es) (length before) = subst (λ n. HaveKeyBase os (length es) n) (sym long)
     (key-of-value os (length es) (length ms) b) in
-    let was : frames_size (frames awaits.Value os es ms) ≡ key_size_in os es before + 1 = ap
+    let was : frames_size (frames awaits.Value os es ms) ≡ inside_size_in shape.Object os es before + 1 = ap
     (λ ys. frames_size (frames awaits.Value os es ys)) last.1 ∙ key-size os es before last.0.0 last.0.1 below in
-    let outer : key_size_in os es c.pop.new.self.items ≡ key_size_in os es before = ap (λ ys. key_size_in os es ys) popped in
+    let outer : inside_size_in shape.Object os es c.pop.new.self.items ≡ inside_size_in shape.Object os es before = ap (λ ys. inside_size_in shape.Object os es ys) popped in
     let n = c.close_and_go_on-in-Value in
     rw c.in-Value.is
     (IfOk-weaker (outcome n.new.stacks n.result.1) _ _ (λ x e. omega (arith, e, outer, was)) n.ensures.held)

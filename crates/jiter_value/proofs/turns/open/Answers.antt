@@ -3,7 +3,7 @@ use Rattle.jiter_scan.specs.declared.errors.FaultKind.TheVariants.{RecursionLimi
 use Rattle.std.proofs.lemmas.List.{length-reverse}
 use Rattle.jiter_value.specs.Stacks.{from_value, base_of}
 use Rattle.jiter_value.specs.declared.stacks.Open.{Open}
-use Rattle.jiter_value.proofs.Reached.{gave-up}
+use Rattle.jiter_value.proofs.TurnOutcomes.{gave-up}
 use Rattle.jiter_value.proofs.Shapes.{shape-opens, reaches-part, array-too-deep, with_nest, part-held}
 use Rattle.jiter_value.proofs.turns.open.Goals as goal
 

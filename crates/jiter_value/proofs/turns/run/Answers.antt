@@ -1,5 +1,5 @@
 use Rattle.std.proofs.Common.{◌≡◌, inl, refl, ap, arith, length}
-use Rattle.jiter_value.proofs.Kept.{root-stands, root-begins}
+use Rattle.jiter_value.proofs.StackTurns.{root-stands, root-begins}
 use Rattle.jiter_value.proofs.turns.run.Goals as goal
 
 pub turning-init : goal.turning-init

@@ -7,8 +7,8 @@ use Rattle.jiter_value.specs.Settings.{rules}
 use Rattle.jiter_value.specs.Stacks.{from_value}
 use Rattle.jiter_value.specs.Turns.{outcome}
 use Rattle.jiter_value.specs.Value.{view}
-use Rattle.jiter_value.proofs.Kept.{value-read}
-use Rattle.jiter_value.proofs.Reached.{reaches-along}
+use Rattle.jiter_value.proofs.StackTurns.{value-read}
+use Rattle.jiter_value.proofs.TurnOutcomes.{reaches-along}
 use Rattle.jiter_value.proofs.turns.scalar_turn.Goals as goal
 
 pub returns-in-Ok-put-clause-reaches : goal.returns-in-Ok-put-clause-reaches

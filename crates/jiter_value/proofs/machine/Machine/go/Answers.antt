@@ -2,7 +2,7 @@ use Rattle.std.proofs.Common.{sym, subst}
 use Rattle.jiter_value.specs.Settings.{answer_by}
 use Rattle.jiter_value.specs.Stacks.{meaning}
 use Rattle.jiter_value.specs.Turns.{Fails}
-use Rattle.jiter_value.proofs.Answering.{answer_by-refused, error-answers, fails-gives}
+use Rattle.jiter_value.proofs.WholeTextAnswers.{answer_by-refused, error-answers, fails-gives}
 use Rattle.jiter_value.proofs.machine.Machine.go.Goals as goal
 
 pub returns-in-Refused : goal.returns-in-Refused

@@ -6,7 +6,7 @@ use Rattle.jiter_steps.specs.declared.read_error.ReadError.TheVariants as error
 use Rattle.jiter_value.specs.Machine.{IsUnderWay}
 use Rattle.jiter_value.specs.Settings.{answer_by}
 use Rattle.jiter_value.specs.declared.stacks.Awaits.TheVariants as awaits
-use Rattle.jiter_value.proofs.Answering.{answer_by-none, begins-under-way, error-answers}
+use Rattle.jiter_value.proofs.WholeTextAnswers.{answer_by-none, begins-under-way, error-answers}
 use Rattle.jiter_value.proofs.machine.Machine.turn.Goals as goal
 
 pub go-requires-in-Ok : goal.go-requires-in-Ok

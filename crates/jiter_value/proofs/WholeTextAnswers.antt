@@ -28,7 +28,7 @@ use Rattle.jiter_value.specs.Turns.{Fails}
 use Rattle.jiter_value.specs.declared.settings.Settings.{Settings}
 use Rattle.jiter_value.specs.declared.stacks.Awaits.TheVariants as awaits
 use Rattle.jiter_value.specs.declared.stacks.Stacks.{Stacks}
-use Rattle.jiter_value.proofs.Kept.{root-from, root-alone}
+use Rattle.jiter_value.proofs.StackTurns.{root-from, root-alone}
 use Rattle.jiter_value.specs.declared.value.JsonValue.{JsonValue}
 
 -- where a value begins, a byte stands behind blanks

@@ -25,7 +25,7 @@ use Rattle.jiter_steps.proofs.Prefixes.{EndsEarly, prefix-refused}
 use Rattle.jiter_value.specs.Reading.{GivesWhole, IsErrorOf}
 use Rattle.jiter_value.specs.Value.{view, Answers}
 use Rattle.jiter_value.specs.declared.value.JsonValue.{JsonValue}
-use Rattle.jiter_value.proofs.Answering.{answer_in-within}
+use Rattle.jiter_value.proofs.WholeTextAnswers.{answer_in-within}
 
 -- a container that is cut ends too early
 cut-early : (names : Bool) (t : List ℕ) → IsCutContainer names t → EndsEarly (answer names t)

@@ -4,27 +4,27 @@ use Rattle.std.specs.Prelude.{reverse, slice_set, slice_index}
 use Rattle.std.specs.declared.alloc.Global.{Global}
 use Rattle.std.specs.declared.borrow.CowStr.{CowStr}
 use Rattle.std.proofs.Math.Seq.{set-append_seam, get_or-append_seam}
-use Rattle.std.proofs.lemmas.List.{reverse-append, map_push, drop-append-le, take-append-le, take_all, take_more, drop_all}
+use Rattle.std.proofs.lemmas.List.{reverse-append, map_push, drop-append-le, take-append-le, take_all, take_more}
 use Rattle.jiter_scan.specs.Kind.{Kind, recursion_limit}
 use Rattle.jiter_scan.specs.Scanned.{taken, failed}
 use Rattle.jiter_scan.specs.declared.partial_mode.PartialMode.{PartialMode}
 use Rattle.jiter_scan.specs.declared.partial_mode.PartialMode.TheVariants.{Off, On, TrailingStrings}
 use Rattle.jiter_steps.specs.Answer.{value_form}
-use Rattle.jiter_steps.specs.Tree.{Text, Tree, array, object, items_of, members_of}
+use Rattle.jiter_steps.specs.Tree.{Text, Tree}
 use Rattle.jiter_steps.specs.Literal.{start_of}
-use Rattle.jiter_steps.specs.Step.{more, closed, stuck, step, array_first, array_step, object_first, object_step, object_colon}
+use Rattle.jiter_steps.specs.Step.{Step, more, closed, stuck, step, array_first, container_first, container_step, object_colon, opening}
 use Rattle.jiter_steps.specs.StringDecoder.{text_view}
 use Rattle.jiter_steps.specs.StringReading.{whole, string_at}
-use Rattle.jiter_steps.specs.Read.{Reading, done, fault, value_at}
-use Rattle.jiter_steps.specs.Frames.{Frame, items_frame, members_frame, resolve_step, resume, value_in, array_in, object_in, value_from, key_from, items_from, members_from}
+use Rattle.jiter_steps.specs.Read.{Reading, Container, done, fault, value_at}
+use Rattle.jiter_steps.specs.Frames.{Frame, items_frame, members_frame, resolve_step, resume, parts_from, parts_step, value_in, array_in, object_in, value_from, items_from, members_from}
+use Rattle.jiter_steps.specs.declared.parse.Shape.{Shape}
 use Rattle.jiter_steps.specs.declared.parse.Shape.TheVariants as shape
 use Rattle.jiter_steps.specs.declared.parse.Start.TheVariants as start
 use Rattle.jiter_steps.proofs.Values.{Advances}
 use Rattle.jiter_steps.proofs.Instances.{trees-advances}
 use Rattle.jiter_steps.proofs.Resumed.{IgnoresBegin, value_in-room, value_in-limit, if_forgiven-yes, if_forgiven-no, resume-fault, resume-forgiven, step-to, step-stuck, items-value, key-value, key-failed, colon-failed, container-begins}
 use Rattle.jiter_value.specs.Settings.{forgives, rules}
-use Rattle.jiter_value.specs.Stacks.{Member, member_view, last_key_of, last_key, front, frames, HaveBases, HaveKeyBase, key_in, key_fault_in, behind_in}
-use Rattle.jiter_value.specs.Stacks as stacks
+use Rattle.jiter_value.specs.Stacks.{Member, member_view, last_key_of, last_key, front, frames, PartTree, built, parts_above, frames_below, HaveBases, HaveKeyBase, key_in, key_fault_in, behind_in, container_in, awaited_in, empty_tree}
 use Rattle.jiter_value.specs.Value.{view}
 use Rattle.jiter_value.specs.declared.settings.Settings.{Settings}
 use Rattle.jiter_value.specs.declared.stacks.Awaits.{Awaits}
@@ -130,79 +130,78 @@ module _ (p : Settings) (t : List ℕ) where
   put-root (o ∷ os) es ms v e h = absurd h
 
   -- A container ends.
-  pub array-closes : (init : List Open) (o : Open) (es rest : List JsonValue) (ms : List Member) (v : JsonValue) (e : ℕ) → rest ≡ take o.base es → view v ≡ array (items_of (map view (drop o.base es)))
-      → stacks.array_in p t (reverse (init ++ o ∷ [])) es ms e ≡ resume (rules p) t (frames o.outer (reverse init) rest ms) (done (view v) e)
-  array-closes init o es rest ms v e left made =
-      ap (λ os. stacks.array_in p t os es ms e) (reverse-append init (o ∷ []))
-      ∙ ap₂ (λ xs y. resume (rules p) t (frames o.outer (reverse init) xs ms) (done y e)) (sym left) (sym made)
+  pub container-closes : (h : Shape) (nest init : List Open) (o : Open) (es : List JsonValue) (ms : List Member) (fs : List (Frame Text Tree)) (x : Tree) (e : ℕ)
+      → nest ≡ init ++ o ∷ [] → fs ≡ frames_below h o (reverse init) es ms → x ≡ built h (parts_above h o.base es ms)
+      → container_in p t h (reverse nest) es ms e ≡ resume (rules p) t fs (done x e)
+  container-closes h nest init o es ms fs x e is below made =
+      ap (λ os. container_in p t h os es ms e) (ap reverse is ∙ reverse-append init (o ∷ []))
+      ∙ ap₂ (λ gs y. resume (rules p) t gs (done y e)) (sym below) (sym made)
 
-  pub object-closes : (init : List Open) (o : Open) (es : List JsonValue) (ms rest : List Member) (v : JsonValue) (e : ℕ) → rest ≡ take o.base ms → view v ≡ object (members_of (map member_view (drop o.base ms)))
-      → stacks.object_in p t (reverse (init ++ o ∷ [])) es ms e ≡ resume (rules p) t (frames o.outer (reverse init) es rest) (done (view v) e)
-  object-closes init o es ms rest v e left made =
-      ap (λ os. stacks.object_in p t os es ms e) (reverse-append init (o ∷ []))
-      ∙ ap₂ (λ xs y. resume (rules p) t (frames o.outer (reverse init) es xs) (done y e)) (sym left) (sym made)
+  -- Behind a part: the step that is taken there, inside what stands below.
+  abbrev pub container_of : (h : Shape) → ℕ → Container (PartTree h) Tree
+  container_of shape.Array depth = array_in (rules p) t depth
+  container_of shape.Object depth = object_in (rules p) t depth
 
-  -- Behind a value.
-  pub items-more : (os : List Open) (es : List JsonValue) (ms : List Member) (root : JsonValue) (e j : ℕ)
-      → HaveBases awaits.Item os (length es) (length ms)
-      → resolve_step (forgives p.mode) (step t (array_step t) e) ≡ more j → j < length t
-      → behind_in p t awaits.Item os es ms root e ≡ value_from (rules p) t (frames awaits.Item os es ms) j
-  items-more [] es ms root e j b s h = absurd b
-  items-more (o ∷ os) es ms root e j b s h =
-      let fs = frames o.outer os (take o.base es) ms in
-      let items = map view (drop o.base es) in
-      step-to (rules p) t (array_in (rules p) t (length fs)) fs items (step t (array_step t) e) (more j) s
-      ∙ items-value (rules p) t good fs items j h
+  builds : (h : Shape) (depth e : ℕ) (xs : List (PartTree h)) → (container_of h depth).build e xs ≡ built h xs
+  builds shape.Array depth e xs = refl
+  builds shape.Object depth e xs = refl
 
-  pub items-closed : (os : List Open) (es : List JsonValue) (ms : List Member) (root : JsonValue) (e c : ℕ)
-      → HaveBases awaits.Item os (length es) (length ms)
-      → resolve_step (forgives p.mode) (step t (array_step t) e) ≡ closed c
-      → behind_in p t awaits.Item os es ms root e ≡ stacks.array_in p t os es ms c
-  items-closed [] es ms root e c b s = absurd b
-  items-closed (o ∷ os) es ms root e c b s =
-      let fs = frames o.outer os (take o.base es) ms in
-      step-to (rules p) t (array_in (rules p) t (length fs)) fs (map view (drop o.base es)) (step t (array_step t) e)
-      (closed c) s
+  builds-empty : (h : Shape) (depth e : ℕ) → (container_of h depth).build e [] ≡ empty_tree h
+  builds-empty shape.Array depth e = refl
+  builds-empty shape.Object depth e = refl
 
-  pub items-stuck : (os : List Open) (es : List JsonValue) (ms : List Member) (root : JsonValue) (e j : ℕ) (k : Kind)
-      → HaveBases awaits.Item os (length es) (length ms)
-      → resolve_step (forgives p.mode) (step t (array_step t) e) ≡ stuck k j
-      → forgives p.mode k ≡ false → behind_in p t awaits.Item os es ms root e ≡ fault k j j
-  items-stuck [] es ms root e j k b s bad = absurd b
-  items-stuck (o ∷ os) es ms root e j k b s bad =
-      let fs = frames o.outer os (take o.base es) ms in
-      step-stuck (rules p) t (array_in (rules p) t (length fs)) fs (map view (drop o.base es))
-      (step t (array_step t) e) k j s bad
+  outermost : (h : Shape) (n m : ℕ) → HaveBases (awaited_in h) [] n m → ⊥
+  outermost shape.Array n m b = b
+  outermost shape.Object n m b = b
 
-  pub members-more : (os : List Open) (es : List JsonValue) (ms : List Member) (root : JsonValue) (e j : ℕ)
-      → HaveBases awaits.Value os (length es) (length ms)
-      → resolve_step (forgives p.mode) (step t (object_step t) e) ≡ more j
-      → behind_in p t awaits.Value os es ms root e ≡ key_in p t os es ms j
-  members-more [] es ms root e j b s = absurd b
-  members-more (o ∷ os) es ms root e j b s =
-      let fs = frames o.outer os es (take o.base ms) in
-      step-to (rules p) t (object_in (rules p) t (length fs)) fs (map member_view (drop o.base ms))
-      (step t (object_step t) e) (more j) s
+  behind-part : (h : Shape) (o : Open) (os : List Open) (es : List JsonValue) (ms : List Member) (root : JsonValue) (e : ℕ)
+      → behind_in p t (awaited_in h) (o ∷ os) es ms root e ≡ resume (rules p) t (frames_below h o os es ms) (parts_step (rules p) t (container_of h (length (frames_below h o os es ms))) (parts_above h o.base es ms) (step t (container_step h t) e))
+  behind-part shape.Array o os es ms root e = refl
+  behind-part shape.Object o os es ms root e = refl
 
-  pub members-closed : (os : List Open) (es : List JsonValue) (ms : List Member) (root : JsonValue) (e c : ℕ)
-      → HaveBases awaits.Value os (length es) (length ms)
-      → resolve_step (forgives p.mode) (step t (object_step t) e) ≡ closed c
-      → behind_in p t awaits.Value os es ms root e ≡ stacks.object_in p t os es ms c
-  members-closed [] es ms root e c b s = absurd b
-  members-closed (o ∷ os) es ms root e c b s =
-      let fs = frames o.outer os es (take o.base ms) in
-      step-to (rules p) t (object_in (rules p) t (length fs)) fs (map member_view (drop o.base ms))
-      (step t (object_step t) e) (closed c) s
+  -- a part of the innermost container is awaited at j
+  abbrev pub part_in : Shape → List Open → List JsonValue → List Member → ℕ → Reading Tree
+  part_in shape.Array os es ms j = value_from (rules p) t (frames awaits.Item os es ms) j
+  part_in shape.Object os es ms j = key_in p t os es ms j
 
-  pub members-stuck : (os : List Open) (es : List JsonValue) (ms : List Member) (root : JsonValue) (e j : ℕ) (k : Kind)
-      → HaveBases awaits.Value os (length es) (length ms)
-      → resolve_step (forgives p.mode) (step t (object_step t) e) ≡ stuck k j
-      → forgives p.mode k ≡ false → behind_in p t awaits.Value os es ms root e ≡ fault k j j
-  members-stuck [] es ms root e j k b s bad = absurd b
-  members-stuck (o ∷ os) es ms root e j k b s bad =
-      let fs = frames o.outer os es (take o.base ms) in
-      step-stuck (rules p) t (object_in (rules p) t (length fs)) fs (map member_view (drop o.base ms))
-      (step t (object_step t) e) k j s bad
+  pub next-part : (h : Shape) (o : Open) (os : List Open) (es : List JsonValue) (ms : List Member) (j : ℕ) → j < length t
+      → resume (rules p) t (frames_below h o os es ms) (parts_from (rules p) t (container_of h (length (frames_below h o os es ms))) (parts_above h o.base es ms) j) ≡ part_in h (o ∷ os) es ms j
+  next-part shape.Array o os es ms j h =
+      items-value (rules p) t good (frames o.outer os (take o.base es) ms) (map view (drop o.base es)) j h
+  next-part shape.Object o os es ms j h = refl
+
+  module _ (h : Shape) (es : List JsonValue) (ms : List Member) (root : JsonValue) (e : ℕ) where
+    pub behind-more : (os : List Open) (j : ℕ) → HaveBases (awaited_in h) os (length es) (length ms)
+        → resolve_step (forgives p.mode) (step t (container_step h t) e) ≡ more j → j < length t
+        → behind_in p t (awaited_in h) os es ms root e ≡ part_in h os es ms j
+    behind-more [] j b s lt = absurd (outermost h (length es) (length ms) b)
+    behind-more (o ∷ os) j b s lt =
+        let fs = frames_below h o os es ms in
+        behind-part h o os es ms root e
+        ∙ step-to (rules p) t (container_of h (length fs)) fs (parts_above h o.base es ms) (step t (container_step h t) e)
+        (more j) s
+        ∙ next-part h o os es ms j lt
+
+    pub behind-closed : (os : List Open) (c : ℕ) → HaveBases (awaited_in h) os (length es) (length ms)
+        → resolve_step (forgives p.mode) (step t (container_step h t) e) ≡ closed c
+        → behind_in p t (awaited_in h) os es ms root e ≡ container_in p t h os es ms c
+    behind-closed [] c b s = absurd (outermost h (length es) (length ms) b)
+    behind-closed (o ∷ os) c b s =
+        let fs = frames_below h o os es ms in
+        let xs = parts_above h o.base es ms in
+        behind-part h o os es ms root e
+        ∙ step-to (rules p) t (container_of h (length fs)) fs xs (step t (container_step h t) e) (closed c) s
+        ∙ ap (λ y. resume (rules p) t fs (done y c)) (builds h (length fs) c xs)
+
+    pub behind-stuck : (os : List Open) (j : ℕ) (k : Kind) → HaveBases (awaited_in h) os (length es) (length ms)
+        → resolve_step (forgives p.mode) (step t (container_step h t) e) ≡ stuck k j → forgives p.mode k ≡ false
+        → behind_in p t (awaited_in h) os es ms root e ≡ fault k j j
+    behind-stuck [] j k b s bad = absurd (outermost h (length es) (length ms) b)
+    behind-stuck (o ∷ os) j k b s bad =
+        let fs = frames_below h o os es ms in
+        behind-part h o os es ms root e
+        ∙ step-stuck (rules p) t (container_of h (length fs)) fs (parts_above h o.base es ms)
+        (step t (container_step h t) e) k j s bad
 
   -- A fault where a value is awaited.
   pub fault-kept : (a : Awaits) (os : List Open) (es : List JsonValue) (ms : List Member) (k : Kind) (x stop : ℕ)
@@ -211,14 +210,14 @@ module _ (p : Settings) (t : List ℕ) where
 
   pub fault-item : (os : List Open) (es : List JsonValue) (ms : List Member) (k : Kind) (x stop : ℕ)
       → HaveBases awaits.Item os (length es) (length ms) → forgives p.mode k ≡ true
-      → resume (rules p) t (frames awaits.Item os es ms) (fault k x stop) ≡ stacks.array_in p t os es ms stop
+      → resume (rules p) t (frames awaits.Item os es ms) (fault k x stop) ≡ container_in p t shape.Array os es ms stop
   fault-item [] es ms k x stop b ok = absurd b
   fault-item (o ∷ os) es ms k x stop b ok =
       resume-forgiven (rules p) t (items_frame (map view (drop o.base es)))
       (frames o.outer os (take o.base es) ms) k x stop ok
 
   pub fault-value : (os : List Open) (es : List JsonValue) (before : List Member) (key : CowStr Global) (old : JsonValue) (k : Kind) (x stop : ℕ) → HaveKeyBase os (length es) (length before) → forgives p.mode k ≡ true
-      → resume (rules p) t (frames awaits.Value os es (before ++ (key, old) ∷ [])) (fault k x stop) ≡ stacks.object_in p t os es before stop
+      → resume (rules p) t (frames awaits.Value os es (before ++ (key, old) ∷ [])) (fault k x stop) ≡ container_in p t shape.Object os es before stop
   fault-value [] es before key old k x stop b ok = absurd b
   fault-value (o ∷ os) es before key old k x stop b ok =
       ap (λ fs. resume (rules p) t fs (fault k x stop)) (value-frames o os es before key old b.0)
@@ -248,15 +247,25 @@ module _ (p : Settings) (t : List ℕ) where
         → value_from (rules p) t fs i ≡ resume (rules p) t fs x
     value-read x is = ap (resume (rules p) t fs) (value_in-room (rules p) t (length fs) i low ∙ is (200 - length fs))
 
-    pub array-opens : (j : ℕ) (o : Open) → o ≡ record { outer = a; base = length es } → j < length t
-        → start_of (slice_index t i) ≡ start.Array → resolve_step (forgives p.mode) (step t array_first (i + 1)) ≡ more j
-        → value_from (rules p) t fs i ≡ value_from (rules p) t (frames awaits.Item (o ∷ os) es ms) j
-    array-opens j o eq h is s =
-        let none : [] ≡ map view (drop (length es) es) = sym (ap (map view) (drop_all (length es) es (omega arith))) in
-        let same : es ≡ take (length es) es = sym (take_all (length es) es (omega arith)) in
-        container-begins (rules p) t good any fs i (more j) low shape.Array is s ∙ items-value (rules p) t good fs [] j h
-        ∙ ap₂ (λ xs ys. value_from (rules p) t (items_frame xs ∷ frames a os ys ms) j) none same
-        ∙ ap (λ q. value_from (rules p) t (frames awaits.Item (q ∷ os) es ms) j) (sym eq)
+    -- a container begins, by where the step behind its bracket leads
+    pub begins : (h : Shape) (u : Step) → start_of (slice_index t i) ≡ opening h
+        → resolve_step (forgives p.mode) (step t (container_first h) (i + 1)) ≡ u
+        → value_from (rules p) t fs i ≡ resume (rules p) t fs (parts_step (rules p) t (container_of h (length fs)) [] u)
+    begins shape.Array u is s = container-begins (rules p) t good any fs i u low shape.Array is s
+    begins shape.Object u is s = container-begins (rules p) t good any fs i u low shape.Object is s
+
+    pub begins-closed : (h : Shape) (c : ℕ) → start_of (slice_index t i) ≡ opening h
+        → resolve_step (forgives p.mode) (step t (container_first h) (i + 1)) ≡ closed c
+        → value_from (rules p) t fs i ≡ resume (rules p) t fs (done (empty_tree h) c)
+    begins-closed h c is s =
+        begins h (closed c) is s ∙ ap (λ y. resume (rules p) t fs (done y c)) (builds-empty h (length fs) c)
+
+    pub begins-stuck : (h : Shape) (j : ℕ) (k : Kind) → start_of (slice_index t i) ≡ opening h
+        → resolve_step (forgives p.mode) (step t (container_first h) (i + 1)) ≡ stuck k j → forgives p.mode k ≡ false
+        → value_from (rules p) t fs i ≡ fault k j j
+    begins-stuck h j k is s bad =
+        begins h (stuck k j) is s
+        ∙ step-stuck (rules p) t (container_of h (length fs)) fs [] (stuck k j) k j (kept k j bad) bad
 
     pub array-limit : (j : ℕ) → length os ≡ 200 → j < length t → start_of (slice_index t i) ≡ start.Array
         → resolve_step (forgives p.mode) (step t array_first (i + 1)) ≡ more j
@@ -268,45 +277,6 @@ module _ (p : Settings) (t : List ℕ) where
         ∙ ap (λ n. resume (rules p) t (f ∷ fs) (value_in (rules p) t n j)) d
         ∙ ap (resume (rules p) t (f ∷ fs)) (value_in-limit (rules p) t j)
         ∙ resume-fault (rules p) t (f ∷ fs) recursion_limit j j (limit-kept p.mode)
-
-    pub array-empty : (c : ℕ) (v : Tree) → start_of (slice_index t i) ≡ start.Array
-        → resolve_step (forgives p.mode) (step t array_first (i + 1)) ≡ closed c → v ≡ array (items_of [])
-        → value_from (rules p) t fs i ≡ resume (rules p) t fs (done v c)
-    array-empty c v is s made =
-        container-begins (rules p) t good any fs i (closed c) low shape.Array is s
-        ∙ ap (λ y. resume (rules p) t fs (done y c)) (sym made)
-
-    pub array-stuck : (j : ℕ) (k : Kind) → start_of (slice_index t i) ≡ start.Array
-        → resolve_step (forgives p.mode) (step t array_first (i + 1)) ≡ stuck k j → forgives p.mode k ≡ false
-        → value_from (rules p) t fs i ≡ fault k j j
-    array-stuck j k is s bad =
-        container-begins (rules p) t good any fs i (stuck k j) low shape.Array is s
-        ∙ step-stuck (rules p) t (array_in (rules p) t (length fs)) fs [] (stuck k j) k j (kept k j bad) bad
-
-    pub object-opens : (j : ℕ) (o : Open) → o ≡ record { outer = a; base = length ms }
-        → start_of (slice_index t i) ≡ start.Object → resolve_step (forgives p.mode) (step t object_first (i + 1)) ≡ more j
-        → value_from (rules p) t fs i ≡ key_in p t (o ∷ os) es ms j
-    object-opens j o eq is s =
-        let none : [] ≡ map member_view (drop (length ms) ms) = sym
-        (ap (map member_view) (drop_all (length ms) ms (omega arith))) in
-        let same : ms ≡ take (length ms) ms = sym (take_all (length ms) ms (omega arith)) in
-        container-begins (rules p) t good any fs i (more j) low shape.Object is s
-        ∙ ap₂ (λ xs ys. key_from (rules p) t (frames a os es ys) xs j) none same
-        ∙ ap (λ q. key_in p t (q ∷ os) es ms j) (sym eq)
-
-    pub object-empty : (c : ℕ) (v : Tree) → start_of (slice_index t i) ≡ start.Object
-        → resolve_step (forgives p.mode) (step t object_first (i + 1)) ≡ closed c → v ≡ object (members_of [])
-        → value_from (rules p) t fs i ≡ resume (rules p) t fs (done v c)
-    object-empty c v is s made =
-        container-begins (rules p) t good any fs i (closed c) low shape.Object is s
-        ∙ ap (λ y. resume (rules p) t fs (done y c)) (sym made)
-
-    pub object-stuck : (j : ℕ) (k : Kind) → start_of (slice_index t i) ≡ start.Object
-        → resolve_step (forgives p.mode) (step t object_first (i + 1)) ≡ stuck k j → forgives p.mode k ≡ false
-        → value_from (rules p) t fs i ≡ fault k j j
-    object-stuck j k is s bad =
-        container-begins (rules p) t good any fs i (stuck k j) low shape.Object is s
-        ∙ step-stuck (rules p) t (object_in (rules p) t (length fs)) fs [] (stuck k j) k j (kept k j bad) bad
 
   -- A key begins.
   pub key-opens : (os : List Open) (es : List JsonValue) (ms : List Member) (j : ℕ) (k : CowStr Global) (e m : ℕ)
@@ -360,7 +330,7 @@ module _ (p : Settings) (t : List ℕ) where
 
   pub key-forgiven : (os : List Open) (es : List JsonValue) (ms : List Member) (k : Kind) (x stop : ℕ)
       → HaveKeyBase os (length es) (length ms) → forgives p.mode k ≡ true
-      → key_fault_in p t os es ms k x stop ≡ stacks.object_in p t os es ms stop
+      → key_fault_in p t os es ms k x stop ≡ container_in p t shape.Object os es ms stop
   key-forgiven [] es ms k x stop b ok = absurd b
   key-forgiven (o ∷ os) es ms k x stop b ok =
       ap (resume (rules p) t (frames o.outer os es (take o.base ms)))
@@ -386,14 +356,6 @@ array-below init o n m h = subst (λ os. HaveBases awaits.Item os n m) (reverse-
 pub object-below : (init : List Open) (o : Open) (n m : ℕ) → HaveKeyBase (reverse (init ++ o ∷ [])) n m
     → (o.base ≤ m) × HaveBases o.outer (reverse init) n o.base
 object-below init o n m h = subst (λ os. HaveKeyBase os n m) (reverse-append init (o ∷ [])) h
-
-pub array-above : (a : Awaits) (os : List Open) (n m : ℕ) → HaveBases a os n m
-    → HaveBases awaits.Item (record { outer = a; base = n } ∷ os) n m
-array-above a os n m h = let le : n ≤ n = omega arith in (le, h)
-
-pub object-above : (a : Awaits) (os : List Open) (n m : ℕ) → HaveBases a os n m
-    → HaveKeyBase (record { outer = a; base = m } ∷ os) n m
-object-above a os n m h = let le : m ≤ m = omega arith in (le, h)
 
 pub key-above : (os : List Open) (n m : ℕ) → HaveKeyBase os n m → HaveBases awaits.Value os n (m + 1)
 key-above [] n m h = absurd h
