@@ -15,6 +15,7 @@ mod kernels;
 mod large;
 mod memory;
 mod owned;
+mod owning;
 mod partial;
 mod reader;
 mod readme;

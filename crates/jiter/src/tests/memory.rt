@@ -5,8 +5,10 @@ use std::alloc::{AllocError, Global};
 use std::borrow::CowStr;
 use std::test::*;
 
-// The bytes that are kept back while all other memory is taken.
-const RESERVE: usize = 65_536;
+// The bytes that are kept back while all other memory is taken, and of these the bytes that are kept back again.
+const RESERVE: usize = 120_000;
+
+const INNER_RESERVE: usize = 4_096;
 
 // All memory, but what was left of the reserve. Under `rt try` the allocator keeps some to itself, and the tests
 // that refuse requests fail there.
@@ -36,6 +38,10 @@ impl Held {
         for _ in 0..44 {
             take_blocks(alloc, size, &mut blocks);
             size = size / 2;
+        }
+        // Small blocks that were freed are kept apart by their size.
+        for step in 0..64 {
+            take_blocks(alloc, 24 + 16 * step, &mut blocks);
         }
         Ok(Self { blocks, reserve })
     }
