@@ -1,15 +1,34 @@
 //! The pull reader's steps through arrays.
-ghost use Rattle.std.specs.Prelude.{◌≡◌, ◌<◌, length, option_map};
+ghost use Rattle.std.specs.Prelude.{◌≡◌, ◌<◌, ◌≤◌, IfErr, IfOk, length, option_map, true};
 ghost use Rattle.jiter_scan.specs.Ascii as ascii;
-ghost use Rattle.jiter.specs.Reader.{next, known, array_read, item_step};
+ghost use Rattle.jiter_steps.specs.Parse.{Steps};
+ghost use Rattle.jiter_steps.specs.Step.{Step};
+ghost use Rattle.jiter.specs.Reader.{next, known, array_read, item_reply, item_step};
 ghost use Rattle.jiter.specs.Jiter.{MovesOn, Replies, RefusesBytes, BeginsAs, StandsAt, byte_of};
 
 use crate::errors::{JiterResult, JsonType};
 use crate::jiter::{Jiter, refusal};
 use crate::peek::Peek;
+use jiter_scan::errors::Fault;
 use jiter_steps::parse::{Shape, Start, start_of};
 
 impl<'j> Jiter<'j> {
+    // Where a step led: an item's first byte, or None behind the closer.
+    fn item(&self, led: Result<bool, Fault>) -> JiterResult<Option<Peek>>
+        requires within { self.now.position ≤ length self.now.text }
+        requires inside { IfOk led (λ more. more ≡ true → self.now.position < length self.now.text) }
+        requires stuck { IfErr led (λ f. f.index ≡ self.now.position) }
+        ensures value { (s : Step) → Steps led self.now.position s
+            → Replies (option_map byte_of) result self.now (item_reply self.now.text s) }
+        ensures refusal { RefusesBytes self.now.text result }
+    {
+        match led {
+            Ok(true) => Ok(Some(Peek::new(self.parser.bytes[self.parser.index]))),
+            Ok(false) => Ok(None),
+            Err(fault) => Err(refusal(fault)),
+        }
+    }
+
     // The first item of an array, at a value that begins so.
     fn read_array(&mut self, start: Start) -> JiterResult<Option<Peek>>
         requires { BeginsAs self.old start }
@@ -19,11 +38,10 @@ impl<'j> Jiter<'j> {
         ensures refusal { RefusesBytes self.old.text result }
     {
         match start {
-            Start::Array => match self.parser.first(Shape::Array) {
-                Ok(true) => Ok(Some(Peek::new(self.parser.bytes[self.parser.index]))),
-                Ok(false) => Ok(None),
-                Err(fault) => Err(refusal(fault)),
-            },
+            Start::Array => {
+                let led = self.parser.first(Shape::Array);
+                self.item(led)
+            }
             _ => Err(self.refused_as(JsonType::Array, start)),
         }
     }
@@ -60,10 +78,7 @@ impl<'j> Jiter<'j> {
         ensures value { Replies (option_map byte_of) result self.new (item_step self.old) }
         ensures refusal { RefusesBytes self.old.text result }
     {
-        match self.parser.step(Shape::Array) {
-            Ok(true) => Ok(Some(Peek::new(self.parser.bytes[self.parser.index]))),
-            Ok(false) => Ok(None),
-            Err(fault) => Err(refusal(fault)),
-        }
+        let led = self.parser.step(Shape::Array);
+        self.item(led)
     }
 }

@@ -1,18 +1,20 @@
 //! The pull reader's steps through objects.
 ghost use Rattle.std.specs.Borrow.{sem};
-ghost use Rattle.std.specs.Prelude.{◌≡◌, ◌+◌, ◌<◌, ◌≤◌, ℕ, IfOk, Some, length, option_map};
+ghost use Rattle.std.specs.Prelude.{◌≡◌, ◌+◌, ◌<◌, ◌≤◌, ℕ, IfErr, IfOk, Some, length, option_map, true};
 ghost use Rattle.jiter_scan.specs.Ascii as ascii;
+ghost use Rattle.jiter_steps.specs.Parse.{Steps};
 ghost use Rattle.jiter_steps.specs.RawString.{raw_view};
-ghost use Rattle.jiter_steps.specs.Step.{step, colon, object_first, object_step, more};
+ghost use Rattle.jiter_steps.specs.Step.{Step, step, colon, object_first, object_step, more};
 ghost use Rattle.jiter_steps.specs.StringDecoder.{text_view, WantsMemory};
 ghost use Rattle.jiter_steps.specs.StringReading.{string_at, whole, raw};
 ghost use Rattle.jiter_steps.specs.Tree.{Text};
-ghost use Rattle.jiter.specs.Reader.{value_place, next, known, gave, key_reply, colon_reply, object_read, key_step};
+ghost use Rattle.jiter.specs.Reader.{value_place, next, known, gave, key_reply, colon_reply, member_reply, object_read, key_step};
 ghost use Rattle.jiter.specs.Jiter.{MovesOn, Replies, RefusesBytes, UnlessMemory, WhereMemory, IndexWithin, reply_seen, key_bytes, BeginsAs, StandsAt};
 ghost use Rattle.jiter.specs.Lending.{LeavesReader};
 
 use crate::errors::{JiterResult, JsonType};
 use crate::jiter::{Jiter, refusal};
+use jiter_scan::errors::Fault;
 use jiter_steps::parse::{Shape, Start, start_of};
 use std::alloc::Global;
 use std::borrow::CowStr;
@@ -52,6 +54,31 @@ impl<'j> Jiter<'j> {
         }
     }
 
+    // Where a step led: the key there, with its colon, or None behind the closer.
+    fn key_there(
+        &mut self,
+        alloc: Global,
+        led: Result<bool, Fault>,
+    ) -> JiterResult<Option<CowStr<'j>>>
+        requires within { self.old.position ≤ length self.old.text }
+        requires inside { IfOk led (λ more. more ≡ true → self.old.position < length self.old.text) }
+        requires stuck { IfErr led (λ f. f.index ≡ self.old.position) }
+        ensures moves { MovesOn self.old self.new }
+        ensures value { (s : Step) → Steps led self.old.position s
+            → UnlessMemory result (Replies (option_map text_view) result self.new
+            (member_reply whole self.old.text s)) }
+        ensures index { IndexWithin self.old.text result }
+        ensures memory { (s : Step) → Steps led self.old.position s
+            → WhereMemory result (λ e. WantsMemory self.old.text e.index × (s ≡ more e.index)) }
+        ensures place { WhereMemory result (λ e. self.new.position ≡ e.index) }
+    {
+        match led {
+            Ok(true) => self.key(alloc),
+            Ok(false) => Ok(None),
+            Err(fault) => Err(refusal(fault)),
+        }
+    }
+
     // The first key of an object, at a value that begins so.
     fn first_key(&mut self, alloc: Global, start: Start) -> JiterResult<Option<CowStr<'j>>>
         requires { BeginsAs self.old start }
@@ -64,11 +91,10 @@ impl<'j> Jiter<'j> {
         ensures place { WhereMemory result (λ e. self.new.position ≡ e.index) }
     {
         match start {
-            Start::Object => match self.parser.first(Shape::Object) {
-                Ok(true) => self.key(alloc),
-                Ok(false) => Ok(None),
-                Err(fault) => Err(refusal(fault)),
-            },
+            Start::Object => {
+                let led = self.parser.first(Shape::Object);
+                self.key_there(alloc, led)
+            }
             _ => Err(self.refused_as(JsonType::Object, start)),
         }
     }
@@ -99,11 +125,8 @@ impl<'j> Jiter<'j> {
             × (step self.old.text (object_step self.old.text) self.old.position ≡ more e.index)) }
         ensures place { WhereMemory result (λ e. self.new.position ≡ e.index) }
     {
-        match self.parser.step(Shape::Object) {
-            Ok(true) => self.key(alloc),
-            Ok(false) => Ok(None),
-            Err(fault) => Err(refusal(fault)),
-        }
+        let led = self.parser.step(Shape::Object);
+        self.key_there(alloc, led)
     }
 
     // The raw key where the reader stands, with its colon.
@@ -123,6 +146,23 @@ impl<'j> Jiter<'j> {
         }
     }
 
+    // Where a step led: the raw key there, with its colon, or None behind the closer.
+    fn key_bytes_there(&mut self, led: Result<bool, Fault>) -> JiterResult<Option<&'j [u8]>>
+        requires within { self.old.position ≤ length self.old.text }
+        requires inside { IfOk led (λ more. more ≡ true → self.old.position < length self.old.text) }
+        requires stuck { IfErr led (λ f. f.index ≡ self.old.position) }
+        ensures moves { MovesOn self.old self.new }
+        ensures value { (s : Step) → Steps led self.old.position s
+            → Replies (option_map raw_view) result self.new (member_reply raw self.old.text s) }
+        ensures refusal { RefusesBytes self.old.text result }
+    {
+        match led {
+            Ok(true) => self.key_bytes(),
+            Ok(false) => Ok(None),
+            Err(fault) => Err(refusal(fault)),
+        }
+    }
+
     // The first raw key of an object, at a value that begins so.
     fn first_key_bytes(&mut self, start: Start) -> JiterResult<Option<&'j [u8]>>
         requires { BeginsAs self.old start }
@@ -132,11 +172,10 @@ impl<'j> Jiter<'j> {
         ensures refusal { RefusesBytes self.old.text result }
     {
         match start {
-            Start::Object => match self.parser.first(Shape::Object) {
-                Ok(true) => self.key_bytes(),
-                Ok(false) => Ok(None),
-                Err(fault) => Err(refusal(fault)),
-            },
+            Start::Object => {
+                let led = self.parser.first(Shape::Object);
+                self.key_bytes_there(led)
+            }
             _ => Err(self.refused_as(JsonType::Object, start)),
         }
     }
@@ -163,11 +202,8 @@ impl<'j> Jiter<'j> {
         ensures value { Replies (option_map raw_view) result self.new (key_step raw self.old) }
         ensures refusal { RefusesBytes self.old.text result }
     {
-        match self.parser.step(Shape::Object) {
-            Ok(true) => self.key_bytes(),
-            Ok(false) => Ok(None),
-            Err(fault) => Err(refusal(fault)),
-        }
+        let led = self.parser.step(Shape::Object);
+        self.key_bytes_there(led)
     }
 
     /// An object's first key, decoded, with its colon consumed; None where the object is empty, and then its
