@@ -62,10 +62,7 @@ fn build_number(alloc: Global, jiter: &mut Jiter<'_>, peek: Peek) -> JiterResult
     ensures value { LeavesAt view result jiter.old jiter.new (built jiter.old 0 Start.Number) }
     ensures index { IndexWithin jiter.old.text result }
 {
-    let number = match jiter.known_number(peek) {
-        Ok(number) => number,
-        Err(error) => return Err(error),
-    };
+    let number = jiter.known_number(peek)?;
     match number_value(alloc, number) {
         Ok(value) => Ok(value),
         Err(refused) => Err(out_of_memory(refused, jiter)),
@@ -79,11 +76,8 @@ fn build_string(alloc: Global, jiter: &mut Jiter<'_>) -> JiterResult<JsonValue<'
     ensures value { LeavesAt view result jiter.old jiter.new (built jiter.old 0 Start.String) }
     ensures index { IndexWithin jiter.old.text result }
 {
-    let copy = match jiter.known_str(alloc) {
-        Ok(text) => copy_text(alloc, text),
-        Err(error) => return Err(error),
-    };
-    match copy {
+    let text = jiter.known_str(alloc)?;
+    match copy_text(alloc, text) {
         Ok(text) => Ok(JsonValue::Str(CowStr::Owned(text))),
         Err(refused) => Err(out_of_memory(refused, jiter)),
     }
@@ -96,10 +90,8 @@ fn build_null(jiter: &mut Jiter<'_>) -> JiterResult<JsonValue<'static>>
         (built jiter.old 0 (Start.Literal Literal.Null)) }
     ensures index { IndexWithin jiter.old.text result }
 {
-    match jiter.known_null() {
-        Ok(()) => Ok(JsonValue::Null),
-        Err(error) => Err(error),
-    }
+    jiter.known_null()?;
+    Ok(JsonValue::Null)
 }
 
 // `true` or `false`, where the reader stands. The call refuses what begins no value.
@@ -110,10 +102,8 @@ fn build_bool(jiter: &mut Jiter<'_>, peek: Peek) -> JiterResult<JsonValue<'stati
         (built jiter.old 0 (start_of (byte_of peek))) }
     ensures index { IndexWithin jiter.old.text result }
 {
-    match jiter.known_bool(peek) {
-        Ok(truth) => Ok(JsonValue::Bool(truth)),
-        Err(error) => Err(error),
-    }
+    let truth = jiter.known_bool(peek)?;
+    Ok(JsonValue::Bool(truth))
 }
 
 // The array whose bracket stands where the reader stands.
@@ -125,22 +115,13 @@ fn build_array(alloc: Global, jiter: &mut Jiter<'_>, room: usize) -> JiterResult
     ensures index { IndexWithin jiter.old.text result }
 {
     let mut items = Vec::new(alloc);
-    let mut next = match jiter.known_array() {
-        Ok(next) => next,
-        Err(error) => return Err(error),
-    };
+    let mut next = jiter.known_array()?;
     while let Some(peek) = next {
-        let item = match build_inside(alloc, jiter, peek, room) {
-            Ok(item) => item,
-            Err(error) => return Err(error),
-        };
+        let item = build_inside(alloc, jiter, peek, room)?;
         if let Err(refused) = push(&mut items, item) {
             return Err(out_of_memory(refused, jiter));
         }
-        next = match jiter.array_step() {
-            Ok(next) => next,
-            Err(error) => return Err(error),
-        };
+        next = jiter.array_step()?;
     }
     Ok(JsonValue::Array(items))
 }
@@ -193,22 +174,13 @@ fn build_object(
     ensures index { IndexWithin jiter.old.text result }
 {
     let mut members = Vec::new(alloc);
-    let mut next = match first_key(alloc, jiter) {
-        Ok(next) => next,
-        Err(error) => return Err(error),
-    };
+    let mut next = first_key(alloc, jiter)?;
     while let Some(key) = next {
-        let value = match build_member(alloc, jiter, room) {
-            Ok(value) => value,
-            Err(error) => return Err(error),
-        };
+        let value = build_member(alloc, jiter, room)?;
         if let Err(refused) = push(&mut members, (key, value)) {
             return Err(out_of_memory(refused, jiter));
         }
-        next = match next_key(alloc, jiter) {
-            Ok(next) => next,
-            Err(error) => return Err(error),
-        };
+        next = next_key(alloc, jiter)?;
     }
     Ok(JsonValue::Object(members))
 }
@@ -225,10 +197,8 @@ fn build_member(
         (next jiter.old (λ i _. built_inside jiter.old room i)) }
     ensures index { IndexWithin jiter.old.text result }
 {
-    match jiter.peek() {
-        Ok(peek) => build_inside(alloc, jiter, peek, room),
-        Err(error) => Err(error),
-    }
+    let peek = jiter.peek()?;
+    build_inside(alloc, jiter, peek, room)
 }
 
 // A value inside a container with this room: without room it is refused at its first byte.
@@ -292,8 +262,6 @@ pub fn value_by_steps(alloc: Global, jiter: &mut Jiter<'_>) -> JiterResult<JsonV
     ensures place { WhereMemory result (λ e. (jiter.new.position ≡ e.index)
         × (value_place jiter.old ≤ e.index)) }
 {
-    match jiter.peek() {
-        Ok(peek) => build_value(alloc, jiter, peek, NESTING_LIMIT),
-        Err(error) => Err(error),
-    }
+    let peek = jiter.peek()?;
+    build_value(alloc, jiter, peek, NESTING_LIMIT)
 }
