@@ -9,13 +9,14 @@ use Rattle.jiter_steps.specs.StringReading.{whole, string_at}
 use Rattle.jiter_steps.specs.Tree.{Tree}
 use Rattle.jiter_steps.specs.Step.{Step, step, object_first}
 use Rattle.jiter_value.specs.Owned.{owned_text}
-use Rattle.jiter.specs.Cause.{json_error}
+use Rattle.jiter.specs.Cause.{Cause, json_error}
+use Rattle.jiter.specs.Errors.{cause_of}
 use Rattle.jiter.specs.Jiter.{MovesOn, LeavesAt, Replies, RefusesBytes, StandsAt, refusal_view, reply_seen}
-use Rattle.jiter.specs.Reader.{ReaderState, Refusal, Reply, gave, with_position, known, part_reply, key_reply}
+use Rattle.jiter.specs.Reader.{ReaderState, Refusal, Reply, gave, refused, with_position, known, part_reply, key_reply}
 use Rattle.jiter.specs.Reader.{array_read, object_read}
 use Rattle.jiter.specs.declared.errors.JiterError.{JiterError}
 use Rattle.jiter.proofs.Building.{Walk, WalkLaws, Stands, Leads, all, behind, left, leads, items, members}
-use Rattle.jiter.proofs.Building.{known-first, seen-part}
+use Rattle.jiter.proofs.Building.{known-first, same-refusal, seen-part}
 
 -- one move and then another
 pub moves-on : (s0 s1 s2 : ReaderState) → MovesOn s0 s1 → MovesOn s1 s2 → MovesOn s0 s2
@@ -49,6 +50,21 @@ pub passed-on : {X A : Type 0} {view : X → A} {e : JiterError} {s0 s : ReaderS
 passed-on (Ok x) is h = absurd is
 passed-on {view = view} {s0 = s0} {s = s} {r = r} (Err d) is h =
     subst (λ d. LeavesAt view (Err d) s0 s r) (sym is) h
+
+-- a refusal, whatever would have been seen of the reply
+refusal-seen : {A B C : Type 0} (f : A → B) (g : A → C) (r : Reply A) (c : Cause) (x stop : ℕ)
+    → reply_seen f r ≡ refused c x stop → reply_seen g r ≡ refused c x stop
+refusal-seen f g (gave a i) c x stop h = absurd (cc)
+refusal-seen f g (refused d i n) c x stop h = same-refusal d c i x n stop h
+
+pub refused-seen : {X Y A B C : Type 0} {seen : X → B} {view : Y → C} {e : JiterError} {s0 s : ReaderState}
+    (f : A → B) (g : A → C) (r : Reply A) → LeavesAt seen (Err e) s0 s (reply_seen f r)
+    → LeavesAt view (Err e) s0 s (reply_seen g r)
+refused-seen {e = e} {s = s} f g r h = record {
+  moves = h.moves;
+  value = λ m. refusal-seen f g r (cause_of e.error_type) e.index s.position (h.value m);
+  place = h.place;
+}
 
 -- Of the container whose bracket stands at s0 these parts were built, and the reader stands where the next one was told
 -- of, or behind the container.

@@ -10,7 +10,7 @@ ghost use Rattle.jiter_steps.specs.StringReading.{whole};
 ghost use Rattle.jiter_value.specs.Owned.{owned_text, owned_tree};
 ghost use Rattle.jiter_value.specs.Value.{view};
 ghost use Rattle.jiter.specs.Cause.{json_error};
-ghost use Rattle.jiter.specs.Client.{built, built_inside, IsTruthOrNothing};
+ghost use Rattle.jiter.specs.Client.{built, built_inside, own_text, IsTruthOrNothing};
 ghost use Rattle.jiter.specs.Jiter.{MovesOn, Replies, UnlessMemory, WhereMemory, LeavesAt, IndexWithin};
 ghost use Rattle.jiter.specs.Jiter.{reply_seen, StandsAt, byte_of, refusal_view};
 ghost use Rattle.jiter.specs.Reader.{value_place, next, known, value_read, object_read, key_step};
@@ -114,8 +114,8 @@ fn build_array(alloc: Global, jiter: &mut Jiter<'_>, room: usize) -> JiterResult
     ensures value { LeavesAt view result jiter.old jiter.new (built jiter.old room Start.Array) }
     ensures index { IndexWithin jiter.old.text result }
 {
-    let mut items = Vec::new(alloc);
     let mut next = jiter.known_array()?;
+    let mut items = Vec::new(alloc);
     while let Some(peek) = next {
         let item = build_inside(alloc, jiter, peek, room)?;
         if let Err(refused) = push(&mut items, item) {
@@ -126,6 +126,20 @@ fn build_array(alloc: Global, jiter: &mut Jiter<'_>, room: usize) -> JiterResult
     Ok(JsonValue::Array(items))
 }
 
+// A key's copy, where there is a key.
+fn copy_key(alloc: Global, key: Option<&str>) -> Result<Option<CowStr<'static>>, Refused>
+    ensures { IfOk result (λ copy. option_map text_view copy
+        ≡ option_map (λ x. own_text x.now) key.entry) }
+{
+    match key {
+        Some(text) => {
+            let copy = copy_text(alloc, text)?;
+            Ok(Some(CowStr::Owned(copy)))
+        }
+        None => Ok(None),
+    }
+}
+
 // The first key of the object whose bracket stands where the reader stands, copied.
 fn first_key(alloc: Global, jiter: &mut Jiter<'_>) -> JiterResult<Option<CowStr<'static>>>
     requires { StandsAt jiter.old ascii.left_brace }
@@ -133,13 +147,9 @@ fn first_key(alloc: Global, jiter: &mut Jiter<'_>) -> JiterResult<Option<CowStr<
         (reply_seen (option_map owned_text) (known jiter.old (object_read whole jiter.old))) }
     ensures index { IndexWithin jiter.old.text result }
 {
-    let copy = match jiter.known_object(alloc) {
-        Ok(Some(key)) => copy_text(alloc, key),
-        Ok(None) => return Ok(None),
-        Err(error) => return Err(error),
-    };
-    match copy {
-        Ok(key) => Ok(Some(CowStr::Owned(key))),
+    let key = jiter.known_object(alloc)?;
+    match copy_key(alloc, key) {
+        Ok(copy) => Ok(copy),
         Err(refused) => Err(out_of_memory(refused, jiter)),
     }
 }
@@ -150,13 +160,9 @@ fn next_key(alloc: Global, jiter: &mut Jiter<'_>) -> JiterResult<Option<CowStr<'
         (reply_seen (option_map owned_text) (key_step whole jiter.old)) }
     ensures index { IndexWithin jiter.old.text result }
 {
-    let copy = match jiter.next_key(alloc) {
-        Ok(Some(key)) => copy_text(alloc, key),
-        Ok(None) => return Ok(None),
-        Err(error) => return Err(error),
-    };
-    match copy {
-        Ok(key) => Ok(Some(CowStr::Owned(key))),
+    let key = jiter.next_key(alloc)?;
+    match copy_key(alloc, key) {
+        Ok(copy) => Ok(copy),
         Err(refused) => Err(out_of_memory(refused, jiter)),
     }
 }
@@ -173,8 +179,8 @@ fn build_object(
     ensures value { LeavesAt view result jiter.old jiter.new (built jiter.old room Start.Object) }
     ensures index { IndexWithin jiter.old.text result }
 {
-    let mut members = Vec::new(alloc);
     let mut next = first_key(alloc, jiter)?;
+    let mut members = Vec::new(alloc);
     while let Some(key) = next {
         let value = build_member(alloc, jiter, room)?;
         if let Err(refused) = push(&mut members, (key, value)) {
