@@ -1,19 +1,19 @@
 -- What is left of a container behind the parts that the client has built, by the replies of its calls.
-use Rattle.std.proofs.Common.{◌≡◌, ◌∙◌, refl, ap, ℕ, ◌<◌, ◌==◌, Bool, true, false, cond, List, [], ◌∷◌, ◌++◌, length}
+use Rattle.std.proofs.Common.{◌≡◌, ◌∙◌, refl, ap, ℕ, ◌+◌, ◌<◌, ◌==◌, Bool, true, false, cond, List, [], ◌∷◌, ◌++◌, length}
 use Rattle.std.proofs.Common.{arith, eqb-true}
-use Rattle.std.specs.Prelude.{slice_get, slice_index, Option, Some, None, option_map}
+use Rattle.std.specs.Prelude.{slice_get, slice_index, Option, Some, None, option_map, IfSome}
 use Rattle.std.proofs.lemmas.Option.{slice_get-get_or, slice_get_within}
 use Rattle.jiter_scan.specs.Kind.{expected_value}
 use Rattle.jiter_scan.specs.Scanned.{Scanned, taken, failed}
 use Rattle.jiter_scan.specs.Word.{Extent}
-use Rattle.jiter_scan.specs.NumberReading.{number_at, begins_number}
+use Rattle.jiter_scan.specs.NumberReading.{number_at, begins_number, extent_then}
 use Rattle.jiter_scan.proofs.NumberLaws.{number_at-within}
 use Rattle.jiter_steps.specs.Blank.{past_blanks}
 use Rattle.jiter_steps.specs.Literal.{literal_at, literal_tree, start_of}
 use Rattle.jiter_steps.specs.StringReading.{whole, string_at}
-use Rattle.jiter_steps.specs.Tree.{Text, Tree, items_of, members_of}
+use Rattle.jiter_steps.specs.Tree.{Text, Tree}
 use Rattle.jiter_steps.specs.Tree as tree
-use Rattle.jiter_steps.specs.Step.{Step, more, closed, stuck, step, colon, value_first, object_colon, array_step}
+use Rattle.jiter_steps.specs.Step.{Step, more, closed, stuck, step, colon, value_first}
 use Rattle.jiter_steps.specs.Step.{object_step}
 use Rattle.jiter_steps.specs.Read.{Reading, done, fault, scalar_at, Container, with_key, behind_colon, behind_key}
 use Rattle.jiter_steps.specs.Read.{follow, behind_part, parts_at, array_of, object_of, inside_at}
@@ -22,6 +22,7 @@ use Rattle.jiter_steps.specs.declared.parse.Literal.{Literal}
 use Rattle.jiter_steps.specs.declared.parse.Literal.TheVariants as literal
 use Rattle.jiter_steps.specs.declared.parse.Start.{Start}
 use Rattle.jiter_steps.specs.declared.parse.Start.TheVariants as start
+use Rattle.jiter_steps.proofs.Blanks.{past_blanks-after}
 use Rattle.jiter_steps.proofs.Bounds.{Ahead, Within}
 use Rattle.jiter_steps.proofs.Values.{Advances, AllWithin, Goes, array_of-goes, object_of-goes, inside_at-within}
 use Rattle.jiter_steps.proofs.Values.{parts_at_is}
@@ -29,10 +30,10 @@ use Rattle.jiter_steps.proofs.Instances.{seen-within, literal_at-within}
 use Rattle.jiter_steps.proofs.StringLaws.{string_at-within}
 use Rattle.jiter_value.specs.Owned.{owned_text}
 use Rattle.jiter.specs.Cause.{Cause, json_error}
-use Rattle.jiter.specs.Client.{owned_trees, built, IsTruthOrNothing}
-use Rattle.jiter.specs.Jiter.{StandsAt}
-use Rattle.jiter.specs.Reader.{ReaderState, Reply, gave, refused, if_byte, scalar_reply, bool_read, value_reply}
-use Rattle.jiter.specs.Reader.{item_reply, colon_reply, key_reply, member_reply}
+use Rattle.jiter.specs.Client.{owned_trees, built, built_inside, IsTruthOrNothing}
+use Rattle.jiter.specs.Jiter.{StandsAt, reply_seen}
+use Rattle.jiter.specs.Reader.{ReaderState, Reply, gave, refused, with_position, if_byte, next, scalar_reply}
+use Rattle.jiter.specs.Reader.{bool_read, value_reply, part_reply, item_step, colon_reply, key_reply, key_step}
 
 module _ {A : Type 0} where
   -- a reply tells the reading
@@ -71,178 +72,184 @@ module _ (names : Bool) (t : List ℕ) where
   pub built_inside-within : (room : ℕ) → AllWithin t (inside_at (owned_trees names) t room)
   built_inside-within room = inside_at-within (owned_trees names) t owned-advances room
 
-  module _ (room b : ℕ) where
-    abbrev inner : ℕ → Reading Tree
-    inner = inside_at (owned_trees names) t room
+-- How the client goes through a container: what it is told where a part begins, which byte stands there then, the call
+-- for the part's value, the part that this makes, and the call behind a part.
+pub record Walk (K P : Type 0) : Type 0 where
+  pub container : Container P Tree
+  pub told : ℕ → Reply (Option K)
+  pub byte : K → Option ℕ
+  pub asked : ReaderState → Reply Tree
+  pub part : K → Tree → P
+  pub stepped : ReaderState → Reply (Option K)
 
-    abbrev items_in : Container Tree Tree
-    items_in = array_of (owned_trees names) inner t b
+module _ {K P : Type 0} (s0 : ReaderState) (w : Walk K P) where
+  -- the parts from i on, behind these
+  abbrev parts_from : List P → ℕ → Reading Tree
+  parts_from parts i = parts_at (owned_trees s0.names) w.container s0.text (length s0.text) parts i
 
-    abbrev members_in : Container (Text × Tree) Tree
-    members_in = object_of (owned_trees names) inner t b
+  -- what a step behind these parts leads to
+  abbrev pub led : List P → Step → Reply Tree
+  led parts s = value_reply (follow (owned_trees s0.names) (parts_from parts) (λ e. w.container.build e parts) s)
 
-    items-go : Goes items_in t
-    items-go = array_of-goes (owned_trees names) t owned-advances inner (built_inside-within room) b
+  -- what the container at s0 is read as
+  abbrev pub all : Reply Tree
+  all = led [] (step s0.text w.container.first (s0.position + 1))
 
-    members-go : Goes members_in t
-    members-go = object_of-goes (owned_trees names) t owned-advances inner (built_inside-within room) b
+  -- behind these parts and the one of this reply
+  abbrev pub behind : List P → Reply P → Reply Tree
+  behind parts (gave p e) = led (parts ++ p ∷ []) (step s0.text w.container.next e)
+  behind parts (refused c i stop) = refused c i stop
 
-    -- the items from i on, behind these
-    abbrev items_from : List Tree → ℕ → Reading Tree
-    items_from items i = parts_at (owned_trees names) items_in t (length t) items i
+  -- the part of which k was told, its value asked for at i
+  abbrev rest : K → ℕ → Reply P
+  rest k i = reply_seen (w.part k) (w.asked (with_position s0 i))
 
-    abbrev members_from : List (Text × Tree) → ℕ → Reading Tree
-    members_from members i = parts_at (owned_trees names) members_in t (length t) members i
+  -- What is left behind these parts: the next one, of which k was told, or the container has ended before i.
+  abbrev pub left : Option K → List P → ℕ → Reply Tree
+  left None parts i = gave (w.container.build i parts) i
+  left (Some k) parts i = behind parts (rest k i)
 
-    -- what a step behind these items leads to
-    abbrev pub items_led : List Tree → Step → Reply Tree
-    items_led items s = value_reply (follow (owned_trees names) (items_from items) (λ e. items_in.build e items) s)
+  -- the byte that was told stands at i
+  abbrev pub Stands : Option K → ℕ → Type 0
+  Stands o i = IfSome o (λ k. IfSome (w.byte k) (λ c. slice_get s0.text i ≡ Some c))
 
-    abbrev pub members_led : List (Text × Tree) → Step → Reply Tree
-    members_led members s =
-        value_reply (follow (owned_trees names) (members_from members) (λ e. members_in.build e members) s)
+  -- what is told where a part begins, of that part
+  abbrev pub Begins : Reply P → Reply (Option K) → Type 0
+  Begins x (gave None i) = ⊥
+  Begins x (gave (Some k) i) = (x ≡ rest k i) × Stands (Some k) i
+  Begins x (refused c i stop) = x ≡ refused c i stop
 
-    -- What is left of the array whose bracket is at b, behind these items: the next one begins at i, or the array has
-    -- ended before it.
-    abbrev pub array_left : Option ℕ → List Tree → ℕ → Reply Tree
-    array_left None items i = gave (tree.array (items_of items)) i
-    array_left (Some c) items i = value_reply (items_from items i)
+  -- what the reply of a step says of what it leads to
+  abbrev pub Leads : List P → Reply Tree → Reply (Option K) → Type 0
+  Leads parts x (gave o i) = (x ≡ left o parts i) × Stands o i
+  Leads parts x (refused c i stop) = x ≡ refused c i stop
 
-    pub array-led : (items : List Tree) (s : Step) (o : Option ℕ) (j : ℕ) → item_reply t s ≡ gave o j
-        → items_led items s ≡ array_left o items j
-    array-led items (more i) None j h = absurd (cc)
-    array-led items (more i) (Some c) j h = ap (λ k. value_reply (items_from items k)) (let same : i ≡ j = cc in same)
-    array-led items (closed e) None j h = ap (gave (tree.array (items_of items))) (let same : e ≡ j = cc in same)
-    array-led items (closed e) (Some c) j h = absurd (cc)
-    array-led items (stuck k i) o j h = absurd (cc)
+-- what such a walk has to keep
+pub record WalkLaws {K P : Type 0} (s0 : ReaderState) (w : Walk K P) : Type 0 where
+  pub goes : Goes w.container s0.text
+  pub begins : (i : ℕ) → i < length s0.text → Begins s0 w (value_reply (w.container.part i)) (w.told i)
+  pub steps : (i : ℕ) → w.stepped (with_position s0 i) ≡ part_reply w.told (step s0.text w.container.next i)
+  pub ahead : (k : K) (i : ℕ) (v : Tree) (e : ℕ) → Stands s0 w (Some k) i → w.asked (with_position s0 i) ≡ gave v e → i < e
 
-    pub array-stopped : (items : List Tree) (s : Step) (c : Cause) (x stop : ℕ) → item_reply t s ≡ refused c x stop
-        → items_led items s ≡ refused c x stop
-    array-stopped items (more i) c x stop h = absurd (cc)
-    array-stopped items (closed e) c x stop h = absurd (cc)
-    array-stopped items (stuck k i) c x stop h = same-refusal (json_error k) c i x i stop h
+module _ {K P : Type 0} (s0 : ReaderState) (w : Walk K P) (laws : WalkLaws s0 w) where
+  behind-part : (parts : List P) (x : Reading P)
+      → value_reply (behind_part (owned_trees s0.names) w.container s0.text (parts_from s0 w) parts x)
+      ≡ behind s0 w parts (value_reply x)
+  behind-part parts (done p e) = refl
+  behind-part parts (fault k i stop) = refl
 
-    behind_item : (items : List Tree) (i e : ℕ) (v : Tree) (x : Reading Tree) → x ≡ done v e
-        → value_reply (behind_part (owned_trees names) items_in t items_from items x)
-        ≡ items_led (items ++ v ∷ []) (step t (array_step t) e)
-    behind_item items i e v x h =
-        ap (λ y. value_reply (behind_part (owned_trees names) items_in t items_from items y)) h
+  begun-leads : (parts : List P) (y : Reply Tree) (x : Reply P) (r : Reply (Option K)) → y ≡ behind s0 w parts x
+      → Begins s0 w x r → Leads s0 w parts y r
+  begun-leads parts y x (gave None i) h b = absurd b
+  begun-leads parts y x (gave (Some k) i) h b = (h ∙ ap (behind s0 w parts) b.0, b.1)
+  begun-leads parts y x (refused c i stop) h b = h ∙ ap (behind s0 w parts) b
 
-    -- an item that was built, and one that was refused
-    pub array-item : (items : List Tree) (i e : ℕ) (v : Tree) → i < length t → value_reply (inner i) ≡ gave v e
-        → value_reply (items_from items i) ≡ items_led (items ++ v ∷ []) (step t (array_step t) e)
-    array-item items i e v lt h =
-        ap value_reply (parts_at_is (owned_trees names) t items_in items-go items i lt)
-        ∙ behind_item items i e v (inner i) (gave-done (inner i) v e h)
+  -- a step leads to what its reply says
+  pub leads : (parts : List P) (m : ℕ) (s : Step) → Ahead s0.text m s
+      → Leads s0 w parts (led s0 w parts s) (part_reply w.told s)
+  leads parts m (more i) a =
+      begun-leads parts (value_reply (parts_from s0 w parts i)) (value_reply (w.container.part i)) (w.told i)
+      (ap value_reply (parts_at_is (owned_trees s0.names) s0.text w.container laws.goes parts i a.1)
+      ∙ behind-part parts (w.container.part i))
+      (laws.begins i a.1)
+  leads parts m (closed e) a = (refl, tt)
+  leads parts m (stuck k i) a = refl
 
-    item-refused : (items : List Tree) (c : Cause) (y stop : ℕ) (x : Reading Tree) → value_reply x ≡ refused c y stop
-        → value_reply (behind_part (owned_trees names) items_in t items_from items x) ≡ refused c y stop
-    item-refused items c y stop (done v e) h = absurd (cc)
-    item-refused items c y stop (fault k i z) h = h
+seen-same : {A : Type 0} (r : Reply A) → r ≡ reply_seen (λ a. a) r
+seen-same (gave a e) = refl
+seen-same (refused c i stop) = refl
 
-    pub array-refused : (items : List Tree) (i : ℕ) (c : Cause) (y stop : ℕ) → i < length t
-        → value_reply (inner i) ≡ refused c y stop
-        → value_reply (items_from items i) ≡ refused c y stop
-    array-refused items i c y stop lt h =
-        ap value_reply (parts_at_is (owned_trees names) t items_in items-go items i lt)
-        ∙ item-refused items c y stop (inner i) h
+-- what an owned key's reply is, by where the key begins
+pub seen-part : {K L : Type 0} (f : K → L) (told : ℕ → Reply (Option K)) (s : Step)
+    → reply_seen (option_map f) (part_reply told s) ≡ part_reply (λ i. reply_seen (option_map f) (told i)) s
+seen-part f told (more i) = refl
+seen-part f told (closed e) = refl
+seen-part f told (stuck k i) = refl
 
-    -- What is left of the object whose bracket is at b, behind these members: the value of the next key stands behind
-    -- blanks from i on, or the object has ended before it.
-    abbrev pub object_left : Option Text → List (Text × Tree) → ℕ → Reply Tree
-    object_left None members i = gave (tree.object (members_of members)) i
-    object_left (Some key) members i =
-        value_reply
-        (behind_part (owned_trees names) members_in t members_from members
-        (behind_colon key inner (step t value_first i)))
+module _ (s0 : ReaderState) (room : ℕ) where
+  abbrev inner : ℕ → Reading Tree
+  inner = inside_at (owned_trees s0.names) s0.text room
 
-    -- behind a key, and behind its colon
-    abbrev keyed : List (Text × Tree) → Reading (Text × Tree) → Reply Tree
-    keyed members x = value_reply (behind_part (owned_trees names) members_in t members_from members x)
+  -- The array whose bracket stands at s0: its items' first bytes are told.
+  abbrev pub items : Walk ℕ Tree
+  items = record {
+    container = array_of (owned_trees s0.names) inner s0.text s0.position;
+    told = λ i. gave (Some (slice_index s0.text i)) i;
+    byte = λ c. Some c;
+    asked = λ s. built_inside s room s.position;
+    part = λ c v. v;
+    stepped = λ s. item_step s;
+  }
 
-    colon-led : (members : List (Text × Tree)) (key : Text) (e : ℕ) (x : Extent) (o : Option Text) (j : ℕ)
-        → step t colon e ≡ x → colon_reply key x ≡ gave o j
-        → keyed members (behind_colon (owned_text key) inner (object_colon t e))
-        ≡ object_left (option_map owned_text o) members j
-    colon-led members key e (taken u k) None j q h = absurd (cc)
-    colon-led members key e (taken u k) (Some s) j q h =
-        let same : k ≡ j = cc in
-        let name : key ≡ s = cc in
-        rw (q, same, name)
-    colon-led members key e (failed kind k) o j q h = absurd (cc)
+  pub items-laws : WalkLaws s0 items
+  items-laws = record {
+    goes =
+        array_of-goes (owned_trees s0.names) s0.text (owned-advances s0.names s0.text) inner
+        (built_inside-within s0.names s0.text room) s0.position;
+    begins = λ i lt. (seen-same (value_reply (inner i)), slice_get-get_or s0.text i 0 lt);
+    steps = λ i. refl;
+    ahead = λ k i v e at h. gave-ahead s0.text i (inner i)
+        (built_inside-within s0.names s0.text room i (slice_get_within s0.text i k at)) v e h;
+  }
 
-    key-led : (members : List (Text × Tree)) (i : ℕ) (x : Scanned Text) (o : Option Text) (j : ℕ)
-        → key_reply t i x ≡ gave o j
-        → keyed members (behind_key inner t i (seen_as (λ s e. owned_text s) x))
-        ≡ object_left (option_map owned_text o) members j
-    key-led members i (taken key e) o j h = colon-led members key e (step t colon e) o j refl h
-    key-led members i (failed k x) o j h = absurd (cc)
+  -- The object whose bracket stands at s0: its members' keys are told, their colons consumed.
+  abbrev pub members : Walk Text (Text × Tree)
+  members = record {
+    container = object_of (owned_trees s0.names) inner s0.text s0.position;
+    told = λ i. reply_seen (option_map owned_text) (key_reply s0.text i (string_at whole s0.text i));
+    byte = λ key. None;
+    asked = λ s. next s (λ i b. built_inside s room i);
+    part = λ key v. (key, v);
+    stepped = λ s. reply_seen (option_map owned_text) (key_step whole s);
+  }
 
-    pub object-led : (members : List (Text × Tree)) (m : ℕ) (s : Step) (o : Option Text) (j : ℕ) → Ahead t m s
-        → member_reply whole t s ≡ gave o j
-        → members_led members s ≡ object_left (option_map owned_text o) members j
-    object-led members m (more i) o j a h =
-        ap value_reply (parts_at_is (owned_trees names) t members_in members-go members i a.1)
-        ∙ key-led members i (string_at whole t i) o j h
-    object-led members m (closed e) None j a h =
-        ap (gave (tree.object (members_of members))) (let same : e ≡ j = cc in same)
-    object-led members m (closed e) (Some s) j a h = absurd (cc)
-    object-led members m (stuck k i) o j a h = absurd (cc)
+  keyed-value : (key : Text) (x : Reading Tree)
+      → value_reply (with_key key x) ≡ reply_seen (λ v. (key, v)) (value_reply x)
+  keyed-value key (done v e) = refl
+  keyed-value key (fault k i stop) = refl
 
-    colon-stopped : (members : List (Text × Tree)) (key : Text) (e : ℕ) (x : Extent) (c : Cause) (y stop : ℕ)
-        → step t colon e ≡ x → colon_reply key x ≡ refused c y stop
-        → keyed members (behind_colon (owned_text key) inner (object_colon t e)) ≡ refused c y stop
-    colon-stopped members key e (taken u k) c y stop q h = absurd (cc)
-    colon-stopped members key e (failed kind k) c y stop q h = rw q (same-refusal (json_error kind) c k y k stop h)
+  value-begins : (key : Text) (p : ℕ) (o : Option ℕ)
+      → value_reply (behind_colon key inner (value_first p o))
+      ≡ reply_seen (λ v. (key, v)) (if_byte p o (λ c. value_reply (inner p)))
+  value-begins key p None = refl
+  value-begins key p (Some c) = keyed-value key (inner p)
 
-    key-stopped : (members : List (Text × Tree)) (i : ℕ) (x : Scanned Text) (c : Cause) (y stop : ℕ)
-        → key_reply t i x ≡ refused c y stop
-        → keyed members (behind_key inner t i (seen_as (λ s e. owned_text s) x)) ≡ refused c y stop
-    key-stopped members i (taken key e) c y stop h = colon-stopped members key e (step t colon e) c y stop refl h
-    key-stopped members i (failed k x) c y stop h = same-refusal (json_error k) c x y i stop h
+  colon-begins : (key : Text) (x : Extent)
+      → Begins s0 members (value_reply (behind_colon (owned_text key) inner (extent_then x (step s0.text value_first))))
+      (reply_seen (option_map owned_text) (colon_reply key x))
+  colon-begins key (taken u j) =
+      (value-begins (owned_text key) (past_blanks s0.text j) (slice_get s0.text (past_blanks s0.text j)), tt)
+  colon-begins key (failed k j) = refl
 
-    pub object-stopped : (members : List (Text × Tree)) (m : ℕ) (s : Step) (c : Cause) (y stop : ℕ) → Ahead t m s
-        → member_reply whole t s ≡ refused c y stop
-        → members_led members s ≡ refused c y stop
-    object-stopped members m (more i) c y stop a h =
-        ap value_reply (parts_at_is (owned_trees names) t members_in members-go members i a.1)
-        ∙ key-stopped members i (string_at whole t i) c y stop h
-    object-stopped members m (closed e) c y stop a h = absurd (cc)
-    object-stopped members m (stuck k i) c y stop a h = same-refusal (json_error k) c i y i stop h
+  key-begins : (i : ℕ) (x : Scanned Text)
+      → Begins s0 members (value_reply (behind_key inner s0.text i (seen_as (λ s e. owned_text s) x)))
+      (reply_seen (option_map owned_text) (key_reply s0.text i x))
+  key-begins i (taken key e) = colon-begins key (step s0.text colon e)
+  key-begins i (failed k j) = refl
 
-    -- the value behind the blanks at p
-    value-led : (members : List (Text × Tree)) (key : Text) (p : ℕ) (o : Option ℕ) (v : Tree) (e : ℕ)
-        → if_byte p o (λ c. value_reply (inner p)) ≡ gave v e
-        → keyed members (behind_colon key inner (value_first p o))
-        ≡ members_led (members ++ (key, v) ∷ []) (step t (object_step t) e)
-    value-led members key p None v e h = absurd (cc)
-    value-led members key p (Some c) v e h = ap (λ x. keyed members (with_key key x)) (gave-done (inner p) v e h)
+  value-ahead : (p : ℕ) (o : Option ℕ) (v : Tree) (e : ℕ) → slice_get s0.text p ≡ o
+      → if_byte p o (λ c. value_reply (inner p)) ≡ gave v e → p < e
+  value-ahead p None v e q h = absurd (cc)
+  value-ahead p (Some c) v e q h =
+      gave-ahead s0.text p (inner p)
+      (built_inside-within s0.names s0.text room p (slice_get_within s0.text p c q)) v e h
 
-    -- a member that was built, and one whose value was refused
-    pub object-member : (members : List (Text × Tree)) (key : Text) (i : ℕ) (v : Tree) (e : ℕ)
-        → if_byte (past_blanks t i) (slice_get t (past_blanks t i)) (λ c. value_reply (inner (past_blanks t i)))
-        ≡ gave v e
-        → object_left (Some key) members i ≡ members_led (members ++ (key, v) ∷ []) (step t (object_step t) e)
-    object-member members key i v e h = value-led members key (past_blanks t i) (slice_get t (past_blanks t i)) v e h
+  member-ahead : (i : ℕ) (v : Tree) (e : ℕ) → members.asked (with_position s0 i) ≡ gave v e → i < e
+  member-ahead i v e h =
+      let p = past_blanks s0.text i in
+      let behind = value-ahead p (slice_get s0.text p) v e refl h in
+      omega (arith, behind, past_blanks-after s0.text i)
 
-    inner-refused : (members : List (Text × Tree)) (key : Text) (x : Reading Tree) (c : Cause) (y stop : ℕ)
-        → value_reply x ≡ refused c y stop
-        → keyed members (with_key key x) ≡ refused c y stop
-    inner-refused members key (done v e) c y stop h = absurd (cc)
-    inner-refused members key (fault k i z) c y stop h = h
-
-    value-refused : (members : List (Text × Tree)) (key : Text) (p : ℕ) (o : Option ℕ) (c : Cause) (y stop : ℕ)
-        → if_byte p o (λ c. value_reply (inner p)) ≡ refused c y stop
-        → keyed members (behind_colon key inner (value_first p o)) ≡ refused c y stop
-    value-refused members key p None c y stop h = h
-    value-refused members key p (Some x) c y stop h = inner-refused members key (inner p) c y stop h
-
-    pub object-refused : (members : List (Text × Tree)) (key : Text) (i : ℕ) (c : Cause) (y stop : ℕ)
-        → if_byte (past_blanks t i) (slice_get t (past_blanks t i)) (λ c. value_reply (inner (past_blanks t i)))
-        ≡ refused c y stop
-        → object_left (Some key) members i ≡ refused c y stop
-    object-refused members key i c y stop h =
-        value-refused members key (past_blanks t i) (slice_get t (past_blanks t i)) c y stop h
+  pub members-laws : WalkLaws s0 members
+  members-laws = record {
+    goes =
+        object_of-goes (owned_trees s0.names) s0.text (owned-advances s0.names s0.text) inner
+        (built_inside-within s0.names s0.text room) s0.position;
+    begins = λ i lt. key-begins i (string_at whole s0.text i);
+    steps = λ i. seen-part owned_text (λ j. key_reply s0.text j (string_at whole s0.text j))
+        (step s0.text (object_step s0.text) i);
+    ahead = λ key i v e at h. member-ahead i v e h;
+  }
 
 -- what a first byte is, by what begins so
 not_array : (b c d e f g : Bool)

@@ -1,29 +1,22 @@
 -- How far the client is in a container, and each way on or out.
-use Rattle.std.proofs.Common.{◌≡◌, ◌∙◌, refl, sym, ap, subst, ℕ, ◌+◌, ◌<◌, ◌≤◌, List, [], ◌∷◌, ◌++◌, length, arith}
-use Rattle.std.specs.Prelude.{slice_get, slice_index, Option, Some, None, option_map, IfSome, Err}
-use Rattle.std.proofs.lemmas.Option.{slice_get-get_or, slice_get_within}
+use Rattle.std.proofs.Common.{◌≡◌, ◌∙◌, refl, sym, ap, subst, ℕ, ◌+◌, ◌-◌, ◌<◌, ◌≤◌, List, [], ◌∷◌, ◌++◌, length, map}
+use Rattle.std.proofs.Common.{arith}
+use Rattle.std.proofs.lemmas.List.{map_push}
+use Rattle.std.proofs.lemmas.Option.{slice_get_within}
+use Rattle.std.specs.Prelude.{Option, Some, None, option_map, Result, Ok, Err, IsErrAnd}
 use Rattle.jiter_scan.specs.Kind.{out_of_memory}
-use Rattle.jiter_steps.specs.Blank.{past_blanks}
-use Rattle.jiter_steps.specs.StringReading.{whole}
-use Rattle.jiter_steps.specs.Tree.{Text, Tree}
-use Rattle.jiter_steps.specs.Step.{Step, more, closed, stuck, step, array_first, array_step, object_first, object_step}
-use Rattle.jiter_steps.specs.Read.{inside_at}
-use Rattle.jiter_steps.specs.declared.parse.Start.TheVariants as start
-use Rattle.jiter_steps.proofs.Blanks.{past_blanks-after}
-use Rattle.jiter_steps.proofs.Bounds.{Ahead, container_first-ahead, container_step-ahead}
-use Rattle.jiter_steps.specs.declared.parse.Shape.TheVariants as shape
+use Rattle.jiter_steps.specs.StringReading.{whole, string_at}
+use Rattle.jiter_steps.specs.Tree.{Tree}
+use Rattle.jiter_steps.specs.Step.{Step, step, object_first}
 use Rattle.jiter_value.specs.Owned.{owned_text}
 use Rattle.jiter.specs.Cause.{Cause, json_error}
-use Rattle.jiter.specs.Client.{owned_trees, built, built_inside}
 use Rattle.jiter.specs.Errors.{cause_of}
-use Rattle.jiter.specs.Jiter.{MovesOn, LeavesAt, IsMemory, StandsAt, refusal_view, reply_seen}
-use Rattle.jiter.specs.Reader.{ReaderState, Refusal, Reply, gave, refused, with_position, if_byte, value_reply, next}
-use Rattle.jiter.specs.Reader.{known}
-use Rattle.jiter.specs.Reader.{item_reply, member_reply, array_read, item_step, object_read, key_step}
+use Rattle.jiter.specs.Jiter.{MovesOn, LeavesAt, Replies, RefusesBytes, StandsAt, refusal_view, reply_seen}
+use Rattle.jiter.specs.Reader.{ReaderState, Refusal, Reply, gave, refused, with_position, known, part_reply, key_reply}
+use Rattle.jiter.specs.Reader.{array_read, object_read}
 use Rattle.jiter.specs.declared.errors.JiterError.{JiterError}
-use Rattle.jiter.proofs.Building.{known-first, same-refusal, gave-ahead, built_inside-within, items_led, members_led}
-use Rattle.jiter.proofs.Building.{array_left, array-led, array-stopped, array-item, array-refused, object_left}
-use Rattle.jiter.proofs.Building.{object-led, object-stopped, object-member, object-refused}
+use Rattle.jiter.proofs.Building.{Walk, WalkLaws, Stands, Leads, all, behind, left, leads, items, members}
+use Rattle.jiter.proofs.Building.{known-first, same-refusal, seen-part}
 
 -- one move and then another
 pub moves-on : (s0 s1 s2 : ReaderState) → MovesOn s0 s1 → MovesOn s1 s2 → MovesOn s0 s2
@@ -44,274 +37,158 @@ memory-leaves view s0 s e r moves is = record {
   place = λ m. sym (ap (λ (x : Refusal). x.index) is);
 }
 
-item-stands : (t : List ℕ) (m : ℕ) (s : Step) (o : Option ℕ) (j : ℕ) → Ahead t m s → item_reply t s ≡ gave o j
-    → IfSome o (λ c. slice_get t j ≡ Some c)
-item-stands t m (more i) None j a h = tt
-item-stands t m (more i) (Some c) j a h =
-    let place : i ≡ j = cc in
-    let byte : slice_index t i ≡ c = cc in
-    rw (← place, ← byte) (slice_get-get_or t i 0 a.1)
-item-stands t m (closed e) None j a h = tt
-item-stands t m (closed e) (Some c) j a h = absurd (cc)
-item-stands t m (stuck k i) o j a h = absurd (cc)
+-- how a call that takes no memory leaves the reader
+pub bytes-leave : {X A : Type 0} (view : X → A) (x : Result X JiterError) (s0 s : ReaderState) (r : Reply A)
+    → MovesOn s0 s → Replies view x s r → RefusesBytes s0.text x → LeavesAt view x s0 s r
+bytes-leave view (Ok a) s0 s r moves value is = record { moves = moves; value = value; place = tt }
+bytes-leave view (Err e) s0 s r moves value is =
+    record { moves = moves; value = λ m. value; place = λ m. absurd (is.bytes m) }
 
--- a reply that was seen so tells what was given, and what was refused
-seen-gave : (r : Reply (Option Text)) (o : Option Text) (j : ℕ) → reply_seen (option_map owned_text) r ≡ gave o j
-    → (p : Option Text) × (r ≡ gave p j) × (option_map owned_text p ≡ o)
-seen-gave (gave p e) o j h =
-    let place : e ≡ j = cc in
-    let text : option_map owned_text p ≡ o = cc in (p, ap (gave p) place, text)
-seen-gave (refused c i stop) o j h = absurd (cc)
+-- an error that `?` passes on
+pub passed-on : {X A : Type 0} {view : X → A} {e : JiterError} {s0 s : ReaderState} {r : Reply A}
+    (x : Result X JiterError) → IsErrAnd x (λ d. d ≡ e) → LeavesAt view (Err e) s0 s r → LeavesAt view x s0 s r
+passed-on (Ok x) is h = absurd is
+passed-on {view = view} {s0 = s0} {s = s} {r = r} (Err d) is h =
+    subst (λ d. LeavesAt view (Err d) s0 s r) (sym is) h
 
-seen-refused : (r : Reply (Option Text)) (c : Cause) (x stop : ℕ)
-    → reply_seen (option_map owned_text) r ≡ refused c x stop → r ≡ refused c x stop
-seen-refused (gave p e) c x stop h = absurd (cc)
-seen-refused (refused d i n) c x stop h = same-refusal d c i x n stop h
+-- a refusal, whatever would have been seen of the reply
+refusal-seen : {A B C : Type 0} (f : A → B) (g : A → C) (r : Reply A) (c : Cause) (x stop : ℕ)
+    → reply_seen f r ≡ refused c x stop → reply_seen g r ≡ refused c x stop
+refusal-seen f g (gave a i) c x stop h = absurd (cc)
+refusal-seen f g (refused d i n) c x stop h = same-refusal d c i x n stop h
 
--- Of the array whose bracket stands at s0 these items were built, and the reader stands at the next one, or behind it.
-pub record InArray (s0 s : ReaderState) (room : ℕ) (next : Option ℕ) (items : List Tree) : Type 0 where
+pub refused-seen : {X Y A B C : Type 0} {seen : X → B} {view : Y → C} {e : JiterError} {s0 s : ReaderState}
+    (f : A → B) (g : A → C) (r : Reply A) → LeavesAt seen (Err e) s0 s (reply_seen f r)
+    → LeavesAt view (Err e) s0 s (reply_seen g r)
+refused-seen {e = e} {s = s} f g r h = record {
+  moves = h.moves;
+  value = λ m. refusal-seen f g r (cause_of e.error_type) e.index s.position (h.value m);
+  place = h.place;
+}
+
+-- Of the container whose bracket stands at s0 these parts were built, and the reader stands where the next one was told
+-- of, or behind the container.
+pub record In {K P : Type 0} (s0 s : ReaderState) (w : Walk K P) (next : Option K) (parts : List P) : Type 0 where
   pub moves : MovesOn s0 s
-  pub here : IfSome next (StandsAt s)
-  pub left : built s0 room start.Array ≡ array_left s0.names s0.text room s0.position next items s.position
-
--- Of the object whose bracket stands at s0 these members were built, and the reader stands behind the next key's colon,
--- or behind it.
-pub record InObject (s0 s : ReaderState) (room : ℕ) (next : Option Text) (members : List (Text × Tree)) : Type 0 where
-  pub moves : MovesOn s0 s
-  pub left : built s0 room start.Object ≡ object_left s0.names s0.text room s0.position next members s.position
+  pub here : Stands s0 w next s.position
+  pub left : all s0 w ≡ left s0 w next parts s.position
 
 -- what a reader of the same bytes says
 pub same-text : (s0 s : ReaderState) → MovesOn s0 s → s.text ≡ s0.text
 same-text s0 s m = ap (λ (x : ReaderState). x.text) m.same
 
-here-along : (s : ReaderState) (t : List ℕ) (o : Option ℕ) → s.text ≡ t
-    → IfSome o (λ c. slice_get t s.position ≡ Some c) → IfSome o (StandsAt s)
-here-along s t None e h = tt
-here-along s t (Some c) e h = ap (λ x. slice_get x s.position) e ∙ h
+-- what was pushed, seen so
+pub map-pushed : {X P : Type 0} (f : X → P) (xs ys : List X) (x : X) → ys ≡ xs ++ x ∷ []
+    → map f xs ++ f x ∷ [] ≡ map f ys
+map-pushed f xs ys x h = sym (map_push f _ _) ∙ sym (ap (map f) h)
 
-module _ (s0 : ReaderState) (room : ℕ) where
-  -- the array's first step
-  array-bracket : StandsAt s0 91
-      → known s0 (array_read s0) ≡ item_reply s0.text (step s0.text array_first (s0.position + 1))
-  array-bracket at = ap (array_read s0 s0.position) (known-first s0 91 at)
+module _ {K P : Type 0} {s0 : ReaderState} {w : Walk K P} (laws : WalkLaws s0 w) where
+  -- the first step
+  abbrev first : Step
+  first = step s0.text w.container.first (s0.position + 1)
 
-  pub array-begins : (s : ReaderState) (o : Option ℕ) → StandsAt s0 91 → MovesOn s0 s
-      → known s0 (array_read s0) ≡ gave o s.position
-      → InArray s0 s room o []
-  array-begins s o at moves h =
-      let t = s0.text in
-      let i = s0.position in
-      let lt = slice_get_within t i 91 at in
-      let first : item_reply t (step t array_first (i + 1)) ≡ gave o s.position = sym (array-bracket at) ∙ h in
-      record {
-        moves = moves;
-        here =
-            here-along s t o (same-text s0 s moves)
-            (item-stands t (i + 1) (step t array_first (i + 1)) o s.position
-            (container_first-ahead t shape.Array (i + 1) (omega arith)) first);
-        left = array-led s0.names t room i [] (step t array_first (i + 1)) o s.position first;
-      }
+  opened : s0.position < length s0.text → Leads s0 w [] (all s0 w) (part_reply w.told first)
+  opened lt = leads s0 w laws [] (s0.position + 1) first (laws.goes.first (s0.position + 1) (omega arith))
 
-  module _ (s : ReaderState) (c : ℕ) (items : List Tree) (inv : InArray s0 s room (Some c) items) where
-    stands-within : s.position < length s0.text
-    stands-within =
-        let w = slice_get_within s.text s.position c inv.here in
-        omega (arith, w, ap length (same-text s0 s inv.moves))
+  pub begins : {Y : Type 0} {keys : Y → Option K} {y : Y} {s : ReaderState} → s0.position < length s0.text
+      → LeavesAt keys (Ok y) s0 s (part_reply w.told first) → In s0 s w (keys y) []
+  begins lt h =
+      let led = subst (Leads s0 w [] (all s0 w)) h.value (opened lt) in
+      record { moves = h.moves; here = led.1; left = led.0 }
 
-    inside-here : (r : Reply Tree) → built_inside s room s.position ≡ r
-        → value_reply (inside_at (owned_trees s0.names) s0.text room s.position) ≡ r
-    inside-here r h = subst (λ (x : ReaderState). built_inside x room s.position ≡ r) inv.moves.same h
+  pub first-refused : {X Y : Type 0} {view : X → Tree} {keys : Y → Option K} {e : JiterError} {s : ReaderState}
+      → s0.position < length s0.text → LeavesAt keys (Err e) s0 s (part_reply w.told first)
+      → LeavesAt view (Err e) s0 s (all s0 w)
+  first-refused lt h = record {
+    moves = h.moves;
+    value = λ m. subst (Leads s0 w [] (all s0 w)) (h.value m) (opened lt);
+    place = h.place;
+  }
 
-    -- an item that was built ends behind its begin
-    pub array-ahead : (s1 : ReaderState) (v : Tree) → built_inside s room s.position ≡ gave v s1.position
-        → s.position < s1.position
-    array-ahead s1 v h =
-        gave-ahead s0.text s.position (inside_at (owned_trees s0.names) s0.text room s.position)
-        (built_inside-within s0.names s0.text room s.position stands-within) v s1.position
-        (inside-here (gave v s1.position) h)
+  -- behind the last part
+  pub ended : {X : Type 0} {view : X → Tree} {x : X} {s : ReaderState} {parts : List P} → In s0 s w None parts
+      → view x ≡ w.container.build s.position parts → LeavesAt view (Ok x) s0 s (all s0 w)
+  ended {s = s} inv is = record {
+    moves = inv.moves;
+    value = inv.left ∙ ap (λ v. gave v s.position) (sym is);
+    place = tt;
+  }
 
-    -- an item that was refused
-    pub array-item-refused : {X : Type 0} (view : X → Tree) (s1 : ReaderState) (e : JiterError)
-        → LeavesAt view (Err e) s s1 (built_inside s room s.position)
-        → LeavesAt view (Err e) s0 s1 (built s0 room start.Array)
-    array-item-refused view s1 e h = record {
+  module _ {s : ReaderState} {k : K} {parts : List P} (inv : In s0 s w (Some k) parts) where
+    asked-here : (r : Reply Tree) → w.asked s ≡ r → w.asked (with_position s0 s.position) ≡ r
+    asked-here r h = subst (λ (x : ReaderState). w.asked x ≡ r) inv.moves.same h
+
+    behind-here : (r : Reply Tree) → w.asked s ≡ r → all s0 w ≡ behind s0 w parts (reply_seen (w.part k) r)
+    behind-here r h = inv.left ∙ ap (λ x. behind s0 w parts (reply_seen (w.part k) x)) (asked-here r h)
+
+    -- a part whose value was refused
+    pub part-refused : {X : Type 0} {view : X → Tree} {e : JiterError} {s1 : ReaderState}
+        → LeavesAt view (Err e) s s1 (w.asked s) → LeavesAt view (Err e) s0 s1 (all s0 w)
+    part-refused {s1 = s1} h = record {
       moves = moves-on s0 s s1 inv.moves h.moves;
-      value =
-          λ m. inv.left
-          ∙ array-refused s0.names s0.text room s0.position items s.position (cause_of e.error_type) e.index
-          s1.position stands-within (inside-here _ (h.value m));
+      value = λ m. behind-here _ (h.value m);
       place = h.place;
     }
 
-    module _ (s1 s2 : ReaderState) (v : Tree) (m1 : MovesOn s s1) (m2 : MovesOn s1 s2)
-        (h : built_inside s room s.position ≡ gave v s1.position) where
-      to-item : MovesOn s0 s1
-      to-item = moves-on s0 s s1 inv.moves m1
+    -- a part that was built, and the call behind it
+    module _ {X : Type 0} {view : X → Tree} {x : X} {s1 : ReaderState}
+        (built : LeavesAt view (Ok x) s s1 (w.asked s)) where
+      behind-moves : MovesOn s0 s1
+      behind-moves = moves-on s0 s s1 inv.moves built.moves
 
-      step-here : (r : Reply (Option ℕ)) → item_step s1 ≡ r
-          → item_reply s0.text (step s0.text (array_step s0.text) s1.position) ≡ r
-      step-here r k = subst (λ (x : ReaderState). item_step x ≡ r) to-item.same k
+      abbrev with_part : List P
+      with_part = parts ++ w.part k (view x) ∷ []
 
-      behind : built s0 room start.Array
-          ≡ items_led s0.names s0.text room s0.position (items ++ v ∷ [])
-          (step s0.text (array_step s0.text) s1.position)
-      behind =
-          inv.left ∙ array-item s0.names s0.text room s0.position items s.position s1.position v stands-within
-          (inside-here (gave v s1.position) h)
-
-      -- behind an item
-      pub array-goes-on : (o : Option ℕ) → item_step s1 ≡ gave o s2.position → InArray s0 s2 room o (items ++ v ∷ [])
-      array-goes-on o k =
-          let t = s0.text in
+      behind-leads : Leads s0 w with_part (all s0 w) (w.stepped s1)
+      behind-leads =
           let e = s1.position in
-          let to2 = moves-on s0 s1 s2 to-item m2 in
-          let stepped : item_reply t (step t (array_step t) e) ≡ gave o s2.position = step-here (gave o s2.position) k
-          in
-          record {
-            moves = to2;
-            here =
-                here-along s2 t o (same-text s0 s2 to2)
-                (item-stands t e (step t (array_step t) e) o s2.position (container_step-ahead t shape.Array e to-item.within)
-                stepped);
-            left =
-                behind ∙ array-led s0.names t room s0.position (items ++ v ∷ []) (step t (array_step t) e) o s2.position
-                stepped;
-          }
+          let next = step s0.text w.container.next e in
+          let same : w.stepped s1 ≡ part_reply w.told next = ap w.stepped behind-moves.same ∙ laws.steps e in
+          let led = leads s0 w laws with_part e next (laws.goes.next e behind-moves.within) in
+          subst (Leads s0 w with_part (all s0 w)) (sym same)
+          (subst (λ r. Leads s0 w with_part r (part_reply w.told next)) (sym (behind-here _ built.value)) led)
 
-      -- where no item goes on, and no closer stands
-      pub array-stuck : {X : Type 0} (view : X → Tree) (e : JiterError)
-          → item_step s1 ≡ refused (cause_of e.error_type) e.index s2.position → (IsMemory e → ⊥)
-          → LeavesAt view (Err e) s0 s2 (built s0 room start.Array)
-      array-stuck view e k bytes = record {
-        moves = moves-on s0 s1 s2 to-item m2;
-        value =
-            λ m. behind
-            ∙ array-stopped s0.names s0.text room s0.position (items ++ v ∷ [])
-            (step s0.text (array_step s0.text) s1.position) (cause_of e.error_type) e.index s2.position
-            (step-here _ k);
-        place = λ m. absurd (bytes m);
+      -- it leads on, or ends the container
+      pub goes-on : {Y : Type 0} {keys : Y → Option K} {y : Y} {s2 : ReaderState} {more : List P}
+          → LeavesAt keys (Ok y) s1 s2 (w.stepped s1) → with_part ≡ more → In s0 s2 w (keys y) more
+      goes-on {keys = keys} {y = y} {s2 = s2} stepped more =
+          let led = subst (Leads s0 w with_part (all s0 w)) stepped.value behind-leads in
+          subst (λ ps. In s0 s2 w (keys y) ps) more
+          (record { moves = moves-on s0 s1 s2 behind-moves stepped.moves; here = led.1; left = led.0 })
+
+      -- each turn goes ahead
+      pub turn-ahead : {s2 : ReaderState} → MovesOn s1 s2 → length s0.text - s2.position < length s0.text - s.position
+      turn-ahead {s2 = s2} m2 =
+          let ahead = laws.ahead k s.position (view x) s1.position inv.here (asked-here _ built.value) in
+          let moves = moves-on s0 s1 s2 behind-moves m2 in
+          omega (arith, ahead, m2.forward, moves.within)
+
+      -- no part goes on, and no closer stands
+      pub stuck-behind : {Y : Type 0} {keys : Y → Option K} {e : JiterError} {s2 : ReaderState}
+          → LeavesAt keys (Err e) s1 s2 (w.stepped s1) → LeavesAt view (Err e) s0 s2 (all s0 w)
+      stuck-behind {s2 = s2} stepped = record {
+        moves = moves-on s0 s1 s2 behind-moves stepped.moves;
+        value = λ m. subst (Leads s0 w with_part (all s0 w)) (stepped.value m) behind-leads;
+        place = stepped.place;
       }
 
-  -- the object's first step
-  object-bracket : StandsAt s0 123
-      → known s0 (object_read whole s0) ≡ member_reply whole s0.text (step s0.text object_first (s0.position + 1))
-  object-bracket at = ap (object_read whole s0 s0.position) (known-first s0 123 at)
+-- where a byte stands there is one
+pub stands-within : (s : ReaderState) (c : ℕ) → StandsAt s c → s.position < length s.text
+stands-within s c at = slice_get_within s.text s.position c at
 
-  pub object-begins : (s : ReaderState) (o : Option Text) → StandsAt s0 123 → MovesOn s0 s
-      → reply_seen (option_map owned_text) (known s0 (object_read whole s0)) ≡ gave o s.position
-      → InObject s0 s room o []
-  object-begins s o at moves h =
-      let t = s0.text in
-      let i = s0.position in
-      let lt = slice_get_within t i 123 at in
-      let k = seen-gave (known s0 (object_read whole s0)) o s.position h in
-      let led = object-led s0.names t room i [] (i + 1) (step t object_first (i + 1)) k.0 s.position
-      (container_first-ahead t shape.Object (i + 1) (omega arith)) (sym (object-bracket at) ∙ k.1) in
-      record { moves = moves; left = led ∙ ap (λ o. object_left s0.names t room i o [] s.position) k.2 }
+-- the calls that open a container
+pub array-opens : (s0 : ReaderState) (room : ℕ) → StandsAt s0 91
+    → known s0 (array_read s0)
+    ≡ part_reply (items s0 room).told (step s0.text (items s0 room).container.first (s0.position + 1))
+array-opens s0 room at = ap (array_read s0 s0.position) (known-first s0 91 at)
 
-  pub object-first-refused : {X Y : Type 0} (view : X → Tree) (key : Y → Option Text) (s : ReaderState) (e : JiterError)
-      → StandsAt s0 123
-      → LeavesAt key (Err e) s0 s (reply_seen (option_map owned_text) (known s0 (object_read whole s0)))
-      → LeavesAt view (Err e) s0 s (built s0 room start.Object)
-  object-first-refused view key s e at h =
-      let t = s0.text in
-      let i = s0.position in
-      let lt = slice_get_within t i 123 at in
-      record {
-        moves = h.moves;
-        value =
-            λ m. object-stopped s0.names t room i [] (i + 1) (step t object_first (i + 1)) (cause_of e.error_type)
-            e.index s.position (container_first-ahead t shape.Object (i + 1) (omega arith))
-            (sym (object-bracket at) ∙ seen-refused (known s0 (object_read whole s0)) (cause_of e.error_type) e.index
-            s.position (h.value m));
-        place = h.place;
-      }
-
-  module _ (s : ReaderState) (key : Text) (members : List (Text × Tree)) (inv : InObject s0 s room (Some key) members)
-    where
-      abbrev begin : ℕ
-      begin = past_blanks s0.text s.position
-
-      abbrev member : ReaderState → Reply Tree
-      member x = next x (λ i b. built_inside x room i)
-
-      member-here : (r : Reply Tree) → member s ≡ r
-          → if_byte begin (slice_get s0.text begin)
-          (λ c. value_reply (inside_at (owned_trees s0.names) s0.text room begin)) ≡ r
-      member-here r h = subst (λ (x : ReaderState). member x ≡ r) inv.moves.same h
-
-      begun-ahead : (o : Option ℕ) (v : Tree) (e : ℕ) → slice_get s0.text begin ≡ o
-          → if_byte begin o (λ c. value_reply (inside_at (owned_trees s0.names) s0.text room begin)) ≡ gave v e
-          → begin < e
-      begun-ahead None v e q h = absurd (cc)
-      begun-ahead (Some c) v e q h =
-          gave-ahead s0.text begin (inside_at (owned_trees s0.names) s0.text room begin)
-          (built_inside-within s0.names s0.text room begin (slice_get_within s0.text begin c q)) v e h
-
-      pub object-ahead : (s1 : ReaderState) (v : Tree) → member s ≡ gave v s1.position → s.position < s1.position
-      object-ahead s1 v h =
-          let behind = begun-ahead (slice_get s0.text begin) v s1.position refl (member-here (gave v s1.position) h) in
-          omega (arith, behind, past_blanks-after s0.text s.position)
-
-      -- a value that was refused
-      pub object-value-refused : {X : Type 0} (view : X → Tree) (s1 : ReaderState) (e : JiterError)
-          → LeavesAt view (Err e) s s1 (member s)
-          → LeavesAt view (Err e) s0 s1 (built s0 room start.Object)
-      object-value-refused view s1 e h = record {
-        moves = moves-on s0 s s1 inv.moves h.moves;
-        value =
-            λ m. inv.left
-            ∙ object-refused s0.names s0.text room s0.position members key s.position (cause_of e.error_type) e.index
-            s1.position (member-here _ (h.value m));
-        place = h.place;
-      }
-
-      module _ (s1 s2 : ReaderState) (v : Tree) (m1 : MovesOn s s1) (h : member s ≡ gave v s1.position) where
-        to-member : MovesOn s0 s1
-        to-member = moves-on s0 s s1 inv.moves m1
-
-        key-here : (r : Reply (Option Text)) → key_step whole s1 ≡ r
-            → member_reply whole s0.text (step s0.text (object_step s0.text) s1.position) ≡ r
-        key-here r k = subst (λ (x : ReaderState). key_step whole x ≡ r) to-member.same k
-
-        behind-member : built s0 room start.Object
-            ≡ members_led s0.names s0.text room s0.position (members ++ (key, v) ∷ [])
-            (step s0.text (object_step s0.text) s1.position)
-        behind-member =
-            inv.left ∙ object-member s0.names s0.text room s0.position members key s.position v s1.position
-            (member-here (gave v s1.position) h)
-
-        -- behind a member
-        pub object-goes-on : (o : Option Text) → MovesOn s1 s2
-            → reply_seen (option_map owned_text) (key_step whole s1) ≡ gave o s2.position
-            → InObject s0 s2 room o (members ++ (key, v) ∷ [])
-        object-goes-on o m2 k =
-            let t = s0.text in
-            let e = s1.position in
-            let told = seen-gave (key_step whole s1) o s2.position k in
-            let led = object-led s0.names t room s0.position (members ++ (key, v) ∷ []) e (step t (object_step t) e)
-            told.0 s2.position (container_step-ahead t shape.Object e to-member.within) (key-here _ told.1) in
-            record {
-              moves = moves-on s0 s1 s2 to-member m2;
-              left =
-                  behind-member ∙ led
-                  ∙ ap (λ o. object_left s0.names t room s0.position o (members ++ (key, v) ∷ []) s2.position) told.2;
-            }
-
-        -- where no member goes on, and no closer stands
-        pub object-stuck : {X Y : Type 0} (view : X → Tree) (keys : Y → Option Text) (e : JiterError)
-            → LeavesAt keys (Err e) s1 s2 (reply_seen (option_map owned_text) (key_step whole s1))
-            → LeavesAt view (Err e) s0 s2 (built s0 room start.Object)
-        object-stuck view keys e k = record {
-          moves = moves-on s0 s1 s2 to-member k.moves;
-          value =
-              λ m. behind-member
-              ∙ object-stopped s0.names s0.text room s0.position (members ++ (key, v) ∷ []) s1.position
-              (step s0.text (object_step s0.text) s1.position) (cause_of e.error_type) e.index s2.position
-              (container_step-ahead s0.text shape.Object s1.position to-member.within)
-              (key-here _ (seen-refused (key_step whole s1) (cause_of e.error_type) e.index s2.position (k.value m)));
-          place = k.place;
-        }
+pub object-opens : (s0 : ReaderState) (room : ℕ) → StandsAt s0 123
+    → reply_seen (option_map owned_text) (known s0 (object_read whole s0))
+    ≡ part_reply (members s0 room).told (step s0.text (members s0 room).container.first (s0.position + 1))
+object-opens s0 room at =
+    ap (λ b. reply_seen (option_map owned_text) (object_read whole s0 s0.position b)) (known-first s0 123 at)
+    ∙ seen-part owned_text (λ j. key_reply s0.text j (string_at whole s0.text j))
+    (step s0.text object_first (s0.position + 1))
 
 -- a reader that stands still
 pub moves-none : (s : ReaderState) → s.position ≤ length s.text → MovesOn s s

@@ -1,5 +1,5 @@
 -- What the client builds of a text: the value that is read, each of its texts owned.
-use Rattle.std.specs.Prelude.{ℕ, Bool}
+use Rattle.std.specs.Prelude.{ℕ, Bool, true, List}
 use Rattle.jiter_scan.specs.NumberReading.{number_at}
 use Rattle.jiter_steps.specs.Literal.{literal_at, literal_tree}
 use Rattle.jiter_steps.specs.StringReading.{whole, string_at}
@@ -25,6 +25,10 @@ owned_trees names = record {
   array = λ b e items. tree.array (items_of items);
   object = λ b e members. tree.object (members_of members);
 }
+
+-- a text in memory of its own
+abbrev pub own_text : List ℕ → Text
+own_text bytes = record { owned = true; bytes = bytes }
 
 -- The value that begins so where the reader stands, with room for so many containers inside it that are not empty.
 abbrev pub built : ReaderState → ℕ → Start → Reply Tree

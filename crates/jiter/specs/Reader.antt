@@ -166,11 +166,15 @@ value_read s i b = value_reply (read_at s.names s.text i)
 abbrev pub skip_read : ReaderState → ℕ → Start → Reply (Unit {0})
 skip_read s i b = value_reply (skip_at s.names s.text i)
 
--- the next item's first byte, which is not consumed; or none, and the closer was consumed
+-- what is told where the next part begins; or none, and the closer was consumed
+abbrev pub part_reply : {K : Type 0} → (ℕ → Reply (Option K)) → Step → Reply (Option K)
+part_reply begun (more j) = begun j
+part_reply begun (closed e) = gave None e
+part_reply begun (stuck k j) = refused (json_error k) j j
+
+-- the next item's first byte, which is not consumed
 abbrev pub item_reply : List ℕ → Step → Reply (Option ℕ)
-item_reply t (more j) = gave (Some (slice_index t j)) j
-item_reply t (closed e) = gave None e
-item_reply t (stuck k j) = refused (json_error k) j j
+item_reply t s = part_reply (λ j. gave (Some (slice_index t j)) j) s
 
 -- An array: its first item.
 abbrev pub array_read : ReaderState → ℕ → Start → Reply (Option ℕ)
@@ -191,11 +195,9 @@ abbrev pub key_reply : List ℕ → ℕ → Scanned Text → Reply (Option Text)
 key_reply t i (taken key e) = colon_reply key (step t colon e)
 key_reply t i (failed k j) = refused (json_error k) j i
 
--- the next key of this form, with its colon consumed; or none, and the closer was consumed
+-- the next key of this form, with its colon consumed
 abbrev pub member_reply : Form → List ℕ → Step → Reply (Option Text)
-member_reply f t (more j) = key_reply t j (string_at f t j)
-member_reply f t (closed e) = gave None e
-member_reply f t (stuck k j) = refused (json_error k) j j
+member_reply f t s = part_reply (λ j. key_reply t j (string_at f t j)) s
 
 -- An object: its first key. The form is `whole` for a text and `raw` for bytes.
 abbrev pub object_read : Form → ReaderState → ℕ → Start → Reply (Option Text)

@@ -10,7 +10,7 @@ ghost use Rattle.jiter_steps.specs.StringReading.{whole};
 ghost use Rattle.jiter_value.specs.Owned.{owned_text, owned_tree};
 ghost use Rattle.jiter_value.specs.Value.{view};
 ghost use Rattle.jiter.specs.Cause.{json_error};
-ghost use Rattle.jiter.specs.Client.{built, built_inside, IsTruthOrNothing};
+ghost use Rattle.jiter.specs.Client.{built, built_inside, own_text, IsTruthOrNothing};
 ghost use Rattle.jiter.specs.Jiter.{MovesOn, Replies, UnlessMemory, WhereMemory, LeavesAt, IndexWithin};
 ghost use Rattle.jiter.specs.Jiter.{reply_seen, StandsAt, byte_of, refusal_view};
 ghost use Rattle.jiter.specs.Reader.{value_place, next, known, value_read, object_read, key_step};
@@ -62,10 +62,7 @@ fn build_number(alloc: Global, jiter: &mut Jiter<'_>, peek: Peek) -> JiterResult
     ensures value { LeavesAt view result jiter.old jiter.new (built jiter.old 0 Start.Number) }
     ensures index { IndexWithin jiter.old.text result }
 {
-    let number = match jiter.known_number(peek) {
-        Ok(number) => number,
-        Err(error) => return Err(error),
-    };
+    let number = jiter.known_number(peek)?;
     match number_value(alloc, number) {
         Ok(value) => Ok(value),
         Err(refused) => Err(out_of_memory(refused, jiter)),
@@ -79,11 +76,8 @@ fn build_string(alloc: Global, jiter: &mut Jiter<'_>) -> JiterResult<JsonValue<'
     ensures value { LeavesAt view result jiter.old jiter.new (built jiter.old 0 Start.String) }
     ensures index { IndexWithin jiter.old.text result }
 {
-    let copy = match jiter.known_str(alloc) {
-        Ok(text) => copy_text(alloc, text),
-        Err(error) => return Err(error),
-    };
-    match copy {
+    let text = jiter.known_str(alloc)?;
+    match copy_text(alloc, text) {
         Ok(text) => Ok(JsonValue::Str(CowStr::Owned(text))),
         Err(refused) => Err(out_of_memory(refused, jiter)),
     }
@@ -96,10 +90,8 @@ fn build_null(jiter: &mut Jiter<'_>) -> JiterResult<JsonValue<'static>>
         (built jiter.old 0 (Start.Literal Literal.Null)) }
     ensures index { IndexWithin jiter.old.text result }
 {
-    match jiter.known_null() {
-        Ok(()) => Ok(JsonValue::Null),
-        Err(error) => Err(error),
-    }
+    jiter.known_null()?;
+    Ok(JsonValue::Null)
 }
 
 // `true` or `false`, where the reader stands. The call refuses what begins no value.
@@ -110,10 +102,8 @@ fn build_bool(jiter: &mut Jiter<'_>, peek: Peek) -> JiterResult<JsonValue<'stati
         (built jiter.old 0 (start_of (byte_of peek))) }
     ensures index { IndexWithin jiter.old.text result }
 {
-    match jiter.known_bool(peek) {
-        Ok(truth) => Ok(JsonValue::Bool(truth)),
-        Err(error) => Err(error),
-    }
+    let truth = jiter.known_bool(peek)?;
+    Ok(JsonValue::Bool(truth))
 }
 
 // The array whose bracket stands where the reader stands.
@@ -124,25 +114,30 @@ fn build_array(alloc: Global, jiter: &mut Jiter<'_>, room: usize) -> JiterResult
     ensures value { LeavesAt view result jiter.old jiter.new (built jiter.old room Start.Array) }
     ensures index { IndexWithin jiter.old.text result }
 {
+    let mut next = jiter.known_array()?;
     let mut items = Vec::new(alloc);
-    let mut next = match jiter.known_array() {
-        Ok(next) => next,
-        Err(error) => return Err(error),
-    };
     while let Some(peek) = next {
-        let item = match build_inside(alloc, jiter, peek, room) {
-            Ok(item) => item,
-            Err(error) => return Err(error),
-        };
+        let item = build_inside(alloc, jiter, peek, room)?;
         if let Err(refused) = push(&mut items, item) {
             return Err(out_of_memory(refused, jiter));
         }
-        next = match jiter.array_step() {
-            Ok(next) => next,
-            Err(error) => return Err(error),
-        };
+        next = jiter.array_step()?;
     }
     Ok(JsonValue::Array(items))
+}
+
+// A key's copy, where there is a key.
+fn copy_key(alloc: Global, key: Option<&str>) -> Result<Option<CowStr<'static>>, Refused>
+    ensures { IfOk result (λ copy. option_map text_view copy
+        ≡ option_map (λ x. own_text x.now) key.entry) }
+{
+    match key {
+        Some(text) => {
+            let copy = copy_text(alloc, text)?;
+            Ok(Some(CowStr::Owned(copy)))
+        }
+        None => Ok(None),
+    }
 }
 
 // The first key of the object whose bracket stands where the reader stands, copied.
@@ -152,13 +147,9 @@ fn first_key(alloc: Global, jiter: &mut Jiter<'_>) -> JiterResult<Option<CowStr<
         (reply_seen (option_map owned_text) (known jiter.old (object_read whole jiter.old))) }
     ensures index { IndexWithin jiter.old.text result }
 {
-    let copy = match jiter.known_object(alloc) {
-        Ok(Some(key)) => copy_text(alloc, key),
-        Ok(None) => return Ok(None),
-        Err(error) => return Err(error),
-    };
-    match copy {
-        Ok(key) => Ok(Some(CowStr::Owned(key))),
+    let key = jiter.known_object(alloc)?;
+    match copy_key(alloc, key) {
+        Ok(copy) => Ok(copy),
         Err(refused) => Err(out_of_memory(refused, jiter)),
     }
 }
@@ -169,13 +160,9 @@ fn next_key(alloc: Global, jiter: &mut Jiter<'_>) -> JiterResult<Option<CowStr<'
         (reply_seen (option_map owned_text) (key_step whole jiter.old)) }
     ensures index { IndexWithin jiter.old.text result }
 {
-    let copy = match jiter.next_key(alloc) {
-        Ok(Some(key)) => copy_text(alloc, key),
-        Ok(None) => return Ok(None),
-        Err(error) => return Err(error),
-    };
-    match copy {
-        Ok(key) => Ok(Some(CowStr::Owned(key))),
+    let key = jiter.next_key(alloc)?;
+    match copy_key(alloc, key) {
+        Ok(copy) => Ok(copy),
         Err(refused) => Err(out_of_memory(refused, jiter)),
     }
 }
@@ -192,23 +179,14 @@ fn build_object(
     ensures value { LeavesAt view result jiter.old jiter.new (built jiter.old room Start.Object) }
     ensures index { IndexWithin jiter.old.text result }
 {
+    let mut next = first_key(alloc, jiter)?;
     let mut members = Vec::new(alloc);
-    let mut next = match first_key(alloc, jiter) {
-        Ok(next) => next,
-        Err(error) => return Err(error),
-    };
     while let Some(key) = next {
-        let value = match build_member(alloc, jiter, room) {
-            Ok(value) => value,
-            Err(error) => return Err(error),
-        };
+        let value = build_member(alloc, jiter, room)?;
         if let Err(refused) = push(&mut members, (key, value)) {
             return Err(out_of_memory(refused, jiter));
         }
-        next = match next_key(alloc, jiter) {
-            Ok(next) => next,
-            Err(error) => return Err(error),
-        };
+        next = next_key(alloc, jiter)?;
     }
     Ok(JsonValue::Object(members))
 }
@@ -225,10 +203,8 @@ fn build_member(
         (next jiter.old (λ i _. built_inside jiter.old room i)) }
     ensures index { IndexWithin jiter.old.text result }
 {
-    match jiter.peek() {
-        Ok(peek) => build_inside(alloc, jiter, peek, room),
-        Err(error) => Err(error),
-    }
+    let peek = jiter.peek()?;
+    build_inside(alloc, jiter, peek, room)
 }
 
 // A value inside a container with this room: without room it is refused at its first byte.
@@ -292,8 +268,6 @@ pub fn value_by_steps(alloc: Global, jiter: &mut Jiter<'_>) -> JiterResult<JsonV
     ensures place { WhereMemory result (λ e. (jiter.new.position ≡ e.index)
         × (value_place jiter.old ≤ e.index)) }
 {
-    match jiter.peek() {
-        Ok(peek) => build_value(alloc, jiter, peek, NESTING_LIMIT),
-        Err(error) => Err(error),
-    }
+    let peek = jiter.peek()?;
+    build_value(alloc, jiter, peek, NESTING_LIMIT)
 }

@@ -2,7 +2,8 @@ use Rattle.std.proofs.Common.{◌+◌, ◌-◌, ◌*◌, length, map, option_map
 use Rattle.jiter_steps.specs.StringDecoder.{text_view}
 use Rattle.jiter_value.specs.Stacks.{member_view}
 use Rattle.jiter_value.specs.Value.{view}
-use Rattle.jiter.proofs.Containers.{InArray, InObject}
+use Rattle.jiter.proofs.Building.{items, members}
+use Rattle.jiter.proofs.Containers.{In}
 use Rattle.jiter.specs.Jiter.{byte_of}
 use Rattle.jiter.proofs.client.+build.Given as goal
 
@@ -23,14 +24,14 @@ decreases-build_inside l = 4 * l.room
 
 abbrev pub invariant-build_array-loop-next : goal.invariant-build_array-loop-next
 invariant-build_array-loop-next l =
-    InArray l.fn.jiter l.jiter l.room (option_map byte_of l.next) (map view l.items.items)
+    In l.fn.jiter l.jiter (items l.fn.jiter l.room) (option_map byte_of l.next) (map view l.items.items)
 
 abbrev pub decreases-build_array-loop-next : goal.decreases-build_array-loop-next
 decreases-build_array-loop-next l = length l.fn.jiter.text - l.jiter.position
 
 abbrev pub invariant-build_object-loop-next : goal.invariant-build_object-loop-next
 invariant-build_object-loop-next l =
-    InObject l.fn.jiter l.jiter l.room (option_map text_view l.next) (map member_view l.members.items)
+    In l.fn.jiter l.jiter (members l.fn.jiter l.room) (option_map text_view l.next) (map member_view l.members.items)
 
 abbrev pub decreases-build_object-loop-next : goal.decreases-build_object-loop-next
 decreases-build_object-loop-next l = length l.fn.jiter.text - l.jiter.position

@@ -4,9 +4,9 @@ use Rattle.jiter.specs.Jiter.{UnlessMemory, Replies, byte_of}
 use Rattle.jiter.proofs.OwnedTrees.{whole-begun}
 use Rattle.jiter.proofs.client.value_by_steps.Goals as goal
 
-pub returns-in-Ok-clause-value : goal.returns-in-Ok-clause-value
-returns-in-Ok-clause-value c =
-    let h = c.in-Ok.ensures in
-    let begun = whole-begun c.args.jiter.now c.peek.new.self (byte_of c.in-Ok.peek) h.moves h.place h.here in
+pub returns-clause-value : goal.returns-clause-value
+returns-clause-value c =
+    let h = c.in_ok-peek.ensures in
+    let begun = whole-begun c.args.jiter.now c.peek.new.self (byte_of c.in_ok-peek.peek) h.moves h.place h.here in
     subst (λ r. UnlessMemory c.build_value.result (Replies view c.build_value.result c.build_value.new.jiter r))
     (sym begun) c.build_value.ensures.value.value

@@ -1,0 +1,14 @@
+use Rattle.std.proofs.Common.{option_map}
+use Rattle.jiter_steps.specs.StringReading.{whole}
+use Rattle.jiter_value.specs.Owned.{owned_text}
+use Rattle.jiter.specs.Jiter.{key_bytes}
+use Rattle.jiter.specs.Reader.{known, object_read}
+use Rattle.jiter.proofs.Containers.{passed-on, refused-seen}
+use Rattle.jiter.proofs.client.first_key.Goals as goal
+
+pub returns-in_err-key-clause-value : goal.returns-in_err-key-clause-value
+returns-in_err-key-clause-value c =
+    let h = rw c.in_err-key.was at c.known_object.follows.holds-at-none in
+    let reply = known c.args.jiter.now (object_read whole c.args.jiter.now) in
+    passed-on c.from_residual.result c.from_residual.ensures.1
+    (refused-seen key_bytes (option_map owned_text) reply h)
