@@ -47,10 +47,6 @@ module _ {A : Type 0} where
   gave-ahead t i (done b f) w a e h = let same : f ≡ e = cc in omega (arith, w.0)
   gave-ahead t i (fault k x stop) w a e h = absurd (cc)
 
-  -- where a byte is awaited
-  pub if_byte-begun : (i c : ℕ) (o : Option ℕ) (f : ℕ → Reply A) → o ≡ Some c → if_byte i o f ≡ f c
-  if_byte-begun i c o f h = ap (λ o. if_byte i o f) h
-
 -- a refusal tells nothing of what was awaited
 pub same-refusal : {A B : Type 0} (c d : Cause) (x y m n : ℕ) → Path (Reply A) (refused c x m) (refused d y n)
     → Path (Reply B) (refused c x m) (refused d y n)
@@ -110,26 +106,27 @@ module _ {K P : Type 0} (s0 : ReaderState) (w : Walk K P) where
   left (Some k) parts i = behind parts (rest k i)
 
   -- the byte that was told stands at i
-  abbrev pub Stands : Option K → ℕ → Type 0
-  Stands o i = IfSome o (λ k. IfSome (w.byte k) (λ c. slice_get s0.text i ≡ Some c))
+  abbrev pub ToldAt : Option K → ℕ → Type 0
+  ToldAt o i = IfSome o (λ k. IfSome (w.byte k) (λ c. slice_get s0.text i ≡ Some c))
 
   -- what is told where a part begins, of that part
   abbrev pub Begins : Reply P → Reply (Option K) → Type 0
   Begins x (gave None i) = ⊥
-  Begins x (gave (Some k) i) = (x ≡ rest k i) × Stands (Some k) i
+  Begins x (gave (Some k) i) = (x ≡ rest k i) × ToldAt (Some k) i
   Begins x (refused c i stop) = x ≡ refused c i stop
 
-  -- what the reply of a step says of what it leads to
-  abbrev pub Leads : List P → Reply Tree → Reply (Option K) → Type 0
-  Leads parts x (gave o i) = (x ≡ left o parts i) × Stands o i
-  Leads parts x (refused c i stop) = x ≡ refused c i stop
+  -- what the reply of a step says of what is left then
+  abbrev pub LeadsTo : List P → Reply Tree → Reply (Option K) → Type 0
+  LeadsTo parts x (gave o i) = (x ≡ left o parts i) × ToldAt o i
+  LeadsTo parts x (refused c i stop) = x ≡ refused c i stop
 
--- what such a walk has to keep
+-- The steps lead on, each reply that tells of a part tells what it is, and each part that was built ends further on.
 pub record WalkLaws {K P : Type 0} (s0 : ReaderState) (w : Walk K P) : Type 0 where
   pub goes : Goes w.container s0.text
   pub begins : (i : ℕ) → i < length s0.text → Begins s0 w (value_reply (w.container.part i)) (w.told i)
   pub steps : (i : ℕ) → w.stepped (with_position s0 i) ≡ part_reply w.told (step s0.text w.container.next i)
-  pub ahead : (k : K) (i : ℕ) (v : Tree) (e : ℕ) → Stands s0 w (Some k) i → w.asked (with_position s0 i) ≡ gave v e → i < e
+  pub ahead : (k : K) (i : ℕ) (v : Tree) (e : ℕ) → ToldAt s0 w (Some k) i → w.asked (with_position s0 i) ≡ gave v e
+      → i < e
 
 module _ {K P : Type 0} (s0 : ReaderState) (w : Walk K P) (laws : WalkLaws s0 w) where
   behind-part : (parts : List P) (x : Reading P)
@@ -139,14 +136,14 @@ module _ {K P : Type 0} (s0 : ReaderState) (w : Walk K P) (laws : WalkLaws s0 w)
   behind-part parts (fault k i stop) = refl
 
   begun-leads : (parts : List P) (y : Reply Tree) (x : Reply P) (r : Reply (Option K)) → y ≡ behind s0 w parts x
-      → Begins s0 w x r → Leads s0 w parts y r
+      → Begins s0 w x r → LeadsTo s0 w parts y r
   begun-leads parts y x (gave None i) h b = absurd b
   begun-leads parts y x (gave (Some k) i) h b = (h ∙ ap (behind s0 w parts) b.0, b.1)
   begun-leads parts y x (refused c i stop) h b = h ∙ ap (behind s0 w parts) b
 
   -- a step leads to what its reply says
   pub leads : (parts : List P) (m : ℕ) (s : Step) → Ahead s0.text m s
-      → Leads s0 w parts (led s0 w parts s) (part_reply w.told s)
+      → LeadsTo s0 w parts (led s0 w parts s) (part_reply w.told s)
   leads parts m (more i) a =
       begun-leads parts (value_reply (parts_from s0 w parts i)) (value_reply (w.container.part i)) (w.told i)
       (ap value_reply (parts_at_is (owned_trees s0.names) s0.text w.container laws.goes parts i a.1)
@@ -155,11 +152,12 @@ module _ {K P : Type 0} (s0 : ReaderState) (w : Walk K P) (laws : WalkLaws s0 w)
   leads parts m (closed e) a = (refl, tt)
   leads parts m (stuck k i) a = refl
 
+-- seen as it is
 seen-same : {A : Type 0} (r : Reply A) → r ≡ reply_seen (λ a. a) r
 seen-same (gave a e) = refl
 seen-same (refused c i stop) = refl
 
--- what an owned key's reply is, by where the key begins
+-- a step's reply, what it tells seen so
 pub seen-part : {K L : Type 0} (f : K → L) (told : ℕ → Reply (Option K)) (s : Step)
     → reply_seen (option_map f) (part_reply told s) ≡ part_reply (λ i. reply_seen (option_map f) (told i)) s
 seen-part f told (more i) = refl
@@ -278,14 +276,6 @@ not_object false false false true g h = cc
 not_object false false false false true h = cc
 not_object false false false false false h = cc
 
-not_null : (e f g : Bool)
-    → cond e (start.Literal literal.True) (cond f (start.Literal literal.False) (cond g start.Number start.Nothing))
-    ≡ start.Literal literal.Null → ⊥
-not_null true f g h = cc
-not_null false true g h = cc
-not_null false false true h = cc
-not_null false false false h = cc
-
 first-test : (a : Bool) (rest : Start) → (rest ≡ start.Array → ⊥) → cond a start.Array rest ≡ start.Array → a ≡ true
 first-test true rest other h = refl
 first-test false rest other h = absurd (other h)
@@ -296,15 +286,6 @@ second-test true b rest other h = let clash : ⊥ = cc in absurd clash
 second-test false true rest other h = refl
 second-test false false rest other h = absurd (other h)
 
-fourth-test : (a b c d : Bool) (rest : Start) → (rest ≡ start.Literal literal.Null → ⊥)
-    → cond a start.Array (cond b start.Object (cond c start.String (cond d (start.Literal literal.Null) rest)))
-    ≡ start.Literal literal.Null → d ≡ true
-fourth-test true b c d rest other h = let clash : ⊥ = cc in absurd clash
-fourth-test false true c d rest other h = let clash : ⊥ = cc in absurd clash
-fourth-test false false true d rest other h = let clash : ⊥ = cc in absurd clash
-fourth-test false false false true rest other h = refl
-fourth-test false false false false rest other h = absurd (other h)
-
 pub array-first : (c : ℕ) → start_of c ≡ start.Array → c ≡ 91
 array-first c h =
     eqb-true c 91
@@ -314,11 +295,6 @@ pub object-first : (c : ℕ) → start_of c ≡ start.Object → c ≡ 123
 object-first c h =
     eqb-true c 123
     (second-test (c == 91) (c == 123) _ (not_object (c == 34) (c == 110) (c == 116) (c == 102) (begins_number c)) h)
-
-pub null-first : (c : ℕ) → start_of c ≡ start.Literal literal.Null → c ≡ 110
-null-first c h =
-    eqb-true c 110
-    (fourth-test (c == 91) (c == 123) (c == 34) (c == 110) _ (not_null (c == 116) (c == 102) (begins_number c)) h)
 
 -- A literal that is a truth value, by the reply of the call that reads it.
 truth-given : (i : ℕ) (l : Literal) (b v : Bool) (e : ℕ) (x : Extent) → literal_tree l ≡ tree.boolean b

@@ -4,22 +4,21 @@ use Rattle.std.proofs.Common.{arith}
 use Rattle.std.proofs.lemmas.List.{map_push}
 use Rattle.std.proofs.lemmas.Option.{slice_get_within}
 use Rattle.std.specs.Prelude.{Option, Some, None, option_map, Result, Ok, Err, IsErrAnd}
-use Rattle.jiter_scan.specs.Kind.{out_of_memory}
 use Rattle.jiter_steps.specs.StringReading.{whole, string_at}
 use Rattle.jiter_steps.specs.Tree.{Tree}
 use Rattle.jiter_steps.specs.Step.{Step, step, object_first}
 use Rattle.jiter_value.specs.Owned.{owned_text}
-use Rattle.jiter.specs.Cause.{Cause, json_error}
+use Rattle.jiter.specs.Cause.{Cause}
 use Rattle.jiter.specs.Errors.{cause_of}
-use Rattle.jiter.specs.Jiter.{MovesOn, LeavesAt, Replies, RefusesBytes, StandsAt, refusal_view, reply_seen}
-use Rattle.jiter.specs.Reader.{ReaderState, Refusal, Reply, gave, refused, with_position, known, part_reply, key_reply}
+use Rattle.jiter.specs.Jiter.{MovesOn, LeavesAt, Replies, RefusesBytes, StandsAt, reply_seen}
+use Rattle.jiter.specs.Reader.{ReaderState, Reply, gave, refused, with_position, known, part_reply, key_reply}
 use Rattle.jiter.specs.Reader.{array_read, object_read}
 use Rattle.jiter.specs.declared.errors.JiterError.{JiterError}
-use Rattle.jiter.proofs.Building.{Walk, WalkLaws, Stands, Leads, all, behind, left, leads, items, members}
+use Rattle.jiter.proofs.Building.{Walk, WalkLaws, ToldAt, LeadsTo, all, behind, left, leads, items, members}
 use Rattle.jiter.proofs.Building.{known-first, same-refusal, seen-part}
 
 -- one move and then another
-pub moves-on : (s0 s1 s2 : ReaderState) → MovesOn s0 s1 → MovesOn s1 s2 → MovesOn s0 s2
+moves-on : (s0 s1 s2 : ReaderState) → MovesOn s0 s1 → MovesOn s1 s2 → MovesOn s0 s2
 moves-on s0 s1 s2 a b =
     let text : s1.text ≡ s0.text = ap (λ (x : ReaderState). x.text) a.same in
     record {
@@ -27,15 +26,6 @@ moves-on s0 s1 s2 a b =
       forward = omega (arith, a.forward, b.forward);
       within = omega (arith, b.within, ap length text);
     }
-
--- where memory was refused, whatever would have been the reply
-pub memory-leaves : {X A : Type 0} (view : X → A) (s0 s : ReaderState) (e : JiterError) (r : Reply A) → MovesOn s0 s
-    → refusal_view e ≡ record { cause = json_error out_of_memory; index = s.position } → LeavesAt view (Err e) s0 s r
-memory-leaves view s0 s e r moves is = record {
-  moves = moves;
-  value = λ m. absurd (m (ap (λ (x : Refusal). x.cause) is));
-  place = λ m. sym (ap (λ (x : Refusal). x.index) is);
-}
 
 -- how a call that takes no memory leaves the reader
 pub bytes-leave : {X A : Type 0} (view : X → A) (x : Result X JiterError) (s0 s : ReaderState) (r : Reply A)
@@ -70,12 +60,8 @@ refused-seen {e = e} {s = s} f g r h = record {
 -- of, or behind the container.
 pub record In {K P : Type 0} (s0 s : ReaderState) (w : Walk K P) (next : Option K) (parts : List P) : Type 0 where
   pub moves : MovesOn s0 s
-  pub here : Stands s0 w next s.position
+  pub here : ToldAt s0 w next s.position
   pub left : all s0 w ≡ left s0 w next parts s.position
-
--- what a reader of the same bytes says
-pub same-text : (s0 s : ReaderState) → MovesOn s0 s → s.text ≡ s0.text
-same-text s0 s m = ap (λ (x : ReaderState). x.text) m.same
 
 -- what was pushed, seen so
 pub map-pushed : {X P : Type 0} (f : X → P) (xs ys : List X) (x : X) → ys ≡ xs ++ x ∷ []
@@ -87,13 +73,13 @@ module _ {K P : Type 0} {s0 : ReaderState} {w : Walk K P} (laws : WalkLaws s0 w)
   abbrev first : Step
   first = step s0.text w.container.first (s0.position + 1)
 
-  opened : s0.position < length s0.text → Leads s0 w [] (all s0 w) (part_reply w.told first)
+  opened : s0.position < length s0.text → LeadsTo s0 w [] (all s0 w) (part_reply w.told first)
   opened lt = leads s0 w laws [] (s0.position + 1) first (laws.goes.first (s0.position + 1) (omega arith))
 
   pub begins : {Y : Type 0} {keys : Y → Option K} {y : Y} {s : ReaderState} → s0.position < length s0.text
       → LeavesAt keys (Ok y) s0 s (part_reply w.told first) → In s0 s w (keys y) []
   begins lt h =
-      let led = subst (Leads s0 w [] (all s0 w)) h.value (opened lt) in
+      let led = subst (LeadsTo s0 w [] (all s0 w)) h.value (opened lt) in
       record { moves = h.moves; here = led.1; left = led.0 }
 
   pub first-refused : {X Y : Type 0} {view : X → Tree} {keys : Y → Option K} {e : JiterError} {s : ReaderState}
@@ -101,7 +87,7 @@ module _ {K P : Type 0} {s0 : ReaderState} {w : Walk K P} (laws : WalkLaws s0 w)
       → LeavesAt view (Err e) s0 s (all s0 w)
   first-refused lt h = record {
     moves = h.moves;
-    value = λ m. subst (Leads s0 w [] (all s0 w)) (h.value m) (opened lt);
+    value = λ m. subst (LeadsTo s0 w [] (all s0 w)) (h.value m) (opened lt);
     place = h.place;
   }
 
@@ -139,20 +125,20 @@ module _ {K P : Type 0} {s0 : ReaderState} {w : Walk K P} (laws : WalkLaws s0 w)
       abbrev with_part : List P
       with_part = parts ++ w.part k (view x) ∷ []
 
-      behind-leads : Leads s0 w with_part (all s0 w) (w.stepped s1)
+      behind-leads : LeadsTo s0 w with_part (all s0 w) (w.stepped s1)
       behind-leads =
           let e = s1.position in
           let next = step s0.text w.container.next e in
           let same : w.stepped s1 ≡ part_reply w.told next = ap w.stepped behind-moves.same ∙ laws.steps e in
           let led = leads s0 w laws with_part e next (laws.goes.next e behind-moves.within) in
-          subst (Leads s0 w with_part (all s0 w)) (sym same)
-          (subst (λ r. Leads s0 w with_part r (part_reply w.told next)) (sym (behind-here _ built.value)) led)
+          subst (LeadsTo s0 w with_part (all s0 w)) (sym same)
+          (subst (λ r. LeadsTo s0 w with_part r (part_reply w.told next)) (sym (behind-here _ built.value)) led)
 
       -- it leads on, or ends the container
       pub goes-on : {Y : Type 0} {keys : Y → Option K} {y : Y} {s2 : ReaderState} {more : List P}
           → LeavesAt keys (Ok y) s1 s2 (w.stepped s1) → with_part ≡ more → In s0 s2 w (keys y) more
       goes-on {keys = keys} {y = y} {s2 = s2} stepped more =
-          let led = subst (Leads s0 w with_part (all s0 w)) stepped.value behind-leads in
+          let led = subst (LeadsTo s0 w with_part (all s0 w)) stepped.value behind-leads in
           subst (λ ps. In s0 s2 w (keys y) ps) more
           (record { moves = moves-on s0 s1 s2 behind-moves stepped.moves; here = led.1; left = led.0 })
 
@@ -168,7 +154,7 @@ module _ {K P : Type 0} {s0 : ReaderState} {w : Walk K P} (laws : WalkLaws s0 w)
           → LeavesAt keys (Err e) s1 s2 (w.stepped s1) → LeavesAt view (Err e) s0 s2 (all s0 w)
       stuck-behind {s2 = s2} stepped = record {
         moves = moves-on s0 s1 s2 behind-moves stepped.moves;
-        value = λ m. subst (Leads s0 w with_part (all s0 w)) (stepped.value m) behind-leads;
+        value = λ m. subst (LeadsTo s0 w with_part (all s0 w)) (stepped.value m) behind-leads;
         place = stepped.place;
       }
 
