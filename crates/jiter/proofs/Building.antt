@@ -1,5 +1,6 @@
 -- What is left of a container behind the parts that the client has built, by the replies of its calls.
-use Rattle.std.proofs.Common.{◌≡◌, ◌∙◌, refl, ap, ℕ, ◌+◌, ◌<◌, ◌==◌, Bool, true, false, cond, List, [], ◌∷◌, ◌++◌, length}
+use Rattle.std.proofs.Common.{◌≡◌, ◌∙◌, refl, ap, ℕ, ◌+◌, ◌<◌, ◌==◌, Bool, true, false, cond, List, [], ◌∷◌, ◌++◌}
+use Rattle.std.proofs.Common.{length}
 use Rattle.std.proofs.Common.{arith, eqb-true}
 use Rattle.std.specs.Prelude.{slice_get, slice_index, Option, Some, None, option_map, IfSome}
 use Rattle.std.proofs.lemmas.Option.{slice_get-get_or, slice_get_within}

@@ -1,11 +1,13 @@
 //! The pull reader: its making, its place, and what all its calls share.
-ghost use Rattle.std.specs.Prelude.{◌≡◌, ◌≢◌, ◌<◌, ◌≤◌, MatchResult, Some, None, true, false, length, slice_get, slice_index, ⊤};
+ghost use Rattle.std.specs.Prelude.{◌≡◌, ◌≢◌, ◌<◌, ◌≤◌, MatchResult, Some, None, true, false, length, slice_get};
+ghost use Rattle.std.specs.Prelude.{slice_index, ⊤};
 ghost use Rattle.jiter_scan.specs.Kind.{fault_kind, out_of_memory};
 ghost use Rattle.jiter_scan.specs.NumberReading.{number_at};
 ghost use Rattle.jiter.specs.Cause.{json_error, wrong_type};
 ghost use Rattle.jiter.specs.Errors.{cause_of, type_of};
 ghost use Rattle.jiter.specs.Reader.{value_place, peek, finish, number_refusal, type_refusal};
-ghost use Rattle.jiter.specs.Jiter.{at_start, MovesOn, Replies, RefusesBytes, IsRefusalOf, refusal_view, IsErrorAt, StandsAt, byte_of};
+ghost use Rattle.jiter.specs.Jiter.{at_start, MovesOn, Replies, RefusesBytes, IsRefusalOf, refusal_view, IsErrorAt};
+ghost use Rattle.jiter.specs.Jiter.{StandsAt, byte_of};
 
 use crate::errors::{JiterError, JiterErrorType, JiterResult, JsonType};
 use crate::peek::Peek;

@@ -1,5 +1,6 @@
 -- Masks that are computed lane by lane, held to a test at each of the 256 bytes.
-use Rattle.std.proofs.Common.{◌≡◌, ℕ, ◌^◌, ◌%◌, ltb, leb, Bool, true, false, not, ◌&&◌, ◌||◌, cond, eqb, ◌==◌, List, [], ◌∷◌, map, length, refl, sym, ap, ap₂, ◌∙◌, arith, w8, Fits}
+use Rattle.std.proofs.Common.{◌≡◌, ℕ, ◌^◌, ◌%◌, ltb, leb, Bool, true, false, not, ◌&&◌, ◌||◌, cond, eqb, ◌==◌, List, []}
+use Rattle.std.proofs.Common.{◌∷◌, map, length, refl, sym, ap, ap₂, ◌∙◌, arith, w8, Fits}
 use Rattle.std.proofs.lemmas.Simd.{mask_l-mod}
 use Rattle.std.proofs.lemmas.List.{length-map}
 use Rattle.std.proofs.lemmas.Bool.{agree_below, agree_below_at}

@@ -1,12 +1,19 @@
 -- How far the reading of a number gets.
-use Rattle.std.proofs.Common.{◌≡◌, ◌≢◌, ℕ, ◌+◌, ◌<◌, ◌≤◌, Bool, true, false, ◌||◌, List, length, slice_range, refl, sym, ◌∙◌, arith}
+use Rattle.std.proofs.Common.{◌≡◌, ◌≢◌, ℕ, ◌+◌, ◌<◌, ◌≤◌, Bool, true, false, ◌||◌, List, length, slice_range, refl, sym}
+use Rattle.std.proofs.Common.{◌∙◌, arith}
 use Rattle.std.specs.Prelude.{slice_get, Option, Some, None, ◌==◌, if◌then◌else◌, nat_le, codes}
 use Rattle.std.proofs.lemmas.Bool.{leb-false, false≢true}
 use Rattle.std.proofs.lemmas.Option.{slice_get_within}
 use Rattle.jiter_scan.specs.Digits.{is_digit, digit_run_end}
-use Rattle.jiter_scan.specs.Kind.{Kind, out_of_memory, is_end_kind, eof_value, expected_value, invalid_number, number_out_of_range}
+use Rattle.jiter_scan.specs.Kind.{Kind, out_of_memory, is_end_kind, eof_value, expected_value, invalid_number}
+use Rattle.jiter_scan.specs.Kind.{number_out_of_range}
 use Rattle.jiter_scan.specs.Number.{Number, digit_limit, number_value}
-use Rattle.jiter_scan.specs.NumberReading.{extent_then, digits_from, behind_zero, within_limit, whole_from, whole_at, fraction_from, fraction_at, power_from, exponent_from, exponent_at, decimal_at, behind_minus, name_at, extent_from, number_extent, with_value, number_at, Integer, whole, float_seen, is_float_sign, integer_or_float, integer_behind, integer_behind_minus, integer_from, int_at, alone, integer_alone, if_number, begins_number, number_alone, int_alone}
+use Rattle.jiter_scan.specs.NumberReading.{extent_then, digits_from, behind_zero, within_limit, whole_from, whole_at}
+use Rattle.jiter_scan.specs.NumberReading.{fraction_from, fraction_at, power_from, exponent_from, exponent_at}
+use Rattle.jiter_scan.specs.NumberReading.{decimal_at, behind_minus, name_at, extent_from, number_extent, with_value}
+use Rattle.jiter_scan.specs.NumberReading.{number_at, Integer, whole, float_seen, is_float_sign, integer_or_float}
+use Rattle.jiter_scan.specs.NumberReading.{integer_behind, integer_behind_minus, integer_from, int_at, alone}
+use Rattle.jiter_scan.specs.NumberReading.{integer_alone, if_number, begins_number, number_alone, int_alone}
 use Rattle.jiter_scan.specs.Scanned.{Scanned, taken, failed}
 use Rattle.jiter_scan.specs.Word.{Extent, word_at}
 use Rattle.jiter_scan.proofs.Choices.{if_case}
@@ -40,7 +47,8 @@ module _ (t : List ℕ) where
       farther i n e 0 (next e) (omega (arith, h.0)) (omega (arith, h.0)) (go e h.1)
   extent_then-reaches i n (failed k j) next h go = h
 
-  pub digits_from-reaches : (i : ℕ) (o : Option ℕ) → slice_get t i ≡ o → i ≤ length t → Reaches t i 1 (digits_from t i o)
+  pub digits_from-reaches : (i : ℕ) (o : Option ℕ) → slice_get t i ≡ o → i ≤ length t
+      → Reaches t i 1 (digits_from t i o)
   digits_from-reaches i None s le = end-reaches i 1 eof_value (λ e. cc) le s
   digits_from-reaches i (Some c) s le =
       let run = run_end-within is_digit t i le in

@@ -1,12 +1,14 @@
 -- A number ends where its digits, fraction and exponent do, a minus before them or not.
-use Rattle.std.proofs.Common.{◌≡◌, ℕ, ◌+◌, ◌<◌, Bool, true, List, length, get_or, refl, sym, ap, ◌∙◌, arith, slice_range}
+use Rattle.std.proofs.Common.{◌≡◌, ℕ, ◌+◌, ◌<◌, Bool, true, List, length, get_or, refl, sym, ap, ◌∙◌, arith}
+use Rattle.std.proofs.Common.{slice_range}
 use Rattle.std.specs.Prelude.{slice_get, Option, Some, None, ◌==◌, if◌then◌else◌, codes}
 use Rattle.std.proofs.lemmas.Bool.{eqb-true, ne_eqb}
 use Rattle.std.proofs.lemmas.Option.{slice_get-get_or}
 use Rattle.jiter_scan.specs.Digits.{is_digit, digit_run_end}
 use Rattle.jiter_scan.specs.Kind.{invalid_number}
 use Rattle.jiter_scan.specs.NumberDecoder.{magnitude_of}
-use Rattle.jiter_scan.specs.NumberReading.{behind_zero, within_limit, whole_from, whole_at, fraction_at, exponent_at, extent_then, decimal_at, behind_minus, name_at, extent_from, number_extent}
+use Rattle.jiter_scan.specs.NumberReading.{behind_zero, within_limit, whole_from, whole_at, fraction_at, exponent_at}
+use Rattle.jiter_scan.specs.NumberReading.{extent_then, decimal_at, behind_minus, name_at, extent_from, number_extent}
 use Rattle.jiter_scan.specs.Scanned.{taken, failed}
 use Rattle.jiter_scan.specs.Word.{word_at}
 use Rattle.jiter_scan.proofs.Choices.{if_gives, if-false, failed-taken, extent_then-taken, same_taken}

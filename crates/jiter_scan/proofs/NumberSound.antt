@@ -1,12 +1,17 @@
 -- What is read as a number is a number's text.
-use Rattle.std.proofs.Common.{◌≡◌, ◌⊎◌, inl, inr, ℕ, ◌+◌, ◌≤◌, Bool, true, false, ◌||◌, List, [], ◌∷◌, ◌++◌, length, drop, refl, sym, ap, ◌∙◌, subst, arith}
+use Rattle.std.proofs.Common.{◌≡◌, ◌⊎◌, inl, inr, ℕ, ◌+◌, ◌≤◌, Bool, true, false, ◌||◌, List, [], ◌∷◌, ◌++◌, length}
+use Rattle.std.proofs.Common.{drop, refl, sym, ap, ◌∙◌, subst, arith}
 use Rattle.std.specs.Prelude.{slice_get, slice_range, Option, Some, None, ◌==◌, if◌then◌else◌, nat_le, codes}
 use Rattle.std.specs.List.{prefix_len}
 use Rattle.std.proofs.lemmas.Bool.{eqb-true, eqb-false, leb-true, or_cases}
 use Rattle.jiter_scan.specs.Digits.{is_digit, digit_run_end}
 use Rattle.jiter_scan.specs.Kind.{eof_value, expected_value, invalid_number, number_out_of_range}
-use Rattle.jiter_scan.specs.Number.{Number, number_value, AreDigits, IsDigits, IsMinus, IsWhole, IsFraction, IsSign, IsExponent, IsDecimal, IsNumberText, digit_limit}
-use Rattle.jiter_scan.specs.NumberReading.{extent_then, digits_from, behind_zero, within_limit, whole_from, whole_at, fraction_from, fraction_at, power_from, exponent_from, exponent_at, decimal_at, behind_minus, name_at, extent_from, number_extent, with_value, number_at}
+use Rattle.jiter_scan.specs.Number.{Number, number_value, AreDigits, IsDigits, IsMinus, IsWhole, IsFraction, IsSign}
+use Rattle.jiter_scan.specs.Number.{IsExponent, IsDecimal, IsNumberText, digit_limit}
+use Rattle.jiter_scan.specs.NumberReading.{extent_then, digits_from, behind_zero, within_limit, whole_from, whole_at}
+use Rattle.jiter_scan.specs.NumberReading.{fraction_from, fraction_at, power_from, exponent_from, exponent_at}
+use Rattle.jiter_scan.specs.NumberReading.{decimal_at, behind_minus, name_at, extent_from, number_extent, with_value}
+use Rattle.jiter_scan.specs.NumberReading.{number_at}
 use Rattle.jiter_scan.specs.Scanned.{taken, failed}
 use Rattle.jiter_scan.specs.Stands.{Stands}
 use Rattle.jiter_scan.specs.Word.{Extent, word_at}

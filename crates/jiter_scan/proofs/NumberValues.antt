@@ -1,11 +1,14 @@
 -- What a number's text stands for.
-use Rattle.std.proofs.Common.{◌≡◌, ◌≢◌, ◌⊎◌, inl, inr, ℕ, ◌^◌, ◌<◌, ◌≤◌, ◌==◌, ◌||◌, min, Bool, true, false, cond, length, List, [], ◌∷◌, ◌++◌, refl, sym, ap, ◌∙◌, subst, slice_range, arith, nat_le, nat_lt, pos}
+use Rattle.std.proofs.Common.{◌≡◌, ◌≢◌, ◌⊎◌, inl, inr, ℕ, ◌^◌, ◌<◌, ◌≤◌, ◌==◌, ◌||◌, min, Bool, true, false, cond}
+use Rattle.std.proofs.Common.{length, List, [], ◌∷◌, ◌++◌, refl, sym, ap, ◌∙◌, subst, slice_range, arith, nat_le}
+use Rattle.std.proofs.Common.{nat_lt, pos}
 use Rattle.std.specs.Prelude.{Some, slice_get}
 use Rattle.std.specs.List.{list_any}
 use Rattle.std.proofs.lemmas.Bool.{cases_lt, or_right}
 use Rattle.std.proofs.lemmas.Bool.Decides.{nat_tests}
 use Rattle.jiter_scan.specs.Digits.{is_digit, decimal_of}
-use Rattle.jiter_scan.specs.Number.{AreDigits, IsWhole, IsFraction, IsExponent, float, big, integer, is_float_byte, number_value, positive_value, negative_value, integral_value, minus_of}
+use Rattle.jiter_scan.specs.Number.{AreDigits, IsWhole, IsFraction, IsExponent, float, big, integer, is_float_byte}
+use Rattle.jiter_scan.specs.Number.{number_value, positive_value, negative_value, integral_value, minus_of}
 use Rattle.jiter_scan.specs.NumberReading.{extent_then, whole_at, fraction_at, exponent_at}
 use Rattle.jiter_scan.specs.NumberDecoder.{magnitude_of, IsMinusTo}
 use Rattle.jiter_scan.specs.Scanned.{taken}

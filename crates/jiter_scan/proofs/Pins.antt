@@ -1,7 +1,12 @@
 -- What the clauses on scalars leave open: two results that meet one clause say the same.
 use Rattle.std.proofs.Common.{◌≡◌, ℕ, List, refl, sym, ap, ◌∙◌}
 use Rattle.std.specs.Prelude.{Result, Ok, Err}
-use Rattle.jiter_scan.specs.Kind.{Kind, kind_of, fault_kind, float_expecting_int, eof_list, eof_object, eof_string, eof_value, expected_colon, expected_list_comma_or_end, expected_object_comma_or_end, expected_ident, expected_value, invalid_escape, invalid_number, number_out_of_range, invalid_code_point, control_character, key_must_be_a_string, lone_surrogate, trailing_comma, trailing_characters, end_of_hex_escape, recursion_limit, out_of_memory}
+use Rattle.jiter_scan.specs.Kind.{Kind, kind_of, fault_kind, float_expecting_int, eof_list, eof_object, eof_string}
+use Rattle.jiter_scan.specs.Kind.{eof_value, expected_colon, expected_list_comma_or_end, expected_object_comma_or_end}
+use Rattle.jiter_scan.specs.Kind.{expected_ident, expected_value, invalid_escape, invalid_number, number_out_of_range}
+use Rattle.jiter_scan.specs.Kind.{invalid_code_point, control_character, key_must_be_a_string, lone_surrogate}
+use Rattle.jiter_scan.specs.Kind.{trailing_comma, trailing_characters, end_of_hex_escape, recursion_limit}
+use Rattle.jiter_scan.specs.Kind.{out_of_memory}
 use Rattle.jiter_scan.specs.Scanned.{Scanned, failed, Scans, AnswersAlone}
 use Rattle.jiter_scan.specs.declared.errors.Fault.{Fault}
 use Rattle.jiter_scan.specs.declared.errors.FaultKind.{FaultKind}

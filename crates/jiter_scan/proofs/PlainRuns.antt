@@ -1,5 +1,7 @@
 -- Whether the plain bytes of a string are ASCII, chunk by chunk and byte by byte.
-use Rattle.std.proofs.Common.{◌≡◌, ℕ, ◌+◌, ◌-◌, ◌<◌, ◌≤◌, Bool, true, false, not, ◌&&◌, cond, eqb, leb, List, [], ◌∷◌, length, drop, take, get_or, refl, sym, ap, ◌∙◌, arith, zero, suc, take-add, take-take, drop-drop, drop-cons, inl, inr, add-one}
+use Rattle.std.proofs.Common.{◌≡◌, ℕ, ◌+◌, ◌-◌, ◌<◌, ◌≤◌, Bool, true, false, not, ◌&&◌, cond, eqb, leb, List, [], ◌∷◌}
+use Rattle.std.proofs.Common.{length, drop, take, get_or, refl, sym, ap, ◌∙◌, arith, zero, suc, take-add, take-take}
+use Rattle.std.proofs.Common.{drop-drop, drop-cons, inl, inr, add-one}
 use Rattle.std.specs.Prelude.{◌↔◌, IsTrue, slice_range}
 use Rattle.std.proofs.lemmas.Simd.{length-chunk}
 use Rattle.std.proofs.lemmas.List.Folds.{list_all-append}
@@ -14,7 +16,8 @@ use lib.Lanes.{chunk}
 use lib.Count.{count_trailing_zeros}
 use Rattle.jiter_scan.specs.Scan.{is_stop, is_plain, is_ascii, scan_stop, IsAsciiTo}
 use Rattle.jiter_scan.specs.Simd.{failing, ascii_from}
-use Rattle.jiter_scan.proofs.Chunks.{list_all-failing, prefix_len-all, prefix_len-failing, prefix_len-through, prefix_len-inside, none_fails, one_fails}
+use Rattle.jiter_scan.proofs.Chunks.{list_all-failing, prefix_len-all, prefix_len-failing, prefix_len-through}
+use Rattle.jiter_scan.proofs.Chunks.{prefix_len-inside, none_fails, one_fails}
 
 pub and-assoc : (a b c : Bool) → ((a && b) && c) ≡ (a && (b && c))
 and-assoc true b c = refl

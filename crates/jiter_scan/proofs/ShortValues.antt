@@ -5,7 +5,8 @@ use Rattle.std.proofs.lemmas.Bool.{ne_eqb, lt-ltb, le-leb}
 use Rattle.jiter_scan.specs.Kind.{invalid_number}
 use Rattle.jiter_scan.specs.Word.{Extent}
 use Rattle.jiter_scan.specs.Number.{integer, big, float, number_value, minus_of}
-use Rattle.jiter_scan.specs.NumberReading.{extent_then, whole_from, fraction_at, exponent_at, decimal_at, behind_minus, name_at, extent_from, number_extent, with_value, number_at}
+use Rattle.jiter_scan.specs.NumberReading.{extent_then, whole_from, fraction_at, exponent_at, decimal_at, behind_minus}
+use Rattle.jiter_scan.specs.NumberReading.{name_at, extent_from, number_extent, with_value, number_at}
 use Rattle.jiter_scan.specs.Scanned.{taken, failed}
 use Rattle.jiter_scan.specs.ShortNumber.{IsShortInteger, IsShortFloat}
 use Rattle.jiter_scan.proofs.Choices.{if-true, if-false}
@@ -16,7 +17,8 @@ module _ (t : List ℕ) where
   behind_whole x = extent_then x (λ j. extent_then (fraction_at t j) (λ k. exponent_at t k))
 
   -- the byte of a decimal number is neither a minus nor a letter
-  first-byte : (j e c d : ℕ) → slice_get t j ≡ Some c → decimal_at t j ≡ taken tt e → whole_from t j (Some d) ≡ failed invalid_number j → c ≢ d
+  first-byte : (j e c d : ℕ) → slice_get t j ≡ Some c → decimal_at t j ≡ taken tt e
+      → whole_from t j (Some d) ≡ failed invalid_number j → c ≢ d
   first-byte j e c d here h bad same =
       let no : failed invalid_number j ≡ taken tt e =
       sym (ap behind_whole (ap (whole_from t j) (here ∙ ap Some same) ∙ bad)) ∙ h in

@@ -1,5 +1,6 @@
 -- What the kernels give, and the masks and words that they work on.
-use Rattle.std.specs.Prelude.{◌≡◌, ℕ, ◌+◌, ◌-◌, ◌%◌, ◌==◌, ◌||◌, Bool, not, if◌then◌else◌, List, length, drop, take, map, nat_le, Option, Some, None}
+use Rattle.std.specs.Prelude.{◌≡◌, ℕ, ◌+◌, ◌-◌, ◌%◌, ◌==◌, ◌||◌, Bool, not, if◌then◌else◌, List, length, drop, take}
+use Rattle.std.specs.Prelude.{map, nat_le, Option, Some, None}
 use Rattle.std.specs.Int.Digits.{AllBelowBase}
 use Rattle.std.specs.List.{prefix_len, list_all}
 use Rattle.std.specs.Simd.Lanes.{mask_l}

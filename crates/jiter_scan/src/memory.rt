@@ -1,6 +1,8 @@
 //! What grows: the few requests for memory that the parser makes. Each answers, where it is refused, with
 //! the evidence of it, and nothing outside this module can make that evidence.
-ghost use Rattle.std.specs.Prelude.{◌≡◌, ◌+◌, ◌^◌, ◌<◌, ◌≤◌, ◌∷◌, ◌++◌, [], take, drop, IfOk, OnOk, OnErr, decimal, length, replicate, string_bytes, string_capacity, string_len, vec_capacity, vec_len};
+ghost use Rattle.std.specs.Prelude.{◌≡◌, ◌+◌, ◌^◌, ◌<◌, ◌≤◌, ◌∷◌, ◌++◌, [], take, drop, IfOk, OnOk, OnErr, decimal};
+ghost use Rattle.std.specs.Prelude.{length, replicate, string_bytes, string_capacity, string_len, vec_capacity};
+ghost use Rattle.std.specs.Prelude.{vec_len};
 
 use smallvec::SmallVec;
 use std::alloc::{AllocError, Global};

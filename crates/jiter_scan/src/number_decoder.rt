@@ -1,13 +1,17 @@
 //! Numbers: integers that 64 signed bits hold, and the text of all others (RFC 8259, 6).
-ghost use Rattle.std.specs.Prelude.{◌≡◌, ◌+◌, ◌<◌, ◌≤◌, ◌==◌, ◌||◌, IfOk, min, length, slice_get, slice_index, slice_range, Some, true};
+ghost use Rattle.std.specs.Prelude.{◌≡◌, ◌+◌, ◌<◌, ◌≤◌, ◌==◌, ◌||◌, IfOk, min, length, slice_get, slice_index};
+ghost use Rattle.std.specs.Prelude.{slice_range, Some, true};
 ghost use Rattle.std.specs.Str.{IsAscii};
 ghost use Rattle.jiter_scan.specs.Ascii as ascii;
 ghost use Rattle.jiter_scan.specs.Scanned.{Scans, with_end, whole_text, AnswersAlone, taken};
 ghost use Rattle.jiter_scan.specs.Word.{word_at};
 ghost use Rattle.jiter_scan.specs.Digits.{digit_run_end};
 ghost use Rattle.jiter_scan.specs.Number.{is_float_byte, positive_value, negative_value, number_value};
-ghost use Rattle.jiter_scan.specs.NumberReading.{whole_at, decimal_at, is_float_sign, behind_minus, name_at, with_value, number_at, int_at, integer_behind, integer_behind_minus, begins_number, number_alone, int_alone};
-ghost use Rattle.jiter_scan.specs.NumberDecoder.{int_view, number_view, integer_view, EndsWithin, magnitude_of, IsMinusTo};
+ghost use Rattle.jiter_scan.specs.NumberReading.{whole_at, decimal_at, is_float_sign, behind_minus, name_at};
+ghost use Rattle.jiter_scan.specs.NumberReading.{with_value, number_at, int_at, integer_behind, integer_behind_minus};
+ghost use Rattle.jiter_scan.specs.NumberReading.{begins_number, number_alone, int_alone};
+ghost use Rattle.jiter_scan.specs.NumberDecoder.{int_view, number_view, integer_view, EndsWithin, magnitude_of};
+ghost use Rattle.jiter_scan.specs.NumberDecoder.{IsMinusTo};
 
 use crate::errors::{Fault, FaultKind, JsonError, JsonResult, fault_at};
 use crate::number_extent::{tail_end, whole_end};

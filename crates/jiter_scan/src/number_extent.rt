@@ -1,7 +1,9 @@
 //! Where numbers end, with no value made (RFC 8259, 6).
 ghost use Rattle.std.specs.Prelude.{◌≡◌, ◌+◌, ◌<◌, ◌≤◌, Bool, IfOk, IfSome, length, slice_get};
 ghost use Rattle.jiter_scan.specs.Digits.{is_digit, digit_run_end};
-ghost use Rattle.jiter_scan.specs.NumberReading.{extent_then, digits_from, behind_zero, within_limit, whole_at, fraction_at, exponent_at, power_from, decimal_at, behind_minus, name_at, number_extent};
+ghost use Rattle.jiter_scan.specs.NumberReading.{extent_then, digits_from, behind_zero, within_limit, whole_at};
+ghost use Rattle.jiter_scan.specs.NumberReading.{fraction_at, exponent_at, power_from, decimal_at, behind_minus};
+ghost use Rattle.jiter_scan.specs.NumberReading.{name_at, number_extent};
 ghost use Rattle.jiter_scan.specs.Scanned.{Scans, taken};
 
 use crate::errors::{Fault, FaultKind, fault_at};

@@ -1,12 +1,14 @@
 //! Strings and digits sixteen bytes at a time: where plain bytes end, where digits end, and what they write.
-ghost use Rattle.std.specs.Prelude.{◌≡◌, ◌↔◌, ℕ, List, ◌+◌, ◌*◌, ◌^◌, ◌<◌, ◌≤◌, ◌&&◌, IsTrue, length, take, drop, map, nat_le, slice_range};
+ghost use Rattle.std.specs.Prelude.{◌≡◌, ◌↔◌, ℕ, List, ◌+◌, ◌*◌, ◌^◌, ◌<◌, ◌≤◌, ◌&&◌, IsTrue, length, take, drop, map};
+ghost use Rattle.std.specs.Prelude.{nat_le, slice_range};
 ghost use Rattle.std.specs.Int.{w64, trailing_zeros};
 ghost use Rattle.std.specs.Int.Digits.{number_from_digits, AllBelowBase};
 ghost use Rattle.std.specs.List.{list_all};
 ghost use Rattle.std.specs.Simd.Lanes.{chunk, number_l};
 ghost use Rattle.jiter_scan.specs.Digits.{is_digit, digit_run_end, decimal_of};
 ghost use Rattle.jiter_scan.specs.Scan.{is_stop, is_plain, is_ascii, scan_stop, IsAsciiTo};
-ghost use Rattle.jiter_scan.specs.Simd.{digits_end, ascii_from, failing, is_no_mark, is_no_control, less_zero, IsEightBytes};
+ghost use Rattle.jiter_scan.specs.Simd.{digits_end, ascii_from, failing, is_no_mark, is_no_control, less_zero};
+ghost use Rattle.jiter_scan.specs.Simd.{IsEightBytes};
 
 use std::simd::prelude::*;
 

@@ -29,7 +29,8 @@ no_blank-above c h = grind (arith, nat_tests)
 
 module _ (t : List ℕ) where
   -- a byte at a time
-  pub past_blanks-blank : (i : ℕ) → i < length t → is_blank (get_or t i 0) ≡ true → past_blanks t i ≡ past_blanks t (i + 1)
+  pub past_blanks-blank : (i : ℕ) → i < length t → is_blank (get_or t i 0) ≡ true
+      → past_blanks t i ≡ past_blanks t (i + 1)
   unfolding past_blanks
   past_blanks-blank = run_end-passing is_blank t
 

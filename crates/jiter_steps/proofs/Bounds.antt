@@ -1,4 +1,5 @@
--- Where steps and readings end: within the text, and a fault of the input's end at its length alone. One walk over the rows.
+-- Where steps and readings end: within the text, and a fault of the input's end at its length alone. One walk over the
+-- rows.
 use Rattle.std.proofs.Common.{◌≡◌, ◌≢◌, ℕ, ◌+◌, ◌<◌, ◌≤◌, ◌==◌, Bool, true, false, cond, length, List, refl, sym, ◌∙◌}
 use Rattle.std.proofs.Common.{arith}
 use Rattle.std.specs.Prelude.{slice_get, Option, Some, None}

@@ -8,7 +8,8 @@ use Rattle.std.proofs.Math.Utf8.{scalar_cases}
 use Rattle.jiter_scan.specs.Kind.{lone_surrogate}
 use Rattle.jiter_scan.proofs.Choices.{if-false}
 use Rattle.jiter_steps.specs.Escape.{short_escape, is_high, is_low}
-use Rattle.jiter_steps.specs.StringReading.{part, over, wrong, number, hex_digits_at, behind, unit_then, behind_high, single, unicode_escape, short, behind_backslash, place_by, place_at}
+use Rattle.jiter_steps.specs.StringReading.{part, over, wrong, number, hex_digits_at, behind, unit_then, behind_high}
+use Rattle.jiter_steps.specs.StringReading.{single, unicode_escape, short, behind_backslash, place_by, place_at}
 
 scalar-no_high : (u : ℕ) → IsScalar u → is_high u ≡ false
 scalar-no_high u h = grind (arith, nat_tests, scalar_cases u h)

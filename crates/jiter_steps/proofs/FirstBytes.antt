@@ -33,7 +33,8 @@ not_string false false true d h = cc
 not_string false false false true h = cc
 not_string false false false false h = cc
 
-third : (a b c : Bool) (rest : Start) → (rest ≡ start.String → ⊥) → cond a start.Array (cond b start.Object (cond c start.String rest)) ≡ start.String → c ≡ true
+third : (a b c : Bool) (rest : Start) → (rest ≡ start.String → ⊥)
+    → cond a start.Array (cond b start.Object (cond c start.String rest)) ≡ start.String → c ≡ true
 third true b c rest other h = let clash : ⊥ = cc in absurd clash
 third false true c rest other h = let clash : ⊥ = cc in absurd clash
 third false false true rest other h = refl

@@ -1,4 +1,5 @@
--- The readings that calls answer with stay within the text; so do their faults, and one of the input's end stands at its length.
+-- The readings that calls answer with stay within the text; so do their faults, and one of the input's end stands at
+-- its length.
 use Rattle.std.proofs.Common.{ℕ, ◌<◌, ◌≤◌, Bool, List, length, arith}
 use Rattle.jiter_scan.specs.Kind.{Kind}
 use Rattle.jiter_scan.specs.Scanned.{Scanned, taken, failed}
@@ -22,7 +23,8 @@ use Rattle.jiter_steps.proofs.NodeRules.{nodes}
 use Rattle.jiter_steps.proofs.StringLaws.{string_at-within}
 
 -- what was read, seen so
-pub seen-within : {A B : Type 0} (f : A → ℕ → B) (t : List ℕ) (i : ℕ) (x : Scanned A) → ScalarWithin t i x → ScalarWithin t i (seen_as f x)
+pub seen-within : {A B : Type 0} (f : A → ℕ → B) (t : List ℕ) (i : ℕ) (x : Scanned A) → ScalarWithin t i x
+    → ScalarWithin t i (seen_as f x)
 seen-within f t i (taken a e) h = h
 seen-within f t i (failed k j) h = h
 

@@ -206,7 +206,8 @@ module _ (names : Bool) where
         (all j (slice_get_within t j h.2.begins.byte h.2.begins.here))
     behind_colon-open i key begins string (failed k j) h dead = dead
 
-    behind_key-open : (i : ℕ) → slice_get t i ≡ Some 34 → (x : Scanned Text) → string_at whole t i ≡ x → ScalarWithin t i x
+    behind_key-open : (i : ℕ) → slice_get t i ≡ Some 34 → (x : Scanned Text) → string_at whole t i ≡ x
+        → ScalarWithin t i x
         → LiveIs (CanEndHere (IsMember room) t i) x
         → OpenAs (IsMember room) t i (behind_key inner t i (seen_as (key_of t i) x))
     behind_key-open i quote (taken s e) is w dead =

@@ -1,5 +1,6 @@
 -- What the readers of raw strings answer, from where a content is over.
-use Rattle.std.proofs.Common.{◌≡◌, ◌≢◌, ℕ, ◌+◌, ◌-◌, ◌<◌, ◌≤◌, Bool, true, false, List, length, refl, sym, ap, ◌∙◌, subst, arith}
+use Rattle.std.proofs.Common.{◌≡◌, ◌≢◌, ℕ, ◌+◌, ◌-◌, ◌<◌, ◌≤◌, Bool, true, false, List, length, refl, sym, ap, ◌∙◌}
+use Rattle.std.proofs.Common.{subst, arith}
 use Rattle.std.specs.Prelude.{slice_get, Option, Some, None, IfSome}
 use Rattle.std.proofs.lemmas.Bool.Decides.{nat_tests}
 use Rattle.std.proofs.lemmas.Option.{none-some, same_Some}
@@ -8,7 +9,8 @@ use Rattle.jiter_scan.specs.Kind.{Kind, eof_string}
 use Rattle.jiter_scan.specs.Scanned.{Scanned, taken, failed}
 use Rattle.jiter_scan.proofs.Choices.{failed-taken, same_taken}
 use Rattle.jiter_steps.specs.Answer.{seen_as}
-use Rattle.jiter_steps.specs.StringReading.{Place, part, over, Stop, closed, unclosed, cut, wrong, place_by, place_at, Body, body_at, Form, raw, raw_kept, between, text_in_form, content_at}
+use Rattle.jiter_steps.specs.StringReading.{Place, part, over, Stop, closed, unclosed, cut, wrong, place_by, place_at}
+use Rattle.jiter_steps.specs.StringReading.{Body, body_at, Form, raw, raw_kept, between, text_in_form, content_at}
 use Rattle.jiter_steps.specs.RawString.{EndsAt}
 use Rattle.jiter_steps.proofs.Bodies.{body_at-place_by, part-ahead}
 use Rattle.jiter_steps.proofs.Places.{ByteAt, Explains, place_at-explains}

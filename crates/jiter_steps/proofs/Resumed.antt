@@ -1,15 +1,20 @@
 -- The turns of the machine, as what the open containers complete a reading to.
-use Rattle.std.proofs.Common.{◌≡◌, ℕ, suc, ◌+◌, ◌-◌, ◌<◌, ◌≤◌, Bool, true, false, cond, List, [], ◌∷◌, length, refl, ap, ◌∙◌, arith}
+use Rattle.std.proofs.Common.{◌≡◌, ℕ, suc, ◌+◌, ◌-◌, ◌<◌, ◌≤◌, Bool, true, false, cond, List, [], ◌∷◌, length, refl, ap}
+use Rattle.std.proofs.Common.{◌∙◌, arith}
 use Rattle.std.specs.Prelude.{slice_index}
 use Rattle.jiter_scan.specs.Kind.{Kind, recursion_limit}
 use Rattle.jiter_scan.specs.Scanned.{taken, failed}
 use Rattle.jiter_steps.specs.Literal.{start_of}
 use Rattle.jiter_steps.specs.Step.{Step, more, closed, stuck, step, opening, container_first, object_colon}
-use Rattle.jiter_steps.specs.Read.{Reading, done, fault, Rules, Container, if_forgiven, follow, behind_part, container_at, value_with, inside_at, value_at}
+use Rattle.jiter_steps.specs.Read.{Reading, done, fault, Rules, Container, if_forgiven, follow, behind_part}
+use Rattle.jiter_steps.specs.Read.{container_at, value_with, inside_at, value_at}
 use Rattle.jiter_steps.specs.declared.parse.Shape.{Shape}
 use Rattle.jiter_steps.specs.declared.parse.Shape.TheVariants as shape
-use Rattle.jiter_steps.proofs.Values.{Advances, Goes, inside_at-within, inside_at-suc, inside_at-starts, inside_at-none, array_of-goes, object_of-goes, parts_at_is, parts-fault, member-key, member-colon, member-value}
-use Rattle.jiter_steps.specs.Frames.{Frame, items_frame, members_frame, resolve_step, parts_from, parts_step, value_in, array_in, object_in, behind_value, resume, value_from, key_from}
+use Rattle.jiter_steps.proofs.Values.{Advances, Goes, inside_at-within, inside_at-suc, inside_at-starts, inside_at-none}
+use Rattle.jiter_steps.proofs.Values.{array_of-goes, object_of-goes, parts_at_is, parts-fault, member-key, member-colon}
+use Rattle.jiter_steps.proofs.Values.{member-value}
+use Rattle.jiter_steps.specs.Frames.{Frame, items_frame, members_frame, resolve_step, parts_from, parts_step, value_in}
+use Rattle.jiter_steps.specs.Frames.{array_in, object_in, behind_value, resume, value_from, key_from}
 
 -- Where a container begins is not built into its value.
 pub record IgnoresBegin {K A : Type 0} (r : Rules K A) : Type 0 where

@@ -167,14 +167,16 @@ module _ (t u : List ℕ) (m : ℕ) (same : SameBefore t u m) where
             (omega (arith, r.0, s), bad-place_by i k (g (i + 4)) r.1)
 
   -- escapes
-  behind_high_backslash-same : (high i : ℕ) → Same m (i + 1) (behind_high_backslash t high i (slice_get t i)) (behind_high_backslash u high i (slice_get u i))
+  behind_high_backslash-same : (high i : ℕ)
+      → Same m (i + 1) (behind_high_backslash t high i (slice_get t i)) (behind_high_backslash u high i (slice_get u i))
   behind_high_backslash-same high i =
       byte-same (behind_high_backslash t high i) (behind_high_backslash u high i) i (λ s. s)
       (λ c. both (Same m (i + 1)) (c == 117) _ _ _ _
       (unit-same (i + 1) (surrogate_pair high) (surrogate_pair high) (surrogate_pair-same m high (i + 1 + 4)))
       (wrong-still m end_of_hex_escape i (i + 1) (omega arith)))
 
-  behind_high-same : (high i : ℕ) → Same m (i + 1) (behind_high t high i (slice_get t i)) (behind_high u high i (slice_get u i))
+  behind_high-same : (high i : ℕ)
+      → Same m (i + 1) (behind_high t high i (slice_get t i)) (behind_high u high i (slice_get u i))
   behind_high-same high i =
       byte-same (behind_high t high i) (behind_high u high i) i (λ s. s)
       (λ c. both (Same m (i + 1)) (c == 92) _ _ _ _
@@ -185,7 +187,8 @@ module _ (t u : List ℕ) (m : ℕ) (same : SameBefore t u m) where
   unicode_escape-same j x =
       both (Same m j) (is_high x) _ _ _ _ (earlier m j (j + 1) _ _ (omega arith) (behind_high-same x j)) (single-same m j x)
 
-  behind_backslash-same : (i : ℕ) → Same m (i + 1) (behind_backslash t i (slice_get t i)) (behind_backslash u i (slice_get u i))
+  behind_backslash-same : (i : ℕ)
+      → Same m (i + 1) (behind_backslash t i (slice_get t i)) (behind_backslash u i (slice_get u i))
   behind_backslash-same i =
       byte-same (behind_backslash t i) (behind_backslash u i) i (λ s. s)
       (λ c. both (Same m (i + 1)) (c == 117) _ _ _ _

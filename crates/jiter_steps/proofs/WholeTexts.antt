@@ -30,10 +30,12 @@ module _ {K A : Type 0} (r : Rules K A) (t : List ℕ) where
   pub whole-empty : past_blanks t 0 ≡ length t → whole_answer r t ≡ fault eof_value (length t) (length t)
   whole-empty e = whole-is ∙ ap (to_end t) (front-empty e)
 
-  pub whole-begins : (i : ℕ) → past_blanks t 0 ≡ i → i < length t → whole_answer r t ≡ to_end t (value_at r t nesting_limit i)
+  pub whole-begins : (i : ℕ) → past_blanks t 0 ≡ i → i < length t
+      → whole_answer r t ≡ to_end t (value_at r t nesting_limit i)
   whole-begins i e h = whole-is ∙ ap (to_end t) (front-begins i e h)
 
-  pub whole-fault : (i : ℕ) (k : Kind) (x stop : ℕ) → past_blanks t 0 ≡ i → i < length t → value_at r t nesting_limit i ≡ fault k x stop → whole_answer r t ≡ fault k x stop
+  pub whole-fault : (i : ℕ) (k : Kind) (x stop : ℕ) → past_blanks t 0 ≡ i → i < length t
+      → value_at r t nesting_limit i ≡ fault k x stop → whole_answer r t ≡ fault k x stop
   whole-fault i k x stop e h v = whole-begins i e h ∙ ap (to_end t) v
 
   -- An answer stays within the text.
@@ -46,7 +48,8 @@ module _ {K A : Type 0} (r : Rules K A) (t : List ℕ) where
     if_begun-within i None le q = let past = get-none t i q in (omega arith, le, fault-end t eof_value i (λ m. cc) (omega (arith, past)))
     if_begun-within i (Some c) le q = within-later 0 i (value_at r t nesting_limit i) (omega arith) (value_at-within r t good nesting_limit i (slice_get_within t i c q))
 
-    if_last-within : (a : A) (e j : ℕ) (o : Option ℕ) → 0 < e → e ≤ length t → j ≤ length t → Within t 0 (if_last a e j o)
+    if_last-within : (a : A) (e j : ℕ) (o : Option ℕ) → 0 < e → e ≤ length t → j ≤ length t
+        → Within t 0 (if_last a e j o)
     if_last-within a e j None some le lj = (some, le)
     if_last-within a e j (Some c) some le lj = (omega arith, lj, fault-byte t trailing_characters j (λ m. cc) refl lj)
 

@@ -128,7 +128,8 @@ abbrev mutual
 abbrev pub has_backslash : List ℕ → ℕ → ℕ → Bool
 has_backslash t i j = list_any (λ c. c == ascii.backslash) (slice_range t i j)
 
--- the text of these pieces, whose source lies between the two places: its bytes are the input's own where it has no backslash
+-- the text of these pieces, whose source lies between the two places: its bytes are the input's own where it has no
+-- backslash
 abbrev pub text_at : List ℕ → List Piece → ℕ → ℕ → Text
 text_at t ps i j = record { owned = has_backslash t i j; bytes = text_of ps }
 

@@ -28,7 +28,8 @@ pub record Rules (K A : Type 0) : Type 0 where
   pub array : ℕ → ℕ → List A → A
   pub object : ℕ → ℕ → List (K × A) → A
 
--- A container: what may stand behind its bracket, what behind a part, a part at a place, and what is built of the parts.
+-- A container: what may stand behind its bracket, what behind a part, a part at a place, and what is built of the
+-- parts.
 pub record Container (P A : Type 0) : Type 0 where
   pub first : ℕ → Option ℕ → Step
   pub next : ℕ → Option ℕ → Step
@@ -75,7 +76,8 @@ module _ {K A : Type 0} where
 
   module _ {P : Type 0} where
     -- behind a part
-    abbrev pub behind_part : Rules K A → Container P A → List ℕ → (List P → ℕ → Reading A) → List P → Reading P → Reading A
+    abbrev pub behind_part : Rules K A → Container P A → List ℕ → (List P → ℕ → Reading A) → List P → Reading P
+        → Reading A
     behind_part r c t go parts (done p e) = follow r (go (parts ++ p ∷ [])) (λ e. c.build e (parts ++ p ∷ [])) (step t c.next e)
     behind_part r c t go parts (fault k i stop) = if_forgiven r (λ e. c.build e parts) k i stop
 

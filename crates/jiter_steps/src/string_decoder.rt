@@ -1,5 +1,7 @@
 //! Reading a string (RFC 8259, 7 and 8.1): its own bytes where it has no backslash, or else its text decoded.
-ghost use Rattle.std.specs.Prelude.{◌≡◌, ℕ, Bool, ◌+◌, ◌^◌, ◌<◌, ◌≤◌, ◌++◌, length, true, false, slice_get, slice_range, IfOk, IfErr, IfSome, IsTrue, MatchResult, Some, None, take, drop, vec_len};
+ghost use Rattle.std.specs.Prelude.{◌≡◌, ℕ, Bool, ◌+◌, ◌^◌, ◌<◌, ◌≤◌, ◌++◌, length, true, false, slice_get};
+ghost use Rattle.std.specs.Prelude.{slice_range, IfOk, IfErr, IfSome, IsTrue, MatchResult, Some, None, take, drop};
+ghost use Rattle.std.specs.Prelude.{vec_len};
 ghost use Rattle.std.specs.Char.{digit_value, encode_utf8};
 ghost use Rattle.std.specs.List.{AllPass};
 ghost use Rattle.std.specs.Str.{IsUtf8, IsValidUpTo};
@@ -10,7 +12,9 @@ ghost use Rattle.jiter_scan.specs.Kind.{invalid_code_point};
 ghost use Rattle.jiter_scan.specs.Scanned.{Scans, with_end, taken, failed};
 ghost use Rattle.jiter_steps.specs.Escape.{short_escape, is_hex, is_high, is_low};
 ghost use Rattle.jiter_steps.specs.ReadError.{UnlessRefused, WhereRefused};
-ghost use Rattle.jiter_steps.specs.StringReading.{number, part, hex_digits_at, place_at, unit_then, behind_backslash, unicode_escape, behind_high, behind_high_backslash, surrogate_pair, body_at, if_utf8, valid_front, whole, kept, string_at};
+ghost use Rattle.jiter_steps.specs.StringReading.{number, part, hex_digits_at, place_at, unit_then, behind_backslash};
+ghost use Rattle.jiter_steps.specs.StringReading.{unicode_escape, behind_high, behind_high_backslash, surrogate_pair};
+ghost use Rattle.jiter_steps.specs.StringReading.{body_at, if_utf8, valid_front, whole, kept, string_at};
 ghost use Rattle.jiter_steps.specs.StringDecoder.{text_view, digits_view, IfNumber, place_view, stop_view, WantsMemory};
 ghost use Rattle.jiter_steps.specs.declared.string_decoder.AtStop.TheVariants as at_stop;
 ghost use Rattle.jiter_steps.specs.declared.string_decoder.Ending.TheVariants as ending;

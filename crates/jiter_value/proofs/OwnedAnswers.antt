@@ -1,5 +1,6 @@
 -- What an answer says, its value says once it owns its texts.
-use Rattle.std.proofs.Common.{◌≡◌, ◌⊎◌, inl, inr, ℕ, ◌+◌, ◌≤◌, Bool, true, List, length, take, refl, sym, ap, ◌∙◌, subst, arith, true≢false}
+use Rattle.std.proofs.Common.{◌≡◌, ◌⊎◌, inl, inr, ℕ, ◌+◌, ◌≤◌, Bool, true, List, length, take, refl, sym, ap, ◌∙◌}
+use Rattle.std.proofs.Common.{subst, arith, true≢false}
 use Rattle.std.specs.Prelude.{Result, Ok, Err, IfOk, IfErr, MatchResult, Option, Some, option_map}
 use Rattle.jiter_scan.specs.Kind.{kind_of, is_end_kind}
 use Rattle.jiter_scan.specs.declared.errors.JsonError.{JsonError}

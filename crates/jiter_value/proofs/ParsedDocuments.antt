@@ -33,7 +33,8 @@ cut-early names t c = subst (λ u. EndsEarly (answer names u)) (sym c.is) (prefi
 
 -- With partial reading off.
 module _ (names : Bool) (t : List ℕ) where
-  pub parse-found : (r : Result JsonValue JsonError) → Answers r (answer names t) → IfOk r (λ v. (n : Node) × IsDocument names t n × (value_of t n ≡ view v))
+  pub parse-found : (r : Result JsonValue JsonError) → Answers r (answer names t)
+      → IfOk r (λ v. (n : Node) × IsDocument names t n × (value_of t n ≡ view v))
   parse-found (Ok v) h = let read = subst (IsRead names t) h.1 (answer-is names t) in (read.0, read.1, read.2)
   parse-found (Err e) h = tt
 
@@ -58,7 +59,8 @@ module _ (names : Bool) (t : List ℕ) where
 
 -- In every mode: a document's value and its cuts.
 module _ (names : Bool) (t : List ℕ) (mode : PartialMode) where
-  pub answer-off : (r : Result JsonValue JsonError) → Answers r (answer_in names mode t) → mode ≡ Off → Answers r (answer names t)
+  pub answer-off : (r : Result JsonValue JsonError) → Answers r (answer_in names mode t) → mode ≡ Off
+      → Answers r (answer names t)
   answer-off r h off = subst (λ m. Answers r (answer_in names m t)) off h
 
   same-tree : (v w : Tree) (i j : ℕ) → done v i ≡ done w j → v ≡ w
@@ -67,7 +69,8 @@ module _ (names : Bool) (t : List ℕ) (mode : PartialMode) where
   no-fault : {P : Type 0} → (v : Tree) (i x stop : ℕ) (k : Kind) → done v i ≡ fault k x stop → P
   no-fault v i x stop k h = let no : ⊥ = cc in absurd no
 
-  pub parse-accepts : (r : Result JsonValue JsonError) → Answers r (answer_in names mode t) → (n : Node) → IsDocument names t n
+  pub parse-accepts : (r : Result JsonValue JsonError) → Answers r (answer_in names mode t) → (n : Node)
+      → IsDocument names t n
       → MatchResult r (λ v. view v ≡ value_of t n) (λ e. e.error_type ≡ OutOfMemory)
   parse-accepts (Ok v) h n d = same-tree (view v) (value_of t n) h.0 (end n) (sym h.1 ∙ answer_in-of names t mode n d)
   parse-accepts (Err e) (inl m) n d = m
@@ -86,10 +89,12 @@ module _ (names : Bool) (t : List ℕ) (mode : PartialMode) (i : ℕ) (e : JsonE
   fault-at : (k : Kind) (x : ℕ) → answer_in names mode t ≡ fault k x i → FaultAt t k x
   fault-at k x h = let w = subst (Within t 0) h (answer_in-within names t mode) in w.2
 
-  pub error-index : (x : ReadError) → IsErrorOf x i e → GivesWhole (Err x) i (answer_in names mode t) → i ≤ length t → e.index ≤ length t
+  pub error-index : (x : ReadError) → IsErrorOf x i e → GivesWhole (Err x) i (answer_in names mode t) → i ≤ length t
+      → e.index ≤ length t
   error-index (error.Fault f) is h le = subst (λ j. j ≤ length t) (sym is.1) (fault-at (fault_kind f.kind) f.index h).within
   error-index (error.Memory m) is h le = subst (λ j. j ≤ length t) (sym (ap (λ e. e.index) is)) le
 
-  pub error-ends : (x : ReadError) → IsErrorOf x i e → GivesWhole (Err x) i (answer_in names mode t) → is_end_kind (kind_of e.error_type) ≡ true → e.index ≡ length t
+  pub error-ends : (x : ReadError) → IsErrorOf x i e → GivesWhole (Err x) i (answer_in names mode t)
+      → is_end_kind (kind_of e.error_type) ≡ true → e.index ≡ length t
   error-ends (error.Fault f) is h k = is.1 ∙ (fault-at (fault_kind f.kind) f.index h).ends (ap is_end_kind (sym is.0) ∙ k)
   error-ends (error.Memory m) is h k = let other = ap (λ e. is_end_kind (kind_of e.error_type)) (sym is) ∙ k in absurd (cc)

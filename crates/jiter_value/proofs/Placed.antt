@@ -1,5 +1,6 @@
 -- Plain scalars, read and put where they belong.
-use Rattle.std.proofs.Common.{◌≡◌, inl, inr, ℕ, ◌+◌, ◌<◌, ◌≤◌, Bool, true, false, List, [], ◌∷◌, ◌++◌, length, length-append, Vec, refl, sym, ap, subst, ◌∙◌, slice_range, arith}
+use Rattle.std.proofs.Common.{◌≡◌, inl, inr, ℕ, ◌+◌, ◌<◌, ◌≤◌, Bool, true, false, List, [], ◌∷◌, ◌++◌, length}
+use Rattle.std.proofs.Common.{length-append, Vec, refl, sym, ap, subst, ◌∙◌, slice_range, arith}
 use Rattle.std.specs.Prelude.{reverse, slice_index, nat_lt, pos, if◌then◌else◌}
 use Rattle.std.proofs.lemmas.Bool.Decides.{nat_tests}
 use Rattle.std.proofs.lemmas.List.{length-reverse}
@@ -105,7 +106,8 @@ module _ (t : List ℕ) (names : Bool) (i e : ℕ) where
       short-negative_float t names e i minus (subst (λ k. IsShortFloat t k e) next s)
 
 -- a key that was read so, and put so
-pub key-at : (t : List ℕ) (s : Stacks) (ms : Vec Member Global) (i e j : ℕ) (k : CowStr Global) (x : Text) → text_view k ≡ x
+pub key-at : (t : List ℕ) (s : Stacks) (ms : Vec Member Global) (i e j : ℕ) (k : CowStr Global) (x : Text)
+    → text_view k ≡ x
     → StandsAtKey s → i < length t → string_at whole t i ≡ taken x e → object_colon t e ≡ taken tt j
     → ms.items ≡ s.members.items ++ (k, Null) ∷ [] → i < j → j < length t
     → IsKeyAt t s i (record { items = s.items; members = ms; nest = s.nest; root = s.root; error = s.error; kept = s.kept }) j

@@ -1,5 +1,6 @@
 -- What arrays and objects have in common on the stacks: behind a part, where they begin and where they end.
-use Rattle.std.proofs.Common.{◌≡◌, ◌≢◌, ℕ, ◌+◌, ◌<◌, ◌≤◌, false, List, [], ◌∷◌, ◌++◌, length, map, length-append, refl, sym, ap, ap₂, subst, ◌∙◌, arith}
+use Rattle.std.proofs.Common.{◌≡◌, ◌≢◌, ℕ, ◌+◌, ◌<◌, ◌≤◌, false, List, [], ◌∷◌, ◌++◌, length, map, length-append, refl}
+use Rattle.std.proofs.Common.{sym, ap, ap₂, subst, ◌∙◌, arith}
 use Rattle.std.specs.Prelude.{slice_index, reverse, IfOk}
 use Rattle.std.proofs.lemmas.List.{reverse-append, length-reverse, take_all, drop_all}
 use Rattle.smallvec.specs.SmallVec.{SmallVec}
@@ -17,8 +18,11 @@ use Rattle.jiter_steps.specs.declared.parse.Shape.TheVariants as shape
 use Rattle.jiter_steps.specs.declared.read_error.ReadError.{ReadError}
 use Rattle.jiter_steps.specs.declared.read_error.ReadError.TheVariants as errors
 use Rattle.jiter_value.specs.Settings.{forgives, rules}
-use Rattle.jiter_value.specs.Size.{size, held, behind_size, behind_size_in, inside_size, inside_size_in, value_size, frames_size, parts_size}
-use Rattle.jiter_value.specs.Stacks.{resume_with, from_value, behind, behind_in, meaning, container_ends, Stands, StandsInside, HavePartBase, frames, parts_above, frames_below, member_view, awaited_in, base_of, part_of, empty_tree}
+use Rattle.jiter_value.specs.Size.{size, held, behind_size, behind_size_in, inside_size, inside_size_in, value_size}
+use Rattle.jiter_value.specs.Size.{frames_size, parts_size}
+use Rattle.jiter_value.specs.Stacks.{resume_with, from_value, behind, behind_in, meaning, container_ends, Stands}
+use Rattle.jiter_value.specs.Stacks.{StandsInside, HavePartBase, frames, parts_above, frames_below, member_view}
+use Rattle.jiter_value.specs.Stacks.{awaited_in, base_of, part_of, empty_tree}
 use Rattle.jiter_value.specs.Turns.{IsWithin, IsResolved, Reaches, Fails, outcome}
 use Rattle.jiter_value.specs.Value.{view, LeadsOn, MayGrowAs, MayGrowAt}
 use Rattle.jiter_value.specs.declared.settings.Settings.{Settings}
@@ -26,7 +30,8 @@ use Rattle.jiter_value.specs.declared.stacks.Open.{Open}
 use Rattle.jiter_value.specs.declared.stacks.Awaits.{Awaits}
 use Rattle.jiter_value.specs.declared.stacks.Awaits.TheVariants as awaits
 use Rattle.jiter_value.specs.declared.stacks.Stacks.{Stacks}
-use Rattle.jiter_value.proofs.StackTurns.{behind-more, behind-closed, behind-stuck, begins, begins-closed, begins-stuck, next-part, part_in, container_of, key-base, array-limit}
+use Rattle.jiter_value.proofs.StackTurns.{behind-more, behind-closed, behind-stuck, begins, begins-closed, begins-stuck}
+use Rattle.jiter_value.proofs.StackTurns.{next-part, part_in, container_of, key-base, array-limit}
 use Rattle.jiter_value.proofs.Sizes.{behind-part-size, item-size}
 
 -- a part begins
@@ -101,7 +106,8 @@ part-meaning p t s shape.Array j = refl
 part-meaning p t s shape.Object j = refl
 
 module _ (p : Settings) (t : List ℕ) (s : Stacks) where
-  pub inside-more : (h : Shape) (e j : ℕ) → Stands s (awaited_in h) → step t (container_step h t) e ≡ more j → j < length t
+  pub inside-more : (h : Shape) (e j : ℕ) → Stands s (awaited_in h) → step t (container_step h t) e ≡ more j
+      → j < length t
       → behind p t s (awaited_in h) e ≡ meaning p t s (part_of h) j
   inside-more h e j b is lt =
       behind-more p t h s.items.items s.members.items s.root e (reverse s.nest.items) j b

@@ -1,5 +1,6 @@
 -- Counting what the machine holds.
-use Rattle.std.proofs.Common.{◌≡◌, suc, ◌+◌, ◌≤◌, List, [], ◌∷◌, ◌++◌, length, take, drop, map, refl, ap, ◌∙◌, arith, length-append}
+use Rattle.std.proofs.Common.{◌≡◌, suc, ◌+◌, ◌≤◌, List, [], ◌∷◌, ◌++◌, length, take, drop, map, refl, ap, ◌∙◌, arith}
+use Rattle.std.proofs.Common.{length-append}
 use Rattle.std.specs.Prelude.{reverse}
 use Rattle.std.specs.declared.alloc.Global.{Global}
 use Rattle.std.specs.declared.borrow.CowStr.{CowStr}
@@ -13,8 +14,10 @@ use Rattle.jiter_value.specs.Value.{view}
 use Rattle.jiter_value.specs.declared.value.JsonValue.{JsonValue}
 use Rattle.jiter_value.specs.declared.stacks.Open.{Open}
 use Rattle.jiter_value.specs.declared.stacks.Awaits.TheVariants as awaits
-use Rattle.jiter_value.specs.Stacks.{Member, member_view, frames, PartTree, built, parts_above, frames_below, HaveBases, HaveKeyBase, awaited_in}
-use Rattle.jiter_value.specs.Size.{size, items_size, members_size, parts_size, frames_size, inside_size_in, behind_size_in}
+use Rattle.jiter_value.specs.Stacks.{Member, member_view, frames, PartTree, built, parts_above, frames_below, HaveBases}
+use Rattle.jiter_value.specs.Stacks.{HaveKeyBase, awaited_in}
+use Rattle.jiter_value.specs.Size.{size, items_size, members_size, parts_size, frames_size, inside_size_in}
+use Rattle.jiter_value.specs.Size.{behind_size_in}
 use Rattle.jiter_value.proofs.StackTurns.{value-frames}
 
 items_size-push : (xs : List Tree) (x : Tree) → items_size (xs ++ x ∷ []) ≡ items_size xs + size x

@@ -1,5 +1,6 @@
 -- The turns of the machine, over its stacks.
-use Rattle.std.proofs.Common.{◌≡◌, ℕ, suc, ◌+◌, ◌-◌, ◌<◌, ◌≤◌, true, false, cond, List, [], ◌∷◌, ◌++◌, length, take, drop, map, get_or, refl, sym, ap, ap₂, subst, ◌∙◌, arith, length-append}
+use Rattle.std.proofs.Common.{◌≡◌, ℕ, suc, ◌+◌, ◌-◌, ◌<◌, ◌≤◌, true, false, cond, List, [], ◌∷◌, ◌++◌, length, take}
+use Rattle.std.proofs.Common.{drop, map, get_or, refl, sym, ap, ap₂, subst, ◌∙◌, arith, length-append}
 use Rattle.std.specs.Prelude.{reverse, slice_set, slice_index}
 use Rattle.std.specs.declared.alloc.Global.{Global}
 use Rattle.std.specs.declared.borrow.CowStr.{CowStr}
@@ -12,19 +13,25 @@ use Rattle.jiter_scan.specs.declared.partial_mode.PartialMode.TheVariants.{Off, 
 use Rattle.jiter_steps.specs.Answer.{value_form}
 use Rattle.jiter_steps.specs.Tree.{Text, Tree}
 use Rattle.jiter_steps.specs.Literal.{start_of}
-use Rattle.jiter_steps.specs.Step.{Step, more, closed, stuck, step, array_first, container_first, container_step, object_colon, opening}
+use Rattle.jiter_steps.specs.Step.{Step, more, closed, stuck, step, array_first, container_first, container_step}
+use Rattle.jiter_steps.specs.Step.{object_colon, opening}
 use Rattle.jiter_steps.specs.StringDecoder.{text_view}
 use Rattle.jiter_steps.specs.StringReading.{whole, string_at}
 use Rattle.jiter_steps.specs.Read.{Reading, Container, done, fault, value_at}
-use Rattle.jiter_steps.specs.Frames.{Frame, items_frame, members_frame, resolve_step, resume, parts_from, parts_step, value_in, array_in, object_in, value_from, items_from, members_from}
+use Rattle.jiter_steps.specs.Frames.{Frame, items_frame, members_frame, resolve_step, resume, parts_from, parts_step}
+use Rattle.jiter_steps.specs.Frames.{value_in, array_in, object_in, value_from, items_from, members_from}
 use Rattle.jiter_steps.specs.declared.parse.Shape.{Shape}
 use Rattle.jiter_steps.specs.declared.parse.Shape.TheVariants as shape
 use Rattle.jiter_steps.specs.declared.parse.Start.TheVariants as start
 use Rattle.jiter_steps.proofs.Values.{Advances}
 use Rattle.jiter_steps.proofs.Instances.{trees-advances}
-use Rattle.jiter_steps.proofs.Resumed.{IgnoresBegin, value_in-room, value_in-limit, if_forgiven-yes, if_forgiven-no, resume-fault, resume-forgiven, step-to, step-stuck, items-value, key-value, key-failed, colon-failed, container-begins}
+use Rattle.jiter_steps.proofs.Resumed.{IgnoresBegin, value_in-room, value_in-limit, if_forgiven-yes, if_forgiven-no}
+use Rattle.jiter_steps.proofs.Resumed.{resume-fault, resume-forgiven, step-to, step-stuck, items-value, key-value}
+use Rattle.jiter_steps.proofs.Resumed.{key-failed, colon-failed, container-begins}
 use Rattle.jiter_value.specs.Settings.{forgives, rules}
-use Rattle.jiter_value.specs.Stacks.{Member, member_view, last_key_of, last_key, front, frames, PartTree, built, parts_above, frames_below, HaveBases, HaveKeyBase, key_in, key_fault_in, behind_in, container_in, awaited_in, empty_tree}
+use Rattle.jiter_value.specs.Stacks.{Member, member_view, last_key_of, last_key, front, frames, PartTree, built}
+use Rattle.jiter_value.specs.Stacks.{parts_above, frames_below, HaveBases, HaveKeyBase, key_in, key_fault_in, behind_in}
+use Rattle.jiter_value.specs.Stacks.{container_in, awaited_in, empty_tree}
 use Rattle.jiter_value.specs.Value.{view}
 use Rattle.jiter_value.specs.declared.settings.Settings.{Settings}
 use Rattle.jiter_value.specs.declared.stacks.Awaits.{Awaits}
@@ -164,7 +171,8 @@ module _ (p : Settings) (t : List ℕ) where
   part_in shape.Array os es ms j = value_from (rules p) t (frames awaits.Item os es ms) j
   part_in shape.Object os es ms j = key_in p t os es ms j
 
-  pub next-part : (h : Shape) (o : Open) (os : List Open) (es : List JsonValue) (ms : List Member) (j : ℕ) → j < length t
+  pub next-part : (h : Shape) (o : Open) (os : List Open) (es : List JsonValue) (ms : List Member) (j : ℕ)
+      → j < length t
       → resume (rules p) t (frames_below h o os es ms) (parts_from (rules p) t (container_of h (length (frames_below h o os es ms))) (parts_above h o.base es ms) j) ≡ part_in h (o ∷ os) es ms j
   next-part shape.Array o os es ms j h =
       items-value (rules p) t good (frames o.outer os (take o.base es) ms) (map view (drop o.base es)) j h

@@ -1,5 +1,6 @@
 -- What a whole text answers, by how its reading goes.
-use Rattle.std.proofs.Common.{◌≡◌, inl, inr, ℕ, ◌<◌, Bool, true, false, List, length, refl, sym, ap, ap₂, subst, ◌∙◌, arith}
+use Rattle.std.proofs.Common.{◌≡◌, inl, inr, ℕ, ◌<◌, Bool, true, false, List, length, refl, sym, ap, ap₂, subst, ◌∙◌}
+use Rattle.std.proofs.Common.{arith}
 use Rattle.std.proofs.lemmas.List.{length-reverse}
 use Rattle.std.specs.Prelude.{reverse, slice_get, Option, Some, None, Ok, Err}
 use Rattle.jiter_scan.specs.Kind.{Kind, fault_kind}
@@ -11,7 +12,8 @@ use Rattle.jiter_scan.specs.declared.partial_mode.PartialMode.TheVariants.{Off, 
 use Rattle.jiter_steps.specs.Answer.{trees, value_form, answer_in}
 use Rattle.jiter_steps.specs.Blank.{past_blanks}
 use Rattle.jiter_steps.specs.Parse.{Gives}
-use Rattle.jiter_steps.specs.Read.{Reading, done, fault, Rules, value_at, if_begun, if_last, to_end, front_answer, whole_answer}
+use Rattle.jiter_steps.specs.Read.{Reading, done, fault, Rules, value_at, if_begun, if_last, to_end, front_answer}
+use Rattle.jiter_steps.specs.Read.{whole_answer}
 use Rattle.jiter_steps.specs.Step.{step, value_first, document_end}
 use Rattle.jiter_steps.specs.Tree.{Text, Tree}
 use Rattle.jiter_steps.specs.declared.read_error.ReadError.{ReadError}
@@ -87,7 +89,8 @@ module _ (p : Settings) (t : List ℕ) where
     by false h = off h
 
   -- where no value begins
-  pub answer_by-none : (k : Kind) (x i : ℕ) → (step t value_first 0 ≡ failed k x) × (i ≡ x) → answer_by p t ≡ fault k x i
+  pub answer_by-none : (k : Kind) (x i : ℕ) → (step t value_first 0 ≡ failed k x) × (i ≡ x)
+      → answer_by p t ≡ fault k x i
   answer_by-none k x i h =
       either-way (fault k x i)
       (λ on. in-front p.allow_inf_nan t p.mode on ∙ front-none (rules p) t k x h.0 ∙ ap (fault k x) (sym h.1))

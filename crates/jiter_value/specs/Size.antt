@@ -1,6 +1,7 @@
 -- How many scalars, containers and keys there are.
 use Rattle.std.specs.Prelude.{ℕ, suc, ◌+◌, List, [], ◌∷◌, take, drop, reverse, map}
-use Rattle.jiter_steps.specs.Tree.{Text, Tree, null, boolean, int, big, float, string, array, object, Items, no_items, item, Members, no_members, member, items_of, members_of}
+use Rattle.jiter_steps.specs.Tree.{Text, Tree, null, boolean, int, big, float, string, array, object, Items, no_items}
+use Rattle.jiter_steps.specs.Tree.{item, Members, no_members, member, items_of, members_of}
 use Rattle.jiter_steps.specs.declared.parse.Shape.{Shape}
 use Rattle.jiter_steps.specs.declared.parse.Shape.TheVariants as shape
 use Rattle.jiter_value.specs.Value.{view}

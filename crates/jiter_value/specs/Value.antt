@@ -5,7 +5,8 @@ use Rattle.std.specs.declared.borrow.CowStr.{CowStr}
 use Rattle.jiter_scan.specs.Kind.{kind_of}
 use Rattle.jiter_scan.specs.declared.errors.JsonError.{JsonError}
 use Rattle.jiter_scan.specs.declared.errors.JsonErrorType.TheVariants.{OutOfMemory}
-use Rattle.jiter_steps.specs.Tree.{Tree, null, boolean, int, big, float, string, array, object, Items, items_of, Members, no_members, member}
+use Rattle.jiter_steps.specs.Tree.{Tree, null, boolean, int, big, float, string, array, object, Items, items_of}
+use Rattle.jiter_steps.specs.Tree.{Members, no_members, member}
 use Rattle.jiter_steps.specs.Blank.{past_blanks}
 use Rattle.jiter_steps.specs.Literal.{start_of}
 use Rattle.jiter_steps.specs.Step.{Step, more, closed, stuck, step, array_first, object_first}

@@ -1,5 +1,6 @@
 //! Reading a document into a value that owns its texts.
-ghost use Rattle.std.specs.Prelude.{◌≡◌, ◌+◌, ◌≤◌, ◌<◌, ◌⊎◌, IfOk, IfErr, MatchResult, Some, true, length, option_map, take};
+ghost use Rattle.std.specs.Prelude.{◌≡◌, ◌+◌, ◌≤◌, ◌<◌, ◌⊎◌, IfOk, IfErr, MatchResult, Some, true, length, option_map};
+ghost use Rattle.std.specs.Prelude.{take};
 ghost use Rattle.jiter_scan.specs.Kind.{kind_of, is_end_kind};
 ghost use Rattle.jiter_scan.specs.PartialMode.{is_active};
 ghost use Rattle.jiter_steps.specs.Answer.{answer, answer_in};

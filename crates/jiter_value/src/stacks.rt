@@ -1,12 +1,14 @@
 //! The two stacks that all containers share.
-ghost use Rattle.std.specs.Prelude.{◌≡◌, ◌≢◌, ℕ, List, ◌+◌, ◌≤◌, ◌<◌, ◌∷◌, ◌++◌, [], IfOk, IsTrue, OnOk, OnErr, length, take, drop, false, map, vec_len};
+ghost use Rattle.std.specs.Prelude.{◌≡◌, ◌≢◌, ℕ, List, ◌+◌, ◌≤◌, ◌<◌, ◌∷◌, ◌++◌, [], IfOk, IsTrue, OnOk, OnErr, length};
+ghost use Rattle.std.specs.Prelude.{take, drop, false, map, vec_len};
 ghost use Rattle.std.specs.declared.alloc.Global.{Global};
 ghost use Rattle.std.specs.declared.borrow.CowStr.{CowStr as CowStrView};
 ghost use Rattle.jiter_steps.specs.Read.{done};
 ghost use Rattle.jiter_steps.specs.Tree.{object, members_of};
 ghost use Rattle.jiter_value.specs.Value.{view};
 ghost use Rattle.jiter_value.specs.Size.{size, value_size, inside_size, behind_size};
-ghost use Rattle.jiter_value.specs.Stacks.{Member, member_view, resume_with, behind, container_ends, Stands, StandsInside, HasRoom};
+ghost use Rattle.jiter_value.specs.Stacks.{Member, member_view, resume_with, behind, container_ends, Stands};
+ghost use Rattle.jiter_value.specs.Stacks.{StandsInside, HasRoom};
 ghost use Rattle.jiter_value.specs.declared.settings.Settings.{Settings as SettingsView};
 ghost use Rattle.jiter_value.specs.declared.value.JsonValue.{JsonValue as JsonValueView};
 

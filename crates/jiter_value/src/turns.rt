@@ -1,6 +1,8 @@
 //! The turns of a reading over the two stacks: one value, opening or key a turn, and the steps behind it. The
 //! place and what is awaited there go from call to call in registers, and so do all answers of the plain way.
-ghost use Rattle.std.specs.Prelude.{◌≡◌, ◌≢◌, ℕ, ◌+◌, ◌^◌, ◌≤◌, ◌<◌, List, [], IfOk, IfSome, None, OnOk, OnErr, length, pos, slice_get, slice_index, Some, true, false, if◌then◌else◌, vec_len, vec_capacity};
+ghost use Rattle.std.specs.Prelude.{◌≡◌, ◌≢◌, ℕ, ◌+◌, ◌^◌, ◌≤◌, ◌<◌, List, [], IfOk, IfSome, None, OnOk, OnErr, length};
+ghost use Rattle.std.specs.Prelude.{pos, slice_get, slice_index, Some, true, false, if◌then◌else◌, vec_len};
+ghost use Rattle.std.specs.Prelude.{vec_capacity};
 ghost use Rattle.jiter_scan.specs.Ascii as ascii;
 ghost use Rattle.jiter_scan.specs.Kind.{fault_kind};
 ghost use Rattle.jiter_scan.specs.Number.{minus_of};
@@ -18,7 +20,9 @@ ghost use Rattle.jiter_steps.specs.declared.parse.Start.{Start};
 ghost use Rattle.jiter_steps.specs.declared.read_error.ReadError.TheVariants as error;
 ghost use Rattle.jiter_value.specs.Settings.{rules};
 ghost use Rattle.jiter_value.specs.Size.{value_size, key_size, inside_size, behind_size, held};
-ghost use Rattle.jiter_value.specs.Stacks.{resume_with, from_value, from_key, key_fault, behind, meaning, container_ends, Stands, StandsInside, StandsAtKey, HasRoom, awaited_in, base_of, part_of, empty_tree};
+ghost use Rattle.jiter_value.specs.Stacks.{resume_with, from_value, from_key, key_fault, behind, meaning};
+ghost use Rattle.jiter_value.specs.Stacks.{container_ends, Stands, StandsInside, StandsAtKey, HasRoom, awaited_in};
+ghost use Rattle.jiter_value.specs.Stacks.{base_of, part_of, empty_tree};
 ghost use Rattle.jiter_value.specs.Turns.{IsWithin, IsPutAt, IsKeyAt, IsResolved, Reaches, MayGrowFor, left, outcome};
 ghost use Rattle.jiter_value.specs.Value.{view, MayGrowAt};
 ghost use Rattle.jiter_value.specs.declared.settings.Settings.{Settings as SettingsView};

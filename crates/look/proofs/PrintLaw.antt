@@ -1,5 +1,6 @@
 -- What is printed of a value that was read is a document of the same value.
-use Rattle.std.proofs.Common.{◌≡◌, inl, inr, ℕ, zero, suc, ◌+◌, ◌-◌, ◌≤◌, Bool, true, false, List, [], ◌∷◌, ◌++◌, length}
+use Rattle.std.proofs.Common.{◌≡◌, inl, inr, ℕ, zero, suc, ◌+◌, ◌-◌, ◌≤◌, Bool, true, false, List, [], ◌∷◌, ◌++◌}
+use Rattle.std.proofs.Common.{length}
 use Rattle.std.proofs.Common.{refl, sym}
 use Rattle.std.proofs.Common.{ap, ap₂, ◌∙◌, subst, arith}
 use Rattle.std.specs.Prelude.{Option, Some, None, IfSome}
@@ -63,7 +64,8 @@ module _ (names : Bool) (u : List ℕ) where
   abbrev AgainTree : ℕ → Tree → ℕ → ℕ → Type 0
   AgainTree room v = Again SpellsFrom (LikeTree room) v
 
-  items : (room : ℕ) → Parts u SpellsFrom (SpellsItems names u) (SpellsMoreItems names u) (LikeTree room) (LikeItems room)
+  items : (room : ℕ)
+      → Parts u SpellsFrom (SpellsItems names u) (SpellsMoreItems names u) (LikeTree room) (LikeItems room)
       tree.item node
   items room = record {
     all = λ n ns i k j a r.

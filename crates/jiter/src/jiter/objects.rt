@@ -8,8 +8,10 @@ ghost use Rattle.jiter_steps.specs.Step.{Step, step, colon, object_first, object
 ghost use Rattle.jiter_steps.specs.StringDecoder.{text_view, WantsMemory};
 ghost use Rattle.jiter_steps.specs.StringReading.{string_at, whole, raw};
 ghost use Rattle.jiter_steps.specs.Tree.{Text};
-ghost use Rattle.jiter.specs.Reader.{value_place, next, known, gave, key_reply, colon_reply, member_reply, object_read, key_step};
-ghost use Rattle.jiter.specs.Jiter.{MovesOn, Replies, RefusesBytes, UnlessMemory, WhereMemory, IndexWithin, reply_seen, key_bytes, BeginsAs, StandsAt};
+ghost use Rattle.jiter.specs.Reader.{value_place, next, known, gave, key_reply, colon_reply, member_reply, object_read};
+ghost use Rattle.jiter.specs.Reader.{key_step};
+ghost use Rattle.jiter.specs.Jiter.{MovesOn, Replies, RefusesBytes, UnlessMemory, WhereMemory, IndexWithin, reply_seen};
+ghost use Rattle.jiter.specs.Jiter.{key_bytes, BeginsAs, StandsAt};
 ghost use Rattle.jiter.specs.Lending.{LeavesReader};
 
 use crate::errors::{JiterResult, JsonType};

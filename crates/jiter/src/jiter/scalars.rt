@@ -4,7 +4,8 @@ ghost use Rattle.jiter_scan.specs.Ascii as ascii;
 ghost use Rattle.jiter_scan.specs.NumberDecoder.{number_view, int_view};
 ghost use Rattle.jiter_scan.specs.NumberReading.{number_at, int_at};
 ghost use Rattle.jiter_steps.specs.Literal.{literal_at};
-ghost use Rattle.jiter.specs.Reader.{next, known, scalar_reply, integer_reply, null_read, bool_read, number_read, int_read, number_bytes_read};
+ghost use Rattle.jiter.specs.Reader.{next, known, scalar_reply, integer_reply, null_read, bool_read, number_read};
+ghost use Rattle.jiter.specs.Reader.{int_read, number_bytes_read};
 ghost use Rattle.jiter.specs.Jiter.{MovesOn, Replies, RefusesBytes, BeginsAs, StandsAt, byte_of};
 
 use crate::errors::{JiterResult, JsonType};

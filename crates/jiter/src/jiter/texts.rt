@@ -9,7 +9,8 @@ ghost use Rattle.jiter_steps.specs.Read.{scalar_at};
 ghost use Rattle.jiter_steps.specs.ReadError.{WhereRefused};
 ghost use Rattle.jiter_steps.specs.StringReading.{string_at, whole, kept, raw, raw_kept};
 ghost use Rattle.jiter.specs.Reader.{value_place, next, known, gave, scalar_reply, str_read, bytes_read};
-ghost use Rattle.jiter.specs.Jiter.{MovesOn, Replies, RefusesBytes, UnlessMemory, WhereMemory, IndexWithin, reply_seen, text_bytes, BeginsAs, StandsAt};
+ghost use Rattle.jiter.specs.Jiter.{MovesOn, Replies, RefusesBytes, UnlessMemory, WhereMemory, IndexWithin, reply_seen};
+ghost use Rattle.jiter.specs.Jiter.{text_bytes, BeginsAs, StandsAt};
 ghost use Rattle.jiter.specs.Lending.{LeavesReader};
 
 use crate::errors::{JiterResult, JsonType};

@@ -12,7 +12,8 @@ use Rattle.jiter.specs.Jiter.{LeavesAt, byte_of}
 use Rattle.jiter.specs.Reader.{refused, value_reply}
 use Rattle.jiter.proofs.Building.{known-first, array-first, object-first}
 use Rattle.jiter.proofs.Building.{items-laws, members-laws}
-use Rattle.jiter.proofs.Containers.{moves-none, passed-on, stands-within, bytes-leave, map-pushed, array-opens, object-opens}
+use Rattle.jiter.proofs.Containers.{moves-none, passed-on, stands-within, bytes-leave, map-pushed, array-opens}
+use Rattle.jiter.proofs.Containers.{object-opens}
 use Rattle.jiter.proofs.Containers.{begins, first-refused, part-refused, stuck-behind, turn-ahead, goes-on, ended}
 use Rattle.jiter.proofs.client.+build.Goals as goal
 

@@ -2,7 +2,9 @@ use Rattle.std.proofs.Common.{◌≡◌, ◌≢◌, ◌⊎◌, inl, inr, false, 
 use Rattle.jiter_scan.specs.Kind.{Kind, fault_kind, is_forgiven}
 use Rattle.jiter_scan.specs.PartialMode.{is_active}
 use Rattle.jiter_scan.specs.declared.errors.FaultKind.{FaultKind}
-use Rattle.jiter_scan.specs.declared.errors.FaultKind.TheVariants.{EofWhileParsingList, EofWhileParsingObject, EofWhileParsingString, EofWhileParsingValue, ExpectedListCommaOrEnd, ExpectedObjectCommaOrEnd}
+use Rattle.jiter_scan.specs.declared.errors.FaultKind.TheVariants.{EofWhileParsingList, EofWhileParsingObject}
+use Rattle.jiter_scan.specs.declared.errors.FaultKind.TheVariants.{EofWhileParsingString, EofWhileParsingValue}
+use Rattle.jiter_scan.specs.declared.errors.FaultKind.TheVariants.{ExpectedListCommaOrEnd, ExpectedObjectCommaOrEnd}
 use Rattle.jiter_scan.specs.declared.partial_mode.PartialMode.{PartialMode}
 use Rattle.jiter_steps.specs.Answer.{nothing_forgiven}
 use Rattle.jiter_value.specs.Settings.{forgives}

@@ -1,4 +1,5 @@
-use Rattle.std.proofs.Common.{◌≡◌, ◌+◌, ◌-◌, ◌++◌, ◌∷◌, [], ◌∙◌, sym, ap, arith, length, take, reverse, subst, length-append}
+use Rattle.std.proofs.Common.{◌≡◌, ◌+◌, ◌-◌, ◌++◌, ◌∷◌, [], ◌∙◌, sym, ap, arith, length, take, reverse, subst}
+use Rattle.std.proofs.Common.{length-append}
 use Rattle.jiter_steps.specs.Read.{done}
 use Rattle.jiter_value.specs.Value.{view}
 use Rattle.jiter_value.specs.declared.stacks.Awaits.TheVariants as awaits

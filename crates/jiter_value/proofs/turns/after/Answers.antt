@@ -4,7 +4,8 @@ use Rattle.jiter_steps.specs.Step.{more, step}
 use Rattle.jiter_value.specs.Size.{behind_size, inside_size}
 use Rattle.jiter_value.specs.Stacks.{behind, container_ends, Stands, awaited_in}
 use Rattle.jiter_value.proofs.TurnOutcomes.{fails-along}
-use Rattle.jiter_value.proofs.Shapes.{reaches-part, inside-more, inside-ends, inside-fails, inside-stands, inside-size, part-within, not-root}
+use Rattle.jiter_value.proofs.Shapes.{reaches-part, inside-more, inside-ends, inside-fails, inside-stands, inside-size}
+use Rattle.jiter_value.proofs.Shapes.{part-within, not-root}
 use Rattle.jiter_value.proofs.turns.after.Goals as goal
 
 pub returns-in-Part-clause-reaches : goal.returns-in-Part-clause-reaches

@@ -3,7 +3,8 @@ use Rattle.jiter_steps.specs.Answer.{answer_in}
 use Rattle.jiter_steps.specs.Cut.{cut}
 use Rattle.jiter_steps.specs.Node.{value_of}
 use Rattle.jiter_value.specs.Owned.{AnswersOwned}
-use Rattle.jiter_value.proofs.OwnedAnswers.{owned-answers, owned-found, owned-accepts, owned-cut, owned-dead, owned-alive}
+use Rattle.jiter_value.proofs.OwnedAnswers.{owned-answers, owned-found, owned-accepts, owned-cut, owned-dead}
+use Rattle.jiter_value.proofs.OwnedAnswers.{owned-alive}
 use Rattle.jiter_value.proofs.OwnedAnswers.{owned-early, owned-index, owned-ends, owned-memory, owned-place}
 use Rattle.jiter_value.proofs.scratch.JsonValueScratch.parse_owned.Goals as goal
 
