@@ -81,7 +81,8 @@ IsNumberText names w = IsDecimal w ⊎ ((names ≡ true) × IsName w)
 -- a byte that only a fraction, an exponent or a name has
 abbrev pub is_float_byte : ℕ → Bool
 is_float_byte c =
-    (c == ascii.point) || (c == ascii.small_e) || (c == ascii.capital_e) || (c == ascii.capital_n) || (c == ascii.capital_i)
+    (c == ascii.point) || (c == ascii.small_e) || (c == ascii.capital_e) || (c == ascii.capital_n)
+    || (c == ascii.capital_i)
 
 -- neither point, exponent nor name
 abbrev pub is_integral : List ℕ → Bool

@@ -68,7 +68,8 @@ module _ (t : List ℕ) where
   passes : (i j : ℕ) → IsBlank t i j → (j < length t → is_blank (get_or t j 0) ≡ false) → past_blanks t i ≡ j
   unfolding past_blanks
   passes i j b other =
-      let seen : (k m : ℕ) → i + k ≡ m → get_or (drop i t) k 0 ≡ get_or t m 0 = λ k m e. get_or-drop i t k 0 ∙ ap (λ x. get_or t x 0) e in
+      let seen : (k m : ℕ) → i + k ≡ m → get_or (drop i t) k 0 ≡ get_or t m 0 = λ k m e. get_or-drop i t k 0
+      ∙ ap (λ x. get_or t x 0) e in
       let long = length-drop i t in
       let n : i + (j - i) ≡ j = omega (arith, b.ordered) in
       let all = prefix_len_is is_blank (drop i t) (j - i) 0 (omega (arith, b.within, b.ordered))

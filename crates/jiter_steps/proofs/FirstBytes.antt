@@ -26,7 +26,9 @@ begins-within t i h = side (cases_lt i (length t)) where
   side (inr ge) = absurd (h (ap start_of (get_or_past t i 0 ge)))
 
 not_string : (a b c d : Bool)
-    → cond a (start.Literal literal.Null) (cond b (start.Literal literal.True) (cond c (start.Literal literal.False) (cond d start.Number start.Nothing))) ≡ start.String → ⊥
+    → cond a (start.Literal literal.Null)
+    (cond b (start.Literal literal.True) (cond c (start.Literal literal.False) (cond d start.Number start.Nothing))) ≡
+    start.String → ⊥
 not_string true b c d h = cc
 not_string false true c d h = cc
 not_string false false true d h = cc
@@ -41,11 +43,15 @@ third false false true rest other h = refl
 third false false false rest other h = absurd (other h)
 
 pub string-first : (c : ℕ) → start_of c ≡ start.String → c ≡ 34
-string-first c h = eqb-true c 34 (third (c == 91) (c == 123) (c == 34) _ (not_string (c == 110) (c == 116) (c == 102) (begins_number c)) h)
+string-first c h =
+    eqb-true c 34 (third (c == 91) (c == 123) (c == 34) _
+    (not_string (c == 110) (c == 116) (c == 102) (begins_number c)) h)
 
 -- a string begins with its quote
 pub string-begins : (t : List ℕ) (i : ℕ) → start_of (slice_index t i) ≡ start.String → slice_get t i ≡ Some 34
-string-begins t i h = slice_get-get_or t i 0 (begins-within t i (λ e. let clash : start.Nothing ≡ start.String = sym e ∙ h in cc)) ∙ ap Some (string-first (slice_index t i) h)
+string-begins t i h =
+    slice_get-get_or t i 0 (begins-within t i (λ e. let clash : start.Nothing ≡ start.String = sym e ∙ h in cc))
+    ∙ ap Some (string-first (slice_index t i) h)
 
 -- where a step goes on, something begins
 abbrev pub GoesTo : (ℕ → Type 0) → Step → Type 0

@@ -65,7 +65,8 @@ module _ (t : List ℕ) (from to : ℕ) (front : body_at t from ≡ before (slic
   unfolding content_at
   content_quote e =
       ap (λ (b : Body). text_in_form kept t from b.bytes b.owned b.stop)
-      (front ∙ ap (before (slice_range t from to) false) (body_at-place_by t to (over (closed (to + 1))) (place_by-quote t to e)))
+      (front ∙ ap (before (slice_range t from to) false)
+      (body_at-place_by t to (over (closed (to + 1))) (place_by-quote t to e)))
       ∙ ap (λ l. valid_front from false l (to + 1)) (append-nil (slice_range t from to))
 
   content_control : (b : ℕ) → slice_get t to ≡ Some b → b ≢ 34 → b ≢ 92 → b < 32
@@ -77,7 +78,8 @@ module _ (t : List ℕ) (from to : ℕ) (front : body_at t from ≡ before (slic
       ∙ if-false (b == 92) (behind_backslash t (to + 1) (slice_get t (to + 1))) (plain to b) (ne_eqb b 92 s)
       ∙ if-true (nat_lt b 32) (over (wrong control_character to)) (part (b ∷ []) false (to + 1)) (lt-ltb b 32 l) in
       ap (λ (b : Body). text_in_form kept t from b.bytes b.owned b.stop)
-      (front ∙ ap (before (slice_range t from to) false) (body_at-place_by t to (over (wrong control_character to)) there))
+      (front ∙ ap (before (slice_range t from to) false)
+      (body_at-place_by t to (over (wrong control_character to)) there))
 
   content_owned : (x : Stop) → slice_get t to ≡ Some 92 → (body_at t from).stop ≡ x → IsText x
       → content_at kept t from ≡ text_in_form kept t from (body_at t from).bytes true x

@@ -98,6 +98,7 @@ module _ (t : List ℕ) where
       row-halts (container_step b t) (λ p. (end_kind_of b, refl, end-forgiven _ (end_kind-early b)))
       (λ p c h. (
         comma_kind_of b,
-        past-tests (c == closer_of b) (c == 44) _ _ _ (other c (closer_of b) (closer-begins_none b) h) (other c 44 refl h),
+        past-tests (c == closer_of b) (c == 44) _ _ _ (other c (closer_of b) (closer-begins_none b) h)
+            (other c 44 refl h),
         comma_kind-forgiven b,
       ))

@@ -75,4 +75,5 @@ module _ (t : List ℕ) where
   answer-within names = whole_answer-within (whole_trees names) t (trees-advances _ whole names)
 
   pub partial_answer-within : (names : Bool) (mode : PartialMode) → Within t 0 (partial_answer names mode t)
-  partial_answer-within names mode = front_answer-within (partial_trees names mode) t (trees-advances _ (value_form mode) names)
+  partial_answer-within names mode =
+      front_answer-within (partial_trees names mode) t (trees-advances _ (value_form mode) names)

@@ -224,7 +224,8 @@ module _ (names : Bool) where
       begun = λ i x stop k at is.
           let within = slice_get_within t i at.byte at.here in
           subst (OpenAs (IsMember room) t i) is
-          (behind_key-open i (begins-quote t i at) (string_at whole t i) refl ((scalar-laws names t).string-within i within)
+          (behind_key-open i (begins-quote t i at) (string_at whole t i) refl
+          ((scalar-laws names t).string-within i within)
           (string-live t (CanEndHere (IsMember room) t i) i));
       filler = codes "\"\":0";
       is_filler = inr (inr refl);
@@ -302,8 +303,10 @@ module _ (names : Bool) where
     value_with-open : (i : ℕ) → i < length t → (s : Start) → start_of (slice_index t i) ≡ s
         → OpenAs (IsValue room) t i (value_with (nodes names) inner t i s)
     value_with-open i h start.Array e =
-        container-open 93 (PartAt shape.Array t) (IsItem room) (λ u. ItemsAre names u room) (λ u. MoreItemsAre names u room)
-        (array names t room i) (delimits t shape.Array) (sticks t shape.Array) (array-goes names t room i) (items-grow i)
+        container-open 93 (PartAt shape.Array t) (IsItem room) (λ u. ItemsAre names u room)
+        (λ u. MoreItemsAre names u room)
+        (array names t room i) (delimits t shape.Array) (sticks t shape.Array) (array-goes names t room i)
+        (items-grow i)
         (λ u. items-grammar names u room Anywhere (IsItem room u) (λ j n m at is. is))
         i 91 (byte-here names t room i 91 h (array-byte _ e))
         (λ u ps opens are. value-here u (grammar.array i (length u) (nodes_of ps)) (opens, are.0) refl are.1)

@@ -127,7 +127,8 @@ module _ (t : List ℕ) where
       → content_at raw_kept t i ≡ taken (between t i j) (j + 1)
   front-closed i j o q =
       let last : j + 1 - 1 ≡ j = omega arith in
-      form-by raw_kept i j (closed (j + 1)) o (sym (place_by-quote t j q)) ∙ ap (λ k. taken (between t i k) (j + 1)) last
+      form-by raw_kept i j (closed (j + 1)) o (sym (place_by-quote t j q))
+      ∙ ap (λ k. taken (between t i k) (j + 1)) last
 
   pub front-unclosed : (i j : ℕ) → EndsAt t i j → slice_get t j ≡ None
       → content_at raw_kept t i ≡ taken (between t i (length t)) (length t)

@@ -216,7 +216,8 @@ module _ {K A : Type 0} (r : Rules K A) (names : Bool) (t : List ℕ) (k : ℕ) 
             cut gt = by gt (cases_lt k m.0.end) (cases_lt (begin m.1) k)
 
       members-front : InnerReads → (b : ℕ)
-          → ReadsFront t k within (object b) member_value see_member IsCutMember 125 (PartAt shape.Object) (IsMember names t room)
+          → ReadsFront t k within (object b) member_value see_member IsCutMember 125 (PartAt shape.Object)
+          (IsMember names t room)
       members-front all b = record {
         delimits = delimits u shape.Object;
         ends = cuts t k within shape.Object;
@@ -256,12 +257,14 @@ module _ {K A : Type 0} (r : Rules K A) (names : Bool) (t : List ℕ) (k : ℕ) 
       value-reads all (grammar.string ps b e) h d q lt = rules.text ps b e h lt
       value-reads all (grammar.array b e ns) h d q lt =
           let goes = array_of-goes r u good inner inner-within b in
-          container-reads (array b) (λ n. n) see IsCut 93 (PartAt shape.Array) (IsItem names t room) (items-front all b) goes
+          container-reads (array b) (λ n. n) see IsCut 93 (PartAt shape.Array) (IsItem names t room) (items-front all b)
+          goes
           (grammar.array b e ns) (nodes_list ns) (items-parts names t room ns (b + 1) e h.1 d) lt
           (rules.array b e ns) (rules.array-cut inner b e ns h lt goes)
       value-reads all (grammar.object b e ms) h d q lt =
           let goes = object_of-goes r u good inner inner-within b in
-          container-reads (object b) member_value see_member IsCutMember 125 (PartAt shape.Object) (IsMember names t room)
+          container-reads (object b) member_value see_member IsCutMember 125 (PartAt shape.Object)
+          (IsMember names t room)
           (members-front all b) goes
           (grammar.object b e ms) (members_list ms) (members-parts names t room ms (b + 1) e h.1 d) lt
           (rules.object b e ms) (rules.object-cut inner b e ms h lt goes)

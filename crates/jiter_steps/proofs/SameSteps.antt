@@ -68,20 +68,23 @@ module _ (t u : List ℕ) (m : ℕ) (same : SameBefore t u m) where
     first-same =
         row-same (ShownStep m) (container_first b) end-shown
         (λ j c. either (At j) (begins_part b c) (more j) _ (λ s. s)
-        (either (At j) (c == closer_of b) (closed (j + 1)) (stuck key_must_be_a_string j) (λ s. omega arith) (λ s. s.0)))
+        (either (At j) (c == closer_of b) (closed (j + 1)) (stuck key_must_be_a_string j) (λ s. omega arith)
+        (λ s. s.0)))
 
     -- behind a comma
     comma-same : (i : ℕ) → SameStep (ShownStep m) i (step t (container_comma b) i) (step u (container_comma b) i)
     comma-same =
         row-same (ShownStep m) (container_comma b) (λ j s. true≢false s.1.0)
         (λ j c. either (At j) (begins_part b c) (more j) _ (λ s. s)
-        (either (At j) (c == closer_of b) (stuck trailing_comma j) (stuck key_must_be_a_string j) (λ s. s.0) (λ s. s.0)))
+        (either (At j) (c == closer_of b) (stuck trailing_comma j) (stuck key_must_be_a_string j) (λ s. s.0)
+        (λ s. s.0)))
 
     -- behind a part
     part-same : (j c : ℕ) → SameHere (ShownStep m) j (container_step b t j (Some c)) (container_step b u j (Some c))
     part-same j c =
         let last = stuck (comma_kind_of b) j in
-        both (SameHere (ShownStep m) j) (c == closer_of b) (closed (j + 1)) _ (closed (j + 1)) _ (λ s. (omega arith, refl))
+        both (SameHere (ShownStep m) j) (c == closer_of b) (closed (j + 1)) _ (closed (j + 1)) _
+        (λ s. (omega arith, refl))
         (both (SameHere (ShownStep m) j) (c == 44) _ last _ last
         (λ s. let r = comma-same (j + 1) s in (omega (arith, r.0), r.2)) (λ s. (s.0, refl)))
 

@@ -185,7 +185,8 @@ module _ (t u : List ℕ) (m : ℕ) (same : SameBefore t u m) where
 
   unicode_escape-same : (j x : ℕ) → Same m j (unicode_escape t j x) (unicode_escape u j x)
   unicode_escape-same j x =
-      both (Same m j) (is_high x) _ _ _ _ (earlier m j (j + 1) _ _ (omega arith) (behind_high-same x j)) (single-same m j x)
+      both (Same m j) (is_high x) _ _ _ _ (earlier m j (j + 1) _ _ (omega arith) (behind_high-same x j))
+      (single-same m j x)
 
   behind_backslash-same : (i : ℕ)
       → Same m (i + 1) (behind_backslash t i (slice_get t i)) (behind_backslash u i (slice_get u i))
@@ -292,7 +293,8 @@ module _ (t u : List ℕ) (m : ℕ) (same : SameBefore t u m) where
     again : Ends t u m same b (body_at u i)
         → content_at whole u i ≡ if_valid i b e (utf8_valid_len b.bytes == length b.bytes)
     again (inl h) =
-        ap (λ (d : Body). text_in_form whole u i d.bytes d.owned d.stop) h ∙ ap (text_in_form whole u i b.bytes b.owned) is
+        ap (λ (d : Body). text_in_form whole u i d.bytes d.owned d.stop) h
+        ∙ ap (text_in_form whole u i b.bytes b.owned) is
     again (inr h) = absurd (subst IsWrong is h.0)
 
     by : (valid : Bool) → (utf8_valid_len b.bytes == length b.bytes) ≡ valid

@@ -256,12 +256,14 @@ module _ (names : Bool) (t : List ℕ) where
         → Sound names t room i (value_with (nodes names) inner t i s)
     value_with-sound all i h start.Array e =
         let here = byte-here i 91 h (array-byte _ e) in
-        container-sound (array i) 93 (PartAt shape.Array t) ItemsAre MoreItemsAre (delimits t shape.Array) (array-goes i)
+        container-sound (array i) 93 (PartAt shape.Array t) ItemsAre MoreItemsAre (delimits t shape.Array)
+        (array-goes i)
         (items-grammar (PartAt shape.Array t) (Reads (array i)) (item-read all)) i h
         (λ ns f x le. sound-at room (grammar.array i f (nodes_of ns)) (here, x.0) le x.1)
     value_with-sound all i h start.Object e =
         let here = byte-here i 123 h (object-byte _ e) in
-        container-sound (object i) 125 (PartAt shape.Object t) MembersAre MoreMembersAre (delimits t shape.Object) (object-goes i)
+        container-sound (object i) 125 (PartAt shape.Object t) MembersAre MoreMembersAre (delimits t shape.Object)
+        (object-goes i)
         (members-grammar (PartAt shape.Object t) (Reads (object i)) (member-read all i)) i h
         (λ ms f x le. sound-at room (grammar.object i f (node_members_of ms)) (here, x.0) le x.1)
     value_with-sound all i h start.String e =

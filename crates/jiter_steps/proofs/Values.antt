@@ -38,13 +38,15 @@ module _ {K A : Type 0} (r : Rules K A) (t : List ℕ) where
   -- Where readings end.
   if_forgiven-within : (b : ℕ) (close : ℕ → A) (k : Kind) (x stop : ℕ) → b < stop → stop ≤ length t → FaultAt t k x
       → Within t b (if_forgiven r close k x stop)
-  if_forgiven-within b close k x stop lt le at = either (Within t b) (r.forgives k) (done (close stop) stop) (fault k x stop) (lt, le) (omega arith, le, at)
+  if_forgiven-within b close k x stop lt le at =
+      either (Within t b) (r.forgives k) (done (close stop) stop) (fault k x stop) (lt, le) (omega arith, le, at)
 
   follow-within : (b e : ℕ) (next : ℕ → Reading A) (close : ℕ → A) (s : Step) → b < e → Ahead t e s
       → ((j : ℕ) → e ≤ j → j < length t → Within t b (next j)) → Within t b (follow r next close s)
   follow-within b e next close (more j) lt h go = go j h.0 h.1
   follow-within b e next close (closed c) lt h go = (omega arith, h.1)
-  follow-within b e next close (stuck k j) lt h go = if_forgiven-within b close k j j (omega (arith, h.0)) h.1.within h.1
+  follow-within b e next close (stuck k j) lt h go =
+      if_forgiven-within b close k j j (omega (arith, h.0)) h.1.within h.1
 
   follow-same : (close : ℕ → A) (f g : ℕ → Reading A) (e : ℕ) (s : Step) → Ahead t e s
       → ((j : ℕ) → e ≤ j → j < length t → f j ≡ g j) → follow r f close s ≡ follow r g close s
@@ -58,26 +60,31 @@ module _ {K A : Type 0} (r : Rules K A) (t : List ℕ) where
         → ((ps : List P) (j : ℕ) → i < j → j < length t → Within t b (next ps j))
         → Within t b (behind_part r c t next parts x)
     behind_part-within b i parts next (done p e) lt h go =
-        follow-within b e _ (λ e. c.build e (parts ++ p ∷ [])) (step t c.next e) (omega arith) (goes.next e h.1) (λ j le lj. go (parts ++ p ∷ []) j (omega arith) lj)
-    behind_part-within b i parts next (fault k x stop) lt h go = if_forgiven-within b (λ e. c.build e parts) k x stop (omega (arith, h.0)) h.1 h.2
+        follow-within b e _ (λ e. c.build e (parts ++ p ∷ [])) (step t c.next e) (omega arith) (goes.next e h.1)
+        (λ j le lj. go (parts ++ p ∷ []) j (omega arith) lj)
+    behind_part-within b i parts next (fault k x stop) lt h go =
+        if_forgiven-within b (λ e. c.build e parts) k x stop (omega (arith, h.0)) h.1 h.2
 
     pub parts_at-within : (b n : ℕ) (parts : List P) (i : ℕ) → b < i → i < length t → length t ≤ i + n
         → Within t b (parts_at r c t n parts i)
     unfolding parts_at
     parts_at-within b zero parts i lt h p = let no : ⊥ = omega arith in absurd no
     parts_at-within b (suc n) parts i lt h p =
-        behind_part-within b i parts _ (c.part i) lt (goes.part i h) (λ ps j lj h'. parts_at-within b n ps j (omega arith) h' (omega arith))
+        behind_part-within b i parts _ (c.part i) lt (goes.part i h)
+        (λ ps j lj h'. parts_at-within b n ps j (omega arith) h' (omega arith))
 
     pub container_at-within : (i : ℕ) → i < length t → Within t i (container_at r c t i)
     container_at-within i h =
-        follow-within i (i + 1) _ (λ e. c.build e []) (step t c.first (i + 1)) (omega arith) (goes.first (i + 1) (omega arith)) (λ j le lj. parts_at-within i (length t) [] j (omega arith) lj (omega arith))
+        follow-within i (i + 1) _ (λ e. c.build e []) (step t c.first (i + 1)) (omega arith)
+        (goes.first (i + 1) (omega arith)) (λ j le lj. parts_at-within i (length t) [] j (omega arith) lj (omega arith))
 
     -- The number of turns left serves as well as any that is enough.
     behind_part-same : (f g : List P → ℕ → Reading A) (i : ℕ) (parts : List P) (x : Reading P) → Within t i x
         → ((ps : List P) (j : ℕ) → i < j → j < length t → f ps j ≡ g ps j)
         → behind_part r c t f parts x ≡ behind_part r c t g parts x
     behind_part-same f g i parts (done p e) h same =
-        follow-same (λ e. c.build e (parts ++ p ∷ [])) _ _ e (step t c.next e) (goes.next e h.1) (λ j le lj. same (parts ++ p ∷ []) j (omega arith) lj)
+        follow-same (λ e. c.build e (parts ++ p ∷ [])) _ _ e (step t c.next e) (goes.next e h.1)
+        (λ j le lj. same (parts ++ p ∷ []) j (omega arith) lj)
     behind_part-same f g i parts (fault k x stop) h same = refl
 
     parts_at-turns : (n m : ℕ) (parts : List P) (i : ℕ) → i < length t → length t ≤ i + n → length t ≤ i + m
@@ -85,13 +92,17 @@ module _ {K A : Type 0} (r : Rules K A) (t : List ℕ) where
     unfolding parts_at
     parts_at-turns zero m parts i h p q = let no : ⊥ = omega arith in absurd no
     parts_at-turns (suc n) zero parts i h p q = let no : ⊥ = omega arith in absurd no
-    parts_at-turns (suc n) (suc m) parts i h p q = behind_part-same _ _ i parts (c.part i) (goes.part i h) (λ ps j lj h'. parts_at-turns n m ps j h' (omega arith) (omega arith))
+    parts_at-turns (suc n) (suc m) parts i h p q =
+        behind_part-same _ _ i parts (c.part i) (goes.part i h)
+        (λ ps j lj h'. parts_at-turns n m ps j h' (omega arith) (omega arith))
 
     enough : (n : ℕ) (parts : List P) (i : ℕ) → i < length t → length t ≤ i + n
         → parts_at r c t n parts i ≡ behind_part r c t (parts_at r c t (length t)) parts (c.part i)
     unfolding parts_at
     enough zero parts i h p = let no : ⊥ = omega arith in absurd no
-    enough (suc n) parts i h p = behind_part-same _ _ i parts (c.part i) (goes.part i h) (λ ps j lj h'. parts_at-turns n (length t) ps j h' (omega arith) (omega arith))
+    enough (suc n) parts i h p =
+        behind_part-same _ _ i parts (c.part i) (goes.part i h)
+        (λ ps j lj h'. parts_at-turns n (length t) ps j h' (omega arith) (omega arith))
 
     -- One part, and then the step behind it. After this no proof speaks of turns.
     pub parts_at_is : (parts : List P) (i : ℕ) → i < length t
@@ -100,14 +111,17 @@ module _ {K A : Type 0} (r : Rules K A) (t : List ℕ) where
 
     pub parts-fault : (i x stop : ℕ) (parts : List P) (k : Kind) → i < length t → c.part i ≡ fault k x stop
         → parts_at r c t (length t) parts i ≡ if_forgiven r (λ e. c.build e parts) k x stop
-    parts-fault i x stop parts k h v = parts_at_is parts i h ∙ ap (behind_part r c t (parts_at r c t (length t)) parts) v
+    parts-fault i x stop parts k h v =
+        parts_at_is parts i h ∙ ap (behind_part r c t (parts_at r c t (length t)) parts) v
 
     pub parts-part : (i e : ℕ) (parts : List P) (p : P) (s : Step) → i < length t → c.part i ≡ done p e
         → step t c.next e ≡ s
-        → parts_at r c t (length t) parts i ≡ follow r (parts_at r c t (length t) (parts ++ p ∷ [])) (λ e. c.build e (parts ++ p ∷ [])) s
+        → parts_at r c t (length t) parts i ≡ follow r (parts_at r c t (length t) (parts ++ p ∷ []))
+        (λ e. c.build e (parts ++ p ∷ [])) s
     parts-part i e parts p s h v w =
         let next = parts_at r c t (length t) in
-        parts_at_is parts i h ∙ ap (behind_part r c t next parts) v ∙ ap (follow r (next (parts ++ p ∷ [])) (λ e. c.build e (parts ++ p ∷ []))) w
+        parts_at_is parts i h ∙ ap (behind_part r c t next parts) v
+        ∙ ap (follow r (next (parts ++ p ∷ [])) (λ e. c.build e (parts ++ p ∷ []))) w
 
   -- the value of a key, behind what stands for its colon
   behind_colon-within : (i e : ℕ) (k : K) (inner : ℕ → Reading A) (x : Extent) → i < e → ExtentAhead t e 0 x
@@ -122,14 +136,22 @@ module _ {K A : Type 0} (r : Rules K A) (t : List ℕ) where
       → AllWithin t inner
       → ((e : ℕ) → e ≤ length t → ExtentAhead t e 0 (object_colon t e)) → Within t i (behind_key inner t i x)
   behind_key-within i inner (failed kind j) lt h all ended = (omega arith, omega arith, h.1)
-  behind_key-within i inner (taken k e) lt h all ended = behind_colon-within i e k inner (object_colon t e) h.0 (ended e h.1) all
+  behind_key-within i inner (taken k e) lt h all ended =
+      behind_colon-within i e k inner (object_colon t e) h.0 (ended e h.1) all
 
   module _ (good : Advances r t) (inner : ℕ → Reading A) (all : AllWithin t inner) (i : ℕ) where
     pub array_of-goes : Goes (array_of r inner t i) t
-    array_of-goes = record { first = container_first-ahead t shape.Array; next = container_step-ahead t shape.Array; part = all }
+    array_of-goes =
+        record { first = container_first-ahead t shape.Array; next = container_step-ahead t shape.Array; part = all }
 
     pub object_of-goes : Goes (object_of r inner t i) t
-    object_of-goes = record { first = container_first-ahead t shape.Object; next = container_step-ahead t shape.Object; part = λ j h. behind_key-within j inner (r.key t j) h (good.key j h) all (object_colon-ahead t) }
+    object_of-goes =
+        record {
+          first = container_first-ahead t shape.Object;
+          next = container_step-ahead t shape.Object;
+          part = λ j h.
+              behind_key-within j inner (r.key t j) h (good.key j h) all (object_colon-ahead t);
+        }
 
     scalar_at-within : (x : Scanned A) → i < length t → ScalarWithin t i x → Within t i (scalar_at i x)
     scalar_at-within (taken a e) h w = w
@@ -141,15 +163,19 @@ module _ {K A : Type 0} (r : Rules K A) (t : List ℕ) where
     value_with-within start.String h = scalar_at-within (r.text t i) h (good.text i h)
     value_with-within start.Number h = scalar_at-within (r.number t i) h (good.number i h)
     value_with-within (start.Literal l) h = scalar_at-within (r.literal t l i) h (good.literal l i h)
-    value_with-within start.Nothing h = (omega arith, omega arith, fault-byte t expected_value i (λ e. cc) refl (omega arith))
+    value_with-within start.Nothing h =
+        (omega arith, omega arith, fault-byte t expected_value i (λ e. cc) refl (omega arith))
 
   pub inside_at-within : Advances r t → (room : ℕ) → AllWithin t (inside_at r t room)
   unfolding inside_at
-  inside_at-within good zero i h = (omega arith, omega arith, fault-byte t recursion_limit i (λ e. cc) refl (omega arith))
-  inside_at-within good (suc room) i h = value_with-within good (λ j. inside_at r t room j) (inside_at-within good room) i (start_of (slice_index t i)) h
+  inside_at-within good zero i h =
+      (omega arith, omega arith, fault-byte t recursion_limit i (λ e. cc) refl (omega arith))
+  inside_at-within good (suc room) i h =
+      value_with-within good (λ j. inside_at r t room j) (inside_at-within good room) i (start_of (slice_index t i)) h
 
   pub value_at-within : Advances r t → (room : ℕ) → AllWithin t (value_at r t room)
-  value_at-within good room i h = value_with-within good (inside_at r t room) (inside_at-within good room) i (start_of (slice_index t i)) h
+  value_at-within good room i h =
+      value_with-within good (inside_at r t room) (inside_at-within good room) i (start_of (slice_index t i)) h
 
   pub inside_at-suc : (room i : ℕ) → inside_at r t (suc room) i ≡ value_at r t room i
   unfolding inside_at
@@ -171,7 +197,8 @@ module _ {K A : Type 0} (r : Rules K A) (t : List ℕ) where
 
   pub member-value : (inner : ℕ → Reading A) (i e j : ℕ) (key : K) (x : Reading A) → r.key t i ≡ taken key e
       → object_colon t e ≡ taken tt j → inner j ≡ x → behind_key inner t i (r.key t i) ≡ with_key key x
-  member-value inner i e j key x h w v = ap (behind_key inner t i) h ∙ ap (behind_colon key inner) w ∙ ap (with_key key) v
+  member-value inner i e j key x h w v =
+      ap (behind_key inner t i) h ∙ ap (behind_colon key inner) w ∙ ap (with_key key) v
 
   pub inside_at-none : (room i : ℕ) → room ≡ 0 → inside_at r t room i ≡ fault recursion_limit i i
   unfolding inside_at
@@ -182,4 +209,6 @@ module _ {K A : Type 0} (r : Rules K A) (t : List ℕ) where
       → inside_at r t room i ≡ value_with r (inside_at r t (room - 1)) t i s
   unfolding inside_at
   inside_at-starts zero i s lt e = let no : ⊥ = omega arith in absurd no
-  inside_at-starts (suc room) i s lt e = let same : suc room - 1 ≡ room = omega arith in ap (value_with r (inside_at r t room) t i) e ∙ ap (λ n. value_with r (inside_at r t n) t i s) (sym same)
+  inside_at-starts (suc room) i s lt e =
+      let same : suc room - 1 ≡ room = omega arith in ap (value_with r (inside_at r t room) t i) e
+      ∙ ap (λ n. value_with r (inside_at r t n) t i s) (sym same)

@@ -16,7 +16,9 @@ module _ {K A : Type 0} (r : Rules K A) (t : List ℕ) where
   -- Whatever follows the value.
   pub front-empty : past_blanks t 0 ≡ length t → front_answer r t ≡ fault eof_value (length t) (length t)
   unfolding front_answer
-  front-empty e = ap (λ i. if_begun r t i (slice_get t i)) e ∙ ap (if_begun r t (length t)) (slice_get_past t (length t) (omega arith))
+  front-empty e =
+      ap (λ i. if_begun r t i (slice_get t i)) e
+      ∙ ap (if_begun r t (length t)) (slice_get_past t (length t) (omega arith))
 
   pub front-begins : (i : ℕ) → past_blanks t 0 ≡ i → i < length t → front_answer r t ≡ value_at r t nesting_limit i
   unfolding front_answer
@@ -45,8 +47,11 @@ module _ {K A : Type 0} (r : Rules K A) (t : List ℕ) where
 
   module _ (good : Advances r t) where
     if_begun-within : (i : ℕ) (o : Option ℕ) → i ≤ length t → slice_get t i ≡ o → Within t 0 (if_begun r t i o)
-    if_begun-within i None le q = let past = get-none t i q in (omega arith, le, fault-end t eof_value i (λ m. cc) (omega (arith, past)))
-    if_begun-within i (Some c) le q = within-later 0 i (value_at r t nesting_limit i) (omega arith) (value_at-within r t good nesting_limit i (slice_get_within t i c q))
+    if_begun-within i None le q =
+        let past = get-none t i q in (omega arith, le, fault-end t eof_value i (λ m. cc) (omega (arith, past)))
+    if_begun-within i (Some c) le q =
+        within-later 0 i (value_at r t nesting_limit i) (omega arith)
+        (value_at-within r t good nesting_limit i (slice_get_within t i c q))
 
     if_last-within : (a : A) (e j : ℕ) (o : Option ℕ) → 0 < e → e ≤ length t → j ≤ length t
         → Within t 0 (if_last a e j o)
@@ -54,12 +59,14 @@ module _ {K A : Type 0} (r : Rules K A) (t : List ℕ) where
     if_last-within a e j (Some c) some le lj = (omega arith, lj, fault-byte t trailing_characters j (λ m. cc) refl lj)
 
     to_end-within : (x : Reading A) → Within t 0 x → Within t 0 (to_end t x)
-    to_end-within (done a e) h = if_last-within a e (past_blanks t e) (slice_get t (past_blanks t e)) h.0 h.1 (past_blanks-bound t e h.1)
+    to_end-within (done a e) h =
+        if_last-within a e (past_blanks t e) (slice_get t (past_blanks t e)) h.0 h.1 (past_blanks-bound t e h.1)
     to_end-within (fault k x stop) h = h
 
     pub front_answer-within : Within t 0 (front_answer r t)
     unfolding front_answer
-    front_answer-within = if_begun-within (past_blanks t 0) (slice_get t (past_blanks t 0)) (past_blanks-bound t 0 (omega arith)) refl
+    front_answer-within =
+        if_begun-within (past_blanks t 0) (slice_get t (past_blanks t 0)) (past_blanks-bound t 0 (omega arith)) refl
 
     pub whole_answer-within : Within t 0 (whole_answer r t)
     unfolding whole_answer

@@ -86,17 +86,22 @@ abbrev mutual
   -- commas and further items, and `]`, behind an item
   pub SpellsMoreItems : Bool → List ℕ → ℕ → Nodes → ℕ → Type 0
   SpellsMoreItems names t i no_nodes e = StandsBehind t i ascii.right_bracket e
-  SpellsMoreItems names t i (node n ns) e = (c : ℕ) × StandsBehind t i ascii.comma c × IsBlank t c (begin n) × Spells names t n × SpellsMoreItems names t (end n) ns e
+  SpellsMoreItems names t i (node n ns) e =
+      (c : ℕ) × StandsBehind t i ascii.comma c × IsBlank t c (begin n) × Spells names t n
+      × SpellsMoreItems names t (end n) ns e
 
   -- the members and `}`, behind `{`
   pub SpellsMembers : Bool → List ℕ → ℕ → NodeMembers → ℕ → Type 0
   SpellsMembers names t i no_members e = StandsBehind t i ascii.right_brace e
-  SpellsMembers names t i (member k n ms) e = IsBlank t i k.begin × SpellsKey t k (begin n) × Spells names t n × SpellsMoreMembers names t (end n) ms e
+  SpellsMembers names t i (member k n ms) e =
+      IsBlank t i k.begin × SpellsKey t k (begin n) × Spells names t n × SpellsMoreMembers names t (end n) ms e
 
   -- commas and further members, and `}`, behind a member
   pub SpellsMoreMembers : Bool → List ℕ → ℕ → NodeMembers → ℕ → Type 0
   SpellsMoreMembers names t i no_members e = StandsBehind t i ascii.right_brace e
-  SpellsMoreMembers names t i (member k n ms) e = (c : ℕ) × StandsBehind t i ascii.comma c × IsBlank t c k.begin × SpellsKey t k (begin n) × Spells names t n × SpellsMoreMembers names t (end n) ms e
+  SpellsMoreMembers names t i (member k n ms) e =
+      (c : ℕ) × StandsBehind t i ascii.comma c × IsBlank t c k.begin × SpellsKey t k (begin n) × Spells names t n
+      × SpellsMoreMembers names t (end n) ms e
 
 -- how deep containers that are not empty stand one inside another
 abbrev mutual

@@ -78,7 +78,8 @@ module _ {K A : Type 0} where
     -- behind a part
     abbrev pub behind_part : Rules K A → Container P A → List ℕ → (List P → ℕ → Reading A) → List P → Reading P
         → Reading A
-    behind_part r c t go parts (done p e) = follow r (go (parts ++ p ∷ [])) (λ e. c.build e (parts ++ p ∷ [])) (step t c.next e)
+    behind_part r c t go parts (done p e) =
+        follow r (go (parts ++ p ∷ [])) (λ e. c.build e (parts ++ p ∷ [])) (step t c.next e)
     behind_part r c t go parts (fault k i stop) = if_forgiven r (λ e. c.build e parts) k i stop
 
     -- The parts from i on, behind those so far. The number bounds the turns; the text's length is always enough.
@@ -95,7 +96,13 @@ module _ {K A : Type 0} where
   array_of r inner t i = record { first = array_first; next = array_step t; part = inner; build = r.array i }
 
   abbrev pub object_of : Rules K A → (ℕ → Reading A) → List ℕ → ℕ → Container (K × A) A
-  object_of r inner t i = record { first = object_first; next = object_step t; part = λ j. behind_key inner t j (r.key t j); build = r.object i }
+  object_of r inner t i =
+      record {
+        first = object_first;
+        next = object_step t;
+        part = λ j. behind_key inner t j (r.key t j);
+        build = r.object i;
+      }
 
   -- a value that begins so
   abbrev pub value_with : Rules K A → (ℕ → Reading A) → List ℕ → ℕ → Start → Reading A

@@ -79,7 +79,8 @@ mutual
   tells null (array js) x y e = apart 0 6 x (code_items js ++ y) (λ h. omega (arith, h)) e
   tells null (object ns) x y e = apart 0 7 x (code_members ns ++ y) (λ h. omega (arith, h)) e
   tells (boolean b) null x y e = apart 1 0 (code_bool b ++ x) y (λ h. omega (arith, h)) e
-  tells (boolean b) (boolean c) x y e = let h = bool-tells b c x y (behind 1 1 (code_bool b ++ x) (code_bool c ++ y) e) in (ap boolean h.0, h.1)
+  tells (boolean b) (boolean c) x y e =
+      let h = bool-tells b c x y (behind 1 1 (code_bool b ++ x) (code_bool c ++ y) e) in (ap boolean h.0, h.1)
   tells (boolean b) (int w) x y e = apart 1 2 (code_bool b ++ x) (code_int w ++ y) (λ h. omega (arith, h)) e
   tells (boolean b) (big u) x y e = apart 1 3 (code_bool b ++ x) (code_bytes u.bytes ++ y) (λ h. omega (arith, h)) e
   tells (boolean b) (float u) x y e = apart 1 4 (code_bool b ++ x) (code_bytes u.bytes ++ y) (λ h. omega (arith, h)) e
@@ -88,7 +89,8 @@ mutual
   tells (boolean b) (object ns) x y e = apart 1 7 (code_bool b ++ x) (code_members ns ++ y) (λ h. omega (arith, h)) e
   tells (int z) null x y e = apart 2 0 (code_int z ++ x) y (λ h. omega (arith, h)) e
   tells (int z) (boolean c) x y e = apart 2 1 (code_int z ++ x) (code_bool c ++ y) (λ h. omega (arith, h)) e
-  tells (int z) (int w) x y e = let h = int-tells z w x y (behind 2 2 (code_int z ++ x) (code_int w ++ y) e) in (ap int h.0, h.1)
+  tells (int z) (int w) x y e =
+      let h = int-tells z w x y (behind 2 2 (code_int z ++ x) (code_int w ++ y) e) in (ap int h.0, h.1)
   tells (int z) (big u) x y e = apart 2 3 (code_int z ++ x) (code_bytes u.bytes ++ y) (λ h. omega (arith, h)) e
   tells (int z) (float u) x y e = apart 2 4 (code_int z ++ x) (code_bytes u.bytes ++ y) (λ h. omega (arith, h)) e
   tells (int z) (string u) x y e = apart 2 5 (code_int z ++ x) (code_bytes u.bytes ++ y) (λ h. omega (arith, h)) e
@@ -97,43 +99,61 @@ mutual
   tells (big s) null x y e = apart 3 0 (code_bytes s.bytes ++ x) y (λ h. omega (arith, h)) e
   tells (big s) (boolean c) x y e = apart 3 1 (code_bytes s.bytes ++ x) (code_bool c ++ y) (λ h. omega (arith, h)) e
   tells (big s) (int w) x y e = apart 3 2 (code_bytes s.bytes ++ x) (code_int w ++ y) (λ h. omega (arith, h)) e
-  tells (big s) (big u) x y e = let h = text-tells s u x y (behind 3 3 (code_bytes s.bytes ++ x) (code_bytes u.bytes ++ y) e) in (ap big h.0, h.1)
-  tells (big s) (float u) x y e = apart 3 4 (code_bytes s.bytes ++ x) (code_bytes u.bytes ++ y) (λ h. omega (arith, h)) e
-  tells (big s) (string u) x y e = apart 3 5 (code_bytes s.bytes ++ x) (code_bytes u.bytes ++ y) (λ h. omega (arith, h)) e
+  tells (big s) (big u) x y e =
+      let h = text-tells s u x y (behind 3 3 (code_bytes s.bytes ++ x) (code_bytes u.bytes ++ y) e) in (ap big h.0, h.1)
+  tells (big s) (float u) x y e =
+      apart 3 4 (code_bytes s.bytes ++ x) (code_bytes u.bytes ++ y) (λ h. omega (arith, h)) e
+  tells (big s) (string u) x y e =
+      apart 3 5 (code_bytes s.bytes ++ x) (code_bytes u.bytes ++ y) (λ h. omega (arith, h)) e
   tells (big s) (array js) x y e = apart 3 6 (code_bytes s.bytes ++ x) (code_items js ++ y) (λ h. omega (arith, h)) e
   tells (big s) (object ns) x y e = apart 3 7 (code_bytes s.bytes ++ x) (code_members ns ++ y) (λ h. omega (arith, h)) e
   tells (float s) null x y e = apart 4 0 (code_bytes s.bytes ++ x) y (λ h. omega (arith, h)) e
   tells (float s) (boolean c) x y e = apart 4 1 (code_bytes s.bytes ++ x) (code_bool c ++ y) (λ h. omega (arith, h)) e
   tells (float s) (int w) x y e = apart 4 2 (code_bytes s.bytes ++ x) (code_int w ++ y) (λ h. omega (arith, h)) e
-  tells (float s) (big u) x y e = apart 4 3 (code_bytes s.bytes ++ x) (code_bytes u.bytes ++ y) (λ h. omega (arith, h)) e
-  tells (float s) (float u) x y e = let h = text-tells s u x y (behind 4 4 (code_bytes s.bytes ++ x) (code_bytes u.bytes ++ y) e) in (ap float h.0, h.1)
-  tells (float s) (string u) x y e = apart 4 5 (code_bytes s.bytes ++ x) (code_bytes u.bytes ++ y) (λ h. omega (arith, h)) e
+  tells (float s) (big u) x y e =
+      apart 4 3 (code_bytes s.bytes ++ x) (code_bytes u.bytes ++ y) (λ h. omega (arith, h)) e
+  tells (float s) (float u) x y e =
+      let h = text-tells s u x y (behind 4 4 (code_bytes s.bytes ++ x) (code_bytes u.bytes ++ y) e) in
+      (ap float h.0, h.1)
+  tells (float s) (string u) x y e =
+      apart 4 5 (code_bytes s.bytes ++ x) (code_bytes u.bytes ++ y) (λ h. omega (arith, h)) e
   tells (float s) (array js) x y e = apart 4 6 (code_bytes s.bytes ++ x) (code_items js ++ y) (λ h. omega (arith, h)) e
-  tells (float s) (object ns) x y e = apart 4 7 (code_bytes s.bytes ++ x) (code_members ns ++ y) (λ h. omega (arith, h)) e
+  tells (float s) (object ns) x y e =
+      apart 4 7 (code_bytes s.bytes ++ x) (code_members ns ++ y) (λ h. omega (arith, h)) e
   tells (string s) null x y e = apart 5 0 (code_bytes s.bytes ++ x) y (λ h. omega (arith, h)) e
   tells (string s) (boolean c) x y e = apart 5 1 (code_bytes s.bytes ++ x) (code_bool c ++ y) (λ h. omega (arith, h)) e
   tells (string s) (int w) x y e = apart 5 2 (code_bytes s.bytes ++ x) (code_int w ++ y) (λ h. omega (arith, h)) e
-  tells (string s) (big u) x y e = apart 5 3 (code_bytes s.bytes ++ x) (code_bytes u.bytes ++ y) (λ h. omega (arith, h)) e
-  tells (string s) (float u) x y e = apart 5 4 (code_bytes s.bytes ++ x) (code_bytes u.bytes ++ y) (λ h. omega (arith, h)) e
-  tells (string s) (string u) x y e = let h = text-tells s u x y (behind 5 5 (code_bytes s.bytes ++ x) (code_bytes u.bytes ++ y) e) in (ap string h.0, h.1)
+  tells (string s) (big u) x y e =
+      apart 5 3 (code_bytes s.bytes ++ x) (code_bytes u.bytes ++ y) (λ h. omega (arith, h)) e
+  tells (string s) (float u) x y e =
+      apart 5 4 (code_bytes s.bytes ++ x) (code_bytes u.bytes ++ y) (λ h. omega (arith, h)) e
+  tells (string s) (string u) x y e =
+      let h = text-tells s u x y (behind 5 5 (code_bytes s.bytes ++ x) (code_bytes u.bytes ++ y) e) in
+      (ap string h.0, h.1)
   tells (string s) (array js) x y e = apart 5 6 (code_bytes s.bytes ++ x) (code_items js ++ y) (λ h. omega (arith, h)) e
-  tells (string s) (object ns) x y e = apart 5 7 (code_bytes s.bytes ++ x) (code_members ns ++ y) (λ h. omega (arith, h)) e
+  tells (string s) (object ns) x y e =
+      apart 5 7 (code_bytes s.bytes ++ x) (code_members ns ++ y) (λ h. omega (arith, h)) e
   tells (array is) null x y e = apart 6 0 (code_items is ++ x) y (λ h. omega (arith, h)) e
   tells (array is) (boolean c) x y e = apart 6 1 (code_items is ++ x) (code_bool c ++ y) (λ h. omega (arith, h)) e
   tells (array is) (int w) x y e = apart 6 2 (code_items is ++ x) (code_int w ++ y) (λ h. omega (arith, h)) e
   tells (array is) (big u) x y e = apart 6 3 (code_items is ++ x) (code_bytes u.bytes ++ y) (λ h. omega (arith, h)) e
   tells (array is) (float u) x y e = apart 6 4 (code_items is ++ x) (code_bytes u.bytes ++ y) (λ h. omega (arith, h)) e
   tells (array is) (string u) x y e = apart 6 5 (code_items is ++ x) (code_bytes u.bytes ++ y) (λ h. omega (arith, h)) e
-  tells (array is) (array js) x y e = let h = items-tell is js x y (behind 6 6 (code_items is ++ x) (code_items js ++ y) e) in (ap array h.0, h.1)
+  tells (array is) (array js) x y e =
+      let h = items-tell is js x y (behind 6 6 (code_items is ++ x) (code_items js ++ y) e) in (ap array h.0, h.1)
   tells (array is) (object ns) x y e = apart 6 7 (code_items is ++ x) (code_members ns ++ y) (λ h. omega (arith, h)) e
   tells (object ms) null x y e = apart 7 0 (code_members ms ++ x) y (λ h. omega (arith, h)) e
   tells (object ms) (boolean c) x y e = apart 7 1 (code_members ms ++ x) (code_bool c ++ y) (λ h. omega (arith, h)) e
   tells (object ms) (int w) x y e = apart 7 2 (code_members ms ++ x) (code_int w ++ y) (λ h. omega (arith, h)) e
   tells (object ms) (big u) x y e = apart 7 3 (code_members ms ++ x) (code_bytes u.bytes ++ y) (λ h. omega (arith, h)) e
-  tells (object ms) (float u) x y e = apart 7 4 (code_members ms ++ x) (code_bytes u.bytes ++ y) (λ h. omega (arith, h)) e
-  tells (object ms) (string u) x y e = apart 7 5 (code_members ms ++ x) (code_bytes u.bytes ++ y) (λ h. omega (arith, h)) e
+  tells (object ms) (float u) x y e =
+      apart 7 4 (code_members ms ++ x) (code_bytes u.bytes ++ y) (λ h. omega (arith, h)) e
+  tells (object ms) (string u) x y e =
+      apart 7 5 (code_members ms ++ x) (code_bytes u.bytes ++ y) (λ h. omega (arith, h)) e
   tells (object ms) (array js) x y e = apart 7 6 (code_members ms ++ x) (code_items js ++ y) (λ h. omega (arith, h)) e
-  tells (object ms) (object ns) x y e = let h = members-tell ms ns x y (behind 7 7 (code_members ms ++ x) (code_members ns ++ y) e) in (ap object h.0, h.1)
+  tells (object ms) (object ns) x y e =
+      let h = members-tell ms ns x y (behind 7 7 (code_members ms ++ x) (code_members ns ++ y) e) in
+      (ap object h.0, h.1)
 
   items-tell : (is js : Items) (x y : List ℕ) → code_items is ++ x ≡ code_items js ++ y
       → (owned_items is ≡ owned_items js) × (x ≡ y)
@@ -155,7 +175,8 @@ mutual
   members-tell (member k v ms) no_members x y e =
       apart 1 0 ((code_bytes k.bytes ++ (code v ++ code_members ms)) ++ x) y (λ h. omega (arith, h)) e
   members-tell (member k v ms) (member l w ns) x y e =
-      let rest = behind 1 1 ((code_bytes k.bytes ++ (code v ++ code_members ms)) ++ x) ((code_bytes l.bytes ++ (code w ++ code_members ns)) ++ y) e in
+      let rest = behind 1 1 ((code_bytes k.bytes ++ (code v ++ code_members ms)) ++ x)
+      ((code_bytes l.bytes ++ (code w ++ code_members ns)) ++ y) e in
       let key = text-tells k l ((code v ++ code_members ms) ++ x) ((code w ++ code_members ns) ++ y)
       (sym (append_assoc (code_bytes k.bytes) (code v ++ code_members ms) x) ∙ rest
       ∙ append_assoc (code_bytes l.bytes) (code w ++ code_members ns) y) in

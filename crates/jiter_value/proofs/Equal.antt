@@ -43,7 +43,8 @@ same-lists [] [] e = refl
 same-lists [] (y ∷ ys) e = absurd (cc)
 same-lists (x ∷ xs) [] e = absurd (cc)
 same-lists (x ∷ xs) (y ∷ ys) e =
-    rw (first-item x y (items_of xs) (items_of ys) e, same-lists xs ys (other-items x y (items_of xs) (items_of ys) e)) refl
+    rw (first-item x y (items_of xs) (items_of ys) e, same-lists xs ys (other-items x y (items_of xs) (items_of ys) e))
+    refl
 
 same-member_lists : (ms ns : List (Text × Tree)) → members_of ms ≡ members_of ns → ms ≡ ns
 same-member_lists [] [] e = refl
@@ -78,7 +79,8 @@ pub object-decides : (b : Bool) (v w : Vec Member Global)
 object-decides b v w d =
     along d (λ h. owned-view-Object v ∙ ap (λ ms. object (members_of ms)) h ∙ sym (owned-view-Object w))
     (λ e. same-member_lists (map owned_member (map member_view v.items)) (map owned_member (map member_view w.items))
-    (inside-object (members_of (map owned_member (map member_view v.items))) (members_of (map owned_member (map member_view w.items)))
+    (inside-object (members_of (map owned_member (map member_view v.items)))
+    (members_of (map owned_member (map member_view w.items)))
     (sym (owned-view-Object v) ∙ e ∙ owned-view-Object w)))
 
 -- what stands at one place of two lists that are the same

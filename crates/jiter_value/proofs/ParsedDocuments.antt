@@ -29,7 +29,9 @@ use Rattle.jiter_value.proofs.WholeTextAnswers.{answer_in-within}
 
 -- a container that is cut ends too early
 cut-early : (names : Bool) (t : List ℕ) → IsCutContainer names t → EndsEarly (answer names t)
-cut-early names t c = subst (λ u. EndsEarly (answer names u)) (sym c.is) (prefix-refused names c.text c.node c.place c.document c.container c.before_end)
+cut-early names t c =
+    subst (λ u. EndsEarly (answer names u)) (sym c.is)
+    (prefix-refused names c.text c.node c.place c.document c.container c.before_end)
 
 -- With partial reading off.
 module _ (names : Bool) (t : List ℕ) where
@@ -91,10 +93,13 @@ module _ (names : Bool) (t : List ℕ) (mode : PartialMode) (i : ℕ) (e : JsonE
 
   pub error-index : (x : ReadError) → IsErrorOf x i e → GivesWhole (Err x) i (answer_in names mode t) → i ≤ length t
       → e.index ≤ length t
-  error-index (error.Fault f) is h le = subst (λ j. j ≤ length t) (sym is.1) (fault-at (fault_kind f.kind) f.index h).within
+  error-index (error.Fault f) is h le =
+      subst (λ j. j ≤ length t) (sym is.1) (fault-at (fault_kind f.kind) f.index h).within
   error-index (error.Memory m) is h le = subst (λ j. j ≤ length t) (sym (ap (λ e. e.index) is)) le
 
   pub error-ends : (x : ReadError) → IsErrorOf x i e → GivesWhole (Err x) i (answer_in names mode t)
       → is_end_kind (kind_of e.error_type) ≡ true → e.index ≡ length t
-  error-ends (error.Fault f) is h k = is.1 ∙ (fault-at (fault_kind f.kind) f.index h).ends (ap is_end_kind (sym is.0) ∙ k)
-  error-ends (error.Memory m) is h k = let other = ap (λ e. is_end_kind (kind_of e.error_type)) (sym is) ∙ k in absurd (cc)
+  error-ends (error.Fault f) is h k =
+      is.1 ∙ (fault-at (fault_kind f.kind) f.index h).ends (ap is_end_kind (sym is.0) ∙ k)
+  error-ends (error.Memory m) is h k =
+      let other = ap (λ e. is_end_kind (kind_of e.error_type)) (sym is) ∙ k in absurd (cc)

@@ -110,12 +110,14 @@ pub key-at : (t : List ℕ) (s : Stacks) (ms : Vec Member Global) (i e j : ℕ) 
     → text_view k ≡ x
     → StandsAtKey s → i < length t → string_at whole t i ≡ taken x e → object_colon t e ≡ taken tt j
     → ms.items ≡ s.members.items ++ (k, Null) ∷ [] → i < j → j < length t
-    → IsKeyAt t s i (record { items = s.items; members = ms; nest = s.nest; root = s.root; error = s.error; kept = s.kept }) j
+    → IsKeyAt t s i (record
+    { items = s.items; members = ms; nest = s.nest; root = s.root; error = s.error; kept = s.kept }) j
 key-at t s ms i e j k x seen b inside read colon pushed ahead within =
     let os = reverse s.nest.items in
     let es = s.items.items in
     let n = length s.members.items in
-    let long : n + 1 ≡ length ms.items = omega (arith, ap length pushed, length-append s.members.items ((k, Null) ∷ [])) in
+    let long : n + 1 ≡ length ms.items = omega (arith, ap length pushed, length-append s.members.items ((k, Null) ∷ []))
+    in
     record {
       value = λ p.
           key-opens p t os es s.members.items i k e j b inside (read ∙ ap (λ y. taken y e) (sym seen)) colon

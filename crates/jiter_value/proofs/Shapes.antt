@@ -125,7 +125,8 @@ module _ (p : Settings) (t : List ℕ) (s : Stacks) where
       → IsResolved p false error j (step t (container_step h t) e) → Fails error j (behind p t s (awaited_in h) e)
   inside-fails h e j error b r =
       given-up error j (behind p t s (awaited_in h) e) r.0 r.1 r.2
-      (behind-stuck p t h s.items.items s.members.items s.root e (reverse s.nest.items) j (fault_kind r.0.kind) b r.3 r.4)
+      (behind-stuck p t h s.items.items s.members.items s.root e (reverse s.nest.items) j (fault_kind r.0.kind) b r.3
+      r.4)
 
   module _ (a : Awaits) (b : Stands s a) (few : length (reverse s.nest.items) ≤ 200) (i : ℕ) where
     -- a container without a part
@@ -139,7 +140,8 @@ module _ (p : Settings) (t : List ℕ) (s : Stacks) where
         → IsResolved p false error j (step t (container_first h) (i + 1)) → Fails error j (from_value p t s a i)
     first-fails h j error starts r =
         given-up error j (from_value p t s a i) r.0 r.1 r.2
-        (begins-stuck p t a (reverse s.nest.items) s.items.items s.members.items b few i h j (fault_kind r.0.kind) starts
+        (begins-stuck p t a (reverse s.nest.items) s.items.items s.members.items b few i h j (fault_kind r.0.kind)
+        starts
         r.3 r.4)
 
     -- a container opens
@@ -214,7 +216,8 @@ pub part-held : (s : Stacks) (a : Awaits) (h : Shape) (o : Open) (n : SmallVec O
     → n.items ≡ s.nest.items ++ o ∷ [] → o ≡ opened s a h
     → IfOk (outcome (with_nest s n) (part_of h)) (λ x. held (with_nest s n) x ≤ value_size s a + 1)
 part-held s a h o n pushed eq =
-    let is : inside_size h (with_nest s n) ≡ inside_size_in h (opened s a h ∷ reverse s.nest.items) s.items.items s.members.items =
+    let is : inside_size h (with_nest s n) ≡ inside_size_in h (opened s a h ∷ reverse s.nest.items) s.items.items
+    s.members.items =
     ap (λ qs. inside_size_in h qs s.items.items s.members.items) (turned s a h o n pushed eq) in
     let none = ap (parts_size h) (no-parts s h) ∙ no-size h in
     let rest = ap frames_size (same-below s a h) in

@@ -37,23 +37,33 @@ put-item-size (o ∷ os) es ms root v h =
     let part : map view (drop o.base (es ++ v ∷ [])) ≡ map view (drop o.base es) ++ view v ∷ [] = ap (map view)
     (drop-append-le o.base es (v ∷ []) h.0) ∙ map_push view (drop o.base es) v in
     let rest : take o.base (es ++ v ∷ []) ≡ take o.base es = take-append-le o.base es (v ∷ []) h.0 in
-    let grown : items_size (map view (drop o.base (es ++ v ∷ []))) ≡ items_size (map view (drop o.base es)) + size (view v) = ap items_size part ∙ items_size-push (map view (drop o.base es)) (view v) in
-    let outer : frames_size (frames o.outer os (take o.base (es ++ v ∷ [])) ms) ≡ frames_size (frames o.outer os (take o.base es) ms) = ap (λ ys. frames_size (frames o.outer os ys ms)) rest in
+    let grown : items_size (map view (drop o.base (es ++ v ∷ []))) ≡ items_size (map view (drop o.base es)) + size
+    (view v) = ap items_size part ∙ items_size-push (map view (drop o.base es)) (view v) in
+    let outer : frames_size (frames o.outer os (take o.base (es ++ v ∷ [])) ms) ≡ frames_size
+    (frames o.outer os (take o.base es) ms) = ap (λ ys. frames_size (frames o.outer os ys ms)) rest in
     omega (arith, grown, outer)
 
-pub put-value-size : (os : List Open) (es : List JsonValue) (before : List Member) (key : CowStr Global) (old root v : JsonValue) → HaveBases awaits.Value os (length es) (length (before ++ (key, old) ∷ []))
-    → behind_size_in awaits.Value os es (before ++ (key, v) ∷ []) root ≡ frames_size (frames awaits.Value os es (before ++ (key, old) ∷ [])) + size (view v)
+pub put-value-size : (os : List Open) (es : List JsonValue) (before : List Member) (key : CowStr Global)
+    (old root v : JsonValue) → HaveBases awaits.Value os (length es) (length (before ++ (key, old) ∷ []))
+    → behind_size_in awaits.Value os es (before ++ (key, v) ∷ []) root ≡ frames_size
+    (frames awaits.Value os es (before ++ (key, old) ∷ [])) + size (view v)
 put-value-size [] es before key old root v h = absurd h
 put-value-size (o ∷ os) es before key old root v h =
     let le : o.base ≤ length before = omega (arith, h.0, length-append before ((key, old) ∷ [])) in
-    let part : map member_view (drop o.base (before ++ (key, v) ∷ [])) ≡ map member_view (drop o.base before) ++ (text_view key, view v) ∷ [] =
+    let part : map member_view (drop o.base (before ++ (key, v) ∷ [])) ≡ map member_view (drop o.base before) ++
+    (text_view key, view v) ∷ [] =
     ap (map member_view) (drop-append-le o.base before ((key, v) ∷ []) le)
     ∙ map_push member_view (drop o.base before) (key, v) in
     let rest : take o.base (before ++ (key, v) ∷ []) ≡ take o.base before = take-append-le o.base before
     ((key, v) ∷ []) le in
-    let grown : members_size (map member_view (drop o.base (before ++ (key, v) ∷ []))) ≡ members_size (map member_view (drop o.base before)) + suc (size (view v)) = ap members_size part ∙ members_size-push (map member_view (drop o.base before)) (text_view key, view v) in
-    let outer : frames_size (frames o.outer os es (take o.base (before ++ (key, v) ∷ []))) ≡ frames_size (frames o.outer os es (take o.base before)) = ap (λ ys. frames_size (frames o.outer os es ys)) rest in
-    let was : frames_size (frames awaits.Value (o ∷ os) es (before ++ (key, old) ∷ [])) ≡ suc (suc (members_size (map member_view (drop o.base before)))) + frames_size (frames o.outer os es (take o.base before)) = ap frames_size (value-frames o os es before key old le) in
+    let grown : members_size (map member_view (drop o.base (before ++ (key, v) ∷ []))) ≡ members_size
+    (map member_view (drop o.base before)) + suc (size (view v)) = ap members_size part
+    ∙ members_size-push (map member_view (drop o.base before)) (text_view key, view v) in
+    let outer : frames_size (frames o.outer os es (take o.base (before ++ (key, v) ∷ []))) ≡ frames_size
+    (frames o.outer os es (take o.base before)) = ap (λ ys. frames_size (frames o.outer os es ys)) rest in
+    let was : frames_size (frames awaits.Value (o ∷ os) es (before ++ (key, old) ∷ [])) ≡ suc
+    (suc (members_size (map member_view (drop o.base before)))) + frames_size
+    (frames o.outer os es (take o.base before)) = ap frames_size (value-frames o os es before key old le) in
     omega (arith, grown, outer, was)
 
 pub put-root-size : (os : List Open) (es : List JsonValue) (ms : List Member) (v : JsonValue)
@@ -67,7 +77,8 @@ built-size : (h : Shape) (xs : List (PartTree h)) → size (built h xs) ≡ suc 
 built-size shape.Array xs = refl
 built-size shape.Object xs = refl
 
-pub container-size : (h : Shape) (nest init : List Open) (o : Open) (es : List JsonValue) (ms : List Member) (fs : List (Frame Text Tree)) (x : Tree)
+pub container-size : (h : Shape) (nest init : List Open) (o : Open) (es : List JsonValue) (ms : List Member)
+    (fs : List (Frame Text Tree)) (x : Tree)
     → nest ≡ init ++ o ∷ [] → fs ≡ frames_below h o (reverse init) es ms → x ≡ built h (parts_above h o.base es ms)
     → inside_size_in h (reverse nest) es ms ≡ frames_size fs + size x
 container-size h nest init o es ms fs x is below made =

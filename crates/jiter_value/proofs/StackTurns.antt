@@ -72,8 +72,10 @@ front-append xs m =
     ∙ take_all (length xs) xs (omega arith)
 
 -- an object that awaits the value of this key
-pub value-frames : (o : Open) (os : List Open) (es : List JsonValue) (before : List Member) (key : CowStr Global) (old : JsonValue) → o.base ≤ length before
-    → frames awaits.Value (o ∷ os) es (before ++ (key, old) ∷ []) ≡ members_frame (map member_view (drop o.base before)) (text_view key) ∷ frames o.outer os es (take o.base before)
+pub value-frames : (o : Open) (os : List Open) (es : List JsonValue) (before : List Member) (key : CowStr Global)
+    (old : JsonValue) → o.base ≤ length before
+    → frames awaits.Value (o ∷ os) es (before ++ (key, old) ∷ []) ≡ members_frame (map member_view (drop o.base before))
+    (text_view key) ∷ frames o.outer os es (take o.base before)
 value-frames o os es before key old h =
     let m : Member = (key, old) in
     let dropped : drop o.base (before ++ m ∷ []) ≡ drop o.base before ++ m ∷ [] = drop-append-le o.base before
@@ -109,7 +111,8 @@ module _ (p : Settings) (t : List ℕ) where
   -- A value goes where it belongs.
   pub put-item : (os : List Open) (es : List JsonValue) (ms : List Member) (root v : JsonValue) (e : ℕ)
       → HaveBases awaits.Item os (length es) (length ms)
-      → resume (rules p) t (frames awaits.Item os es ms) (done (view v) e) ≡ behind_in p t awaits.Item os (es ++ v ∷ []) ms root e
+      → resume (rules p) t (frames awaits.Item os es ms) (done (view v) e) ≡ behind_in p t awaits.Item os (es ++ v ∷ [])
+      ms root e
   put-item [] es ms root v e h = absurd h
   put-item (o ∷ os) es ms root v e h =
       let part : map view (drop o.base es) ++ view v ∷ [] ≡ map view (drop o.base (es ++ v ∷ [])) = sym
@@ -117,12 +120,15 @@ module _ (p : Settings) (t : List ℕ) where
       let rest : take o.base es ≡ take o.base (es ++ v ∷ []) = sym (take-append-le o.base es (v ∷ []) h.0) in
       ap₂ (λ xs ys. items_from (rules p) t (frames o.outer os ys ms) xs e) part rest
 
-  pub put-value : (os : List Open) (es : List JsonValue) (before : List Member) (key : CowStr Global) (old root v : JsonValue) (e : ℕ) → HaveBases awaits.Value os (length es) (length (before ++ (key, old) ∷ []))
-      → resume (rules p) t (frames awaits.Value os es (before ++ (key, old) ∷ [])) (done (view v) e) ≡ behind_in p t awaits.Value os es (before ++ (key, v) ∷ []) root e
+  pub put-value : (os : List Open) (es : List JsonValue) (before : List Member) (key : CowStr Global)
+      (old root v : JsonValue) (e : ℕ) → HaveBases awaits.Value os (length es) (length (before ++ (key, old) ∷ []))
+      → resume (rules p) t (frames awaits.Value os es (before ++ (key, old) ∷ [])) (done (view v) e) ≡ behind_in p t
+      awaits.Value os es (before ++ (key, v) ∷ []) root e
   put-value [] es before key old root v e h = absurd h
   put-value (o ∷ os) es before key old root v e h =
       let le : o.base ≤ length before = omega (arith, h.0, length-append before ((key, old) ∷ [])) in
-      let part : map member_view (drop o.base before) ++ (text_view key, view v) ∷ [] ≡ map member_view (drop o.base (before ++ (key, v) ∷ [])) =
+      let part : map member_view (drop o.base before) ++ (text_view key, view v) ∷ [] ≡ map member_view
+      (drop o.base (before ++ (key, v) ∷ [])) =
       sym (map_push member_view (drop o.base before) (key, v))
       ∙ ap (map member_view) (sym (drop-append-le o.base before ((key, v) ∷ []) le)) in
       let rest : take o.base before ≡ take o.base (before ++ (key, v) ∷ []) = sym
@@ -137,7 +143,8 @@ module _ (p : Settings) (t : List ℕ) where
   put-root (o ∷ os) es ms v e h = absurd h
 
   -- A container ends.
-  pub container-closes : (h : Shape) (nest init : List Open) (o : Open) (es : List JsonValue) (ms : List Member) (fs : List (Frame Text Tree)) (x : Tree) (e : ℕ)
+  pub container-closes : (h : Shape) (nest init : List Open) (o : Open) (es : List JsonValue) (ms : List Member)
+      (fs : List (Frame Text Tree)) (x : Tree) (e : ℕ)
       → nest ≡ init ++ o ∷ [] → fs ≡ frames_below h o (reverse init) es ms → x ≡ built h (parts_above h o.base es ms)
       → container_in p t h (reverse nest) es ms e ≡ resume (rules p) t fs (done x e)
   container-closes h nest init o es ms fs x e is below made =
@@ -161,8 +168,11 @@ module _ (p : Settings) (t : List ℕ) where
   outermost shape.Array n m b = b
   outermost shape.Object n m b = b
 
-  behind-part : (h : Shape) (o : Open) (os : List Open) (es : List JsonValue) (ms : List Member) (root : JsonValue) (e : ℕ)
-      → behind_in p t (awaited_in h) (o ∷ os) es ms root e ≡ resume (rules p) t (frames_below h o os es ms) (parts_step (rules p) t (container_of h (length (frames_below h o os es ms))) (parts_above h o.base es ms) (step t (container_step h t) e))
+  behind-part : (h : Shape) (o : Open) (os : List Open) (es : List JsonValue) (ms : List Member) (root : JsonValue)
+      (e : ℕ)
+      → behind_in p t (awaited_in h) (o ∷ os) es ms root e ≡ resume (rules p) t (frames_below h o os es ms)
+      (parts_step (rules p) t (container_of h (length (frames_below h o os es ms))) (parts_above h o.base es ms)
+      (step t (container_step h t) e))
   behind-part shape.Array o os es ms root e = refl
   behind-part shape.Object o os es ms root e = refl
 
@@ -173,7 +183,9 @@ module _ (p : Settings) (t : List ℕ) where
 
   pub next-part : (h : Shape) (o : Open) (os : List Open) (es : List JsonValue) (ms : List Member) (j : ℕ)
       → j < length t
-      → resume (rules p) t (frames_below h o os es ms) (parts_from (rules p) t (container_of h (length (frames_below h o os es ms))) (parts_above h o.base es ms) j) ≡ part_in h (o ∷ os) es ms j
+      → resume (rules p) t (frames_below h o os es ms)
+      (parts_from (rules p) t (container_of h (length (frames_below h o os es ms))) (parts_above h o.base es ms) j) ≡
+      part_in h (o ∷ os) es ms j
   next-part shape.Array o os es ms j h =
       items-value (rules p) t good (frames o.outer os (take o.base es) ms) (map view (drop o.base es)) j h
   next-part shape.Object o os es ms j h = refl
@@ -186,7 +198,8 @@ module _ (p : Settings) (t : List ℕ) where
     behind-more (o ∷ os) j b s lt =
         let fs = frames_below h o os es ms in
         behind-part h o os es ms root e
-        ∙ step-to (rules p) t (container_of h (length fs)) fs (parts_above h o.base es ms) (step t (container_step h t) e)
+        ∙ step-to (rules p) t (container_of h (length fs)) fs (parts_above h o.base es ms)
+        (step t (container_step h t) e)
         (more j) s
         ∙ next-part h o os es ms j lt
 
@@ -224,8 +237,10 @@ module _ (p : Settings) (t : List ℕ) where
       resume-forgiven (rules p) t (items_frame (map view (drop o.base es)))
       (frames o.outer os (take o.base es) ms) k x stop ok
 
-  pub fault-value : (os : List Open) (es : List JsonValue) (before : List Member) (key : CowStr Global) (old : JsonValue) (k : Kind) (x stop : ℕ) → HaveKeyBase os (length es) (length before) → forgives p.mode k ≡ true
-      → resume (rules p) t (frames awaits.Value os es (before ++ (key, old) ∷ [])) (fault k x stop) ≡ container_in p t shape.Object os es before stop
+  pub fault-value : (os : List Open) (es : List JsonValue) (before : List Member) (key : CowStr Global)
+      (old : JsonValue) (k : Kind) (x stop : ℕ) → HaveKeyBase os (length es) (length before) → forgives p.mode k ≡ true
+      → resume (rules p) t (frames awaits.Value os es (before ++ (key, old) ∷ [])) (fault k x stop) ≡ container_in p t
+      shape.Object os es before stop
   fault-value [] es before key old k x stop b ok = absurd b
   fault-value (o ∷ os) es before key old k x stop b ok =
       ap (λ fs. resume (rules p) t fs (fault k x stop)) (value-frames o os es before key old b.0)
@@ -241,7 +256,8 @@ module _ (p : Settings) (t : List ℕ) where
   kept k j bad = ap (λ y. cond y (closed j) (stuck k j)) bad
 
   -- A value begins.
-  module _ (a : Awaits) (os : List Open) (es : List JsonValue) (ms : List Member) (bases : HaveBases a os (length es) (length ms)) (few : length os ≤ 200) (i : ℕ) where
+  module _ (a : Awaits) (os : List Open) (es : List JsonValue) (ms : List Member)
+      (bases : HaveBases a os (length es) (length ms)) (few : length os ≤ 200) (i : ℕ) where
     abbrev fs : List (Frame Text Tree)
     fs = frames a os es ms
 
@@ -281,7 +297,8 @@ module _ (p : Settings) (t : List ℕ) where
     array-limit j full h is s =
         let d : suc (length fs) ≡ 201 = omega (arith, deep) in
         let f : Frame Text Tree = items_frame [] in
-        container-begins (rules p) t good any fs i (more j) low shape.Array is s ∙ items-value (rules p) t good fs [] j h
+        container-begins (rules p) t good any fs i (more j) low shape.Array is s
+        ∙ items-value (rules p) t good fs [] j h
         ∙ ap (λ n. resume (rules p) t (f ∷ fs) (value_in (rules p) t n j)) d
         ∙ ap (resume (rules p) t (f ∷ fs)) (value_in-limit (rules p) t j)
         ∙ resume-fault (rules p) t (f ∷ fs) recursion_limit j j (limit-kept p.mode)

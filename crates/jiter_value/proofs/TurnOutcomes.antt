@@ -21,7 +21,8 @@ pub fails-along : (e : ReadError) (j : ℕ) (x y : Reading Tree) → x ≡ y →
 fails-along (error.Fault f) j x y q h = q ∙ h
 fails-along (error.Memory m) j x y q h = tt
 
-pub reaches-along : (p : Settings) (t : List ℕ) (s : Stacks) (j : ℕ) (result : Result Awaits ReadError) (x y : Reading Tree) → x ≡ y → Reaches p t s j result y → Reaches p t s j result x
+pub reaches-along : (p : Settings) (t : List ℕ) (s : Stacks) (j : ℕ) (result : Result Awaits ReadError)
+    (x y : Reading Tree) → x ≡ y → Reaches p t s j result y → Reaches p t s j result x
 reaches-along p t s j (Ok a) x y q h = (q ∙ h.0, h.1)
 reaches-along p t s j (Err e) x y q h = fails-along e j x y q h
 

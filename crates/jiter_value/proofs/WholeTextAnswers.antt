@@ -94,7 +94,8 @@ module _ (p : Settings) (t : List ℕ) where
   answer_by-none k x i h =
       either-way (fault k x i)
       (λ on. in-front p.allow_inf_nan t p.mode on ∙ front-none (rules p) t k x h.0 ∙ ap (fault k x) (sym h.1))
-      (λ off. in-whole p.allow_inf_nan t p.mode off ∙ whole-is (rules p) t ∙ ap (to_end t) (front-none (rules p) t k x h.0) ∙ ap (fault k x) (sym h.1))
+      (λ off. in-whole p.allow_inf_nan t p.mode off ∙ whole-is (rules p) t
+      ∙ ap (to_end t) (front-none (rules p) t k x h.0) ∙ ap (fault k x) (sym h.1))
 
   module _ (begun : past_blanks t 0 < length t) where
     abbrev pub value_here : Reading Tree
@@ -107,7 +108,8 @@ module _ (p : Settings) (t : List ℕ) where
     answer_by-refused (error.Fault f) j h =
         either-way (fault (fault_kind f.kind) f.index j)
         (λ on. in-front p.allow_inf_nan t p.mode on ∙ front-begins (rules p) t (past_blanks t 0) refl begun ∙ h)
-        (λ off. in-whole p.allow_inf_nan t p.mode off ∙ whole-begins (rules p) t (past_blanks t 0) refl begun ∙ ap (to_end t) h)
+        (λ off. in-whole p.allow_inf_nan t p.mode off ∙ whole-begins (rules p) t (past_blanks t 0) refl begun
+        ∙ ap (to_end t) h)
 
     module _ (v : Tree) (e : ℕ) (is : value_here ≡ done v e) where
       pub answer_by-front : is_active p.mode ≡ true → answer_by p t ≡ done v e

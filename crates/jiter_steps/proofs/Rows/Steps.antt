@@ -46,7 +46,8 @@ array_goes_on =
     (codes "[1,,", 3, more 3) ∷
     []
 
-array_goes_on_answer : map (λ r. step r.0 (container_comma shape.Array) r.1) array_goes_on ≡ map (λ r. r.2) array_goes_on
+array_goes_on_answer : map (λ r. step r.0 (container_comma shape.Array) r.1) array_goes_on ≡ map (λ r. r.2)
+    array_goes_on
 unfolding computed_steps
 array_goes_on_answer = refl
 
@@ -85,6 +86,7 @@ object_goes_on =
     (codes "{\"a\":1,2", 7, stuck key_must_be_a_string 7) ∷
     []
 
-object_goes_on_answer : map (λ r. step r.0 (container_comma shape.Object) r.1) object_goes_on ≡ map (λ r. r.2) object_goes_on
+object_goes_on_answer : map (λ r. step r.0 (container_comma shape.Object) r.1) object_goes_on ≡ map (λ r. r.2)
+    object_goes_on
 unfolding computed_steps
 object_goes_on_answer = refl

@@ -21,7 +21,8 @@ pub build_array-loop-next-init : goal.build_array-loop-next-init
 build_array-loop-next-init t c =
     let s0 = c.args.jiter.now in
     let h = c.in_ok-next.ensures in
-    let opened = bytes-leave (option_map byte_of) (Ok c.in_ok-next.next) s0 c.known_array.new.self _ h.moves h.value tt in
+    let opened = bytes-leave (option_map byte_of) (Ok c.in_ok-next.next) s0 c.known_array.new.self _ h.moves h.value tt
+    in
     rw c.new-items.ensures.items
     (begins (items-laws s0 c.args.room) (stands-within s0 91 c.requires.here)
     (rw (array-opens s0 c.args.room c.requires.here) at opened))

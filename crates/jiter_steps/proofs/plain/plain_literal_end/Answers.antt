@@ -8,13 +8,15 @@ pub returns-in-Null-clause-value : goal.returns-in-Null-clause-value
 returns-in-Null-clause-value c =
     let a = c.args in
     let h = c.if-has_four.ensures in
-    rw c.in-Null.is (word_at-four a.bytes.now 110 117 108 108 a.at (a.at + 4) (h.first refl) (h.second refl) (h.third refl) (h.fourth refl) refl)
+    rw c.in-Null.is (word_at-four a.bytes.now 110 117 108 108 a.at (a.at + 4) (h.first refl) (h.second refl)
+    (h.third refl) (h.fourth refl) refl)
 
 pub returns-in-True-clause-value : goal.returns-in-True-clause-value
 returns-in-True-clause-value c =
     let a = c.args in
     let h = c.if-has_four-2.ensures in
-    rw c.in-True.is (word_at-four a.bytes.now 116 114 117 101 a.at (a.at + 4) (h.first refl) (h.second refl) (h.third refl) (h.fourth refl) refl)
+    rw c.in-True.is (word_at-four a.bytes.now 116 114 117 101 a.at (a.at + 4) (h.first refl) (h.second refl)
+    (h.third refl) (h.fourth refl) refl)
 
 pub returns-in-False-clause-value : goal.returns-in-False-clause-value
 returns-in-False-clause-value c =
@@ -24,4 +26,5 @@ returns-in-False-clause-value c =
     let first : slice_get t a.at ≡ Some 102 = got t a.at c.requires ∙ ap Some c.if-bytes-at-eq102.true in
     rw c.in-False.is
     (word_at-byte t 102 (97 ∷ 108 ∷ 115 ∷ 101 ∷ []) a.at (a.at + 1) first refl
-    ∙ word_at-four t 97 108 115 101 (a.at + 1) (a.at + 5) (h.first refl) (h.second refl) (h.third refl) (h.fourth refl) (omega arith))
+    ∙ word_at-four t 97 108 115 101 (a.at + 1) (a.at + 5) (h.first refl) (h.second refl) (h.third refl) (h.fourth refl)
+    (omega arith))

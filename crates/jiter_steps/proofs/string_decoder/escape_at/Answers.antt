@@ -24,4 +24,5 @@ returns c =
     let i = c.args.at in
     let backslash = slice_get-get_or t i 0 (omega arith) ∙ ap Some c.if-bytes-at-ne92.false in
     let letter = slice_get-get_or t (i + 1) 0 (omega arith) in
-    sym (place_at-letter t i backslash (get_or t (i + 1) 0) c.in_ok-c-2.c letter c.if-letter-eq117.false (sym c.in_ok-c-2.ensures.value))
+    sym (place_at-letter t i backslash (get_or t (i + 1) 0) c.in_ok-c-2.c letter c.if-letter-eq117.false
+    (sym c.in_ok-c-2.ensures.value))

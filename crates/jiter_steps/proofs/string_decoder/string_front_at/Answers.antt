@@ -12,7 +12,8 @@ returns-in-Ok-clause-value c =
     let to = c.scan_string-to.result.0 in
     let none : slice_get t to ≡ None = cc in
     let end : length t ≡ to = omega (arith, get-none t to none, c.scan_string-to.ensures.within) in
-    front-none t a.at c.requires to c.scan_string-to.ensures.stop none ∙ ap (valid_front (a.at + 1) false (slice_range t (a.at + 1) to)) end ∙ c.in-Ok.ensures
+    front-none t a.at c.requires to c.scan_string-to.ensures.stop none
+    ∙ ap (valid_front (a.at + 1) false (slice_range t (a.at + 1) to)) end ∙ c.in-Ok.ensures
 
 pub returns-in-Err-clause-value : goal.returns-in-Err-clause-value
 returns-in-Err-clause-value c =
@@ -21,7 +22,8 @@ returns-in-Err-clause-value c =
     let to = c.scan_string-to.result.0 in
     let none : slice_get t to ≡ None = cc in
     let end : length t ≡ to = omega (arith, get-none t to none, c.scan_string-to.ensures.within) in
-    front-none t a.at c.requires to c.scan_string-to.ensures.stop none ∙ ap (valid_front (a.at + 1) false (slice_range t (a.at + 1) to)) end ∙ c.in-Err.ensures
+    front-none t a.at c.requires to c.scan_string-to.ensures.stop none
+    ∙ ap (valid_front (a.at + 1) false (slice_range t (a.at + 1) to)) end ∙ c.in-Err.ensures
 
 pub returns-in-Ok-borrow_front-clause-value : goal.returns-in-Ok-borrow_front-clause-value
 returns-in-Ok-borrow_front-clause-value c =
@@ -40,7 +42,8 @@ returns-in-Err-borrow_front-clause-value c =
     front-quote t a.at c.requires to c.scan_string-to.ensures.stop quote ∙ c.in-Err-borrow_front.ensures
 
 pub returns-in-Some-eq92-clause-advances : goal.returns-in-Some-eq92-clause-advances
-returns-in-Some-eq92-clause-advances c = front-advances c.args.bytes.now c.args.at c.requires c.decode_front.result c.decode_front.ensures
+returns-in-Some-eq92-clause-advances c =
+    front-advances c.args.bytes.now c.args.at c.requires c.decode_front.result c.decode_front.ensures
 
 pub returns-in-Some-clause-value : goal.returns-in-Some-clause-value
 returns-in-Some-clause-value c =

@@ -10,4 +10,5 @@ invariant-same_items-loop-i l =
 
 abbrev pub invariant-same_members-loop-i : goal.invariant-same_members-loop-i
 invariant-same_members-loop-i l =
-    map owned_member (map member_view (take l.i l.one.items)) ≡ map owned_member (map member_view (take l.i l.other.items))
+    map owned_member (map member_view (take l.i l.one.items)) ≡ map owned_member
+    (map member_view (take l.i l.other.items))

@@ -8,14 +8,20 @@ use Rattle.jiter_value.proofs.reading.finish_whole.Goals as goal
 pub returns-then-is_active-clause-value : goal.returns-then-is_active-clause-value
 returns-then-is_active-clause-value c =
     let a = c.args in
-    let on : is_active a.settings.mode ≡ true = sym c.is_active.ensures ∙ c.if-is_active.true in
-    (a.parser.now.index, answer_by-front a.settings a.parser.now.bytes.now c.requires.begins (view a.value) a.parser.now.index c.requires.value on)
+    let on : is_active a.settings.mode ≡ true = sym c.is_active.ensures ∙ c.if-is_active.true in (
+      a.parser.now.index,
+      answer_by-front a.settings a.parser.now.bytes.now c.requires.begins (view a.value)
+          a.parser.now.index c.requires.value on,
+    )
 
 pub returns-in-Ok-clause-value : goal.returns-in-Ok-clause-value
 returns-in-Ok-clause-value c =
     let a = c.args in
-    let off : is_active a.settings.mode ≡ false = sym c.is_active.ensures ∙ c.if-is_active.false in
-    (a.parser.now.index, answer_by-end a.settings a.parser.now.bytes.now c.requires.begins (view a.value) a.parser.now.index c.requires.value c.finish.new.self.index off c.in-Ok.ensures.value)
+    let off : is_active a.settings.mode ≡ false = sym c.is_active.ensures ∙ c.if-is_active.false in (
+      a.parser.now.index,
+      answer_by-end a.settings a.parser.now.bytes.now c.requires.begins (view a.value)
+          a.parser.now.index c.requires.value c.finish.new.self.index off c.in-Ok.ensures.value,
+    )
 
 pub returns-clause-value : goal.returns-clause-value
 returns-clause-value c =

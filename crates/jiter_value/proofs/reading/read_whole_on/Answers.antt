@@ -38,4 +38,5 @@ returns-in-Err-run-clause-value c =
     let at : past_blanks t 0 ≡ i = value-begins-at t i (rw c.requires.begins at c.in-Ok.ensures.value) in
     let begun : past_blanks t 0 < length t = subst (λ k. k < length t) (sym at) c.in-Ok.ensures.inside in
     answer_by-refused c.args.settings t begun e j
-    (subst (Gives view (Err e) j) (ap (λ u. value_at r u 200 i) first ∙ ap (value_at r t 200) (sym at)) c.in-Err-run.ensures.value)
+    (subst (Gives view (Err e) j) (ap (λ u. value_at r u 200 i) first ∙ ap (value_at r t 200) (sym at))
+    c.in-Err-run.ensures.value)

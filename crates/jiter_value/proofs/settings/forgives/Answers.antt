@@ -14,7 +14,10 @@ when-active : (mode : PartialMode) (k : Kind) → is_active mode ≡ true → fo
 when-active mode k on = ap (λ y. cond y is_forgiven nothing_forgiven k) on
 
 one-of : (k : FaultKind)
-    → (k ≡ EofWhileParsingList) ⊎ ((k ≡ EofWhileParsingObject) ⊎ ((k ≡ EofWhileParsingString) ⊎ ((k ≡ EofWhileParsingValue) ⊎ ((k ≡ ExpectedListCommaOrEnd) ⊎ (k ≡ ExpectedObjectCommaOrEnd)))))
+    → (k ≡ EofWhileParsingList) ⊎
+    ((k ≡ EofWhileParsingObject) ⊎
+    ((k ≡ EofWhileParsingString) ⊎
+    ((k ≡ EofWhileParsingValue) ⊎ ((k ≡ ExpectedListCommaOrEnd) ⊎ (k ≡ ExpectedObjectCommaOrEnd)))))
     → is_forgiven (fault_kind k) ≡ true
 one-of k (inl e) = ap (λ k. is_forgiven (fault_kind k)) e
 one-of k (inr (inl e)) = ap (λ k. is_forgiven (fault_kind k)) e
@@ -44,4 +47,5 @@ returns-in_default c =
     let on : is_active c.args.mode ≡ true = sym c.is_active.ensures ∙ c.if-is_active.true in
     let n = c.in_default in
     sym (when-active c.args.mode (fault_kind c.args.kind) on
-    ∙ no-other c.args.kind n.not-EofWhileParsingList n.not-EofWhileParsingObject n.not-EofWhileParsingString n.not-EofWhileParsingValue n.not-ExpectedListCommaOrEnd n.not-ExpectedObjectCommaOrEnd)
+    ∙ no-other c.args.kind n.not-EofWhileParsingList n.not-EofWhileParsingObject n.not-EofWhileParsingString
+    n.not-EofWhileParsingValue n.not-ExpectedListCommaOrEnd n.not-ExpectedObjectCommaOrEnd)

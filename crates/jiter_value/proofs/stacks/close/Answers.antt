@@ -16,7 +16,8 @@ returns-in_ok-put-in-Array-clause-value c =
     let below = ap (λ ys. frames o.outer (reverse c.pop.new.self.items) ys s.members.items) items.ensures.rest in
     rw c.in-Array.is
     (λ p t e. container-closes p t shape.Array s.nest.items c.pop.new.self.items o s.items.items s.members.items _ _ e
-    c.in-Some.ensures.items below (view_array items.items ∙ ap (λ xs. array (items_of (map view xs))) items.ensures.value)
+    c.in-Some.ensures.items below
+    (view_array items.items ∙ ap (λ xs. array (items_of (map view xs))) items.ensures.value)
     ∙ c.in_ok-put-in-Array.ensures.value p t e)
 
 pub returns-in_ok-put-in-Object-clause-value : goal.returns-in_ok-put-in-Object-clause-value
@@ -27,7 +28,8 @@ returns-in_ok-put-in-Object-clause-value c =
     let below = ap (frames o.outer (reverse c.pop.new.self.items) s.items.items) members.ensures.rest in
     rw c.in-Object.is
     (λ p t e. container-closes p t shape.Object s.nest.items c.pop.new.self.items o s.items.items s.members.items _ _ e
-    c.in-Some.ensures.items below (c.object_of.ensures ∙ ap (λ xs. object (members_of (map member_view xs))) members.ensures.value)
+    c.in-Some.ensures.items below
+    (c.object_of.ensures ∙ ap (λ xs. object (members_of (map member_view xs))) members.ensures.value)
     ∙ c.in_ok-put-in-Object.ensures.value p t e)
 
 pub returns-in_ok-put-in-Array-clause-held : goal.returns-in_ok-put-in-Array-clause-held
@@ -39,7 +41,8 @@ returns-in_ok-put-in-Array-clause-held c =
     rw c.in-Array.is
     (c.in_ok-put-in-Array.ensures.held
     ∙ sym (container-size shape.Array s.nest.items c.pop.new.self.items o s.items.items s.members.items _ _
-    c.in-Some.ensures.items below (view_array items.items ∙ ap (λ xs. array (items_of (map view xs))) items.ensures.value)))
+    c.in-Some.ensures.items below
+    (view_array items.items ∙ ap (λ xs. array (items_of (map view xs))) items.ensures.value)))
 
 pub returns-in_ok-put-in-Object-clause-held : goal.returns-in_ok-put-in-Object-clause-held
 returns-in_ok-put-in-Object-clause-held c =
@@ -50,4 +53,5 @@ returns-in_ok-put-in-Object-clause-held c =
     rw c.in-Object.is
     (c.in_ok-put-in-Object.ensures.held
     ∙ sym (container-size shape.Object s.nest.items c.pop.new.self.items o s.items.items s.members.items _ _
-    c.in-Some.ensures.items below (c.object_of.ensures ∙ ap (λ xs. object (members_of (map member_view xs))) members.ensures.value)))
+    c.in-Some.ensures.items below
+    (c.object_of.ensures ∙ ap (λ xs. object (members_of (map member_view xs))) members.ensures.value)))

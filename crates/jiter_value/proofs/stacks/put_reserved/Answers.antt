@@ -15,9 +15,11 @@ pub returns-in-Item-clause-value : goal.returns-in-Item-clause-value
 returns-in-Item-clause-value c =
     let s = c.args.stacks.now in
     let os = reverse s.nest.items in
-    let b : HaveBases awaits.Item os (length s.items.items) (length s.members.items) = rw c.in-Item.is at c.requires.stands in
+    let b : HaveBases awaits.Item os (length s.items.items) (length s.members.items) = rw c.in-Item.is at
+    c.requires.stands in
     rw c.in-Item.is
-    (λ p t e. put-item p t os s.items.items s.members.items s.root c.args.value e b ∙ ap (λ xs. behind_in p t awaits.Item os xs s.members.items s.root e) (sym c.push_reserved.ensures.items))
+    (λ p t e. put-item p t os s.items.items s.members.items s.root c.args.value e b
+    ∙ ap (λ xs. behind_in p t awaits.Item os xs s.members.items s.root e) (sym c.push_reserved.ensures.items))
 
 pub returns-in-Value-clause-value : goal.returns-in-Value-clause-value
 returns-in-Value-clause-value c =
@@ -46,17 +48,25 @@ returns-in-Value-clause-stands c =
     let last = last-split ms (value-base os (length es) (length ms) b) in
     let before = take (length ms - 1) ms in
     let set = c.set_last.ensures before last.0.0 last.0.1 last.1 in
-    let long : length ms ≡ length c.set_last.new.members.items = omega
-    (arith, ap length last.1, ap length set, length-append before (last.0 ∷ []), length-append before ((last.0.0, c.args.value) ∷ [])) in
+    let long : length ms ≡ length c.set_last.new.members.items = omega (
+      arith,
+      ap length last.1,
+      ap length set,
+      length-append before (last.0 ∷ []),
+      length-append before
+          ((last.0.0, c.args.value) ∷ []),
+    ) in
     rw c.in-Value.is (subst (λ m. HaveBases awaits.Value os (length es) m) long b)
 
 pub returns-in-Item-clause-held : goal.returns-in-Item-clause-held
 returns-in-Item-clause-held c =
     let s = c.args.stacks.now in
     let os = reverse s.nest.items in
-    let b : HaveBases awaits.Item os (length s.items.items) (length s.members.items) = rw c.in-Item.is at c.requires.stands in
+    let b : HaveBases awaits.Item os (length s.items.items) (length s.members.items) = rw c.in-Item.is at
+    c.requires.stands in
     rw c.in-Item.is
-    (ap (λ xs. behind_size_in awaits.Item os xs s.members.items s.root) c.push_reserved.ensures.items ∙ put-item-size os s.items.items s.members.items s.root c.args.value b)
+    (ap (λ xs. behind_size_in awaits.Item os xs s.members.items s.root) c.push_reserved.ensures.items
+    ∙ put-item-size os s.items.items s.members.items s.root c.args.value b)
 
 pub returns-in-Value-clause-held : goal.returns-in-Value-clause-held
 returns-in-Value-clause-held c =
@@ -72,12 +82,14 @@ returns-in-Value-clause-held c =
     let b' : HaveBases awaits.Value os (length es) (length (before ++ last.0 ∷ [])) = subst
     (λ ys. HaveBases awaits.Value os (length es) (length ys)) last.1 b in
     rw c.in-Value.is
-    (ap (λ ys. behind_size_in awaits.Value os es ys s.root) set ∙ put-value-size os es before last.0.0 last.0.1 s.root v b'
+    (ap (λ ys. behind_size_in awaits.Value os es ys s.root) set
+    ∙ put-value-size os es before last.0.0 last.0.1 s.root v b'
     ∙ ap (λ ys. frames_size (frames awaits.Value os es ys) + size (view v)) (sym last.1))
 
 pub returns-in-Root-clause-held : goal.returns-in-Root-clause-held
 returns-in-Root-clause-held c =
     let s = c.args.stacks.now in
     let os = reverse s.nest.items in
-    let b : HaveBases awaits.Root os (length s.items.items) (length s.members.items) = rw c.in-Root.is at c.requires.stands in
+    let b : HaveBases awaits.Root os (length s.items.items) (length s.members.items) = rw c.in-Root.is at
+    c.requires.stands in
     rw c.in-Root.is (put-root-size os s.items.items s.members.items c.args.value b)

@@ -55,7 +55,8 @@ closing-preserved c =
     let fewer = c.in-Ok.ensures.nest in (
       omega (arith, l.invariant.0, forward),
       c.step_at-next.ensures.within.1,
-      l.invariant.2 ∙ ap (λ a. behind p t s a l.at) in_shape ∙ inside-ends p t s h l.at j b c.if-not-ends.ensures.resolved
+      l.invariant.2 ∙ ap (λ a. behind p t s a l.at) in_shape
+          ∙ inside-ends p t s h l.at j b c.if-not-ends.ensures.resolved
           ∙ ap (λ x. container_ends p t h x j) (sym same) ∙ c.in-Ok.ensures.value p t j,
       c.in-Ok.ensures.stands,
       omega (arith, l.invariant.4, nest, fewer),

@@ -33,7 +33,8 @@ returns-then-len-gt-NESTING_LIMIT-clause-reaches c =
     (arith, length-reverse s.nest.items, c.len.ensures.value, c.if-len-gt-NESTING_LIMIT.true, c.requires.room) in
     gave-up a.settings t c.too_deep.new.stacks c.too_deep.result (record { kind = RecursionLimitExceeded; index = m }) m
     (from_key a.settings t s i) c.too_deep.ensures.place c.too_deep.ensures.error
-    (key-limit a.settings t (reverse s.nest.items) s.items.items s.members.items i (text_view c.in-Ok.key) e m c.requires.stands c.requires.within v colon full)
+    (key-limit a.settings t (reverse s.nest.items) s.items.items s.members.items i (text_view c.in-Ok.key) e m
+    c.requires.stands c.requires.within v colon full)
 
 pub returns-in-Ok-make_room-clause-reaches : goal.returns-in-Ok-make_room-clause-reaches
 returns-in-Ok-make_room-clause-reaches c =
@@ -59,7 +60,12 @@ returns-in-Ok-make_room-clause-reaches c =
     (arith, ap length pushed, length-append ms ((k, Null) ∷ [])) in (
       key-opens a.settings t os es ms i k e m c.requires.stands c.requires.within v colon
           ∙ ap (λ ys. value_from (rules a.settings) t (frames awaits.Value os es ys) m) (sym pushed),
-      (subst (λ x. HaveBases awaits.Value os (length es) x) long (key-above os (length es) (length ms) c.requires.stands), room, place),
+      (
+        subst (λ x. HaveBases awaits.Value os (length es) x) long
+            (key-above os (length es) (length ms) c.requires.stands),
+        room,
+        place,
+      ),
     )
 
 pub returns-in-Err-clause-reaches : goal.returns-in-Err-clause-reaches
@@ -79,7 +85,8 @@ returns-in-Err-clause-reaches c =
     let colon : object_colon t e ≡ failed k f.index = subst (λ u. object_colon u e ≡ failed k f.index) first h.0 in
     let n = c.fault_at_key in
     reaches-along p t n.new.stacks n.result.0 (outcome n.new.stacks n.result.1) (from_key p t s i) _
-    (colon-fails p t (reverse s.nest.items) s.items.items s.members.items i (text_view c.in-Ok.key) e f.index k c.requires.stands c.requires.within v colon ∙ ap (key_fault p t s k f.index) (sym h.1))
+    (colon-fails p t (reverse s.nest.items) s.items.items s.members.items i (text_view c.in-Ok.key) e f.index k
+    c.requires.stands c.requires.within v colon ∙ ap (key_fault p t s k f.index) (sym h.1))
     n.ensures.reaches
 
 pub returns-in-Err-Fault-clause-reaches : goal.returns-in-Err-Fault-clause-reaches
@@ -96,5 +103,6 @@ returns-in-Err-Fault-clause-reaches c =
     let h = scalar-failed i (string_at whole t i) k f.index j w in
     let n = c.fault_at_key-in-Err-Fault in
     reaches-along p t n.new.stacks n.result.0 (outcome n.new.stacks n.result.1) (from_key p t s i) _
-    (key-fails p t (reverse s.nest.items) s.items.items s.members.items i k f.index c.requires.stands c.requires.within h.0 ∙ ap (key_fault p t s k f.index) (sym h.1))
+    (key-fails p t (reverse s.nest.items) s.items.items s.members.items i k f.index c.requires.stands c.requires.within
+    h.0 ∙ ap (key_fault p t s k f.index) (sym h.1))
     n.ensures.reaches

@@ -18,7 +18,8 @@ returns-then-not-ends_at_first c =
     let r = c.if-not-ends_at_first.ensures.resolved in
     record {
       within = (omega (arith, c.first_at-next.ensures.within.0), c.first_at-next.ensures.within.1);
-      reaches = first-fails a.settings a.bytes.now s a.awaits c.requires.stands few a.at a.shape j c.ends_at_first.new.stacks.error c.requires.bracket r;
+      reaches = first-fails a.settings a.bytes.now s a.awaits c.requires.stands few a.at a.shape j
+          c.ends_at_first.new.stacks.error c.requires.bracket r;
       left = tt;
       held = tt;
       memory = λ e. fault-grows c.ends_at_first.new.stacks.error r.0 _ r.1;
@@ -42,10 +43,12 @@ returns c =
       within = (omega (arith, forward, n.ensures.within.0), n.ensures.within.1);
       reaches = reaches-along p t n.new.stacks n.result.0 r (from_value p t s a.awaits a.at)
           (resume_with p t c.ends_at_first.new.stacks a.awaits (done (empty_tree a.shape) j))
-          (first-ends p t s a.awaits c.requires.stands few a.at a.shape j c.requires.bracket c.if-not-ends_at_first.ensures.resolved
+          (first-ends p t s a.awaits c.requires.stands few a.at a.shape j c.requires.bracket
+          c.if-not-ends_at_first.ensures.resolved
           ∙ ap (λ x. resume_with p t x a.awaits (done (empty_tree a.shape) j)) (sym same))
           n.ensures.reaches;
       left = on_ok_weaker r (λ l. omega (arith, l, forward, nest)) n.ensures.left;
       held = IfOk-weaker r _ _ (λ x h. omega (arith, h, size)) n.ensures.held;
-      memory = λ e. root-grows r _ (n.ensures.root e) (refused-weaker r _ _ (λ other. absurd (other e)) n.ensures.memory);
+      memory = λ e. root-grows r _ (n.ensures.root e)
+          (refused-weaker r _ _ (λ other. absurd (other e)) n.ensures.memory);
     }

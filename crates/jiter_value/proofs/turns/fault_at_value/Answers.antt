@@ -72,7 +72,8 @@ returns-in-Value-clause-held c =
     (key-of-value os (length es) (length ms) b) in
     let was : frames_size (frames awaits.Value os es ms) ≡ inside_size_in shape.Object os es before + 1 = ap
     (λ ys. frames_size (frames awaits.Value os es ys)) last.1 ∙ key-size os es before last.0.0 last.0.1 below in
-    let outer : inside_size_in shape.Object os es c.pop.new.self.items ≡ inside_size_in shape.Object os es before = ap (λ ys. inside_size_in shape.Object os es ys) popped in
+    let outer : inside_size_in shape.Object os es c.pop.new.self.items ≡ inside_size_in shape.Object os es before = ap
+    (λ ys. inside_size_in shape.Object os es ys) popped in
     let n = c.close_and_go_on-in-Value in
     rw c.in-Value.is
     (IfOk-weaker (outcome n.new.stacks n.result.1) _ _ (λ x e. omega (arith, e, outer, was)) n.ensures.held)

@@ -17,7 +17,8 @@ returns-then-is_full-clause-reaches c =
     let few : length (reverse s.nest.items) ≤ 200 = omega (arith, length-reverse s.nest.items, c.requires.room) in
     let starts = rw full.0 at c.requires.bracket in
     let is = rw full.0 at c.requires.part in
-    gave-up p t c.too_deep.new.stacks c.too_deep.result (record { kind = RecursionLimitExceeded; index = a.next }) a.next
+    gave-up p t c.too_deep.new.stacks c.too_deep.result (record { kind = RecursionLimitExceeded; index = a.next })
+    a.next
     (from_value p t s a.awaits a.at) c.too_deep.ensures.place c.too_deep.ensures.error
     (array-too-deep p t s a.awaits c.requires.stands few a.at a.next full.1 c.requires.within.1 starts is)
 
@@ -32,7 +33,8 @@ returns-in-Ok-clause-reaches c =
     let o : Open = record { outer = a.awaits; base = c.base_of-base.result } in
     let is : o ≡ record { outer = a.awaits; base = base_of a.shape s } = ap
     (λ b. record { outer = a.awaits; base = b }) c.base_of-base.ensures in
-    let opens = shape-opens p t s a.awaits c.requires.stands few a.at a.shape a.next o n c.in-Ok.ensures.ok is c.requires.within.1 c.requires.bracket c.requires.part (c.if-is_full.ensures.few refl) in
+    let opens = shape-opens p t s a.awaits c.requires.stands few a.at a.shape a.next o n c.in-Ok.ensures.ok is
+    c.requires.within.1 c.requires.bracket c.requires.part (c.if-is_full.ensures.few refl) in
     rw c.part_of.ensures
     (reaches-part p t (with_nest s n) a.shape a.next (from_value p t s a.awaits a.at) opens.0 opens.1)
 

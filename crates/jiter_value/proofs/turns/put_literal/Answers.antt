@@ -12,7 +12,8 @@ returns-in-Null-clause-put c =
     let e = c.in-Some.end in
     let n = c.put_reserved in
     let l = a.literal in
-    put-at t a.stacks.now n.new.stacks a.awaits a.at e _ (literal_tree l) (view_null ∙ ap literal_tree (sym c.in-Null.is))
+    put-at t a.stacks.now n.new.stacks a.awaits a.at e _ (literal_tree l)
+    (view_null ∙ ap literal_tree (sym c.in-Null.is))
     c.requires.stands c.requires.few n.ensures.value n.ensures.stands n.ensures.nest n.ensures.held
     (ap (λ x. size (literal_tree x)) c.in-Null.is) c.in-Some.ensures.within.0 c.in-Some.ensures.within.1
     (λ p room. literal-read p t a.at e room l c.requires.begins c.in-Some.ensures.value)

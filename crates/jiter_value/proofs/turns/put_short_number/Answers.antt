@@ -10,7 +10,8 @@ use Rattle.jiter_value.proofs.turns.put_short_number.Goals as goal
 
 pub ascii_text-text-requires : goal.ascii_text-text-requires
 ascii_text-text-requires c =
-    IsAscii-decimal c.args.bytes.now c.args.at c.digits_begin-from.result c.in-Float.end c.digits_begin-from.ensures.minus
+    IsAscii-decimal c.args.bytes.now c.args.at c.digits_begin-from.result c.in-Float.end
+    c.digits_begin-from.ensures.minus
     c.in-Float.ensures.decimal
 
 pub returns-in-Int-clause-put : goal.returns-in-Int-clause-put

@@ -9,8 +9,14 @@ turning-init c =
     let none : length s.nest.items ≡ 0 = ap length c.requires.nest in (
       omega arith,
       a.parser.now.within,
-      root-begins a.settings a.parser.now.bytes.now s.nest.items s.items.items s.members.items a.parser.now.index c.requires.nest,
-      (root-stands s.nest.items s.items.items s.members.items c.requires.nest c.requires.items c.requires.members, omega (arith, none), c.requires.within),
+      root-begins a.settings a.parser.now.bytes.now s.nest.items s.items.items s.members.items a.parser.now.index
+          c.requires.nest,
+      (
+        root-stands s.nest.items s.items.items s.members.items c.requires.nest c.requires.items c.requires.members,
+        omega
+            (arith, none),
+        c.requires.within,
+      ),
       λ e. cc,
       inl (refl, refl),
       refl,

@@ -11,7 +11,8 @@ abbrev pub invariant-turning : goal.invariant-turning
 invariant-turning l =
     (l.fn.parser.index ≤ l.at) × (l.at ≤ length l.fn.parser.bytes.now)
     ×
-    (value_at (rules l.settings) l.fn.parser.bytes.now 200 l.fn.parser.index ≡ meaning l.settings l.fn.parser.bytes.now l.stacks l.awaits l.at)
+    (value_at (rules l.settings) l.fn.parser.bytes.now 200 l.fn.parser.index ≡ meaning l.settings l.fn.parser.bytes.now
+    l.stacks l.awaits l.at)
     × IsWithin l.fn.parser.bytes.now l.stacks l.awaits l.at × (l.awaits ≢ awaits.Done)
     ×
     (((l.awaits ≡ awaits.Root) × (l.at ≡ l.fn.parser.index)) ⊎ MayGrowAt l.fn.parser.bytes.now l.fn.parser.index)

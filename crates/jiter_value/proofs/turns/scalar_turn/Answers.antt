@@ -20,10 +20,12 @@ returns-in-Ok-put-clause-reaches c =
     let i = a.at in
     let e = c.scalar.new.parser.index in
     let few : length (reverse s.nest.items) ≤ 200 = omega (arith, length-reverse s.nest.items, c.requires.room) in
-    let read : (room : ℕ) → value_at (rules p) t room i ≡ done (view c.in-Ok.value) e = λ room. c.in-Ok.ensures.value room in
+    let read : (room : ℕ)
+    → value_at (rules p) t room i ≡ done (view c.in-Ok.value) e = λ room. c.in-Ok.ensures.value room in
     let n = c.after in
     reaches-along p t n.new.stacks n.result.0 (outcome n.new.stacks n.result.1) (from_value p t s a.awaits i) _
-    (value-read p t a.awaits (reverse s.nest.items) s.items.items s.members.items c.requires.stands few i (done (view c.in-Ok.value) e) read
+    (value-read p t a.awaits (reverse s.nest.items) s.items.items s.members.items c.requires.stands few i
+    (done (view c.in-Ok.value) e) read
     ∙ c.in-Ok-put.ensures.value p t e)
     n.ensures.reaches
 
@@ -41,5 +43,6 @@ returns-in-Err-Fault-clause-reaches c =
     let v = rw c.in-Err-Fault.field-0-is at c.in-Err-Fault.ensures.value in
     let n = c.fault_at_value in
     reaches-along p t n.new.stacks n.result.0 (outcome n.new.stacks n.result.1) (from_value p t s a.awaits i) _
-    (value-read p t a.awaits (reverse s.nest.items) s.items.items s.members.items c.requires.stands few i (fault k f.index j) v)
+    (value-read p t a.awaits (reverse s.nest.items) s.items.items s.members.items c.requires.stands few i
+    (fault k f.index j) v)
     n.ensures.reaches

@@ -11,7 +11,8 @@ returns-clause-index c = elim c.match-read_owned.branch [
   | in-Err w ↦ rw w.result-is (
       let p = c.self.inside.parser in
       let n = c.self.inside.allow_inf_nan in
-      let at = owned-within p.bytes.now p.index _ (read_at-within p.bytes.now n p.index (subst IsInside (sym c.self.view_is) c.requires)) in
+      let at = owned-within p.bytes.now p.index _
+      (read_at-within p.bytes.now n p.index (subst IsInside (sym c.self.view_is) c.requires)) in
       let stop = index-parser p c.read_owned.new.parser c.read_owned.ensures.moves in
       rw (← c.self.view_is) (index-error p.bytes.now p.index view w.in-Err.error _ w.refusal_at.result
       w.refusal_at.ensures

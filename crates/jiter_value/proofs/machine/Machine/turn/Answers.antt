@@ -27,6 +27,10 @@ returns c =
     let f = c.in-Err.fault in
     let i = c.value_first.new.self.index in
     let u = rw c.if-begun.false at c.self.invariant in
-    let h : (step t value_first 0 ≡ failed (fault_kind f.kind) f.index) × (i ≡ f.index) = rw u.1 at c.in-Err.ensures.value in
-    rw (← c.self.view_is)
-    (error-answers (error.Fault f) i c.error_at-error.result (answer_by m.settings t) c.error_at-error.ensures (answer_by-none m.settings t (fault_kind f.kind) f.index i h), tt)
+    let h : (step t value_first 0 ≡ failed (fault_kind f.kind) f.index) × (i ≡ f.index) = rw u.1 at
+    c.in-Err.ensures.value in
+    rw (← c.self.view_is) (
+      error-answers (error.Fault f) i c.error_at-error.result (answer_by m.settings t) c.error_at-error.ensures
+          (answer_by-none m.settings t (fault_kind f.kind) f.index i h),
+      tt,
+    )

@@ -37,7 +37,8 @@ returns-clause-first c = λ off.
     let a = c.args in
     subst (λ m. AnswersOwned c.own_answer.result (answer_in a.allow_inf_nan m a.bytes.now)) off
     (owned-answers c.parse_with_config-read.result c.own_answer.result (length a.bytes.now)
-    (answer_in a.allow_inf_nan a.allow_partial a.bytes.now) c.own_answer.ensures c.parse_with_config-read.ensures.answer)
+    (answer_in a.allow_inf_nan a.allow_partial a.bytes.now) c.own_answer.ensures
+    c.parse_with_config-read.ensures.answer)
 
 pub returns-clause-dead : goal.returns-clause-dead
 returns-clause-dead c = λ off.
@@ -58,18 +59,22 @@ returns-clause-early c = λ off cut_short.
 
 pub returns-clause-index : goal.returns-clause-index
 returns-clause-index c =
-    owned-index c.args.bytes.now c.parse_with_config-read.result c.own_answer.result c.own_answer.ensures c.parse_with_config-read.ensures.index
+    owned-index c.args.bytes.now c.parse_with_config-read.result c.own_answer.result c.own_answer.ensures
+    c.parse_with_config-read.ensures.index
 
 pub returns-clause-ends : goal.returns-clause-ends
 returns-clause-ends c =
-    owned-ends c.args.bytes.now c.parse_with_config-read.result c.own_answer.result c.own_answer.ensures c.parse_with_config-read.ensures.ends
+    owned-ends c.args.bytes.now c.parse_with_config-read.result c.own_answer.result c.own_answer.ensures
+    c.parse_with_config-read.ensures.ends
 
 pub returns-clause-memory : goal.returns-clause-memory
 returns-clause-memory c =
     let a = c.args in
     owned-memory a.allow_inf_nan a.allow_partial a.bytes.now c.parse_with_config-read.result c.own_answer.result
-    (length a.bytes.now) c.own_answer.ensures c.parse_with_config-read.ensures.answer c.parse_with_config-read.ensures.memory
+    (length a.bytes.now) c.own_answer.ensures c.parse_with_config-read.ensures.answer
+    c.parse_with_config-read.ensures.memory
 
 pub returns-clause-place : goal.returns-clause-place
 returns-clause-place c =
-    owned-place c.args.bytes.now c.parse_with_config-read.result c.own_answer.result c.own_answer.ensures c.parse_with_config-read.ensures.place
+    owned-place c.args.bytes.now c.parse_with_config-read.result c.own_answer.result c.own_answer.ensures
+    c.parse_with_config-read.ensures.place

@@ -7,11 +7,13 @@ pub returns-clause-found : goal.returns-clause-found
 returns-clause-found c = λ off.
     let a = c.args in
     let r = c.read_text.result in
-    parse-found a.allow_inf_nan a.bytes.now r (answer-off a.allow_inf_nan a.bytes.now a.allow_partial r c.read_text.ensures.answer off)
+    parse-found a.allow_inf_nan a.bytes.now r
+    (answer-off a.allow_inf_nan a.bytes.now a.allow_partial r c.read_text.ensures.answer off)
 
 pub returns-clause-accepts : goal.returns-clause-accepts
 returns-clause-accepts c =
-    parse-accepts c.args.allow_inf_nan c.args.bytes.now c.args.allow_partial c.read_text.result c.read_text.ensures.answer
+    parse-accepts c.args.allow_inf_nan c.args.bytes.now c.args.allow_partial c.read_text.result
+    c.read_text.ensures.answer
 
 pub returns-clause-one : goal.returns-clause-one
 returns-clause-one c = one_node c.args.allow_inf_nan c.args.bytes.now
@@ -28,16 +30,19 @@ pub returns-clause-dead : goal.returns-clause-dead
 returns-clause-dead c = λ off.
     let a = c.args in
     let r = c.read_text.result in
-    parse-dead a.allow_inf_nan a.bytes.now r (answer-off a.allow_inf_nan a.bytes.now a.allow_partial r c.read_text.ensures.answer off)
+    parse-dead a.allow_inf_nan a.bytes.now r
+    (answer-off a.allow_inf_nan a.bytes.now a.allow_partial r c.read_text.ensures.answer off)
 
 pub returns-clause-alive : goal.returns-clause-alive
 returns-clause-alive c = λ off.
     let a = c.args in
     let r = c.read_text.result in
-    parse-alive a.allow_inf_nan a.bytes.now r (answer-off a.allow_inf_nan a.bytes.now a.allow_partial r c.read_text.ensures.answer off)
+    parse-alive a.allow_inf_nan a.bytes.now r
+    (answer-off a.allow_inf_nan a.bytes.now a.allow_partial r c.read_text.ensures.answer off)
 
 pub returns-clause-early : goal.returns-clause-early
 returns-clause-early c = λ off.
     let a = c.args in
     let r = c.read_text.result in
-    parse-early a.allow_inf_nan a.bytes.now r (answer-off a.allow_inf_nan a.bytes.now a.allow_partial r c.read_text.ensures.answer off)
+    parse-early a.allow_inf_nan a.bytes.now r
+    (answer-off a.allow_inf_nan a.bytes.now a.allow_partial r c.read_text.ensures.answer off)
