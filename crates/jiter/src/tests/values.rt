@@ -93,3 +93,22 @@ fn a_text_is_taken_out_of_a_value(rt: HostRuntime) {
         _ => assert!(rt; false),
     }
 }
+
+#[test]
+fn values_show_their_variants(rt: HostRuntime) -> Result<(), Fail> {
+    let alloc = rt.alloc();
+    for (text, shown) in [
+        ("null", "Null"),
+        (
+            "[true, 1, 2.50, 12345678901234567890]",
+            r#"Array([Bool(true), Int(1), Float("2.50"), BigInt("12345678901234567890")])"#,
+        ),
+        (r#"{"a": "\n"}"#, r#"Object([("a", Str("\n"))])"#),
+    ] {
+        match &JsonValue::parse(alloc, text.as_bytes(), false) {
+            Ok(value) => assert_eq!(rt; format!(in alloc; "{value:?}")?.as_str(), shown),
+            Err(_) => assert!(rt; false),
+        }
+    }
+    Ok(())
+}
