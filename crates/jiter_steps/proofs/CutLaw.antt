@@ -24,7 +24,7 @@ use Rattle.jiter_steps.specs.Literal.{word_of, literal_at, literal_tree}
 use Rattle.jiter_steps.specs.Node as grammar
 use Rattle.jiter_steps.specs.Node.{Key, Node, Nodes, NodeMembers, begin, end, SpellsNumber, Spells, nesting}
 use Rattle.jiter_steps.specs.Node.{nesting_round, nesting_round_members, nesting_limit, text_at, number_tree, value_of}
-use Rattle.jiter_steps.specs.Node.{values_of, IsContainer, IsDocument}
+use Rattle.jiter_steps.specs.Node.{IsContainer, IsDocument}
 use Rattle.jiter_steps.specs.Piece.{Piece, SpellsString}
 use Rattle.jiter_steps.specs.Read.{Reading, done, fault, Rules, Container, scalar_at, with_key, if_forgiven, follow}
 use Rattle.jiter_steps.specs.Read.{parts_at, container_at, array_of, object_of}
@@ -35,10 +35,12 @@ use Rattle.jiter_steps.specs.Tree.{Text, Tree, items_of, members_of}
 use Rattle.jiter_steps.specs.declared.parse.Literal.{Literal}
 use Rattle.jiter_steps.proofs.WholeTexts.{front-begins}
 use Rattle.jiter_steps.proofs.CutNodes.{under_key, cut_item, cut_member, literal-left, number-left, cut_string_if}
-use Rattle.jiter_steps.proofs.CutNodes.{string-left, array-left, object-left, none-late}
+use Rattle.jiter_steps.proofs.CutNodes.{string-left, array-left, object-left, none-late, values-listed}
+use Rattle.jiter_steps.proofs.CutNodes.{member_values-listed}
 use Rattle.jiter_steps.proofs.CutParts.{EndsInput, CutParts}
-use Rattle.jiter_steps.proofs.Documents.{key_text, IsRead, values-of, members-of, answer-of, answer-is}
+use Rattle.jiter_steps.proofs.Documents.{key_text, answer-of}
 use Rattle.jiter_steps.proofs.Front.{front-length, front-get, front-blank, front-stands, front-word}
+use Rattle.jiter_steps.proofs.Fused.{pair}
 use Rattle.jiter_steps.proofs.Growth.{node-late, node-whole}
 use Rattle.jiter_steps.specs.declared.parse.Shape.TheVariants as shape
 use Rattle.jiter_steps.proofs.Halting.{Halts, StuckAt, end-forgiven, byte-halts, cut-halts, begin-halts}
@@ -49,7 +51,7 @@ use Rattle.jiter_steps.proofs.NumberCutLaws.{CutNumber, number_at-before, number
 use Rattle.jiter_steps.proofs.ReadFront.{IsCutMember, CutRules, value_at-front}
 use Rattle.jiter_steps.proofs.ScalarLaws.{ScalarLaws, scalar-laws, EndsNumber}
 use Rattle.jiter_steps.proofs.SpelledParts.{begins-value, begin-within, node-within, ends-end, nodes_list, members_list}
-use Rattle.jiter_steps.proofs.SpelledParts.{nodes-listed, members-listed, InOrder, items-order, members-order}
+use Rattle.jiter_steps.proofs.SpelledParts.{InOrder, items-order, members-order}
 use Rattle.jiter_steps.proofs.StringCutLaws.{string_at-cut, string_at-cut_whole, string_at-before}
 use Rattle.jiter_steps.proofs.Values.{Goes, parts-part, parts-fault}
 
@@ -160,8 +162,8 @@ module _ (names : Bool) (t : List ℕ) (k : ℕ) (within : k ≤ length t) (mode
     late : (p : P) → Spells names t (value p) → k ≤ begin (value p) → kept p ≡ None
     leaves : (p : P) (x : Reading Q) → Spells names t (value p) → IsCut p x → Leaves front (kept p) x
 
-  module _ {P Q : Type 0} (c : Container Q Tree) (value : P → Node) (seen : P → Q) (IsCut : P → Reading Q → Type 0)
-      (kept : P → Option Q) (keeps : Keeps c value seen IsCut kept) where
+  module _ {P Q : Type 0} {c : Container Q Tree} {value : P → Node} {seen : P → Q} {IsCut : P → Reading Q → Type 0}
+      {kept : P → Option Q} (keeps : Keeps c value seen IsCut kept) where
     abbrev At : List Q → ℕ → Reading Tree
     At qs j = parts_at rules c front (length front) qs j
 
@@ -265,9 +267,6 @@ module _ (names : Bool) (t : List ℕ) (k : ℕ) (within : k ≤ length t) (mode
       subst (Leaves front (cut_member names t k mode m)) (sym is)
       (under_key-leaves (key_text t m.0) (cut names t m.1 k mode) y cuts)
 
-  abbrev see_member : Key × Node → Text × Tree
-  see_member m = (key_text t m.0, value_of t m.1)
-
   abbrev CutsMember : Key × Node → Reading (Text × Tree) → Type 0
   CutsMember m x = IsCutMember rules names t k within (key_text t) (value_of t) IsCut m x
 
@@ -283,7 +282,8 @@ module _ (names : Bool) (t : List ℕ) (k : ℕ) (within : k ≤ length t) (mode
   }
 
   members-keep : (inner : ℕ → Reading Tree) (b : ℕ) → Goes (object_of rules inner front b) front
-      → Keeps (object_of rules inner front b) (λ m. m.1) see_member CutsMember (cut_member names t k mode)
+      → Keeps (object_of rules inner front b) (λ m. m.1) (pair (key_text t) (value_of t)) CutsMember
+      (cut_member names t k mode)
   members-keep inner b goes = record {
     goes = goes;
     halts = container-halts front shape.Object;
@@ -299,19 +299,17 @@ module _ (names : Bool) (t : List ℕ) (k : ℕ) (within : k ≤ length t) (mode
     text = text-reads;
     key = λ key h le. (string_at-before t k within key.begin key.end key.pieces h le).0;
     key-cut = λ key h lt gt. (string_at-cut_whole t k within key.begin key.end key.pieces h lt gt).0;
-    array = λ b e ns. ap tree.array (sym (values-of t (nodes_list ns)) ∙ ap (values_of t) (nodes-listed ns));
-    object = λ b e ms.
-        ap tree.object (sym (members-of t (members_list ms)) ∙ ap (grammar.members_of t) (members-listed ms));
+    array = λ b e ns. ap tree.array (values-listed t ns);
+    object = λ b e ms. ap tree.object (member_values-listed t ms);
     array-cut = λ inner b e ns h lt goes parts.
         let room = nesting_round ns in
-        container-leaves (array_of rules inner front b) (λ n. n) (value_of t) IsCut (cut_item names t k mode)
-        (items-keep inner b goes) b (b + 1) e room (nodes_list ns) (cut names t (grammar.array b e ns) k mode)
-        (items-order names t room ns (b + 1) e h.1 (omega arith)) parts (λ p. array-left names t k mode b e ns lt);
+        let order = items-order names t room ns (b + 1) e h.1 (omega arith) in
+        container-leaves (items-keep inner b goes) b (b + 1) e room (nodes_list ns) _ order parts
+        (λ p. array-left names t k mode b e ns lt);
     object-cut = λ inner b e ms h lt goes parts.
         let room = nesting_round_members ms in
-        container-leaves (object_of rules inner front b) (λ m. m.1) see_member CutsMember (cut_member names t k mode)
-        (members-keep inner b goes) b (b + 1) e room (members_list ms) (cut names t (grammar.object b e ms) k mode)
-        (members-order names t room ms (b + 1) e h.1 (omega arith)) parts
+        let order = members-order names t room ms (b + 1) e h.1 (omega arith) in
+        container-leaves (members-keep inner b goes) b (b + 1) e room (members_list ms) _ order parts
         (λ p. object-left names t k mode b e ms lt);
   }
 
@@ -387,16 +385,9 @@ answer_in-cut names u mode f active =
     ∙ ap (partial_answer names mode) f.is ∙ law.2 in
     subst (AnswersCut names u mode f) (sym read) law.3
 
--- the value of a document, in every mode:
+-- and the value of a document, in every mode.
 pub answer_in-of : (names : Bool) (t : List ℕ) (mode : PartialMode) (n : Node) → IsDocument names t n
     → answer_in names mode t ≡ done (value_of t n) (end n)
 answer_in-of names t mode n d =
     if_case (λ x. x ≡ done (value_of t n) (end n)) (is_active mode) (partial_answer names mode t) (answer names t)
     (λ e. partial_answer-of names t mode n d) (λ e. answer-of names t n d)
-
--- and what is accepted with partial reading off.
-pub partial_answer-accepts : (names : Bool) (t : List ℕ) (mode : PartialMode) (v : Tree) (e : ℕ)
-    → answer names t ≡ done v e → partial_answer names mode t ≡ done v e
-partial_answer-accepts names t mode v e h =
-    let read = subst (IsRead names t) h (answer-is names t) in
-    partial_answer-of names t mode read.0 read.1 ∙ sym (answer-of names t read.0 read.1) ∙ h
