@@ -22,16 +22,15 @@ use Rattle.jiter_steps.specs.Answer.{seen_as, value_form, partial_trees, answer,
 use Rattle.jiter_steps.specs.Cut.{cut, cut_number, cut_string, IsBegunContainer}
 use Rattle.jiter_steps.specs.Literal.{word_of, literal_at, literal_tree}
 use Rattle.jiter_steps.specs.Node as grammar
-use Rattle.jiter_steps.specs.Node.{Key, Node, Nodes, NodeMembers, begin, end, SpellsNumber, Spells, nesting}
-use Rattle.jiter_steps.specs.Node.{nesting_round, nesting_round_members, nesting_limit, text_at, number_tree, value_of}
-use Rattle.jiter_steps.specs.Node.{IsContainer, IsDocument}
+use Rattle.jiter_steps.specs.Node.{Key, Node, begin, end, SpellsNumber, Spells, nesting_round, nesting_round_members}
+use Rattle.jiter_steps.specs.Node.{nesting_limit, text_at, number_tree, value_of, IsContainer, IsDocument}
 use Rattle.jiter_steps.specs.Piece.{Piece, SpellsString}
 use Rattle.jiter_steps.specs.Read.{Reading, done, fault, Rules, Container, scalar_at, with_key, if_forgiven, follow}
 use Rattle.jiter_steps.specs.Read.{parts_at, container_at, array_of, object_of}
 use Rattle.jiter_steps.specs.Step.{Step, stuck, step}
 use Rattle.jiter_steps.specs.StringReading.{whole, kept, string_at}
 use Rattle.jiter_steps.specs.Tree as tree
-use Rattle.jiter_steps.specs.Tree.{Text, Tree, items_of, members_of}
+use Rattle.jiter_steps.specs.Tree.{Text, Tree}
 use Rattle.jiter_steps.specs.declared.parse.Literal.{Literal}
 use Rattle.jiter_steps.proofs.WholeTexts.{front-begins}
 use Rattle.jiter_steps.proofs.CutNodes.{under_key, cut_item, cut_member, literal-left, number-left, cut_string_if}

@@ -1,6 +1,6 @@
 -- A later cut of a document goes on where an earlier one stopped.
 use Rattle.std.proofs.Common.{◌≡◌, ◌⊎◌, inl, inr, ℕ, zero, suc, ◌+◌, ◌<◌, ◌≤◌, Bool, Option, Some, None, List, [], ◌∷◌}
-use Rattle.std.proofs.Common.{◌++◌, refl, sym, ap, ap₂, ◌∙◌, subst, arith, nat_le, map, min, if◌then◌else◌, slice_range}
+use Rattle.std.proofs.Common.{◌++◌, refl, sym, ap, ap₂, ◌∙◌, subst, arith, nat_le, map, min, slice_range}
 use Rattle.std.proofs.Common.{append-nil}
 use Rattle.std.specs.List.{filter_map, cons_option}
 use Rattle.std.specs.Str.{encode_utf8_all}
@@ -16,7 +16,7 @@ use Rattle.jiter_steps.specs.Literal.{literal_tree}
 use Rattle.jiter_steps.specs.Piece.{Piece, characters, text_of, pieces_to}
 use Rattle.jiter_steps.specs.Tree.{Text, Tree, Items, Members, items_of, members_of}
 use Rattle.jiter_steps.specs.Tree as tree
-use Rattle.jiter_steps.specs.Node.{Key, Node, Nodes, no_nodes, node, NodeMembers, no_members, member, begin, end}
+use Rattle.jiter_steps.specs.Node.{Node, Nodes, no_nodes, node, NodeMembers, no_members, member, begin, end}
 use Rattle.jiter_steps.specs.Node.{Spells, nesting, text_at, value_of}
 use Rattle.jiter_steps.specs.Node as grammar
 use Rattle.jiter_steps.specs.Cut.{cut, cut_number, cut_string}
@@ -227,34 +227,44 @@ module _ (names : Bool) (t : List ℕ) (mode : PartialMode) where
     cuts-members no_members c = tt
     cuts-members (member key n ms) c = (c.0, cuts-members ms c.1)
 
-    -- Parts that are kept so at k, and so at l.
-    module _ {P Q : Type 0} (More : Q → Q → Type 0) (value : P → Node) (kept kept_later : P → Option Q) (room : ℕ)
-        (same : (p : P) → Spells names t (value p) → end (value p) ≤ k → kept p ≡ kept_later p)
-        (late : (p : P) → Spells names t (value p) → k ≤ begin (value p) → kept p ≡ None)
+    -- Parts of which so much is kept at each place.
+    module _ {P Q : Type 0} (More : Q → Q → Type 0) (value : P → Node) (kept : ℕ → P → Option Q) (room : ℕ)
+        (same : (p : P) → Spells names t (value p) → end (value p) ≤ k → kept k p ≡ kept l p)
+        (late : (p : P) → Spells names t (value p) → k ≤ begin (value p) → kept k p ≡ None)
         (grows : (p : P) → Spells names t (value p) → nesting (value p) < room → CutsNoNumber k (value p)
-        → Grows More (kept p) (kept_later p)) where
+        → Grows More (kept k p) (kept l p)) where
       abbrev PartsGrow : List P → Type 0
-      PartsGrow ps = ListGrows More (filter_map kept ps) (filter_map kept_later ps)
+      PartsGrow ps = ListGrows More (filter_map (kept k) ps) (filter_map (kept l) ps)
 
       -- a part that k cuts is the last one; one that ends by k stays as it is
       part-grows : (p : P) (ps : List P) (e : ℕ) → Spells names t (value p)
-          → InOrder names t room value (end (value p)) ps e → Grows More (kept p) (kept_later p) → PartsGrow ps
+          → InOrder names t room value (end (value p)) ps e → Grows More (kept k p) (kept l p) → PartsGrow ps
           → PartsGrow (p ∷ ps)
       part-grows p ps e h order here rest = by (cases_lt k (end (value p))) where
         by : (k < end (value p)) ⊎ (end (value p) ≤ k) → PartsGrow (p ∷ ps)
         by (inl unended) =
-            subst (λ xs. ListGrows More (cons_option (kept p) xs) (filter_map kept_later (p ∷ ps)))
-            (sym (none-late names t k mode value kept late room (end (value p)) ps e order (omega arith)))
-            (last-grows More (kept p) (kept_later p) (filter_map kept_later ps) here)
+            subst (λ xs. ListGrows More (cons_option (kept k p) xs) (filter_map (kept l) (p ∷ ps)))
+            (sym (none-late names t k mode value (kept k) late room (end (value p)) ps e order (omega arith)))
+            (last-grows More (kept k p) (kept l p) (filter_map (kept l) ps) here)
         by (inr all) =
-            let stays = subst (Grows More (kept p)) (sym (same p h all)) here in
-            subst (λ o. ListGrows More (filter_map kept (p ∷ ps)) (cons_option o (filter_map kept_later ps)))
-            (same p h all) (rest-grows More (kept p) (filter_map kept ps) (filter_map kept_later ps) stays rest)
+            let stays = subst (Grows More (kept k p)) (sym (same p h all)) here in
+            subst (λ o. ListGrows More (filter_map (kept k) (p ∷ ps)) (cons_option o (filter_map (kept l) ps)))
+            (same p h all) (rest-grows More (kept k p) (filter_map (kept k) ps) (filter_map (kept l) ps) stays rest)
 
       parts-grow : (i e : ℕ) (ps : List P) → InOrder names t room value i ps e → CutsNone value ps → PartsGrow ps
       parts-grow i e [] h c = tt
       parts-grow i e (p ∷ ps) h c =
           part-grows p ps e h.1 h.3 (grows p h.1 h.2 c.0) (parts-grow (end (value p)) e ps h.3 c.1)
+
+      -- and a container that is built of what is kept
+      container-grows : (n : Node) (build : List Q → Tree) (i e : ℕ) (ps : List P) → Spells names t n
+          → ((xs ys : List Q) → ListGrows More xs ys → Extends (build xs) (build ys))
+          → ((j : ℕ) → begin n < j → cut names t n j mode ≡ Some (build (filter_map (kept j) ps)))
+          → InOrder names t room value i ps e → CutsNone value ps → NodeGrows n
+      container-grows n build i e ps h grow left order c =
+          begun-grows n h (λ lt.
+          along n (Some (build (filter_map (kept k) ps))) (Some (build (filter_map (kept l) ps))) (left k lt)
+          (left l (omega arith)) (grow (filter_map (kept k) ps) (filter_map (kept l) ps) (parts-grow i e ps order c)))
 
     -- what is kept of a string that k cuts
     kept-grows : (ps : List Piece) (b e : ℕ) → b < k
@@ -289,26 +299,18 @@ module _ (names : Bool) (t : List ℕ) (mode : PartialMode) where
           by lt (inl cuts) =
               along (grammar.string ps b e) _ _ (string-left names t k mode ps b e lt cuts) refl (kept-grows ps b e lt)
     grows-below (suc room) (grammar.array b e ns) h d c =
-        begun-grows (grammar.array b e ns) h (λ lt.
-        let order = items-order names t room ns (b + 1) e h.1 (omega arith) in
-        let grown = parts-grow Extends (λ n. n) (cut_item names t k mode) (cut_item names t l mode) room still
-        (node-late k) (grows-below room) (b + 1) e (nodes_list ns) order (cuts-items ns c) in
-        along (grammar.array b e ns) _ _ (array-left names t k mode b e ns lt)
-        (array-left names t l mode b e ns (omega arith))
-        (items-grow (filter_map (cut_item names t k mode) (nodes_list ns))
-        (filter_map (cut_item names t l mode) (nodes_list ns)) grown))
+        container-grows Extends (λ n. n) (λ j. cut_item names t j mode) room still (node-late k) (grows-below room)
+        (grammar.array b e ns) (λ vs. tree.array (items_of vs)) (b + 1) e (nodes_list ns) h items-grow
+        (λ j lt. array-left names t j mode b e ns lt) (items-order names t room ns (b + 1) e h.1 (omega arith))
+        (cuts-items ns c)
     grows-below (suc room) (grammar.object b e ms) h d c =
-        begun-grows (grammar.object b e ms) h (λ lt.
-        let order = members-order names t room ms (b + 1) e h.1 (omega arith) in
-        let grown = parts-grow ExtendsMember (λ m. m.1) (cut_member names t k mode) (cut_member names t l mode) room
+        container-grows ExtendsMember (λ m. m.1) (λ j. cut_member names t j mode) room
         (λ m h all. ap (under_key (key_text t m.0)) (still m.1 h all))
         (λ m h le. ap (under_key (key_text t m.0)) (node-late k m.1 h le))
-        (λ m h d c. under_key-grows (key_text t m.0) _ _ (grows-below room m.1 h d c)) (b + 1) e (members_list ms)
-        order (cuts-members ms c) in
-        along (grammar.object b e ms) _ _ (object-left names t k mode b e ms lt)
-        (object-left names t l mode b e ms (omega arith))
-        (members-grow (filter_map (cut_member names t k mode) (members_list ms))
-        (filter_map (cut_member names t l mode) (members_list ms)) grown))
+        (λ m h d c. under_key-grows (key_text t m.0) _ _ (grows-below room m.1 h d c)) (grammar.object b e ms)
+        (λ ms. tree.object (members_of ms)) (b + 1) e (members_list ms) h members-grow
+        (λ j lt. object-left names t j mode b e ms lt) (members-order names t room ms (b + 1) e h.1 (omega arith))
+        (cuts-members ms c)
 
 -- Where no number is cut at k, what a later cut leaves goes on where the cut at k stopped.
 pub cut-grows : (names : Bool) (t : List ℕ) (mode : PartialMode) (n : Node) (k l : ℕ) (v w : Tree) → Spells names t n
