@@ -17,7 +17,7 @@ use Rattle.jiter_steps.specs.Tree as tree
 use Rattle.jiter_steps.specs.Tree.{Text, Tree, items_of, members_of}
 use Rattle.jiter_steps.specs.declared.parse.Literal.{Literal}
 use Rattle.jiter_steps.proofs.Documents.{key_text, values-of, members-of}
-use Rattle.jiter_steps.proofs.Fused.{pair}
+use Rattle.jiter_steps.proofs.Fused.{pairs}
 use Rattle.jiter_steps.proofs.SpelledParts.{nodes_list, members_list, nodes-listed, members-listed, InOrder, node-ahead}
 
 -- the values of all items, and all members
@@ -25,7 +25,7 @@ pub values-listed : (t : List ℕ) (ns : Nodes) → items_of (map (value_of t) (
 values-listed t ns = sym (values-of t (nodes_list ns)) ∙ ap (values_of t) (nodes-listed ns)
 
 pub member_values-listed : (t : List ℕ) (ms : NodeMembers)
-    → members_of (map (pair (key_text t) (value_of t)) (members_list ms)) ≡ grammar.members_of t ms
+    → members_of (pairs (key_text t) (value_of t) (members_list ms)) ≡ grammar.members_of t ms
 member_values-listed t ms = sym (members-of t (members_list ms)) ∙ ap (grammar.members_of t) (members-listed ms)
 
 -- What is not begun by k leaves nothing, and what is begun leaves this.
@@ -35,38 +35,47 @@ unbegun b k x h = if-true (nat_le k b) None x (le-leb k b h)
 pub begun : (b k : ℕ) (x : Option Tree) → b < k → (if nat_le k b then None else x) ≡ x
 begun b k x h = if-false (nat_le k b) None x (lt-leb k b h)
 
-with-item : (o : Option Tree) (vs : List Tree) → with_item o (items_of vs) ≡ items_of (cons_option o vs)
+-- A part of a container is seen by its value: as it is, or with its key.
+abbrev pub item_seen : Node → Tree → Tree
+item_seen n v = v
+
+abbrev pub member_seen : List ℕ → Key × Node → Tree → Text × Tree
+member_seen t m v = (key_text t m.0, v)
+
+with-item : (o : Option Tree) (vs : List Tree)
+    → with_item o (items_of vs) ≡ items_of (cons_option (option_map (λ v. v) o) vs)
 with-item None vs = refl
 with-item (Some v) vs = refl
 
-abbrev pub under_key : Text → Option Tree → Option (Text × Tree)
-under_key key o = option_map (λ v. (key, v)) o
-
 with-member : (key : Text) (o : Option Tree) (ms : List (Text × Tree))
-    → with_member key o (members_of ms) ≡ members_of (cons_option (under_key key o) ms)
+    → with_member key o (members_of ms) ≡ members_of (cons_option (option_map (λ v. (key, v)) o) ms)
 with-member key None ms = refl
 with-member key (Some v) ms = refl
 
 module _ (names : Bool) (t : List ℕ) (k : ℕ) (mode : PartialMode) where
-  -- an item's cut, and a member's
-  abbrev pub cut_item : Node → Option Tree
-  cut_item n = cut names t n k mode
+  -- what is left of a part, if its value has a cut, and of parts
+  abbrev pub part_left : {P Q : Type 0} → (P → Node) → (P → Tree → Q) → P → Option Q
+  part_left value seen p = option_map (seen p) (cut names t (value p) k mode)
 
-  abbrev pub cut_member : Key × Node → Option (Text × Tree)
-  cut_member m = under_key (key_text t m.0) (cut names t m.1 k mode)
+  abbrev pub parts_left : {P Q : Type 0} → (P → Node) → (P → Tree → Q) → List P → List Q
+  parts_left value seen ps = filter_map (part_left value seen) ps
 
-  cuts-listed : (ns : Nodes) → cut_items names t ns k mode ≡ items_of (filter_map cut_item (nodes_list ns))
-  cuts-listed no_nodes = refl
-  cuts-listed (node n ns) =
-      ap (with_item (cut names t n k mode)) (cuts-listed ns)
-      ∙ with-item (cut names t n k mode) (filter_map cut_item (nodes_list ns))
+  abbrev pub items_left : Nodes → List Tree
+  items_left ns = parts_left (λ n. n) item_seen (nodes_list ns)
 
-  member_cuts-listed : (ms : NodeMembers)
-      → cut_members names t ms k mode ≡ members_of (filter_map cut_member (members_list ms))
-  member_cuts-listed no_members = refl
-  member_cuts-listed (member key n ms) =
-      ap (with_member (key_text t key) (cut names t n k mode)) (member_cuts-listed ms)
-      ∙ with-member (key_text t key) (cut names t n k mode) (filter_map cut_member (members_list ms))
+  abbrev pub members_left : NodeMembers → List (Text × Tree)
+  members_left ms = parts_left (λ m. m.1) (member_seen t) (members_list ms)
+
+  items-left : (ns : Nodes) → cut_items names t ns k mode ≡ items_of (items_left ns)
+  items-left no_nodes = refl
+  items-left (node n ns) =
+      ap (with_item (cut names t n k mode)) (items-left ns) ∙ with-item (cut names t n k mode) (items_left ns)
+
+  members-left : (ms : NodeMembers) → cut_members names t ms k mode ≡ members_of (members_left ms)
+  members-left no_members = refl
+  members-left (member key n ms) =
+      ap (with_member (key_text t key) (cut names t n k mode)) (members-left ms)
+      ∙ with-member (key_text t key) (cut names t n k mode) (members_left ms)
 
   -- A node that is begun before k and does not end by it.
   pub literal-left : (l : Literal) (b e : ℕ) → k < e → cut names t (grammar.literal l b e) k mode ≡ None
@@ -89,21 +98,26 @@ module _ (names : Bool) (t : List ℕ) (k : ℕ) (mode : PartialMode) where
 
   -- a container, by what is left of its parts
   pub array-left : (b e : ℕ) (ns : Nodes) → b < k
-      → cut names t (grammar.array b e ns) k mode
-      ≡ Some (tree.array (items_of (filter_map cut_item (nodes_list ns))))
-  array-left b e ns lt = begun b k _ lt ∙ ap (λ x. Some (tree.array x)) (cuts-listed ns)
+      → cut names t (grammar.array b e ns) k mode ≡ Some (tree.array (items_of (items_left ns)))
+  array-left b e ns lt = begun b k _ lt ∙ ap (λ x. Some (tree.array x)) (items-left ns)
 
   pub object-left : (b e : ℕ) (ms : NodeMembers) → b < k
-      → cut names t (grammar.object b e ms) k mode
-      ≡ Some (tree.object (members_of (filter_map cut_member (members_list ms))))
-  object-left b e ms lt = begun b k _ lt ∙ ap (λ x. Some (tree.object x)) (member_cuts-listed ms)
+      → cut names t (grammar.object b e ms) k mode ≡ Some (tree.object (members_of (members_left ms)))
+  object-left b e ms lt = begun b k _ lt ∙ ap (λ x. Some (tree.object x)) (members-left ms)
 
-  -- Parts behind k leave nothing.
-  pub none-late : {P Q : Type 0} (value : P → Node) (kept : P → Option Q)
-      → ((p : P) → Spells names t (value p) → k ≤ begin (value p) → kept p ≡ None)
-      → (room i : ℕ) (ps : List P) (e : ℕ) → InOrder names t room value i ps e → k ≤ i → filter_map kept ps ≡ []
-  none-late value kept late room i [] e h le = refl
-  none-late value kept late room i (p ∷ ps) e h le =
+  -- What begins behind k leaves nothing.
+  pub node-late : (n : Node) → Spells names t n → k ≤ begin n → cut names t n k mode ≡ None
+  node-late (grammar.literal l b e) h le =
+      let order = node-ahead names t (grammar.literal l b e) h in literal-left l b e (omega arith)
+  node-late (grammar.number b e) h le = unbegun b k _ le
+  node-late (grammar.string ps b e) h le = unbegun b k _ le
+  node-late (grammar.array b e ns) h le = unbegun b k _ le
+  node-late (grammar.object b e ms) h le = unbegun b k _ le
+
+  pub parts-late : {P Q : Type 0} (value : P → Node) (seen : P → Tree → Q) (room i : ℕ) (ps : List P) (e : ℕ)
+      → InOrder names t room value i ps e → k ≤ i → parts_left value seen ps ≡ []
+  parts-late value seen room i [] e h le = refl
+  parts-late value seen room i (p ∷ ps) e h le =
       let order = node-ahead names t (value p) h.1 in
-      ap₂ cons_option (late p h.1 (omega (arith, h.0)))
-      (none-late value kept late room (end (value p)) ps e h.3 (omega (arith, h.0)))
+      ap₂ cons_option (ap (option_map (seen p)) (node-late (value p) h.1 (omega (arith, h.0))))
+      (parts-late value seen room (end (value p)) ps e h.3 (omega (arith, h.0)))

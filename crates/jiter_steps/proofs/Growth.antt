@@ -2,7 +2,8 @@
 use Rattle.std.proofs.Common.{◌≡◌, ◌⊎◌, inl, inr, ℕ, zero, suc, ◌+◌, ◌<◌, ◌≤◌, Bool, Option, Some, None, List, [], ◌∷◌}
 use Rattle.std.proofs.Common.{◌++◌, refl, sym, ap, ap₂, ◌∙◌, subst, arith, nat_le, map, min, slice_range}
 use Rattle.std.proofs.Common.{append-nil}
-use Rattle.std.specs.List.{filter_map, cons_option}
+use Rattle.std.specs.List.{cons_option}
+use Rattle.std.specs.Option.{option_map}
 use Rattle.std.specs.Str.{encode_utf8_all}
 use Rattle.std.proofs.lemmas.Bool.{cases_lt, le-leb, leb-true}
 use Rattle.std.proofs.lemmas.List.{map-append}
@@ -22,11 +23,9 @@ use Rattle.jiter_steps.specs.Node as grammar
 use Rattle.jiter_steps.specs.Cut.{cut, cut_number, cut_string}
 use Rattle.jiter_steps.specs.Extends.{Extends, ExtendsItems, ExtendsMembers, CutsNoNumber, CutsNoNumberOf}
 use Rattle.jiter_steps.specs.Extends.{CutsNoNumberOfMembers}
-use Rattle.jiter_steps.proofs.CutNodes.{under_key, cut_item, cut_member, unbegun, begun, literal-left, cut_string_if}
-use Rattle.jiter_steps.proofs.CutNodes.{string-left, array-left, object-left, none-late, values-listed}
-use Rattle.jiter_steps.proofs.CutNodes.{member_values-listed}
-use Rattle.jiter_steps.proofs.Documents.{key_text}
-use Rattle.jiter_steps.proofs.Fused.{pair}
+use Rattle.jiter_steps.proofs.CutNodes.{values-listed, member_values-listed, begun, item_seen, member_seen, part_left}
+use Rattle.jiter_steps.proofs.CutNodes.{parts_left, literal-left, cut_string_if, string-left, array-left, object-left}
+use Rattle.jiter_steps.proofs.CutNodes.{node-late, parts-late}
 use Rattle.jiter_steps.proofs.SpelledParts.{nodes_list, members_list, InOrder, items-order, members-order, node-ahead}
 use Rattle.jiter_steps.proofs.SpelledParts.{order-ahead}
 
@@ -123,35 +122,21 @@ members-grow (m ∷ ms) [] h = absurd h
 members-grow (m ∷ []) (n ∷ ns) h = h
 members-grow (m ∷ (l ∷ ms)) (n ∷ ns) h = (ap (λ x. x.0) h.0, ap (λ x. x.1) h.0, members-grow (l ∷ ms) ns h.1)
 
-under_key-grows : (key : Text) (o p : Option Tree) → Grows Extends o p
-    → Grows ExtendsMember (under_key key o) (under_key key p)
-under_key-grows key None p h = tt
-under_key-grows key (Some v) None h = absurd h
-under_key-grows key (Some v) (Some w) h = (refl, h)
-
 module _ (names : Bool) (t : List ℕ) (mode : PartialMode) where
-  pub node-late : (k : ℕ) (n : Node) → Spells names t n → k ≤ begin n → cut names t n k mode ≡ None
-  node-late k (grammar.literal l b e) h le =
-      let order = node-ahead names t (grammar.literal l b e) h in literal-left names t k mode l b e (omega arith)
-  node-late k (grammar.number b e) h le = unbegun b k _ le
-  node-late k (grammar.string ps b e) h le = unbegun b k _ le
-  node-late k (grammar.array b e ns) h le = unbegun b k _ le
-  node-late k (grammar.object b e ms) h le = unbegun b k _ le
-
   -- What ends by k is whole.
   module _ (k : ℕ) where
     abbrev WholeBelow : ℕ → Type 0
     WholeBelow room =
         (n : Node) → Spells names t n → nesting n < room → end n ≤ k → cut names t n k mode ≡ Some (value_of t n)
 
-    parts-whole : {P Q : Type 0} (value : P → Node) (kept : P → Option Q) (seen : P → Q) (room : ℕ)
-        → ((p : P) → Spells names t (value p) → nesting (value p) < room → end (value p) ≤ k → kept p ≡ Some (seen p))
-        → (i : ℕ) (ps : List P) (e : ℕ) → InOrder names t room value i ps e → e ≤ k → filter_map kept ps ≡ map seen ps
-    parts-whole value kept seen room all i [] e h le = refl
-    parts-whole value kept seen room all i (p ∷ ps) e h le =
+    parts-whole : {P Q : Type 0} (value : P → Node) (seen : P → Tree → Q) (room i : ℕ) (ps : List P) (e : ℕ)
+        → WholeBelow room → InOrder names t room value i ps e → e ≤ k
+        → parts_left names t k mode value seen ps ≡ map (λ p. seen p (value_of t (value p))) ps
+    parts-whole value seen room i [] e all h le = refl
+    parts-whole value seen room i (p ∷ ps) e all h le =
         let rest = order-ahead names t room value ps (end (value p)) e h.3 in
-        ap₂ cons_option (all p h.1 h.2 (omega arith))
-        (parts-whole value kept seen room all (end (value p)) ps e h.3 le)
+        ap₂ cons_option (ap (option_map (seen p)) (all (value p) h.1 h.2 (omega arith)))
+        (parts-whole value seen room (end (value p)) ps e all h.3 le)
 
     whole-below : (room : ℕ) → WholeBelow room
     whole-below zero n h d le = absurd (omega arith)
@@ -167,19 +152,14 @@ module _ (names : Bool) (t : List ℕ) (mode : PartialMode) where
         let order = node-ahead names t (grammar.string ps b e) h in
         begun b k _ (omega arith) ∙ if-true (nat_le e k) (Some (tree.string (text_at t ps b e))) _ (le-leb e k le)
     whole-below (suc room) (grammar.array b e ns) h d le =
-        let ahead = node-ahead names t (grammar.array b e ns) h in
         let order = items-order names t room ns (b + 1) e h.1 (omega arith) in
-        let same = parts-whole (λ n. n) (cut_item names t k mode) (value_of t) room (whole-below room) (b + 1)
-        (nodes_list ns) e order le in
-        array-left names t k mode b e ns (omega arith)
+        let same = parts-whole (λ n. n) item_seen room (b + 1) (nodes_list ns) e (whole-below room) order le in
+        array-left names t k mode b e ns (omega (arith, node-ahead names t (grammar.array b e ns) h))
         ∙ ap (λ x. Some (tree.array x)) (ap items_of same ∙ values-listed t ns)
     whole-below (suc room) (grammar.object b e ms) h d le =
-        let ahead = node-ahead names t (grammar.object b e ms) h in
         let order = members-order names t room ms (b + 1) e h.1 (omega arith) in
-        let same = parts-whole (λ m. m.1) (cut_member names t k mode) (pair (key_text t) (value_of t)) room
-        (λ m h d le. ap (under_key (key_text t m.0)) (whole-below room m.1 h d le)) (b + 1) (members_list ms) e order
-        le in
-        object-left names t k mode b e ms (omega arith)
+        let same = parts-whole (λ m. m.1) (member_seen t) room (b + 1) (members_list ms) e (whole-below room) order le in
+        object-left names t k mode b e ms (omega (arith, node-ahead names t (grammar.object b e ms) h))
         ∙ ap (λ x. Some (tree.object x)) (ap members_of same ∙ member_values-listed t ms)
 
     pub node-whole : (n : Node) → Spells names t n → end n ≤ k → cut names t n k mode ≡ Some (value_of t n)
@@ -209,7 +189,7 @@ module _ (names : Bool) (t : List ℕ) (mode : PartialMode) where
     begun-grows n h grows = by (cases_lt (begin n) k) where
       by : (begin n < k) ⊎ (k ≤ begin n) → NodeGrows n
       by (inl lt) = grows lt
-      by (inr unread) = none-grows n (node-late k n h unread)
+      by (inr unread) = none-grows n (node-late names t k mode n h unread)
 
     still : (n : Node) → Spells names t n → end n ≤ k → cut names t n k mode ≡ cut names t n l mode
     still n h all = node-whole k n h all ∙ sym (node-whole l n h (omega arith))
@@ -227,44 +207,56 @@ module _ (names : Bool) (t : List ℕ) (mode : PartialMode) where
     cuts-members no_members c = tt
     cuts-members (member key n ms) c = (c.0, cuts-members ms c.1)
 
-    -- Parts of which so much is kept at each place.
-    module _ {P Q : Type 0} (More : Q → Q → Type 0) (value : P → Node) (kept : ℕ → P → Option Q) (room : ℕ)
-        (same : (p : P) → Spells names t (value p) → end (value p) ≤ k → kept k p ≡ kept l p)
-        (late : (p : P) → Spells names t (value p) → k ≤ begin (value p) → kept k p ≡ None)
-        (grows : (p : P) → Spells names t (value p) → nesting (value p) < room → CutsNoNumber k (value p)
-        → Grows More (kept k p) (kept l p)) where
+    -- Parts that are seen by their values, where what goes on is seen to go on.
+    module _ {P Q : Type 0} (More : Q → Q → Type 0) (value : P → Node) (seen : P → Tree → Q)
+        (seen_more : (p : P) (v w : Tree) → Extends v w → More (seen p v) (seen p w)) (room : ℕ)
+        (all : GrowsBelow room) where
+      abbrev left_at : ℕ → List P → List Q
+      left_at j ps = parts_left names t j mode value seen ps
+
       abbrev PartsGrow : List P → Type 0
-      PartsGrow ps = ListGrows More (filter_map (kept k) ps) (filter_map (kept l) ps)
+      PartsGrow ps = ListGrows More (left_at k ps) (left_at l ps)
+
+      part-grows : (p : P) (o q : Option Tree) → Grows Extends o q
+          → Grows More (option_map (seen p) o) (option_map (seen p) q)
+      part-grows p None q h = tt
+      part-grows p (Some v) None h = absurd h
+      part-grows p (Some v) (Some w) h = seen_more p v w h
 
       -- a part that k cuts is the last one; one that ends by k stays as it is
-      part-grows : (p : P) (ps : List P) (e : ℕ) → Spells names t (value p)
-          → InOrder names t room value (end (value p)) ps e → Grows More (kept k p) (kept l p) → PartsGrow ps
+      first-grows : (p : P) (ps : List P) (e : ℕ) → Spells names t (value p)
+          → InOrder names t room value (end (value p)) ps e
+          → Grows More (part_left names t k mode value seen p) (part_left names t l mode value seen p) → PartsGrow ps
           → PartsGrow (p ∷ ps)
-      part-grows p ps e h order here rest = by (cases_lt k (end (value p))) where
+      first-grows p ps e h order here rest = by (cases_lt k (end (value p))) where
+        at_k : Option Q
+        at_k = part_left names t k mode value seen p
+
         by : (k < end (value p)) ⊎ (end (value p) ≤ k) → PartsGrow (p ∷ ps)
         by (inl unended) =
-            subst (λ xs. ListGrows More (cons_option (kept k p) xs) (filter_map (kept l) (p ∷ ps)))
-            (sym (none-late names t k mode value (kept k) late room (end (value p)) ps e order (omega arith)))
-            (last-grows More (kept k p) (kept l p) (filter_map (kept l) ps) here)
+            subst (λ xs. ListGrows More (cons_option at_k xs) (left_at l (p ∷ ps)))
+            (sym (parts-late names t k mode value seen room (end (value p)) ps e order (omega arith)))
+            (last-grows More at_k (part_left names t l mode value seen p) (left_at l ps) here)
         by (inr all) =
-            let stays = subst (Grows More (kept k p)) (sym (same p h all)) here in
-            subst (λ o. ListGrows More (filter_map (kept k) (p ∷ ps)) (cons_option o (filter_map (kept l) ps)))
-            (same p h all) (rest-grows More (kept k p) (filter_map (kept k) ps) (filter_map (kept l) ps) stays rest)
+            let same = ap (option_map (seen p)) (still (value p) h all) in
+            subst (λ o. ListGrows More (left_at k (p ∷ ps)) (cons_option o (left_at l ps))) same
+            (rest-grows More at_k (left_at k ps) (left_at l ps) (subst (Grows More at_k) (sym same) here) rest)
 
       parts-grow : (i e : ℕ) (ps : List P) → InOrder names t room value i ps e → CutsNone value ps → PartsGrow ps
       parts-grow i e [] h c = tt
       parts-grow i e (p ∷ ps) h c =
-          part-grows p ps e h.1 h.3 (grows p h.1 h.2 c.0) (parts-grow (end (value p)) e ps h.3 c.1)
+          first-grows p ps e h.1 h.3 (part-grows p _ _ (all (value p) h.1 h.2 c.0))
+          (parts-grow (end (value p)) e ps h.3 c.1)
 
-      -- and a container that is built of what is kept
+      -- and a container that is built of what is left
       container-grows : (n : Node) (build : List Q → Tree) (i e : ℕ) (ps : List P) → Spells names t n
           → ((xs ys : List Q) → ListGrows More xs ys → Extends (build xs) (build ys))
-          → ((j : ℕ) → begin n < j → cut names t n j mode ≡ Some (build (filter_map (kept j) ps)))
+          → ((j : ℕ) → begin n < j → cut names t n j mode ≡ Some (build (left_at j ps)))
           → InOrder names t room value i ps e → CutsNone value ps → NodeGrows n
       container-grows n build i e ps h grow left order c =
           begun-grows n h (λ lt.
-          along n (Some (build (filter_map (kept k) ps))) (Some (build (filter_map (kept l) ps))) (left k lt)
-          (left l (omega arith)) (grow (filter_map (kept k) ps) (filter_map (kept l) ps) (parts-grow i e ps order c)))
+          along n (Some (build (left_at k ps))) (Some (build (left_at l ps))) (left k lt) (left l (omega arith))
+          (grow (left_at k ps) (left_at l ps) (parts-grow i e ps order c)))
 
     -- what is kept of a string that k cuts
     kept-grows : (ps : List Piece) (b e : ℕ) → b < k
@@ -290,7 +282,7 @@ module _ (names : Bool) (t : List ℕ) (mode : PartialMode) where
       by (inl cuts) = none-grows (grammar.literal x b e) (literal-left names t k mode x b e cuts)
       by (inr all) = whole-grows (grammar.literal x b e) h all
     grows-below (suc room) (grammar.number b e) h d (inl unread) =
-        none-grows (grammar.number b e) (node-late k (grammar.number b e) h unread)
+        none-grows (grammar.number b e) (node-late names t k mode (grammar.number b e) h unread)
     grows-below (suc room) (grammar.number b e) h d (inr all) = whole-grows (grammar.number b e) h all
     grows-below (suc room) (grammar.string ps b e) h d c =
         begun-grows (grammar.string ps b e) h (λ lt. by lt (cases_lt k e)) where
@@ -299,16 +291,13 @@ module _ (names : Bool) (t : List ℕ) (mode : PartialMode) where
           by lt (inl cuts) =
               along (grammar.string ps b e) _ _ (string-left names t k mode ps b e lt cuts) refl (kept-grows ps b e lt)
     grows-below (suc room) (grammar.array b e ns) h d c =
-        container-grows Extends (λ n. n) (λ j. cut_item names t j mode) room still (node-late k) (grows-below room)
-        (grammar.array b e ns) (λ vs. tree.array (items_of vs)) (b + 1) e (nodes_list ns) h items-grow
+        container-grows Extends (λ n. n) item_seen (λ n v w more. more) room (grows-below room) (grammar.array b e ns)
+        (λ vs. tree.array (items_of vs)) (b + 1) e (nodes_list ns) h items-grow
         (λ j lt. array-left names t j mode b e ns lt) (items-order names t room ns (b + 1) e h.1 (omega arith))
         (cuts-items ns c)
     grows-below (suc room) (grammar.object b e ms) h d c =
-        container-grows ExtendsMember (λ m. m.1) (λ j. cut_member names t j mode) room
-        (λ m h all. ap (under_key (key_text t m.0)) (still m.1 h all))
-        (λ m h le. ap (under_key (key_text t m.0)) (node-late k m.1 h le))
-        (λ m h d c. under_key-grows (key_text t m.0) _ _ (grows-below room m.1 h d c)) (grammar.object b e ms)
-        (λ ms. tree.object (members_of ms)) (b + 1) e (members_list ms) h members-grow
+        container-grows ExtendsMember (λ m. m.1) (member_seen t) (λ m v w more. (refl, more)) room (grows-below room)
+        (grammar.object b e ms) (λ ms. tree.object (members_of ms)) (b + 1) e (members_list ms) h members-grow
         (λ j lt. object-left names t j mode b e ms lt) (members-order names t room ms (b + 1) e h.1 (omega arith))
         (cuts-members ms c)
 
