@@ -151,16 +151,12 @@ module _ (names : Bool) (t : List ℕ) (k : ℕ) (within : k ≤ length t) (mode
         (text-leaves ps b e h lt gt (allows_trailing_strings mode)),
   )
 
-  -- Containers of such parts: the reading sticks where it halts behind a part, and a part that k cuts leaves its cut.
-  record Keeps {P Q : Type 0} (c : Container Q Tree) (value : P → Node) (seen : P → Tree → Q)
-      (IsCut : P → Reading Q → Type 0) : Type 0 where
-    goes : Goes c front
-    halts : (p : ℕ) → Halts front p → StuckAt p (step front c.next p)
-    leaves : (p : P) (x : Reading Q) → Spells names t (value p) → IsCut p x
-        → Leaves front (part_left names t k mode value seen p) x
-
-  module _ {P Q : Type 0} {c : Container Q Tree} {value : P → Node} {seen : P → Tree → Q}
-      {IsCut : P → Reading Q → Type 0} (keeps : Keeps c value seen IsCut) where
+  -- Containers whose reading sticks where it halts behind a part, and whose part that k cuts leaves its cut.
+  module _ {P Q : Type 0} (c : Container Q Tree) (value : P → Node) (seen : P → Tree → Q)
+      (IsCut : P → Reading Q → Type 0) (goes : Goes c front)
+      (sticks : (p : ℕ) → Halts front p → StuckAt p (step front c.next p))
+      (leaves : (p : P) (x : Reading Q) → Spells names t (value p) → IsCut p x
+      → Leaves front (part_left names t k mode value seen p) x) where
     -- a part as it is in the whole text, and what is left of parts
     abbrev as_whole : P → Q
     as_whole p = seen p (value_of t (value p))
@@ -199,17 +195,16 @@ module _ (names : Bool) (t : List ℕ) (k : ℕ) (within : k ≤ length t) (mode
 
     -- a part that is cut is the last one
     part-closes : (qs : List Q) (ps : List P) (j : ℕ) (o : Option Q) (x : Reading Q) → j < length front
-        → left ps ≡ []
-        → c.part j ≡ x → Leaves front o x → Closes (qs ++ cons_option o (left ps)) (At qs j)
+        → left ps ≡ [] → c.part j ≡ x → Leaves front o x → Closes (qs ++ cons_option o (left ps)) (At qs j)
     part-closes qs ps j (Some v) (done q e) lt none is h =
-        let read = parts-part rules front c keeps.goes j e qs q (step front c.next e) lt is refl in
+        let read = parts-part rules front c goes j e qs q (step front c.next e) lt is refl in
         subst (λ l. Closes (qs ++ l) (At qs j)) (ap₂ (λ a l. a ∷ l) h.0 (sym none))
         (along (qs ++ q ∷ []) (At qs j) (Behind (qs ++ q ∷ []) (step front c.next e)) read
-        (stuck-closes (qs ++ q ∷ []) e (step front c.next e) (keeps.halts e h.1) h.1))
+        (stuck-closes (qs ++ q ∷ []) e (step front c.next e) (sticks e h.1) h.1))
     part-closes qs ps j None (fault kind i stop) lt none is h =
         subst (λ l. Closes l (At qs j)) (sym (ap (λ l. qs ++ l) none ∙ append-nil qs))
         (along qs (At qs j) (if_forgiven rules (λ e. c.build e qs) kind i stop)
-        (parts-fault rules front c keeps.goes j i stop qs kind lt is) (fault-closes qs kind i stop h.0 h.1))
+        (parts-fault rules front c goes j i stop qs kind lt is) (fault-closes qs kind i stop h.0 h.1))
     part-closes qs ps j (Some v) (fault kind i stop) lt none is h = absurd h
     part-closes qs ps j None (done q e) lt none is h = absurd h
 
@@ -218,8 +213,7 @@ module _ (names : Bool) (t : List ℕ) (k : ℕ) (within : k ≤ length t) (mode
 
     -- Behind the parts so far, the container is closed round those that the cut leaves.
     parts-close : (room i e : ℕ) (ps : List P) (row : ℕ → Option ℕ → Step) (m : ℕ) (qs : List Q)
-        → InOrder names t room value i ps e
-        → CutParts t k within c value as_whole IsCut row m ps
+        → InOrder names t room value i ps e → CutParts t k within c value as_whole IsCut row m ps
         → Closes (qs ++ left ps) (Behind qs (step front row m))
     parts-close room i e [] row m qs order h = input-closes qs [] (step front row m) h refl
     parts-close room i e (p ∷ ps) row m qs order (inl h) =
@@ -229,14 +223,15 @@ module _ (names : Bool) (t : List ℕ) (k : ℕ) (within : k ≤ length t) (mode
     parts-close room i e (p ∷ ps) row m qs order (inr (j, begins, lt, inl (past, cuts))) =
         let none = parts-late names t k mode value seen room (end (value p)) ps e order.3 (omega arith) in
         along (qs ++ left (p ∷ ps)) (Behind qs (step front row m)) (At qs j) (ap (Behind qs) begins)
-        (part-closes qs ps j (part_left names t k mode value seen p) (c.part j) (inside j lt) none refl (keeps.leaves p (c.part j) order.1 cuts))
+        (part-closes qs ps j (part_left names t k mode value seen p) (c.part j) (inside j lt) none refl
+        (leaves p (c.part j) order.1 cuts))
     parts-close room i e (p ∷ ps) row m qs order (inr (j, begins, lt, inr (ends, f, is, more_parts))) =
-        let read = parts-part rules front c keeps.goes j f qs (as_whole p) (step front c.next f) (inside j lt) is refl in
-        let behind = Behind (qs ++ as_whole p ∷ []) (step front c.next f) in
-        let rest = parts-close room (end (value p)) e ps c.next f (qs ++ as_whole p ∷ []) order.3 more_parts in
+        let q = as_whole p in
+        let read = parts-part rules front c goes j f qs q (step front c.next f) (inside j lt) is refl in
+        let behind = Behind (qs ++ q ∷ []) (step front c.next f) in
+        let rest = parts-close room (end (value p)) e ps c.next f (qs ++ q ∷ []) order.3 more_parts in
         let same = ap (option_map (seen p)) (node-whole names t mode k (value p) order.1 ends) in
-        let whole = append_assoc qs (as_whole p ∷ []) (left ps)
-        ∙ ap (λ o. qs ++ cons_option o (left ps)) (sym same) in
+        let whole = append_assoc qs (q ∷ []) (left ps) ∙ ap (λ o. qs ++ cons_option o (left ps)) (sym same) in
         along (qs ++ left (p ∷ ps)) (Behind qs (step front row m)) behind (ap (Behind qs) begins ∙ read)
         (subst (λ l. Closes l behind) whole rest)
 
@@ -261,38 +256,23 @@ module _ (names : Bool) (t : List ℕ) (k : ℕ) (within : k ≤ length t) (mode
   key-halts p (inl at) = subst (Halts front) (sym at) (cut-halts t k within)
   key-halts p (inr quote) = byte-halts front p 34 quote (λ e. cc)
 
-  abbrev member_left : Key × Node → Option (Text × Tree)
-  member_left m = part_left names t k mode (λ m. m.1) (member_seen t) m
+  abbrev CutsMember : Key × Node → Reading (Text × Tree) → Type 0
+  CutsMember m x = IsCutMember rules names t k within (key_text t) (value_of t) IsCut m x
 
-  member-leaves : (m : Key × Node) (x : Reading (Text × Tree)) → Spells names t m.1
-      → IsCutMember rules names t k within (key_text t) (value_of t) IsCut m x → Leaves front (member_left m) x
+  member-leaves : (m : Key × Node) (x : Reading (Text × Tree)) → Spells names t m.1 → CutsMember m x
+      → Leaves front (part_left names t k mode (λ m. m.1) (member_seen t) m) x
   member-leaves m x h (inl before) =
       subst (λ o. Leaves front (option_map (member_seen t m) o) x) (sym (node-late names t k mode m.1 h before.unread))
       (subst (Leaves front None) (sym before.is)
       (end-forgiven before.kind before.early, key-halts before.stop before.stands))
   member-leaves m x h (inr (y, is, cuts)) =
-      subst (Leaves front (member_left m)) (sym is) (with_key-leaves (key_text t m.0) (cut names t m.1 k mode) y cuts)
+      let o = cut names t m.1 k mode in
+      subst (Leaves front (option_map (member_seen t m) o)) (sym is) (with_key-leaves (key_text t m.0) o y cuts)
 
-  abbrev CutsMember : Key × Node → Reading (Text × Tree) → Type 0
-  CutsMember m x = IsCutMember rules names t k within (key_text t) (value_of t) IsCut m x
-
+  -- items
   item-leaves : (o : Option Tree) (x : Reading Tree) → Leaves front o x → Leaves front (option_map (λ v. v) o) x
   item-leaves None x h = h
   item-leaves (Some v) x h = h
-
-  -- Both kinds of containers keep their parts so.
-  items-keep : (inner : ℕ → Reading Tree) (b : ℕ) → Goes (array_of rules inner front b) front
-      → Keeps (array_of rules inner front b) (λ n. n) item_seen IsCut
-  items-keep inner b goes = record {
-    goes = goes;
-    halts = container-halts front shape.Array;
-    leaves = λ n x h cuts. item-leaves (cut names t n k mode) x cuts;
-  }
-
-  members-keep : (inner : ℕ → Reading Tree) (b : ℕ) → Goes (object_of rules inner front b) front
-      → Keeps (object_of rules inner front b) (λ m. m.1) (member_seen t) CutsMember
-  members-keep inner b goes =
-      record { goes = goes; halts = container-halts front shape.Object; leaves = member-leaves }
 
   cut-rules : CutRules rules names t k within (key_text t) (value_of t) IsCut
   cut-rules = record {
@@ -306,12 +286,14 @@ module _ (names : Bool) (t : List ℕ) (k : ℕ) (within : k ≤ length t) (mode
     array-cut = λ inner b e ns h lt goes parts.
         let room = nesting_round ns in
         let order = items-order names t room ns (b + 1) e h.1 (omega arith) in
-        container-leaves (items-keep inner b goes) b (b + 1) e room (nodes_list ns) _ order parts
-        (λ p. array-left names t k mode b e ns lt);
+        container-leaves (array_of rules inner front b) (λ n. n) item_seen IsCut goes
+        (container-halts front shape.Array) (λ n x h cuts. item-leaves (cut names t n k mode) x cuts) b (b + 1) e room
+        (nodes_list ns) _ order parts (λ p. array-left names t k mode b e ns lt);
     object-cut = λ inner b e ms h lt goes parts.
         let room = nesting_round_members ms in
         let order = members-order names t room ms (b + 1) e h.1 (omega arith) in
-        container-leaves (members-keep inner b goes) b (b + 1) e room (members_list ms) _ order parts
+        container-leaves (object_of rules inner front b) (λ m. m.1) (member_seen t) CutsMember goes
+        (container-halts front shape.Object) member-leaves b (b + 1) e room (members_list ms) _ order parts
         (λ p. object-left names t k mode b e ms lt);
   }
 

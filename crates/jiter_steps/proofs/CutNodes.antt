@@ -28,10 +28,7 @@ pub member_values-listed : (t : List ℕ) (ms : NodeMembers)
     → members_of (pairs (key_text t) (value_of t) (members_list ms)) ≡ grammar.members_of t ms
 member_values-listed t ms = sym (members-of t (members_list ms)) ∙ ap (grammar.members_of t) (members-listed ms)
 
--- What is not begun by k leaves nothing, and what is begun leaves this.
-pub unbegun : (b k : ℕ) (x : Option Tree) → k ≤ b → (if nat_le k b then None else x) ≡ None
-unbegun b k x h = if-true (nat_le k b) None x (le-leb k b h)
-
+-- what a node that is begun by k leaves
 pub begun : (b k : ℕ) (x : Option Tree) → b < k → (if nat_le k b then None else x) ≡ x
 begun b k x h = if-false (nat_le k b) None x (lt-leb k b h)
 
@@ -109,10 +106,10 @@ module _ (names : Bool) (t : List ℕ) (k : ℕ) (mode : PartialMode) where
   pub node-late : (n : Node) → Spells names t n → k ≤ begin n → cut names t n k mode ≡ None
   node-late (grammar.literal l b e) h le =
       let order = node-ahead names t (grammar.literal l b e) h in literal-left l b e (omega arith)
-  node-late (grammar.number b e) h le = unbegun b k _ le
-  node-late (grammar.string ps b e) h le = unbegun b k _ le
-  node-late (grammar.array b e ns) h le = unbegun b k _ le
-  node-late (grammar.object b e ms) h le = unbegun b k _ le
+  node-late (grammar.number b e) h le = if-true (nat_le k b) None _ (le-leb k b le)
+  node-late (grammar.string ps b e) h le = if-true (nat_le k b) None _ (le-leb k b le)
+  node-late (grammar.array b e ns) h le = if-true (nat_le k b) None _ (le-leb k b le)
+  node-late (grammar.object b e ms) h le = if-true (nat_le k b) None _ (le-leb k b le)
 
   pub parts-late : {P Q : Type 0} (value : P → Node) (seen : P → Tree → Q) (room i : ℕ) (ps : List P) (e : ℕ)
       → InOrder names t room value i ps e → k ≤ i → parts_left value seen ps ≡ []

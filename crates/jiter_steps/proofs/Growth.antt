@@ -153,12 +153,14 @@ module _ (names : Bool) (t : List ℕ) (mode : PartialMode) where
         begun b k _ (omega arith) ∙ if-true (nat_le e k) (Some (tree.string (text_at t ps b e))) _ (le-leb e k le)
     whole-below (suc room) (grammar.array b e ns) h d le =
         let order = items-order names t room ns (b + 1) e h.1 (omega arith) in
-        let same = parts-whole (λ n. n) item_seen room (b + 1) (nodes_list ns) e (whole-below room) order le in
+        let inner = whole-below room in
+        let same = parts-whole (λ n. n) item_seen room (b + 1) (nodes_list ns) e inner order le in
         array-left names t k mode b e ns (omega (arith, node-ahead names t (grammar.array b e ns) h))
         ∙ ap (λ x. Some (tree.array x)) (ap items_of same ∙ values-listed t ns)
     whole-below (suc room) (grammar.object b e ms) h d le =
         let order = members-order names t room ms (b + 1) e h.1 (omega arith) in
-        let same = parts-whole (λ m. m.1) (member_seen t) room (b + 1) (members_list ms) e (whole-below room) order le in
+        let inner = whole-below room in
+        let same = parts-whole (λ m. m.1) (member_seen t) room (b + 1) (members_list ms) e inner order le in
         object-left names t k mode b e ms (omega (arith, node-ahead names t (grammar.object b e ms) h))
         ∙ ap (λ x. Some (tree.object x)) (ap members_of same ∙ member_values-listed t ms)
 
@@ -211,11 +213,14 @@ module _ (names : Bool) (t : List ℕ) (mode : PartialMode) where
     module _ {P Q : Type 0} (More : Q → Q → Type 0) (value : P → Node) (seen : P → Tree → Q)
         (seen_more : (p : P) (v w : Tree) → Extends v w → More (seen p v) (seen p w)) (room : ℕ)
         (all : GrowsBelow room) where
-      abbrev left_at : ℕ → List P → List Q
-      left_at j ps = parts_left names t j mode value seen ps
+      abbrev one_left : ℕ → P → Option Q
+      one_left j p = part_left names t j mode value seen p
+
+      abbrev left : ℕ → List P → List Q
+      left j ps = parts_left names t j mode value seen ps
 
       abbrev PartsGrow : List P → Type 0
-      PartsGrow ps = ListGrows More (left_at k ps) (left_at l ps)
+      PartsGrow ps = ListGrows More (left k ps) (left l ps)
 
       part-grows : (p : P) (o q : Option Tree) → Grows Extends o q
           → Grows More (option_map (seen p) o) (option_map (seen p) q)
@@ -226,21 +231,18 @@ module _ (names : Bool) (t : List ℕ) (mode : PartialMode) where
       -- a part that k cuts is the last one; one that ends by k stays as it is
       first-grows : (p : P) (ps : List P) (e : ℕ) → Spells names t (value p)
           → InOrder names t room value (end (value p)) ps e
-          → Grows More (part_left names t k mode value seen p) (part_left names t l mode value seen p) → PartsGrow ps
-          → PartsGrow (p ∷ ps)
+          → Grows More (one_left k p) (one_left l p) → PartsGrow ps → PartsGrow (p ∷ ps)
       first-grows p ps e h order here rest = by (cases_lt k (end (value p))) where
-        at_k : Option Q
-        at_k = part_left names t k mode value seen p
-
         by : (k < end (value p)) ⊎ (end (value p) ≤ k) → PartsGrow (p ∷ ps)
         by (inl unended) =
-            subst (λ xs. ListGrows More (cons_option at_k xs) (left_at l (p ∷ ps)))
+            subst (λ xs. ListGrows More (cons_option (one_left k p) xs) (left l (p ∷ ps)))
             (sym (parts-late names t k mode value seen room (end (value p)) ps e order (omega arith)))
-            (last-grows More at_k (part_left names t l mode value seen p) (left_at l ps) here)
+            (last-grows More (one_left k p) (one_left l p) (left l ps) here)
         by (inr all) =
             let same = ap (option_map (seen p)) (still (value p) h all) in
-            subst (λ o. ListGrows More (left_at k (p ∷ ps)) (cons_option o (left_at l ps))) same
-            (rest-grows More at_k (left_at k ps) (left_at l ps) (subst (Grows More at_k) (sym same) here) rest)
+            subst (λ o. ListGrows More (left k (p ∷ ps)) (cons_option o (left l ps))) same
+            (rest-grows More (one_left k p) (left k ps) (left l ps)
+            (subst (Grows More (one_left k p)) (sym same) here) rest)
 
       parts-grow : (i e : ℕ) (ps : List P) → InOrder names t room value i ps e → CutsNone value ps → PartsGrow ps
       parts-grow i e [] h c = tt
@@ -251,12 +253,12 @@ module _ (names : Bool) (t : List ℕ) (mode : PartialMode) where
       -- and a container that is built of what is left
       container-grows : (n : Node) (build : List Q → Tree) (i e : ℕ) (ps : List P) → Spells names t n
           → ((xs ys : List Q) → ListGrows More xs ys → Extends (build xs) (build ys))
-          → ((j : ℕ) → begin n < j → cut names t n j mode ≡ Some (build (left_at j ps)))
+          → ((j : ℕ) → begin n < j → cut names t n j mode ≡ Some (build (left j ps)))
           → InOrder names t room value i ps e → CutsNone value ps → NodeGrows n
-      container-grows n build i e ps h grow left order c =
+      container-grows n build i e ps h grow is order c =
           begun-grows n h (λ lt.
-          along n (Some (build (left_at k ps))) (Some (build (left_at l ps))) (left k lt) (left l (omega arith))
-          (grow (left_at k ps) (left_at l ps) (parts-grow i e ps order c)))
+          along n (Some (build (left k ps))) (Some (build (left l ps))) (is k lt) (is l (omega arith))
+          (grow (left k ps) (left l ps) (parts-grow i e ps order c)))
 
     -- what is kept of a string that k cuts
     kept-grows : (ps : List Piece) (b e : ℕ) → b < k
