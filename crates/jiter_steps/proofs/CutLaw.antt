@@ -6,7 +6,8 @@ use Rattle.std.proofs.Common.{◌≡◌, ◌⊎◌, inl, inr, ℕ, ◌+◌, ◌<
 use Rattle.std.proofs.Common.{◌∷◌, ◌++◌, length, take, refl, sym, ap, ap₂, ◌∙◌, subst, arith, if◌then◌else◌, append-nil}
 use Rattle.std.proofs.Common.{append_assoc}
 use Rattle.std.specs.Prelude.{slice_get, slice_range}
-use Rattle.std.specs.List.{filter_map, cons_option}
+use Rattle.std.specs.List.{cons_option}
+use Rattle.std.specs.Option.{option_map}
 use Rattle.std.proofs.lemmas.Bool.{cases_lt}
 use Rattle.std.proofs.lemmas.List.{take_all}
 use Rattle.jiter_scan.specs.Kind.{Kind, is_forgiven}
@@ -22,24 +23,24 @@ use Rattle.jiter_steps.specs.Answer.{seen_as, value_form, partial_trees, answer,
 use Rattle.jiter_steps.specs.Cut.{cut, cut_number, cut_string, IsBegunContainer}
 use Rattle.jiter_steps.specs.Literal.{word_of, literal_at, literal_tree}
 use Rattle.jiter_steps.specs.Node as grammar
-use Rattle.jiter_steps.specs.Node.{Key, Node, Nodes, NodeMembers, begin, end, SpellsNumber, Spells, nesting}
-use Rattle.jiter_steps.specs.Node.{nesting_round, nesting_round_members, nesting_limit, text_at, number_tree, value_of}
-use Rattle.jiter_steps.specs.Node.{values_of, IsContainer, IsDocument}
+use Rattle.jiter_steps.specs.Node.{Key, Node, begin, end, SpellsNumber, Spells, nesting_round, nesting_round_members}
+use Rattle.jiter_steps.specs.Node.{nesting_limit, text_at, number_tree, value_of, IsContainer, IsDocument}
 use Rattle.jiter_steps.specs.Piece.{Piece, SpellsString}
 use Rattle.jiter_steps.specs.Read.{Reading, done, fault, Rules, Container, scalar_at, with_key, if_forgiven, follow}
 use Rattle.jiter_steps.specs.Read.{parts_at, container_at, array_of, object_of}
 use Rattle.jiter_steps.specs.Step.{Step, stuck, step}
 use Rattle.jiter_steps.specs.StringReading.{whole, kept, string_at}
 use Rattle.jiter_steps.specs.Tree as tree
-use Rattle.jiter_steps.specs.Tree.{Text, Tree, items_of, members_of}
+use Rattle.jiter_steps.specs.Tree.{Text, Tree}
 use Rattle.jiter_steps.specs.declared.parse.Literal.{Literal}
 use Rattle.jiter_steps.proofs.WholeTexts.{front-begins}
-use Rattle.jiter_steps.proofs.CutNodes.{under_key, cut_item, cut_member, literal-left, number-left, cut_string_if}
-use Rattle.jiter_steps.proofs.CutNodes.{string-left, array-left, object-left, none-late}
+use Rattle.jiter_steps.proofs.CutNodes.{values-listed, member_values-listed, item_seen, member_seen, part_left}
+use Rattle.jiter_steps.proofs.CutNodes.{parts_left, literal-left, number-left, cut_string_if, string-left, array-left}
+use Rattle.jiter_steps.proofs.CutNodes.{object-left, node-late, parts-late}
 use Rattle.jiter_steps.proofs.CutParts.{EndsInput, CutParts}
-use Rattle.jiter_steps.proofs.Documents.{key_text, IsRead, values-of, members-of, answer-of, answer-is}
+use Rattle.jiter_steps.proofs.Documents.{key_text, answer-of}
 use Rattle.jiter_steps.proofs.Front.{front-length, front-get, front-blank, front-stands, front-word}
-use Rattle.jiter_steps.proofs.Growth.{node-late, node-whole}
+use Rattle.jiter_steps.proofs.Growth.{node-whole}
 use Rattle.jiter_steps.specs.declared.parse.Shape.TheVariants as shape
 use Rattle.jiter_steps.proofs.Halting.{Halts, StuckAt, end-forgiven, byte-halts, cut-halts, begin-halts}
 use Rattle.jiter_steps.proofs.Halting.{container-halts}
@@ -49,7 +50,7 @@ use Rattle.jiter_steps.proofs.NumberCutLaws.{CutNumber, number_at-before, number
 use Rattle.jiter_steps.proofs.ReadFront.{IsCutMember, CutRules, value_at-front}
 use Rattle.jiter_steps.proofs.ScalarLaws.{ScalarLaws, scalar-laws, EndsNumber}
 use Rattle.jiter_steps.proofs.SpelledParts.{begins-value, begin-within, node-within, ends-end, nodes_list, members_list}
-use Rattle.jiter_steps.proofs.SpelledParts.{nodes-listed, members-listed, InOrder, items-order, members-order}
+use Rattle.jiter_steps.proofs.SpelledParts.{InOrder, items-order, members-order}
 use Rattle.jiter_steps.proofs.StringCutLaws.{string_at-cut, string_at-cut_whole, string_at-before}
 use Rattle.jiter_steps.proofs.Values.{Goes, parts-part, parts-fault}
 
@@ -150,18 +151,19 @@ module _ (names : Bool) (t : List ℕ) (k : ℕ) (within : k ≤ length t) (mode
         (text-leaves ps b e h lt gt (allows_trailing_strings mode)),
   )
 
-  -- Containers. A part is kept so: as it is seen if it ends by k, not at all if it begins behind k, and as its reading
-  -- leaves it if k cuts it.
-  record Keeps {P Q : Type 0} (c : Container Q Tree) (value : P → Node) (seen : P → Q)
-      (IsCut : P → Reading Q → Type 0) (kept : P → Option Q) : Type 0 where
-    goes : Goes c front
-    halts : (p : ℕ) → Halts front p → StuckAt p (step front c.next p)
-    ends : (p : P) → Spells names t (value p) → end (value p) ≤ k → kept p ≡ Some (seen p)
-    late : (p : P) → Spells names t (value p) → k ≤ begin (value p) → kept p ≡ None
-    leaves : (p : P) (x : Reading Q) → Spells names t (value p) → IsCut p x → Leaves front (kept p) x
+  -- Containers whose reading sticks where it halts behind a part, and whose part that k cuts leaves its cut.
+  module _ {P Q : Type 0} (c : Container Q Tree) (value : P → Node) (seen : P → Tree → Q)
+      (IsCut : P → Reading Q → Type 0) (goes : Goes c front)
+      (sticks : (p : ℕ) → Halts front p → StuckAt p (step front c.next p))
+      (leaves : (p : P) (x : Reading Q) → Spells names t (value p) → IsCut p x
+      → Leaves front (part_left names t k mode value seen p) x) where
+    -- a part as it is in the whole text, and what is left of parts
+    abbrev as_whole : P → Q
+    as_whole p = seen p (value_of t (value p))
 
-  module _ {P Q : Type 0} (c : Container Q Tree) (value : P → Node) (seen : P → Q) (IsCut : P → Reading Q → Type 0)
-      (kept : P → Option Q) (keeps : Keeps c value seen IsCut kept) where
+    abbrev left : List P → List Q
+    left ps = parts_left names t k mode value seen ps
+
     abbrev At : List Q → ℕ → Reading Tree
     At qs j = parts_at rules c front (length front) qs j
 
@@ -185,25 +187,24 @@ module _ (names : Bool) (t : List ℕ) (k : ℕ) (within : k ≤ length t) (mode
         along qs (Behind qs s) (Behind qs (stuck h.0 p)) (ap (Behind qs) h.1) (fault-closes qs h.0 p p h.2 halts)
 
     -- where the input ends, no part is left
-    input-closes : (qs : List Q) (ps : List P) (s : Step) → EndsInput t k within s → filter_map kept ps ≡ []
-        → Closes (qs ++ filter_map kept ps) (Behind qs s)
+    input-closes : (qs : List Q) (ps : List P) (s : Step) → EndsInput t k within s → left ps ≡ []
+        → Closes (qs ++ left ps) (Behind qs s)
     input-closes qs ps s h none =
         subst (λ l. Closes l (Behind qs s)) (sym (ap (λ l. qs ++ l) none ∙ append-nil qs))
         (stuck-closes qs k s (h.0, h.1, end-forgiven h.0 h.2) (cut-halts t k within))
 
     -- a part that is cut is the last one
     part-closes : (qs : List Q) (ps : List P) (j : ℕ) (o : Option Q) (x : Reading Q) → j < length front
-        → filter_map kept ps ≡ []
-        → c.part j ≡ x → Leaves front o x → Closes (qs ++ cons_option o (filter_map kept ps)) (At qs j)
+        → left ps ≡ [] → c.part j ≡ x → Leaves front o x → Closes (qs ++ cons_option o (left ps)) (At qs j)
     part-closes qs ps j (Some v) (done q e) lt none is h =
-        let read = parts-part rules front c keeps.goes j e qs q (step front c.next e) lt is refl in
+        let read = parts-part rules front c goes j e qs q (step front c.next e) lt is refl in
         subst (λ l. Closes (qs ++ l) (At qs j)) (ap₂ (λ a l. a ∷ l) h.0 (sym none))
         (along (qs ++ q ∷ []) (At qs j) (Behind (qs ++ q ∷ []) (step front c.next e)) read
-        (stuck-closes (qs ++ q ∷ []) e (step front c.next e) (keeps.halts e h.1) h.1))
+        (stuck-closes (qs ++ q ∷ []) e (step front c.next e) (sticks e h.1) h.1))
     part-closes qs ps j None (fault kind i stop) lt none is h =
         subst (λ l. Closes l (At qs j)) (sym (ap (λ l. qs ++ l) none ∙ append-nil qs))
         (along qs (At qs j) (if_forgiven rules (λ e. c.build e qs) kind i stop)
-        (parts-fault rules front c keeps.goes j i stop qs kind lt is) (fault-closes qs kind i stop h.0 h.1))
+        (parts-fault rules front c goes j i stop qs kind lt is) (fault-closes qs kind i stop h.0 h.1))
     part-closes qs ps j (Some v) (fault kind i stop) lt none is h = absurd h
     part-closes qs ps j None (done q e) lt none is h = absurd h
 
@@ -212,85 +213,66 @@ module _ (names : Bool) (t : List ℕ) (k : ℕ) (within : k ≤ length t) (mode
 
     -- Behind the parts so far, the container is closed round those that the cut leaves.
     parts-close : (room i e : ℕ) (ps : List P) (row : ℕ → Option ℕ → Step) (m : ℕ) (qs : List Q)
-        → InOrder names t room value i ps e
-        → CutParts t k within c value seen IsCut row m ps
-        → Closes (qs ++ filter_map kept ps) (Behind qs (step front row m))
+        → InOrder names t room value i ps e → CutParts t k within c value as_whole IsCut row m ps
+        → Closes (qs ++ left ps) (Behind qs (step front row m))
     parts-close room i e [] row m qs order h = input-closes qs [] (step front row m) h refl
     parts-close room i e (p ∷ ps) row m qs order (inl h) =
         let late : InOrder names t room value k (p ∷ ps) e = (h.1, order.1, order.2, order.3) in
         input-closes qs (p ∷ ps) (step front row m) h.0
-        (none-late names t k mode value kept keeps.late room k (p ∷ ps) e late (omega arith))
+        (parts-late names t k mode value seen room k (p ∷ ps) e late (omega arith))
     parts-close room i e (p ∷ ps) row m qs order (inr (j, begins, lt, inl (past, cuts))) =
-        let none = none-late names t k mode value kept keeps.late room (end (value p)) ps e order.3 (omega arith) in
-        along (qs ++ filter_map kept (p ∷ ps)) (Behind qs (step front row m)) (At qs j) (ap (Behind qs) begins)
-        (part-closes qs ps j (kept p) (c.part j) (inside j lt) none refl (keeps.leaves p (c.part j) order.1 cuts))
+        let none = parts-late names t k mode value seen room (end (value p)) ps e order.3 (omega arith) in
+        along (qs ++ left (p ∷ ps)) (Behind qs (step front row m)) (At qs j) (ap (Behind qs) begins)
+        (part-closes qs ps j (part_left names t k mode value seen p) (c.part j) (inside j lt) none refl
+        (leaves p (c.part j) order.1 cuts))
     parts-close room i e (p ∷ ps) row m qs order (inr (j, begins, lt, inr (ends, f, is, more_parts))) =
-        let read = parts-part rules front c keeps.goes j f qs (seen p) (step front c.next f) (inside j lt) is refl in
-        let behind = Behind (qs ++ seen p ∷ []) (step front c.next f) in
-        let rest = parts-close room (end (value p)) e ps c.next f (qs ++ seen p ∷ []) order.3 more_parts in
-        let whole = append_assoc qs (seen p ∷ []) (filter_map kept ps)
-        ∙ ap (λ o. qs ++ cons_option o (filter_map kept ps)) (sym (keeps.ends p order.1 ends)) in
-        along (qs ++ filter_map kept (p ∷ ps)) (Behind qs (step front row m)) behind (ap (Behind qs) begins ∙ read)
+        let q = as_whole p in
+        let read = parts-part rules front c goes j f qs q (step front c.next f) (inside j lt) is refl in
+        let behind = Behind (qs ++ q ∷ []) (step front c.next f) in
+        let rest = parts-close room (end (value p)) e ps c.next f (qs ++ q ∷ []) order.3 more_parts in
+        let same = ap (option_map (seen p)) (node-whole names t mode k (value p) order.1 ends) in
+        let whole = append_assoc qs (q ∷ []) (left ps) ∙ ap (λ o. qs ++ cons_option o (left ps)) (sym same) in
+        along (qs ++ left (p ∷ ps)) (Behind qs (step front row m)) behind (ap (Behind qs) begins ∙ read)
         (subst (λ l. Closes l behind) whole rest)
 
     -- A container that is cut leaves its cut.
     container-leaves : (b i e room : ℕ) (ps : List P) (o : Option Tree) → InOrder names t room value i ps e
-        → CutParts t k within c value seen IsCut c.first (b + 1) ps
-        → ((p : ℕ) → o ≡ Some (c.build p (filter_map kept ps))) → Leaves front o (container_at rules c front b)
+        → CutParts t k within c value as_whole IsCut c.first (b + 1) ps
+        → ((p : ℕ) → o ≡ Some (c.build p (left ps))) → Leaves front o (container_at rules c front b)
     container-leaves b i e room ps o order h is =
         let closes = parts-close room i e ps c.first (b + 1) [] order h in
         subst (λ o. Leaves front o (container_at rules c front b)) (sym (is closes.0))
-        (subst (Leaves front (Some (c.build closes.0 (filter_map kept ps)))) (sym closes.1) (refl, closes.2))
+        (subst (Leaves front (Some (c.build closes.0 (left ps)))) (sym closes.1) (refl, closes.2))
 
   -- Members that k cuts.
-  under_key-leaves : (key : Text) (o : Option Tree) (y : Reading Tree) → Leaves front o y
-      → Leaves front (under_key key o) (with_key key y)
-  under_key-leaves key (Some v) (done w p) h = (ap (λ a. (key, a)) h.0, h.1)
-  under_key-leaves key None (fault kind i stop) h = h
-  under_key-leaves key (Some v) (fault kind i stop) h = absurd h
-  under_key-leaves key None (done w p) h = absurd h
+  with_key-leaves : (key : Text) (o : Option Tree) (y : Reading Tree) → Leaves front o y
+      → Leaves front (option_map (λ v. (key, v)) o) (with_key key y)
+  with_key-leaves key (Some v) (done w p) h = (ap (λ a. (key, a)) h.0, h.1)
+  with_key-leaves key None (fault kind i stop) h = h
+  with_key-leaves key (Some v) (fault kind i stop) h = absurd h
+  with_key-leaves key None (done w p) h = absurd h
 
   key-halts : (p : ℕ) → (p ≡ k) ⊎ (slice_get front p ≡ Some 34) → Halts front p
   key-halts p (inl at) = subst (Halts front) (sym at) (cut-halts t k within)
   key-halts p (inr quote) = byte-halts front p 34 quote (λ e. cc)
 
-  member-leaves : (m : Key × Node) (x : Reading (Text × Tree)) → Spells names t m.1
-      → IsCutMember rules names t k within (key_text t) (value_of t) IsCut m x
-      → Leaves front (cut_member names t k mode m) x
-  member-leaves m x h (inl before) =
-      subst (λ o. Leaves front (under_key (key_text t m.0) o) x) (sym (node-late names t mode k m.1 h before.unread))
-      (subst (Leaves front None) (sym before.is)
-      (end-forgiven before.kind before.early, key-halts before.stop before.stands))
-  member-leaves m x h (inr (y, is, cuts)) =
-      subst (Leaves front (cut_member names t k mode m)) (sym is)
-      (under_key-leaves (key_text t m.0) (cut names t m.1 k mode) y cuts)
-
-  abbrev see_member : Key × Node → Text × Tree
-  see_member m = (key_text t m.0, value_of t m.1)
-
   abbrev CutsMember : Key × Node → Reading (Text × Tree) → Type 0
   CutsMember m x = IsCutMember rules names t k within (key_text t) (value_of t) IsCut m x
 
-  -- Both kinds of containers keep their parts so.
-  items-keep : (inner : ℕ → Reading Tree) (b : ℕ) → Goes (array_of rules inner front b) front
-      → Keeps (array_of rules inner front b) (λ n. n) (value_of t) IsCut (cut_item names t k mode)
-  items-keep inner b goes = record {
-    goes = goes;
-    halts = container-halts front shape.Array;
-    ends = λ n h le. node-whole names t mode k n h le;
-    late = λ n h ge. node-late names t mode k n h ge;
-    leaves = λ n x h cuts. cuts;
-  }
+  member-leaves : (m : Key × Node) (x : Reading (Text × Tree)) → Spells names t m.1 → CutsMember m x
+      → Leaves front (part_left names t k mode (λ m. m.1) (member_seen t) m) x
+  member-leaves m x h (inl before) =
+      subst (λ o. Leaves front (option_map (member_seen t m) o) x) (sym (node-late names t k mode m.1 h before.unread))
+      (subst (Leaves front None) (sym before.is)
+      (end-forgiven before.kind before.early, key-halts before.stop before.stands))
+  member-leaves m x h (inr (y, is, cuts)) =
+      let o = cut names t m.1 k mode in
+      subst (Leaves front (option_map (member_seen t m) o)) (sym is) (with_key-leaves (key_text t m.0) o y cuts)
 
-  members-keep : (inner : ℕ → Reading Tree) (b : ℕ) → Goes (object_of rules inner front b) front
-      → Keeps (object_of rules inner front b) (λ m. m.1) see_member CutsMember (cut_member names t k mode)
-  members-keep inner b goes = record {
-    goes = goes;
-    halts = container-halts front shape.Object;
-    ends = λ m h le. ap (under_key (key_text t m.0)) (node-whole names t mode k m.1 h le);
-    late = λ m h ge. ap (under_key (key_text t m.0)) (node-late names t mode k m.1 h ge);
-    leaves = member-leaves;
-  }
+  -- items
+  item-leaves : (o : Option Tree) (x : Reading Tree) → Leaves front o x → Leaves front (option_map (λ v. v) o) x
+  item-leaves None x h = h
+  item-leaves (Some v) x h = h
 
   cut-rules : CutRules rules names t k within (key_text t) (value_of t) IsCut
   cut-rules = record {
@@ -299,19 +281,19 @@ module _ (names : Bool) (t : List ℕ) (k : ℕ) (within : k ≤ length t) (mode
     text = text-reads;
     key = λ key h le. (string_at-before t k within key.begin key.end key.pieces h le).0;
     key-cut = λ key h lt gt. (string_at-cut_whole t k within key.begin key.end key.pieces h lt gt).0;
-    array = λ b e ns. ap tree.array (sym (values-of t (nodes_list ns)) ∙ ap (values_of t) (nodes-listed ns));
-    object = λ b e ms.
-        ap tree.object (sym (members-of t (members_list ms)) ∙ ap (grammar.members_of t) (members-listed ms));
+    array = λ b e ns. ap tree.array (values-listed t ns);
+    object = λ b e ms. ap tree.object (member_values-listed t ms);
     array-cut = λ inner b e ns h lt goes parts.
         let room = nesting_round ns in
-        container-leaves (array_of rules inner front b) (λ n. n) (value_of t) IsCut (cut_item names t k mode)
-        (items-keep inner b goes) b (b + 1) e room (nodes_list ns) (cut names t (grammar.array b e ns) k mode)
-        (items-order names t room ns (b + 1) e h.1 (omega arith)) parts (λ p. array-left names t k mode b e ns lt);
+        let order = items-order names t room ns (b + 1) e h.1 (omega arith) in
+        container-leaves (array_of rules inner front b) (λ n. n) item_seen IsCut goes
+        (container-halts front shape.Array) (λ n x h cuts. item-leaves (cut names t n k mode) x cuts) b (b + 1) e room
+        (nodes_list ns) _ order parts (λ p. array-left names t k mode b e ns lt);
     object-cut = λ inner b e ms h lt goes parts.
         let room = nesting_round_members ms in
-        container-leaves (object_of rules inner front b) (λ m. m.1) see_member CutsMember (cut_member names t k mode)
-        (members-keep inner b goes) b (b + 1) e room (members_list ms) (cut names t (grammar.object b e ms) k mode)
-        (members-order names t room ms (b + 1) e h.1 (omega arith)) parts
+        let order = members-order names t room ms (b + 1) e h.1 (omega arith) in
+        container-leaves (object_of rules inner front b) (λ m. m.1) (member_seen t) CutsMember goes
+        (container-halts front shape.Object) member-leaves b (b + 1) e room (members_list ms) _ order parts
         (λ p. object-left names t k mode b e ms lt);
   }
 
@@ -387,16 +369,9 @@ answer_in-cut names u mode f active =
     ∙ ap (partial_answer names mode) f.is ∙ law.2 in
     subst (AnswersCut names u mode f) (sym read) law.3
 
--- the value of a document, in every mode:
+-- and the value of a document, in every mode.
 pub answer_in-of : (names : Bool) (t : List ℕ) (mode : PartialMode) (n : Node) → IsDocument names t n
     → answer_in names mode t ≡ done (value_of t n) (end n)
 answer_in-of names t mode n d =
     if_case (λ x. x ≡ done (value_of t n) (end n)) (is_active mode) (partial_answer names mode t) (answer names t)
     (λ e. partial_answer-of names t mode n d) (λ e. answer-of names t n d)
-
--- and what is accepted with partial reading off.
-pub partial_answer-accepts : (names : Bool) (t : List ℕ) (mode : PartialMode) (v : Tree) (e : ℕ)
-    → answer names t ≡ done v e → partial_answer names mode t ≡ done v e
-partial_answer-accepts names t mode v e h =
-    let read = subst (IsRead names t) h (answer-is names t) in
-    partial_answer-of names t mode read.0 read.1 ∙ sym (answer-of names t read.0 read.1) ∙ h

@@ -14,8 +14,7 @@ use Rattle.jiter_scan.specs.Word.{Extent}
 use Rattle.jiter_steps.specs.Answer.{seen_as}
 use Rattle.jiter_steps.specs.Literal.{word_of, literal_at}
 use Rattle.jiter_steps.specs.Node as grammar
-use Rattle.jiter_steps.specs.Node.{Key, Node, begin, end, SpellsNumber, Spells, nesting, nesting_limit, value_of}
-use Rattle.jiter_steps.specs.Node.{IsContainer, IsDocument}
+use Rattle.jiter_steps.specs.Node.{Key, Node, begin, end, SpellsNumber, Spells, nesting, IsContainer}
 use Rattle.jiter_steps.specs.Piece.{Piece, SpellsString}
 use Rattle.jiter_steps.specs.Read.{Reading, done, fault, Rules, Container, scalar_at, with_key, if_forgiven, follow}
 use Rattle.jiter_steps.specs.Read.{parts_at, container_at, array_of, object_of, value_at}

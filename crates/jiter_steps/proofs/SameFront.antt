@@ -10,9 +10,9 @@ use Rattle.jiter_steps.specs.Literal.{word_of}
 use Rattle.jiter_steps.specs.Node as grammar
 use Rattle.jiter_steps.specs.Node.{Key, Node, Nodes, no_nodes, node, NodeMembers, no_members, member, begin, end}
 use Rattle.jiter_steps.specs.Node.{StandsBehind, SpellsNumber, SpellsKey, Spells, SpellsItems, SpellsMoreItems}
-use Rattle.jiter_steps.specs.Node.{SpellsMembers, SpellsMoreMembers, nesting_of, nesting_of_members}
+use Rattle.jiter_steps.specs.Node.{SpellsMembers, SpellsMoreMembers, nesting_round, nesting_round_members}
 use Rattle.jiter_steps.specs.Piece.{Piece, SpellsPieces, SpellsString}
-use Rattle.jiter_steps.proofs.SpelledParts.{nodes_list, members_list, more_items-order, more_members-order, order-ahead}
+use Rattle.jiter_steps.proofs.SpelledParts.{nodes_list, members_list, items-order, members-order, order-ahead}
 use Rattle.jiter_steps.proofs.SpelledParts.{key-ahead, node-ahead}
 use Rattle.jiter_steps.proofs.StringStand.{pieces-ahead}
 
@@ -102,23 +102,21 @@ module _ (t u : List ℕ) (k : ℕ) (same : SameBefore t u k) where
       }
 
 module _ (names : Bool) (t : List ℕ) where
-  -- more items, and more members, end behind the place that they begin behind
-  items-after : (ns : Nodes) (i e : ℕ) → SpellsMoreItems names t i ns e → i < e
-  items-after ns i e h =
-      let room = suc (nesting_of ns) in
-      order-ahead names t room (λ n. n) (nodes_list ns) i e (more_items-order names t room ns i e h (omega arith))
+  -- a first part ends before the container
+  items-after : (n : Node) (ns : Nodes) (i e : ℕ) → SpellsItems names t i (node n ns) e → end n < e
+  items-after n ns i e h =
+      let room = nesting_round (node n ns) in
+      let order = items-order names t room (node n ns) i e h (omega arith) in
+      order-ahead names t room (λ n. n) (nodes_list ns) (end n) e order.3
 
-  members-after : (ms : NodeMembers) (i e : ℕ) → SpellsMoreMembers names t i ms e → i < e
-  members-after ms i e h =
-      let room = suc (nesting_of_members ms) in
-      order-ahead names t room (λ m. m.1) (members_list ms) i e
-      (more_members-order names t room ms i e h (omega arith))
+  members-after : (key : Key) (n : Node) (ms : NodeMembers) (i e : ℕ) → SpellsMembers names t i (member key n ms) e
+      → end n < e
+  members-after key n ms i e h =
+      let room = nesting_round_members (member key n ms) in
+      let order = members-order names t room (member key n ms) i e h (omega arith) in
+      order-ahead names t room (λ m. m.1) (members_list ms) (end n) e order.3
 
 module _ (names : Bool) (t u : List ℕ) (k : ℕ) (same : SameBefore t u k) where
-  -- the bracket of a container that ends in time, and a comma before a part
-  bracket-too : (b c e : ℕ) → b < e → e ≤ k → slice_get t b ≡ Some c → slice_get u b ≡ Some c
-  bracket-too b c e lt le h = same b c (omega arith) h
-
   mutual
     -- A node that ends before the place.
     pub spells-too : (n : Node) → end n ≤ k → Spells names t n → Spells names u n
@@ -126,14 +124,16 @@ module _ (names : Bool) (t u : List ℕ) (k : ℕ) (same : SameBefore t u k) whe
     spells-too (grammar.number b e) le h = number-too t u k same names b e le h
     spells-too (grammar.string ps b e) le h = string-too t u k same b e ps le h
     spells-too (grammar.array b e ns) le h =
-        (bracket-too b 91 e (node-ahead names t (grammar.array b e ns) h) le h.0, items-too ns (b + 1) e le h.1)
+        let ahead = node-ahead names t (grammar.array b e ns) h in
+        (same b 91 (omega arith) h.0, items-too ns (b + 1) e le h.1)
     spells-too (grammar.object b e ms) le h =
-        (bracket-too b 123 e (node-ahead names t (grammar.object b e ms) h) le h.0, members-too ms (b + 1) e le h.1)
+        let ahead = node-ahead names t (grammar.object b e ms) h in
+        (same b 123 (omega arith) h.0, members-too ms (b + 1) e le h.1)
 
     items-too : (ns : Nodes) (i e : ℕ) → e ≤ k → SpellsItems names t i ns e → SpellsItems names u i ns e
     items-too no_nodes i e le h = behind-too t u k same i 93 e le h
     items-too (node n ns) i e le h =
-        let after = items-after names t ns (end n) e h.2 in
+        let after = items-after names t n ns i e h in
         let ahead = node-ahead names t n h.1 in
         let blanks = blanks-too t u k same i (begin n) (omega arith) h.0 in
         (blanks, spells-too n (omega arith) h.1, more_items-too ns (end n) e le h.2)
@@ -141,7 +141,7 @@ module _ (names : Bool) (t u : List ℕ) (k : ℕ) (same : SameBefore t u k) whe
     more_items-too : (ns : Nodes) (i e : ℕ) → e ≤ k → SpellsMoreItems names t i ns e → SpellsMoreItems names u i ns e
     more_items-too no_nodes i e le h = behind-too t u k same i 93 e le h
     more_items-too (node n ns) i e le h =
-        let after = items-after names t ns (end n) e h.4 in
+        let after = items-after names t n ns h.0 e (h.2, h.3, h.4) in
         let ahead = node-ahead names t n h.3 in
         let blanks = blanks-too t u k same h.0 (begin n) (omega arith) h.2 in
         let comma = behind-too t u k same i 44 h.0 (omega (arith, h.2.ordered)) h.1 in
@@ -150,7 +150,7 @@ module _ (names : Bool) (t u : List ℕ) (k : ℕ) (same : SameBefore t u k) whe
     members-too : (ms : NodeMembers) (i e : ℕ) → e ≤ k → SpellsMembers names t i ms e → SpellsMembers names u i ms e
     members-too no_members i e le h = behind-too t u k same i 125 e le h
     members-too (member key n ms) i e le h =
-        let after = members-after names t ms (end n) e h.3 in
+        let after = members-after names t key n ms i e h in
         let ahead = node-ahead names t n h.2 in
         let from_key = key-ahead names t key (begin n) h.1 in
         let blanks = blanks-too t u k same i key.begin (omega arith) h.0 in
@@ -161,7 +161,7 @@ module _ (names : Bool) (t u : List ℕ) (k : ℕ) (same : SameBefore t u k) whe
         → SpellsMoreMembers names u i ms e
     more_members-too no_members i e le h = behind-too t u k same i 125 e le h
     more_members-too (member key n ms) i e le h =
-        let after = members-after names t ms (end n) e h.5 in
+        let after = members-after names t key n ms h.0 e (h.2, h.3, h.4, h.5) in
         let ahead = node-ahead names t n h.4 in
         let from_key = key-ahead names t key (begin n) h.3 in
         let blanks = blanks-too t u k same h.0 key.begin (omega arith) h.2 in

@@ -63,7 +63,7 @@ blank-ends c (inr (inl e)) = ap continues_number e
 blank-ends c (inr (inr (inl e))) = ap continues_number e
 blank-ends c (inr (inr (inr e))) = ap continues_number e
 
-pub slice-empty : (t : List ℕ) (b e : ℕ) → e ≡ b → slice_range t b e ≡ []
+slice-empty : (t : List ℕ) (b e : ℕ) → e ≡ b → slice_range t b e ≡ []
 slice-empty t b e h = let none : e - b ≡ 0 = omega arith in ap (λ k. take k (drop b t)) none
 
 slice-first : (t : List ℕ) (b e : ℕ) → b < e → e ≤ length t
@@ -136,12 +136,15 @@ module _ (names : Bool) (t : List ℕ) where
   laws : ScalarLaws names t
   laws = scalar-laws names t
 
-  -- what a value's first byte says
-  number-begins : (b e : ℕ) → SpellsNumber names t b e → (b ≡ e) ⊎ (b ≢ e) → BeginsValue t b start.Number
-  number-begins b e h (inl same) =
+  number-ahead : (b e : ℕ) → SpellsNumber names t b e → (b ≡ e) ⊎ (b ≢ e) → b < e
+  number-ahead b e h (inl same) =
       absurd (laws.number-not_empty (subst (IsNumberText names) (slice-empty t b e (sym same)) h.text))
-  number-begins b e h (inr apart) =
-      let lt : b < e = omega (arith, h.ordered) in
+  number-ahead b e h (inr apart) = omega (arith, h.ordered)
+
+  -- what a value's first byte says
+  number-begins : (b e : ℕ) → SpellsNumber names t b e → BeginsValue t b start.Number
+  number-begins b e h =
+      let lt = number-ahead b e h (cases_eq b e) in
       let first = laws.number-begins (slice_index t b) (slice_range t (b + 1) e)
       (subst (IsNumberText names) (slice-first t b e lt h.within) h.text) in
       record {
@@ -159,7 +162,7 @@ module _ (names : Bool) (t : List ℕ) where
       record { byte = 116; here = h.0; starts = refl; no_blank = refl; no_closer = refl }
   begins-value (grammar.literal literal.False b e) h =
       record { byte = 102; here = h.0; starts = refl; no_blank = refl; no_closer = refl }
-  begins-value (grammar.number b e) h = number-begins b e h (cases_eq b e)
+  begins-value (grammar.number b e) h = number-begins b e h
   begins-value (grammar.string ps b e) h =
       record { byte = 34; here = h.opens; starts = refl; no_blank = refl; no_closer = refl }
   begins-value (grammar.array b e ns) h =
@@ -248,37 +251,15 @@ module _ (names : Bool) (t : List ℕ) where
         member-first k n (members_list ms) i e h.0 h.1 h.2 (omega arith)
         (more_members-parts ms (end n) e h.3 (omega arith))
 
-  -- What is spelled lies within the text.
-  more-within : {P : Type 0} (closer : ℕ) (Begins : ℕ → Type 0) (IsPart : ℕ → P → ℕ → Type 0) (ps : List P) (i e : ℕ)
-      → MoreParts t closer Begins IsPart ps i e → e ≤ length t
-  more-within closer Begins IsPart [] i e h = let last = slice_get_within t h.at closer h.here in omega (arith, h.ends)
-  more-within closer Begins IsPart (p ∷ ps) i e h = more-within closer Begins IsPart ps h.2.end e h.2.rest
-
-  parts-within : {P : Type 0} (closer : ℕ) (Begins : ℕ → Type 0) (IsPart : ℕ → P → ℕ → Type 0) (ps : List P) (i e : ℕ)
-      → Parts t closer Begins IsPart ps i e → e ≤ length t
-  parts-within closer Begins IsPart [] i e h = more-within closer Begins IsPart [] i e h
-  parts-within closer Begins IsPart (p ∷ ps) i e h = more-within closer Begins IsPart ps h.end e h.rest
-
+  -- What is spelled lies within the text, a node ahead of its begin.
   pub begin-within : (n : Node) → Spells names t n → begin n < length t
   begin-within n h = let first = begins-value n h in slice_get_within t (begin n) first.byte first.here
 
-  pub node-within : (n : Node) → Spells names t n → end n ≤ length t
-  node-within (grammar.literal l b e) h =
-      stands-within t b e (word_of l) (omega (arith, begin-within (grammar.literal l b e) h)) h
-  node-within (grammar.number b e) h = h.within
-  node-within (grammar.string ps b e) h = (laws.string-ordered b e ps h).1
-  node-within (grammar.array b e ns) h =
-      let room = nesting_round ns in
-      parts-within 93 (PartAt shape.Array t) (IsItem names t room) (nodes_list ns) (b + 1) e
-      (items-parts room ns (b + 1) e h.1 (omega arith))
-  node-within (grammar.object b e ms) h =
-      let room = nesting_round_members ms in
-      parts-within 125 (PartAt shape.Object t) (IsMember names t room) (members_list ms) (b + 1) e
-      (members-parts room ms (b + 1) e h.1 (omega arith))
-
-  -- A node ends behind its begin.
   pub behind-ahead : (i c e : ℕ) → StandsBehind t i c e → i < e
   behind-ahead i c e h = omega (arith, h.blanks.ordered, h.ends)
+
+  behind-within : (i c e : ℕ) → StandsBehind t i c e → e ≤ length t
+  behind-within i c e h = let last = slice_get_within t h.at c h.here in omega (arith, h.ends)
 
   -- from a key to its value
   pub key-ahead : (key : Key) (j : ℕ) → SpellsKey t key j → key.begin < j
@@ -287,9 +268,9 @@ module _ (names : Bool) (t : List ℕ) where
       omega (arith, string.0, behind-ahead key.end 58 h.colon h.behind, h.blanks.ordered)
 
   module _ (room : ℕ) where
-    -- the values of these parts stand one behind another, from i to before e
+    -- the values of these parts stand one behind another, from i to before e, which lies within the text
     abbrev pub InOrder : {P : Type 0} → (P → Node) → ℕ → List P → ℕ → Type 0
-    InOrder value i [] e = i < e
+    InOrder value i [] e = (i < e) × (e ≤ length t)
     InOrder value i (p ∷ ps) e =
         (i ≤ begin (value p)) × Spells names t (value p) × (nesting (value p) < room)
         × InOrder value (end (value p)) ps e
@@ -306,13 +287,13 @@ module _ (names : Bool) (t : List ℕ) where
           (omega (arith, h.blanks.ordered, x.0), x.1, x.2, subst (λ j. InOrder value j ps e) (sym x.3) rest)
 
       more_parts-order : (ps : List P) (i e : ℕ) → MoreParts t closer Begins IsPart ps i e → InOrder value i ps e
-      more_parts-order [] i e h = behind-ahead i closer e h
+      more_parts-order [] i e h = (behind-ahead i closer e h, behind-within i closer e h)
       more_parts-order (p ∷ ps) i e h =
           part-order i h.0 p ps e (omega (arith, behind-ahead i 44 h.0 h.1)) h.2
           (more_parts-order ps h.2.end e h.2.rest)
 
       parts-order : (ps : List P) (i e : ℕ) → Parts t closer Begins IsPart ps i e → InOrder value i ps e
-      parts-order [] i e h = behind-ahead i closer e h
+      parts-order [] i e h = more_parts-order [] i e h
       parts-order (p ∷ ps) i e h =
           part-order i i p ps e (omega arith) h (more_parts-order ps h.end e h.rest)
 
@@ -327,23 +308,11 @@ module _ (names : Bool) (t : List ℕ) where
         let value = is.value in
         (omega (arith, is.begins), value.spelled, value.limit, value.ends)
 
-    pub more_items-order : (ns : Nodes) (i e : ℕ) → SpellsMoreItems names t i ns e → nesting_of ns < room
-        → InOrder (λ n. n) i (nodes_list ns) e
-    more_items-order ns i e h d =
-        more_parts-order 93 (PartAt shape.Array t) (IsItem names t room) (λ n. n) item-order (nodes_list ns) i e
-        (more_items-parts room ns i e h d)
-
     pub items-order : (ns : Nodes) (i e : ℕ) → SpellsItems names t i ns e → nesting_round ns ≤ room
         → InOrder (λ n. n) i (nodes_list ns) e
     items-order ns i e h d =
         parts-order 93 (PartAt shape.Array t) (IsItem names t room) (λ n. n) item-order (nodes_list ns) i e
         (items-parts room ns i e h d)
-
-    pub more_members-order : (ms : NodeMembers) (i e : ℕ) → SpellsMoreMembers names t i ms e
-        → nesting_of_members ms < room → InOrder (λ m. m.1) i (members_list ms) e
-    more_members-order ms i e h d =
-        more_parts-order 125 (PartAt shape.Object t) (IsMember names t room) (λ m. m.1) member-order (members_list ms)
-        i e (more_members-parts room ms i e h d)
 
     pub members-order : (ms : NodeMembers) (i e : ℕ) → SpellsMembers names t i ms e → nesting_round_members ms ≤ room
         → InOrder (λ m. m.1) i (members_list ms) e
@@ -351,20 +320,31 @@ module _ (names : Bool) (t : List ℕ) where
         parts-order 125 (PartAt shape.Object t) (IsMember names t room) (λ m. m.1) member-order (members_list ms) i e
         (members-parts room ms i e h d)
 
+    order-within : {P : Type 0} (value : P → Node) (ps : List P) (i e : ℕ) → InOrder value i ps e → e ≤ length t
+    order-within value [] i e h = h.1
+    order-within value (p ∷ ps) i e h = order-within value ps (end (value p)) e h.3
+
     abbrev Ahead : Type 0
     Ahead = (n : Node) → Spells names t n → nesting n < room → begin n < end n
 
     order-after : Ahead → {P : Type 0} (value : P → Node) (ps : List P) (i e : ℕ) → InOrder value i ps e → i < e
-    order-after all value [] i e h = h
+    order-after all value [] i e h = h.0
     order-after all value (p ∷ ps) i e h =
         let here = all (value p) h.1 h.2 in
         let rest = order-after all value ps (end (value p)) e h.3 in
         omega (arith, h.0)
 
-  number-ahead : (b e : ℕ) → SpellsNumber names t b e → (b ≡ e) ⊎ (b ≢ e) → b < e
-  number-ahead b e h (inl same) =
-      absurd (laws.number-not_empty (subst (IsNumberText names) (slice-empty t b e (sym same)) h.text))
-  number-ahead b e h (inr apart) = omega (arith, h.ordered)
+  pub node-within : (n : Node) → Spells names t n → end n ≤ length t
+  node-within (grammar.literal l b e) h =
+      stands-within t b e (word_of l) (omega (arith, begin-within (grammar.literal l b e) h)) h
+  node-within (grammar.number b e) h = h.within
+  node-within (grammar.string ps b e) h = (laws.string-ordered b e ps h).1
+  node-within (grammar.array b e ns) h =
+      let room = nesting_round ns in
+      order-within room (λ n. n) (nodes_list ns) (b + 1) e (items-order room ns (b + 1) e h.1 (omega arith))
+  node-within (grammar.object b e ms) h =
+      let room = nesting_round_members ms in
+      order-within room (λ m. m.1) (members_list ms) (b + 1) e (members-order room ms (b + 1) e h.1 (omega arith))
 
   word-ahead : (l : Literal) (b e : ℕ) → Stands t b e (word_of l) → b < e
   word-ahead literal.Null b e h = let after = stands-length t b e (word_of literal.Null) h in omega arith
