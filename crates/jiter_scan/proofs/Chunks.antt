@@ -109,10 +109,23 @@ module _ (test : ℕ → Bool) where
         (prefix_len-inside (one_fails some)
         ∙ prefix_len-failing (chunk i n t) (omega (arith, length-chunk i n t room)) some)
 
-    pub run_end-near : i + n ≤ length t → 0 < failing test (chunk i n t) → run_end test t i ≤ i + n
-    run_end-near room some =
-        omega
-        (arith, prefix_len-inside (one_fails some), prefix_len-le-length test (chunk i n t), length-chunk i n t room)
+    -- of a mask that is at hand
+    module _ (mask : ℕ) (is : mask ≡ failing test (chunk i n t)) (room : i + n ≤ length t) where
+      pub run_end-clear : mask ≡ 0 → run_end test t i ≡ run_end test t (i + n)
+      run_end-clear none = run_end-through room (sym is ∙ none)
+
+      pub run_end-stopped : n ≤ 64 → 0 < mask → run_end test t i ≡ i + count_trailing_zeros 64 mask
+      run_end-stopped short some =
+          run_end-inside room short (omega arith) ∙ ap (λ m. i + count_trailing_zeros 64 m) (sym is)
+
+      pub run_end-near : 0 < mask → run_end test t i ≤ i + n
+      run_end-near some =
+          omega (
+            arith,
+            prefix_len-inside (one_fails (omega arith)),
+            prefix_len-le-length test (chunk i n t),
+            length-chunk i n t room,
+          )
 
   -- a chunk of 64 by its four parts
   pub list_all-four : (t : List ℕ) (i : ℕ) → list_all test (chunk i 64 t)

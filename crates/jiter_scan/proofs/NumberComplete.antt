@@ -16,6 +16,8 @@ use Rattle.jiter_scan.specs.Scanned.{taken, failed}
 use Rattle.jiter_scan.specs.Stands.{Stands}
 use Rattle.jiter_scan.specs.Word.{word_at}
 use Rattle.jiter_scan.proofs.Choices.{if-true, if-false}
+use Rattle.jiter_scan.proofs.Digits.{digit-bounds}
+use Rattle.jiter_scan.proofs.NumberExtents.{extent-decimal, extent-minus}
 use Rattle.jiter_scan.proofs.Runs.{NoDigit, run_end-complete}
 use Rattle.jiter_scan.proofs.Standing.{First, stands-length, stands-split, stands-slice, stands-next}
 use Rattle.jiter_scan.proofs.WordLaws.{word_at-complete}
@@ -35,10 +37,6 @@ NoPoint c = (is_digit c ≡ false) × ((c == 46) ≡ false)
 -- neither a digit, a point nor an exponent's letter
 abbrev NoPart : ℕ → Type 0
 NoPart c = (is_digit c ≡ false) × ((c == 46) ≡ false) × (((c == 101) || (c == 69)) ≡ false)
-
--- `0` to `9` by their codes
-pub digit-bounds : (c : ℕ) → is_digit c ≡ true → (48 ≤ c) × (c ≤ 57)
-digit-bounds c h = let p = and_parts (nat_le 48 c) (nat_le c 57) h in (leb-true 48 c p.0, leb-true c 57 p.1)
 
 no_part : (c : ℕ) → continues_number c ≡ false → NoPart c
 no_part c h = by (is_digit c) (c == 46) (c == 101) (c == 69) h where
@@ -195,31 +193,9 @@ module _ (t : List ℕ) where
       ∙ ap (λ y. extent_then y (λ k. exponent_at t k)) (fraction_at-complete a.0 b.0 fraction b.1 f k)
       ∙ exponent_at-complete b.0 e exponent b.2 x behind
 
-  whole-first : (i e : ℕ) (w rest : List ℕ) → IsWhole w → Stands t i e (w ++ rest)
-      → (c : ℕ) × (slice_get t i ≡ Some c) × (is_digit c ≡ true)
-  whole-first i e [] rest is h = absurd is
-  whole-first i e (c ∷ w) rest is h = (c, h.0, is.0.0)
-
-  extent-digit : (names : Bool) (i c : ℕ) → is_digit c ≡ true → extent_from names t i (Some c) ≡ decimal_at t i
-  extent-digit names i c d =
-      let b = digit-bounds c d in
-      if-false (c == 45) (behind_minus names t (i + 1) (slice_get t (i + 1)))
-      (if c == 78 then name_at names t (codes "NaN") i else
-      (if c == 73 then name_at names t (codes "Infinity") i else decimal_at t i))
-      (ne_eqb c 45 (λ e. omega arith))
-      ∙ if-false (c == 78) (name_at names t (codes "NaN") i)
-      (if c == 73 then name_at names t (codes "Infinity") i else decimal_at t i) (ne_eqb c 78 (λ e. omega arith))
-      ∙ if-false (c == 73) (name_at names t (codes "Infinity") i) (decimal_at t i) (ne_eqb c 73 (λ e. omega arith))
-
-  signed-digit : (names : Bool) (i c : ℕ) → is_digit c ≡ true → behind_minus names t i (Some c) ≡ decimal_at t i
-  signed-digit names i c d =
-      let b = digit-bounds c d in
-      if-false (c == 73) (if names then word_at t (codes "Infinity") i else failed invalid_number i) (decimal_at t i)
-      (ne_eqb c 73 (λ e. omega arith))
-
-  extent-decimal : (names : Bool) (i e : ℕ) (w : List ℕ) → Stands t i e w → IsDecimal w → EndsNumber (slice_get t e)
+  number_extent-decimal : (names : Bool) (i e : ℕ) (w : List ℕ) → Stands t i e w → IsDecimal w → EndsNumber (slice_get t e)
       → number_extent names t i ≡ taken tt e
-  extent-decimal names i e w h d n = by d.is_minus where
+  number_extent-decimal names i e w h d n = by d.is_minus where
     all : Stands t i e (d.minus ++ (d.whole ++ (d.fraction ++ d.exponent)))
     all = subst (Stands t i e) d.is h
 
@@ -227,16 +203,14 @@ module _ (t : List ℕ) where
     by (inl m) =
         let s : Stands t i e (d.whole ++ (d.fraction ++ d.exponent)) =
         subst (λ x. Stands t i e (x ++ (d.whole ++ (d.fraction ++ d.exponent)))) m all in
-        let f = whole-first i e d.whole (d.fraction ++ d.exponent) d.is_whole s in
-        ap (extent_from names t i) f.1 ∙ extent-digit names i f.0 f.2
-        ∙ decimal_at-complete i e d.whole d.fraction d.exponent d.is_whole d.limit d.is_fraction d.is_exponent s n
+        extent-decimal t names i e
+        (decimal_at-complete i e d.whole d.fraction d.exponent d.is_whole d.limit d.is_fraction d.is_exponent s n)
     by (inr m) =
         let s : Stands t i e (45 ∷ (d.whole ++ (d.fraction ++ d.exponent))) =
         subst (λ x. Stands t i e (x ++ (d.whole ++ (d.fraction ++ d.exponent)))) m all in
-        let f = whole-first (i + 1) e d.whole (d.fraction ++ d.exponent) d.is_whole s.1 in
-        ap (extent_from names t i) s.0 ∙ ap (behind_minus names t (i + 1)) f.1 ∙ signed-digit names (i + 1) f.0 f.2
-        ∙ decimal_at-complete (i + 1) e d.whole d.fraction d.exponent d.is_whole d.limit d.is_fraction d.is_exponent s.1
-        n
+        extent-minus t names i e s.0
+        (decimal_at-complete (i + 1) e d.whole d.fraction d.exponent d.is_whole d.limit d.is_fraction d.is_exponent
+        s.1 n)
 
   extent-name : (i e : ℕ) (w : List ℕ) → Stands t i e w → IsName w → number_extent true t i ≡ taken tt e
   extent-name i e w h (inl is) =
@@ -253,7 +227,7 @@ module _ (t : List ℕ) where
   -- all of a number
   pub number_extent-complete : (names : Bool) (i e : ℕ) (w : List ℕ) → Stands t i e w → IsNumberText names w
       → EndsNumber (slice_get t e) → number_extent names t i ≡ taken tt e
-  number_extent-complete names i e w h (inl d) n = extent-decimal names i e w h d n
+  number_extent-complete names i e w h (inl d) n = number_extent-decimal names i e w h d n
   number_extent-complete names i e w h (inr x) n = ap (λ b. number_extent b t i) x.0 ∙ extent-name i e w h x.1
 
 -- a number's text is read whole, where the byte behind it does not go on it

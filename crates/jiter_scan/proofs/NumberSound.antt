@@ -20,7 +20,8 @@ use Rattle.jiter_scan.proofs.Runs.{run_end-more, run_end-sound}
 use Rattle.jiter_scan.proofs.Standing.{stands-length, stands-append, slice-stands}
 use Rattle.jiter_scan.proofs.WordLaws.{word_at-sound}
 
-behind_zero-taken : (j e : ℕ) (u : Unit {0}) (o : Option ℕ) → behind_zero j o ≡ taken u e → j ≡ e
+-- behind a zero the integer part is over
+pub behind_zero-taken : (j e : ℕ) (u : Unit {0}) (o : Option ℕ) → behind_zero j o ≡ taken u e → j ≡ e
 behind_zero-taken j e u None h = (same_taken tt u j e h).1
 behind_zero-taken j e u (Some c) h =
     if_gives (is_digit c) (failed invalid_number j) (taken tt j) (taken u e) h

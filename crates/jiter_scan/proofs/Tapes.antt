@@ -1,7 +1,7 @@
 -- What a tape holds when more is written behind its first bytes.
 use Rattle.std.proofs.Common.{◌≡◌, ℕ, zero, suc, ◌+◌, ◌-◌, ◌/◌, ◌%◌, ◌<◌, ◌≤◌, cond, List, [], ◌∷◌, ◌++◌, length, drop}
 use Rattle.std.proofs.Common.{take, refl, sym, ap, ◌∙◌, arith}
-use Rattle.std.proofs.Common.{append_assoc, take-add, drop-drop}
+use Rattle.std.proofs.Common.{append_assoc, take-add, take-take, drop-drop}
 use Rattle.std.specs.Prelude.{slice_range, slice_set, nat_lt}
 use Rattle.std.specs.Char.{encode_utf8}
 use Rattle.std.proofs.Math.Seq.{take-append-add}
@@ -9,13 +9,6 @@ use Rattle.std.proofs.lemmas.Bool.{lt-ltb, le-ltb}
 use Rattle.std.proofs.lemmas.Grind.{take-set_at}
 use Rattle.std.proofs.lemmas.List.{length-set, length-take}
 use lib.Lanes.{chunk}
-
--- fewer of the first
-take-fewer : (k n : ℕ) (l : List ℕ) → k ≤ n → take k (take n l) ≡ take k l
-take-fewer zero n l h = refl
-take-fewer (suc k) zero l h = absurd (omega arith)
-take-fewer (suc k) (suc n) [] h = refl
-take-fewer (suc k) (suc n) (x ∷ l) h = ap (λ w. x ∷ w) (take-fewer k n l (omega arith))
 
 module _ (t : List ℕ) (i j : ℕ) (ahead : i ≤ j) where
   -- so many bytes more
@@ -29,7 +22,7 @@ module _ (t : List ℕ) (i j : ℕ) (ahead : i ≤ j) where
 
   -- so many bytes of a chunk are the text's
   slice_range-chunk : (k : ℕ) → k ≤ 16 → slice_range t i (j + k) ≡ slice_range t i j ++ take k (chunk j 16 t)
-  slice_range-chunk k few = slice_range-on k ∙ ap (λ l. slice_range t i j ++ l) (sym (take-fewer k 16 (drop j t) few))
+  slice_range-chunk k few = slice_range-on k ∙ ap (λ l. slice_range t i j ++ l) (sym (take-take k 16 (drop j t) few))
 
   -- where the text's bytes stand on a tape, and its next ones are written behind them
   pub put-range : (front tape next : List ℕ) (n m e : ℕ) → j ≤ e → m ≡ n + (e - j)
@@ -46,7 +39,7 @@ module _ (t : List ℕ) (i j : ℕ) (ahead : i ≤ j) where
       → take (n + k) next ≡ front ++ slice_range t i (j + k)
   put-chunk front tape next n k within few text put =
       let long : length (take n tape) ≡ n = omega (arith, length-take n tape) in
-      sym (take-fewer (n + k) (n + 16) next (omega arith))
+      sym (take-take (n + k) (n + 16) next (omega arith))
       ∙ ap (take (n + k)) put
       ∙ ap (λ m. take (m + k) (take n tape ++ chunk j 16 t)) (sym long)
       ∙ take-append-add (take n tape) (chunk j 16 t) k

@@ -4,6 +4,7 @@ ghost use Rattle.jiter_scan.specs.Digits.{is_digit, digit_run_end};
 ghost use Rattle.jiter_scan.specs.NumberReading.{extent_then, digits_from, behind_zero, within_limit, whole_at};
 ghost use Rattle.jiter_scan.specs.NumberReading.{fraction_at, exponent_at, power_from, decimal_at, behind_minus};
 ghost use Rattle.jiter_scan.specs.NumberReading.{name_at, number_extent};
+ghost use Rattle.jiter_scan.specs.NumberDecoder.{IsMinusTo};
 ghost use Rattle.jiter_scan.specs.Scanned.{Scans, taken};
 
 use crate::errors::{Fault, FaultKind, fault_at};
@@ -222,6 +223,20 @@ fn long_end(bytes: &[u8], at: usize, allow_inf_nan: bool) -> Result<usize, Fault
     }
 }
 
+// Behind a minus, or where none stands.
+#[inline(always)]
+fn minus_end(bytes: &[u8], at: usize) -> usize
+    requires { at < length bytes.now }
+    ensures minus { IsMinusTo bytes.now at result }
+    ensures place { (at ≤ result) × (result ≤ length bytes.now) }
+{
+    if bytes[at] == b'-' {
+        at + 1
+    } else {
+        at
+    }
+}
+
 // Behind the number at `at`, if it is short.
 #[inline(always)]
 fn short_end(bytes: &[u8], at: usize) -> Option<usize>
@@ -230,8 +245,7 @@ fn short_end(bytes: &[u8], at: usize) -> Option<usize>
         (λ e. (names : Bool) → number_extent names bytes.now at ≡ taken tt e) }
     ensures place { IfSome result (λ e. (at < e) × (e ≤ length bytes.now)) }
 {
-    let digits = if bytes[at] == b'-' { at + 1 } else { at };
-    match short_at(bytes, digits) {
+    match short_at(bytes, minus_end(bytes, at)) {
         Short::Int(_, end) => Some(end),
         Short::Float(end) => Some(end),
         Short::Other => None,
