@@ -1,8 +1,9 @@
 -- Digits in words of 64 bits: what three multiplications make of eight, and how sixteen are joined.
-use Rattle.std.proofs.Common.{◌≡◌, ℕ, zero, suc, ◌+◌, ◌-◌, ◌*◌, ◌/◌, ◌%◌, ◌^◌, ◌<◌, ◌≤◌, Bool, true, false, cond, leb}
+use Rattle.std.proofs.Common.{◌≡◌, ℕ, zero, suc, ◌+◌, ◌-◌, ◌*◌, ◌/◌, ◌%◌, ◌^◌, ◌<◌, ◌≤◌, Bool, true, false, cond, eqb}
 use Rattle.std.proofs.Common.{List, [], ◌∷◌, ◌++◌, map, length, get_or, take, drop, replicate, refl, sym, ap, ap₂, ◌∙◌}
 use Rattle.std.proofs.Common.{min, arith, take-add, length-append, length-drop, add-zero, pow-suc, take-take, lit<}
 use Rattle.std.proofs.Common.{mod-lt, zero-lt-suc}
+use Rattle.std.proofs.lemmas.Bool.{eqb-true, agree_below_at}
 use Rattle.std.specs.List.{prefix_len}
 use Rattle.std.specs.Int.Digits.{number_from_digits, number_from_digits_after, AllBelowBase}
 use Rattle.std.proofs.lemmas.Int.Digits.{number_lt, number_after_append}
@@ -264,15 +265,8 @@ AllBelowBase-in_two zs n some h =
 pub number-eight_below : (ds : List ℕ) → length ds ≡ 8 → AllBelowBase 10 ds → number_from_digits 10 ds < 100000000
 number-eight_below ds long h = omega (arith, rw long at (number_lt 10 ds h))
 
-pub power-at : (n : ℕ) → n ≤ 8 → get_or
-    (1 ∷ 10 ∷ 100 ∷ 1000 ∷ 10000 ∷ 100000 ∷ 1000000 ∷ 10000000 ∷ 100000000 ∷ []) n 0 ≡ 10 ^ n
-power-at zero h = refl
-power-at (suc zero) h = refl
-power-at (suc (suc zero)) h = refl
-power-at (suc (suc (suc zero))) h = refl
-power-at (suc (suc (suc (suc zero)))) h = refl
-power-at (suc (suc (suc (suc (suc zero))))) h = refl
-power-at (suc (suc (suc (suc (suc (suc zero)))))) h = refl
-power-at (suc (suc (suc (suc (suc (suc (suc zero))))))) h = refl
-power-at (suc (suc (suc (suc (suc (suc (suc (suc zero)))))))) h = refl
-power-at (suc (suc (suc (suc (suc (suc (suc (suc (suc n))))))))) h = absurd (omega arith)
+abbrev tens : List ℕ
+tens = 1 ∷ 10 ∷ 100 ∷ 1000 ∷ 10000 ∷ 100000 ∷ 1000000 ∷ 10000000 ∷ 100000000 ∷ []
+
+pub power-at : (n : ℕ) → n ≤ 8 → get_or tens n 0 ≡ 10 ^ n
+power-at n h = eqb-true _ _ (agree_below_at (λ k. eqb (get_or tens k 0) (10 ^ k)) (λ _. true) 9 n refl (omega arith))

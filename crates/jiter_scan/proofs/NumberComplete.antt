@@ -1,20 +1,17 @@
 -- A number's text is read as a number, where the byte behind it does not go on it.
 use Rattle.std.proofs.Common.{◌≡◌, ◌≢◌, ◌⊎◌, inl, inr, ℕ, ◌+◌, ◌≤◌, Bool, true, false, ◌||◌, List, [], ◌∷◌, ◌++◌}
 use Rattle.std.proofs.Common.{length, refl, sym, ap, ◌∙◌, subst, arith}
-use Rattle.std.specs.Prelude.{slice_get, slice_range, Option, Some, None, IfSome, ◌==◌, if◌then◌else◌, nat_le, codes}
-use Rattle.std.proofs.lemmas.Bool.{ne_eqb, leb-true, le-leb, and_parts, cases_eq}
+use Rattle.std.specs.Prelude.{slice_get, slice_range, Option, Some, None, IfSome, ◌==◌, nat_le, codes}
+use Rattle.std.proofs.lemmas.Bool.{ne_eqb, le-leb, cases_eq}
 use Rattle.std.proofs.lemmas.Option.{IfSome_then}
 use Rattle.jiter_scan.specs.Digits.{is_digit, digit_run_end}
-use Rattle.jiter_scan.specs.Kind.{invalid_number, number_out_of_range}
 use Rattle.jiter_scan.specs.Number.{number_value, IsDigits, IsMinus, IsWhole, IsFraction, IsSign, IsExponent, IsDecimal}
 use Rattle.jiter_scan.specs.Number.{IsName, IsNumberText, digit_limit}
-use Rattle.jiter_scan.specs.NumberReading.{extent_then, digits_from, behind_zero, within_limit, whole_from, whole_at}
-use Rattle.jiter_scan.specs.NumberReading.{fraction_from, fraction_at, power_from, exponent_from, exponent_at}
-use Rattle.jiter_scan.specs.NumberReading.{decimal_at, behind_minus, name_at, extent_from, number_extent, with_value}
-use Rattle.jiter_scan.specs.NumberReading.{number_at}
-use Rattle.jiter_scan.specs.Scanned.{taken, failed}
+use Rattle.jiter_scan.specs.NumberReading.{extent_then, digits_from, behind_zero, whole_from, whole_at, fraction_from}
+use Rattle.jiter_scan.specs.NumberReading.{fraction_at, power_from, exponent_from, exponent_at, decimal_at}
+use Rattle.jiter_scan.specs.NumberReading.{behind_minus, extent_from, number_extent, with_value, number_at}
+use Rattle.jiter_scan.specs.Scanned.{taken}
 use Rattle.jiter_scan.specs.Stands.{Stands}
-use Rattle.jiter_scan.specs.Word.{word_at}
 use Rattle.jiter_scan.proofs.Choices.{if-true, if-false}
 use Rattle.jiter_scan.proofs.Digits.{digit-bounds}
 use Rattle.jiter_scan.proofs.NumberExtents.{extent-decimal, extent-minus}
@@ -65,7 +62,7 @@ fraction-first (c ∷ w) h = ap is_digit h.0
 
 behind_zero-complete : (j : ℕ) (o : Option ℕ) → NoDigit o → behind_zero j o ≡ taken tt j
 behind_zero-complete j None n = refl
-behind_zero-complete j (Some c) n = if-false (is_digit c) (failed invalid_number j) (taken tt j) n
+behind_zero-complete j (Some c) n = if-false (is_digit c) _ _ n
 
 module _ (t : List ℕ) where
   -- one digit or more
@@ -73,7 +70,7 @@ module _ (t : List ℕ) where
       → digits_from t i (slice_get t i) ≡ taken tt j
   digits_from-complete i j [] h d n = absurd d
   digits_from-complete i j (c ∷ w) h d n =
-      ap (digits_from t i) h.0 ∙ if-true (is_digit c) (taken tt (digit_run_end t i)) (failed invalid_number i) d.0
+      ap (digits_from t i) h.0 ∙ if-true (is_digit c) _ _ d.0
       ∙ ap (taken tt) (run_end-complete is_digit t i j (c ∷ w) h d n)
 
   whole-zero : (i j c : ℕ) (w : List ℕ) → Stands t i j (c ∷ w) → c ≡ 48 → w ≡ [] → NoDigit (slice_get t j)
@@ -91,11 +88,9 @@ module _ (t : List ℕ) where
       let long = stands-length t i j (c ∷ w) h in
       let few : digit_run_end t i ≤ i + digit_limit = omega arith in
       ap (whole_from t i) h.0
-      ∙ if-false (c == 48) (behind_zero (i + 1) (slice_get t (i + 1)))
-      (if is_digit c then within_limit i (digit_run_end t i) else failed invalid_number i) (ne_eqb c 48 z)
-      ∙ if-true (is_digit c) (within_limit i (digit_run_end t i)) (failed invalid_number i) d.0
-      ∙ if-true (nat_le (digit_run_end t i) (i + digit_limit)) (taken tt (digit_run_end t i))
-      (failed number_out_of_range (i + (digit_limit + 1))) (le-leb (digit_run_end t i) (i + digit_limit) few)
+      ∙ if-false (c == 48) _ _ (ne_eqb c 48 z)
+      ∙ if-true (is_digit c) _ _ d.0
+      ∙ if-true (nat_le (digit_run_end t i) (i + digit_limit)) _ _ (le-leb (digit_run_end t i) (i + digit_limit) few)
       ∙ ap (taken tt) run
 
   -- the integer part
@@ -110,7 +105,7 @@ module _ (t : List ℕ) where
 
   fraction-none : (i : ℕ) (o : Option ℕ) → IfSome o NoPoint → fraction_from t i o ≡ taken tt i
   fraction-none i None n = refl
-  fraction-none i (Some c) n = if-false (c == 46) (digits_from t (i + 1) (slice_get t (i + 1))) (taken tt i) n.1
+  fraction-none i (Some c) n = if-false (c == 46) _ _ n.1
 
   -- the fraction
   pub fraction_at-complete : (i j : ℕ) (w : List ℕ) → Stands t i j w → IsFraction w → IfSome (slice_get t j) NoPoint
@@ -130,7 +125,7 @@ module _ (t : List ℕ) where
       → IsDigits digits → NoDigit (slice_get t j) → power_from t i (slice_get t i) ≡ taken tt j
   power-signed i j s digits is h d n =
       ap (power_from t i) h.0
-      ∙ if-true ((s == 43) || (s == 45)) (digits_from t (i + 1) (slice_get t (i + 1))) (digits_from t i (Some s)) is
+      ∙ if-true ((s == 43) || (s == 45)) _ _ is
       ∙ digits_from-complete (i + 1) j digits h.1 d n
 
   power-unsigned : (i j : ℕ) (digits : List ℕ) → Stands t i j digits → IsDigits digits → NoDigit (slice_get t j)
@@ -138,8 +133,7 @@ module _ (t : List ℕ) where
   power-unsigned i j [] h d n = absurd d
   power-unsigned i j (c ∷ w) h d n =
       ap (power_from t i) h.0
-      ∙ if-false ((c == 43) || (c == 45)) (digits_from t (i + 1) (slice_get t (i + 1))) (digits_from t i (Some c))
-      (unsigned c d.0)
+      ∙ if-false ((c == 43) || (c == 45)) _ _ (unsigned c d.0)
       ∙ ap (digits_from t i) (sym h.0) ∙ digits_from-complete i j (c ∷ w) h d n
 
   -- the sign and the digits of an exponent
@@ -155,7 +149,7 @@ module _ (t : List ℕ) where
   exponent-none : (i : ℕ) (o : Option ℕ) → IfSome o NoPart → exponent_from t i o ≡ taken tt i
   exponent-none i None n = refl
   exponent-none i (Some c) n =
-      if-false ((c == 101) || (c == 69)) (power_from t (i + 1) (slice_get t (i + 1))) (taken tt i) n.2
+      if-false ((c == 101) || (c == 69)) _ _ n.2
 
   exponent-letter : (i c : ℕ) → (c ≡ 101) ⊎ (c ≡ 69)
       → exponent_from t i (Some c) ≡ power_from t (i + 1) (slice_get t (i + 1))
@@ -193,8 +187,8 @@ module _ (t : List ℕ) where
       ∙ ap (λ y. extent_then y (λ k. exponent_at t k)) (fraction_at-complete a.0 b.0 fraction b.1 f k)
       ∙ exponent_at-complete b.0 e exponent b.2 x behind
 
-  number_extent-decimal : (names : Bool) (i e : ℕ) (w : List ℕ) → Stands t i e w → IsDecimal w → EndsNumber (slice_get t e)
-      → number_extent names t i ≡ taken tt e
+  number_extent-decimal : (names : Bool) (i e : ℕ) (w : List ℕ) → Stands t i e w → IsDecimal w
+      → EndsNumber (slice_get t e) → number_extent names t i ≡ taken tt e
   number_extent-decimal names i e w h d n = by d.is_minus where
     all : Stands t i e (d.minus ++ (d.whole ++ (d.fraction ++ d.exponent)))
     all = subst (Stands t i e) d.is h

@@ -1,6 +1,6 @@
 -- A number ends where its digits, fraction and exponent do, a minus before them or not.
-use Rattle.std.proofs.Common.{◌≡◌, inl, inr, ℕ, ◌+◌, ◌<◌, ◌≤◌, Bool, true, List, [], ◌∷◌, length, get_or, refl, sym}
-use Rattle.std.proofs.Common.{ap, ◌∙◌, subst, arith, slice_range}
+use Rattle.std.proofs.Common.{◌≡◌, inl, inr, ℕ, ◌+◌, ◌<◌, ◌≤◌, Bool, true, List, [], ◌∷◌, length, get_or, refl, sym, ap}
+use Rattle.std.proofs.Common.{◌∙◌, subst, arith, slice_range}
 use Rattle.std.specs.Prelude.{slice_get, Some, ◌==◌, if◌then◌else◌, codes}
 use Rattle.std.proofs.lemmas.Bool.{ne_eqb}
 use Rattle.std.proofs.lemmas.Option.{slice_get-get_or}
@@ -28,7 +28,7 @@ module _ (t : List ℕ) where
   decimal-digit i e h = by whole.0 w.0 w.1 w.2
     where
       whole : (j : ℕ) × (whole_at t i ≡ taken tt j) × (extent_then (fraction_at t j) (exponent_at t) ≡ taken tt e)
-      whole = extent_then-taken (whole_at t i) (λ j. extent_then (fraction_at t j) (exponent_at t)) tt e h
+      whole = extent_then-taken _ _ _ _ h
 
       w : (w : List ℕ) × Stands t i whole.0 w × IsWhole w × (length w ≤ digit_limit)
       w = whole_from-sound t i whole.0 tt (slice_get t i) refl whole.1
@@ -47,10 +47,9 @@ module _ (t : List ℕ) where
       let name = name_at names t (codes "Infinity") i in
       let other = if c == 73 then name else decimal_at t i in
       ap (extent_from names t i) d.1
-      ∙ if-false (c == 45) (behind_minus names t (i + 1) (slice_get t (i + 1)))
-      (if c == 78 then name_at names t (codes "NaN") i else other) (ne_eqb c 45 (λ q. omega (arith, q, b.0)))
-      ∙ if-false (c == 78) (name_at names t (codes "NaN") i) other (ne_eqb c 78 (λ q. omega (arith, q, b.1)))
-      ∙ if-false (c == 73) name (decimal_at t i) (ne_eqb c 73 (λ q. omega (arith, q, b.1))) ∙ h
+      ∙ if-false (c == 45) _ _ (ne_eqb c 45 (λ q. omega (arith, q, b.0)))
+      ∙ if-false (c == 78) _ _ (ne_eqb c 78 (λ q. omega (arith, q, b.1)))
+      ∙ if-false (c == 73) _ _ (ne_eqb c 73 (λ q. omega (arith, q, b.1))) ∙ h
 
   -- and with one
   pub extent-minus : (names : Bool) (i e : ℕ) → slice_get t i ≡ Some 45 → decimal_at t (i + 1) ≡ taken tt e
@@ -60,7 +59,7 @@ module _ (t : List ℕ) where
       let c = d.0 in
       let name = if names then word_at t (codes "Infinity") (i + 1) else failed invalid_number (i + 1) in
       ap (extent_from names t i) q ∙ ap (behind_minus names t (i + 1)) d.1
-      ∙ if-false (c == 73) name (decimal_at t (i + 1)) (ne_eqb c 73 (λ r. omega (arith, r, (digit-bounds c d.2).1)))
+      ∙ if-false (c == 73) _ _ (ne_eqb c 73 (λ r. omega (arith, r, (digit-bounds c d.2).1)))
       ∙ h
 
   -- whether one stands before it or not

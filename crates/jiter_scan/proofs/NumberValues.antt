@@ -117,7 +117,7 @@ module _ (t : List ℕ) where
       → extent_then (fraction_at t j) (exponent_at t) ≡ taken tt e
       → number_value (slice_range t i e) ≡ float (slice_range t i e)
   number_value-tail i j e low some high h =
-      let b = extent_then-taken (fraction_at t j) (exponent_at t) tt e h in
+      let b = extent_then-taken _ _ _ _ h in
       let f = fraction_from-sound t j b.0 tt (slice_get t j) refl b.1 in
       let x = exponent_from-sound t b.0 e tt (slice_get t b.0) refl b.2 in
       by (f.0 ++ x.0) (stands-append t j b.0 e f.0 x.0 f.1 x.1) (tail f.0 x.0 f.2 x.2) where

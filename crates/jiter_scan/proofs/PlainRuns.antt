@@ -1,17 +1,14 @@
 -- Whether the plain bytes of a string are ASCII, chunk by chunk and byte by byte.
 use Rattle.std.proofs.Common.{◌≡◌, ℕ, ◌+◌, ◌-◌, ◌<◌, ◌≤◌, Bool, true, false, not, ◌&&◌, cond, eqb, leb, List, [], ◌∷◌}
-use Rattle.std.proofs.Common.{length, drop, take, get_or, refl, sym, ap, ap₂, ◌∙◌, arith, zero, suc, take-add, take-take}
-use Rattle.std.proofs.Common.{drop-drop, drop-cons, inl, inr, add-one}
+use Rattle.std.proofs.Common.{length, drop, take, get_or, refl, sym, ap, ap₂, ◌∙◌, arith, zero, suc, take-add}
+use Rattle.std.proofs.Common.{take-take, drop-drop, drop-cons, inl, inr, add-one}
 use Rattle.std.specs.Prelude.{◌↔◌, IsTrue, slice_range}
 use Rattle.std.proofs.Math.Bool.{and_assoc}
 use Rattle.std.proofs.lemmas.Simd.{length-chunk}
 use Rattle.std.proofs.lemmas.List.Folds.{list_all-append}
 use Rattle.std.proofs.lemmas.List.Sums.{prefix_len-le-length, AllPass-from_list_all, list_all-from_AllPass}
-use Rattle.std.proofs.lemmas.Bool.{cases_eq, le-leb, lt-leb, ltb-true}
+use Rattle.std.proofs.lemmas.Bool.{cases_eq, le-leb, lt-leb}
 use Rattle.std.proofs.lemmas.Bool.Decides.{nat_tests}
-use Rattle.std.specs.Str.{IsAscii}
-use Rattle.std.proofs.lemmas.List.Elements.{All-weaker}
-use Rattle.std.proofs.lemmas.Str.Ascii.{IsAscii-from_all}
 use Rattle.std.specs.List.{prefix_len, list_all}
 use lib.Lanes.{chunk}
 use lib.Count.{count_trailing_zeros}

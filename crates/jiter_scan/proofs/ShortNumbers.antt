@@ -11,8 +11,7 @@ use Rattle.jiter_scan.specs.Digits.{is_digit, digit_run_end}
 use Rattle.jiter_scan.specs.Number.{IsDigits}
 use Rattle.jiter_scan.specs.NumberReading.{extent_then, whole_at, fraction_at, exponent_at, decimal_at, fraction_from}
 use Rattle.jiter_scan.specs.NumberReading.{exponent_from, digits_from, power_from, is_float_sign}
-use Rattle.jiter_scan.specs.Scanned.{taken, failed}
-use Rattle.jiter_scan.specs.Kind.{invalid_number}
+use Rattle.jiter_scan.specs.Scanned.{taken}
 use Rattle.jiter_scan.specs.Stands.{Stands}
 use Rattle.jiter_scan.proofs.Choices.{if-false, if-true, extent_then-taken, same_taken}
 use Rattle.jiter_scan.proofs.Chunks.{prefix_len-front, prefix_len-pass, run_end-on}
@@ -103,7 +102,7 @@ module _ (t : List ℕ) where
   digits_from-run i e run some inside =
       let digit = run_end-passes is_digit t i i (omega arith) (omega arith) in
       ap (digits_from t i) (slice_get-get_or t i 0 inside)
-      ∙ if-true (is_digit (get_or t i 0)) (taken tt (digit_run_end t i)) (failed invalid_number i) digit
+      ∙ if-true (is_digit (get_or t i 0)) _ _ digit
       ∙ ap (taken tt) run
 
   -- a point and digits
@@ -116,7 +115,7 @@ module _ (t : List ℕ) where
   pub fraction_at-none : (i c : ℕ) → slice_get t i ≡ Some c → (c == 46) ≡ false → fraction_at t i ≡ taken tt i
   fraction_at-none i c here no_point =
       ap (fraction_from t i) here
-      ∙ if-false (c == 46) (digits_from t (i + 1) (slice_get t (i + 1))) (taken tt i) no_point
+      ∙ if-false (c == 46) _ _ no_point
 
   -- a letter and digits, a sign between them or not
   pub exponent_at-run : (i s e c : ℕ) → slice_get t i ≡ Some c → ((c == 101) || (c == 69)) ≡ true
@@ -124,7 +123,7 @@ module _ (t : List ℕ) where
       → digit_run_end t s ≡ e → s < e → s < length t → exponent_at t i ≡ taken tt e
   exponent_at-run i s e c here letter power run some inside =
       ap (exponent_from t i) here
-      ∙ if-true ((c == 101) || (c == 69)) (power_from t (i + 1) (slice_get t (i + 1))) (taken tt i) letter
+      ∙ if-true ((c == 101) || (c == 69)) _ _ letter
       ∙ power ∙ digits_from-run s e run some inside
 
   -- no letter
@@ -132,7 +131,7 @@ module _ (t : List ℕ) where
       → exponent_at t i ≡ taken tt i
   exponent_at-none i c here no_letter =
       ap (exponent_from t i) here
-      ∙ if-false ((c == 101) || (c == 69)) (power_from t (i + 1) (slice_get t (i + 1))) (taken tt i) no_letter
+      ∙ if-false ((c == 101) || (c == 69)) _ _ no_letter
 
   -- no point and no exponent behind it
   pub decimal_at-whole : (i e c : ℕ) → whole_at t i ≡ taken tt e → slice_get t e ≡ Some c → is_float_sign c ≡ false
@@ -173,7 +172,7 @@ module _ (t : List ℕ) where
             let inside = slice_get_within t i c here in
             let digits : digits_from t (i + 1) (slice_get t (i + 1)) ≡ taken tt j =
             sym (ap (fraction_from t i) here
-            ∙ if-true (c == 46) (digits_from t (i + 1) (slice_get t (i + 1))) (taken tt i) point)
+            ∙ if-true (c == 46) _ _ point)
             ∙ fraction in
             let some : (i + 1 + 1 ≤ j) × (j ≤ length t) =
             subst (Reaches t (i + 1) 1) digits
@@ -182,10 +181,10 @@ module _ (t : List ℕ) where
         by false no_point j fraction exponent ahead =
             let inside = slice_get_within t i c here in
             let letter : ((c == 101) || (c == 69)) ≡ true = grind (arith, nat_tests) in
-            let place : i ≡ j = (same_taken tt tt i j (sym (fraction_at-none i c here no_point) ∙ fraction)).1 in
+            let place : i ≡ j = (same_taken _ _ _ _ (sym (fraction_at-none i c here no_point) ∙ fraction)).1 in
             let power : power_from t (i + 1) (slice_get t (i + 1)) ≡ taken tt e =
             sym (ap (exponent_from t i) here
-            ∙ if-true ((c == 101) || (c == 69)) (power_from t (i + 1) (slice_get t (i + 1))) (taken tt i) letter)
+            ∙ if-true ((c == 101) || (c == 69)) _ _ letter)
             ∙ ap (exponent_at t) place ∙ exponent in
             let some : (i + 1 + 0 ≤ e) × (e ≤ length t) =
             subst (Reaches t (i + 1) 0) power

@@ -2,7 +2,7 @@
 use Rattle.std.proofs.Common.{◌≡◌, inr, ℕ, ◌+◌, ◌≤◌, Bool, List, refl, sym, ap, ◌∙◌, slice_range, arith}
 use Rattle.std.specs.Prelude.{◌^◌, slice_get, Some, pos, nat_lt, nat_le}
 use Rattle.std.proofs.lemmas.Bool.{lt-ltb, le-leb}
-use Rattle.jiter_scan.specs.Number.{integer, big, float, number_value, minus_of}
+use Rattle.jiter_scan.specs.Number.{integer, float, number_value, minus_of}
 use Rattle.jiter_scan.specs.NumberReading.{number_extent, with_value, number_at}
 use Rattle.jiter_scan.specs.Scanned.{taken}
 use Rattle.jiter_scan.specs.ShortNumber.{IsShortInteger, IsShortFloat}
@@ -21,7 +21,7 @@ module _ (t : List ℕ) (names : Bool) (e : ℕ) where
       number_at-extent i (extent-decimal t names i e s.decimal)
       ∙ ap (λ x. taken x e)
       (sym (integer_value-positive t i i e n refl s.whole s.magnitude)
-      ∙ if-true (nat_lt n (2 ^ 63)) (integer (pos n)) (big (slice_range t i e)) (lt-ltb n (2 ^ 63) s.small))
+      ∙ if-true (nat_lt n (2 ^ 63)) _ _ (lt-ltb n (2 ^ 63) s.small))
 
   pub short-float : (i : ℕ) → IsShortFloat t i e → number_at names t i ≡ taken (float (slice_range t i e)) e
   short-float i s =
@@ -38,4 +38,4 @@ module _ (t : List ℕ) (names : Bool) (e : ℕ) where
         number_at-extent i (extent-minus t names i e minus s.decimal)
         ∙ ap (λ x. taken x e)
         (sym (integer_value-negative t i (i + 1) e n (inr (refl, minus)) (omega arith) s.whole s.magnitude)
-        ∙ if-true (nat_le n (2 ^ 63)) (integer (minus_of n)) (big (slice_range t i e)) (le-leb n (2 ^ 63) small))
+        ∙ if-true (nat_le n (2 ^ 63)) _ _ (le-leb n (2 ^ 63) small))

@@ -230,11 +230,7 @@ fn minus_end(bytes: &[u8], at: usize) -> usize
     ensures minus { IsMinusTo bytes.now at result }
     ensures place { (at ≤ result) × (result ≤ length bytes.now) }
 {
-    if bytes[at] == b'-' {
-        at + 1
-    } else {
-        at
-    }
+    if bytes[at] == b'-' { at + 1 } else { at }
 }
 
 // Behind the number at `at`, if it is short.

@@ -1,7 +1,6 @@
-use Rattle.std.proofs.Common.{◌+◌, ◌&&◌, get_or, not, ap, sym, ◌∙◌, arith}
+use Rattle.std.proofs.Common.{◌&&◌, get_or, not, ap, sym, ◌∙◌, arith}
 use Rattle.std.proofs.Math.Bool.{and-true}
 use Rattle.jiter_scan.specs.Scan.{is_plain, is_ascii}
-use Rattle.jiter_scan.specs.Simd.{ascii_from}
 use Rattle.jiter_scan.proofs.Runs.{run_end-passing, run_end-stopping, run_end-past}
 use Rattle.jiter_scan.proofs.PlainRuns.{ascii_from-byte, ascii_from-stop, still-ascii}
 use Rattle.jiter_scan.proofs.simd.scan_bytes.Goals as goal

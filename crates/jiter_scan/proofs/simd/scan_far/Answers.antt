@@ -12,10 +12,10 @@ loop-i-preserved c =
     let found = c.is_plain_chunk-plain in
     let plain = sym found.ensures.plain ∙ c.if-not-plain.false in
     let run = prefix_len-through is_plain t i 64 (omega arith) plain in
+    let low = ascii_from-through t i 64 (omega arith) plain
+    ∙ ap (λ b. b && ascii_from t (i + 64)) (sym found.ensures.ascii) in
     record {
       stop = omega arith;
-      ascii = still-ascii _ c.loop-i.clean found.result.1 _ _ _ c.loop-i.invariant.ascii
-          (ascii_from-through t i 64 (omega arith) plain ∙ ap (λ b. b && ascii_from t (i + 64)) (sym found.ensures.ascii))
-          c.both-clean.ensures;
+      ascii = still-ascii _ c.loop-i.clean found.result.1 _ _ _ c.loop-i.invariant.ascii low c.both-clean.ensures;
       within = omega arith;
     }
