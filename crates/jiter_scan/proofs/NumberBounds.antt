@@ -36,11 +36,13 @@ module _ (t : List ℕ) where
   end-reaches i n k m le e =
       let past = get-none t i e in (omega arith, record { within = le; ends = λ h. omega arith; bytes = m })
 
-  farther : (i n j m : ℕ) (x : Extent) → i ≤ j → i + n ≤ j + m → Reaches t j m x → Reaches t i n x
+  -- what reaches so far from a place ahead reaches farther from here
+  pub farther : (i n j m : ℕ) (x : Extent) → i ≤ j → i + n ≤ j + m → Reaches t j m x → Reaches t i n x
   farther i n j m (taken u e) p q h = (omega (arith, h.0), h.1)
   farther i n j m (failed k e) p q h = (omega (arith, h.0), h.1)
 
-  extent_then-reaches : (i n : ℕ) (x : Extent) (next : ℕ → Extent) → Reaches t i n x
+  -- a part that reaches so far does with what follows it
+  pub extent_then-reaches : (i n : ℕ) (x : Extent) (next : ℕ → Extent) → Reaches t i n x
       → ((j : ℕ) → j ≤ length t → Reaches t j 0 (next j)) → Reaches t i n (extent_then x next)
   extent_then-reaches i n (taken u e) next h go =
       farther i n e 0 _ (omega (arith, h.0)) (omega (arith, h.0)) (go e h.1)
@@ -108,7 +110,7 @@ module _ (t : List ℕ) where
   pub whole_at-reaches : (i : ℕ) → i ≤ length t → Reaches t i 1 (whole_at t i)
   whole_at-reaches i le = whole_from-reaches i (slice_get t i) refl le
 
-  pub fraction_at-reaches : (i : ℕ) → i ≤ length t → Reaches t i 0 (fraction_at t i)
+  fraction_at-reaches : (i : ℕ) → i ≤ length t → Reaches t i 0 (fraction_at t i)
   fraction_at-reaches i le = fraction_from-reaches i (slice_get t i) refl le
 
   pub exponent_at-reaches : (i : ℕ) → i ≤ length t → Reaches t i 0 (exponent_at t i)

@@ -2,19 +2,19 @@
 use Rattle.std.proofs.Common.{◌≡◌, ◌≢◌, ◌⊎◌, inl, inr, ℕ, ◌+◌, ◌≤◌, Bool, true, false, ◌||◌, List, [], ◌∷◌, ◌++◌}
 use Rattle.std.proofs.Common.{length, refl, sym, ap, ◌∙◌, subst, arith}
 use Rattle.std.specs.Prelude.{slice_get, slice_range, Option, Some, None, IfSome, ◌==◌, nat_le, codes}
+use Rattle.std.proofs.lemmas.Bool.Decides.{nat_tests}
 use Rattle.std.proofs.lemmas.Bool.{ne_eqb, le-leb, cases_eq}
 use Rattle.std.proofs.lemmas.Option.{IfSome_then}
 use Rattle.jiter_scan.specs.Digits.{is_digit, digit_run_end}
 use Rattle.jiter_scan.specs.Number.{number_value, IsDigits, IsMinus, IsWhole, IsFraction, IsSign, IsExponent, IsDecimal}
 use Rattle.jiter_scan.specs.Number.{IsName, IsNumberText, digit_limit}
-use Rattle.jiter_scan.specs.NumberReading.{extent_then, digits_from, behind_zero, whole_from, whole_at, fraction_from}
-use Rattle.jiter_scan.specs.NumberReading.{fraction_at, power_from, exponent_from, exponent_at, decimal_at}
-use Rattle.jiter_scan.specs.NumberReading.{behind_minus, extent_from, number_extent, with_value, number_at}
+use Rattle.jiter_scan.specs.NumberReading.{digits_from, behind_zero, whole_from, whole_at, fraction_from, fraction_at}
+use Rattle.jiter_scan.specs.NumberReading.{power_from, exponent_from, exponent_at, decimal_at, behind_minus}
+use Rattle.jiter_scan.specs.NumberReading.{extent_from, number_extent, with_value, number_at}
 use Rattle.jiter_scan.specs.Scanned.{taken}
 use Rattle.jiter_scan.specs.Stands.{Stands}
 use Rattle.jiter_scan.proofs.Choices.{if-true, if-false}
-use Rattle.jiter_scan.proofs.Digits.{digit-bounds}
-use Rattle.jiter_scan.proofs.NumberExtents.{extent-decimal, extent-minus}
+use Rattle.jiter_scan.proofs.NumberExtents.{decimal_at-tail, tail-parts, extent-decimal, extent-minus}
 use Rattle.jiter_scan.proofs.Runs.{NoDigit, run_end-complete}
 use Rattle.jiter_scan.proofs.Standing.{First, stands-length, stands-split, stands-slice, stands-next}
 use Rattle.jiter_scan.proofs.WordLaws.{word_at-complete}
@@ -36,25 +36,15 @@ abbrev NoPart : ℕ → Type 0
 NoPart c = (is_digit c ≡ false) × ((c == 46) ≡ false) × (((c == 101) || (c == 69)) ≡ false)
 
 no_part : (c : ℕ) → continues_number c ≡ false → NoPart c
-no_part c h = by (is_digit c) (c == 46) (c == 101) (c == 69) h where
-  by : (a b d f : Bool) → (a || b || d || f) ≡ false → (a ≡ false) × (b ≡ false) × ((d || f) ≡ false)
-  by false false false false h = (refl, refl, refl)
-  by true b d f h = absurd (cc)
-  by false true d f h = absurd (cc)
-  by false false true f h = absurd (cc)
-  by false false false true h = absurd (cc)
+no_part c h = (grind (arith, nat_tests), grind (arith, nat_tests), grind (arith, nat_tests))
 
 power-no_point : (c : ℕ) → (c ≡ 101) ⊎ (c ≡ 69) → NoPoint c
 power-no_point c (inl e) = (ap is_digit e, ap (λ x. x == 46) e)
 power-no_point c (inr e) = (ap is_digit e, ap (λ x. x == 46) e)
 
 exponent-first : (w : List ℕ) → IsExponent w → First w NoPoint
-exponent-first [] h = tt
-exponent-first (c ∷ w) (inl none) = absurd (cc)
-exponent-first (c ∷ w) (inr p) = power-no_point c (by c p.letter w (p.sign ++ p.digits) p.is p.is_letter) where
-  by : (a b : ℕ) (v w : List ℕ) → a ∷ v ≡ b ∷ w → (b ≡ 101) ⊎ (b ≡ 69) → (a ≡ 101) ⊎ (a ≡ 69)
-  by a b v w e (inl x) = inl (cc)
-  by a b v w e (inr x) = inr (cc)
+exponent-first w (inl none) = subst (λ v. First v NoPoint) (sym none) tt
+exponent-first w (inr p) = subst (λ v. First v NoPoint) (sym p.is) (power-no_point p.letter p.is_letter)
 
 fraction-first : (w : List ℕ) → IsFraction w → First w (λ c. is_digit c ≡ false)
 fraction-first [] h = tt
@@ -117,9 +107,7 @@ module _ (t : List ℕ) where
       ∙ digits_from-complete (i + 1) j w h.1 is.1 (IfSome_then (slice_get t j) n (λ c p. p.0))
 
   unsigned : (c : ℕ) → is_digit c ≡ true → ((c == 43) || (c == 45)) ≡ false
-  unsigned c d =
-      let b = digit-bounds c d in
-      ap (λ x. x || (c == 45)) (ne_eqb c 43 (λ e. omega arith)) ∙ ne_eqb c 45 (λ e. omega arith)
+  unsigned c d = grind (arith, nat_tests)
 
   power-signed : (i j s : ℕ) (digits : List ℕ) → ((s == 43) || (s == 45)) ≡ true → Stands t i j (s ∷ digits)
       → IsDigits digits → NoDigit (slice_get t j) → power_from t i (slice_get t i) ≡ taken tt j
@@ -182,10 +170,9 @@ module _ (t : List ℕ) where
       let j : NoDigit (slice_get t a.0) =
       stands-next t (λ c. is_digit c ≡ false) a.0 b.0 fraction b.1 (fraction-first fraction f)
       (IfSome_then (slice_get t b.0) k (λ c p. p.0)) in
-      ap (λ y. extent_then y (λ j. extent_then (fraction_at t j) (λ k. exponent_at t k)))
-      (whole_at-complete i a.0 whole a.1 w l j)
-      ∙ ap (λ y. extent_then y (λ k. exponent_at t k)) (fraction_at-complete a.0 b.0 fraction b.1 f k)
-      ∙ exponent_at-complete b.0 e exponent b.2 x behind
+      decimal_at-tail t i a.0 e (whole_at-complete i a.0 whole a.1 w l j)
+      (tail-parts t a.0 b.0 e (fraction_at-complete a.0 b.0 fraction b.1 f k)
+      (exponent_at-complete b.0 e exponent b.2 x behind))
 
   number_extent-decimal : (names : Bool) (i e : ℕ) (w : List ℕ) → Stands t i e w → IsDecimal w
       → EndsNumber (slice_get t e) → number_extent names t i ≡ taken tt e

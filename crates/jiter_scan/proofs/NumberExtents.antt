@@ -23,6 +23,17 @@ module _ (t : List ℕ) where
   pub byte-got : (i b : ℕ) → i < length t → get_or t i 0 ≡ b → slice_get t i ≡ Some b
   byte-got i b h e = slice_get-get_or t i 0 h ∙ ap (λ x. Some x) e
 
+  -- the integer part, and a fraction and an exponent behind it or not
+  pub decimal_at-tail : (i k e : ℕ) → whole_at t i ≡ taken tt k
+      → extent_then (fraction_at t k) (exponent_at t) ≡ taken tt e → decimal_at t i ≡ taken tt e
+  decimal_at-tail i k e whole tail =
+      ap (λ x. extent_then x (λ j. extent_then (fraction_at t j) (exponent_at t))) whole ∙ tail
+
+  -- a fraction and what follows it
+  pub tail-parts : (i j e : ℕ) → fraction_at t i ≡ taken tt j → exponent_at t j ≡ taken tt e
+      → extent_then (fraction_at t i) (exponent_at t) ≡ taken tt e
+  tail-parts i j e fraction exponent = ap (λ x. extent_then x (exponent_at t)) fraction ∙ exponent
+
   -- a decimal number begins with a digit
   decimal-digit : (i e : ℕ) → decimal_at t i ≡ taken tt e → (c : ℕ) × (slice_get t i ≡ Some c) × (is_digit c ≡ true)
   decimal-digit i e h = by whole.0 w.0 w.1 w.2

@@ -3,6 +3,7 @@ use Rattle.std.proofs.Common.{◌≡◌, ◌⊎◌, inl, inr, ℕ, ◌+◌, ◌�
 use Rattle.std.proofs.Common.{drop, refl, sym, ap, ◌∙◌, subst, arith}
 use Rattle.std.specs.Prelude.{slice_get, slice_range, Option, Some, None, ◌==◌, nat_le, codes}
 use Rattle.std.specs.List.{prefix_len}
+use Rattle.std.proofs.lemmas.Bool.Decides.{nat_tests}
 use Rattle.std.proofs.lemmas.Bool.{eqb-true, eqb-false, leb-true, or_cases}
 use Rattle.jiter_scan.specs.Digits.{is_digit, digit_run_end}
 use Rattle.jiter_scan.specs.Number.{Number, number_value, AreDigits, IsDigits, IsMinus, IsWhole, IsFraction, IsSign}
@@ -93,10 +94,7 @@ module _ (t : List ℕ) where
       (λ p r. let x = digits_from-sound i e u (Some c) s r in ([], x.0, inl refl, x.2, x.1))
 
   letter-sound : (c : ℕ) → ((c == 101) || (c == 69)) ≡ true → (c ≡ 101) ⊎ (c ≡ 69)
-  letter-sound c h = by (or_cases (c == 101) (c == 69) h) where
-    by : ((c == 101) ≡ true) ⊎ ((c == 69) ≡ true) → (c ≡ 101) ⊎ (c ≡ 69)
-    by (inl p) = inl (eqb-true c 101 p)
-    by (inr p) = inr (eqb-true c 69 p)
+  letter-sound c h = grind (arith, nat_tests)
 
   -- the exponent
   pub exponent_from-sound : (i e : ℕ) (u : Unit {0}) (o : Option ℕ) → slice_get t i ≡ o

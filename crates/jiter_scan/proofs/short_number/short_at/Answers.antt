@@ -2,9 +2,10 @@ use Rattle.std.proofs.Common.{◌+◌, get_or, sym, ap, ◌∙◌, arith}
 use Rattle.std.proofs.lemmas.Option.{slice_get-get_or}
 use Rattle.jiter_scan.specs.Digits.{decimal_of}
 use Rattle.jiter_scan.proofs.Magnitudes.{decimal_of-few, magnitude_of-short}
+use Rattle.jiter_scan.proofs.NumberExtents.{decimal_at-tail}
 use Rattle.jiter_scan.proofs.NumberValues.{number_value-tail}
 use Rattle.jiter_scan.proofs.ShortNumbers.{digits-counted, digits-of_chunk, whole_at-counted, decimal_at-whole}
-use Rattle.jiter_scan.proofs.ShortNumbers.{decimal_at-tail, tail-place}
+use Rattle.jiter_scan.proofs.ShortNumbers.{tail-place}
 use Rattle.jiter_scan.proofs.short_number.short_at.Goals as goal
 
 pub returns-then-not-goes_on : goal.returns-then-not-goes_on
@@ -44,7 +45,7 @@ returns-in-Some c =
     (sym c.goes_on.ensures ∙ c.if-not-goes_on.false) c.in-Some.ensures in
     record {
       decimal = decimal_at-tail t i (i + n) end whole c.in-Some.ensures;
-      value = λ j le. number_value-tail t j (i + n) end (omega arith) place.0 (omega arith) c.in-Some.ensures;
+      value = λ j le. number_value-tail t j (i + n) end (omega arith) (omega (arith, place.0)) (omega arith) c.in-Some.ensures;
       some = omega (arith, place.0);
       within = place.1;
     }
