@@ -112,12 +112,8 @@ module _ (test : ℕ → Bool) where
 
       pub run_end-near : 0 < mask → run_end test t i ≤ i + n
       run_end-near some =
-          omega (
-            arith,
-            prefix_len-inside (one_fails (omega arith)),
-            prefix_len-le-length test (chunk i n t),
-            length-chunk i n t room,
-          )
+          let inside = prefix_len-inside (one_fails (omega arith)) in
+          omega (arith, inside, prefix_len-le-length test (chunk i n t), length-chunk i n t room)
 
   -- a chunk of 64 by its four parts
   pub list_all-four : (t : List ℕ) (i : ℕ) → list_all test (chunk i 64 t)

@@ -138,31 +138,19 @@ pub number_l-shifted : (xs : List ℕ) (n word : ℕ) → IsEightBytes xs → Al
     → (ds : List ℕ) × (length ds ≡ 8) × AllBelowBase 10 ds × (word * 2 ^ (64 - 8 * n) % 2 ^ 64 ≡ number_l 256 ds) ×
     (number_from_digits 10 ds ≡ number_from_digits 10 (take n xs))
 number_l-shifted xs n word eight digits some few e =
+    let zeros : List ℕ = replicate (8 - n) 0 in
+    let ds : List ℕ = zeros ++ take n xs in
     let p = padded (8 - n) (take n xs) digits in
+    let count = length-replicate {A = ℕ} (8 - n) 0 in
+    let long : length ds ≡ 8 = omega (arith, length-append zeros (take n xs), count, length-take n xs, eight.0) in
     let shift : 2 ^ (64 - 8 * n) ≡ 256 ^ (8 - n) =
     ap (λ k. 2 ^ k) {x = 64 - 8 * n} {y = 8 * (8 - n)} (omega arith) ∙ bits-of_bytes (8 - n) in
     let all : 256 ^ n * 256 ^ (8 - n) ≡ 2 ^ 64 =
-    sym (pow-add 256 n (8 - n)) ∙ ap (λ k. 256 ^ k) {x = n + (8 - n)} {y = 8} (omega arith) in (
-      replicate (8 - n) 0 ++ take n xs,
-      omega (
-        arith,
-        length-append (replicate (8 - n) 0) (take n xs),
-        length-replicate {A = ℕ}
-            (8 - n) 0,
-        length-take n xs,
-        eight.0,
-      ),
-      p.0,
-      rw (
-        e,
-        shift,
-        ← all,
-        mod-scaled _ _ _ (power-positive n)
-            (power-positive (8 - n)),
-        number_l-front _ n eight.1,
-      ) (sym p.1),
-      p.2,
-    )
+    sym (pow-add 256 n (8 - n)) ∙ ap (λ k. 256 ^ k) {x = n + (8 - n)} {y = 8} (omega arith) in
+    let same : word * 2 ^ (64 - 8 * n) % 2 ^ 64 ≡ number_l 256 ds =
+    rw (e, shift, ← all, mod-scaled _ _ _ (power-positive n) (power-positive (8 - n)), number_l-front _ n eight.1)
+    (sym p.1) in
+    (ds, long, p.0, same, p.2)
 
 number_l-drop : (k : ℕ) (xs : List ℕ) → AllBelowBase 256 xs → number_l 256 xs / 256 ^ k ≡ number_l 256 (drop k xs)
 number_l-drop zero xs h = omega arith
@@ -192,18 +180,14 @@ number_l-high zs long h =
     ∙ ap (number_l 256) (take_all 8 (drop 8 zs) (omega (arith, length-drop 8 zs)))
 
 pub IsEightBytes-low : (xs : List ℕ) → length xs ≡ 16 → IsEightBytes (take 8 (map less_zero xs))
-IsEightBytes-low xs long = (
-  omega (arith, length-take 8 (map less_zero xs), length-map xs less_zero),
-  AllBelowBase-take 256 8 _
-      (less_zero-below xs),
-)
+IsEightBytes-low xs long =
+    let count = length-take 8 (map less_zero xs) in
+    (omega (arith, count, length-map xs less_zero), AllBelowBase-take 256 8 _ (less_zero-below xs))
 
 pub IsEightBytes-high : (xs : List ℕ) → length xs ≡ 16 → IsEightBytes (drop 8 (map less_zero xs))
-IsEightBytes-high xs long = (
-  omega (arith, length-drop 8 (map less_zero xs), length-map xs less_zero),
-  AllBelowBase-drop 256 8 _
-      (less_zero-below xs),
-)
+IsEightBytes-high xs long =
+    let count = length-drop 8 (map less_zero xs) in
+    (omega (arith, count, length-map xs less_zero), AllBelowBase-drop 256 8 _ (less_zero-below xs))
 
 digit-less_zero : (c : ℕ) → is_digit c ≡ true → (less_zero c < 10) × (less_zero c ≡ c - 48)
 digit-less_zero c e = let b = digit-bounds c e in (omega arith, omega arith)

@@ -152,13 +152,9 @@ module _ (t : List ℕ) where
       → slice_get t (i + 1) ≡ o → behind_minus names t (i + 1) o ≡ taken u e → IsNumberText names (slice_range t i e)
   behind_minus-sound names i e u None m s h = absurd (failed-taken _ _ _ _ h)
   behind_minus-sound names i e u (Some c) m s h =
-      if_gives (c == 73) _ _ _ h (λ p r. if_gives names _ _ _ r (λ n q. inr (
-        n,
-        inr
-            (inr
-            (sym
-            (slice-stands t i e (codes "-Infinity") (m, word_at-sound t (codes "Infinity") (i + 1) e u q)))),
-      ))
+      if_gives (c == 73) _ _ _ h (λ p r. if_gives names _ _ _ r
+      (λ n q. let stands = slice-stands t i e (codes "-Infinity") (m, word_at-sound t (codes "Infinity") (i + 1) e u q)
+      in inr (n, inr (inr (sym stands))))
       (λ n q. absurd (failed-taken _ _ _ _ q)))
       (λ p r. inl (decimal_at-sound i (i + 1) e u (45 ∷ []) (m, refl) (inr refl) r))
 
@@ -179,11 +175,9 @@ module _ (t : List ℕ) where
       → with_value t i x ≡ taken n e → IsNumberText names (slice_range t i e) × (n ≡ number_value (slice_range t i e))
   with_value-sound names i n e (taken u f) s h =
       let same = same_taken _ _ _ _ h in
-      let at : f ≡ e = same.1 in (
-        extent_from-sound names i e u (slice_get t i) refl (s ∙ ap (taken u) at),
-        sym same.0
-            ∙ ap (λ k. number_value (slice_range t i k)) at,
-      )
+      let at : f ≡ e = same.1 in
+      let value = sym same.0 ∙ ap (λ k. number_value (slice_range t i k)) at in
+      (extent_from-sound names i e u (slice_get t i) refl (s ∙ ap (taken u) at), value)
   with_value-sound names i n e (failed k j) s h = absurd (failed-taken _ _ _ _ h)
 
 -- what is read is a number's text, and the value is that of the text

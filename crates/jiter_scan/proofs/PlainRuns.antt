@@ -105,9 +105,6 @@ pub IsAsciiTo-iff : (t : List ℕ) (i e : ℕ) (b : Bool) → e ≡ scan_stop t 
     → IsTrue b ↔ IsAsciiTo t i e
 IsAsciiTo-iff t i e b stop is =
     let count : prefix_len is_plain (drop i t) ≡ e - i = omega arith in
-    let all : b ≡ list_all is_ascii (slice_range t i e) =
-    is ∙ ap (λ k. list_all is_ascii (take k (drop i t))) count in (
-      λ h. AllPass-from_list_all is_ascii (slice_range t i e) (sym all ∙ h),
-      λ h. all
-          ∙ list_all-from_AllPass is_ascii (slice_range t i e) h,
-    )
+    let bytes = slice_range t i e in
+    let all : b ≡ list_all is_ascii bytes = is ∙ ap (λ k. list_all is_ascii (take k (drop i t))) count in
+    (λ h. AllPass-from_list_all is_ascii bytes (sym all ∙ h), λ h. all ∙ list_all-from_AllPass is_ascii bytes h)

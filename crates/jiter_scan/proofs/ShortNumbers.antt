@@ -61,11 +61,8 @@ module _ (t : List ℕ) where
       (slice_get-get_or t i 0 (omega arith), stands-slice t (i + 1) e (omega arith) within) in
       let rest : e - (i + 1) ≤ prefix_len is_digit (drop (i + 1) t) =
       omega (arith, run_end-on is_digit t i 1 (omega arith) (omega arith)) in
-      let digits : IsDigits (c ∷ cs) = (
-        run_end-passes is_digit t i i (omega arith) (omega arith),
-        prefix_len-pass is_digit (e - (i + 1))
-            (drop (i + 1) t) rest,
-      ) in
+      let others = prefix_len-pass is_digit (e - (i + 1)) (drop (i + 1) t) rest in
+      let digits : IsDigits (c ∷ cs) = (run_end-passes is_digit t i i (omega arith) (omega arith), others) in
       let long : length (c ∷ cs) ≤ 4300 = omega (arith, length-take (e - (i + 1)) (drop (i + 1) t)) in
       whole_at-complete t i e (c ∷ cs) stands (digits, by first) long (no_digit i e run)
     where
