@@ -1,6 +1,6 @@
 //! Where numbers end, with no value made (RFC 8259, 6).
 ghost use Rattle.std.specs.Prelude.{◌≡◌, ◌+◌, ◌<◌, ◌≤◌, Bool, IfOk, IfSome, length, slice_get};
-ghost use Rattle.jiter_scan.specs.Digits.{is_digit, digit_run_end};
+ghost use Rattle.jiter_scan.specs.Digits.{digit_run_end};
 ghost use Rattle.jiter_scan.specs.NumberReading.{extent_then, digits_from, behind_zero, within_limit, whole_at};
 ghost use Rattle.jiter_scan.specs.NumberReading.{fraction_at, exponent_at, power_from, decimal_at, behind_minus};
 ghost use Rattle.jiter_scan.specs.NumberReading.{name_at, number_extent};
@@ -9,17 +9,11 @@ ghost use Rattle.jiter_scan.specs.Scanned.{Scans, taken};
 
 use crate::errors::{Fault, FaultKind, fault_at};
 use crate::short_number::{Short, short_at};
-use crate::simd::{digit_run_end, digits_end};
+use crate::simd::{digit_run_end, digits_end, is_digit};
 use crate::word::{byte_at, word_end};
 
 // The longest integer part that is read, in digits.
 const DIGIT_LIMIT: usize = 4300;
-
-fn is_digit(byte: u8) -> bool
-    ensures { result ≡ is_digit byte }
-{
-    byte.is_ascii_digit()
-}
 
 // One digit or more: the place behind them.
 fn some_digits_end(bytes: &[u8], from: usize) -> Result<usize, Fault>
