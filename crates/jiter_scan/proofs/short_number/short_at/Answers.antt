@@ -1,6 +1,8 @@
 use Rattle.std.proofs.Common.{◌+◌, get_or, sym, ap, ◌∙◌, arith}
 use Rattle.std.proofs.lemmas.Option.{slice_get-get_or}
+use Rattle.std.proofs.lemmas.Bool.{false≢true}
 use Rattle.jiter_scan.specs.Digits.{decimal_of}
+use Rattle.jiter_scan.specs.NumberReading.{is_float_sign}
 use Rattle.jiter_scan.proofs.Magnitudes.{decimal_of-few, magnitude_of-short}
 use Rattle.jiter_scan.proofs.NumberExtents.{decimal_at-tail}
 use Rattle.jiter_scan.proofs.NumberValues.{number_value-tail}
@@ -49,6 +51,16 @@ returns-in-Some c =
       some = omega (arith, place.0);
       within = place.1;
     }
+
+pub returns-in-None : goal.returns-in-None
+returns-in-None c h =
+    let t = c.args.bytes.now in
+    let i = c.args.at in
+    let chunk = c.full_chunk_at-chunk in
+    let run = digits-counted t chunk.result i c.digit_count-count.result c.digit_count-count.ensures (omega arith)
+    (omega arith) chunk.ensures in
+    let alone = ap (λ k. is_float_sign (get_or t k 0)) (sym run) ∙ h.alone in
+    absurd (false≢true (sym alone ∙ sym c.goes_on.ensures ∙ c.if-not-goes_on.false))
 
 pub two_words_at-requires-clause-digits : goal.two_words_at-requires-clause-digits
 two_words_at-requires-clause-digits c =
