@@ -1,4 +1,4 @@
-use Rattle.std.proofs.Common.{◌+◌, get_or, sym, ap, ◌∙◌, arith}
+use Rattle.std.proofs.Common.{rules, ◌+◌, get_or, sym, ap, ◌∙◌, arith}
 use Rattle.std.proofs.lemmas.Option.{slice_get-get_or}
 use Rattle.std.proofs.lemmas.Bool.{false≢true}
 use Rattle.jiter_scan.specs.Digits.{decimal_of}
@@ -9,6 +9,9 @@ use Rattle.jiter_scan.proofs.NumberValues.{number_value-tail}
 use Rattle.jiter_scan.proofs.ShortNumbers.{digits-counted, digits-of_chunk, whole_at-counted, decimal_at-whole}
 use Rattle.jiter_scan.proofs.ShortNumbers.{tail-place}
 use Rattle.jiter_scan.proofs.short_number.short_at.Goals as goal
+use Rattle.jiter_scan.proofs.short_number.short_at.Goals.{then-count-eq0-via-then-count-eq0}
+use Rattle.jiter_scan.proofs.short_number.short_at.Goals.{then-count-eq0-via-else-count-eq0+then-count-ne1}
+use Rattle.jiter_scan.proofs.short_number.short_at.Goals.{then-bytes-at-eq48, else-bytes-at-eq48}
 
 pub returns-then-not-goes_on : goal.returns-then-not-goes_on
 returns-then-not-goes_on c =
@@ -51,6 +54,19 @@ returns-in-Some c =
       some = omega (arith, place.0);
       within = place.1;
     }
+
+pub returns-then-count-eq0 : goal.returns-then-count-eq0
+returns-then-count-eq0 c h =
+    let chunk = c.full_chunk_at-chunk in
+    let run = digits-counted c.args.bytes.now chunk.result c.args.at c.digit_count-count.result
+    c.digit_count-count.ensures (omega arith) (omega (arith, h.room)) chunk.ensures in
+    elim c.then-count-eq0.branch [
+      | then-count-eq0-via-then-count-eq0 w ↦ omega (arith, run, h.some, w.if-count-eq0.true)
+      | then-count-eq0-via-else-count-eq0+then-count-ne1 w ↦ elim w.if-bytes-at-eq48.branch [
+        | then-bytes-at-eq48 zero ↦ h.first zero.if-bytes-at-eq48.true
+        | else-bytes-at-eq48 other ↦ search rules
+      ]
+    ]
 
 pub returns-in-None : goal.returns-in-None
 returns-in-None c h =
