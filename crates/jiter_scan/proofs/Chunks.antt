@@ -1,11 +1,11 @@
 -- Runs of bytes that pass a test, seen a chunk at a time.
 use Rattle.std.proofs.Common.{◌≡◌, ℕ, ◌+◌, ◌*◌, ◌<◌, ◌≤◌, Bool, true, false, not, ◌&&◌, cond, eqb, List, [], ◌∷◌}
-use Rattle.std.proofs.Common.{length, drop, take, refl, sym, ap, ap₂, take-add, drop-drop, ◌∙◌, arith, inl, inr, zero}
-use Rattle.std.proofs.Common.{suc}
+use Rattle.std.proofs.Common.{length, drop, take, refl, sym, ap, ap₂, take-add, drop-drop, ◌∙◌, arith, zero, suc}
 use Rattle.std.proofs.lemmas.Simd.{chunk-drop, length-chunk, trailing_mask_l}
 use Rattle.std.proofs.lemmas.List.Folds.{prefix_len-append, list_all-append}
 use Rattle.std.proofs.lemmas.List.Sums.{prefix_len-le-length}
-use Rattle.std.proofs.lemmas.Bool.{eq-eqb, ne_eqb, cases_eq, false≢true}
+use Rattle.std.proofs.lemmas.Bool.{eq-eqb, ne_eqb, false≢true}
+use Rattle.std.proofs.lemmas.Bool.Decides.{nat_tests}
 use Rattle.std.specs.List.{prefix_len, list_all}
 use lib.Lanes.{chunk}
 use lib.Count.{count_trailing_zeros}
@@ -13,17 +13,9 @@ use Rattle.jiter_scan.specs.Scan.{run_end, Pass}
 use Rattle.jiter_scan.specs.Simd.{failing}
 use Rattle.jiter_scan.proofs.Runs.{run_end-passes, run_end-passing}
 
-twice-zero : (m : ℕ) → eqb m 0 ≡ eqb (0 + 2 * m) 0
-twice-zero m =
-    elim (cases_eq m 0) [
-      | inl z ↦ eq-eqb _ _ z ∙ sym (eq-eqb _ _ (omega arith))
-      | inr n ↦ ne_eqb _ _ n
-          ∙ sym (ne_eqb _ _ (λ (e : 0 + 2 * m ≡ 0). n (omega arith)))
-    ]
-
 one-more : (b : Bool) (m : ℕ) → (b && eqb m 0) ≡ eqb (cond (not b) 1 0 + 2 * m) 0
-one-more true m = twice-zero m
-one-more false m = sym (ne_eqb _ _ (λ (e : 1 + 2 * m ≡ 0). omega arith))
+one-more true m = grind (arith, nat_tests)
+one-more false m = grind (arith, nat_tests)
 
 module _ (test : ℕ → Bool) where
   -- no bit is set where all bytes pass
@@ -109,10 +101,19 @@ module _ (test : ℕ → Bool) where
         (prefix_len-inside (one_fails some)
         ∙ prefix_len-failing (chunk i n t) (omega (arith, length-chunk i n t room)) some)
 
-    pub run_end-near : i + n ≤ length t → 0 < failing test (chunk i n t) → run_end test t i ≤ i + n
-    run_end-near room some =
-        omega
-        (arith, prefix_len-inside (one_fails some), prefix_len-le-length test (chunk i n t), length-chunk i n t room)
+    -- of a mask that is at hand
+    module _ (mask : ℕ) (is : mask ≡ failing test (chunk i n t)) (room : i + n ≤ length t) where
+      pub run_end-clear : mask ≡ 0 → run_end test t i ≡ run_end test t (i + n)
+      run_end-clear none = run_end-through room (sym is ∙ none)
+
+      pub run_end-stopped : n ≤ 64 → 0 < mask → run_end test t i ≡ i + count_trailing_zeros 64 mask
+      run_end-stopped short some =
+          run_end-inside room short (omega arith) ∙ ap (λ m. i + count_trailing_zeros 64 m) (sym is)
+
+      pub run_end-near : 0 < mask → run_end test t i ≤ i + n
+      run_end-near some =
+          let inside = prefix_len-inside (one_fails (omega arith)) in
+          omega (arith, inside, prefix_len-le-length test (chunk i n t), length-chunk i n t room)
 
   -- a chunk of 64 by its four parts
   pub list_all-four : (t : List ℕ) (i : ℕ) → list_all test (chunk i 64 t)

@@ -1,11 +1,11 @@
 -- Digits in words of 64 bits: what three multiplications make of eight, and how sixteen are joined.
-use Rattle.std.proofs.Common.{◌≡◌, ℕ, zero, suc, ◌+◌, ◌-◌, ◌*◌, ◌/◌, ◌%◌, ◌^◌, ◌<◌, ◌≤◌, Bool, true, false, cond, leb}
+use Rattle.std.proofs.Common.{◌≡◌, ℕ, zero, suc, ◌+◌, ◌-◌, ◌*◌, ◌/◌, ◌%◌, ◌^◌, ◌<◌, ◌≤◌, Bool, true, false, cond, eqb}
 use Rattle.std.proofs.Common.{List, [], ◌∷◌, ◌++◌, map, length, get_or, take, drop, replicate, refl, sym, ap, ap₂, ◌∙◌}
 use Rattle.std.proofs.Common.{min, arith, take-add, length-append, length-drop, add-zero, pow-suc, take-take, lit<}
 use Rattle.std.proofs.Common.{mod-lt, zero-lt-suc}
+use Rattle.std.proofs.lemmas.Bool.{eqb-true, agree_below_at}
 use Rattle.std.specs.List.{prefix_len}
 use Rattle.std.specs.Int.Digits.{number_from_digits, number_from_digits_after, AllBelowBase}
-use Rattle.std.proofs.lemmas.Bool.{leb-true, and_parts}
 use Rattle.std.proofs.lemmas.Int.Digits.{number_lt, number_after_append}
 use Rattle.std.proofs.lemmas.Simd.{length-replicate}
 use lib.Arith.{digits_div, digits_mod, mod-mul}
@@ -13,10 +13,12 @@ use lib.Bits.{bit_and, and_block, and_mask}
 use lib.Lanes.{number_l}
 use lib.Pow.{pow-add}
 use lib.ListN.{length-take, length-map}
-use Rattle.std.proofs.lemmas.List.{take_all}
+use Rattle.std.proofs.lemmas.List.{take_all, drop-take}
+use Rattle.std.proofs.Math.Nat.{one-le-pow}
 use native.Mathlib.Nat.{mod-eq_of_lt, zero-mod, zero-div, mul-div_cancel, mul-mod_left, pow-succ', div-div-eq-div-mul}
 use Rattle.jiter_scan.specs.Digits.{is_digit, decimal_of}
 use Rattle.jiter_scan.specs.Simd.{less_zero, IsEightBytes}
+use Rattle.jiter_scan.proofs.Digits.{digit-bounds}
 
 -- the mask keeps bytes 0 and 4
 masked : (x : ℕ) → bit_and x 0x0000_00ff_0000_00ff ≡ x / 2 ^ 32 % 256 * 2 ^ 32 + x % 2 ^ 32 % 256
@@ -101,8 +103,14 @@ worth-eight (a ∷ b ∷ c ∷ d ∷ f ∷ g ∷ i ∷ j ∷ []) word l h e =
     (omega arith) pairs ∙ omega arith
 
 power-positive : (n : ℕ) → 0 < 256 ^ n
-power-positive zero = lit< tt
-power-positive (suc n) = omega (arith, pow-suc 256 n, power-positive n)
+power-positive n = one-le-pow n 256 (lit< tt)
+
+-- eight bits to a byte
+bits-of_bytes : (n : ℕ) → 2 ^ (8 * n) ≡ 256 ^ n
+bits-of_bytes zero = refl
+bits-of_bytes (suc n) =
+    ap (λ k. 2 ^ k) {x = 8 * suc n} {y = 8 * n + 8} (omega arith) ∙ pow-add 2 (8 * n) 8
+    ∙ ap (λ x. x * 256) (bits-of_bytes n) ∙ sym (pow-suc 256 n)
 
 padded : (k : ℕ) (ds : List ℕ) → AllBelowBase 10 ds
     → AllBelowBase 10 (replicate k 0 ++ ds) × (number_l 256 (replicate k 0 ++ ds) ≡ number_l 256 ds * 256 ^ k) ×
@@ -111,7 +119,8 @@ padded zero ds h = (h, omega arith, refl)
 padded (suc k) ds h = let r =
     padded k ds h in ((omega arith, r.0), omega (arith, ap (λ x. number_l 256 ds * x) (pow-suc 256 k)), r.2)
 
-number_l-front : (xs : List ℕ) (n : ℕ) → AllBelowBase 256 xs → number_l 256 xs % 256 ^ n ≡ number_l 256 (take n xs)
+-- the low bytes of a word
+pub number_l-front : (xs : List ℕ) (n : ℕ) → AllBelowBase 256 xs → number_l 256 xs % 256 ^ n ≡ number_l 256 (take n xs)
 number_l-front xs zero h = omega arith
 number_l-front [] (suc n) h = zero-mod _
 number_l-front (x ∷ xs) (suc n) h =
@@ -123,47 +132,25 @@ number_l-front (x ∷ xs) (suc n) h =
 mod-scaled : (a m c : ℕ) → 0 < m → 0 < c → a * c % (m * c) ≡ a % m * c
 mod-scaled a m c M C = rw (mod-mul _ M C, mul-div_cancel a C, mul-mod_left, add-zero)
 
-shift-power : (n : ℕ) → 1 ≤ n → n ≤ 8 → 2 ^ (64 - 8 * n) ≡ 256 ^ (8 - n)
-shift-power zero h l = absurd (omega arith)
-shift-power (suc zero) h l = refl
-shift-power (suc (suc zero)) h l = refl
-shift-power (suc (suc (suc zero))) h l = refl
-shift-power (suc (suc (suc (suc zero)))) h l = refl
-shift-power (suc (suc (suc (suc (suc zero))))) h l = refl
-shift-power (suc (suc (suc (suc (suc (suc zero)))))) h l = refl
-shift-power (suc (suc (suc (suc (suc (suc (suc zero))))))) h l = refl
-shift-power (suc (suc (suc (suc (suc (suc (suc (suc zero)))))))) h l = refl
-shift-power (suc (suc (suc (suc (suc (suc (suc (suc (suc n))))))))) h l = absurd (omega arith)
-
 -- Shifted up until the first n bytes are the last, the word has zeros and then those n.
 pub number_l-shifted : (xs : List ℕ) (n word : ℕ) → IsEightBytes xs → AllBelowBase 10 (take n xs) → 1 ≤ n → n ≤ 8
     → word ≡ number_l 256 xs
     → (ds : List ℕ) × (length ds ≡ 8) × AllBelowBase 10 ds × (word * 2 ^ (64 - 8 * n) % 2 ^ 64 ≡ number_l 256 ds) ×
     (number_from_digits 10 ds ≡ number_from_digits 10 (take n xs))
 number_l-shifted xs n word eight digits some few e =
+    let zeros : List ℕ = replicate (8 - n) 0 in
+    let ds : List ℕ = zeros ++ take n xs in
     let p = padded (8 - n) (take n xs) digits in
+    let count = length-replicate {A = ℕ} (8 - n) 0 in
+    let long : length ds ≡ 8 = omega (arith, length-append zeros (take n xs), count, length-take n xs, eight.0) in
+    let shift : 2 ^ (64 - 8 * n) ≡ 256 ^ (8 - n) =
+    ap (λ k. 2 ^ k) {x = 64 - 8 * n} {y = 8 * (8 - n)} (omega arith) ∙ bits-of_bytes (8 - n) in
     let all : 256 ^ n * 256 ^ (8 - n) ≡ 2 ^ 64 =
-    sym (pow-add 256 n (8 - n)) ∙ ap (λ k. 256 ^ k) {x = n + (8 - n)} {y = 8} (omega arith) in (
-      replicate (8 - n) 0 ++ take n xs,
-      omega (
-        arith,
-        length-append (replicate (8 - n) 0) (take n xs),
-        length-replicate {A = ℕ}
-            (8 - n) 0,
-        length-take n xs,
-        eight.0,
-      ),
-      p.0,
-      rw (
-        e,
-        shift-power n some few,
-        ← all,
-        mod-scaled _ _ _ (power-positive n)
-            (power-positive (8 - n)),
-        number_l-front _ n eight.1,
-      ) (sym p.1),
-      p.2,
-    )
+    sym (pow-add 256 n (8 - n)) ∙ ap (λ k. 256 ^ k) {x = n + (8 - n)} {y = 8} (omega arith) in
+    let same : word * 2 ^ (64 - 8 * n) % 2 ^ 64 ≡ number_l 256 ds =
+    rw (e, shift, ← all, mod-scaled _ _ _ (power-positive n) (power-positive (8 - n)), number_l-front _ n eight.1)
+    (sym p.1) in
+    (ds, long, p.0, same, p.2)
 
 number_l-drop : (k : ℕ) (xs : List ℕ) → AllBelowBase 256 xs → number_l 256 xs / 256 ^ k ≡ number_l 256 (drop k xs)
 number_l-drop zero xs h = omega arith
@@ -186,9 +173,6 @@ AllBelowBase-drop b zero xs h = h
 AllBelowBase-drop b (suc n) [] h = tt
 AllBelowBase-drop b (suc n) (x ∷ xs) h = AllBelowBase-drop b n xs h.1
 
-pub number_l-low : (zs : List ℕ) → AllBelowBase 256 zs → number_l 256 zs % 2 ^ 64 ≡ number_l 256 (take 8 zs)
-number_l-low zs h = number_l-front zs 8 h
-
 pub number_l-high : (zs : List ℕ) → length zs ≡ 16 → AllBelowBase 256 zs → number_l 256 zs / 2 ^ 64 % 2 ^ 64
     ≡ number_l 256 (drop 8 zs)
 number_l-high zs long h =
@@ -196,25 +180,17 @@ number_l-high zs long h =
     ∙ ap (number_l 256) (take_all 8 (drop 8 zs) (omega (arith, length-drop 8 zs)))
 
 pub IsEightBytes-low : (xs : List ℕ) → length xs ≡ 16 → IsEightBytes (take 8 (map less_zero xs))
-IsEightBytes-low xs long = (
-  omega (arith, length-take 8 (map less_zero xs), length-map xs less_zero),
-  AllBelowBase-take 256 8 _
-      (less_zero-below xs),
-)
+IsEightBytes-low xs long =
+    let count = length-take 8 (map less_zero xs) in
+    (omega (arith, count, length-map xs less_zero), AllBelowBase-take 256 8 _ (less_zero-below xs))
 
 pub IsEightBytes-high : (xs : List ℕ) → length xs ≡ 16 → IsEightBytes (drop 8 (map less_zero xs))
-IsEightBytes-high xs long = (
-  omega (arith, length-drop 8 (map less_zero xs), length-map xs less_zero),
-  AllBelowBase-drop 256 8 _
-      (less_zero-below xs),
-)
+IsEightBytes-high xs long =
+    let count = length-drop 8 (map less_zero xs) in
+    (omega (arith, count, length-map xs less_zero), AllBelowBase-drop 256 8 _ (less_zero-below xs))
 
 digit-less_zero : (c : ℕ) → is_digit c ≡ true → (less_zero c < 10) × (less_zero c ≡ c - 48)
-digit-less_zero c e =
-    let p = and_parts (leb 48 c) (leb c 57) e in
-    let low = leb-true 48 c p.0 in
-    let high = leb-true c 57 p.1 in
-    (omega arith, omega arith)
+digit-less_zero c e = let b = digit-bounds c e in (omega arith, omega arith)
 
 number-after : (n : ℕ) (ds : List ℕ) → number_from_digits_after 10 n ds ≡ n * 10 ^ length ds + number_from_digits 10 ds
 number-after n [] = omega arith
@@ -261,39 +237,20 @@ number-in_two zs n some few =
     ∙ number-after (number_from_digits 10 (take 8 zs)) (take m (drop 8 zs))
     ∙ ap (λ k. number_from_digits 10 (take 8 zs) * 10 ^ k + number_from_digits 10 (take m (drop 8 zs))) long
 
-drop-take : (k n : ℕ) (xs : List ℕ) → k ≤ n → drop k (take n xs) ≡ take (n - k) (drop k xs)
-drop-take zero n xs h = ap (λ k. take k xs) {x = n} {y = n - 0} (omega arith)
-drop-take (suc k) zero xs h = absurd (omega arith)
-drop-take (suc k) (suc n) [] h = sym (take_nil (suc n - suc k))
-  where
-    none : List ℕ
-    none = []
-
-    take_nil : (m : ℕ) → take m none ≡ none
-    take_nil zero = refl
-    take_nil (suc m) = refl
-drop-take (suc k) (suc n) (x ∷ xs) h =
-    drop-take k n xs (omega arith) ∙ ap (λ m. take m (drop k xs)) {x = n - k} (omega arith)
-
 pub AllBelowBase-in_two : (zs : List ℕ) (n : ℕ) → 8 ≤ n → AllBelowBase 10 (take n zs)
     → AllBelowBase 10 (take 8 zs) × AllBelowBase 10 (take (n - 8) (drop 8 zs))
 AllBelowBase-in_two zs n some h =
     let a = AllBelowBase-take 10 8 (take n zs) h in
     let b = AllBelowBase-drop 10 8 (take n zs) h in
-    (rw (take-take 8 n zs some) at a, rw (drop-take 8 n zs some) at b)
+    let behind : drop 8 (take n zs) ≡ take (n - 8) (drop 8 zs) =
+    ap (λ k. drop 8 (take k zs)) {x = n} {y = 8 + (n - 8)} (omega arith) ∙ drop-take 8 (n - 8) zs in
+    (rw (take-take 8 n zs some) at a, rw behind at b)
 
 pub number-eight_below : (ds : List ℕ) → length ds ≡ 8 → AllBelowBase 10 ds → number_from_digits 10 ds < 100000000
 number-eight_below ds long h = omega (arith, rw long at (number_lt 10 ds h))
 
-pub power-at : (n : ℕ) → n ≤ 8 → get_or
-    (1 ∷ 10 ∷ 100 ∷ 1000 ∷ 10000 ∷ 100000 ∷ 1000000 ∷ 10000000 ∷ 100000000 ∷ []) n 0 ≡ 10 ^ n
-power-at zero h = refl
-power-at (suc zero) h = refl
-power-at (suc (suc zero)) h = refl
-power-at (suc (suc (suc zero))) h = refl
-power-at (suc (suc (suc (suc zero)))) h = refl
-power-at (suc (suc (suc (suc (suc zero))))) h = refl
-power-at (suc (suc (suc (suc (suc (suc zero)))))) h = refl
-power-at (suc (suc (suc (suc (suc (suc (suc zero))))))) h = refl
-power-at (suc (suc (suc (suc (suc (suc (suc (suc zero)))))))) h = refl
-power-at (suc (suc (suc (suc (suc (suc (suc (suc (suc n))))))))) h = absurd (omega arith)
+abbrev tens : List ℕ
+tens = 1 ∷ 10 ∷ 100 ∷ 1000 ∷ 10000 ∷ 100000 ∷ 1000000 ∷ 10000000 ∷ 100000000 ∷ []
+
+pub power-at : (n : ℕ) → n ≤ 8 → get_or tens n 0 ≡ 10 ^ n
+power-at n h = eqb-true _ _ (agree_below_at (λ k. eqb (get_or tens k 0) (10 ^ k)) (λ _. true) 9 n refl (omega arith))

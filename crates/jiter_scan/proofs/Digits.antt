@@ -1,12 +1,16 @@
 -- The values of decimal digits.
 use Rattle.std.proofs.Common.{◌≡◌, ℕ, ◌+◌, ◌-◌, ◌*◌, ◌^◌, ◌<◌, ◌≤◌, length, List, [], ◌∷◌, ◌++◌, sym, ap, ◌∙◌, leb}
-use Rattle.std.proofs.Common.{arith, pow-suc}
+use Rattle.std.proofs.Common.{true, arith, pow-suc}
 use Rattle.std.proofs.Math.Nat.{mul_assoc, add-mul, mul-le-mul_right}
 use Rattle.std.proofs.lemmas.Bool.{leb-true, and_parts}
 use Rattle.std.proofs.lemmas.List.{length-append}
 use Rattle.std.proofs.lemmas.Nat.{pow-add}
-use Rattle.jiter_scan.specs.Digits.{decimal_of}
+use Rattle.jiter_scan.specs.Digits.{is_digit, decimal_of}
 use Rattle.jiter_scan.specs.Number.{AreDigits}
+
+-- `0` to `9` by their codes
+pub digit-bounds : (c : ℕ) → is_digit c ≡ true → (48 ≤ c) × (c ≤ 57)
+digit-bounds c h = let p = and_parts (leb 48 c) (leb c 57) h in (leb-true 48 c p.0, leb-true c 57 p.1)
 
 -- digits behind others
 pub decimal_of-append : (u v : List ℕ) → decimal_of (u ++ v) ≡ decimal_of u * 10 ^ length v + decimal_of v
@@ -22,8 +26,7 @@ decimal_of-append (c ∷ u) v =
 pub decimal_of-below : (w : List ℕ) → AreDigits w → decimal_of w < 10 ^ length w
 decimal_of-below [] h = omega arith
 decimal_of-below (c ∷ w) h =
-    let high = leb-true c 57 (and_parts (leb 48 c) (leb c 57) h.0).1 in
-    let digit : c - 48 ≤ 9 = omega arith in
+    let digit : c - 48 ≤ 9 = omega (arith, (digit-bounds c h.0).1) in
     omega (arith, mul-le-mul_right (10 ^ length w) digit, pow-suc 10 (length w), decimal_of-below w h.1)
 
 -- and no less than one and a zero for each behind the first, which is none itself

@@ -21,11 +21,6 @@ if_less a b = cond (ltb a b) 255 0
 abbrev pub if_at_most : ℕ → ℕ → ℕ
 if_at_most a b = cond (leb a b) 255 0
 
--- a vector, as computed lane by lane from itself
-pub lanes_alone : (v : List ℕ) → v ≡ map (λ x. x) v
-lanes_alone [] = refl
-lanes_alone (x ∷ v) = ap (λ r. x ∷ r) (lanes_alone v)
-
 each-byte : (f : ℕ → ℕ) (test : ℕ → Bool) → agree_below (λ x. top 7 (f x)) (λ c. not (test c)) 256 ≡ true
     → (v : List ℕ) → Each1 (Fits w8) v → map (top 7) (map f v) ≡ map (λ c. not (test c)) v
 each-byte f test all [] fits = refl

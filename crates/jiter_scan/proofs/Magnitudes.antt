@@ -1,26 +1,18 @@
 -- The magnitude of a run of digits, by words of sixteen.
 use Rattle.std.proofs.Common.{◌≡◌, ℕ, ◌+◌, ◌-◌, ◌*◌, ◌^◌, ◌<◌, ◌≤◌, length, take, drop, get_or, List, [], ◌∷◌, ◌++◌}
-use Rattle.std.proofs.Common.{sym, ap, ◌∙◌, subst, slice_range, arith, take-add, drop-drop, drop-cons}
+use Rattle.std.proofs.Common.{sym, ap, ap₂, ◌∙◌, subst, slice_range, arith, drop-cons}
 use Rattle.std.proofs.Math.Nat.{pow-le-pow_right}
 use Rattle.std.proofs.lemmas.List.{length-take, length-drop}
-use Rattle.std.specs.Prelude.{Some, None, nat_le}
+use Rattle.std.specs.Prelude.{Some, nat_le}
 use Rattle.std.specs.List.{prefix_len}
 use Rattle.jiter_scan.specs.Digits.{is_digit, digit_run_end, decimal_of}
 use Rattle.jiter_scan.specs.Number.{AreDigits}
 use Rattle.jiter_scan.specs.NumberDecoder.{magnitude_of}
 use Rattle.jiter_scan.specs.Simd.{digits_end}
 use Rattle.jiter_scan.proofs.Choices.{if_gives}
-use Rattle.jiter_scan.proofs.Chunks.{prefix_len-front, prefix_len-pass, run_end-on}
+use Rattle.jiter_scan.proofs.Chunks.{prefix_len-front, prefix_len-pass}
+use Rattle.jiter_scan.proofs.Standing.{slice_range-split}
 use Rattle.jiter_scan.proofs.Digits.{decimal_of-append, decimal_of-below, decimal_of-above}
-
--- a range in two
-slice_range-split : (t : List ℕ) (i j k : ℕ) → i ≤ j → j ≤ k → slice_range t i k
-    ≡ slice_range t i j ++ slice_range t j k
-slice_range-split t i j k low high =
-    let count : k - i ≡ (j - i) + (k - j) = omega arith in
-    let place : i + (j - i) ≡ j = omega arith in
-    ap (λ n. take n (drop i t)) count ∙ take-add (j - i) (k - j) (drop i t)
-    ∙ ap (λ l. slice_range t i j ++ take (k - j) l) (drop-drop (j - i) i t ∙ ap (λ n. drop n t) place)
 
 pub slice_range-count : (t : List ℕ) (i n : ℕ) → slice_range t i (i + n) ≡ take n (drop i t)
 slice_range-count t i n = let count : i + n - i ≡ n = omega arith in ap (λ k. take k (drop i t)) count
@@ -28,7 +20,7 @@ slice_range-count t i n = let count : i + n - i ≡ n = omega arith in ap (λ k.
 -- where digits end within a limit
 pub digits_end-some : (t : List ℕ) (i limit e : ℕ) → Some e ≡ digits_end t i limit → e ≡ digit_run_end t i
 digits_end-some t i limit e h =
-    if_gives (nat_le (digit_run_end t i) (i + limit)) (Some (digit_run_end t i)) None (Some e) (sym h)
+    if_gives (nat_le (digit_run_end t i) (i + limit)) _ _ _ (sym h)
     (λ few is. let same : e ≡ digit_run_end t i = cc in same)
     (λ many is. let no : ⊥ = cc in absurd no)
 
@@ -40,12 +32,6 @@ module _ (t : List ℕ) where
       let counted : n ≤ prefix_len is_digit (drop i t) = omega arith in
       let found = prefix_len-front is_digit n (drop i t) chunk (sym (front ∙ slice_range-count t i n)) counted in
       omega arith
-
-  -- also from a place within the run
-  pub digits-front-behind : (chunk : List ℕ) (i k n : ℕ) → i + k + n ≤ digit_run_end t i → i + k + n ≤ length t
-      → take n chunk ≡ slice_range t (i + k) (i + k + n) → n ≤ digit_run_end chunk 0
-  digits-front-behind chunk i k n run within front =
-      digits-front chunk (i + k) n front (omega (arith, run_end-on is_digit t i k (omega arith) (omega arith)))
 
   module _ (i e : ℕ) (some : i ≤ e) (run : e ≤ digit_run_end t i) (within : e ≤ length t) where
     long : length (slice_range t i e) ≡ e - i
@@ -74,7 +60,7 @@ module _ (t : List ℕ) where
         slice_range-count t i 1 ∙ ap (take 1) (drop-cons t i 0 (omega arith)) in
         let rest = slice_range t (i + 1) e in
         let whole : slice_range t i e ≡ get_or t i 0 ∷ rest =
-        slice_range-split t i (i + 1) e (omega arith) (omega arith) ∙ ap (λ w. w ++ rest) one in
+        slice_range-split t i (i + 1) (omega arith) e (omega arith) ∙ ap (λ w. w ++ rest) one in
         let count : length rest ≡ e - (i + 1) =
         omega (arith, length-take (e - (i + 1)) (drop (i + 1) t), length-drop (i + 1) t) in
         let least : 10 ^ 19 ≤ 10 ^ length rest =
@@ -83,14 +69,14 @@ module _ (t : List ℕ) where
         subst (λ w. 10 ^ length rest ≤ decimal_of w) (sym whole) (decimal_of-above (get_or t i 0) rest first) in
         omega arith
 
-  -- the word of sixteen, and those behind them
-  pub decimal_of-joined : (i e : ℕ) → i + 16 ≤ e → e ≤ length t
-      → decimal_of (slice_range t i (i + 16)) * 10 ^ (e - i - 16) + decimal_of (slice_range t (i + 16) e)
-      ≡ decimal_of (slice_range t i e)
-  decimal_of-joined i e many within =
-      let back = slice_range t (i + 16) e in
-      let count : length back ≡ e - i - 16 =
+  -- the value of sixteen digits, and that of those behind them
+  pub decimal_of-joined : (i e a b : ℕ) → i + 16 ≤ e → e ≤ length t → a ≡ decimal_of (slice_range t i (i + 16))
+      → b ≡ decimal_of (slice_range t (i + 16) e) → a * 10 ^ (e - i - 16) + b ≡ decimal_of (slice_range t i e)
+  decimal_of-joined i e a b many within front behind =
+      let first = slice_range t i (i + 16) in
+      let rest = slice_range t (i + 16) e in
+      let count : length rest ≡ e - i - 16 =
       omega (arith, length-take (e - (i + 16)) (drop (i + 16) t), length-drop (i + 16) t) in
-      sym (ap decimal_of (slice_range-split t i (i + 16) e (omega arith) many)
-      ∙ decimal_of-append (slice_range t i (i + 16)) back
-      ∙ ap (λ n. decimal_of (slice_range t i (i + 16)) * 10 ^ n + decimal_of back) count)
+      ap₂ (λ x y. x * 10 ^ (e - i - 16) + y) front behind
+      ∙ sym (ap decimal_of (slice_range-split t i (i + 16) (omega arith) e many)
+      ∙ decimal_of-append first rest ∙ ap (λ n. decimal_of first * 10 ^ n + decimal_of rest) count)

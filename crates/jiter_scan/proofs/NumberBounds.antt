@@ -1,13 +1,12 @@
 -- How far the reading of a number gets.
-use Rattle.std.proofs.Common.{◌≡◌, ◌≢◌, ℕ, ◌+◌, ◌<◌, ◌≤◌, Bool, true, false, ◌||◌, List, length, slice_range, refl, sym}
-use Rattle.std.proofs.Common.{◌∙◌, arith}
+use Rattle.std.proofs.Common.{◌≡◌, ◌≢◌, ℕ, ◌+◌, ◌<◌, ◌≤◌, Bool, true, false, ◌||◌, List, length, refl, sym, ◌∙◌, arith}
 use Rattle.std.specs.Prelude.{slice_get, Option, Some, None, ◌==◌, if◌then◌else◌, nat_le, codes}
 use Rattle.std.proofs.lemmas.Bool.{leb-false, false≢true}
 use Rattle.std.proofs.lemmas.Option.{slice_get_within}
 use Rattle.jiter_scan.specs.Digits.{is_digit, digit_run_end}
 use Rattle.jiter_scan.specs.Kind.{Kind, out_of_memory, is_end_kind, eof_value, expected_value, invalid_number}
 use Rattle.jiter_scan.specs.Kind.{number_out_of_range}
-use Rattle.jiter_scan.specs.Number.{Number, digit_limit, number_value}
+use Rattle.jiter_scan.specs.Number.{Number, digit_limit}
 use Rattle.jiter_scan.specs.NumberReading.{extent_then, digits_from, behind_zero, within_limit, whole_from, whole_at}
 use Rattle.jiter_scan.specs.NumberReading.{fraction_from, fraction_at, power_from, exponent_from, exponent_at}
 use Rattle.jiter_scan.specs.NumberReading.{decimal_at, behind_minus, name_at, extent_from, number_extent, with_value}
@@ -37,14 +36,16 @@ module _ (t : List ℕ) where
   end-reaches i n k m le e =
       let past = get-none t i e in (omega arith, record { within = le; ends = λ h. omega arith; bytes = m })
 
-  farther : (i n j m : ℕ) (x : Extent) → i ≤ j → i + n ≤ j + m → Reaches t j m x → Reaches t i n x
+  -- what reaches so far from a place ahead reaches farther from here
+  pub farther : (i n j m : ℕ) (x : Extent) → i ≤ j → i + n ≤ j + m → Reaches t j m x → Reaches t i n x
   farther i n j m (taken u e) p q h = (omega (arith, h.0), h.1)
   farther i n j m (failed k e) p q h = (omega (arith, h.0), h.1)
 
-  extent_then-reaches : (i n : ℕ) (x : Extent) (next : ℕ → Extent) → Reaches t i n x
+  -- a part that reaches so far does with what follows it
+  pub extent_then-reaches : (i n : ℕ) (x : Extent) (next : ℕ → Extent) → Reaches t i n x
       → ((j : ℕ) → j ≤ length t → Reaches t j 0 (next j)) → Reaches t i n (extent_then x next)
   extent_then-reaches i n (taken u e) next h go =
-      farther i n e 0 (next e) (omega (arith, h.0)) (omega (arith, h.0)) (go e h.1)
+      farther i n e 0 _ (omega (arith, h.0)) (omega (arith, h.0)) (go e h.1)
   extent_then-reaches i n (failed k j) next h go = h
 
   pub digits_from-reaches : (i : ℕ) (o : Option ℕ) → slice_get t i ≡ o → i ≤ length t
@@ -52,21 +53,19 @@ module _ (t : List ℕ) where
   digits_from-reaches i None s le = end-reaches i 1 eof_value (λ e. cc) le s
   digits_from-reaches i (Some c) s le =
       let run = run_end-within is_digit t i le in
-      if_case (Reaches t i 1) (is_digit c) (taken tt (digit_run_end t i)) (failed invalid_number i)
+      if_case (Reaches t i 1) (is_digit c) _ _
       (λ d. let more = run_end-more is_digit t i c s d in (omega (arith, run_end-ahead is_digit t (i + 1)), run))
       (λ d. fault-reaches i 1 i invalid_number (λ e. cc) refl (omega arith) le)
 
   behind_zero-reaches : (i : ℕ) (o : Option ℕ) → i + 1 ≤ length t → Reaches t i 1 (behind_zero (i + 1) o)
   behind_zero-reaches i None le = (omega arith, le)
   behind_zero-reaches i (Some c) le =
-      if_case (Reaches t i 1) (is_digit c) (failed invalid_number (i + 1)) (taken tt (i + 1))
+      if_case (Reaches t i 1) (is_digit c) _ _
       (λ d. fault-reaches i 1 (i + 1) invalid_number (λ e. cc) refl (omega arith) le) (λ d. (omega arith, le))
 
   within_limit-reaches : (i e : ℕ) → i < e → e ≤ length t → Reaches t i 1 (within_limit i e)
   within_limit-reaches i e some le =
-      if_case (Reaches t i 1) (nat_le e (i + digit_limit)) (taken tt e)
-      (failed number_out_of_range (i + (digit_limit + 1)))
-      (λ h. (omega arith, le))
+      if_case (Reaches t i 1) (nat_le e (i + digit_limit)) _ _ (λ h. (omega arith, le))
       (λ h. let long = leb-false e (i + digit_limit) h in fault-reaches i 1 (i + (digit_limit + 1))
       number_out_of_range (λ e. cc) refl (omega arith) (omega arith))
 
@@ -75,10 +74,8 @@ module _ (t : List ℕ) where
   whole_from-reaches i (Some c) s le =
       let lt = slice_get_within t i c s in
       let run = run_end-within is_digit t i le in
-      if_case (Reaches t i 1) (c == 48) (behind_zero (i + 1) (slice_get t (i + 1)))
-      (if is_digit c then within_limit i (digit_run_end t i) else failed invalid_number i)
-      (λ z. behind_zero-reaches i (slice_get t (i + 1)) (omega arith))
-      (λ z. if_case (Reaches t i 1) (is_digit c) (within_limit i (digit_run_end t i)) (failed invalid_number i)
+      if_case (Reaches t i 1) (c == 48) _ _ (λ z. behind_zero-reaches i (slice_get t (i + 1)) (omega arith))
+      (λ z. if_case (Reaches t i 1) (is_digit c) _ _
       (λ d. let more = run_end-more is_digit t i c s d in within_limit-reaches i (digit_run_end t i)
       (omega (arith, run_end-ahead is_digit t (i + 1))) run)
       (λ d. fault-reaches i 1 i invalid_number (λ e. cc) refl (omega arith) le))
@@ -88,8 +85,7 @@ module _ (t : List ℕ) where
   fraction_from-reaches i None s le = (omega arith, le)
   fraction_from-reaches i (Some c) s le =
       let lt = slice_get_within t i c s in
-      if_case (Reaches t i 0) (c == 46) (digits_from t (i + 1) (slice_get t (i + 1))) (taken tt i)
-      (λ p. farther i 0 (i + 1) 1 (digits_from t (i + 1) (slice_get t (i + 1))) (omega arith) (omega arith)
+      if_case (Reaches t i 0) (c == 46) _ _ (λ p. farther i 0 (i + 1) 1 _ (omega arith) (omega arith)
       (digits_from-reaches (i + 1) (slice_get t (i + 1)) refl (omega arith)))
       (λ p. (omega arith, le))
 
@@ -97,11 +93,9 @@ module _ (t : List ℕ) where
   power_from-reaches i None s le = end-reaches i 0 eof_value (λ e. cc) le s
   power_from-reaches i (Some c) s le =
       let lt = slice_get_within t i c s in
-      if_case (Reaches t i 0) ((c == 43) || (c == 45)) (digits_from t (i + 1) (slice_get t (i + 1)))
-      (digits_from t i (Some c))
-      (λ p. farther i 0 (i + 1) 1 (digits_from t (i + 1) (slice_get t (i + 1))) (omega arith) (omega arith)
+      if_case (Reaches t i 0) ((c == 43) || (c == 45)) _ _ (λ p. farther i 0 (i + 1) 1 _ (omega arith) (omega arith)
       (digits_from-reaches (i + 1) (slice_get t (i + 1)) refl (omega arith)))
-      (λ p. farther i 0 i 1 (digits_from t i (Some c)) (omega arith) (omega arith)
+      (λ p. farther i 0 i 1 _ (omega arith) (omega arith)
       (digits_from-reaches i (Some c) s le))
 
   exponent_from-reaches : (i : ℕ) (o : Option ℕ) → slice_get t i ≡ o → i ≤ length t
@@ -109,15 +103,14 @@ module _ (t : List ℕ) where
   exponent_from-reaches i None s le = (omega arith, le)
   exponent_from-reaches i (Some c) s le =
       let lt = slice_get_within t i c s in
-      if_case (Reaches t i 0) ((c == 101) || (c == 69)) (power_from t (i + 1) (slice_get t (i + 1))) (taken tt i)
-      (λ p. farther i 0 (i + 1) 0 (power_from t (i + 1) (slice_get t (i + 1))) (omega arith) (omega arith)
+      if_case (Reaches t i 0) ((c == 101) || (c == 69)) _ _ (λ p. farther i 0 (i + 1) 0 _ (omega arith) (omega arith)
       (power_from-reaches (i + 1) (slice_get t (i + 1)) refl (omega arith)))
       (λ p. (omega arith, le))
 
   pub whole_at-reaches : (i : ℕ) → i ≤ length t → Reaches t i 1 (whole_at t i)
   whole_at-reaches i le = whole_from-reaches i (slice_get t i) refl le
 
-  pub fraction_at-reaches : (i : ℕ) → i ≤ length t → Reaches t i 0 (fraction_at t i)
+  fraction_at-reaches : (i : ℕ) → i ≤ length t → Reaches t i 0 (fraction_at t i)
   fraction_at-reaches i le = fraction_from-reaches i (slice_get t i) refl le
 
   pub exponent_at-reaches : (i : ℕ) → i ≤ length t → Reaches t i 0 (exponent_at t i)
@@ -151,24 +144,17 @@ module _ (t : List ℕ) where
       → Reaches t i 1 (behind_minus names t i o)
   behind_minus-reaches names i None s le = end-reaches i 1 eof_value (λ e. cc) le s
   behind_minus-reaches names i (Some c) s le =
-      if_case (Reaches t i 1) (c == 73) (if names then word_at t (codes "Infinity") i else failed invalid_number i)
-      (decimal_at t i)
-      (λ p. infinity-reaches names i le) (λ p. decimal_at-reaches i le)
+      if_case (Reaches t i 1) (c == 73) _ _ (λ p. infinity-reaches names i le) (λ p. decimal_at-reaches i le)
 
   extent_from-reaches : (names : Bool) (i : ℕ) (o : Option ℕ) → slice_get t i ≡ o → i ≤ length t
       → Reaches t i 1 (extent_from names t i o)
   extent_from-reaches names i None s le = end-reaches i 1 eof_value (λ e. cc) le s
   extent_from-reaches names i (Some c) s le =
       let lt = slice_get_within t i c s in
-      if_case (Reaches t i 1) (c == 45) (behind_minus names t (i + 1) (slice_get t (i + 1)))
-      (if c == 78 then name_at names t (codes "NaN") i else
-      (if c == 73 then name_at names t (codes "Infinity") i else decimal_at t i))
-      (λ p. farther i 1 (i + 1) 1 (behind_minus names t (i + 1) (slice_get t (i + 1))) (omega arith) (omega arith)
+      if_case (Reaches t i 1) (c == 45) _ _ (λ p. farther i 1 (i + 1) 1 _ (omega arith) (omega arith)
       (behind_minus-reaches names (i + 1) (slice_get t (i + 1)) refl (omega arith)))
-      (λ p. if_case (Reaches t i 1) (c == 78) (name_at names t (codes "NaN") i)
-      (if c == 73 then name_at names t (codes "Infinity") i else decimal_at t i)
-      (λ q. name_at-reaches names (codes "NaN") i (omega arith) le)
-      (λ q. if_case (Reaches t i 1) (c == 73) (name_at names t (codes "Infinity") i) (decimal_at t i)
+      (λ p. if_case (Reaches t i 1) (c == 78) _ _ (λ q. name_at-reaches names (codes "NaN") i (omega arith) le)
+      (λ q. if_case (Reaches t i 1) (c == 73) _ _
       (λ r. name_at-reaches names (codes "Infinity") i (omega arith) le) (λ r. decimal_at-reaches i le)))
 
   pub number_extent-reaches : (names : Bool) (i : ℕ) → i ≤ length t → Reaches t i 1 (number_extent names t i)
@@ -177,8 +163,7 @@ module _ (t : List ℕ) where
   integer_or_float-within : (i e : ℕ) (o : Option ℕ) → e ≤ length t → Within t (integer_or_float t i e o)
   integer_or_float-within i e None h = h
   integer_or_float-within i e (Some c) h =
-      if_case (Within t) (is_float_sign c) (taken float_seen e) (taken (whole (number_value (slice_range t i e))) e)
-      (λ _. h) (λ _. h)
+      if_case (Within t) (is_float_sign c) _ _ (λ _. h) (λ _. h)
 
   integer_behind-within : (i j : ℕ) (x : Extent) → Reaches t j 1 x → Within t (integer_behind t i x)
   integer_behind-within i j (taken u e) h = integer_or_float-within i e (slice_get t e) h.1
@@ -188,22 +173,20 @@ module _ (t : List ℕ) where
       → Within t (integer_behind_minus t i o)
   integer_behind_minus-within i None s le = (end-reaches (i + 1) 0 eof_value (λ e. cc) le s).1
   integer_behind_minus-within i (Some c) s le =
-      if_case (Within t) (c == 73) (taken float_seen (i + 1)) (integer_behind t i (whole_at t (i + 1)))
+      if_case (Within t) (c == 73) _ _
       (λ _. le) (λ _. integer_behind-within i (i + 1) (whole_at t (i + 1)) (whole_at-reaches (i + 1) le))
 
   integer_from-within : (i : ℕ) (o : Option ℕ) → slice_get t i ≡ o → i ≤ length t → Within t (integer_from t i o)
   integer_from-within i None s le = (end-reaches i 0 eof_value (λ e. cc) le s).1
   integer_from-within i (Some c) s le =
       let lt = slice_get_within t i c s in
-      if_case (Within t) (c == 45) (integer_behind_minus t i (slice_get t (i + 1)))
-      (if (c == 78) || (c == 73) then taken float_seen i else integer_behind t i (whole_at t i))
-      (λ _. integer_behind_minus-within i (slice_get t (i + 1)) refl (omega arith))
-      (λ _. if_case (Within t) ((c == 78) || (c == 73)) (taken float_seen i) (integer_behind t i (whole_at t i))
+      if_case (Within t) (c == 45) _ _ (λ _. integer_behind_minus-within i (slice_get t (i + 1)) refl (omega arith))
+      (λ _. if_case (Within t) ((c == 78) || (c == 73)) _ _
       (λ _. le) (λ _. integer_behind-within i i (whole_at t i) (whole_at-reaches i le)))
 
   alone-within : (x : Scanned Number) → Within t x → Within t (alone t x)
   alone-within (taken n e) h =
-      if_case (Within t) (length t == e) (taken n e) (failed invalid_number e) (λ _. h)
+      if_case (Within t) (length t == e) _ _ (λ _. h)
       (λ _. (fault-reaches 0 0 e invalid_number (λ e. cc) refl (omega arith) h).1)
   alone-within (failed k j) h = h
 
@@ -215,7 +198,7 @@ module _ (t : List ℕ) where
   if_number-within : (o : Option ℕ) (x : Scanned Number) → Within t x → Within t (if_number o x)
   if_number-within None x h = (fault-reaches 0 0 0 invalid_number (λ e. cc) refl (omega arith) (omega arith)).1
   if_number-within (Some c) x h =
-      if_case (Within t) (begins_number c) x (failed invalid_number 0) (λ _. h)
+      if_case (Within t) (begins_number c) _ _ (λ _. h)
       (λ _. (fault-reaches 0 0 0 invalid_number (λ e. cc) refl (omega arith) (omega arith)).1)
 
   with_value-inside : (i : ℕ) (x : Extent) → Reaches t i 1 x → Within t (with_value t i x)

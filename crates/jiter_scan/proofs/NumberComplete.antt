@@ -1,21 +1,20 @@
 -- A number's text is read as a number, where the byte behind it does not go on it.
 use Rattle.std.proofs.Common.{◌≡◌, ◌≢◌, ◌⊎◌, inl, inr, ℕ, ◌+◌, ◌≤◌, Bool, true, false, ◌||◌, List, [], ◌∷◌, ◌++◌}
 use Rattle.std.proofs.Common.{length, refl, sym, ap, ◌∙◌, subst, arith}
-use Rattle.std.specs.Prelude.{slice_get, slice_range, Option, Some, None, IfSome, ◌==◌, if◌then◌else◌, nat_le, codes}
-use Rattle.std.proofs.lemmas.Bool.{ne_eqb, leb-true, le-leb, and_parts, cases_eq}
+use Rattle.std.specs.Prelude.{slice_get, slice_range, Option, Some, None, IfSome, ◌==◌, nat_le, codes}
+use Rattle.std.proofs.lemmas.Bool.Decides.{nat_tests}
+use Rattle.std.proofs.lemmas.Bool.{ne_eqb, le-leb, cases_eq}
 use Rattle.std.proofs.lemmas.Option.{IfSome_then}
 use Rattle.jiter_scan.specs.Digits.{is_digit, digit_run_end}
-use Rattle.jiter_scan.specs.Kind.{invalid_number, number_out_of_range}
 use Rattle.jiter_scan.specs.Number.{number_value, IsDigits, IsMinus, IsWhole, IsFraction, IsSign, IsExponent, IsDecimal}
 use Rattle.jiter_scan.specs.Number.{IsName, IsNumberText, digit_limit}
-use Rattle.jiter_scan.specs.NumberReading.{extent_then, digits_from, behind_zero, within_limit, whole_from, whole_at}
-use Rattle.jiter_scan.specs.NumberReading.{fraction_from, fraction_at, power_from, exponent_from, exponent_at}
-use Rattle.jiter_scan.specs.NumberReading.{decimal_at, behind_minus, name_at, extent_from, number_extent, with_value}
-use Rattle.jiter_scan.specs.NumberReading.{number_at}
-use Rattle.jiter_scan.specs.Scanned.{taken, failed}
+use Rattle.jiter_scan.specs.NumberReading.{digits_from, behind_zero, whole_from, whole_at, fraction_from, fraction_at}
+use Rattle.jiter_scan.specs.NumberReading.{power_from, exponent_from, exponent_at, decimal_at, behind_minus}
+use Rattle.jiter_scan.specs.NumberReading.{extent_from, number_extent, with_value, number_at}
+use Rattle.jiter_scan.specs.Scanned.{taken}
 use Rattle.jiter_scan.specs.Stands.{Stands}
-use Rattle.jiter_scan.specs.Word.{word_at}
 use Rattle.jiter_scan.proofs.Choices.{if-true, if-false}
+use Rattle.jiter_scan.proofs.NumberExtents.{decimal_at-tail, tail-parts, extent-decimal, extent-minus}
 use Rattle.jiter_scan.proofs.Runs.{NoDigit, run_end-complete}
 use Rattle.jiter_scan.proofs.Standing.{First, stands-length, stands-split, stands-slice, stands-next}
 use Rattle.jiter_scan.proofs.WordLaws.{word_at-complete}
@@ -36,30 +35,16 @@ NoPoint c = (is_digit c ≡ false) × ((c == 46) ≡ false)
 abbrev NoPart : ℕ → Type 0
 NoPart c = (is_digit c ≡ false) × ((c == 46) ≡ false) × (((c == 101) || (c == 69)) ≡ false)
 
--- `0` to `9` by their codes
-pub digit-bounds : (c : ℕ) → is_digit c ≡ true → (48 ≤ c) × (c ≤ 57)
-digit-bounds c h = let p = and_parts (nat_le 48 c) (nat_le c 57) h in (leb-true 48 c p.0, leb-true c 57 p.1)
-
 no_part : (c : ℕ) → continues_number c ≡ false → NoPart c
-no_part c h = by (is_digit c) (c == 46) (c == 101) (c == 69) h where
-  by : (a b d f : Bool) → (a || b || d || f) ≡ false → (a ≡ false) × (b ≡ false) × ((d || f) ≡ false)
-  by false false false false h = (refl, refl, refl)
-  by true b d f h = absurd (cc)
-  by false true d f h = absurd (cc)
-  by false false true f h = absurd (cc)
-  by false false false true h = absurd (cc)
+no_part c h = (grind (arith, nat_tests), grind (arith, nat_tests), grind (arith, nat_tests))
 
 power-no_point : (c : ℕ) → (c ≡ 101) ⊎ (c ≡ 69) → NoPoint c
 power-no_point c (inl e) = (ap is_digit e, ap (λ x. x == 46) e)
 power-no_point c (inr e) = (ap is_digit e, ap (λ x. x == 46) e)
 
 exponent-first : (w : List ℕ) → IsExponent w → First w NoPoint
-exponent-first [] h = tt
-exponent-first (c ∷ w) (inl none) = absurd (cc)
-exponent-first (c ∷ w) (inr p) = power-no_point c (by c p.letter w (p.sign ++ p.digits) p.is p.is_letter) where
-  by : (a b : ℕ) (v w : List ℕ) → a ∷ v ≡ b ∷ w → (b ≡ 101) ⊎ (b ≡ 69) → (a ≡ 101) ⊎ (a ≡ 69)
-  by a b v w e (inl x) = inl (cc)
-  by a b v w e (inr x) = inr (cc)
+exponent-first w (inl none) = subst (λ v. First v NoPoint) (sym none) tt
+exponent-first w (inr p) = subst (λ v. First v NoPoint) (sym p.is) (power-no_point p.letter p.is_letter)
 
 fraction-first : (w : List ℕ) → IsFraction w → First w (λ c. is_digit c ≡ false)
 fraction-first [] h = tt
@@ -67,7 +52,7 @@ fraction-first (c ∷ w) h = ap is_digit h.0
 
 behind_zero-complete : (j : ℕ) (o : Option ℕ) → NoDigit o → behind_zero j o ≡ taken tt j
 behind_zero-complete j None n = refl
-behind_zero-complete j (Some c) n = if-false (is_digit c) (failed invalid_number j) (taken tt j) n
+behind_zero-complete j (Some c) n = if-false (is_digit c) _ _ n
 
 module _ (t : List ℕ) where
   -- one digit or more
@@ -75,7 +60,7 @@ module _ (t : List ℕ) where
       → digits_from t i (slice_get t i) ≡ taken tt j
   digits_from-complete i j [] h d n = absurd d
   digits_from-complete i j (c ∷ w) h d n =
-      ap (digits_from t i) h.0 ∙ if-true (is_digit c) (taken tt (digit_run_end t i)) (failed invalid_number i) d.0
+      ap (digits_from t i) h.0 ∙ if-true (is_digit c) _ _ d.0
       ∙ ap (taken tt) (run_end-complete is_digit t i j (c ∷ w) h d n)
 
   whole-zero : (i j c : ℕ) (w : List ℕ) → Stands t i j (c ∷ w) → c ≡ 48 → w ≡ [] → NoDigit (slice_get t j)
@@ -93,11 +78,9 @@ module _ (t : List ℕ) where
       let long = stands-length t i j (c ∷ w) h in
       let few : digit_run_end t i ≤ i + digit_limit = omega arith in
       ap (whole_from t i) h.0
-      ∙ if-false (c == 48) (behind_zero (i + 1) (slice_get t (i + 1)))
-      (if is_digit c then within_limit i (digit_run_end t i) else failed invalid_number i) (ne_eqb c 48 z)
-      ∙ if-true (is_digit c) (within_limit i (digit_run_end t i)) (failed invalid_number i) d.0
-      ∙ if-true (nat_le (digit_run_end t i) (i + digit_limit)) (taken tt (digit_run_end t i))
-      (failed number_out_of_range (i + (digit_limit + 1))) (le-leb (digit_run_end t i) (i + digit_limit) few)
+      ∙ if-false (c == 48) _ _ (ne_eqb c 48 z)
+      ∙ if-true (is_digit c) _ _ d.0
+      ∙ if-true (nat_le (digit_run_end t i) (i + digit_limit)) _ _ (le-leb (digit_run_end t i) (i + digit_limit) few)
       ∙ ap (taken tt) run
 
   -- the integer part
@@ -112,7 +95,7 @@ module _ (t : List ℕ) where
 
   fraction-none : (i : ℕ) (o : Option ℕ) → IfSome o NoPoint → fraction_from t i o ≡ taken tt i
   fraction-none i None n = refl
-  fraction-none i (Some c) n = if-false (c == 46) (digits_from t (i + 1) (slice_get t (i + 1))) (taken tt i) n.1
+  fraction-none i (Some c) n = if-false (c == 46) _ _ n.1
 
   -- the fraction
   pub fraction_at-complete : (i j : ℕ) (w : List ℕ) → Stands t i j w → IsFraction w → IfSome (slice_get t j) NoPoint
@@ -124,15 +107,13 @@ module _ (t : List ℕ) where
       ∙ digits_from-complete (i + 1) j w h.1 is.1 (IfSome_then (slice_get t j) n (λ c p. p.0))
 
   unsigned : (c : ℕ) → is_digit c ≡ true → ((c == 43) || (c == 45)) ≡ false
-  unsigned c d =
-      let b = digit-bounds c d in
-      ap (λ x. x || (c == 45)) (ne_eqb c 43 (λ e. omega arith)) ∙ ne_eqb c 45 (λ e. omega arith)
+  unsigned c d = grind (arith, nat_tests)
 
   power-signed : (i j s : ℕ) (digits : List ℕ) → ((s == 43) || (s == 45)) ≡ true → Stands t i j (s ∷ digits)
       → IsDigits digits → NoDigit (slice_get t j) → power_from t i (slice_get t i) ≡ taken tt j
   power-signed i j s digits is h d n =
       ap (power_from t i) h.0
-      ∙ if-true ((s == 43) || (s == 45)) (digits_from t (i + 1) (slice_get t (i + 1))) (digits_from t i (Some s)) is
+      ∙ if-true ((s == 43) || (s == 45)) _ _ is
       ∙ digits_from-complete (i + 1) j digits h.1 d n
 
   power-unsigned : (i j : ℕ) (digits : List ℕ) → Stands t i j digits → IsDigits digits → NoDigit (slice_get t j)
@@ -140,8 +121,7 @@ module _ (t : List ℕ) where
   power-unsigned i j [] h d n = absurd d
   power-unsigned i j (c ∷ w) h d n =
       ap (power_from t i) h.0
-      ∙ if-false ((c == 43) || (c == 45)) (digits_from t (i + 1) (slice_get t (i + 1))) (digits_from t i (Some c))
-      (unsigned c d.0)
+      ∙ if-false ((c == 43) || (c == 45)) _ _ (unsigned c d.0)
       ∙ ap (digits_from t i) (sym h.0) ∙ digits_from-complete i j (c ∷ w) h d n
 
   -- the sign and the digits of an exponent
@@ -157,7 +137,7 @@ module _ (t : List ℕ) where
   exponent-none : (i : ℕ) (o : Option ℕ) → IfSome o NoPart → exponent_from t i o ≡ taken tt i
   exponent-none i None n = refl
   exponent-none i (Some c) n =
-      if-false ((c == 101) || (c == 69)) (power_from t (i + 1) (slice_get t (i + 1))) (taken tt i) n.2
+      if-false ((c == 101) || (c == 69)) _ _ n.2
 
   exponent-letter : (i c : ℕ) → (c ≡ 101) ⊎ (c ≡ 69)
       → exponent_from t i (Some c) ≡ power_from t (i + 1) (slice_get t (i + 1))
@@ -190,36 +170,13 @@ module _ (t : List ℕ) where
       let j : NoDigit (slice_get t a.0) =
       stands-next t (λ c. is_digit c ≡ false) a.0 b.0 fraction b.1 (fraction-first fraction f)
       (IfSome_then (slice_get t b.0) k (λ c p. p.0)) in
-      ap (λ y. extent_then y (λ j. extent_then (fraction_at t j) (λ k. exponent_at t k)))
-      (whole_at-complete i a.0 whole a.1 w l j)
-      ∙ ap (λ y. extent_then y (λ k. exponent_at t k)) (fraction_at-complete a.0 b.0 fraction b.1 f k)
-      ∙ exponent_at-complete b.0 e exponent b.2 x behind
+      decimal_at-tail t i a.0 e (whole_at-complete i a.0 whole a.1 w l j)
+      (tail-parts t a.0 b.0 e (fraction_at-complete a.0 b.0 fraction b.1 f k)
+      (exponent_at-complete b.0 e exponent b.2 x behind))
 
-  whole-first : (i e : ℕ) (w rest : List ℕ) → IsWhole w → Stands t i e (w ++ rest)
-      → (c : ℕ) × (slice_get t i ≡ Some c) × (is_digit c ≡ true)
-  whole-first i e [] rest is h = absurd is
-  whole-first i e (c ∷ w) rest is h = (c, h.0, is.0.0)
-
-  extent-digit : (names : Bool) (i c : ℕ) → is_digit c ≡ true → extent_from names t i (Some c) ≡ decimal_at t i
-  extent-digit names i c d =
-      let b = digit-bounds c d in
-      if-false (c == 45) (behind_minus names t (i + 1) (slice_get t (i + 1)))
-      (if c == 78 then name_at names t (codes "NaN") i else
-      (if c == 73 then name_at names t (codes "Infinity") i else decimal_at t i))
-      (ne_eqb c 45 (λ e. omega arith))
-      ∙ if-false (c == 78) (name_at names t (codes "NaN") i)
-      (if c == 73 then name_at names t (codes "Infinity") i else decimal_at t i) (ne_eqb c 78 (λ e. omega arith))
-      ∙ if-false (c == 73) (name_at names t (codes "Infinity") i) (decimal_at t i) (ne_eqb c 73 (λ e. omega arith))
-
-  signed-digit : (names : Bool) (i c : ℕ) → is_digit c ≡ true → behind_minus names t i (Some c) ≡ decimal_at t i
-  signed-digit names i c d =
-      let b = digit-bounds c d in
-      if-false (c == 73) (if names then word_at t (codes "Infinity") i else failed invalid_number i) (decimal_at t i)
-      (ne_eqb c 73 (λ e. omega arith))
-
-  extent-decimal : (names : Bool) (i e : ℕ) (w : List ℕ) → Stands t i e w → IsDecimal w → EndsNumber (slice_get t e)
-      → number_extent names t i ≡ taken tt e
-  extent-decimal names i e w h d n = by d.is_minus where
+  number_extent-decimal : (names : Bool) (i e : ℕ) (w : List ℕ) → Stands t i e w → IsDecimal w
+      → EndsNumber (slice_get t e) → number_extent names t i ≡ taken tt e
+  number_extent-decimal names i e w h d n = by d.is_minus where
     all : Stands t i e (d.minus ++ (d.whole ++ (d.fraction ++ d.exponent)))
     all = subst (Stands t i e) d.is h
 
@@ -227,16 +184,14 @@ module _ (t : List ℕ) where
     by (inl m) =
         let s : Stands t i e (d.whole ++ (d.fraction ++ d.exponent)) =
         subst (λ x. Stands t i e (x ++ (d.whole ++ (d.fraction ++ d.exponent)))) m all in
-        let f = whole-first i e d.whole (d.fraction ++ d.exponent) d.is_whole s in
-        ap (extent_from names t i) f.1 ∙ extent-digit names i f.0 f.2
-        ∙ decimal_at-complete i e d.whole d.fraction d.exponent d.is_whole d.limit d.is_fraction d.is_exponent s n
+        extent-decimal t names i e
+        (decimal_at-complete i e d.whole d.fraction d.exponent d.is_whole d.limit d.is_fraction d.is_exponent s n)
     by (inr m) =
         let s : Stands t i e (45 ∷ (d.whole ++ (d.fraction ++ d.exponent))) =
         subst (λ x. Stands t i e (x ++ (d.whole ++ (d.fraction ++ d.exponent)))) m all in
-        let f = whole-first (i + 1) e d.whole (d.fraction ++ d.exponent) d.is_whole s.1 in
-        ap (extent_from names t i) s.0 ∙ ap (behind_minus names t (i + 1)) f.1 ∙ signed-digit names (i + 1) f.0 f.2
-        ∙ decimal_at-complete (i + 1) e d.whole d.fraction d.exponent d.is_whole d.limit d.is_fraction d.is_exponent s.1
-        n
+        extent-minus t names i e s.0
+        (decimal_at-complete (i + 1) e d.whole d.fraction d.exponent d.is_whole d.limit d.is_fraction d.is_exponent
+        s.1 n)
 
   extent-name : (i e : ℕ) (w : List ℕ) → Stands t i e w → IsName w → number_extent true t i ≡ taken tt e
   extent-name i e w h (inl is) =
@@ -253,7 +208,7 @@ module _ (t : List ℕ) where
   -- all of a number
   pub number_extent-complete : (names : Bool) (i e : ℕ) (w : List ℕ) → Stands t i e w → IsNumberText names w
       → EndsNumber (slice_get t e) → number_extent names t i ≡ taken tt e
-  number_extent-complete names i e w h (inl d) n = extent-decimal names i e w h d n
+  number_extent-complete names i e w h (inl d) n = number_extent-decimal names i e w h d n
   number_extent-complete names i e w h (inr x) n = ap (λ b. number_extent b t i) x.0 ∙ extent-name i e w h x.1
 
 -- a number's text is read whole, where the byte behind it does not go on it

@@ -2,7 +2,5 @@
 pub use Rattle.jiter_scan.proofs.NumberBounds.{number_at-within, int_at-within, number_alone-within, int_alone-within}
 pub use Rattle.jiter_scan.proofs.NumberSound.{number_at-sound}
 pub use Rattle.jiter_scan.proofs.NumberComplete.{continues_number, number_at-complete}
-pub use Rattle.jiter_scan.proofs.NumberBytes.{is_number_byte, IsPlainByte, number_byte-plain, number-bytes}
-pub use Rattle.jiter_scan.proofs.NumberBytes.{number-ascii, number-utf8, number-begins, number-not_empty}
-pub use Rattle.jiter_scan.proofs.NumberBytes.{number-with_names}
+pub use Rattle.jiter_scan.proofs.NumberBytes.{number-ascii, number-begins, number-not_empty}
 pub use Rattle.jiter_scan.proofs.NumberTests.{number_text-decides}

@@ -2,19 +2,20 @@
 use Rattle.std.proofs.Common.{◌≡◌, ◌≢◌, ◌⊎◌, inl, inr, ℕ, ◌^◌, ◌<◌, ◌≤◌, ◌==◌, ◌||◌, min, Bool, true, false, cond}
 use Rattle.std.proofs.Common.{length, List, [], ◌∷◌, ◌++◌, refl, sym, ap, ◌∙◌, subst, slice_range, arith, nat_le}
 use Rattle.std.proofs.Common.{nat_lt, pos}
-use Rattle.std.specs.Prelude.{Some, slice_get}
+use Rattle.std.specs.Prelude.{Some, slice_get, if◌then◌else◌}
 use Rattle.std.specs.List.{list_any}
 use Rattle.std.proofs.lemmas.Bool.{cases_lt, or_right}
 use Rattle.std.proofs.lemmas.Bool.Decides.{nat_tests}
 use Rattle.jiter_scan.specs.Digits.{is_digit, decimal_of}
-use Rattle.jiter_scan.specs.Number.{AreDigits, IsWhole, IsFraction, IsExponent, float, big, integer, is_float_byte}
-use Rattle.jiter_scan.specs.Number.{number_value, positive_value, negative_value, integral_value, minus_of}
+use Rattle.jiter_scan.specs.Number.{Number, AreDigits, IsWhole, IsFraction, IsExponent, float, big, integer}
+use Rattle.jiter_scan.specs.Number.{is_float_byte, number_value, positive_value, negative_value, integral_value}
+use Rattle.jiter_scan.specs.Number.{minus_of}
 use Rattle.jiter_scan.specs.NumberReading.{extent_then, whole_at, fraction_at, exponent_at}
 use Rattle.jiter_scan.specs.NumberDecoder.{magnitude_of, IsMinusTo}
 use Rattle.jiter_scan.specs.Scanned.{taken}
 use Rattle.jiter_scan.specs.Stands.{Stands}
 use Rattle.jiter_scan.specs.Word.{word_at}
-use Rattle.jiter_scan.proofs.Choices.{extent_then-taken}
+use Rattle.jiter_scan.proofs.Choices.{if-false, extent_then-taken}
 use Rattle.jiter_scan.proofs.NumberSound.{whole_from-sound, fraction_from-sound, exponent_from-sound}
 use Rattle.jiter_scan.proofs.Standing.{stands-append, stands-length, stands-slice, slice-stands}
 use Rattle.jiter_scan.proofs.WordLaws.{word_at-sound}
@@ -30,34 +31,24 @@ pub digits-no_float : (w : List ℕ) → AreDigits w → list_any is_float_byte 
 digits-no_float [] h = refl
 digits-no_float (c ∷ w) h = ap (λ b. b || list_any is_float_byte w) (digit-no_float c h.0) ∙ digits-no_float w h.1
 
-not_below : (n : ℕ) → 2 ^ 63 ≤ n → nat_lt n (2 ^ 63) ≡ false
-not_below n h = grind (arith, nat_tests)
+-- the least number of twenty digits stands for all greater ones, where these are refused
+choice-min : (test : ℕ → Bool) (held : ℕ → Number) (rest : Number) → ((m : ℕ) → 10 ^ 19 ≤ m → test m ≡ false)
+    → (n : ℕ) → (if test (min n (10 ^ 19)) then held (min n (10 ^ 19)) else rest) ≡ (if test n then held n else rest)
+choice-min test held rest refused n =
+    elim (cases_lt n (10 ^ 19)) [
+      | inl small ↦
+          let same : min n (10 ^ 19) ≡ n = omega arith in ap (λ m. if test m then held m else rest) same
+      | inr great ↦ if-false (test (min n (10 ^ 19))) _ _ (refused (min n (10 ^ 19)) (omega arith))
+          ∙ sym (if-false (test n) _ _ (refused n great))
+    ]
 
-above : (n : ℕ) → 2 ^ 63 < n → nat_le n (2 ^ 63) ≡ false
-above n h = grind (arith, nat_tests)
-
--- the least number of twenty digits stands for all greater ones
 positive_value-min : (w : List ℕ) (n : ℕ) → positive_value w (min n (10 ^ 19)) ≡ positive_value w n
 positive_value-min w n =
-    elim (cases_lt n (10 ^ 19)) [
-      | inl small ↦ let same : min n (10 ^ 19) ≡ n = omega arith in ap (positive_value w) same
-      | inr great ↦
-          let one : nat_lt (min n (10 ^ 19)) (2 ^ 63) ≡ false = not_below (min n (10 ^ 19)) (omega arith) in
-          let other : nat_lt n (2 ^ 63) ≡ false = not_below n (omega arith) in
-          ap (λ (b : Bool). cond b (integer (pos (min n (10 ^ 19)))) (big w)) one
-          ∙ sym (ap (λ (b : Bool). cond b (integer (pos n)) (big w)) other)
-    ]
+    choice-min (λ m. nat_lt m (2 ^ 63)) (λ m. integer (pos m)) (big w) (λ m h. grind (arith, nat_tests)) n
 
 negative_value-min : (w : List ℕ) (n : ℕ) → negative_value w (min n (10 ^ 19)) ≡ negative_value w n
 negative_value-min w n =
-    elim (cases_lt n (10 ^ 19)) [
-      | inl small ↦ let same : min n (10 ^ 19) ≡ n = omega arith in ap (negative_value w) same
-      | inr great ↦
-          let one : nat_le (min n (10 ^ 19)) (2 ^ 63) ≡ false = above (min n (10 ^ 19)) (omega arith) in
-          let other : nat_le n (2 ^ 63) ≡ false = above n (omega arith) in
-          ap (λ (b : Bool). cond b (integer (minus_of (min n (10 ^ 19)))) (big w)) one
-          ∙ sym (ap (λ (b : Bool). cond b (integer (minus_of n)) (big w)) other)
-    ]
+    choice-min (λ m. nat_le m (2 ^ 63)) (λ m. integer (minus_of m)) (big w) (λ m h. grind (arith, nat_tests)) n
 
 -- digits alone
 number_value-digits : (w : List ℕ) → IsWhole w → number_value w ≡ positive_value w (magnitude_of w)
@@ -117,7 +108,7 @@ module _ (t : List ℕ) where
       → extent_then (fraction_at t j) (exponent_at t) ≡ taken tt e
       → number_value (slice_range t i e) ≡ float (slice_range t i e)
   number_value-tail i j e low some high h =
-      let b = extent_then-taken (fraction_at t j) (exponent_at t) tt e h in
+      let b = extent_then-taken _ _ _ _ h in
       let f = fraction_from-sound t j b.0 tt (slice_get t j) refl b.1 in
       let x = exponent_from-sound t b.0 e tt (slice_get t b.0) refl b.2 in
       by (f.0 ++ x.0) (stands-append t j b.0 e f.0 x.0 f.1 x.1) (tail f.0 x.0 f.2 x.2) where

@@ -1,16 +1,14 @@
 -- Whether the plain bytes of a string are ASCII, chunk by chunk and byte by byte.
 use Rattle.std.proofs.Common.{◌≡◌, ℕ, ◌+◌, ◌-◌, ◌<◌, ◌≤◌, Bool, true, false, not, ◌&&◌, cond, eqb, leb, List, [], ◌∷◌}
-use Rattle.std.proofs.Common.{length, drop, take, get_or, refl, sym, ap, ◌∙◌, arith, zero, suc, take-add, take-take}
-use Rattle.std.proofs.Common.{drop-drop, drop-cons, inl, inr, add-one}
+use Rattle.std.proofs.Common.{length, drop, take, get_or, refl, sym, ap, ap₂, ◌∙◌, arith, zero, suc, take-add}
+use Rattle.std.proofs.Common.{take-take, drop-drop, drop-cons, inl, inr, add-one}
 use Rattle.std.specs.Prelude.{◌↔◌, IsTrue, slice_range}
+use Rattle.std.proofs.Math.Bool.{and_assoc}
 use Rattle.std.proofs.lemmas.Simd.{length-chunk}
 use Rattle.std.proofs.lemmas.List.Folds.{list_all-append}
 use Rattle.std.proofs.lemmas.List.Sums.{prefix_len-le-length, AllPass-from_list_all, list_all-from_AllPass}
-use Rattle.std.proofs.lemmas.Bool.{cases_eq, le-leb, lt-leb, ltb-true}
+use Rattle.std.proofs.lemmas.Bool.{cases_eq, le-leb, lt-leb}
 use Rattle.std.proofs.lemmas.Bool.Decides.{nat_tests}
-use Rattle.std.specs.Str.{IsAscii}
-use Rattle.std.proofs.lemmas.List.Elements.{All-weaker}
-use Rattle.std.proofs.lemmas.Str.Ascii.{IsAscii-from_all}
 use Rattle.std.specs.List.{prefix_len, list_all}
 use lib.Lanes.{chunk}
 use lib.Count.{count_trailing_zeros}
@@ -19,20 +17,9 @@ use Rattle.jiter_scan.specs.Simd.{failing, ascii_from}
 use Rattle.jiter_scan.proofs.Chunks.{list_all-failing, prefix_len-all, prefix_len-failing, prefix_len-through}
 use Rattle.jiter_scan.proofs.Chunks.{prefix_len-inside, none_fails, one_fails}
 
-pub and-assoc : (a b c : Bool) → ((a && b) && c) ≡ (a && (b && c))
-and-assoc true b c = refl
-and-assoc false b c = refl
-
-pub and-true : (a : Bool) → (a && true) ≡ a
-and-true true = refl
-and-true false = refl
-
-leb-suc : (r n : ℕ) → leb r n ≡ leb (suc r) (1 + n)
-leb-suc r n = grind (arith, nat_tests)
-
 front-step : (b : Bool) (r n : ℕ) (all : Bool) → all ≡ leb r n → (b && all) ≡ leb (suc r) (cond b (1 + n) 0)
 front-step false r n all e = sym (lt-leb (suc r) 0 (omega arith))
-front-step true r n all e = e ∙ leb-suc r n
+front-step true r n all e = e ∙ grind (arith, nat_tests)
 
 -- the first r are ASCII where the first byte that is not lies no earlier than at r
 ascii-front : (r : ℕ) (w : List ℕ) → r ≤ length w → list_all is_ascii (take r w) ≡ leb r (prefix_len is_ascii w)
@@ -64,26 +51,37 @@ module _ (t : List ℕ) (i n : ℕ) where
       ∙ list_all-append is_ascii (chunk i n t) (take m (drop n (drop i t)))
       ∙ ap (λ l. list_all is_ascii (chunk i n t) && list_all is_ascii (take m l)) (drop-drop n i t)
 
-  pub ascii_from-through-mask : i + n ≤ length t → failing is_plain (chunk i n t) ≡ 0 → ascii_from t i
-      ≡ (eqb (failing is_ascii (chunk i n t)) 0 && ascii_from t (i + n))
-  ascii_from-through-mask room none = ascii_from-through room (none_fails is_plain t i n none)
-      ∙ ap (λ b. b && ascii_from t (i + n)) (list_all-failing is_ascii (chunk i n t))
+  -- the same by masks of the bytes that stop and of those that are not ASCII
+  module _ (found high : ℕ) (stops : found ≡ failing is_plain (chunk i n t))
+      (highs : high ≡ failing is_ascii (chunk i n t)) (room : i + n ≤ length t) where
+    pub ascii_from-clear : found ≡ 0 → ascii_from t i ≡ (eqb high 0 && ascii_from t (i + n))
+    ascii_from-clear none =
+        ascii_from-through room (none_fails is_plain t i n (sym stops ∙ none))
+        ∙ ap (λ b. b && ascii_from t (i + n))
+        (list_all-failing is_ascii (chunk i n t) ∙ ap (λ m. eqb m 0) (sym highs))
 
-  -- a chunk with one: by the lowest bits of both masks
-  pub ascii_from-inside : i + n ≤ length t → n ≤ 64 → 0 < failing is_plain (chunk i n t)
-      → ascii_from t i ≡ leb (count_trailing_zeros 64 (failing is_plain (chunk i n t)))
-      (count_trailing_zeros 64 (failing is_ascii (chunk i n t)))
-  ascii_from-inside room short some =
-      let c = chunk i n t in
-      let r = prefix_len is_plain c in
-      let long = length-chunk i n t room in
-      let within : r ≤ length c = prefix_len-le-length is_plain c in
-      ap (λ k. list_all is_ascii (take k (drop i t))) (prefix_len-inside is_plain t i n (one_fails is_plain t i n some))
-      ∙ ap (list_all is_ascii) (sym (take-take r n (drop i t) (omega arith)))
-      ∙ ascii-front r c within
-      ∙ front-mask c r (omega arith) within
-      ∙ ap (λ k. leb k (count_trailing_zeros 64 (failing is_ascii c)))
-      (prefix_len-failing is_plain c (omega arith) some)
+    -- by the lowest bits where one stops
+    pub ascii_from-stopped : n ≤ 64 → 0 < found
+        → ascii_from t i ≡ leb (count_trailing_zeros 64 found) (count_trailing_zeros 64 high)
+    ascii_from-stopped short some =
+        let c = chunk i n t in
+        let r = prefix_len is_plain c in
+        let long = length-chunk i n t room in
+        let within : r ≤ length c = prefix_len-le-length is_plain c in
+        let fails : 0 < failing is_plain c = omega arith in
+        ap (λ k. list_all is_ascii (take k (drop i t)))
+        (prefix_len-inside is_plain t i n (one_fails is_plain t i n fails))
+        ∙ ap (list_all is_ascii) (sym (take-take r n (drop i t) (omega arith)))
+        ∙ ascii-front r c within
+        ∙ front-mask c r (omega arith) within
+        ∙ ap₂ (λ k m. leb k (count_trailing_zeros 64 m))
+        (prefix_len-failing is_plain c (omega arith) fails ∙ ap (count_trailing_zeros 64) (sym stops)) (sym highs)
+
+-- where all bytes so far are ASCII and those of a chunk are, so are all with it
+pub still-ascii : (before clean here now whole rest : Bool) → before ≡ (clean && whole) → whole ≡ (here && rest)
+    → now ≡ (clean && here) → before ≡ (now && rest)
+still-ascii before clean here now whole rest so_far parts both =
+    so_far ∙ ap (λ b. clean && b) parts ∙ sym (and_assoc clean here rest) ∙ ap (λ b. b && rest) (sym both)
 
 -- one byte that is no stop
 pub ascii_from-byte : (t : List ℕ) (i : ℕ) → i < length t → is_stop (get_or t i 0) ≡ false → ascii_from t i
@@ -107,15 +105,6 @@ pub IsAsciiTo-iff : (t : List ℕ) (i e : ℕ) (b : Bool) → e ≡ scan_stop t 
     → IsTrue b ↔ IsAsciiTo t i e
 IsAsciiTo-iff t i e b stop is =
     let count : prefix_len is_plain (drop i t) ≡ e - i = omega arith in
-    let all : b ≡ list_all is_ascii (slice_range t i e) =
-    is ∙ ap (λ k. list_all is_ascii (take k (drop i t))) count in (
-      λ h. AllPass-from_list_all is_ascii (slice_range t i e) (sym all ∙ h),
-      λ h. all
-          ∙ list_all-from_AllPass is_ascii (slice_range t i e) h,
-    )
-
--- bytes below 80 hex are ASCII in std's word, as the text of them asks
-pub IsAscii-to : (t : List ℕ) (i j : ℕ) → IsAsciiTo t i j → IsAscii (slice_range t i j)
-IsAscii-to t i j h =
-    IsAscii-from_all (slice_range t i j)
-    (All-weaker (λ c. is_ascii c ≡ true) (λ c. c < 128) (λ c low. ltb-true c 128 low) (slice_range t i j) h)
+    let bytes = slice_range t i e in
+    let all : b ≡ list_all is_ascii bytes = is ∙ ap (λ k. list_all is_ascii (take k (drop i t))) count in
+    (λ h. AllPass-from_list_all is_ascii bytes (sym all ∙ h), λ h. all ∙ list_all-from_AllPass is_ascii bytes h)

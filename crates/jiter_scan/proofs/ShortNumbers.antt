@@ -11,15 +11,15 @@ use Rattle.jiter_scan.specs.Digits.{is_digit, digit_run_end}
 use Rattle.jiter_scan.specs.Number.{IsDigits}
 use Rattle.jiter_scan.specs.NumberReading.{extent_then, whole_at, fraction_at, exponent_at, decimal_at, fraction_from}
 use Rattle.jiter_scan.specs.NumberReading.{exponent_from, digits_from, power_from, is_float_sign}
-use Rattle.jiter_scan.specs.Scanned.{taken, failed}
-use Rattle.jiter_scan.specs.Kind.{invalid_number}
+use Rattle.jiter_scan.specs.Scanned.{taken}
 use Rattle.jiter_scan.specs.Stands.{Stands}
-use Rattle.jiter_scan.proofs.Choices.{if-false, if-true, extent_then-taken, same_taken}
+use Rattle.jiter_scan.proofs.Choices.{if-false, if-true}
 use Rattle.jiter_scan.proofs.Chunks.{prefix_len-front, prefix_len-pass, run_end-on}
 use Rattle.jiter_scan.proofs.Magnitudes.{slice_range-count}
-use Rattle.jiter_scan.proofs.NumberBounds.{Reaches, digits_from-reaches, fraction_at-reaches, power_from-reaches}
-use Rattle.jiter_scan.proofs.NumberBounds.{exponent_at-reaches}
+use Rattle.jiter_scan.proofs.NumberBounds.{Reaches, farther, extent_then-reaches, digits_from-reaches}
+use Rattle.jiter_scan.proofs.NumberBounds.{power_from-reaches, exponent_at-reaches}
 use Rattle.jiter_scan.proofs.NumberComplete.{whole_at-complete}
+use Rattle.jiter_scan.proofs.NumberExtents.{decimal_at-tail, tail-parts}
 use Rattle.jiter_scan.proofs.Runs.{run_end-passes, run_end-stops, NoDigit}
 use Rattle.jiter_scan.proofs.Standing.{stands-slice}
 
@@ -61,11 +61,8 @@ module _ (t : List ℕ) where
       (slice_get-get_or t i 0 (omega arith), stands-slice t (i + 1) e (omega arith) within) in
       let rest : e - (i + 1) ≤ prefix_len is_digit (drop (i + 1) t) =
       omega (arith, run_end-on is_digit t i 1 (omega arith) (omega arith)) in
-      let digits : IsDigits (c ∷ cs) = (
-        run_end-passes is_digit t i i (omega arith) (omega arith),
-        prefix_len-pass is_digit (e - (i + 1))
-            (drop (i + 1) t) rest,
-      ) in
+      let others = prefix_len-pass is_digit (e - (i + 1)) (drop (i + 1) t) rest in
+      let digits : IsDigits (c ∷ cs) = (run_end-passes is_digit t i i (omega arith) (omega arith), others) in
       let long : length (c ∷ cs) ≤ 4300 = omega (arith, length-take (e - (i + 1)) (drop (i + 1) t)) in
       whole_at-complete t i e (c ∷ cs) stands (digits, by first) long (no_digit i e run)
     where
@@ -103,7 +100,7 @@ module _ (t : List ℕ) where
   digits_from-run i e run some inside =
       let digit = run_end-passes is_digit t i i (omega arith) (omega arith) in
       ap (digits_from t i) (slice_get-get_or t i 0 inside)
-      ∙ if-true (is_digit (get_or t i 0)) (taken tt (digit_run_end t i)) (failed invalid_number i) digit
+      ∙ if-true (is_digit (get_or t i 0)) _ _ digit
       ∙ ap (taken tt) run
 
   -- a point and digits
@@ -116,7 +113,7 @@ module _ (t : List ℕ) where
   pub fraction_at-none : (i c : ℕ) → slice_get t i ≡ Some c → (c == 46) ≡ false → fraction_at t i ≡ taken tt i
   fraction_at-none i c here no_point =
       ap (fraction_from t i) here
-      ∙ if-false (c == 46) (digits_from t (i + 1) (slice_get t (i + 1))) (taken tt i) no_point
+      ∙ if-false (c == 46) _ _ no_point
 
   -- a letter and digits, a sign between them or not
   pub exponent_at-run : (i s e c : ℕ) → slice_get t i ≡ Some c → ((c == 101) || (c == 69)) ≡ true
@@ -124,7 +121,7 @@ module _ (t : List ℕ) where
       → digit_run_end t s ≡ e → s < e → s < length t → exponent_at t i ≡ taken tt e
   exponent_at-run i s e c here letter power run some inside =
       ap (exponent_from t i) here
-      ∙ if-true ((c == 101) || (c == 69)) (power_from t (i + 1) (slice_get t (i + 1))) (taken tt i) letter
+      ∙ if-true ((c == 101) || (c == 69)) _ _ letter
       ∙ power ∙ digits_from-run s e run some inside
 
   -- no letter
@@ -132,7 +129,7 @@ module _ (t : List ℕ) where
       → exponent_at t i ≡ taken tt i
   exponent_at-none i c here no_letter =
       ap (exponent_from t i) here
-      ∙ if-false ((c == 101) || (c == 69)) (power_from t (i + 1) (slice_get t (i + 1))) (taken tt i) no_letter
+      ∙ if-false ((c == 101) || (c == 69)) _ _ no_letter
 
   -- no point and no exponent behind it
   pub decimal_at-whole : (i e c : ℕ) → whole_at t i ≡ taken tt e → slice_get t e ≡ Some c → is_float_sign c ≡ false
@@ -140,54 +137,29 @@ module _ (t : List ℕ) where
   decimal_at-whole i e c whole here no_sign =
       let point : (c == 46) ≡ false = grind (arith, nat_tests) in
       let letter : ((c == 101) || (c == 69)) ≡ false = grind (arith, nat_tests) in
-      ap (λ x. extent_then x (λ j. extent_then (fraction_at t j) (λ k. exponent_at t k))) whole
-      ∙ ap (λ x. extent_then x (λ k. exponent_at t k)) (fraction_at-none e c here point)
-      ∙ exponent_at-none e c here letter
-
-  -- a point or an exponent behind it
-  pub decimal_at-tail : (i k e : ℕ) → whole_at t i ≡ taken tt k
-      → extent_then (fraction_at t k) (exponent_at t) ≡ taken tt e → decimal_at t i ≡ taken tt e
-  decimal_at-tail i k e whole tail =
-      ap (λ x. extent_then x (λ j. extent_then (fraction_at t j) (λ k. exponent_at t k))) whole ∙ tail
-
-  -- a fraction and what follows it
-  pub tail-parts : (i j e : ℕ) → fraction_at t i ≡ taken tt j → exponent_at t j ≡ taken tt e
-      → extent_then (fraction_at t i) (exponent_at t) ≡ taken tt e
-  tail-parts i j e fraction exponent = ap (λ x. extent_then x (exponent_at t)) fraction ∙ exponent
+      decimal_at-tail t i e e whole
+      (tail-parts t e e e (fraction_at-none e c here point) (exponent_at-none e c here letter))
 
   -- a point or an exponent takes a byte or more
   pub tail-place : (i e c : ℕ) → slice_get t i ≡ Some c → is_float_sign c ≡ true
-      → extent_then (fraction_at t i) (exponent_at t) ≡ taken tt e → (i < e) × (e ≤ length t)
-  tail-place i e c here sign tail =
-      let inside = slice_get_within t i c here in
-      let parts = extent_then-taken (fraction_at t i) (exponent_at t) tt e tail in
-      let j = parts.0 in
-      let fraction : (i + 0 ≤ j) × (j ≤ length t) =
-      subst (Reaches t i 0) parts.1 (fraction_at-reaches t i (omega arith)) in
-      let exponent : (j + 0 ≤ e) × (e ≤ length t) =
-      subst (Reaches t j 0) parts.2 (exponent_at-reaches t j fraction.1) in
-      (by (c == 46) refl j parts.1 parts.2 (omega arith), exponent.1) where
-        by : (b : Bool) → (c == 46) ≡ b → (j : ℕ) → fraction_at t i ≡ taken tt j → exponent_at t j ≡ taken tt e → j ≤ e
-            → i < e
-        by true point j fraction exponent ahead =
-            let inside = slice_get_within t i c here in
-            let digits : digits_from t (i + 1) (slice_get t (i + 1)) ≡ taken tt j =
-            sym (ap (fraction_from t i) here
-            ∙ if-true (c == 46) (digits_from t (i + 1) (slice_get t (i + 1))) (taken tt i) point)
-            ∙ fraction in
-            let some : (i + 1 + 1 ≤ j) × (j ≤ length t) =
-            subst (Reaches t (i + 1) 1) digits
-            (digits_from-reaches t (i + 1) (slice_get t (i + 1)) refl (omega arith)) in
-            omega (arith, some.0)
-        by false no_point j fraction exponent ahead =
-            let inside = slice_get_within t i c here in
-            let letter : ((c == 101) || (c == 69)) ≡ true = grind (arith, nat_tests) in
-            let place : i ≡ j = (same_taken tt tt i j (sym (fraction_at-none i c here no_point) ∙ fraction)).1 in
-            let power : power_from t (i + 1) (slice_get t (i + 1)) ≡ taken tt e =
-            sym (ap (exponent_from t i) here
-            ∙ if-true ((c == 101) || (c == 69)) (power_from t (i + 1) (slice_get t (i + 1))) (taken tt i) letter)
-            ∙ ap (exponent_at t) place ∙ exponent in
-            let some : (i + 1 + 0 ≤ e) × (e ≤ length t) =
-            subst (Reaches t (i + 1) 0) power
-            (power_from-reaches t (i + 1) (slice_get t (i + 1)) refl (omega arith)) in
-            omega (arith, some.0)
+      → extent_then (fraction_at t i) (exponent_at t) ≡ taken tt e → (i + 1 ≤ e) × (e ≤ length t)
+  tail-place i e c here sign tail = subst (Reaches t i 1) tail (by (c == 46) refl)
+    where
+      inside : i < length t
+      inside = slice_get_within t i c here
+
+      by : (b : Bool) → (c == 46) ≡ b → Reaches t i 1 (extent_then (fraction_at t i) (exponent_at t))
+      by true point =
+          let digits = ap (fraction_from t i) here ∙ if-true (c == 46) _ _ point in
+          subst (λ x. Reaches t i 1 (extent_then x (exponent_at t))) (sym digits)
+          (extent_then-reaches t i 1 _ (exponent_at t)
+          (farther t i 1 (i + 1) 1 _ (omega arith) (omega arith)
+          (digits_from-reaches t (i + 1) (slice_get t (i + 1)) refl (omega (arith, inside))))
+          (exponent_at-reaches t))
+      by false no_point =
+          let letter : ((c == 101) || (c == 69)) ≡ true = grind (arith, nat_tests) in
+          let power = ap (exponent_from t i) here ∙ if-true ((c == 101) || (c == 69)) _ _ letter in
+          subst (Reaches t i 1)
+          (sym (ap (λ x. extent_then x (exponent_at t)) (fraction_at-none i c here no_point) ∙ power))
+          (farther t i 1 (i + 1) 0 _ (omega arith) (omega arith)
+          (power_from-reaches t (i + 1) (slice_get t (i + 1)) refl (omega (arith, inside))))

@@ -1,6 +1,6 @@
 -- Bytes that stand at a place of a text: joined, split, and cut out.
 use Rattle.std.proofs.Common.{◌≡◌, ℕ, zero, suc, ◌+◌, ◌-◌, ◌<◌, ◌≤◌, ◌⊎◌, inl, inr, List, [], ◌∷◌, ◌++◌, length, take}
-use Rattle.std.proofs.Common.{drop, get_or, refl, sym, ap, ◌∙◌, subst, arith}
+use Rattle.std.proofs.Common.{take-add, drop-drop, drop, get_or, refl, sym, ap, ◌∙◌, subst, arith}
 use Rattle.std.specs.Prelude.{slice_get, slice_range, Some, None, IfSome}
 use Rattle.std.proofs.lemmas.List.{drop_more}
 use Rattle.std.proofs.lemmas.Option.{slice_get-get_or, slice_get_within, get_or_from_slice_get, none-some}
@@ -13,6 +13,21 @@ First [] P = Unit {0}
 First (c ∷ w) P = P c
 
 module _ (t : List ℕ) where
+  -- a range, and so many bytes behind it
+  module _ (i j : ℕ) (ahead : i ≤ j) where
+    pub slice_range-on : (k : ℕ) → slice_range t i (j + k) ≡ slice_range t i j ++ take k (drop j t)
+    slice_range-on k =
+        let count : j + k - i ≡ (j - i) + k = omega arith in
+        let place : i + (j - i) ≡ j = omega arith in
+        ap (λ n. take n (drop i t)) count
+        ∙ take-add (j - i) k (drop i t)
+        ∙ ap (λ l. slice_range t i j ++ take k l) (drop-drop (j - i) i t ∙ ap (λ n. drop n t) place)
+
+    -- in two ranges
+    pub slice_range-split : (k : ℕ) → j ≤ k → slice_range t i k ≡ slice_range t i j ++ slice_range t j k
+    slice_range-split k on =
+        let end : k ≡ j + (k - j) = omega arith in ap (slice_range t i) end ∙ slice_range-on (k - j)
+
   -- the end follows from the length
   pub stands-length : (i j : ℕ) (w : List ℕ) → Stands t i j w → j ≡ i + length w
   stands-length i j [] h = omega arith

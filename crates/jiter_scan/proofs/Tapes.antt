@@ -1,7 +1,6 @@
 -- What a tape holds when more is written behind its first bytes.
-use Rattle.std.proofs.Common.{◌≡◌, ℕ, zero, suc, ◌+◌, ◌-◌, ◌/◌, ◌%◌, ◌<◌, ◌≤◌, cond, List, [], ◌∷◌, ◌++◌, length, drop}
-use Rattle.std.proofs.Common.{take, refl, sym, ap, ◌∙◌, arith}
-use Rattle.std.proofs.Common.{append_assoc, take-add, drop-drop}
+use Rattle.std.proofs.Common.{◌≡◌, ℕ, ◌+◌, ◌-◌, ◌/◌, ◌%◌, ◌<◌, ◌≤◌, cond, List, [], ◌∷◌, ◌++◌, length, drop, take, refl}
+use Rattle.std.proofs.Common.{sym, ap, ◌∙◌, arith, append_assoc, take-take}
 use Rattle.std.specs.Prelude.{slice_range, slice_set, nat_lt}
 use Rattle.std.specs.Char.{encode_utf8}
 use Rattle.std.proofs.Math.Seq.{take-append-add}
@@ -9,36 +8,20 @@ use Rattle.std.proofs.lemmas.Bool.{lt-ltb, le-ltb}
 use Rattle.std.proofs.lemmas.Grind.{take-set_at}
 use Rattle.std.proofs.lemmas.List.{length-set, length-take}
 use lib.Lanes.{chunk}
-
--- fewer of the first
-take-fewer : (k n : ℕ) (l : List ℕ) → k ≤ n → take k (take n l) ≡ take k l
-take-fewer zero n l h = refl
-take-fewer (suc k) zero l h = absurd (omega arith)
-take-fewer (suc k) (suc n) [] h = refl
-take-fewer (suc k) (suc n) (x ∷ l) h = ap (λ w. x ∷ w) (take-fewer k n l (omega arith))
+use Rattle.jiter_scan.proofs.Standing.{slice_range-on, slice_range-split}
 
 module _ (t : List ℕ) (i j : ℕ) (ahead : i ≤ j) where
-  -- so many bytes more
-  slice_range-on : (k : ℕ) → slice_range t i (j + k) ≡ slice_range t i j ++ take k (drop j t)
-  slice_range-on k =
-      let count : j + k - i ≡ (j - i) + k = omega arith in
-      let place : i + (j - i) ≡ j = omega arith in
-      ap (λ n. take n (drop i t)) count
-      ∙ take-add (j - i) k (drop i t)
-      ∙ ap (λ l. slice_range t i j ++ take k l) (drop-drop (j - i) i t ∙ ap (λ n. drop n t) place)
-
   -- so many bytes of a chunk are the text's
   slice_range-chunk : (k : ℕ) → k ≤ 16 → slice_range t i (j + k) ≡ slice_range t i j ++ take k (chunk j 16 t)
-  slice_range-chunk k few = slice_range-on k ∙ ap (λ l. slice_range t i j ++ l) (sym (take-fewer k 16 (drop j t) few))
+  slice_range-chunk k few = slice_range-on t i j ahead k ∙ ap (λ l. slice_range t i j ++ l) (sym (take-take k 16 (drop j t) few))
 
   -- where the text's bytes stand on a tape, and its next ones are written behind them
   pub put-range : (front tape next : List ℕ) (n m e : ℕ) → j ≤ e → m ≡ n + (e - j)
       → take n tape ≡ front ++ slice_range t i j → take m next ≡ take n tape ++ slice_range t j e
       → take m next ≡ front ++ slice_range t i e
   put-range front tape next n m e on count text put =
-      let end : j + (e - j) ≡ e = omega arith in
       put ∙ ap (λ l. l ++ slice_range t j e) text ∙ append_assoc front (slice_range t i j) (slice_range t j e)
-      ∙ ap (λ l. front ++ l) (sym (slice_range-on (e - j)) ∙ ap (slice_range t i) end)
+      ∙ ap (λ l. front ++ l) (sym (slice_range-split t i j ahead e on))
 
   -- the same of so many bytes of a chunk
   pub put-chunk : (front tape next : List ℕ) (n k : ℕ) → n ≤ length tape → k ≤ 16
@@ -46,7 +29,7 @@ module _ (t : List ℕ) (i j : ℕ) (ahead : i ≤ j) where
       → take (n + k) next ≡ front ++ slice_range t i (j + k)
   put-chunk front tape next n k within few text put =
       let long : length (take n tape) ≡ n = omega (arith, length-take n tape) in
-      sym (take-fewer (n + k) (n + 16) next (omega arith))
+      sym (take-take (n + k) (n + 16) next (omega arith))
       ∙ ap (take (n + k)) put
       ∙ ap (λ m. take (m + k) (take n tape ++ chunk j 16 t)) (sym long)
       ∙ take-append-add (take n tape) (chunk j 16 t) k

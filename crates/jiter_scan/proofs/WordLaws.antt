@@ -33,8 +33,7 @@ module _ (t : List ℕ) where
         let past = get-none t i e in (omega arith, record { within = le; ends = λ k. omega arith; bytes = λ k. cc })
     by (Some b) e go =
         let lt = slice_get_within t i b e in
-        if_case (WordWithin t (c ∷ w) i) (b == c) (word_at t w (i + 1)) (failed expected_ident i)
-        (λ s. later w c i (word_at t w (i + 1)) (go (omega arith)))
+        if_case (WordWithin t (c ∷ w) i) (b == c) _ _ (λ s. later w c i (word_at t w (i + 1)) (go (omega arith)))
         (λ s. (omega arith, record { within = le; ends = λ k. absurd (false≢true k); bytes = λ k. cc }))
 
   -- a word that stands is read
@@ -43,20 +42,20 @@ module _ (t : List ℕ) where
   word_at-complete [] i e h = ap (taken tt) h
   word_at-complete (c ∷ w) i e h =
       ap (byte_then (word_at t w (i + 1)) c i) h.0
-      ∙ if-true (c == c) (word_at t w (i + 1)) (failed expected_ident i) (eq-eqb c c refl)
+      ∙ if-true (c == c) _ _ (eq-eqb c c refl)
       ∙ word_at-complete w (i + 1) e h.1
 
   -- a word that is read stands
   pub word_at-sound : (w : List ℕ) (i e : ℕ) (u : Unit {0}) → word_at t w i ≡ taken u e → Stands t i e w
   unfolding word_at
-  word_at-sound [] i e u h = (same_taken tt u i e h).1
+  word_at-sound [] i e u h = (same_taken _ _ _ _ h).1
   word_at-sound (c ∷ w) i e u h = by (slice_get t i) refl h (λ g. word_at-sound w (i + 1) e u g) where
     by : (o : Option ℕ) → slice_get t i ≡ o → byte_then (word_at t w (i + 1)) c i o ≡ taken u e
         → (word_at t w (i + 1) ≡ taken u e → Stands t (i + 1) e w) → Stands t i e (c ∷ w)
-    by None s h go = absurd (failed-taken eof_value i u e h)
+    by None s h go = absurd (failed-taken _ _ _ _ h)
     by (Some b) s h go =
-        if_gives (b == c) (word_at t w (i + 1)) (failed expected_ident i) (taken u e) h
-        (λ q r. (s ∙ ap Some (eqb-true b c q), go r)) (λ q r. absurd (failed-taken expected_ident i u e r))
+        if_gives (b == c) _ _ _ h
+        (λ q r. (s ∙ ap Some (eqb-true b c q), go r)) (λ q r. absurd (failed-taken _ _ _ _ r))
 
   pub word_at-stands : (w : List ℕ) (i e : ℕ)
       → (Stands t i e w → word_at t w i ≡ taken tt e) × (word_at t w i ≡ taken tt e → Stands t i e w)

@@ -1,8 +1,10 @@
 -- What a short number is, behind its minus.
-use Rattle.std.specs.Prelude.{◌≡◌, ℕ, ◌^◌, ◌<◌, ◌≤◌, List, length, slice_range}
+use Rattle.std.specs.Prelude.{◌≡◌, ◌≢◌, ℕ, ◌+◌, ◌^◌, ◌<◌, ◌≤◌, List, length, slice_range, slice_index, false}
+use Rattle.jiter_scan.specs.Ascii as ascii
+use Rattle.jiter_scan.specs.Digits.{digit_run_end}
 use Rattle.jiter_scan.specs.Number.{float, number_value}
 use Rattle.jiter_scan.specs.NumberDecoder.{magnitude_of}
-use Rattle.jiter_scan.specs.NumberReading.{whole_at, decimal_at}
+use Rattle.jiter_scan.specs.NumberReading.{whole_at, decimal_at, is_float_sign}
 use Rattle.jiter_scan.specs.Scanned.{taken}
 use Rattle.jiter_scan.specs.declared.short_number.Short.{Short}
 use Rattle.jiter_scan.specs.declared.short_number.Short.TheVariants as short
@@ -23,8 +25,16 @@ pub record IsShortFloat (t : List ℕ) (i e : ℕ) : Type 0 where
   pub some : i < e
   pub within : e ≤ length t
 
--- what was found at i
+-- an integer of one to fifteen digits, the first no zero, with as many bytes behind its first digit as are looked at
+pub record IsFewDigits (t : List ℕ) (i : ℕ) : Type 0 where
+  pub room : i + 65 ≤ length t
+  pub some : i < digit_run_end t i
+  pub few : digit_run_end t i ≤ i + 15
+  pub first : slice_index t i ≢ ascii.digit_zero
+  pub alone : is_float_sign (slice_index t (digit_run_end t i)) ≡ false
+
+-- what was found at i: such an integer always is
 abbrev pub IsShort : List ℕ → ℕ → Short → Type 0
 IsShort t i (short.Int n e) = IsShortInteger t i n e
 IsShort t i (short.Float e) = IsShortFloat t i e
-IsShort t i short.Other = Unit {0}
+IsShort t i short.Other = IsFewDigits t i → ⊥

@@ -5,7 +5,7 @@ ghost use Rattle.std.specs.Str.{IsAscii};
 ghost use Rattle.jiter_scan.specs.Ascii as ascii;
 ghost use Rattle.jiter_scan.specs.Scanned.{Scans, with_end, whole_text, AnswersAlone, taken};
 ghost use Rattle.jiter_scan.specs.Word.{word_at};
-ghost use Rattle.jiter_scan.specs.Digits.{digit_run_end};
+ghost use Rattle.jiter_scan.specs.Digits.{digit_run_end, decimal_of};
 ghost use Rattle.jiter_scan.specs.Number.{is_float_byte, positive_value, negative_value, number_value};
 ghost use Rattle.jiter_scan.specs.NumberReading.{whole_at, decimal_at, is_float_sign, behind_minus, name_at};
 ghost use Rattle.jiter_scan.specs.NumberReading.{with_value, number_at, int_at, integer_behind, integer_behind_minus};
@@ -133,6 +133,16 @@ const INT_LIMIT: u64 = 1 << 63;
 // The least number of twenty digits.
 const MAGNITUDE_LIMIT: u64 = 10_000_000_000_000_000_000;
 
+// The value of the digits from `at` to before `end`, at most sixteen.
+#[inline(always)]
+fn digits_value(bytes: &[u8], at: usize, end: usize) -> u64
+    requires some { (at < end) × (end ≤ at + 16) }
+    requires digits { (end ≤ digit_run_end bytes.now at) × (end ≤ length bytes.now) }
+    ensures { result ≡ decimal_of (slice_range bytes.now at end) }
+{
+    digit_word(chunk_at(bytes, at), end - at)
+}
+
 // The magnitude of the digits from `at` to before `end`, or the least of twenty digits.
 #[inline(always)]
 pub(crate) fn digits_magnitude(bytes: &[u8], at: usize, end: usize) -> u64
@@ -143,10 +153,10 @@ pub(crate) fn digits_magnitude(bytes: &[u8], at: usize, end: usize) -> u64
 {
     let count = end - at;
     if count <= 16 {
-        digit_word(chunk_at(bytes, at), count)
+        digits_value(bytes, at, end)
     } else if count <= 19 {
-        let front = digit_word(chunk_at(bytes, at), 16);
-        let back = digit_word(chunk_at(bytes, at + 16), count - 16);
+        let front = digits_value(bytes, at, at + 16);
+        let back = digits_value(bytes, at + 16, end);
         joined(front, back, count - 16)
     } else {
         MAGNITUDE_LIMIT

@@ -1,24 +1,19 @@
 //! Where numbers end, with no value made (RFC 8259, 6).
 ghost use Rattle.std.specs.Prelude.{◌≡◌, ◌+◌, ◌<◌, ◌≤◌, Bool, IfOk, IfSome, length, slice_get};
-ghost use Rattle.jiter_scan.specs.Digits.{is_digit, digit_run_end};
+ghost use Rattle.jiter_scan.specs.Digits.{digit_run_end};
 ghost use Rattle.jiter_scan.specs.NumberReading.{extent_then, digits_from, behind_zero, within_limit, whole_at};
 ghost use Rattle.jiter_scan.specs.NumberReading.{fraction_at, exponent_at, power_from, decimal_at, behind_minus};
 ghost use Rattle.jiter_scan.specs.NumberReading.{name_at, number_extent};
+ghost use Rattle.jiter_scan.specs.NumberDecoder.{IsMinusTo};
 ghost use Rattle.jiter_scan.specs.Scanned.{Scans, taken};
 
 use crate::errors::{Fault, FaultKind, fault_at};
 use crate::short_number::{Short, short_at};
-use crate::simd::{digit_run_end, digits_end};
+use crate::simd::{digit_run_end, digits_end, is_digit};
 use crate::word::{byte_at, word_end};
 
 // The longest integer part that is read, in digits.
 const DIGIT_LIMIT: usize = 4300;
-
-fn is_digit(byte: u8) -> bool
-    ensures { result ≡ is_digit byte }
-{
-    byte.is_ascii_digit()
-}
 
 // One digit or more: the place behind them.
 fn some_digits_end(bytes: &[u8], from: usize) -> Result<usize, Fault>
@@ -222,6 +217,16 @@ fn long_end(bytes: &[u8], at: usize, allow_inf_nan: bool) -> Result<usize, Fault
     }
 }
 
+// Behind a minus, or where none stands.
+#[inline(always)]
+fn minus_end(bytes: &[u8], at: usize) -> usize
+    requires { at < length bytes.now }
+    ensures minus { IsMinusTo bytes.now at result }
+    ensures place { (at ≤ result) × (result ≤ length bytes.now) }
+{
+    if bytes[at] == b'-' { at + 1 } else { at }
+}
+
 // Behind the number at `at`, if it is short.
 #[inline(always)]
 fn short_end(bytes: &[u8], at: usize) -> Option<usize>
@@ -230,8 +235,7 @@ fn short_end(bytes: &[u8], at: usize) -> Option<usize>
         (λ e. (names : Bool) → number_extent names bytes.now at ≡ taken tt e) }
     ensures place { IfSome result (λ e. (at < e) × (e ≤ length bytes.now)) }
 {
-    let digits = if bytes[at] == b'-' { at + 1 } else { at };
-    match short_at(bytes, digits) {
+    match short_at(bytes, minus_end(bytes, at)) {
         Short::Int(_, end) => Some(end),
         Short::Float(end) => Some(end),
         Short::Other => None,

@@ -225,7 +225,7 @@ pub fn scan_string(bytes: &[u8], from: usize) -> (usize, bool)
 }
 
 #[inline(always)]
-fn is_digit(byte: u8) -> bool
+pub(crate) fn is_digit(byte: u8) -> bool
     ensures { result ≡ is_digit byte }
 {
     byte.is_ascii_digit()

@@ -6,6 +6,9 @@ use Rattle.jiter_scan.specs.Number.{Number, integer, big, float}
 use Rattle.jiter_scan.specs.NumberReading.{number_at}
 use Rattle.jiter_scan.proofs.Computed.{computed_numbers}
 
+abbrev sevens : ℕ → List ℕ
+sevens n = replicate n 55
+
 abbrev numbers : List (List ℕ × Scanned Number)
 numbers =
     (codes "7,", taken (integer (pos 7)) 1) ∷
@@ -27,15 +30,9 @@ numbers =
     (codes "777777777777777777777777,", taken (big (codes "777777777777777777777777")) 24) ∷
     (codes "-777777777777777777777777,", taken (big (codes "-777777777777777777777777")) 25) ∷
     (codes "7777777777777777777777777,", taken (big (codes "7777777777777777777777777")) 25) ∷
-    (codes "-7777777777777777777777777,", taken (big (codes "-7777777777777777777777777")) 26) ∷ (
-      codes "7777777777777777777777777777777777777777,",
-      taken (big (codes "7777777777777777777777777777777777777777"))
-          40,
-    ) ∷ (
-      codes "-7777777777777777777777777777777777777777,",
-      taken (big (codes "-7777777777777777777777777777777777777777"))
-          41,
-    ) ∷
+    (codes "-7777777777777777777777777,", taken (big (codes "-7777777777777777777777777")) 26) ∷
+    (sevens 40 ++ codes ",", taken (big (sevens 40)) 40) ∷
+    (codes "-" ++ (sevens 40 ++ codes ","), taken (big (codes "-" ++ sevens 40)) 41) ∷
     -- what may stand behind
     (codes "-7777777777777777.5", taken (float (codes "-7777777777777777.5")) 19) ∷
     (codes "-7777777777777777.5]", taken (float (codes "-7777777777777777.5")) 19) ∷
@@ -49,9 +46,6 @@ numbers_read = refl
 -- so many digits in each run
 abbrev counts : List ℕ
 counts = 1 ∷ 7 ∷ 8 ∷ 9 ∷ 15 ∷ 16 ∷ 17 ∷ 23 ∷ 24 ∷ 25 ∷ 40 ∷ []
-
-abbrev sevens : ℕ → List ℕ
-sevens n = replicate n 55
 
 abbrev everywhere : ℕ → List ℕ
 everywhere n = sevens n ++ (codes "." ++ (sevens n ++ (codes "e-" ++ sevens n)))

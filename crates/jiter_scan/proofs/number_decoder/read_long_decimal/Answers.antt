@@ -1,9 +1,10 @@
 use Rattle.std.proofs.Common.{◌≡◌, ◌∙◌, ◌<◌, ap, sym, arith, slice_range}
 use Rattle.jiter_scan.specs.Scanned.{taken}
 use Rattle.jiter_scan.specs.Number.{float, number_value}
-use Rattle.jiter_scan.specs.NumberReading.{extent_then, fraction_at, exponent_at, with_value}
+use Rattle.jiter_scan.specs.NumberReading.{with_value}
 use Rattle.jiter_scan.specs.NumberDecoder.{number_view}
 use Rattle.jiter_scan.proofs.NumberBytes.{IsAscii-decimal, IsMinusTo-le}
+use Rattle.jiter_scan.proofs.NumberExtents.{decimal_at-tail}
 use Rattle.jiter_scan.proofs.NumberValues.{number_value-tail}
 use Rattle.jiter_scan.proofs.number_decoder.read_long_decimal.Goals as goal
 use Rattle.jiter_scan.proofs.number_decoder.read_long_decimal.Goals.{then-end-whole_end, else-end-whole_end}
@@ -14,17 +15,14 @@ ascii_text-requires c =
     let whole = c.in_ok-magnitude in
     let end = c.in_ok-end in
     IsAscii-decimal t c.args.from c.args.at end.end c.requires.minus
-    (ap (λ x. extent_then x (λ j. extent_then (fraction_at t j) (λ k. exponent_at t k))) whole.ensures.value
-    ∙ end.ensures.value)
+    (decimal_at-tail t c.args.at whole.whole_end end.end whole.ensures.value end.ensures.value)
 
 pub returns-clause-value : goal.returns-clause-value
 returns-clause-value c =
     let t = c.args.bytes.now in
     let whole = c.in_ok-magnitude in
     let end = c.in_ok-end in
-    let read =
-    ap (λ x. extent_then x (λ j. extent_then (fraction_at t j) (λ k. exponent_at t k))) whole.ensures.value
-    ∙ end.ensures.value in
+    let read = decimal_at-tail t c.args.at whole.whole_end end.end whole.ensures.value end.ensures.value in
     let value : number_value (slice_range t c.args.from end.end) ≡ number_view c.if-end-whole_end.number =
     elim c.if-end-whole_end.branch [
       | then-end-whole_end w ↦ sym (ap number_view w.number-is ∙ w.integer_of.ensures)

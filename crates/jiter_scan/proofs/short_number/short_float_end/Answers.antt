@@ -1,5 +1,5 @@
 use Rattle.std.proofs.lemmas.Option.{IfSome_then}
-use Rattle.jiter_scan.proofs.ShortNumbers.{tail-parts}
+use Rattle.jiter_scan.proofs.NumberExtents.{tail-parts}
 use Rattle.jiter_scan.proofs.short_number.short_float_end.Goals as goal
 
 pub returns-in-Some : goal.returns-in-Some

@@ -22,17 +22,13 @@ returns c =
     c.full_chunk_at-back.ensures c.requires.digits in
     let first : get_or t i 0 ≢ 48 = λ (zero : get_or t i 0 ≡ 48). omega arith in
     let whole = whole_at-run t i e run (omega arith) (omega arith) (omega arith) (inr first) in
+    let few = decimal_of-few t i e (omega arith) (omega arith) (omega arith) 18 (omega arith) in
     record {
       whole = whole;
       decimal = decimal_at-whole t i e (get_or t e 0) whole (slice_get-get_or t e 0 (omega arith))
           (sym c.goes_on.ensures ∙ c.if-goes_on.false);
       magnitude = c.digits_magnitude-magnitude.ensures;
-      small = omega (
-        arith,
-        decimal_of-few t i e (omega arith) (omega arith) (omega arith) 18
-            (omega arith),
-        c.digits_magnitude-magnitude.ensures,
-      );
+      small = omega (arith, few, c.digits_magnitude-magnitude.ensures);
       some = omega arith;
       within = omega arith;
     }

@@ -1,7 +1,8 @@
-use Rattle.std.proofs.Common.{refl}
+use Rattle.std.proofs.Common.{refl, sym}
+use Rattle.std.proofs.lemmas.List.{map-id}
 use Rattle.std.proofs.lemmas.Simd.{zip2_of_maps, splat_is_map}
 use Rattle.jiter_scan.specs.Scan.{is_ascii}
-use Rattle.jiter_scan.proofs.Lanes.{if_at_most, failing-lanes, lanes_alone}
+use Rattle.jiter_scan.proofs.Lanes.{if_at_most, failing-lanes}
 use Rattle.jiter_scan.proofs.simd.highs.Goals as goal
 
 pub returns : goal.returns
@@ -9,4 +10,4 @@ returns c =
     let v = c.args.v in
     let long = c.fits-v.0 in
     failing-lanes _ is_ascii v _ long c.fits-v.1
-    (zip2_of_maps if_at_most (λ _. 128) (λ x. x) v (splat_is_map v 16 128 long) (lanes_alone v)) refl
+    (zip2_of_maps if_at_most (λ _. 128) (λ x. x) v (splat_is_map v 16 128 long) (sym (map-id v))) refl

@@ -1,8 +1,8 @@
-use Rattle.std.proofs.Common.{◌+◌, ◌&&◌, get_or, not, ap, sym, ◌∙◌, arith}
+use Rattle.std.proofs.Common.{◌&&◌, get_or, not, ap, sym, ◌∙◌, arith}
+use Rattle.std.proofs.Math.Bool.{and-true}
 use Rattle.jiter_scan.specs.Scan.{is_plain, is_ascii}
-use Rattle.jiter_scan.specs.Simd.{ascii_from}
 use Rattle.jiter_scan.proofs.Runs.{run_end-passing, run_end-stopping, run_end-past}
-use Rattle.jiter_scan.proofs.PlainRuns.{and-assoc, and-true, ascii_from-byte, ascii_from-stop}
+use Rattle.jiter_scan.proofs.PlainRuns.{ascii_from-byte, ascii_from-stop, still-ascii}
 use Rattle.jiter_scan.proofs.simd.scan_bytes.Goals as goal
 
 pub loop-i-preserved : goal.loop-i-preserved
@@ -13,9 +13,8 @@ loop-i-preserved c =
     let run = run_end-passing is_plain t i c.loop-i-test.true (ap not goes) in
     record {
       stop = omega arith;
-      ascii = c.loop-i.invariant.ascii ∙ ap (λ b. c.loop-i.clean && b) (ascii_from-byte t i c.loop-i-test.true goes)
-          ∙ sym (and-assoc c.loop-i.clean (is_ascii (get_or t i 0)) (ascii_from t (i + 1)))
-          ∙ ap (λ b. b && ascii_from t (i + 1)) (sym c.both-clean.ensures);
+      ascii = still-ascii _ c.loop-i.clean (is_ascii (get_or t i 0)) _ _ _ c.loop-i.invariant.ascii
+          (ascii_from-byte t i c.loop-i-test.true goes) c.both-clean.ensures;
       within = omega arith;
     }
 

@@ -2,7 +2,7 @@ use Rattle.std.proofs.Common.{◌+◌, ◌&&◌, ap, sym, ◌∙◌, arith}
 use Rattle.jiter_scan.specs.Scan.{is_plain}
 use Rattle.jiter_scan.specs.Simd.{ascii_from}
 use Rattle.jiter_scan.proofs.Chunks.{prefix_len-through}
-use Rattle.jiter_scan.proofs.PlainRuns.{and-assoc, ascii_from-through}
+use Rattle.jiter_scan.proofs.PlainRuns.{ascii_from-through, still-ascii}
 use Rattle.jiter_scan.proofs.simd.scan_far.Goals as goal
 
 pub loop-i-preserved : goal.loop-i-preserved
@@ -12,12 +12,10 @@ loop-i-preserved c =
     let found = c.is_plain_chunk-plain in
     let plain = sym found.ensures.plain ∙ c.if-not-plain.false in
     let run = prefix_len-through is_plain t i 64 (omega arith) plain in
-    let rest = ascii_from t (i + 64) in
+    let low = ascii_from-through t i 64 (omega arith) plain
+    ∙ ap (λ b. b && ascii_from t (i + 64)) (sym found.ensures.ascii) in
     record {
       stop = omega arith;
-      ascii = c.loop-i.invariant.ascii
-          ∙ ap (λ b. c.loop-i.clean && b)
-          (ascii_from-through t i 64 (omega arith) plain ∙ ap (λ b. b && rest) (sym found.ensures.ascii))
-          ∙ sym (and-assoc c.loop-i.clean found.result.1 rest) ∙ ap (λ b. b && rest) (sym c.both-clean.ensures);
+      ascii = still-ascii _ c.loop-i.clean found.result.1 _ _ _ c.loop-i.invariant.ascii low c.both-clean.ensures;
       within = omega arith;
     }

@@ -3,55 +3,34 @@ use Rattle.std.specs.Prelude.{slice_range}
 use Rattle.std.proofs.lemmas.List.{length-take}
 use lib.Count.{count_trailing_zeros}
 use Rattle.jiter_scan.specs.Scan.{is_plain}
-use Rattle.jiter_scan.proofs.Chunks.{run_end-through, run_end-inside, run_end-near}
+use Rattle.jiter_scan.proofs.Chunks.{run_end-clear, run_end-stopped, run_end-near}
 use Rattle.jiter_scan.proofs.Tapes.{put-chunk, put-range}
 use Rattle.jiter_scan.proofs.tape.put_plain.Goals as goal
 
-pub returns-then-found-ne0-clause-stop : goal.returns-then-found-ne0-clause-stop
-returns-then-found-ne0-clause-stop c =
-    let found = c.stops-found in
-    let run = run_end-inside is_plain c.args.bytes.now c.loop-at.at 16 (omega arith) (omega arith)
-    (omega (arith, found.ensures)) in
-    let count = ap (count_trailing_zeros 64) found.ensures in
-    omega arith
-
-pub returns-then-found-ne0-clause-place : goal.returns-then-found-ne0-clause-place
-returns-then-found-ne0-clause-place c =
-    let found = c.stops-found in
-    let run = run_end-inside is_plain c.args.bytes.now c.loop-at.at 16 (omega arith) (omega arith)
-    (omega (arith, found.ensures)) in
-    let near = run_end-near is_plain c.args.bytes.now c.loop-at.at 16 (omega arith) (omega (arith, found.ensures)) in
-    let count = ap (count_trailing_zeros 64) found.ensures in
-    (omega arith, omega arith)
-
-pub returns-then-found-ne0-clause-room : goal.returns-then-found-ne0-clause-room
-returns-then-found-ne0-clause-room c =
-    let found = c.stops-found in
-    let run = run_end-inside is_plain c.args.bytes.now c.loop-at.at 16 (omega arith) (omega arith)
-    (omega (arith, found.ensures)) in
-    let near = run_end-near is_plain c.args.bytes.now c.loop-at.at 16 (omega arith) (omega (arith, found.ensures)) in
-    let count = ap (count_trailing_zeros 64) found.ensures in
-    omega arith
-
-pub returns-then-found-ne0-clause-text : goal.returns-then-found-ne0-clause-text
-returns-then-found-ne0-clause-text c =
-    let found = c.stops-found in
+pub returns-then-found-ne0 : goal.returns-then-found-ne0
+returns-then-found-ne0 c =
     let t = c.args.bytes.now in
     let l = c.loop-at in
-    let run = run_end-inside is_plain t l.at 16 (omega arith) (omega arith) (omega (arith, found.ensures)) in
-    let near = run_end-near is_plain t l.at 16 (omega arith) (omega (arith, found.ensures)) in
-    let count = ap (count_trailing_zeros 64) found.ensures in
+    let found = c.stops-found in
+    let run = run_end-stopped is_plain t l.at 16 found.result found.ensures (omega arith) (omega arith) (omega arith) in
+    let near = run_end-near is_plain t l.at 16 found.result found.ensures (omega arith) (omega arith) in
     let n = count_trailing_zeros 64 found.result in
     let end : c.args.count + (l.at + n - c.args.from) ≡ l.end + n = omega arith in
-    ap (λ m. take m c.put_sixteen.new.tape.items) end
-    ∙ put-chunk t c.args.from l.at l.invariant.ahead (take c.args.count c.args.tape.now.items) l.tape.items
-    c.put_sixteen.new.tape.items l.end n (omega arith) (omega arith) l.invariant.text c.put_sixteen.ensures.text
+    record {
+      stop = omega arith;
+      place = (omega arith, omega arith);
+      room = omega arith;
+      text = ap (λ m. take m c.put_sixteen.new.tape.items) end
+          ∙ put-chunk t c.args.from l.at l.invariant.ahead (take c.args.count c.args.tape.now.items) l.tape.items
+          c.put_sixteen.new.tape.items l.end n (omega arith) (omega arith) l.invariant.text c.put_sixteen.ensures.text;
+    }
 
 pub loop-at-preserved : goal.loop-at-preserved
 loop-at-preserved c =
     let t = c.args.bytes.now in
     let l = c.loop-at in
-    let run = run_end-through is_plain t l.at 16 (omega arith) (omega (arith, c.stops-found.ensures)) in
+    let found = c.stops-found in
+    let run = run_end-clear is_plain t l.at 16 found.result found.ensures (omega arith) (omega arith) in
     record {
       stop = omega arith;
       ahead = omega arith;
