@@ -1,8 +1,10 @@
 -- Copies of values, part by part.
-use Rattle.std.proofs.Common.{◌≡◌, ◌<◌, List, [], ◌∷◌, length, map, refl, ap, ◌∙◌, sym, arith, Vec, Global}
+use Rattle.std.proofs.Common.{◌≡◌, ℕ, ◌+◌, ◌<◌, List, [], ◌∷◌, ◌++◌, length, map, take, get_or, refl, ap, ap₂, ◌∙◌}
+use Rattle.std.proofs.Common.{sym, arith, Vec, Global}
+use Rattle.std.proofs.lemmas.List.{map_push, take_more}
 use Rattle.std.specs.Prelude.{Result, Ok, Err, OnErr}
 use Rattle.jiter_steps.specs.Tree.{Text, Tree, array, object, item, member, items_of, members_of}
-use Rattle.jiter_value.specs.Owned.{owned_tree, owned_items, owned_members, owned_member, owned_text, HoldsTextOrPart}
+use Rattle.jiter_value.specs.Owned.{owned_tree, owned_items, owned_members, owned_member, owned_text, HoldsSuchOrPart}
 use Rattle.jiter_value.specs.Stacks.{Member, member_view}
 use Rattle.jiter_value.specs.Value.{view}
 use Rattle.jiter_value.specs.declared.value.JsonValue.{JsonValue, Array, Object}
@@ -38,22 +40,36 @@ owned-Object v w h =
     ∙ ap object (sym (owned_members-of (map member_view w.items)))
     ∙ ap owned_tree (sym (view_object w))
 
+-- one more part, moved
+pub moved-more : {X Y : Type 0} (f : X → Y) (g : Y → Y) (moved xs : List X) (i : ℕ) (x y : X)
+    → map f moved ≡ map g (map f (take i xs)) → i < length xs → x ≡ get_or xs i x → f y ≡ g (f x)
+    → map f (moved ++ y ∷ []) ≡ map g (map f (take (i + 1) xs))
+moved-more f g moved xs i x y h lt at is =
+    map_push f moved y ∙ ap₂ (λ ys z. ys ++ z ∷ []) h is ∙ sym (map_push g (map f (take i xs)) (f x))
+    ∙ ap (map g) (sym (map_push f (take i xs) x))
+    ∙ ap (λ ys. map g (map f ys)) (ap (λ z. take i xs ++ z ∷ []) at ∙ sym (take_more xs i x lt))
+
 -- a container that is not empty holds a part
-array-holds : (ts : List JsonValue) → 0 < length ts → HoldsTextOrPart (array (items_of (map view ts)))
-array-holds [] h = absurd (omega (arith, h))
-array-holds (t ∷ ts) h = tt
+array-holds : (P : Text → Type 0) (ts : List JsonValue) → 0 < length ts
+    → HoldsSuchOrPart P (array (items_of (map view ts)))
+array-holds P [] h = absurd (omega (arith, h))
+array-holds P (t ∷ ts) h = tt
 
-object-holds : (ms : List Member) → 0 < length ms → HoldsTextOrPart (object (members_of (map member_view ms)))
-object-holds [] h = absurd (omega (arith, h))
-object-holds (m ∷ ms) h = tt
-
-pub Array-holds : (v : Vec JsonValue Global) → 0 < length v.items → HoldsTextOrPart (view (Array v))
-Array-holds v h = rw (view_array v) (array-holds v.items h)
-
-pub Object-holds : (v : Vec Member Global) → 0 < length v.items → HoldsTextOrPart (view (Object v))
-Object-holds v h = rw (view_object v) (object-holds v.items h)
+object-holds : (P : Text → Type 0) (ms : List Member) → 0 < length ms
+    → HoldsSuchOrPart P (object (members_of (map member_view ms)))
+object-holds P [] h = absurd (omega (arith, h))
+object-holds P (m ∷ ms) h = tt
 
 -- what holds, holds of a refusal
-pub where-err : {A E : Type 0} (r : Result A E) (P : Type 0) → P → OnErr r P
+where-err : {A E : Type 0} (r : Result A E) (P : Type 0) → P → OnErr r P
 where-err (Ok a) P p = tt
 where-err (Err e) P p = p
+
+pub refused-Array : {A E : Type 0} (P : Text → Type 0) (r : Result A E) (v : Vec JsonValue Global) → 0 < length v.items
+    → OnErr r (HoldsSuchOrPart P (view (Array v)))
+refused-Array P r v h = where-err r (HoldsSuchOrPart P (view (Array v))) (rw (view_array v) (array-holds P v.items h))
+
+pub refused-Object : {A E : Type 0} (P : Text → Type 0) (r : Result A E) (v : Vec Member Global) → 0 < length v.items
+    → OnErr r (HoldsSuchOrPart P (view (Object v)))
+refused-Object P r v h =
+    where-err r (HoldsSuchOrPart P (view (Object v))) (rw (view_object v) (object-holds P v.items h))

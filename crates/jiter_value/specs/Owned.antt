@@ -1,5 +1,5 @@
 -- Trees whose texts are all owned, and trees that are the same wherever their texts lie.
-use Rattle.std.specs.Prelude.{◌≡◌, ◌⊎◌, ℕ, Bool, true, List, Result, Ok, Err}
+use Rattle.std.specs.Prelude.{◌≡◌, ◌⊎◌, ℕ, Bool, true, false, List, Result, Ok, Err}
 use Rattle.jiter_scan.specs.Kind.{kind_of}
 use Rattle.jiter_scan.specs.declared.errors.JsonError.{JsonError}
 use Rattle.jiter_scan.specs.declared.errors.JsonErrorType.TheVariants.{OutOfMemory}
@@ -43,18 +43,29 @@ owned_member m = (owned_text m.0, owned_tree m.1)
 abbrev pub HoldSame : Tree → Tree → Type 0
 HoldSame v w = owned_tree v ≡ owned_tree w
 
--- A tree that holds a text or a part; owning any other takes no memory.
+-- A tree that holds a text of this sort or a part.
+abbrev pub HoldsSuchOrPart : (Text → Type 0) → Tree → Type 0
+HoldsSuchOrPart P null = ⊥
+HoldsSuchOrPart P (boolean b) = ⊥
+HoldsSuchOrPart P (int z) = ⊥
+HoldsSuchOrPart P (big s) = P s
+HoldsSuchOrPart P (float s) = P s
+HoldsSuchOrPart P (string s) = P s
+HoldsSuchOrPart P (array no_items) = ⊥
+HoldsSuchOrPart P (array (item v is)) = Unit {0}
+HoldsSuchOrPart P (object no_members) = ⊥
+HoldsSuchOrPart P (object (member k v ms)) = Unit {0}
+
+-- Owning a tree's texts takes no memory but for a text or a part; a clone none but for an owned text or a part; where
+-- the owned texts are moved, none but for a borrowed text or a part.
 abbrev pub HoldsTextOrPart : Tree → Type 0
-HoldsTextOrPart null = ⊥
-HoldsTextOrPart (boolean b) = ⊥
-HoldsTextOrPart (int z) = ⊥
-HoldsTextOrPart (big s) = Unit {0}
-HoldsTextOrPart (float s) = Unit {0}
-HoldsTextOrPart (string s) = Unit {0}
-HoldsTextOrPart (array no_items) = ⊥
-HoldsTextOrPart (array (item v is)) = Unit {0}
-HoldsTextOrPart (object no_members) = ⊥
-HoldsTextOrPart (object (member k v ms)) = Unit {0}
+HoldsTextOrPart v = HoldsSuchOrPart (λ s. Unit {0}) v
+
+abbrev pub HoldsOwnedTextOrPart : Tree → Type 0
+HoldsOwnedTextOrPart v = HoldsSuchOrPart (λ s. s.owned ≡ true) v
+
+abbrev pub HoldsBorrowedTextOrPart : Tree → Type 0
+HoldsBorrowedTextOrPart v = HoldsSuchOrPart (λ s. s.owned ≡ false) v
 
 -- What a parse returns whose value owns its texts: the value that was read, each text owned, or the fault's kind and
 -- index, unless memory was refused.

@@ -1,6 +1,7 @@
 //! Copies of a value, each text borrowed or owned as it was.
-ghost use Rattle.std.specs.Prelude.{◌≡◌, IfOk, map};
+ghost use Rattle.std.specs.Prelude.{◌≡◌, ◌<◌, IfOk, OnErr, length, map, true};
 ghost use Rattle.jiter_steps.specs.StringDecoder.{text_view};
+ghost use Rattle.jiter_value.specs.Owned.{HoldsOwnedTextOrPart};
 ghost use Rattle.jiter_value.specs.Stacks.{member_view};
 ghost use Rattle.jiter_value.specs.Value.{view};
 
@@ -15,7 +16,8 @@ impl<'s> JsonValue<'s> {
     ///
     /// It fails only where memory is refused.
     pub fn clone(&self, alloc: Global) -> Result<JsonValue<'s>, AllocError>
-        ensures { IfOk result (λ v. view v ≡ view self.now) }
+        ensures value { IfOk result (λ v. view v ≡ view self.now) }
+        ensures memory { OnErr result (HoldsOwnedTextOrPart (view self.now)) }
     {
         Ok(copy_value(alloc, self)?)
     }
@@ -23,7 +25,8 @@ impl<'s> JsonValue<'s> {
 
 #[cycle(copy)]
 fn copy_value<'s>(alloc: Global, value: &JsonValue<'s>) -> Result<JsonValue<'s>, Refused>
-    ensures { IfOk result (λ v. view v ≡ view value.now) }
+    ensures value { IfOk result (λ v. view v ≡ view value.now) }
+    ensures memory { OnErr result (HoldsOwnedTextOrPart (view value.now)) }
 {
     match value {
         JsonValue::Null => Ok(JsonValue::Null),
@@ -39,7 +42,8 @@ fn copy_value<'s>(alloc: Global, value: &JsonValue<'s>) -> Result<JsonValue<'s>,
 
 #[cycle(copy)]
 fn copy_items<'s>(alloc: Global, items: &JsonArray<'s>) -> Result<JsonArray<'s>, Refused>
-    ensures { IfOk result (λ v. map view v.items ≡ map view items.now.items) }
+    ensures value { IfOk result (λ v. map view v.items ≡ map view items.now.items) }
+    ensures memory { OnErr result (0 < length items.now.items) }
 {
     let mut copies = with_capacity(alloc, items.len())?;
     for i in 0..items.len() {
@@ -51,7 +55,8 @@ fn copy_items<'s>(alloc: Global, items: &JsonArray<'s>) -> Result<JsonArray<'s>,
 
 #[cycle(copy)]
 fn copy_members<'s>(alloc: Global, members: &JsonObject<'s>) -> Result<JsonObject<'s>, Refused>
-    ensures { IfOk result (λ v. map member_view v.items ≡ map member_view members.now.items) }
+    ensures value { IfOk result (λ v. map member_view v.items ≡ map member_view members.now.items) }
+    ensures memory { OnErr result (0 < length members.now.items) }
 {
     let mut copies = with_capacity(alloc, members.len())?;
     for i in 0..members.len() {
@@ -65,7 +70,8 @@ fn copy_members<'s>(alloc: Global, members: &JsonObject<'s>) -> Result<JsonObjec
 
 // The text, borrowed or owned as it is.
 fn copy_cow<'s>(alloc: Global, text: &CowStr<'s>) -> Result<CowStr<'s>, Refused>
-    ensures { IfOk result (λ copy. text_view copy ≡ text_view text.now) }
+    ensures value { IfOk result (λ copy. text_view copy ≡ text_view text.now) }
+    ensures memory { OnErr result ((text_view text.now).owned ≡ true) }
 {
     match text {
         CowStr::Borrowed(bytes) => Ok(CowStr::Borrowed(*bytes)),

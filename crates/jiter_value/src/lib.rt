@@ -4,6 +4,7 @@
 pub mod copy;
 pub mod equality;
 pub mod machine;
+pub mod moved;
 pub mod owned;
 pub mod parse_owned;
 pub mod reading;

@@ -16,18 +16,10 @@ impl<'s> JsonValue<'s> {
     ///
     /// It fails only where memory is refused.
     pub fn to_static(&self, alloc: Global) -> Result<JsonValue<'static>, AllocError>
-        ensures { IfOk result (λ v. view v ≡ owned_tree (view self.now)) }
+        ensures value { IfOk result (λ v. view v ≡ owned_tree (view self.now)) }
+        ensures memory { OnErr result (HoldsTextOrPart (view self.now)) }
     {
         Ok(own_value(alloc, self)?)
-    }
-
-    /// [`JsonValue::to_static`] of a value that is not wanted any more. Where memory is refused the value is
-    /// gone.
-    pub fn into_static(self, alloc: Global) -> Result<JsonValue<'static>, AllocError>
-        ensures value { IfOk result (λ v. view v ≡ owned_tree (view self.entry)) }
-        ensures memory { OnErr result (HoldsTextOrPart (view self.entry)) }
-    {
-        Ok(own_value(alloc, &self)?)
     }
 }
 

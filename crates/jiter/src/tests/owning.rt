@@ -205,21 +205,28 @@ fn units_of_copy(
     Ok(None)
 }
 
-#[test]
-fn a_value_is_made_its_own_unless_memory_is_refused(rt: HostRuntime) -> Result<(), Fail> {
-    let alloc = rt.alloc();
+// With how many units of memory a value is made its own that is this value then.
+fn units_of_moving(
+    alloc: Global,
+    bytes: &'static [u8],
+    wanted: &str,
+) -> Result<Option<usize>, Fail> {
     for units in 0..MOST {
-        let value = JsonValue::parse(alloc, SMALL, false)?;
+        let value = JsonValue::parse(alloc, bytes, false)?;
         let held = all_but(alloc, units)?;
         let answer = value.into_static(alloc);
         drop(held);
         if let Ok(own) = &answer {
-            assert!(rt; units > 0);
-            assert_eq!(rt; text_of(alloc, own)?.as_str(), "[owned '\n']");
-            return Ok(());
+            return Ok((text_of(alloc, own)?.as_str() == wanted).then_some(units));
         }
     }
-    assert!(rt; false, "no value");
+    Ok(None)
+}
+
+#[test]
+fn a_value_is_made_its_own_unless_memory_is_refused(rt: HostRuntime) -> Result<(), Fail> {
+    let taken = units_of_moving(rt.alloc(), SMALL, "[owned '\n']")?;
+    assert!(rt; taken.is_some() && taken != Some(0));
     Ok(())
 }
 
@@ -288,6 +295,19 @@ const MANY_LENGTHS: [Request; 11] = [
     Request::Text(19),
 ];
 
+// The same of its borrowed texts alone, since those that are owned are moved.
+const MANY_BORROWED_LENGTHS: [Request; 9] = [
+    Request::Items(10),
+    Request::Text(4),
+    Request::Text(3),
+    Request::Items(2),
+    Request::Items(1),
+    Request::Members(2),
+    Request::Text(1),
+    Request::Items(1),
+    Request::Text(19),
+];
+
 // The same of its owned texts alone.
 const MANY_OWNED_LENGTHS: [Request; 7] = [
     Request::Items(10),
@@ -318,6 +338,22 @@ fn copies_take_one_request_for_each_container_and_text(rt: HostRuntime) -> Resul
 }
 
 #[test]
+fn a_value_is_made_its_own_by_one_request_for_each_container_and_borrowed_text(
+    rt: HostRuntime,
+) -> Result<(), Fail> {
+    let alloc = rt.alloc();
+    let owned = "[1,float owned '2.50',owned 'abc',owned 'a\nb',owned '',[],{},[owned '',[null]],\
+        {owned 'k':1,owned 'l\n':[true]},big owned '9223372036854775808']";
+    let taken = units_of_moving(alloc, MANY, owned)?;
+    assert!(rt; taken.is_some());
+    assert_eq!(rt;
+        taken,
+        units_of_requests(alloc, MANY_BORROWED_LENGTHS.as_slice())?
+    );
+    Ok(())
+}
+
+#[test]
 fn copies_of_what_is_empty_take_no_memory(rt: HostRuntime) -> Result<(), Fail> {
     let alloc = rt.alloc();
     for (bytes, wanted) in [
@@ -340,6 +376,10 @@ fn copies_of_what_is_empty_take_no_memory(rt: HostRuntime) -> Result<(), Fail> {
     ] {
         let taken = units_of_copy(alloc, bytes, Copying::Clone, wanted)?;
         assert_eq!(rt; taken, Some(0), "a clone of {wanted}");
+    }
+    for (bytes, wanted) in [(b"\"a\\nb\"".as_slice(), "owned 'a\nb'"), (b"[ ]", "[]")] {
+        let taken = units_of_moving(alloc, bytes, wanted)?;
+        assert_eq!(rt; taken, Some(0), "{wanted} made its own");
     }
     Ok(())
 }

@@ -1,7 +1,4 @@
-use Rattle.jiter_value.specs.Owned.{HoldsTextOrPart}
-use Rattle.jiter_value.specs.Value.{view}
-use Rattle.jiter_value.specs.declared.value.JsonValue.{Array, Object}
-use Rattle.jiter_value.proofs.Owning.{owned-Array, owned-Object, Array-holds, Object-holds, where-err}
+use Rattle.jiter_value.proofs.Owning.{owned-Array, owned-Object, refused-Array, refused-Object}
 use Rattle.jiter_value.proofs.owned.+own.Goals as goal
 
 pub own_value-returns-in_ok-own_items-in-Array-clause-value :
@@ -20,12 +17,12 @@ pub own_value-returns-in_err-own_items-in-Array-clause-memory :
     goal.own_value-returns-in_err-own_items-in-Array-clause-memory
 own_value-returns-in_err-own_items-in-Array-clause-memory t c =
     rw c.in-Array.is
-    (where-err c.from_residual-in_err-own_items-in-Array.result (HoldsTextOrPart (view (Array c.in-Array.items)))
-    (Array-holds c.in-Array.items c.in_err-own_items-in-Array.ensures.memory))
+    (refused-Array (λ s. Unit {0}) c.from_residual-in_err-own_items-in-Array.result c.in-Array.items
+    c.in_err-own_items-in-Array.ensures.memory)
 
 pub own_value-returns-in_err-own_members-in-Object-clause-memory :
     goal.own_value-returns-in_err-own_members-in-Object-clause-memory
 own_value-returns-in_err-own_members-in-Object-clause-memory t c =
     rw c.in-Object.is
-    (where-err c.from_residual-in_err-own_members-in-Object.result (HoldsTextOrPart (view (Object c.in-Object.members)))
-    (Object-holds c.in-Object.members c.in_err-own_members-in-Object.ensures.memory))
+    (refused-Object (λ s. Unit {0}) c.from_residual-in_err-own_members-in-Object.result c.in-Object.members
+    c.in_err-own_members-in-Object.ensures.memory)

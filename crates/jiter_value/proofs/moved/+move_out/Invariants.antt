@@ -1,0 +1,17 @@
+use Rattle.std.proofs.Common.{◌≡◌, map, take}
+use Rattle.jiter_value.specs.Owned.{owned_tree, owned_member}
+use Rattle.jiter_value.specs.Stacks.{member_view}
+use Rattle.jiter_value.specs.Value.{view}
+use Rattle.jiter_value.proofs.moved.+move_out.Given as goal
+
+abbrev pub invariant-move_items-loop-i : goal.invariant-move_items-loop-i
+invariant-move_items-loop-i l = record {
+  moved : map view l.moved.items ≡ map owned_tree (map view (take l.i l.initial.items.items));
+  unvisited : goal.unvisited-move_items-loop-i l;
+}
+
+abbrev pub invariant-move_members-loop-i : goal.invariant-move_members-loop-i
+invariant-move_members-loop-i l = record {
+  moved : map member_view l.moved.items ≡ map owned_member (map member_view (take l.i l.initial.members.items));
+  unvisited : goal.unvisited-move_members-loop-i l;
+}
