@@ -15,7 +15,7 @@ use Rattle.jiter.specs.Reader.{ReaderState, Reply, gave, refused, with_position,
 use Rattle.jiter.specs.Reader.{array_read, object_read}
 use Rattle.jiter.specs.declared.errors.JiterError.{JiterError}
 use Rattle.jiter.proofs.Building.{Walk, WalkLaws, ToldAt, LeadsTo, all, behind, left, leads, items, members}
-use Rattle.jiter.proofs.Building.{known-first, same-refusal, seen-part}
+use Rattle.jiter.proofs.Building.{known-first, seen-part}
 
 -- one move and then another
 moves-on : (s0 s1 s2 : ReaderState) → MovesOn s0 s1 → MovesOn s1 s2 → MovesOn s0 s2
@@ -45,7 +45,7 @@ passed-on {view = view} {s0 = s0} {s = s} {r = r} (Err d) is h =
 refusal-seen : {A B C : Type 0} (f : A → B) (g : A → C) (r : Reply A) (c : Cause) (x stop : ℕ)
     → reply_seen f r ≡ refused c x stop → reply_seen g r ≡ refused c x stop
 refusal-seen f g (gave a i) c x stop h = absurd (cc)
-refusal-seen f g (refused d i n) c x stop h = same-refusal d c i x n stop h
+refusal-seen f g (refused d i n) c x stop h = cc
 
 pub refused-seen : {X Y A B C : Type 0} {seen : X → B} {view : Y → C} {e : JiterError} {s0 s : ReaderState}
     (f : A → B) (g : A → C) (r : Reply A) → LeavesAt seen (Err e) s0 s (reply_seen f r)

@@ -2,6 +2,7 @@ use Rattle.std.proofs.Common.{◌≡◌, ◌∙◌, sym, ap, subst, rules, arith
 use Rattle.jiter_scan.specs.Kind.{recursion_limit}
 use Rattle.jiter_steps.specs.Literal.{start_of}
 use Rattle.jiter_steps.specs.declared.parse.Start.TheVariants as start
+use Rattle.jiter_steps.proofs.Sound.{array-byte, object-byte}
 use Rattle.jiter_steps.proofs.Values.{inside_at-none, inside_at-starts}
 use Rattle.jiter_value.specs.Stacks.{member_view}
 use Rattle.jiter_value.specs.Value.{view}
@@ -10,8 +11,7 @@ use Rattle.jiter.specs.Cause.{json_error}
 use Rattle.jiter.specs.Client.{owned_trees}
 use Rattle.jiter.specs.Jiter.{LeavesAt, byte_of}
 use Rattle.jiter.specs.Reader.{refused, value_reply}
-use Rattle.jiter.proofs.Building.{known-first, array-first, object-first}
-use Rattle.jiter.proofs.Building.{items-laws, members-laws}
+use Rattle.jiter.proofs.Building.{known-first, items-laws, members-laws}
 use Rattle.jiter.proofs.Containers.{moves-none, passed-on, stands-within, bytes-leave, map-pushed, array-opens}
 use Rattle.jiter.proofs.Containers.{object-opens}
 use Rattle.jiter.proofs.Containers.{begins, first-refused, part-refused, stuck-behind, turn-ahead, goes-on, ended}
@@ -133,10 +133,10 @@ pub build_value-build_array-requires : goal.build_value-build_array-requires
 build_value-build_array-requires t c =
     let begins : start_of (byte_of c.args.peek) ≡ start.Array = ap start_of (sym c.into_inner.ensures)
     ∙ sym c.start_of.ensures ∙ c.in-Array.is in
-    (search rules, (c.requires.whole, c.requires.here ∙ ap Some (array-first (byte_of c.args.peek) begins)))
+    (search rules, (c.requires.whole, c.requires.here ∙ ap Some (array-byte (byte_of c.args.peek) begins)))
 
 pub build_value-build_object-requires : goal.build_value-build_object-requires
 build_value-build_object-requires t c =
     let begins : start_of (byte_of c.args.peek) ≡ start.Object = ap start_of (sym c.into_inner.ensures)
     ∙ sym c.start_of.ensures ∙ c.in-Object.is in
-    (search rules, (c.requires.whole, c.requires.here ∙ ap Some (object-first (byte_of c.args.peek) begins)))
+    (search rules, (c.requires.whole, c.requires.here ∙ ap Some (object-byte (byte_of c.args.peek) begins)))
