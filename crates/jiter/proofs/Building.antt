@@ -1,13 +1,12 @@
 -- What is left of a container behind the parts that the client has built, by the replies of its calls.
-use Rattle.std.proofs.Common.{◌≡◌, ◌∙◌, refl, sym, ap, ℕ, ◌+◌, ◌<◌, ◌==◌, Bool, true, false, cond, List, [], ◌∷◌, ◌++◌}
+use Rattle.std.proofs.Common.{◌≡◌, ◌∙◌, refl, sym, ap, ℕ, ◌+◌, ◌<◌, Bool, true, false, List, [], ◌∷◌, ◌++◌}
 use Rattle.std.proofs.Common.{length}
-use Rattle.std.proofs.Common.{arith, eqb-true}
+use Rattle.std.proofs.Common.{arith}
 use Rattle.std.specs.Prelude.{slice_get, slice_index, Option, Some, None, option_map, IfSome}
 use Rattle.std.proofs.lemmas.Option.{get_or_from_slice_get, slice_get-get_or, slice_get_within}
-use Rattle.jiter_scan.specs.Kind.{expected_value}
 use Rattle.jiter_scan.specs.Scanned.{Scanned, taken, failed}
 use Rattle.jiter_scan.specs.Word.{Extent}
-use Rattle.jiter_scan.specs.NumberReading.{number_at, begins_number, extent_then}
+use Rattle.jiter_scan.specs.NumberReading.{number_at, extent_then}
 use Rattle.jiter_scan.proofs.NumberLaws.{number_at-within}
 use Rattle.jiter_steps.specs.Blank.{past_blanks}
 use Rattle.jiter_steps.specs.Literal.{literal_at, literal_tree, start_of}
@@ -30,7 +29,6 @@ use Rattle.jiter_steps.proofs.Values.{parts_at_is}
 use Rattle.jiter_steps.proofs.Instances.{seen-within, literal_at-within}
 use Rattle.jiter_steps.proofs.StringLaws.{string_at-within}
 use Rattle.jiter_value.specs.Owned.{owned_text}
-use Rattle.jiter.specs.Cause.{Cause, json_error}
 use Rattle.jiter.specs.Client.{owned_trees, built, built_inside, IsTruthOrNothing}
 use Rattle.jiter.specs.Jiter.{StandsAt, reply_seen}
 use Rattle.jiter.specs.Reader.{ReaderState, Reply, gave, refused, with_position, if_byte, next, scalar_reply}

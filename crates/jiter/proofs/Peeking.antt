@@ -1,30 +1,23 @@
 -- A second peek replies as the first, a known_ call as the next_ call, and a refused read of a scalar leaves the reader
 -- where the value begins.
-use Rattle.std.proofs.Common.{◌≡◌, ◌⊎◌, inl, inr, ℕ, ◌+◌, ◌<◌, ◌≤◌, Bool, true, false, if◌then◌else◌, arith}
-use Rattle.std.proofs.Common.{refl, ap, ◌∙◌, subst, Option, Some, None, List, length, drop, drop-drop}
+use Rattle.std.proofs.Common.{◌≡◌, ℕ, true, false}
+use Rattle.std.proofs.Common.{refl, ap, Option, Some, None, List}
 use Rattle.std.proofs.Common.{slice_get, slice_index, slice_range}
-use Rattle.std.proofs.lemmas.Option.{get_or_from_slice_get, slice_get_within}
+use Rattle.std.proofs.lemmas.Option.{get_or_from_slice_get}
 use Rattle.jiter_scan.proofs.Runs.{run_end-here}
 use Rattle.jiter_steps.proofs.Blanks.{no_blank-behind}
 use Rattle.jiter.specs.Jiter.{StandsAt}
-use Rattle.std.specs.List.{prefix_len}
-use Rattle.std.proofs.lemmas.Bool.{cases_lt}
-use Rattle.std.proofs.lemmas.List.Sums.{prefix_len_stops, prefix_len-drop_no, prefix_len-drop_all}
 use Rattle.jiter_scan.specs.Scanned.{Scanned, taken, failed}
-use Rattle.jiter_scan.specs.Number.{Number}
 use Rattle.jiter_scan.specs.NumberReading.{Integer, whole, float_seen, number_at, int_at}
 use Rattle.jiter_steps.specs.Blank.{is_blank, past_blanks}
-use Rattle.jiter_steps.specs.StringReading.{Form, kept, raw, raw_kept, string_at}
-use Rattle.jiter_steps.specs.StringReading as form
+use Rattle.jiter_steps.specs.StringReading.{Form, string_at}
 use Rattle.jiter_steps.specs.Answer.{seen_as}
 use Rattle.jiter_steps.specs.Literal.{literal_at, start_of}
-use Rattle.jiter_steps.specs.Tree.{Text}
 use Rattle.jiter_steps.specs.declared.parse.Literal.TheVariants as literal
 use Rattle.jiter_steps.specs.declared.parse.Start.{Start}
 use Rattle.jiter_steps.specs.declared.parse.Start.TheVariants as start
-use Rattle.jiter.specs.Cause.{ValueType, null, bool, int, float, string}
 use Rattle.jiter.specs.Reader.{ReaderState, Reply, gave, StaysAt, with_position, position_after, value_place, if_byte}
-use Rattle.jiter.specs.Reader.{peek, next, known, scalar_reply, refused_as, integer_reply, null_read}
+use Rattle.jiter.specs.Reader.{peek, next, known, scalar_reply, integer_reply, null_read}
 use Rattle.jiter.specs.Reader.{bool_read, number_read, int_read, number_bytes_read, string_read, str_read, bytes_read}
 
 -- blanks are passed once

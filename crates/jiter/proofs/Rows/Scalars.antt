@@ -1,14 +1,13 @@
 -- What reads of scalars reply, and where the reader stands then, by computation.
-use Rattle.std.proofs.Common.{ℕ, pos, negsuc, Bool, true, false, List, [], ◌∷◌, ◌++◌, refl, codes}
+use Rattle.std.proofs.Common.{pos, negsuc, true, false, [], ◌∷◌, ◌++◌, refl, codes}
 use Rattle.jiter_scan.specs.Kind.{eof_string, eof_value, expected_ident, expected_value}
 use Rattle.jiter_scan.specs.Kind.{invalid_escape, invalid_number, invalid_code_point}
 use Rattle.jiter_scan.specs.Number.{Number}
 use Rattle.jiter_scan.specs.Number as number
-use Rattle.jiter_steps.specs.Tree.{Text}
 use Rattle.jiter.specs.Cause.{json_error, wrong_type, null, bool, int, float, string, array, object}
 use Rattle.jiter.specs.Reader.{gave, refused, next, null_read, bool_read, number_read, int_read, number_bytes_read}
 use Rattle.jiter.specs.Reader.{str_read, bytes_read}
-use Rattle.jiter.proofs.Rows.Tables.{Row, RepliesOn, computed_replies, at, named, partly, borrowed, owned}
+use Rattle.jiter.proofs.Rows.Tables.{RepliesOn, computed_replies, at, named, partly, borrowed, owned}
 
 nulls : RepliesOn (λ s. next s (null_read s)) (
     (at (codes " null,") 0, gave tt 5) ∷
