@@ -1,6 +1,5 @@
 -- What the client builds is the value that is read, each of its texts owned.
-use Rattle.std.proofs.Common.{◌≡◌, ◌∙◌, refl, sym, ap, ℕ, Bool, List, [], ◌∷◌, map, Some}
-use Rattle.std.specs.Prelude.{slice_get}
+use Rattle.std.proofs.Common.{◌≡◌, ◌∙◌, refl, sym, ap, ℕ, Bool, List, [], ◌∷◌, map, subst}
 use Rattle.jiter_scan.specs.Scanned.{Scanned, taken, failed}
 use Rattle.jiter_scan.specs.NumberReading.{number_at}
 use Rattle.jiter_steps.specs.Literal.{literal_at, literal_tree, start_of}
@@ -16,7 +15,7 @@ use Rattle.jiter_steps.proofs.Fused.{Leads, mapped, scanned_as, pairs, value_at-
 use Rattle.jiter_value.specs.Owned.{owned_text, owned_tree, owned_items, owned_members}
 use Rattle.jiter.specs.Client.{owned_trees, built}
 use Rattle.jiter.specs.Jiter.{MovesOn, StandsAt, reply_seen}
-use Rattle.jiter.specs.Reader.{ReaderState, Reply, value_place, if_byte, next, value_reply, value_read}
+use Rattle.jiter.specs.Reader.{ReaderState, with_position, value_place, if_byte, next, value_reply, value_read}
 use Rattle.jiter.proofs.Building.{known-first}
 
 items_of-owned : (vs : List Tree) → owned_items (items_of vs) ≡ items_of (map owned_tree vs)
@@ -74,15 +73,9 @@ pub whole-begun : (s0 s : ReaderState) (c : ℕ) → MovesOn s0 s → s.position
     → reply_seen owned_tree (next s0 (value_read s0)) ≡ built s nesting_limit (start_of c)
 whole-begun s0 s c moves place here =
     let p = value_place s0 in
-    let owned : ReaderState → ℕ → Reply Tree = λ x i. value_reply
-    (value_at (owned_trees x.names) x.text nesting_limit i) in
-    let text : s.text ≡ s0.text = ap (λ (x : ReaderState). x.text) moves.same in
-    let byte : slice_get s0.text p ≡ Some c = ap (slice_get s0.text) (sym place)
-    ∙ ap (λ x. slice_get x s.position) (sym text) ∙ here in
-    let begun : next s0 (value_read s0) ≡ value_reply (value_at (whole_trees s0.names) s0.text nesting_limit p) = ap
-    (λ o. if_byte p o (λ c. value_read s0 p (start_of c))) byte in
-    let first : built s nesting_limit (start_of c) ≡ owned s s.position = ap (built s nesting_limit)
-    (sym (known-first s c here)) in
-    let same : owned s s.position ≡ owned s0 s.position = ap (λ x. owned x s.position) moves.same in
-    ap (reply_seen owned_tree) begun ∙ value-owned s0.names s0.text nesting_limit p
-    ∙ sym (first ∙ same ∙ ap (owned s0) place)
+    let same : s ≡ with_position s0 p = moves.same ∙ ap (with_position s0) place in
+    let first : StandsAt (with_position s0 p) c = subst (λ x. StandsAt x c) same here in
+    ap (λ o. reply_seen owned_tree (if_byte p o (λ c. value_read s0 p (start_of c)))) first
+    ∙ value-owned s0.names s0.text nesting_limit p
+    ∙ ap (built (with_position s0 p) nesting_limit) (known-first (with_position s0 p) c first)
+    ∙ ap (λ x. built x nesting_limit (start_of c)) (sym same)
