@@ -1,13 +1,12 @@
 -- What is left of a container behind the parts that the client has built, by the replies of its calls.
-use Rattle.std.proofs.Common.{◌≡◌, ◌∙◌, refl, ap, ℕ, ◌+◌, ◌<◌, ◌==◌, Bool, true, false, cond, List, [], ◌∷◌, ◌++◌}
+use Rattle.std.proofs.Common.{◌≡◌, ◌∙◌, refl, sym, ap, ℕ, ◌+◌, ◌<◌, Bool, true, false, List, [], ◌∷◌, ◌++◌}
 use Rattle.std.proofs.Common.{length}
-use Rattle.std.proofs.Common.{arith, eqb-true}
+use Rattle.std.proofs.Common.{arith}
 use Rattle.std.specs.Prelude.{slice_get, slice_index, Option, Some, None, option_map, IfSome}
-use Rattle.std.proofs.lemmas.Option.{slice_get-get_or, slice_get_within}
-use Rattle.jiter_scan.specs.Kind.{expected_value}
+use Rattle.std.proofs.lemmas.Option.{get_or_from_slice_get, slice_get-get_or, slice_get_within}
 use Rattle.jiter_scan.specs.Scanned.{Scanned, taken, failed}
 use Rattle.jiter_scan.specs.Word.{Extent}
-use Rattle.jiter_scan.specs.NumberReading.{number_at, begins_number, extent_then}
+use Rattle.jiter_scan.specs.NumberReading.{number_at, extent_then}
 use Rattle.jiter_scan.proofs.NumberLaws.{number_at-within}
 use Rattle.jiter_steps.specs.Blank.{past_blanks}
 use Rattle.jiter_steps.specs.Literal.{literal_at, literal_tree, start_of}
@@ -30,32 +29,16 @@ use Rattle.jiter_steps.proofs.Values.{parts_at_is}
 use Rattle.jiter_steps.proofs.Instances.{seen-within, literal_at-within}
 use Rattle.jiter_steps.proofs.StringLaws.{string_at-within}
 use Rattle.jiter_value.specs.Owned.{owned_text}
-use Rattle.jiter.specs.Cause.{Cause, json_error}
 use Rattle.jiter.specs.Client.{owned_trees, built, built_inside, IsTruthOrNothing}
 use Rattle.jiter.specs.Jiter.{StandsAt, reply_seen}
 use Rattle.jiter.specs.Reader.{ReaderState, Reply, gave, refused, with_position, if_byte, next, scalar_reply}
 use Rattle.jiter.specs.Reader.{bool_read, value_reply, part_reply, item_step, colon_reply, key_reply, key_step}
 
-module _ {A : Type 0} where
-  -- a reply tells the reading
-  gave-done : (x : Reading A) (a : A) (e : ℕ) → value_reply x ≡ gave a e → x ≡ done a e
-  gave-done (done b f) a e h = cc
-  gave-done (fault k i stop) a e h = absurd (cc)
-
-  -- a value that was given ends behind its begin
-  pub gave-ahead : (t : List ℕ) (i : ℕ) (x : Reading A) → Within t i x → (a : A) (e : ℕ) → value_reply x ≡ gave a e
-      → i < e
-  gave-ahead t i (done b f) w a e h = let same : f ≡ e = cc in omega (arith, w.0)
-  gave-ahead t i (fault k x stop) w a e h = absurd (cc)
-
--- a refusal tells nothing of what was awaited
-pub same-refusal : {A B : Type 0} (c d : Cause) (x y m n : ℕ) → Path (Reply A) (refused c x m) (refused d y n)
-    → Path (Reply B) (refused c x m) (refused d y n)
-same-refusal c d x y m n h =
-    let cause : c ≡ d = cc in
-    let index : x ≡ y = cc in
-    let stop : m ≡ n = cc in
-    rw (cause, index, stop)
+-- a value that was given ends behind its begin
+pub gave-ahead : {A : Type 0} (t : List ℕ) (i : ℕ) (x : Reading A) → Within t i x → (a : A) (e : ℕ)
+    → value_reply x ≡ gave a e → i < e
+gave-ahead t i (done b f) w a e h = let same : f ≡ e = cc in omega (arith, w.0)
+gave-ahead t i (fault k x stop) w a e h = absurd (cc)
 
 module _ (names : Bool) (t : List ℕ) where
   pub owned-advances : Advances (owned_trees names) t
@@ -250,98 +233,25 @@ module _ (s0 : ReaderState) (room : ℕ) where
     ahead = λ key i v e at h. member-ahead i v e h;
   }
 
--- what a first byte is, by what begins so
-not_array : (b c d e f g : Bool)
-    → cond b start.Object
-    (cond c start.String
-    (cond d (start.Literal literal.Null)
-    (cond e (start.Literal literal.True)
-    (cond f (start.Literal literal.False) (cond g start.Number start.Nothing))))) ≡ start.Array → ⊥
-not_array true c d e f g h = cc
-not_array false true d e f g h = cc
-not_array false false true e f g h = cc
-not_array false false false true f g h = cc
-not_array false false false false true g h = cc
-not_array false false false false false true h = cc
-not_array false false false false false false h = cc
+-- a literal that is a truth value
+truth-built : (i : ℕ) (l : Literal) (b : Bool) (x : Extent) → literal_tree l ≡ tree.boolean b
+    → reply_seen tree.boolean (scalar_reply i (seen_as (λ u e. b) x))
+    ≡ value_reply (scalar_at i (seen_as (λ u e. literal_tree l) x))
+truth-built i l b (taken u e) is = ap (λ v. gave v e) (sym is)
+truth-built i l b (failed k j) is = refl
 
-not_object : (c d e f g : Bool)
-    → cond c start.String
-    (cond d (start.Literal literal.Null)
-    (cond e (start.Literal literal.True)
-    (cond f (start.Literal literal.False) (cond g start.Number start.Nothing)))) ≡ start.Object → ⊥
-not_object true d e f g h = cc
-not_object false true e f g h = cc
-not_object false false true f g h = cc
-not_object false false false true g h = cc
-not_object false false false false true h = cc
-not_object false false false false false h = cc
-
-first-test : (a : Bool) (rest : Start) → (rest ≡ start.Array → ⊥) → cond a start.Array rest ≡ start.Array → a ≡ true
-first-test true rest other h = refl
-first-test false rest other h = absurd (other h)
-
-second-test : (a b : Bool) (rest : Start) → (rest ≡ start.Object → ⊥)
-    → cond a start.Array (cond b start.Object rest) ≡ start.Object → b ≡ true
-second-test true b rest other h = let clash : ⊥ = cc in absurd clash
-second-test false true rest other h = refl
-second-test false false rest other h = absurd (other h)
-
-pub array-first : (c : ℕ) → start_of c ≡ start.Array → c ≡ 91
-array-first c h =
-    eqb-true c 91
-    (first-test (c == 91) _ (not_array (c == 123) (c == 34) (c == 110) (c == 116) (c == 102) (begins_number c)) h)
-
-pub object-first : (c : ℕ) → start_of c ≡ start.Object → c ≡ 123
-object-first c h =
-    eqb-true c 123
-    (second-test (c == 91) (c == 123) _ (not_object (c == 34) (c == 110) (c == 116) (c == 102) (begins_number c)) h)
-
--- A literal that is a truth value, by the reply of the call that reads it.
-truth-given : (i : ℕ) (l : Literal) (b v : Bool) (e : ℕ) (x : Extent) → literal_tree l ≡ tree.boolean b
-    → scalar_reply i (seen_as (λ u e. b) x) ≡ gave v e
-    → value_reply (scalar_at i (seen_as (λ u e. literal_tree l) x)) ≡ gave (tree.boolean v) e
-truth-given i l b v e (taken u f) same h = cc
-truth-given i l b v e (failed k j) same h = absurd (cc)
-
-truth-refused : (i : ℕ) (l : Literal) (b : Bool) (c : Cause) (y stop : ℕ) (x : Extent)
-    → scalar_reply i (seen_as (λ u e. b) x) ≡ refused c y stop
-    → value_reply (scalar_at i (seen_as (λ u e. literal_tree l) x)) ≡ refused c y stop
-truth-refused i l b c y stop (taken u f) h = absurd (cc)
-truth-refused i l b c y stop (failed k j) h = same-refusal (json_error k) c j y i stop h
-
-module _ (s : ReaderState) where
-  pub bool-given : (b : Start) → IsTruthOrNothing b → (v : Bool) (e : ℕ) → bool_read s s.position b ≡ gave v e
-      → built s 0 b ≡ gave (tree.boolean v) e
-  bool-given (start.Literal literal.True) is v e h =
-      truth-given s.position literal.True true v e (literal_at s.text literal.True s.position) refl h
-  bool-given (start.Literal literal.False) is v e h =
-      truth-given s.position literal.False false v e (literal_at s.text literal.False s.position) refl h
-  bool-given (start.Literal literal.Null) is v e h = absurd is
-  bool-given start.Nothing is v e h = absurd (cc)
-  bool-given start.Array is v e h = absurd is
-  bool-given start.Object is v e h = absurd is
-  bool-given start.String is v e h = absurd is
-  bool-given start.Number is v e h = absurd is
-
-  pub bool-refused : (b : Start) → IsTruthOrNothing b → (c : Cause) (y stop : ℕ)
-      → bool_read s s.position b ≡ refused c y stop
-      → built s 0 b ≡ refused c y stop
-  bool-refused (start.Literal literal.True) is c y stop h =
-      truth-refused s.position literal.True true c y stop (literal_at s.text literal.True s.position) h
-  bool-refused (start.Literal literal.False) is c y stop h =
-      truth-refused s.position literal.False false c y stop (literal_at s.text literal.False s.position) h
-  bool-refused (start.Literal literal.Null) is c y stop h = absurd is
-  bool-refused start.Nothing is c y stop h = same-refusal (json_error expected_value) c s.position y s.position stop h
-  bool-refused start.Array is c y stop h = absurd is
-  bool-refused start.Object is c y stop h = absurd is
-  bool-refused start.String is c y stop h = absurd is
-  bool-refused start.Number is c y stop h = absurd is
+-- by the reply of the call that reads it
+pub bool-built : (s : ReaderState) (b : Start) → IsTruthOrNothing b
+    → reply_seen tree.boolean (bool_read s s.position b) ≡ built s 0 b
+bool-built s (start.Literal literal.True) is = truth-built s.position literal.True true _ refl
+bool-built s (start.Literal literal.False) is = truth-built s.position literal.False false _ refl
+bool-built s (start.Literal literal.Null) is = absurd is
+bool-built s start.Nothing is = refl
+bool-built s start.Array is = absurd is
+bool-built s start.Object is = absurd is
+bool-built s start.String is = absurd is
+bool-built s start.Number is = absurd is
 
 -- where a byte stands, a value begins as it says
 pub known-first : (s : ReaderState) (c : ℕ) → StandsAt s c → start_of (slice_index s.text s.position) ≡ start_of c
-known-first s c h =
-    let same : slice_get s.text s.position ≡ Some (slice_index s.text s.position) = slice_get-get_or s.text s.position 0
-    (slice_get_within s.text s.position c h) in
-    let byte : slice_index s.text s.position ≡ c = cc in
-    ap start_of byte
+known-first s c h = ap start_of (get_or_from_slice_get s.text s.position c 0 h)

@@ -1,5 +1,5 @@
 -- How far the client is in a container, and each way on or out.
-use Rattle.std.proofs.Common.{◌≡◌, ◌∙◌, refl, sym, ap, subst, ℕ, ◌+◌, ◌-◌, ◌<◌, ◌≤◌, List, [], ◌∷◌, ◌++◌, length, map}
+use Rattle.std.proofs.Common.{◌≡◌, ◌∙◌, sym, ap, subst, ℕ, ◌+◌, ◌-◌, ◌<◌, List, [], ◌∷◌, ◌++◌, length, map}
 use Rattle.std.proofs.Common.{arith}
 use Rattle.std.proofs.lemmas.List.{map_push}
 use Rattle.std.proofs.lemmas.Option.{slice_get_within}
@@ -15,7 +15,7 @@ use Rattle.jiter.specs.Reader.{ReaderState, Reply, gave, refused, with_position,
 use Rattle.jiter.specs.Reader.{array_read, object_read}
 use Rattle.jiter.specs.declared.errors.JiterError.{JiterError}
 use Rattle.jiter.proofs.Building.{Walk, WalkLaws, ToldAt, LeadsTo, all, behind, left, leads, items, members}
-use Rattle.jiter.proofs.Building.{known-first, same-refusal, seen-part}
+use Rattle.jiter.proofs.Building.{known-first, seen-part}
 
 -- one move and then another
 moves-on : (s0 s1 s2 : ReaderState) → MovesOn s0 s1 → MovesOn s1 s2 → MovesOn s0 s2
@@ -45,7 +45,7 @@ passed-on {view = view} {s0 = s0} {s = s} {r = r} (Err d) is h =
 refusal-seen : {A B C : Type 0} (f : A → B) (g : A → C) (r : Reply A) (c : Cause) (x stop : ℕ)
     → reply_seen f r ≡ refused c x stop → reply_seen g r ≡ refused c x stop
 refusal-seen f g (gave a i) c x stop h = absurd (cc)
-refusal-seen f g (refused d i n) c x stop h = same-refusal d c i x n stop h
+refusal-seen f g (refused d i n) c x stop h = cc
 
 pub refused-seen : {X Y A B C : Type 0} {seen : X → B} {view : Y → C} {e : JiterError} {s0 s : ReaderState}
     (f : A → B) (g : A → C) (r : Reply A) → LeavesAt seen (Err e) s0 s (reply_seen f r)
@@ -73,21 +73,23 @@ module _ {K P : Type 0} {s0 : ReaderState} {w : Walk K P} (laws : WalkLaws s0 w)
   abbrev first : Step
   first = step s0.text w.container.first (s0.position + 1)
 
-  opened : s0.position < length s0.text → LeadsTo s0 w [] (all s0 w) (part_reply w.told first)
-  opened lt = leads s0 w laws [] (s0.position + 1) first (laws.goes.first (s0.position + 1) (omega arith))
+  opened : (c : ℕ) → StandsAt s0 c → LeadsTo s0 w [] (all s0 w) (part_reply w.told first)
+  opened c at =
+      let lt = slice_get_within s0.text s0.position c at in
+      leads s0 w laws [] (s0.position + 1) first (laws.goes.first (s0.position + 1) (omega arith))
 
-  pub begins : {Y : Type 0} {keys : Y → Option K} {y : Y} {s : ReaderState} → s0.position < length s0.text
+  pub begins : {Y : Type 0} {keys : Y → Option K} {y : Y} {s : ReaderState} (c : ℕ) → StandsAt s0 c
       → LeavesAt keys (Ok y) s0 s (part_reply w.told first) → In s0 s w (keys y) []
-  begins lt h =
-      let led = subst (LeadsTo s0 w [] (all s0 w)) h.value (opened lt) in
+  begins c at h =
+      let led = subst (LeadsTo s0 w [] (all s0 w)) h.value (opened c at) in
       record { moves = h.moves; here = led.1; left = led.0 }
 
   pub first-refused : {X Y : Type 0} {view : X → Tree} {keys : Y → Option K} {e : JiterError} {s : ReaderState}
-      → s0.position < length s0.text → LeavesAt keys (Err e) s0 s (part_reply w.told first)
+      (c : ℕ) → StandsAt s0 c → LeavesAt keys (Err e) s0 s (part_reply w.told first)
       → LeavesAt view (Err e) s0 s (all s0 w)
-  first-refused lt h = record {
+  first-refused c at h = record {
     moves = h.moves;
-    value = λ m. subst (LeadsTo s0 w [] (all s0 w)) (h.value m) (opened lt);
+    value = λ m. subst (LeadsTo s0 w [] (all s0 w)) (h.value m) (opened c at);
     place = h.place;
   }
 
@@ -158,10 +160,6 @@ module _ {K P : Type 0} {s0 : ReaderState} {w : Walk K P} (laws : WalkLaws s0 w)
         place = stepped.place;
       }
 
--- where a byte stands there is one
-pub stands-within : (s : ReaderState) (c : ℕ) → StandsAt s c → s.position < length s.text
-stands-within s c at = slice_get_within s.text s.position c at
-
 -- the calls that open a container
 pub array-opens : (s0 : ReaderState) (room : ℕ) → StandsAt s0 91
     → known s0 (array_read s0)
@@ -175,7 +173,3 @@ object-opens s0 room at =
     ap (λ b. reply_seen (option_map owned_text) (object_read whole s0 s0.position b)) (known-first s0 123 at)
     ∙ seen-part owned_text (λ j. key_reply s0.text j (string_at whole s0.text j))
     (step s0.text object_first (s0.position + 1))
-
--- a reader that stands still
-pub moves-none : (s : ReaderState) → s.position ≤ length s.text → MovesOn s s
-moves-none s h = record { same = refl; forward = omega arith; within = h }

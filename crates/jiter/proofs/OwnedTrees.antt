@@ -1,6 +1,5 @@
 -- What the client builds is the value that is read, each of its texts owned.
-use Rattle.std.proofs.Common.{◌≡◌, ◌∙◌, refl, sym, ap, ℕ, Bool, List, [], ◌∷◌, map, Some}
-use Rattle.std.specs.Prelude.{slice_get}
+use Rattle.std.proofs.Common.{◌≡◌, ◌∙◌, refl, sym, ap, ℕ, Bool, List, [], ◌∷◌, map, subst, Result}
 use Rattle.jiter_scan.specs.Scanned.{Scanned, taken, failed}
 use Rattle.jiter_scan.specs.NumberReading.{number_at}
 use Rattle.jiter_steps.specs.Literal.{literal_at, literal_tree, start_of}
@@ -15,8 +14,9 @@ use Rattle.jiter_steps.specs.declared.parse.Literal.TheVariants as literal
 use Rattle.jiter_steps.proofs.Fused.{Leads, mapped, scanned_as, pairs, value_at-mapped}
 use Rattle.jiter_value.specs.Owned.{owned_text, owned_tree, owned_items, owned_members}
 use Rattle.jiter.specs.Client.{owned_trees, built}
-use Rattle.jiter.specs.Jiter.{MovesOn, StandsAt, reply_seen}
-use Rattle.jiter.specs.Reader.{ReaderState, Reply, value_place, if_byte, next, value_reply, value_read}
+use Rattle.jiter.specs.Jiter.{MovesOn, LeavesAt, Replies, UnlessMemory, StandsAt, reply_seen}
+use Rattle.jiter.specs.Reader.{ReaderState, with_position, value_place, if_byte, next, value_reply, value_read}
+use Rattle.jiter.specs.declared.errors.JiterError.{JiterError}
 use Rattle.jiter.proofs.Building.{known-first}
 
 items_of-owned : (vs : List Tree) → owned_items (items_of vs) ≡ items_of (map owned_tree vs)
@@ -69,20 +69,17 @@ module _ (names : Bool) (t : List ℕ) where
       ≡ value_reply (value_at (owned_trees names) t room i)
   value-owned room i = reply-owned (value_at (whole_trees names) t room i) ∙ ap value_reply (value_at-owned room i)
 
--- where a value begins at the place that a peek moves to
-pub whole-begun : (s0 s : ReaderState) (c : ℕ) → MovesOn s0 s → s.position ≡ value_place s0 → StandsAt s c
-    → reply_seen owned_tree (next s0 (value_read s0)) ≡ built s nesting_limit (start_of c)
-whole-begun s0 s c moves place here =
+-- What is built where a value begins, at the place that a peek moves to, is the value that is read.
+pub built_as_read : {X : Type 0} (view : X → Tree) (result : Result X JiterError) (s0 s end : ReaderState) (c : ℕ)
+    → MovesOn s0 s → s.position ≡ value_place s0 → StandsAt s c
+    → LeavesAt view result s end (built s nesting_limit (start_of c))
+    → UnlessMemory result (Replies view result end (reply_seen owned_tree (next s0 (value_read s0))))
+built_as_read view result s0 s end c moves place here leaves =
     let p = value_place s0 in
-    let owned : ReaderState → ℕ → Reply Tree = λ x i. value_reply
-    (value_at (owned_trees x.names) x.text nesting_limit i) in
-    let text : s.text ≡ s0.text = ap (λ (x : ReaderState). x.text) moves.same in
-    let byte : slice_get s0.text p ≡ Some c = ap (slice_get s0.text) (sym place)
-    ∙ ap (λ x. slice_get x s.position) (sym text) ∙ here in
-    let begun : next s0 (value_read s0) ≡ value_reply (value_at (whole_trees s0.names) s0.text nesting_limit p) = ap
-    (λ o. if_byte p o (λ c. value_read s0 p (start_of c))) byte in
-    let first : built s nesting_limit (start_of c) ≡ owned s s.position = ap (built s nesting_limit)
-    (sym (known-first s c here)) in
-    let same : owned s s.position ≡ owned s0 s.position = ap (λ x. owned x s.position) moves.same in
-    ap (reply_seen owned_tree) begun ∙ value-owned s0.names s0.text nesting_limit p
-    ∙ sym (first ∙ same ∙ ap (owned s0) place)
+    let same : s ≡ with_position s0 p = moves.same ∙ ap (with_position s0) place in
+    let first : StandsAt (with_position s0 p) c = subst (λ x. StandsAt x c) same here in
+    let read = ap (λ o. reply_seen owned_tree (if_byte p o (λ c. value_read s0 p (start_of c)))) first
+    ∙ value-owned s0.names s0.text nesting_limit p
+    ∙ ap (built (with_position s0 p) nesting_limit) (known-first (with_position s0 p) c first)
+    ∙ ap (λ x. built x nesting_limit (start_of c)) (sym same) in
+    subst (λ r. UnlessMemory result (Replies view result end r)) (sym read) leaves.value

@@ -1,89 +1,60 @@
 -- A second peek replies as the first, a known_ call as the next_ call, and a refused read of a scalar leaves the reader
 -- where the value begins.
-use Rattle.std.proofs.Common.{◌≡◌, ◌⊎◌, inl, inr, ℕ, ◌+◌, ◌<◌, ◌≤◌, Bool, true, false, if◌then◌else◌, arith}
-use Rattle.std.proofs.Common.{refl, ap, ◌∙◌, subst, Option, Some, None, List, length, drop, drop-drop}
+use Rattle.std.proofs.Common.{◌≡◌, ℕ, true, false}
+use Rattle.std.proofs.Common.{refl, ap, Option, Some, None, List}
 use Rattle.std.proofs.Common.{slice_get, slice_index, slice_range}
-use Rattle.std.proofs.lemmas.Option.{get_or_from_slice_get, slice_get_within}
-use Rattle.jiter_steps.proofs.Blanks.{past_blanks-other}
+use Rattle.std.proofs.lemmas.Option.{get_or_from_slice_get}
+use Rattle.jiter_scan.proofs.Runs.{run_end-here}
+use Rattle.jiter_steps.proofs.Blanks.{no_blank-behind}
 use Rattle.jiter.specs.Jiter.{StandsAt}
-use Rattle.std.specs.List.{prefix_len}
-use Rattle.std.proofs.lemmas.Bool.{cases_lt}
-use Rattle.std.proofs.lemmas.List.Sums.{prefix_len_stops, prefix_len-drop_no, prefix_len-drop_all}
 use Rattle.jiter_scan.specs.Scanned.{Scanned, taken, failed}
-use Rattle.jiter_scan.specs.Number.{Number}
 use Rattle.jiter_scan.specs.NumberReading.{Integer, whole, float_seen, number_at, int_at}
 use Rattle.jiter_steps.specs.Blank.{is_blank, past_blanks}
-use Rattle.jiter_steps.specs.StringReading.{Form, kept, raw, raw_kept, string_at}
-use Rattle.jiter_steps.specs.StringReading as form
+use Rattle.jiter_steps.specs.StringReading.{Form, string_at}
 use Rattle.jiter_steps.specs.Answer.{seen_as}
 use Rattle.jiter_steps.specs.Literal.{literal_at, start_of}
-use Rattle.jiter_steps.specs.Tree.{Text}
 use Rattle.jiter_steps.specs.declared.parse.Literal.TheVariants as literal
 use Rattle.jiter_steps.specs.declared.parse.Start.{Start}
 use Rattle.jiter_steps.specs.declared.parse.Start.TheVariants as start
-use Rattle.jiter.specs.Cause.{ValueType, null, bool, int, float, string}
 use Rattle.jiter.specs.Reader.{ReaderState, Reply, gave, StaysAt, with_position, position_after, value_place, if_byte}
-use Rattle.jiter.specs.Reader.{peek, next, known, scalar_reply, refused_as, integer_reply, null_read}
+use Rattle.jiter.specs.Reader.{peek, next, known, scalar_reply, integer_reply, null_read}
 use Rattle.jiter.specs.Reader.{bool_read, number_read, int_read, number_bytes_read, string_read, str_read, bytes_read}
-
-abbrev blanks : List ℕ → ℕ
-blanks xs = prefix_len is_blank xs
-
--- no blank stands behind blanks
-no_more : (xs : List ℕ) → blanks (drop (blanks xs) xs) ≡ 0
-no_more xs = by (cases_lt (blanks xs) (length xs)) where
-  by : (blanks xs < length xs) ⊎ (length xs ≤ blanks xs) → blanks (drop (blanks xs) xs) ≡ 0
-  by (inl h) = prefix_len-drop_no is_blank xs (blanks xs) 0 h (prefix_len_stops is_blank xs 0 h)
-  by (inr h) = prefix_len-drop_all is_blank xs (blanks xs) h
 
 -- blanks are passed once
 pub past_blanks-again : (t : List ℕ) (i : ℕ) → past_blanks t (past_blanks t i) ≡ past_blanks t i
 unfolding past_blanks
-past_blanks-again t i =
-    let n = blanks (drop i t) in
-    let none : blanks (drop (i + n) t) ≡ 0 = subst (λ l. blanks l ≡ 0) (drop-drop n i t) (no_more (drop i t)) in
-    omega arith
-
--- what a peek leads to at j
-abbrev at_byte : ℕ → Option ℕ → Reply ℕ
-at_byte j c = if_byte j c (λ c. gave c j)
-
-at_byte-place : (j : ℕ) (c : Option ℕ) → position_after (at_byte j c) ≡ j
-at_byte-place j None = refl
-at_byte-place j (Some c) = refl
+past_blanks-again t i = run_end-here is_blank t (past_blanks t i) _ refl (no_blank-behind t i _ refl)
 
 -- Behind a peek a second one gives the same, and leaves the reader there.
 pub peek-again : (s : ReaderState) → peek (with_position s (position_after (peek s))) ≡ peek s
-peek-again s =
-    let t = s.text in
-    let j = value_place s in
-    let there = at_byte-place j (slice_get t j) in
-    let again = past_blanks-again t s.position in
-    let at_place : ℕ → Reply ℕ = λ i. at_byte i (slice_get t i) in
-    ap (λ i. at_place (past_blanks t i)) there ∙ ap at_place again
+peek-again s = by (slice_get s.text (value_place s)) where
+  again : peek (with_position s (value_place s)) ≡ peek s
+  again = ap (λ i. if_byte i (slice_get s.text i) (λ c. gave c i)) (past_blanks-again s.text s.position)
+
+  by : (o : Option ℕ)
+      → peek (with_position s (position_after (if_byte (value_place s) o (λ c. gave c (value_place s))))) ≡ peek s
+  by None = again
+  by (Some c) = again
 
 module _ (s : ReaderState) (i : ℕ) where
   scalar_reply-stays : {A : Type 0} → (x : Scanned A) → StaysAt i (scalar_reply i x)
   scalar_reply-stays (taken a e) = tt
   scalar_reply-stays (failed k j) = refl
 
-  refused_as-stays : (A : Type 0) (wanted : ValueType) (b : Start) → StaysAt i (refused_as {A = A} s i wanted b)
-  refused_as-stays A wanted b = refl
-
   null_read-stays : (b : Start) → StaysAt i (null_read s i b)
   null_read-stays (start.Literal literal.Null) = scalar_reply-stays (literal_at s.text literal.Null i)
-  null_read-stays b = refused_as-stays (Unit {0}) null b
+  null_read-stays b = refl
 
   bool_read-stays : (b : Start) → StaysAt i (bool_read s i b)
   bool_read-stays (start.Literal literal.True) =
       scalar_reply-stays (seen_as (λ u e. true) (literal_at s.text literal.True i))
   bool_read-stays (start.Literal literal.False) =
       scalar_reply-stays (seen_as (λ u e. false) (literal_at s.text literal.False i))
-  bool_read-stays b = refused_as-stays Bool bool b
+  bool_read-stays b = refl
 
   number_read-stays : (b : Start) → StaysAt i (number_read s i b)
   number_read-stays start.Number = scalar_reply-stays (number_at s.names s.text i)
-  number_read-stays b = refused_as-stays Number int b
+  number_read-stays b = refl
 
   integer_reply-stays : (x : Scanned Integer) → StaysAt i (integer_reply i x)
   integer_reply-stays (taken (whole n) e) = tt
@@ -92,34 +63,23 @@ module _ (s : ReaderState) (i : ℕ) where
 
   int_read-stays : (b : Start) → StaysAt i (int_read s i b)
   int_read-stays start.Number = integer_reply-stays (int_at s.text i)
-  int_read-stays b = refused_as-stays Number int b
+  int_read-stays b = refl
 
   number_bytes_read-stays : (b : Start) → StaysAt i (number_bytes_read s i b)
   number_bytes_read-stays start.Number =
       scalar_reply-stays (seen_as (λ n e. slice_range s.text i e) (number_at s.names s.text i))
-  number_bytes_read-stays b = refused_as-stays (List ℕ) float b
+  number_bytes_read-stays b = refl
 
   string_read-stays : (f : Form) (b : Start) → StaysAt i (string_read f s i b)
   string_read-stays f start.String = scalar_reply-stays (string_at f s.text i)
-  string_read-stays f b = refused_as-stays Text string b
+  string_read-stays f b = refl
 
-  str_read-stays : (b : Start) → StaysAt i (str_read s i b)
-  str_read-stays b = string_read-stays (if s.partial_strings then kept else form.whole) b
-
-  bytes_read-stays : (b : Start) → StaysAt i (bytes_read s i b)
-  bytes_read-stays b = string_read-stays (if s.partial_strings then raw_kept else raw) b
-
-module _ {A : Type 0} where
-  if_byte-stays : (i : ℕ) (c : Option ℕ) (reply : ℕ → Reply A) → ((c : ℕ) → StaysAt i (reply c))
-      → StaysAt i (if_byte i c reply)
-  if_byte-stays i None reply stays = refl
-  if_byte-stays i (Some c) reply stays = stays c
-
-  next-stays : (s : ReaderState) (read : ℕ → Start → Reply A)
-      → ((b : Start) → StaysAt (value_place s) (read (value_place s) b)) → StaysAt (value_place s) (next s read)
-  next-stays s read stays =
-      let i = value_place s in
-      if_byte-stays i (slice_get s.text i) (λ c. read i (start_of c)) (λ c. stays (start_of c))
+next-stays : {A : Type 0} (s : ReaderState) (read : ℕ → Start → Reply A)
+    → ((b : Start) → StaysAt (value_place s) (read (value_place s) b)) → StaysAt (value_place s) (next s read)
+next-stays s read stays = by (slice_get s.text (value_place s)) where
+  by : (o : Option ℕ) → StaysAt (value_place s) (if_byte (value_place s) o (λ c. read (value_place s) (start_of c)))
+  by None = refl
+  by (Some c) = stays (start_of c)
 
 -- A refused read of a scalar leaves the reader at the value's first byte, or at the end where only blanks are left.
 pub scalars-stay : (s : ReaderState)
@@ -137,8 +97,8 @@ scalars-stay s =
       next-stays s (number_read s) (number_read-stays s i),
       next-stays s (int_read s) (int_read-stays s i),
       next-stays s (number_bytes_read s) (number_bytes_read-stays s i),
-      next-stays s (str_read s) (str_read-stays s i),
-      next-stays s (bytes_read s) (bytes_read-stays s i),
+      next-stays s (str_read s) (string_read-stays s i _),
+      next-stays s (bytes_read s) (string_read-stays s i _),
     )
 
 -- Behind a peek that gave a byte, a known_ call replies as the next_ call would have before it.
@@ -151,8 +111,8 @@ known-peeked s read c e =
 -- Where a byte stands that is no blank, a known_ call replies as the next_ call.
 pub known-next : {A : Type 0} (s : ReaderState) (read : ℕ → Start → Reply A) (c : ℕ)
     → StandsAt s c → is_blank c ≡ false → known s read ≡ next s read
+unfolding past_blanks
 known-next s read c e other =
     let b : slice_index s.text s.position ≡ c = get_or_from_slice_get s.text s.position c 0 e in
-    let inside = slice_get_within s.text s.position c e in
-    let here : value_place s ≡ s.position = past_blanks-other s.text s.position inside (ap is_blank b ∙ other) in
+    let here : value_place s ≡ s.position = run_end-here is_blank s.text s.position (Some c) e other in
     rw (here, e, b) refl

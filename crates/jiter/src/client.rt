@@ -257,6 +257,7 @@ fn build_value(
 /// Builds the next value by peeks, steps and scalar reads alone, each of its texts owned: what
 /// [`Jiter::next_value`] reads, with the same refusals at the same places, and the reader where that leaves
 /// it. It asks that partial strings were not allowed.
+#[tactic(auto, using(crate::proofs::OwnedTrees::built_as_read))]
 pub fn value_by_steps(alloc: Global, jiter: &mut Jiter<'_>) -> JiterResult<JsonValue<'static>>
     requires { jiter.old.partial_strings ≡ false }
     ensures moves { MovesOn jiter.old jiter.new }

@@ -1,6 +1,6 @@
 -- What is printed of a value that was read is a document of the same value.
-use Rattle.std.proofs.Common.{◌≡◌, inl, inr, ℕ, zero, suc, ◌+◌, ◌-◌, ◌≤◌, Bool, true, false, List, [], ◌∷◌, ◌++◌}
-use Rattle.std.proofs.Common.{length}
+use Rattle.std.proofs.Common.{◌≡◌, inl, inr, ℕ, zero, suc, ◌+◌, ◌-◌, ◌≤◌, Bool, true, false, List, [], ◌∷◌}
+use Rattle.std.proofs.Common.{◌++◌, length, map}
 use Rattle.std.proofs.Common.{refl, sym}
 use Rattle.std.proofs.Common.{ap, ap₂, ◌∙◌, subst, arith}
 use Rattle.std.specs.Prelude.{Option, Some, None, IfSome}
@@ -12,120 +12,73 @@ use Rattle.jiter_scan.specs.Stands.{Stands}
 use Rattle.jiter_scan.proofs.Standing.{stands-length, stands-within, stands-split, stands-slice, slice-stands}
 use Rattle.jiter_steps.specs.Blank.{IsBlank}
 use Rattle.jiter_steps.specs.Literal.{word_of, literal_tree}
-use Rattle.jiter_steps.specs.Node.{Key, Node, literal, number, string, array, object, no_nodes, node}
-use Rattle.jiter_steps.specs.Node.{Nodes, NodeMembers, no_members, member, begin, end, SpellsKey, Spells}
-use Rattle.jiter_steps.specs.Node.{SpellsItems, SpellsMoreItems, SpellsMembers, SpellsMoreMembers, nesting}
-use Rattle.jiter_steps.specs.Node.{nesting_of, nesting_of_members, number_tree}
-use Rattle.jiter_steps.specs.Node.{value_of, values_of, members_of, nesting_limit}
+use Rattle.jiter_steps.specs.Node as grammar
+use Rattle.jiter_steps.specs.Node.{Key, Node, literal, number, string, array, object, begin, end, Spells, nesting}
+use Rattle.jiter_steps.specs.Node.{number_tree, value_of, values_of, nesting_limit}
 use Rattle.jiter_steps.specs.Read.{Reading, done, fault}
 use Rattle.jiter_scan.specs.declared.partial_mode.PartialMode.{PartialMode}
 use Rattle.jiter_steps.specs.Answer.{answer_in}
 use Rattle.jiter_steps.specs.Piece.{text_of}
 use Rattle.jiter_steps.specs.Tree as tree
-use Rattle.jiter_steps.specs.Tree.{Text, Tree, Items, Members}
+use Rattle.jiter_steps.specs.Tree.{Text, Tree, items_of, members_of}
 use Rattle.jiter_steps.specs.declared.parse.Literal.{Literal}
 use Rattle.jiter_steps.specs.declared.parse.Literal.TheVariants as name
+use Rattle.jiter_steps.proofs.NodeRules.{nodes_of, node_members_of}
+use Rattle.jiter_steps.proofs.Sound.{IsNodeAt, IsItemAt, IsMemberAt, items-grammar, members-grammar}
 use Rattle.look.specs.Print.{print_text, with_line_feed, print_of, item_prints, member_prints}
 use Rattle.look.specs.Printed.{borrow_tree, borrow_items, borrow_members, IsLineOf, PrintsAgain}
 use Rattle.look.proofs.PrintLawNumbers.{number-again}
-use Rattle.look.proofs.PrintLawParts.{no_blank, stands_here, Wherever, behind, Again, Parts, parts-again, more-again}
+use Rattle.look.proofs.PrintLawParts.{no_blank, stands_here, Wherever, Again, Anywhere, parts-again}
 use Rattle.look.proofs.PrintLawStrings.{string-again}
 use Rattle.look.proofs.GivenValues.{Gives}
-use Rattle.look.proofs.Printable.{IsNumber, Fits, ItemsFit, MembersFit, answer_in-printable}
+use Rattle.look.proofs.Printable.{IsNumber, FitsWith, FitsInside, Fits, answer_in-printable}
+
+item_prints-are : (vs : List Tree) → item_prints (items_of vs) ≡ map print_of vs
+item_prints-are [] = refl
+item_prints-are (v ∷ vs) = ap (λ ws. print_of v ∷ ws) (item_prints-are vs)
+
+abbrev print_member : Text × Tree → List ℕ
+print_member p = print_text p.0.bytes ++ 58 ∷ print_of p.1
+
+member_prints-are : (ps : List (Text × Tree)) → member_prints (members_of ps) ≡ map print_member ps
+member_prints-are [] = refl
+member_prints-are (p ∷ ps) = ap (λ ws. print_member p ∷ ws) (member_prints-are ps)
 
 module _ (names : Bool) (u : List ℕ) where
-  -- a value and the blanks before it
-  record SpellsFrom (i : ℕ) (n : Node) (j : ℕ) : Type 0 where
-    blanks : IsBlank u i (begin n)
-    spelled : Spells names u n
-    ends : end n ≡ j
+  -- the same value, but for where its texts lie
+  abbrev Same : Tree → Node → Type 0
+  Same v n = borrow_tree (value_of u n) ≡ borrow_tree v
 
-  -- a member and the blanks before it
-  record SpellsMember (i : ℕ) (m : Key × Node) (j : ℕ) : Type 0 where
-    blanks : IsBlank u i m.0.begin
-    key : SpellsKey u m.0 (begin m.1)
-    spelled : Spells names u m.1
-    ends : end m.1 ≡ j
+  abbrev SameMember : Text × Tree → Key × Node → Type 0
+  SameMember p m = (text_of m.0.pieces ≡ p.0.bytes) × Same p.1 m.1
 
-  -- no deeper than there is room for, and the same value
-  abbrev LikeTree : ℕ → Tree → Node → Type 0
-  LikeTree room v n = (nesting n ≤ room) × (borrow_tree (value_of u n) ≡ borrow_tree v)
+  abbrev SameItems : List Tree → List Node → Type 0
+  SameItems vs ns = borrow_items (values_of u (nodes_of ns)) ≡ borrow_items (items_of vs)
 
-  abbrev LikeMember : ℕ → Text × Tree → Key × Node → Type 0
-  LikeMember room p m = (text_of m.0.pieces ≡ p.0.bytes) × LikeTree room p.1 m.1
+  abbrev SameMembers : List (Text × Tree) → List (Key × Node) → Type 0
+  SameMembers ps ms = borrow_members (grammar.members_of u (node_members_of ms)) ≡ borrow_members (members_of ps)
 
-  abbrev LikeItems : ℕ → Items → Nodes → Type 0
-  LikeItems room vs ns = (nesting_of ns ≤ room) × (borrow_items (values_of u ns) ≡ borrow_items vs)
-
-  abbrev LikeMembers : ℕ → Members → NodeMembers → Type 0
-  LikeMembers room ms ns =
-      (nesting_of_members ns ≤ room) × (borrow_members (members_of u ns) ≡ borrow_members ms)
-
+  -- with this room a node of the same value, and inside a container that has it
   abbrev AgainTree : ℕ → Tree → ℕ → ℕ → Type 0
-  AgainTree room v = Again SpellsFrom (LikeTree room) v
+  AgainTree room v = Again (λ i n j. IsNodeAt names u i n j × (nesting n ≤ room)) Same v
 
-  items : (room : ℕ)
-      → Parts u SpellsFrom (SpellsItems names u) (SpellsMoreItems names u) (LikeTree room) (LikeItems room)
-      tree.item node
-  items room = record {
-    all = λ n ns i k j a r.
-        (a.blanks, a.spelled, subst (λ o. SpellsMoreItems names u o ns j) (sym a.ends) r);
-    more = λ n ns i c j b a. (c, b, a.0, a.1, a.2);
-    like = λ v vs n ns a r. (omega (arith, a.0, r.0), ap₂ tree.item a.1 r.1);
-  }
+  abbrev AgainInside : ℕ → Tree → ℕ → ℕ → Type 0
+  AgainInside room v = Again (IsItemAt names u room) Same v
 
-  members : (room : ℕ) → Parts u SpellsMember (SpellsMembers names u) (SpellsMoreMembers names u) (LikeMember room)
-      (LikeMembers room) (λ p ms. tree.member p.0 p.1 ms) (λ m ns. member m.0 m.1 ns)
-  members room = record {
-    all = λ m ns i k j a r.
-        (a.blanks, a.key, a.spelled, subst (λ o. SpellsMoreMembers names u o ns j) (sym a.ends) r);
-    more = λ m ns i c j b a. (c, b, a.0, a.1, a.2, a.3);
-    like = λ p ms m ns a r. (
-      omega (arith, a.1.0, r.0),
-      (λ d. tree.member (record { owned = false; bytes = a.0 d }) (a.1.1 d) (r.1 d)),
-    );
-  }
-
-  -- What is printed of a member is spelled by a key of the same text, a colon and what spells the value.
-  member-again : (room : ℕ) (k : Text) (v : Tree) → IsUtf8 k.bytes → Wherever u (print_of v) (AgainTree room v)
-      → Wherever u (print_text k.bytes ++ 58 ∷ print_of v) (Again SpellsMember (LikeMember room) (k, v))
-  member-again room k v s value i j l h =
-      let parts = stands-split u i j (print_text k.bytes) (58 ∷ print_of v) h in
-      let r = string-again u i parts.0 k.bytes s parts.1 in
-      let lt = slice_get_within u parts.0 58 parts.2.0 in
-      let a = value (parts.0 + 1) j (omega arith) parts.2.1 in
-      record {
-        again = (record { pieces = r.0; begin = i; end = parts.0 }, a.again);
-        spelled = record {
-          blanks = no_blank u i l;
-          key = record {
-            string = r.1;
-            colon = parts.0 + 1;
-            behind = stands_here u parts.0 58 (parts.0 + 1) parts.2.0 refl;
-            blanks = a.spelled.blanks;
-          };
-          spelled = a.spelled.spelled;
-          ends = a.spelled.ends;
-        };
-        like = (r.2, a.like);
-      }
+  abbrev IsMember : ℕ → ℕ → Key × Node → ℕ → Type 0
+  IsMember room i m j = IsMemberAt names u room i m.0 m.1 j
 
   -- a node that begins right here
-  node-again : (room : ℕ) (v : Tree) (n : Node) (i j : ℕ) → i ≤ length u → begin n ≡ i → end n ≡ j → Spells names u n
-      → nesting n ≤ room → borrow_tree (value_of u n) ≡ borrow_tree v → AgainTree room v i j
-  node-again room v n i j l begins ends spelled depth same = record {
+  node-again : (room : ℕ) (v : Tree) (n : Node) (w : List ℕ) → begin n ≤ length u → Stands u (begin n) (end n) w
+      → Spells names u n → nesting n ≤ room → Same v n → AgainTree room v (begin n) (end n)
+  node-again room v n w l h spelled depth same = record {
     again = n;
-    spelled = record { blanks = subst (IsBlank u i) (sym begins) (no_blank u i l); spelled = spelled; ends = ends };
-    like = (depth, same);
+    spelled = (record { spelled = spelled; begins = refl; ends = refl; within = stands-within u _ _ w l h }, depth);
+    like = same;
   }
 
   literal-again : (room : ℕ) (l : Literal) → Wherever u (word_of l) (AgainTree room (literal_tree l))
-  literal-again room name.Null i j l h =
-      node-again room tree.null (literal name.Null i j) i j l refl refl h (omega arith) refl
-  literal-again room name.True i j l h =
-      node-again room (tree.boolean true) (literal name.True i j) i j l refl refl h (omega arith) refl
-  literal-again room name.False i j l h =
-      node-again room (tree.boolean false) (literal name.False i j) i j l refl refl h (omega arith) refl
+  literal-again room word i j l h = node-again room (literal_tree word) (literal word i j) _ l h h (omega arith) refl
 
   -- a number's print is a number's text, of the same number
   number-node : (room : ℕ) (v : Tree) → IsNumber names v → Wherever u (print_of v) (AgainTree room v)
@@ -135,81 +88,88 @@ module _ (names : Bool) (u : List ℕ) where
       let value = subst (λ x. number_value (print_of x) ≡ number_value n.text) n.is again.1 in
       let is = slice-stands u i j _ h in
       let long = stands-length u i j _ h in
-      node-again room v (number i j) i j l refl refl
-      (record {
-        ordered = omega arith;
-        within = stands-within u i j _ l h;
-        text = subst (IsNumberText names) is text;
-      })
+      let within = stands-within u i j _ l h in
+      node-again room v (number i j) _ l h
+      (record { ordered = omega arith; within = within; text = subst (IsNumberText names) is text })
       (omega arith) (ap borrow_tree (ap number_tree (ap number_value (sym is) ∙ value) ∙ n.is))
 
-  -- What is printed of a value is spelled by a node of the same value.
-  mutual
-    tree-again : (room : ℕ) (v : Tree) → Fits names room v → Wherever u (print_of v) (AgainTree room v)
-    tree-again room tree.null s = literal-again room name.Null
-    tree-again room (tree.boolean true) s = literal-again room name.True
-    tree-again room (tree.boolean false) s = literal-again room name.False
-    tree-again room (tree.int z) s = number-node room (tree.int z) s
-    tree-again room (tree.big x) s = number-node room (tree.big x) s
-    tree-again room (tree.float x) s = number-node room (tree.float x) s
-    tree-again room (tree.string x) s = λ i j l h.
-        let r = string-again u i j x.bytes s h in
-        node-again room (tree.string x) (string r.0 i j) i j l refl refl r.1 (omega arith)
-        (ap (λ (y : List ℕ). tree.string (record { owned = false; bytes = y })) r.2)
-    tree-again room (tree.array tree.no_items) s = λ i j l h.
-        node-again room (tree.array tree.no_items) (array i j no_nodes) i j l refl refl
-        (h.0, stands_here u (i + 1) 93 j h.1.0 (sym h.1.1)) (omega arith) refl
-    tree-again zero (tree.array (tree.item v vs)) s = absurd s.0
-    tree-again (suc room) (tree.array (tree.item v vs)) s = λ i j l h.
-        let r =
-        parts-again (items room) 93 v vs (print_of v) (item_prints vs) (tree-again room v s.0)
-        (items-again room vs s.1) 91 i j l h in
-        node-again (suc room) (tree.array (tree.item v vs)) (array i j (node r.first r.rest)) i j l refl refl
-        (r.stands, r.spelled) (omega (arith, r.like.0)) (ap tree.array r.like.1)
-    tree-again room (tree.object tree.no_members) s = λ i j l h.
-        node-again room (tree.object tree.no_members) (object i j no_members) i j l refl refl
-        (h.0, stands_here u (i + 1) 125 j h.1.0 (sym h.1.1)) (omega arith) refl
-    tree-again zero (tree.object (tree.member k v ms)) s = absurd s.0.1
-    tree-again (suc room) (tree.object (tree.member k v ms)) s = λ i j l h.
-        let r =
-        parts-again (members room) 125 (k, v) ms _ (member_prints ms)
-        (member-again room k v s.0.0 (tree-again room v s.0.1)) (members-again room ms s.1) 123 i j l h in
-        node-again (suc room) (tree.object (tree.member k v ms)) (object i j (member r.first.0 r.first.1 r.rest)) i j l
-        refl refl (r.stands, r.spelled) (omega (arith, r.like.0)) (ap tree.object r.like.1)
+  -- What is printed of a member is spelled by a key of the same text, a colon and what spells the value.
+  member-again : (room : ℕ) (p : Text × Tree) → IsUtf8 p.0.bytes → Wherever u (print_of p.1) (AgainInside room p.1)
+      → Wherever u (print_member p) (Again (IsMember room) SameMember p)
+  member-again room p s value i j l h =
+      let parts = stands-split u i j (print_text p.0.bytes) (58 ∷ print_of p.1) h in
+      let r = string-again u i parts.0 p.0.bytes s parts.1 in
+      let lt = slice_get_within u parts.0 58 parts.2.0 in
+      let a = value (parts.0 + 1) j (omega arith) parts.2.1 in
+      let begins = sym a.spelled.0.begins in
+      record {
+        again = (record { pieces = r.0; begin = i; end = parts.0 }, a.again);
+        spelled = record {
+          begins = refl;
+          key = record {
+            string = r.1;
+            colon = parts.0 + 1;
+            behind = stands_here u parts.0 58 (parts.0 + 1) parts.2.0 refl;
+            blanks = subst (IsBlank u (parts.0 + 1)) begins (no_blank u (parts.0 + 1) (omega arith));
+          };
+          value = subst (λ b. IsNodeAt names u b a.again j) begins a.spelled.0;
+          limit = a.spelled.1;
+        };
+        like = (r.2, a.like);
+      }
 
-    -- behind an item
-    items-again : (room : ℕ) (vs : Items) → ItemsFit names (suc room) vs
-        → Wherever u (behind (item_prints vs) ++ 93 ∷ []) (Again (SpellsMoreItems names u) (LikeItems room) vs)
-    items-again room tree.no_items s = λ i j l h.
-        record { again = no_nodes; spelled = stands_here u i 93 j h.0 (sym h.1); like = (omega arith, refl) }
-    items-again room (tree.item v vs) s =
-        more-again (items room) 93 v vs (print_of v) (item_prints vs) (tree-again room v s.0) (items-again room vs s.1)
+  -- What is printed of a value is spelled by a node of the same value, if that is so of each value inside.
+  tree-again : (room : ℕ) (Inside : Tree → Type 0)
+      → ((v : Tree) → Inside v → Wherever u (print_of v) (AgainInside room v)) → (v : Tree) → FitsWith names Inside v
+      → Wherever u (print_of v) (AgainTree room v)
+  tree-again room Inside inside tree.null s = literal-again room name.Null
+  tree-again room Inside inside (tree.boolean true) s = literal-again room name.True
+  tree-again room Inside inside (tree.boolean false) s = literal-again room name.False
+  tree-again room Inside inside (tree.int z) s = number-node room (tree.int z) s
+  tree-again room Inside inside (tree.big x) s = number-node room (tree.big x) s
+  tree-again room Inside inside (tree.float x) s = number-node room (tree.float x) s
+  tree-again room Inside inside (tree.string x) s = λ i j l h.
+      let r = string-again u i j x.bytes s h in
+      node-again room (tree.string x) (string r.0 i j) (print_of (tree.string x)) l h r.1 (omega arith)
+      (ap (λ (y : List ℕ). tree.string (record { owned = false; bytes = y })) r.2)
+  tree-again room Inside inside (tree.array js) s = λ i j l h.
+      let lt = slice_get_within u i 91 h.0 in
+      let a =
+      parts-again (items-grammar names u room Anywhere (IsItemAt names u room) (λ j n m at is. is)) {Like = SameItems}
+      refl (λ v n vs ns one more. ap₂ tree.item one more) print_of inside s.0 s.2 (i + 1) j (omega arith)
+      (rw (s.1, item_prints-are s.0) at h.1) in
+      node-again room (tree.array js) (array i j (nodes_of a.again)) (print_of (tree.array js)) l h (h.0, a.spelled.0)
+      a.spelled.1 (ap tree.array (a.like ∙ ap borrow_items (sym s.1)))
+  tree-again room Inside inside (tree.object ms) s = λ i j l h.
+      let lt = slice_get_within u i 123 h.0 in
+      let a =
+      parts-again (members-grammar names u room Anywhere (IsMember room) (λ j m e at is. is)) {Like = SameMembers}
+      refl
+      (λ p m ps ms one more.
+      (λ d. tree.member (record { owned = false; bytes = one.0 d }) (one.1 d) (more d)))
+      print_member (λ p is. member-again room p is.0 (inside p.1 is.1)) s.0 s.2 (i + 1) j (omega arith)
+      (rw (s.1, member_prints-are s.0) at h.1) in
+      node-again room (tree.object ms) (object i j (node_members_of a.again)) (print_of (tree.object ms)) l h
+      (h.0, a.spelled.0) a.spelled.1 (ap tree.object (a.like ∙ ap borrow_members (sym s.1)))
 
-    -- behind a member
-    members-again : (room : ℕ) (ms : Members) → MembersFit names (suc room) ms
-        → Wherever u (behind (member_prints ms) ++ 125 ∷ []) (Again (SpellsMoreMembers names u) (LikeMembers room) ms)
-    members-again room tree.no_members s = λ i j l h.
-        record { again = no_members; spelled = stands_here u i 125 j h.0 (sym h.1); like = (omega arith, refl) }
-    members-again room (tree.member k v ms) s =
-        more-again (members room) 125 (k, v) ms _ (member_prints ms)
-        (member-again room k v s.0.0 (tree-again room v s.0.1)) (members-again room ms s.1)
+  inside-again : (room : ℕ) (v : Tree) → FitsInside names room v → Wherever u (print_of v) (AgainInside room v)
+  inside-again zero v s i j l h = absurd s
+  inside-again (suc room) v s i j l h =
+      let a = tree-again room (FitsInside names room) (inside-again room) v s i j l h in
+      record { again = a.again; spelled = (a.spelled.0, omega (arith, a.spelled.1)); like = a.like }
 
 -- ---- the whole text
--- the print and one byte more
-length-with_line_feed : (w : List ℕ) → length (with_line_feed w) ≡ length w + 1
-length-with_line_feed w = length-append w (10 ∷ [])
-
 -- the print stands before its line feed
 print-stands : (w : List ℕ) → Stands (with_line_feed w) 0 (length w) w
 print-stands w =
-    let n = length-with_line_feed w in
+    let n = length-append w (10 ∷ []) in
     subst (Stands (with_line_feed w) 0 (length w)) (take_at w (10 ∷ []) (length w - 0) (omega arith))
     (stands-slice (with_line_feed w) 0 (length w) (omega arith) (omega arith))
 
 -- nothing but the line feed stands behind it
 feed-blank : (w : List ℕ) (e : ℕ) → e ≡ length w → IsBlank (with_line_feed w) e (length (with_line_feed w))
 feed-blank w e is =
-    let n = length-with_line_feed w in
+    let n = length-append w (10 ∷ []) in
     record {
       ordered = omega arith;
       within = omega arith;
@@ -221,15 +181,17 @@ printed-again : (names : Bool) (v : Tree) → Fits names nesting_limit v → IsL
 printed-again names v fits =
     let w = print_of v in
     let u = with_line_feed w in
-    let a = tree-again names u nesting_limit v fits 0 (length w) (omega arith) (print-stands w) in (
+    let inside = inside-again names u nesting_limit in
+    let a = tree-again names u nesting_limit _ inside v fits 0 (length w) (omega arith) (print-stands w) in
+    let is = a.spelled.0 in (
       a.again,
       record {
-        before = a.spelled.blanks;
-        spelled = a.spelled.spelled;
-        after = feed-blank w (end a.again) a.spelled.ends;
-        limit = a.like.0;
+        before = subst (IsBlank u 0) (sym is.begins) (no_blank u 0 (omega arith));
+        spelled = is.spelled;
+        after = feed-blank w (end a.again) is.ends;
+        limit = a.spelled.1;
       },
-      a.like.1,
+      a.like,
     )
 
 read-again : (names : Bool) (x : Reading Tree) → Gives (Fits names nesting_limit) x → PrintsAgain names x

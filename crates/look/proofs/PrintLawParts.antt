@@ -1,5 +1,6 @@
 -- What is known of each part of a printed container, known of the container: items and members alike.
-use Rattle.std.proofs.Common.{◌≡◌, ℕ, ◌+◌, ◌≤◌, List, [], ◌∷◌, ◌++◌, length, refl, subst, arith, append_assoc}
+use Rattle.std.proofs.Common.{◌≡◌, ℕ, ◌+◌, ◌≤◌, List, [], ◌∷◌, ◌++◌, length, map, refl, sym, subst, arith}
+use Rattle.std.proofs.Common.{append_assoc}
 use Rattle.std.specs.Prelude.{slice_get, Some}
 use Rattle.std.specs.List.{join_with_byte}
 use Rattle.std.proofs.lemmas.Option.{slice_get_within}
@@ -7,6 +8,8 @@ use Rattle.jiter_scan.specs.Stands.{Stands}
 use Rattle.jiter_scan.proofs.Standing.{stands-within, stands-split}
 use Rattle.jiter_steps.specs.Blank.{IsBlank}
 use Rattle.jiter_steps.specs.Node.{StandsBehind}
+use Rattle.jiter_steps.proofs.Parts.{Grammar}
+use Rattle.look.proofs.GivenValues.{Each}
 
 pub no_blank : (u : List ℕ) (i : ℕ) → i ≤ length u → IsBlank u i i
 no_blank u i h = record { ordered = omega arith; within = h; each = λ k l m. absurd (omega arith) }
@@ -37,51 +40,44 @@ pub record Again {P N : Type 0} (Spelled : ℕ → N → ℕ → Type 0) (Like :
   pub spelled : Spelled i again j
   pub like : Like p again
 
--- How a container's parts are spelled, items or members: the first and those behind it up to the closer, more of them
--- behind a comma.
-pub record Parts {P Ps N Ns : Type 0} (u : List ℕ) (Part : ℕ → N → ℕ → Type 0) (All More : ℕ → Ns → ℕ → Type 0)
-    (LikePart : P → N → Type 0) (Like : Ps → Ns → Type 0) (add : P → Ps → Ps) (add_node : N → Ns → Ns) : Type 0 where
-  pub all : (n : N) (ns : Ns) (i k j : ℕ) → Part i n k → More k ns j → All i (add_node n ns) j
-  pub more : (n : N) (ns : Ns) (i c j : ℕ) → StandsBehind u i 44 c → All c (add_node n ns) j → More i (add_node n ns) j
-  pub like : (p : P) (ps : Ps) (n : N) (ns : Ns) → LikePart p n → Like ps ns → Like (add p ps) (add_node n ns)
+-- where a part may begin
+abbrev pub Anywhere : ℕ → Type 0
+Anywhere i = Unit {0}
 
--- behind the byte at i a part and more of them, up to the place behind the closer
-pub record AgainBehind {Ps N Ns : Type 0} (u : List ℕ) (All : ℕ → Ns → ℕ → Type 0) (Like : Ps → Ns → Type 0)
-    (add_node : N → Ns → Ns) (byte : ℕ) (ps : Ps) (i j : ℕ) : Type 0 where
-  pub stands : slice_get u i ≡ Some byte
-  pub first : N
-  pub rest : Ns
-  pub spelled : All (i + 1) (add_node first rest) j
-  pub like : Like ps (add_node first rest)
+-- What is known of each part is known of all: of a list of parts, which a container's grammar takes.
+module _ {P N : Type 0} {u : List ℕ} {closer : ℕ} {IsPart : ℕ → N → ℕ → Type 0} {Are MoreAre : List N → ℕ → ℕ → Type 0}
+    (grammar : Grammar u closer Anywhere IsPart Are MoreAre) {LikePart : P → N → Type 0}
+    {Like : List P → List N → Type 0} (none : Like [] [])
+    (add : (p : P) (n : N) (ps : List P) (ns : List N) → LikePart p n → Like ps ns → Like (p ∷ ps) (n ∷ ns))
+    {Is : P → Type 0} (print : P → List ℕ)
+    (part : (p : P) → Is p → Wherever u (print p) (Again IsPart LikePart p)) where
+  -- a part and those behind it
+  first-again : (p : P) (ps : List P) → Is p
+      → Wherever u (behind (map print ps) ++ closer ∷ []) (Again (λ i ns j. MoreAre ns i j) Like ps)
+      → Wherever u (join_with_byte 44 (map print (p ∷ ps)) ++ closer ∷ [])
+      (λ i j. (n : N) × (ns : List N) × Are (n ∷ ns) i j × Like (p ∷ ps) (n ∷ ns))
+  first-again p ps is rest i j l h =
+      let inside = subst (Stands u i j) (joined-behind (print p) (map print ps) (closer ∷ [])) h in
+      let parts = stands-split u i j (print p) (behind (map print ps) ++ closer ∷ []) inside in
+      let a = part p is i parts.0 l parts.1 in
+      let r = rest parts.0 j (stands-within u i parts.0 (print p) l parts.1) parts.2 in
+      let spelled = grammar.part a.again r.again i i parts.0 j (no_blank u i l) tt a.spelled r.spelled in
+      (a.again, r.again, spelled, add p a.again ps r.again a.like r.like)
 
--- What is known of a part and of those behind it is known of all.
-module _ {P Ps N Ns : Type 0} {Part : ℕ → N → ℕ → Type 0} {All More : ℕ → Ns → ℕ → Type 0}
-    {LikePart : P → N → Type 0} {Like : Ps → Ns → Type 0} {add : P → Ps → Ps} {add_node : N → Ns → Ns}
-    {u : List ℕ} (kind : Parts u Part All More LikePart Like add add_node) (closer : ℕ) (p : P) (ps : Ps) (w : List ℕ)
-    (ws : List (List ℕ)) (part : Wherever u w (Again Part LikePart p))
-    (rest : Wherever u (behind ws ++ closer ∷ []) (Again More Like ps)) where
-  pub parts-again : (byte : ℕ)
-      → Wherever u (byte ∷ join_with_byte 44 (w ∷ ws) ++ closer ∷ []) (AgainBehind u All Like add_node byte (add p ps))
-  parts-again byte i j l h =
-      let lt = slice_get_within u i byte h.0 in
-      let inside = subst (Stands u (i + 1) j) (joined-behind w ws (closer ∷ [])) h.1 in
-      let parts = stands-split u (i + 1) j w (behind ws ++ closer ∷ []) inside in
-      let within = stands-within u (i + 1) parts.0 w (omega arith) parts.1 in
-      let a = part (i + 1) parts.0 (omega arith) parts.1 in
-      let r = rest parts.0 j within parts.2 in
-      record {
-        stands = h.0;
-        first = a.again;
-        rest = r.again;
-        spelled = kind.all a.again r.again (i + 1) parts.0 j a.spelled r.spelled;
-        like = kind.like p ps a.again r.again a.like r.like;
-      }
+  more-again : (ps : List P) → Each Is ps
+      → Wherever u (behind (map print ps) ++ closer ∷ []) (Again (λ i ns j. MoreAre ns i j) Like ps)
+  more-again [] s i j l h =
+      record { again = []; spelled = grammar.no_more i j (stands_here u i closer j h.0 (sym h.1)); like = none }
+  more-again (p ∷ ps) s i j l h =
+      let lt = slice_get_within u i 44 h.0 in
+      let r = first-again p ps s.0 (more-again ps s.1) (i + 1) j (omega arith) h.1 in
+      let spelled = grammar.comma r.0 r.1 i (i + 1) j (stands_here u i 44 (i + 1) h.0 refl) r.2 in
+      record { again = r.0 ∷ r.1; spelled = spelled; like = r.3 }
 
-  pub more-again : Wherever u (behind (w ∷ ws) ++ closer ∷ []) (Again More Like (add p ps))
-  more-again i j l h =
-      let r = parts-again 44 i j l h in
-      record {
-        again = add_node r.first r.rest;
-        spelled = kind.more r.first r.rest i (i + 1) j (stands_here u i 44 (i + 1) r.stands refl) r.spelled;
-        like = r.like;
-      }
+  pub parts-again : (ps : List P) → Each Is ps
+      → Wherever u (join_with_byte 44 (map print ps) ++ closer ∷ []) (Again (λ i ns j. Are ns i j) Like ps)
+  parts-again [] s i j l h =
+      record { again = []; spelled = grammar.none i j (stands_here u i closer j h.0 (sym h.1)); like = none }
+  parts-again (p ∷ ps) s i j l h =
+      let r = first-again p ps s.0 (more-again ps s.1) i j l h in
+      record { again = r.0 ∷ r.1; spelled = r.2; like = r.3 }

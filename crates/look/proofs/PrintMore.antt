@@ -16,21 +16,17 @@ joined-push [] p = refl
 joined-push (q ∷ []) p = refl
 joined-push (q ∷ r ∷ ps) p = ap (λ w. q ++ (44 ∷ w)) (joined-push (r ∷ ps) p) ∙ sym (append_assoc q _ _)
 
-joined-more : {A : Type 0} (print : A → List ℕ) (xs : List A) (i : ℕ) (d : A) → i < length xs
-    → join_with_byte 44 (map print (take (i + 1) xs))
-    ≡ join_with_byte 44 (map print (take i xs)) ++ (comma i ++ print (get_or xs i d))
-joined-more print xs i d h =
-    let before = map print (take i xs) in
-    ap (join_with_byte 44) (map_more print xs i d h) ∙ joined-push before (print (get_or xs i d))
-    ∙ ap (λ n. join_with_byte 44 before ++ (comma n ++ print (get_or xs i d)))
-    (simp (length-map, length-take) (omega arith))
-
 -- One part more, whatever the parts are: each is printed in the same way.
 pub parts_more : {A : Type 0} (print : A → List ℕ) (prints : List A → List (List ℕ))
     → ((xs : List A) → prints xs ≡ map print xs) → (xs : List A) (i : ℕ) (d : A) → i < length xs
     → join_with_byte 44 (prints (take (i + 1) xs))
     ≡ join_with_byte 44 (prints (take i xs)) ++ (comma i ++ print (get_or xs i d))
-parts_more print prints are xs i d h = rw (are (take (i + 1) xs), are (take i xs)) (joined-more print xs i d h)
+parts_more print prints are xs i d h =
+    let before = map print (take i xs) in
+    rw (are (take (i + 1) xs), are (take i xs))
+    (ap (join_with_byte 44) (map_more print xs i d h) ∙ joined-push before (print (get_or xs i d))
+    ∙ ap (λ n. join_with_byte 44 before ++ (comma n ++ print (get_or xs i d)))
+    (simp (length-map, length-take) (omega arith)))
 
 abbrev pub print_item : JsonValue → List ℕ
 print_item x = print_of (view x)

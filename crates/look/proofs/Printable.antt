@@ -1,5 +1,5 @@
 -- The values that can be printed, and that each reading gives one of them.
-use Rattle.std.proofs.Common.{◌≡◌, ℕ, zero, suc, ◌+◌, ◌==◌, Bool, List, [], ◌∷◌, length, refl, sym, ap}
+use Rattle.std.proofs.Common.{◌≡◌, ℕ, zero, suc, ◌+◌, ◌==◌, Bool, List, length, refl, sym, ap}
 use Rattle.std.proofs.Common.{eqb-true}
 use Rattle.std.specs.Prelude.{Option, Some, None, drop}
 use Rattle.std.specs.Str.{IsUtf8}
@@ -38,36 +38,25 @@ pub record IsNumber (names : Bool) (v : Tree) : Type 0 where
 abbrev IsText : Text → Type 0
 IsText s = IsUtf8 s.bytes
 
--- inside a container, which needs room itself: so with the room that is left
-abbrev IsInside : (ℕ → Type 0) → ℕ → Type 0
-IsInside Is zero = ⊥
-IsInside Is (suc left) = Is left
+-- a value: texts are UTF-8, numbers are what numbers' texts stand for, and what a container holds is so
+abbrev pub FitsWith : Bool → (Tree → Type 0) → Tree → Type 0
+FitsWith names Inside null = Unit {0}
+FitsWith names Inside (boolean b) = Unit {0}
+FitsWith names Inside (int z) = IsNumber names (int z)
+FitsWith names Inside (tree.big s) = IsNumber names (tree.big s)
+FitsWith names Inside (tree.float s) = IsNumber names (tree.float s)
+FitsWith names Inside (string s) = IsText s
+FitsWith names Inside (array js) = (vs : List Tree) × (js ≡ items_of vs) × Each Inside vs
+FitsWith names Inside (object ms) = (ps : List (Text × Tree)) × (ms ≡ members_of ps) × Each (Both IsText Inside) ps
 
--- Texts are UTF-8, numbers are what numbers' texts stand for, and no more containers than there is room for stand one
--- inside another, empty ones left out.
-abbrev mutual
-  pub Fits : Bool → ℕ → Tree → Type 0
-  Fits names room null = Unit {0}
-  Fits names room (boolean b) = Unit {0}
-  Fits names room (int z) = IsNumber names (int z)
-  Fits names room (tree.big s) = IsNumber names (tree.big s)
-  Fits names room (tree.float s) = IsNumber names (tree.float s)
-  Fits names room (string s) = IsText s
-  Fits names room (array js) = ItemsFit names room js
-  Fits names room (object ms) = MembersFit names room ms
+-- inside a container with this room, which needs room itself
+abbrev pub FitsInside : Bool → ℕ → Tree → Type 0
+FitsInside names zero v = ⊥
+FitsInside names (suc left) v = FitsWith names (λ w. FitsInside names left w) v
 
-  pub ItemsFit : Bool → ℕ → Items → Type 0
-  ItemsFit names room no_items = Unit {0}
-  ItemsFit names room (item j js) = IsInside (λ left. Fits names left j) room × ItemsFit names room js
-
-  pub MembersFit : Bool → ℕ → Members → Type 0
-  MembersFit names room no_members = Unit {0}
-  MembersFit names room (member k j ms) =
-      (IsText k × IsInside (λ left. Fits names left j) room) × MembersFit names room ms
-
--- a value inside a container
-abbrev FitsInside : Bool → ℕ → Tree → Type 0
-FitsInside names room v = IsInside (λ left. Fits names left v) room
+-- No more containers than there is room for stand one inside another, empty ones left out.
+abbrev pub Fits : Bool → ℕ → Tree → Type 0
+Fits names room v = FitsWith names (λ w. FitsInside names room w) v
 
 -- ---- what is scanned
 literal-fits : (names : Bool) (room : ℕ) (l : Literal) → Fits names room (literal_tree l)
@@ -135,16 +124,6 @@ string-fits names room (taken s e) h = h
 string-fits names room (failed k j) h = tt
 
 -- ---- what is built
-items-fit : (names : Bool) (room : ℕ) (js : List Tree) → Each (FitsInside names room) js
-    → ItemsFit names room (items_of js)
-items-fit names room [] h = tt
-items-fit names room (j ∷ js) h = (h.0, items-fit names room js h.1)
-
-members-fit : (names : Bool) (room : ℕ) (ms : List (Text × Tree)) → Each (Both IsText (FitsInside names room)) ms
-    → MembersFit names room (members_of ms)
-members-fit names room [] h = tt
-members-fit names room (m ∷ ms) h = (h.0, members-fit names room ms h.1)
-
 trees-build : (forgives : Kind → Bool) (form : Form) → Decodes form → (names : Bool) (t : List ℕ)
     → Builds (trees forgives form names) t IsText (Fits names) (FitsInside names)
 trees-build forgives form d names t = record {
@@ -152,8 +131,8 @@ trees-build forgives form d names t = record {
   number = λ room i. number_at-fits names t room i (number_at names t i) refl;
   text = λ room i. string-fits names room (string_at form t i) (string_at-text form d t i);
   key = λ i. string_at-text whole tt t i;
-  array = λ room b e. items-fit names room;
-  object = λ room b e. members-fit names room;
+  array = λ room b e items h. (items, refl, h);
+  object = λ room b e members h. (members, refl, h);
   inside = λ room v h. h;
 }
 

@@ -1,31 +1,26 @@
 -- What the steps through arrays and objects reply, and where the reader stands then, by computation.
-use Rattle.std.proofs.Common.{ℕ, List, [], ◌∷◌, ◌++◌, refl, codes, Option, Some, None}
+use Rattle.std.proofs.Common.{[], ◌∷◌, ◌++◌, refl, codes, Some, None}
 use Rattle.jiter_scan.specs.Kind.{eof_list, eof_object, eof_string, eof_value, invalid_number, invalid_code_point}
 use Rattle.jiter_scan.specs.Kind.{expected_colon, expected_list_comma_or_end, expected_object_comma_or_end}
 use Rattle.jiter_scan.specs.Kind.{key_must_be_a_string, trailing_comma, trailing_characters}
 use Rattle.jiter_steps.specs.StringReading.{whole, raw}
-use Rattle.jiter_steps.specs.Tree.{Text}
 use Rattle.jiter.specs.Cause.{json_error, wrong_type, int, array, object}
 use Rattle.jiter.specs.Reader.{gave, refused, peek, next, array_read, item_step, object_read, key_step, finish}
-use Rattle.jiter.proofs.Rows.Tables.{Row, RepliesOn, computed_replies, at, partly, borrowed, owned}
+use Rattle.jiter.proofs.Rows.Tables.{RepliesOn, computed_replies, at, partly, borrowed, owned}
 
-abbrev arrays : List (Row (Option ℕ))
-arrays =
+arrays : RepliesOn (λ s. next s (array_read s)) (
     (at (codes " [ 1]") 0, gave (Some 49) 3) ∷
     (at (codes "[ ] ") 0, gave None 3) ∷
     (at (codes "[") 0, refused (json_error eof_list) 1 1) ∷
     (at (codes "[x") 0, gave (Some 120) 1) ∷
     (at (codes " {") 0, refused (wrong_type array object) 1 1) ∷
     (at (codes "-x") 0, refused (json_error invalid_number) 1 0) ∷
-    []
-
-arrays-reply : RepliesOn (λ s. next s (array_read s)) arrays
+    [])
 unfolding computed_replies
-arrays-reply = refl
+arrays = refl
 
 -- Behind an item; in the last row the comma was consumed.
-abbrev items : List (Row (Option ℕ))
-items =
+items : RepliesOn (item_step) (
     (at (codes "[1 , 2]") 2, gave (Some 50) 5) ∷
     (at (codes "[1 ]") 2, gave None 4) ∷
     (at (codes "[1 ") 2, refused (json_error eof_list) 3 3) ∷
@@ -33,15 +28,12 @@ items =
     (at (codes "[1 2]") 2, refused (json_error expected_list_comma_or_end) 3 3) ∷
     (at (codes "[1,]") 2, refused (json_error trailing_comma) 3 3) ∷
     (at (codes "[1,]") 3, gave None 4) ∷
-    []
-
-items-reply : RepliesOn (item_step) items
+    [])
 unfolding computed_replies
-items-reply = refl
+items = refl
 
 -- What follows the colon is not looked at.
-abbrev objects : List (Row (Option Text))
-objects =
+objects : RepliesOn (λ s. next s (object_read whole s)) (
     (at (codes " { \"a\" : 1}") 0, gave (Some (borrowed (codes "a"))) 8) ∷
     (at (codes "{ }") 0, gave None 3) ∷
     (at (codes "{\"\\u0061\":1}") 0, gave (Some (owned (codes "a"))) 10) ∷
@@ -54,26 +46,20 @@ objects =
     (at (codes "{1:2}") 0, refused (json_error key_must_be_a_string) 1 1) ∷
     (at (codes "{\"a\":") 0, gave (Some (borrowed (codes "a"))) 5) ∷
     (at (codes "{\"" ++ (255 ∷ (codes "\":1}"))) 0, refused (json_error invalid_code_point) 2 1) ∷
-    []
-
-objects-reply : RepliesOn (λ s. next s (object_read whole s)) objects
+    [])
 unfolding computed_replies
-objects-reply = refl
+objects = refl
 
-abbrev objects_by_bytes : List (Row (Option Text))
-objects_by_bytes =
+objects_by_bytes : RepliesOn (λ s. next s (object_read raw s)) (
     (at (codes "{\"\\u0061\":1}") 0, gave (Some (borrowed (codes "\\u0061"))) 10) ∷
     (at (codes "[") 0, refused (wrong_type object array) 0 0) ∷
     (at (codes "{\"" ++ (255 ∷ (codes "\":1}"))) 0, gave (Some (borrowed (255 ∷ []))) 5) ∷
-    []
-
-objects_by_bytes-reply : RepliesOn (λ s. next s (object_read raw s)) objects_by_bytes
+    [])
 unfolding computed_replies
-objects_by_bytes-reply = refl
+objects_by_bytes = refl
 
 -- Behind a member.
-abbrev keys : List (Row (Option Text))
-keys =
+keys : RepliesOn (key_step whole) (
     (at (codes "{\"a\":1 , \"b\" :2}") 6, gave (Some (borrowed (codes "b"))) 14) ∷
     (at (codes "{\"a\":1 }") 6, gave None 8) ∷
     (at (codes "{\"a\":1") 6, refused (json_error eof_object) 6 6) ∷
@@ -81,37 +67,26 @@ keys =
     (at (codes "{\"a\":1,}") 6, refused (json_error trailing_comma) 7 7) ∷
     (at (codes "{\"a\":1 \"b\"") 6, refused (json_error expected_object_comma_or_end) 7 7) ∷
     (at (codes "{\"a\":1,2") 6, refused (json_error key_must_be_a_string) 7 7) ∷
-    []
-
-keys-reply : RepliesOn (key_step whole) keys
+    [])
 unfolding computed_replies
-keys-reply = refl
+keys = refl
 
-abbrev bytes_of_keys : List (Row (Option Text))
-bytes_of_keys =
+bytes_of_keys : RepliesOn (key_step raw) (
     (at (codes "{\"a\":1,\"\\n\":2}") 6, gave (Some (borrowed (codes "\\n"))) 12) ∷
-    []
-
-bytes_of_keys-reply : RepliesOn (key_step raw) bytes_of_keys
+    [])
 unfolding computed_replies
-bytes_of_keys-reply = refl
+bytes_of_keys = refl
 
-abbrev peeks : List (Row ℕ)
-peeks =
+peeks : RepliesOn (peek) (
     (at (codes " x") 0, gave 120 1) ∷
     (at (32 ∷ 10 ∷ []) 0, refused (json_error eof_value) 2 2) ∷
-    []
-
-peeks-reply : RepliesOn (peek) peeks
+    [])
 unfolding computed_replies
-peeks-reply = refl
+peeks = refl
 
-abbrev ends : List (Row (Unit {0}))
-ends =
+ends : RepliesOn (finish) (
     (at (codes "1 ") 1, gave tt 2) ∷
     (at (codes " x") 0, refused (json_error trailing_characters) 1 1) ∷
-    []
-
-ends-reply : RepliesOn (finish) ends
+    [])
 unfolding computed_replies
-ends-reply = refl
+ends = refl

@@ -1,30 +1,25 @@
 -- What reads of scalars reply, and where the reader stands then, by computation.
-use Rattle.std.proofs.Common.{ℕ, pos, negsuc, Bool, true, false, List, [], ◌∷◌, ◌++◌, refl, codes}
+use Rattle.std.proofs.Common.{pos, negsuc, true, false, [], ◌∷◌, ◌++◌, refl, codes}
 use Rattle.jiter_scan.specs.Kind.{eof_string, eof_value, expected_ident, expected_value}
 use Rattle.jiter_scan.specs.Kind.{invalid_escape, invalid_number, invalid_code_point}
 use Rattle.jiter_scan.specs.Number.{Number}
 use Rattle.jiter_scan.specs.Number as number
-use Rattle.jiter_steps.specs.Tree.{Text}
 use Rattle.jiter.specs.Cause.{json_error, wrong_type, null, bool, int, float, string, array, object}
 use Rattle.jiter.specs.Reader.{gave, refused, next, null_read, bool_read, number_read, int_read, number_bytes_read}
 use Rattle.jiter.specs.Reader.{str_read, bytes_read}
-use Rattle.jiter.proofs.Rows.Tables.{Row, RepliesOn, computed_replies, at, named, partly, borrowed, owned}
+use Rattle.jiter.proofs.Rows.Tables.{RepliesOn, computed_replies, at, named, partly, borrowed, owned}
 
-abbrev nulls : List (Row (Unit {0}))
-nulls =
+nulls : RepliesOn (λ s. next s (null_read s)) (
     (at (codes " null,") 0, gave tt 5) ∷
     (at (codes " [") 0, refused (wrong_type null array) 1 1) ∷
     (at (codes "true") 0, refused (wrong_type null bool) 0 0) ∷
     (at (codes "nulx") 0, refused (json_error expected_ident) 3 0) ∷
     (at (codes "  ") 0, refused (json_error eof_value) 2 2) ∷
-    []
-
-nulls-reply : RepliesOn (λ s. next s (null_read s)) nulls
+    [])
 unfolding computed_replies
-nulls-reply = refl
+nulls = refl
 
-abbrev bools : List (Row Bool)
-bools =
+bools : RepliesOn (λ s. next s (bool_read s)) (
     (at (codes "true") 0, gave true 4) ∷
     (at (codes "[false") 1, gave false 6) ∷
     (at (codes "tru") 0, refused (json_error eof_value) 3 0) ∷
@@ -32,14 +27,11 @@ bools =
     (at (codes "nul") 0, refused (wrong_type bool null) 0 0) ∷
     (at (codes "NaN") 0, refused (json_error expected_value) 0 0) ∷
     (named (codes "NaN") 0, refused (wrong_type bool float) 0 0) ∷
-    []
-
-bools-reply : RepliesOn (λ s. next s (bool_read s)) bools
+    [])
 unfolding computed_replies
-bools-reply = refl
+bools = refl
 
-abbrev integers : List (Row Number)
-integers =
+integers : RepliesOn (λ s. next s (int_read s)) (
     (at (codes "12,") 0, gave (number.integer (pos 12)) 2) ∷
     (at (codes " -12 ") 0, gave (number.integer (negsuc 11)) 4) ∷
     (at (codes "9223372036854775808") 0, gave (number.big (codes "9223372036854775808")) 19) ∷
@@ -54,14 +46,11 @@ integers =
     (at (codes "]") 0, refused (json_error expected_value) 0 0) ∷
     (at (codes "NaN") 0, refused (wrong_type int float) 0 0) ∷
     (named (codes "NaN") 0, refused (wrong_type int float) 0 0) ∷
-    []
-
-integers-reply : RepliesOn (λ s. next s (int_read s)) integers
+    [])
 unfolding computed_replies
-integers-reply = refl
+integers = refl
 
-abbrev numbers : List (Row Number)
-numbers =
+numbers : RepliesOn (λ s. next s (number_read s)) (
     (at (codes "12.50]") 0, gave (number.float (codes "12.50")) 5) ∷
     (at (codes "[-0]") 1, gave (number.integer (pos 0)) 3) ∷
     (at (codes " 1.5") 1, gave (number.float (codes "1.5")) 4) ∷
@@ -69,26 +58,20 @@ numbers =
     (named (codes "NaN") 0, gave (number.float (codes "NaN")) 3) ∷
     (at (codes "null") 0, refused (wrong_type int null) 0 0) ∷
     (at (codes "12.") 0, refused (json_error eof_value) 3 0) ∷
-    []
-
-numbers-reply : RepliesOn (λ s. next s (number_read s)) numbers
+    [])
 unfolding computed_replies
-numbers-reply = refl
+numbers = refl
 
-abbrev bytes_of_numbers : List (Row (List ℕ))
-bytes_of_numbers =
+bytes_of_numbers : RepliesOn (λ s. next s (number_bytes_read s)) (
     (at (codes "null") 0, refused (wrong_type float null) 0 0) ∷
     (at (codes " -1.50e3,") 0, gave (codes "-1.50e3") 8) ∷
     (named (codes "[NaN]") 1, gave (codes "NaN") 4) ∷
-    []
-
-bytes_of_numbers-reply : RepliesOn (λ s. next s (number_bytes_read s)) bytes_of_numbers
+    [])
 unfolding computed_replies
-bytes_of_numbers-reply = refl
+bytes_of_numbers = refl
 
 -- A number where another type is wanted is read first.
-abbrev texts : List (Row Text)
-texts =
+texts : RepliesOn (λ s. next s (str_read s)) (
     (at (codes "-I") 0, refused (json_error invalid_number) 1 0) ∷
     (at (codes "12.") 0, refused (json_error eof_value) 3 0) ∷
     (at (codes "12") 0, refused (wrong_type string int) 0 0) ∷
@@ -102,22 +85,17 @@ texts =
     (partly (codes "\"ab\\") 0, gave (owned (codes "ab")) 4) ∷
     (partly (34 ∷ 97 ∷ 226 ∷ 130 ∷ []) 0, gave (borrowed (codes "a")) 4) ∷
     (partly (codes "\"a\\q") 0, refused (json_error invalid_escape) 3 0) ∷
-    []
-
-texts-reply : RepliesOn (λ s. next s (str_read s)) texts
+    [])
 unfolding computed_replies
-texts-reply = refl
+texts = refl
 
-abbrev bytes_of_texts : List (Row Text)
-bytes_of_texts =
+bytes_of_texts : RepliesOn (λ s. next s (bytes_read s)) (
     (at (codes " 1e5") 0, refused (wrong_type string float) 1 1) ∷
     (at (codes "\"\\u0061\"") 0, gave (borrowed (codes "\\u0061")) 8) ∷
     (at (codes "\"ab") 0, refused (json_error eof_string) 3 0) ∷
     (at (codes "[\"" ++ (255 ∷ (codes "\"]"))) 1, gave (borrowed (255 ∷ [])) 4) ∷
     (partly (codes "\"ab") 0, gave (borrowed (codes "ab")) 3) ∷
     (partly (codes "\"ab\\") 0, refused (json_error eof_string) 4 0) ∷
-    []
-
-bytes_of_texts-reply : RepliesOn (λ s. next s (bytes_read s)) bytes_of_texts
+    [])
 unfolding computed_replies
-bytes_of_texts-reply = refl
+bytes_of_texts = refl

@@ -1,7 +1,8 @@
-use Rattle.std.proofs.Common.{◌≡◌, ◌∙◌, sym, ap, subst, rules, arith, ◌<◌, Some, Ok, Err, option_map}
+use Rattle.std.proofs.Common.{◌≡◌, ◌∙◌, refl, sym, ap, subst, rules, arith, ◌<◌, Some, Ok, Err, option_map}
 use Rattle.jiter_scan.specs.Kind.{recursion_limit}
 use Rattle.jiter_steps.specs.Literal.{start_of}
 use Rattle.jiter_steps.specs.declared.parse.Start.TheVariants as start
+use Rattle.jiter_steps.proofs.Sound.{array-byte, object-byte}
 use Rattle.jiter_steps.proofs.Values.{inside_at-none, inside_at-starts}
 use Rattle.jiter_value.specs.Stacks.{member_view}
 use Rattle.jiter_value.specs.Value.{view}
@@ -10,10 +11,8 @@ use Rattle.jiter.specs.Cause.{json_error}
 use Rattle.jiter.specs.Client.{owned_trees}
 use Rattle.jiter.specs.Jiter.{LeavesAt, byte_of}
 use Rattle.jiter.specs.Reader.{refused, value_reply}
-use Rattle.jiter.proofs.Building.{known-first, array-first, object-first}
-use Rattle.jiter.proofs.Building.{items-laws, members-laws}
-use Rattle.jiter.proofs.Containers.{moves-none, passed-on, stands-within, bytes-leave, map-pushed, array-opens}
-use Rattle.jiter.proofs.Containers.{object-opens}
+use Rattle.jiter.proofs.Building.{known-first, items-laws, members-laws}
+use Rattle.jiter.proofs.Containers.{passed-on, bytes-leave, map-pushed, array-opens, object-opens}
 use Rattle.jiter.proofs.Containers.{begins, first-refused, part-refused, stuck-behind, turn-ahead, goes-on, ended}
 use Rattle.jiter.proofs.client.+build.Goals as goal
 
@@ -24,8 +23,7 @@ build_array-loop-next-init t c =
     let opened = bytes-leave (option_map byte_of) (Ok c.in_ok-next.next) s0 c.known_array.new.self _ h.moves h.value tt
     in
     rw c.new-items.ensures.items
-    (begins (items-laws s0 c.args.room) (stands-within s0 91 c.requires.here)
-    (rw (array-opens s0 c.args.room c.requires.here) at opened))
+    (begins (items-laws s0 c.args.room) 91 c.requires.here (rw (array-opens s0 c.args.room c.requires.here) at opened))
 
 pub build_array-returns-in_err-item-clause-value : goal.build_array-returns-in_err-item-clause-value
 build_array-returns-in_err-item-clause-value t c =
@@ -66,14 +64,14 @@ build_object-returns-in_err-next-clause-value t c =
     let s0 = c.args.jiter.now in
     let opened = rw (object-opens s0 c.args.room c.requires.here) at c.in_err-next.ensures.value in
     passed-on c.from_residual.result c.from_residual.ensures.1
-    (first-refused (members-laws s0 c.args.room) (stands-within s0 123 c.requires.here) opened)
+    (first-refused (members-laws s0 c.args.room) 123 c.requires.here opened)
 
 pub build_object-loop-next-init : goal.build_object-loop-next-init
 build_object-loop-next-init t c =
     let s0 = c.args.jiter.now in
     let opened = rw (object-opens s0 c.args.room c.requires.here) at c.in_ok-next.ensures.value in
     rw c.new-members.ensures.items
-    (begins (members-laws s0 c.args.room) (stands-within s0 123 c.requires.here) opened)
+    (begins (members-laws s0 c.args.room) 123 c.requires.here opened)
 
 pub build_object-returns-in_err-value-clause-value : goal.build_object-returns-in_err-value-clause-value
 build_object-returns-in_err-value-clause-value t c =
@@ -110,7 +108,11 @@ build_inside-returns-then-room-eq0-clause-value t c =
     let s = c.args.jiter.now in
     let index = c.current_index.ensures.value in
     record {
-      moves = moves-none s (omega (arith, c.current_index.ensures.within, index));
+      moves = record {
+        same = refl;
+        forward = omega arith;
+        within = omega (arith, c.current_index.ensures.within, index);
+      };
       value =
           λ m. ap value_reply (inside_at-none (owned_trees s.names) s.text c.args.room s.position c.if-room-eq0.true)
           ∙ ap (λ x. refused (json_error recursion_limit) x s.position) (sym index);
@@ -133,10 +135,10 @@ pub build_value-build_array-requires : goal.build_value-build_array-requires
 build_value-build_array-requires t c =
     let begins : start_of (byte_of c.args.peek) ≡ start.Array = ap start_of (sym c.into_inner.ensures)
     ∙ sym c.start_of.ensures ∙ c.in-Array.is in
-    (search rules, (c.requires.whole, c.requires.here ∙ ap Some (array-first (byte_of c.args.peek) begins)))
+    (search rules, (c.requires.whole, c.requires.here ∙ ap Some (array-byte (byte_of c.args.peek) begins)))
 
 pub build_value-build_object-requires : goal.build_value-build_object-requires
 build_value-build_object-requires t c =
     let begins : start_of (byte_of c.args.peek) ≡ start.Object = ap start_of (sym c.into_inner.ensures)
     ∙ sym c.start_of.ensures ∙ c.in-Object.is in
-    (search rules, (c.requires.whole, c.requires.here ∙ ap Some (object-first (byte_of c.args.peek) begins)))
+    (search rules, (c.requires.whole, c.requires.here ∙ ap Some (object-byte (byte_of c.args.peek) begins)))

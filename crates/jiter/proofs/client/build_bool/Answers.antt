@@ -1,10 +1,10 @@
 use Rattle.std.proofs.Common.{◌≡◌, ◌∙◌, ap, sym, rules}
 use Rattle.jiter_steps.specs.Literal.{start_of}
-use Rattle.jiter.proofs.Building.{known-first, bool-given, bool-refused}
+use Rattle.jiter.proofs.Building.{known-first, bool-built}
 use Rattle.jiter_steps.specs.Tree.{boolean}
 use Rattle.jiter_value.specs.Value.{view}
 use Rattle.jiter_value.specs.declared.value.JsonValue.{Bool, the_lemmas}
-use Rattle.jiter.specs.Jiter.{byte_of}
+use Rattle.jiter.specs.Jiter.{byte_of, reply_seen}
 use Rattle.jiter.specs.Reader.{gave}
 use Rattle.jiter.proofs.Containers.{passed-on}
 use Rattle.jiter.proofs.client.build_bool.Goals as goal
@@ -15,11 +15,11 @@ returns-clause-value c =
     let first = known-first s (byte_of c.args.peek) c.requires.here in
     let read = rw first at c.in_ok-truth.ensures.value in
     let tree : view (Bool c.in_ok-truth.truth) ≡ boolean c.in_ok-truth.truth = search (rules, the_lemmas) in
-    let built = bool-given s (start_of (byte_of c.args.peek)) c.requires.begins c.in_ok-truth.truth
-    c.known_bool.new.self.position read in
+    let built = bool-built s (start_of (byte_of c.args.peek)) c.requires.begins in
     record {
       moves = c.in_ok-truth.ensures.moves;
-      value = built ∙ ap (λ v. gave v c.known_bool.new.self.position) (sym tree);
+      value =
+          sym built ∙ ap (reply_seen boolean) read ∙ ap (λ v. gave v c.known_bool.new.self.position) (sym tree);
       place = tt;
     }
 
@@ -30,8 +30,6 @@ returns-in_err-truth-clause-value c =
     let read = rw first at c.in_err-truth.ensures.value in
     passed-on c.from_residual.result c.from_residual.ensures.1 (record {
       moves = c.in_err-truth.ensures.moves;
-      value =
-          λ m. bool-refused s (start_of (byte_of c.args.peek)) c.requires.begins _ _ c.known_bool.new.self.position
-          read;
+      value = λ m. sym (bool-built s _ c.requires.begins) ∙ ap (reply_seen boolean) read;
       place = λ m. absurd (c.in_err-truth.ensures.refusal.bytes m);
     })

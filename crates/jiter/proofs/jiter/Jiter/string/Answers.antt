@@ -1,7 +1,7 @@
 use Rattle.std.proofs.Common.{◌∙◌, sym, subst}
 use Rattle.jiter_steps.proofs.StringLaws.{string_at-within}
 use Rattle.jiter_steps.specs.StringDecoder.{text_view}
-use Rattle.jiter.proofs.Refusals.{IsInside, index-parser, index-scalar}
+use Rattle.jiter.proofs.Refusals.{IsInside, reading-within, index-parser, index-error}
 use Rattle.jiter.proofs.jiter.Jiter.string.Goals.{in-Ok, in-Err}
 use Rattle.jiter.proofs.jiter.Jiter.string.Goals as goal
 
@@ -13,6 +13,7 @@ returns-clause-index c = elim c.match-read.branch [
       let is = c.self.view_is ∙ c.take_tape-tape.ensures in
       let inside = subst IsInside (sym is) c.requires in
       let stop = index-parser p c.read_string-read.new.parser c.read_string-read.ensures.moves in
-      rw (← is) (index-scalar p.bytes.now p.index text_view w.in-Err.error _ w.refusal_at.result w.refusal_at.ensures
-      _ inside (string_at-within _ p.bytes.now p.index inside) stop w.in-Err.ensures.value))
+      rw (← is) (index-error p.bytes.now p.index text_view w.in-Err.error _ w.refusal_at.result w.refusal_at.ensures
+      _ (reading-within p.bytes.now p.index _ p.within (string_at-within _ p.bytes.now p.index inside)) stop
+      w.in-Err.ensures.value))
 ]
