@@ -10,11 +10,13 @@ returns-then-bytes-to-eq34-clause-whole c =
     let t = c.args.bytes.now in
     let s = c.scan_string-to in
     let quote = got t s.result.0 c.if-to-bytes.true ∙ ap Some c.if-bytes-to-eq34.true in
-    quoted-whole t c.args.at s.result.0 c.requires s.ensures.stop quote (ascii-utf8 _ (s.ensures.ascii.0 c.if-ascii.true))
+    let utf8 = ascii-utf8 _ (s.ensures.ascii.0 c.if-ascii.true) in
+    quoted-whole t c.args.at s.result.0 c.requires s.ensures.stop quote utf8
 
 pub returns-then-bytes-to-eq34-clause-kept : goal.returns-then-bytes-to-eq34-clause-kept
 returns-then-bytes-to-eq34-clause-kept c =
     let t = c.args.bytes.now in
     let s = c.scan_string-to in
     let quote = got t s.result.0 c.if-to-bytes.true ∙ ap Some c.if-bytes-to-eq34.true in
-    quoted-kept t c.args.at s.result.0 c.requires s.ensures.stop quote (ascii-utf8 _ (s.ensures.ascii.0 c.if-ascii.true))
+    let utf8 = ascii-utf8 _ (s.ensures.ascii.0 c.if-ascii.true) in
+    quoted-kept t c.args.at s.result.0 c.requires s.ensures.stop quote utf8

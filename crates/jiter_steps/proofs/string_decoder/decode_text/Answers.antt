@@ -5,9 +5,10 @@ use Rattle.jiter_steps.proofs.string_decoder.decode_text.Goals as goal
 pub returns-in-Ok-default-Closed : goal.returns-in-Ok-default-Closed
 returns-in-Ok-default-Closed c =
     let i = c.in-Ok-default-Closed in
+    let r = c.requires in
     let d = rw i.field-0-1-is at i.ensures in
     let text = ap (take i.count) c.as_slice.ensures.value ∙ d.text in
-    rw (string-closed c.args.bytes.now c.args.at c.requires.within _ refl i.end c.requires.backslash (sym d.stop), ← text)
+    rw (string-closed c.args.bytes.now c.args.at r.within _ refl i.end r.backslash (sym d.stop), ← text)
     c.own_text.ensures
 
 pub returns-in-Ok-default-Wrong : goal.returns-in-Ok-default-Wrong
