@@ -1,36 +1,23 @@
 -- What whole documents answer with partial reading off, by computation.
-use Rattle.std.proofs.Common.{◌≡◌, ℕ, negsuc, true, false, List, [], ◌∷◌, ◌++◌, refl, codes, map}
+use Rattle.std.proofs.Common.{ℕ, negsuc, true, false, List, [], ◌∷◌, ◌++◌, refl, codes}
 use Rattle.jiter_scan.specs.Kind.{eof_list, eof_object, eof_string, eof_value, expected_colon}
 use Rattle.jiter_scan.specs.Kind.{expected_list_comma_or_end, expected_object_comma_or_end, expected_ident}
 use Rattle.jiter_scan.specs.Kind.{expected_value, invalid_escape, invalid_number, invalid_code_point, control_character}
 use Rattle.jiter_scan.specs.Kind.{key_must_be_a_string, lone_surrogate, trailing_comma, trailing_characters}
 use Rattle.jiter_scan.specs.Kind.{end_of_hex_escape}
 use Rattle.jiter_steps.specs.Tree.{Tree, null, boolean, int, big, float}
-use Rattle.jiter_steps.specs.Read.{Reading, done, fault}
+use Rattle.jiter_steps.specs.Read.{done, fault}
 use Rattle.jiter_steps.specs.Answer.{answer}
-use Rattle.jiter_steps.proofs.Rows.Trees.{owned, ascii, number, text, word, own_text, listed, paired}
+use Rattle.jiter_steps.proofs.Rows.Trees.{owned, ascii, number, text, word, own_text, listed, paired, Give}
 use Rattle.jiter_steps.proofs.Computed.{computed_readings}
 
-abbrev nested_literals : Tree
-nested_literals = listed (boolean true ∷ listed (null ∷ listed [] ∷ []) ∷ boolean false ∷ [])
-
-abbrev three_numbers : Tree
-three_numbers = listed (float (ascii "1.50") ∷ number 0 ∷ big (ascii "123456789012345678901234567890") ∷ [])
-
-abbrev keyed_numbers : Tree
-keyed_numbers = paired ((ascii "int", number 1) ∷ (ascii "bigint", big (ascii "123456789012345678901234567890")) ∷
-    (ascii "float", float (ascii "1.2")) ∷ [])
-
-abbrev ends_of_64_bits : Tree
-ends_of_64_bits = listed (number 9223372036854775807 ∷ int (negsuc 9223372036854775807) ∷
-    big (ascii "9223372036854775808") ∷ [])
-
-abbrev literals_and_numbers : List (List ℕ × Reading Tree)
-literals_and_numbers =
+literals_and_numbers : Give (answer false ∷ []) (
     -- blanks and literals
     ([], fault eof_value 0 0) ∷
-    (codes "  ", fault eof_value 2 2) ∷
-    (codes " [true, [null, []], false]", done nested_literals 26) ∷
+    (codes "  ", fault eof_value 2 2) ∷ (
+      codes " [true, [null, []], false]",
+      done (listed (boolean true ∷ listed (null ∷ listed [] ∷ []) ∷ boolean false ∷ [])) 26,
+    ) ∷
     (codes " null\n", done null 5) ∷
     (239 ∷ 187 ∷ 191 ∷ codes "1", fault expected_value 0 0) ∷  -- a byte order mark
     (codes "x", fault expected_value 0 0) ∷
@@ -44,9 +31,18 @@ literals_and_numbers =
     (codes "[] ]", fault trailing_characters 3 3) ∷
     (codes "1 2", fault trailing_characters 2 2) ∷
     -- numbers
-    (codes "[1.50, -0, 123456789012345678901234567890]", done three_numbers 42) ∷
-    (codes "  { \"int\": 1, \"bigint\": 123456789012345678901234567890, \"float\": 1.2}  ", done keyed_numbers 69) ∷
-    (codes "[9223372036854775807,-9223372036854775808,9223372036854775808]", done ends_of_64_bits 62) ∷
+    (
+      codes "[1.50, -0, 123456789012345678901234567890]",
+      done (listed (float (ascii "1.50") ∷ number 0 ∷ big (ascii "123456789012345678901234567890") ∷ [])) 42,
+    ) ∷ (
+      codes "  { \"int\": 1, \"bigint\": 123456789012345678901234567890, \"float\": 1.2}  ",
+      done (paired ((ascii "int", number 1) ∷ (ascii "bigint", big (ascii "123456789012345678901234567890")) ∷
+          (ascii "float", float (ascii "1.2")) ∷ [])) 69,
+    ) ∷ (
+      codes "[9223372036854775807,-9223372036854775808,9223372036854775808]",
+      done (listed (number 9223372036854775807 ∷ int (negsuc 9223372036854775807) ∷
+          big (ascii "9223372036854775808") ∷ [])) 62,
+    ) ∷
     (codes "[-]", fault invalid_number 2 1) ∷
     (codes "-01", fault invalid_number 2 0) ∷
     (codes "01", fault invalid_number 1 0) ∷
@@ -55,14 +51,11 @@ literals_and_numbers =
     (codes "0.", fault eof_value 2 0) ∷
     (codes "[-I]", fault invalid_number 2 1) ∷
     (codes "[I]", fault expected_value 1 1) ∷
-    []
-
-literals_and_numbers_answer : map (λ r. answer false r.0) literals_and_numbers ≡ map (λ r. r.1) literals_and_numbers
+    [])
 unfolding computed_readings
-literals_and_numbers_answer = refl
+literals_and_numbers = refl
 
-abbrev strings : List (List ℕ × Reading Tree)
-strings =
+strings : Give (answer false ∷ []) (
     (codes "\"\\ud83d\\ude00\"", done (own_text (240 ∷ 159 ∷ 152 ∷ 128 ∷ [])) 14) ∷  -- a surrogate pair
     (codes "\"\\ud83dx\"", fault end_of_hex_escape 7 0) ∷  -- a high surrogate and a letter
     (codes "\"\\ud83d\\n\"", fault end_of_hex_escape 8 0) ∷  -- a high surrogate and a short escape
@@ -88,22 +81,11 @@ strings =
     -- a character and thirteen letters
     (codes "\"" ++ 195 ∷ 169 ∷ codes "aaaaaaaaaaaaa\"", done (text (195 ∷ 169 ∷ codes "aaaaaaaaaaaaa")) 17) ∷
     (codes "\"aaaaaaaaaaaaaaa\\n\"", done (own_text (codes "aaaaaaaaaaaaaaa\n")) 19) ∷
-    []
-
-strings_answer : map (λ r. answer false r.0) strings ≡ map (λ r. r.1) strings
+    [])
 unfolding computed_readings
-strings_answer = refl
+strings = refl
 
-abbrev mixed_values : Tree
-mixed_values = paired ((ascii "a", listed (number 1 ∷ float (ascii "2.50") ∷ own_text (codes "\n") ∷ [])) ∷ [])
-
-abbrev nested_containers : Tree
-nested_containers = listed (listed (number 1 ∷ listed (number 2 ∷ number 3 ∷ []) ∷ []) ∷
-    paired ((ascii "a", listed (number 4 ∷ paired ((ascii "b", number 5) ∷ []) ∷ [])) ∷ (ascii "c", listed []) ∷ []) ∷
-    number 6 ∷ [])
-
-abbrev containers : List (List ℕ × Reading Tree)
-containers =
+containers : Give (answer false ∷ []) (
     -- arrays
     (codes "[true", fault eof_list 5 5) ∷
     (codes "[true,]", fault trailing_comma 6 6) ∷
@@ -117,10 +99,17 @@ containers =
     (codes "[1x]", fault expected_list_comma_or_end 2 2) ∷
     (codes "[{\"a\":[1}, 2]", fault expected_list_comma_or_end 8 8) ∷
     -- objects
-    (codes "{\"a\": [1, 2.50, \"\\n\"]}", done mixed_values 22) ∷
+    (
+      codes "{\"a\": [1, 2.50, \"\\n\"]}",
+      done (paired ((ascii "a", listed (number 1 ∷ float (ascii "2.50") ∷ own_text (codes "\n") ∷ [])) ∷ [])) 22,
+    ) ∷
     -- both members are kept in their order
-    (codes "{\"a\":1,\"\\u0061\":2}", done (paired ((ascii "a", number 1) ∷ (owned (codes "a"), number 2) ∷ [])) 18) ∷
-    (codes "[[1,[2,3]],{\"a\":[4,{\"b\":5}],\"c\":[]},6]", done nested_containers 38) ∷
+    (codes "{\"a\":1,\"\\u0061\":2}", done (paired ((ascii "a", number 1) ∷ (owned (codes "a"), number 2) ∷ [])) 18) ∷ (
+      codes "[[1,[2,3]],{\"a\":[4,{\"b\":5}],\"c\":[]},6]",
+      done (listed (listed (number 1 ∷ listed (number 2 ∷ number 3 ∷ []) ∷ []) ∷
+          paired ((ascii "a", listed (number 4 ∷ paired ((ascii "b", number 5) ∷ []) ∷ [])) ∷
+          (ascii "c", listed []) ∷ []) ∷ number 6 ∷ [])) 38,
+    ) ∷
     (codes "{\"a\" 1}", fault expected_colon 5 5) ∷
     (codes "{1:2}", fault key_must_be_a_string 1 1) ∷
     (codes "{\"a\":1,}", fault trailing_comma 7 7) ∷
@@ -135,11 +124,9 @@ containers =
     (codes "{\"a\":}", fault expected_value 5 5) ∷
     (codes "{\"" ++ 255 ∷ codes "\":1}", fault invalid_code_point 2 1) ∷  -- broken UTF-8 in a key
     (codes "{\"a\": [1, {\"b\": \"x", fault eof_string 18 16) ∷
-    []
-
-containers_answer : map (λ r. answer false r.0) containers ≡ map (λ r. r.1) containers
+    [])
 unfolding computed_readings
-containers_answer = refl
+containers = refl
 
 abbrev person : Tree
 person = paired ((ascii "name", word "John Doe") ∷ (ascii "age", number 43) ∷
@@ -149,20 +136,16 @@ abbrev person_over_lines : List ℕ
 person_over_lines = codes "\n{\n    \"name\": \"John Doe\",\n    \"age\": 43,\n"
     ++ codes "    \"phones\": [\n        \"+44 1234567\",\n        \"+44 2345678\"\n    ]\n}"
 
-abbrev words_and_names : Tree
-words_and_names = listed (word "string" ∷ own_text (194 ∷ 163 ∷ []) ∷ boolean true ∷ boolean false ∷ null ∷
-    float (ascii "NaN") ∷ float (ascii "Infinity") ∷ float (ascii "-Infinity") ∷ [])
-
 -- where NaN and Infinity are read
-abbrev with_names : List (List ℕ × Reading Tree)
-with_names =
+with_names : Give (answer true ∷ []) (
     (codes "\n{\"name\": \"John Doe\", \"age\": 43, \"phones\": [\"+44 1234567\", \"+44 2345678\"]}", done person 74) ∷
     (person_over_lines, done person 110) ∷
     (codes "-NaN", fault invalid_number 1 0) ∷
-    (codes "[Infinit]", fault expected_ident 8 1) ∷
-    (codes "[\"string\", \"\\u00a3\", true, false, null, NaN, Infinity, -Infinity]", done words_and_names 65) ∷
-    []
-
-with_names_answer : map (λ r. answer true r.0) with_names ≡ map (λ r. r.1) with_names
+    (codes "[Infinit]", fault expected_ident 8 1) ∷ (
+      codes "[\"string\", \"\\u00a3\", true, false, null, NaN, Infinity, -Infinity]",
+      done (listed (word "string" ∷ own_text (194 ∷ 163 ∷ []) ∷ boolean true ∷ boolean false ∷ null ∷
+          float (ascii "NaN") ∷ float (ascii "Infinity") ∷ float (ascii "-Infinity") ∷ [])) 65,
+    ) ∷
+    [])
 unfolding computed_readings
-with_names_answer = refl
+with_names = refl

@@ -1,6 +1,6 @@
 -- Which texts can be completed before their fault, by computation: each kind that can go on, and for each other kind a
 -- text that cannot.
-use Rattle.std.proofs.Common.{◌≡◌, ◌≢◌, ◌⊎◌, inl, inr, ℕ, ◌+◌, Bool, true, false, ◌&&◌, List, [], ◌∷◌, ◌++◌, length}
+use Rattle.std.proofs.Common.{◌≡◌, ◌≢◌, ◌⊎◌, inl, inr, ℕ, ◌+◌, ◌≤◌, Bool, true, false, not, List, [], ◌∷◌, ◌++◌, length}
 use Rattle.std.proofs.Common.{take, drop, refl, sym, ap, ◌∙◌, subst, arith, codes, map, append_assoc, append-nil}
 use Rattle.std.specs.Prelude.{Some, replicate, slice_range}
 use Rattle.std.proofs.lemmas.Bool.{false≢true}
@@ -26,16 +26,13 @@ use Rattle.jiter_steps.proofs.Bodies.{body_at-place_by, place_by-end}
 use Rattle.jiter_steps.proofs.Dead.{dead}
 use Rattle.jiter_steps.proofs.Documents.{answer-of}
 use Rattle.jiter_steps.proofs.Computed.{computed_readings}
-use Rattle.jiter_steps.proofs.Rows.FirstFault.{fault_of, is_document}
+use Rattle.jiter_steps.proofs.Rows.FirstFault.{fault_of, is_done, is_document}
 use Rattle.jiter_steps.proofs.Rows.Trees.{times}
 use Rattle.jiter_steps.proofs.StringComplete.{IsPrinted, ArePrinted, bytes-read}
 
--- a text, its fault's kind and index, and the filler and the closers that complete the bytes before the index
-abbrev Row : Type 0
-Row = List ℕ × Kind × ℕ × List ℕ × List ℕ
-
--- Each kind that can go on.
-abbrev completed : List Row
+-- Each kind that can go on: a text, its fault's kind and index, and the filler and the closers that complete the bytes
+-- before the index.
+abbrev completed : List (List ℕ × Kind × ℕ × List ℕ × List ℕ)
 completed =
     (codes "[1}", expected_list_comma_or_end, 2, [], codes "]") ∷
     (codes "{\"a\":1 \"b\"}", expected_object_comma_or_end, 7, [], codes "}") ∷
@@ -53,50 +50,30 @@ completed =
     (codes "1e+x", invalid_number, 3, codes "0", []) ∷
     []
 
-completed_answer : map (λ r. fault_of (answer false r.0)) completed ≡ map (λ r. Some (r.1, r.2)) completed
+completed_document : (map (λ r. fault_of (answer false r.0)) completed ≡ map (λ r. Some (r.1, r.2)) completed)
+    × (map (λ r. can_go_on r.1) completed ≡ map (λ r. true) completed)
+    × (map (λ r. is_document (take r.2 r.0 ++ (r.3 ++ r.4))) completed ≡ map (λ r. true) completed)
 unfolding computed_readings
-completed_answer = refl
-
-completed_kind : map (λ r. can_go_on r.1) completed ≡ map (λ r. true) completed
-completed_kind = refl
-
-completed_document : map (λ r. is_document (take r.2 r.0 ++ (r.3 ++ r.4))) completed ≡ map (λ r. true) completed
-unfolding computed_readings
-completed_document = refl
+completed_document = (refl, refl, refl)
 
 -- the kinds that say that no document begins so
 abbrev says_dead : Kind → Bool
 says_dead invalid_code_point = false
-says_dead eof_list = false
-says_dead eof_object = false
-says_dead eof_string = false
-says_dead eof_value = false
-says_dead k = true
+says_dead k = not (is_end_kind k)
 
 says_dead-sound : (k : Kind) → says_dead k ≡ true → (is_end_kind k ≡ false) × (k ≢ invalid_code_point)
 says_dead-sound invalid_code_point h = absurd (false≢true h)
-says_dead-sound eof_list h = absurd (false≢true h)
-says_dead-sound eof_object h = absurd (false≢true h)
-says_dead-sound eof_string h = absurd (false≢true h)
-says_dead-sound eof_value h = absurd (false≢true h)
-says_dead-sound k h = (refl, λ e. cc)
-
-abbrev refuses : Reading Tree → Bool
-refuses (done a e) = false
-refuses (fault k i stop) = true
+says_dead-sound k h = (cc, λ e. cc)
 
 abbrev stops : Reading Tree → Bool
 stops (done a e) = false
 stops (fault k i stop) = says_dead k
 
-abbrev is_refused : List ℕ → Bool
-is_refused t = refuses (answer false t)
-
 abbrev is_dead : List ℕ → Bool
 is_dead t = stops (answer false t)
 
-refused-sound : (t : List ℕ) (n : Node) → is_refused t ≡ true → IsDocument false t n → ⊥
-refused-sound t n h d = absurd (false≢true (ap refuses (sym (answer-of false t n d)) ∙ h))
+no_document : (t : List ℕ) (n : Node) → not (is_document t) ≡ true → IsDocument false t n → ⊥
+no_document t n h d = false≢true (ap (λ y. not (is_done y)) (sym (answer-of false t n d)) ∙ h)
 
 stops-sound : (t : List ℕ) (y : Reading Tree) → answer false t ≡ y → stops y ≡ true → BeginsNoDocument false t
 stops-sound t (done a e) is h = absurd (false≢true h)
@@ -107,64 +84,34 @@ stops-sound t (fault k i stop) is h = λ rest n d.
     let all = ap (λ w. w ++ rest) (sym (take-append-drop (i + 1) t)) ∙ append_assoc front back rest in
     dead false t k i stop is kind.0 kind.1 (back ++ rest) n (subst (λ w. IsDocument false w n) all d)
 
-dead-sound : (t : List ℕ) → is_dead t ≡ true → BeginsNoDocument false t
-dead-sound t h = stops-sound t (answer false t) refl h
-
--- With a filler or a closer behind these bytes no document begins so.
-abbrev Nowhere : List ℕ → Type 0
-Nowhere front =
-    (is_refused front ≡ true) × (is_dead (front ++ codes "0") ≡ true) × (is_dead (front ++ codes "\"\":0") ≡ true)
-    × (is_dead (front ++ codes "]") ≡ true) × (is_dead (front ++ codes "}") ≡ true)
-
-abbrev is_nowhere : List ℕ → Bool
-is_nowhere front =
-    is_refused front && (is_dead (front ++ codes "0") && (is_dead (front ++ codes "\"\":0")
-    && (is_dead (front ++ codes "]") && is_dead (front ++ codes "}"))))
-
-both : (x y : Bool) → (x && y) ≡ true → (x ≡ true) × (y ≡ true)
-both true y h = (refl, h)
-both false y h = absurd (false≢true h)
-
-nowhere : (front : List ℕ) → is_nowhere front ≡ true → Nowhere front
-nowhere front h =
-    let a = both (is_refused front) _ h in
-    let b = both (is_dead (front ++ codes "0")) _ a.1 in
-    let c = both (is_dead (front ++ codes "\"\":0")) _ b.1 in
-    let d = both (is_dead (front ++ codes "]")) (is_dead (front ++ codes "}")) c.1 in
-    (a.0, b.0, c.0, d.0, d.1)
-
 -- a text that begins with bytes that begin no document
 begins-dead : (front w rest : List ℕ) (n : Node) → is_dead (front ++ w) ≡ true
     → IsDocument false (front ++ (w ++ rest)) n → ⊥
 begins-dead front w rest n h d =
-    dead-sound (front ++ w) h rest n (subst (λ l. IsDocument false l n) (sym (append_assoc front w rest)) d)
+    stops-sound (front ++ w) _ refl h rest n (subst (λ l. IsDocument false l n) (sym (append_assoc front w rest)) d)
+
+-- These bytes are no document, and with a filler or a closer behind them no document begins so.
+abbrev is_over : List ℕ → List Bool
+is_over front =
+    not (is_document front) ∷ map (λ w. is_dead (front ++ w)) (codes "0" ∷ codes "\"\":0" ∷ codes "]" ∷ codes "}" ∷ [])
+
+abbrev Nowhere : List ℕ → Type 0
+Nowhere front = is_over front ≡ replicate 5 true
 
 closers-nowhere : (front cs : List ℕ) (n : Node) → AreClosers cs → Nowhere front → IsDocument false (front ++ cs) n → ⊥
-closers-nowhere front [] n all h d =
-    refused-sound front n h.0 (subst (λ l. IsDocument false l n) (append-nil front) d)
+closers-nowhere front [] n all h d = no_document front n (cc) (subst (λ l. IsDocument false l n) (append-nil front) d)
 closers-nowhere front (c ∷ cs) n all h d = by all.0 where
-  with : (b : ℕ) → c ≡ b → IsDocument false (front ++ b ∷ cs) n
-  with b e = subst (λ b. IsDocument false (front ++ b ∷ cs) n) e d
-
   by : ((c ≡ 93) ⊎ (c ≡ 125)) → ⊥
-  by (inl e) = begins-dead front (codes "]") cs n h.3 (with 93 e)
-  by (inr e) = begins-dead front (codes "}") cs n h.4 (with 125 e)
-
-filler-nowhere : (front w cs : List ℕ) (n : Node) → IsFiller w → AreClosers cs → Nowhere front
-    → IsDocument false (front ++ (w ++ cs)) n → ⊥
-filler-nowhere front w cs n is all h d = by is where
-  with : (v : List ℕ) → w ≡ v → IsDocument false (front ++ (v ++ cs)) n
-  with v e = subst (λ v. IsDocument false (front ++ (v ++ cs)) n) e d
-
-  by : IsFiller w → ⊥
-  by (inl e) = closers-nowhere front cs n all h (with [] e)
-  by (inr (inl e)) = begins-dead front (codes "0") cs n h.1 (with (codes "0") e)
-  by (inr (inr e)) = begins-dead front (codes "\"\":0") cs n h.2 (with (codes "\"\":0") e)
+  by (inl e) = begins-dead front (codes "]") cs n (cc) (rw e at d)
+  by (inr e) = begins-dead front (codes "}") cs n (cc) (rw e at d)
 
 -- No filler and closers complete such bytes.
-nowhere-sound : (front : List ℕ) → is_nowhere front ≡ true → CanBeCompleted false front → ⊥
-nowhere-sound front h c =
-    filler-nowhere front c.filler c.closers c.node c.is_filler c.are_closers (nowhere front h) c.document
+nowhere-sound : (front : List ℕ) → Nowhere front → CanBeCompleted false front → ⊥
+nowhere-sound front h c = by c.filler c.is_filler c.document where
+  by : (w : List ℕ) → IsFiller w → IsDocument false (front ++ (w ++ c.closers)) c.node → ⊥
+  by w (inl e) d = closers-nowhere front c.closers c.node c.are_closers h (rw e at d)
+  by w (inr (inl e)) d = begins-dead front (codes "0") c.closers c.node (cc) (rw e at d)
+  by w (inr (inr e)) d = begins-dead front (codes "\"\":0") c.closers c.node (cc) (rw e at d)
 
 -- The other kinds: a text, its fault's kind and index, and the bytes before it cannot be completed.
 abbrev not_completed : List (List ℕ × Kind × ℕ)
@@ -182,28 +129,24 @@ not_completed =
     (times 200 (codes "[") ++ codes "{\"a\":1", recursion_limit, 205) ∷
     []
 
-not_completed_answer : map (λ r. fault_of (answer false r.0)) not_completed ≡ map (λ r. Some (r.1, r.2)) not_completed
+not_completed_nowhere :
+    (map (λ r. fault_of (answer false r.0)) not_completed ≡ map (λ r. Some (r.1, r.2)) not_completed)
+    × (map (λ r. can_go_on r.1) not_completed ≡ map (λ r. false) not_completed)
+    × (map (λ r. is_over (take r.2 r.0)) not_completed ≡ map (λ r. replicate 5 true) not_completed)
 unfolding computed_readings
-not_completed_answer = refl
-
-not_completed_kind : map (λ r. can_go_on r.1) not_completed ≡ map (λ r. false) not_completed
-not_completed_kind = refl
-
-not_completed_nowhere : map (λ r. is_nowhere (take r.2 r.0)) not_completed ≡ map (λ r. true) not_completed
-unfolding computed_readings
-not_completed_nowhere = refl
+not_completed_nowhere = (refl, refl, refl)
 
 abbrev NoneCompleted : List (List ℕ × Kind × ℕ) → Type 0
 NoneCompleted [] = Unit {0}
 NoneCompleted (r ∷ rows) = (CanBeCompleted false (take r.2 r.0) → ⊥) × NoneCompleted rows
 
 none_completed-from : (rows : List (List ℕ × Kind × ℕ))
-    → map (λ r. is_nowhere (take r.2 r.0)) rows ≡ map (λ r. true) rows → NoneCompleted rows
+    → map (λ r. is_over (take r.2 r.0)) rows ≡ map (λ r. replicate 5 true) rows → NoneCompleted rows
 none_completed-from [] h = tt
 none_completed-from (r ∷ rows) h = (nowhere-sound (take r.2 r.0) (cc), none_completed-from rows (cc))
 
 none_completed : NoneCompleted not_completed
-none_completed = none_completed-from not_completed not_completed_nowhere
+none_completed = none_completed-from not_completed not_completed_nowhere.2
 
 -- A control character: behind a quote that no other follows no string ends, and two quotes are a whole string.
 open_string-reads : (w : List ℕ) → ArePrinted w
@@ -229,30 +172,29 @@ open_string-none w n printed d =
     let clash = sym fault_is ∙ answer-of false t n d in
     cc
 
+printed : (c : ℕ) → 35 ≤ c → c ≢ 92 → IsPrinted c
+printed c least other = record { printed = omega arith; no_quote = λ q. omega arith; no_backslash = other }
+
 closers-printed : (cs : List ℕ) → AreClosers cs → ArePrinted cs
 closers-printed [] h = tt
 closers-printed (c ∷ cs) h = (by h.0, closers-printed cs h.1) where
   by : ((c ≡ 93) ⊎ (c ≡ 125)) → IsPrinted c
-  by (inl e) = record { printed = omega arith; no_quote = λ q. omega arith; no_backslash = λ q. omega arith }
-  by (inr e) = record { printed = omega arith; no_quote = λ q. omega arith; no_backslash = λ q. omega arith }
+  by (inl e) = printed c (omega arith) (λ q. omega arith)
+  by (inr e) = printed c (omega arith) (λ q. omega arith)
 
-control_answer : fault_of (answer false (34 ∷ 31 ∷ [])) ≡ Some (control_character, 1)
+control_answer : (fault_of (answer false (34 ∷ 31 ∷ [])) ≡ Some (control_character, 1))
+    × (is_dead (34 ∷ codes "\"\":0") ≡ true)
 unfolding computed_readings
-control_answer = refl
-
-quotes-dead : is_dead (34 ∷ codes "\"\":0") ≡ true
-unfolding computed_readings
-quotes-dead = refl
+control_answer = (refl, refl)
 
 quote_completed : CanBeCompleted false (34 ∷ []) → ⊥
-quote_completed c = by c.filler c.closers c.node c.is_filler c.are_closers c.document where
-  by : (w cs : List ℕ) (n : Node) → IsFiller w → AreClosers cs → IsDocument false (34 ∷ (w ++ cs)) n → ⊥
-  by w cs n (inl e) all d =
-      open_string-none cs n (closers-printed cs all) (subst (λ v. IsDocument false (34 ∷ (v ++ cs)) n) e d)
-  by w cs n (inr (inl e)) all d =
-      let zero : IsPrinted 48 =
-      record { printed = omega arith; no_quote = λ q. omega arith; no_backslash = λ q. omega arith } in
-      open_string-none (48 ∷ cs) n (zero, closers-printed cs all)
-      (subst (λ v. IsDocument false (34 ∷ (v ++ cs)) n) e d)
-  by w cs n (inr (inr e)) all d =
-      begins-dead (34 ∷ []) (codes "\"\":0") cs n quotes-dead (subst (λ v. IsDocument false (34 ∷ (v ++ cs)) n) e d)
+quote_completed c = by c.filler c.is_filler c.document where
+  cs : ArePrinted c.closers
+  cs = closers-printed c.closers c.are_closers
+
+  by : (w : List ℕ) → IsFiller w → IsDocument false (34 ∷ (w ++ c.closers)) c.node → ⊥
+  by w (inl e) d = open_string-none c.closers c.node cs (rw e at d)
+  by w (inr (inl e)) d =
+      let zero = printed 48 (omega arith) (λ q. omega arith) in
+      open_string-none (48 ∷ c.closers) c.node (zero, cs) (rw e at d)
+  by w (inr (inr e)) d = begins-dead (34 ∷ []) (codes "\"\":0") c.closers c.node control_answer.1 (rw e at d)

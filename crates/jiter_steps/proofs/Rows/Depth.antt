@@ -1,11 +1,11 @@
 -- How deep containers may stand one inside another, by computation.
 use Rattle.std.proofs.Common.{◌≡◌, ℕ, zero, suc, false, List, [], ◌∷◌, ◌++◌, refl, codes, map}
 use Rattle.jiter_scan.specs.Kind.{eof_list, eof_value, recursion_limit}
-use Rattle.jiter_scan.specs.declared.partial_mode.PartialMode.TheVariants.{On, TrailingStrings}
+use Rattle.jiter_scan.specs.declared.partial_mode.PartialMode.TheVariants.{Off, On, TrailingStrings}
 use Rattle.jiter_steps.specs.Tree.{Tree}
-use Rattle.jiter_steps.specs.Read.{Reading, done, fault}
-use Rattle.jiter_steps.specs.Answer.{answer, partial_answer, skip_at}
-use Rattle.jiter_steps.proofs.Rows.Trees.{borrowed, paired, nested, times}
+use Rattle.jiter_steps.specs.Read.{done, fault}
+use Rattle.jiter_steps.specs.Answer.{answer, answer_in, partial_answer, skip_at}
+use Rattle.jiter_steps.proofs.Rows.Trees.{borrowed, paired, nested, times, Give}
 use Rattle.jiter_steps.proofs.Computed.{computed_readings}
 
 -- so many arrays, one inside another
@@ -26,7 +26,8 @@ too_deep =
     (times 150 (codes "[{\"a\":"), 601) ∷
     []
 
-too_deep_answer : map (λ r. answer false r.0) too_deep ≡ map (λ r. fault recursion_limit r.1 r.1) too_deep
+too_deep_answer : Give (map (λ m. answer_in false m) (Off ∷ On ∷ TrailingStrings ∷ []))
+    (map (λ r. (r.0, fault recursion_limit r.1 r.1)) too_deep)
 unfolding computed_readings
 too_deep_answer = refl
 
@@ -34,41 +35,26 @@ too_deep_skip : map (λ r. skip_at false r.0 0) too_deep ≡ map (λ r. fault re
 unfolding computed_readings
 too_deep_skip = refl
 
-too_deep_on : map (λ r. partial_answer false On r.0) too_deep ≡ map (λ r. fault recursion_limit r.1 r.1) too_deep
-unfolding computed_readings
-too_deep_on = refl
-
-too_deep_with_strings : map (λ r. partial_answer false TrailingStrings r.0) too_deep
-    ≡ map (λ r. fault recursion_limit r.1 r.1) too_deep
-unfolding computed_readings
-too_deep_with_strings = refl
-
 -- so many objects of one member with an empty key, round an empty one
 abbrev nested_objects : ℕ → Tree
 nested_objects zero = paired []
 nested_objects (suc n) = paired ((borrowed [], nested_objects n) ∷ [])
 
 -- As deep as may be: an empty container is not counted, and neither is an object whose first value is not reached.
-abbrev deep : List (List ℕ × Reading Tree)
-deep =
+deep : Give (answer false ∷ []) (
     (arrays 201, done (nested 200) 402) ∷
     (times 201 (codes "["), fault eof_list 201 201) ∷
     (times 201 (codes "{\"\":"), fault eof_value 804 804) ∷
-    []
-
-deep_answer : map (λ r. answer false r.0) deep ≡ map (λ r. r.1) deep
+    [])
 unfolding computed_readings
-deep_answer = refl
+deep = refl
 
-abbrev deep_and_open : List (List ℕ × Reading Tree)
-deep_and_open =
+deep_and_open : Give (partial_answer false On ∷ []) (
     (times 201 (codes "["), done (nested 200) 201) ∷
     (times 201 (codes "{\"\":"), done (nested_objects 200) 804) ∷
-    []
-
-deep_and_open_on : map (λ r. partial_answer false On r.0) deep_and_open ≡ map (λ r. r.1) deep_and_open
+    [])
 unfolding computed_readings
-deep_and_open_on = refl
+deep_and_open = refl
 
 arrays_skip : skip_at false (arrays 201) 0 ≡ done tt 402
 unfolding computed_readings

@@ -10,7 +10,7 @@ use Rattle.jiter_steps.specs.Read.{Reading, done, fault}
 use Rattle.jiter_steps.specs.Answer.{answer}
 use Rattle.jiter_steps.specs.FirstFault.{BeginsNoDocument}
 use Rattle.jiter_steps.proofs.Dead.{dead}
-use Rattle.jiter_steps.proofs.Rows.Trees.{times}
+use Rattle.jiter_steps.proofs.Rows.Trees.{times, Give}
 use Rattle.jiter_steps.proofs.Computed.{computed_readings}
 
 -- a text, its fault's kind and index, and bytes that go on its front
@@ -21,11 +21,12 @@ abbrev pub fault_of : {A : Type 0} → Reading A → Option (Kind × ℕ)
 fault_of (done a e) = None
 fault_of (fault k i stop) = Some (k, i)
 
+abbrev pub is_done : {A : Type 0} → Reading A → Bool
+is_done (done a e) = true
+is_done (fault k i stop) = false
+
 abbrev pub is_document : List ℕ → Bool
-is_document t = by (fault_of (answer false t)) where
-  by : Option (Kind × ℕ) → Bool
-  by None = true
-  by (Some f) = false
+is_document t = is_done (answer false t)
 
 -- Each kind that says that no document begins with the bytes up to and including the one at the index. With the bytes
 -- before it one does: the index could not be less.
@@ -49,26 +50,19 @@ gone_wrong =
     (times 202 (codes "["), recursion_limit, 201, times 201 (codes "]")) ∷
     []
 
-gone_wrong_answer : map (λ r. fault_of (answer false r.0)) gone_wrong ≡ map (λ r. Some (r.1, r.2)) gone_wrong
+gone_wrong_no_sooner : (map (λ r. fault_of (answer false r.0)) gone_wrong ≡ map (λ r. Some (r.1, r.2)) gone_wrong)
+    × (map (λ r. is_document (take r.2 r.0 ++ r.3)) gone_wrong ≡ map (λ r. true) gone_wrong)
 unfolding computed_readings
-gone_wrong_answer = refl
-
-gone_wrong_no_sooner : map (λ r. is_document (take r.2 r.0 ++ r.3)) gone_wrong ≡ map (λ r. true) gone_wrong
-unfolding computed_readings
-gone_wrong_no_sooner = refl
+gone_wrong_no_sooner = (refl, refl)
 
 -- Two more kinds: what they refuse is there before the byte at their index.
-abbrev gone_wrong_before : List (List ℕ × Kind × ℕ)
-gone_wrong_before =
-    (replicate 4301 49, number_out_of_range, 4301) ∷
-    (codes "\"\\udc00\"", lone_surrogate, 6) ∷
-    (codes "\"\\ud83d\\u0041\"", lone_surrogate, 12) ∷
-    []
-
-gone_wrong_before_answer : map (λ r. fault_of (answer false r.0)) gone_wrong_before
-    ≡ map (λ r. Some (r.1, r.2)) gone_wrong_before
+gone_wrong_before : Give ((λ t. fault_of (answer false t)) ∷ []) (
+    (replicate 4301 49, Some (number_out_of_range, 4301)) ∷
+    (codes "\"\\udc00\"", Some (lone_surrogate, 6)) ∷
+    (codes "\"\\ud83d\\u0041\"", Some (lone_surrogate, 12)) ∷
+    [])
 unfolding computed_readings
-gone_wrong_before_answer = refl
+gone_wrong_before = refl
 
 -- The other kinds do not say it: a document begins with the bytes up to and including the one at the index.
 abbrev gone_on : List Row
@@ -81,13 +75,10 @@ gone_on =
     (codes "\"\\n\\n" ++ 255 ∷ codes "\"", invalid_code_point, 3, codes "n\"") ∷
     []
 
-gone_on_answer : map (λ r. fault_of (answer false r.0)) gone_on ≡ map (λ r. Some (r.1, r.2)) gone_on
+gone_on_document : (map (λ r. fault_of (answer false r.0)) gone_on ≡ map (λ r. Some (r.1, r.2)) gone_on)
+    × (map (λ r. is_document (take (r.2 + 1) r.0 ++ r.3)) gone_on ≡ map (λ r. true) gone_on)
 unfolding computed_readings
-gone_on_answer = refl
-
-gone_on_document : map (λ r. is_document (take (r.2 + 1) r.0 ++ r.3)) gone_on ≡ map (λ r. true) gone_on
-unfolding computed_readings
-gone_on_document = refl
+gone_on_document = (refl, refl)
 
 -- By the law, of one row.
 comma_gone_wrong : answer false (codes "[1,]") ≡ fault trailing_comma 3 3
@@ -98,10 +89,7 @@ no_document_begins : BeginsNoDocument false (codes "[1,]")
 no_document_begins = dead false (codes "[1,]") trailing_comma 3 3 comma_gone_wrong refl (λ e. cc)
 
 -- Names decide: without them no document begins with `N`, and with them one does.
-no_name : fault_of (answer false (codes "N")) ≡ Some (expected_value, 0)
+a_name : (fault_of (answer false (codes "N")) ≡ Some (expected_value, 0))
+    × (map (λ t. fault_of (answer true t)) (codes "N" ∷ codes "NaN" ∷ []) ≡ Some (eof_value, 1) ∷ None ∷ [])
 unfolding computed_readings
-no_name = refl
-
-a_name : map (λ t. fault_of (answer true t)) (codes "N" ∷ codes "NaN" ∷ []) ≡ Some (eof_value, 1) ∷ None ∷ []
-unfolding computed_readings
-a_name = refl
+a_name = (refl, refl)

@@ -1,17 +1,16 @@
 -- What cut and damaged documents answer in a partial mode, by computation.
-use Rattle.std.proofs.Common.{◌≡◌, ℕ, true, false, List, [], ◌∷◌, ◌++◌, refl, codes, map}
+use Rattle.std.proofs.Common.{◌≡◌, true, false, [], ◌∷◌, ◌++◌, refl, codes, map}
 use Rattle.jiter_scan.specs.Kind.{eof_string, eof_value, expected_colon, expected_ident, expected_value, invalid_escape}
 use Rattle.jiter_scan.specs.Kind.{invalid_code_point, key_must_be_a_string, trailing_comma, end_of_hex_escape}
 use Rattle.jiter_scan.specs.declared.partial_mode.PartialMode.TheVariants.{On, TrailingStrings}
-use Rattle.jiter_steps.specs.Tree.{Tree, float}
-use Rattle.jiter_steps.specs.Read.{Reading, done, fault}
+use Rattle.jiter_steps.specs.Tree.{float}
+use Rattle.jiter_steps.specs.Read.{done, fault}
 use Rattle.jiter_steps.specs.Answer.{partial_answer}
-use Rattle.jiter_steps.proofs.Rows.Trees.{ascii, number, text, word, own_text, listed, paired}
+use Rattle.jiter_steps.proofs.Rows.Trees.{ascii, number, text, word, own_text, listed, paired, Give}
 use Rattle.jiter_steps.proofs.Computed.{computed_readings}
 
 -- what both partial modes answer
-abbrev in_both_modes : List (List ℕ × Reading Tree)
-in_both_modes =
+in_both_modes : Give (partial_answer false On ∷ partial_answer false TrailingStrings ∷ []) (
     -- outside of a container nothing is forgiven
     ([], fault eof_value 0 0) ∷
     (codes "  ", fault eof_value 2 2) ∷
@@ -29,67 +28,45 @@ in_both_modes =
     (codes "[\"" ++ 255 ∷ codes "\"]", fault invalid_code_point 2 1) ∷  -- broken UTF-8
     (codes "{\"" ++ 255 ∷ [], done (paired []) 1) ∷  -- broken UTF-8 in an open key
     (codes "{\"a" ++ 226 ∷ codes "\":1", fault invalid_code_point 3 1) ∷  -- unfinished UTF-8 in a key
-    []
-
-in_both_modes_on : map (λ r. partial_answer false On r.0) in_both_modes ≡ map (λ r. r.1) in_both_modes
+    [])
 unfolding computed_readings
-in_both_modes_on = refl
-
-in_both_modes_with_strings : map (λ r. partial_answer false TrailingStrings r.0) in_both_modes
-    ≡ map (λ r. r.1) in_both_modes
-unfolding computed_readings
-in_both_modes_with_strings = refl
-
-abbrev no_word_deep_in : Tree
-no_word_deep_in = paired ((ascii "a", listed (number 1 ∷ paired [] ∷ [])) ∷ [])
-
-abbrev word_deep_in : Tree
-word_deep_in = paired ((ascii "a", listed (number 1 ∷ paired ((ascii "b", word "x") ∷ []) ∷ [])) ∷ [])
-
-abbrev one_word : Tree
-one_word = paired ((ascii "k", listed (word "x" ∷ [])) ∷ [])
-
-abbrev two_words : Tree
-two_words = paired ((ascii "k", listed (word "x" ∷ word "y" ∷ [])) ∷ [])
+in_both_modes = refl
 
 -- where the modes differ: without the open string, and with what there is of it
-abbrev open_strings : List (List ℕ × Reading Tree × Reading Tree)
-open_strings =
-    (codes "\"a", fault eof_string 2 0, done (word "a") 2) ∷
-    (codes "{\"a\": [1, {\"b\": \"x", done no_word_deep_in 16, done word_deep_in 18) ∷
-    (codes "{\"k\":[\"x\",\"y", done one_word 10, done two_words 12) ∷
-    (codes "[\"", done (listed []) 1, done (listed (text [] ∷ [])) 2) ∷
-    (codes "[\"ab\\u0\"]", done (listed []) 1, done (listed (own_text (codes "ab") ∷ [])) 9) ∷  -- a cut escape
-    (codes "[\"a" ++ 226 ∷ 130 ∷ [], done (listed []) 1, done (listed (word "a" ∷ [])) 5) ∷  -- a cut character
+open_strings : Give ((λ t. map (λ m. partial_answer false m t) (On ∷ TrailingStrings ∷ [])) ∷ []) (
+    (codes "\"a", fault eof_string 2 0 ∷ done (word "a") 2 ∷ []) ∷ (
+      codes "{\"a\": [1, {\"b\": \"x",
+      done (paired ((ascii "a", listed (number 1 ∷ paired [] ∷ [])) ∷ [])) 16
+          ∷ done (paired ((ascii "a", listed (number 1 ∷ paired ((ascii "b", word "x") ∷ []) ∷ [])) ∷ [])) 18 ∷ [],
+    ) ∷ (
+      codes "{\"k\":[\"x\",\"y",
+      done (paired ((ascii "k", listed (word "x" ∷ [])) ∷ [])) 10
+          ∷ done (paired ((ascii "k", listed (word "x" ∷ word "y" ∷ [])) ∷ [])) 12 ∷ [],
+    ) ∷
+    (codes "[\"", done (listed []) 1 ∷ done (listed (text [] ∷ [])) 2 ∷ []) ∷
+    (codes "[\"ab\\u0\"]", done (listed []) 1 ∷ done (listed (own_text (codes "ab") ∷ [])) 9 ∷ []) ∷  -- a cut escape
+    (codes "[\"a" ++ 226 ∷ 130 ∷ [], done (listed []) 1 ∷ done (listed (word "a" ∷ [])) 5 ∷ []) ∷  -- a cut character
     -- a closed cut character
-    (codes "[\"a" ++ 226 ∷ 130 ∷ codes "\"]", fault invalid_code_point 3 1, done (listed (word "a" ∷ [])) 7) ∷
-    (codes "[\"" ++ 255 ∷ [], done (listed []) 1, fault invalid_code_point 2 1) ∷  -- broken UTF-8 and the end
-    []
-
-open_strings_on : map (λ r. partial_answer false On r.0) open_strings ≡ map (λ r. r.1) open_strings
+    (codes "[\"a" ++ 226 ∷ 130 ∷ codes "\"]", fault invalid_code_point 3 1 ∷ done (listed (word "a" ∷ [])) 7 ∷ []) ∷
+    (codes "[\"" ++ 255 ∷ [], done (listed []) 1 ∷ fault invalid_code_point 2 1 ∷ []) ∷  -- broken UTF-8 and the end
+    [])
 unfolding computed_readings
-open_strings_on = refl
+open_strings = refl
 
-open_strings_with_strings : map (λ r. partial_answer false TrailingStrings r.0) open_strings
-    ≡ map (λ r. r.2) open_strings
-unfolding computed_readings
-open_strings_with_strings = refl
-
-abbrev two_objects : Tree
-two_objects = listed (paired ((ascii "a", listed (number 1 ∷ [])) ∷ []) ∷ paired ((ascii "b", number 2) ∷ []) ∷ [])
-
-abbrev object_and_number : Tree
-object_and_number = paired ((ascii "a", paired ((ascii "b", listed (number 1 ∷ [])) ∷ [])) ∷ (ascii "c", number 2) ∷ [])
-
-abbrev in_mode_on : List (List ℕ × Reading Tree)
-in_mode_on =
+in_mode_on : Give (partial_answer false On ∷ []) (
     -- faults that no mode forgives
     (codes "[nulx", fault expected_ident 4 1) ∷
     -- wrong and missing closers
     (codes "{\"a\":1 \"b\"}", done (paired ((ascii "a", number 1) ∷ [])) 7) ∷
-    (codes "[{\"a\":[1}, 2]", done (listed (paired ((ascii "a", listed (number 1 ∷ [])) ∷ []) ∷ number 2 ∷ [])) 13) ∷
-    (codes "[{\"a\":[1},{\"b\":2}]", done two_objects 18) ∷
-    (codes "{\"a\":{\"b\":[1},\"c\":2}", done object_and_number 20) ∷
+    (codes "[{\"a\":[1}, 2]", done (listed (paired ((ascii "a", listed (number 1 ∷ [])) ∷ []) ∷ number 2 ∷ [])) 13) ∷ (
+      codes "[{\"a\":[1},{\"b\":2}]",
+      done (listed (
+          paired ((ascii "a", listed (number 1 ∷ [])) ∷ []) ∷ paired ((ascii "b", number 2) ∷ []) ∷ [])) 18,
+    ) ∷ (
+      codes "{\"a\":{\"b\":[1},\"c\":2}",
+      done (paired (
+          (ascii "a", paired ((ascii "b", listed (number 1 ∷ [])) ∷ [])) ∷ (ascii "c", number 2) ∷ [])) 20,
+    ) ∷
     (codes "[{\"a\":1],2]", done (listed (paired ((ascii "a", number 1) ∷ []) ∷ [])) 8) ∷
     -- cut arrays and numbers
     (codes "[", done (listed []) 1) ∷
@@ -112,24 +89,19 @@ in_mode_on =
     (codes "[\"ab\\u00\"]", fault invalid_escape 8 1) ∷  -- a quote among four digits
     (codes "[\"\\uz\"]", done (listed []) 1) ∷  -- a short escape and the end
     (codes "[\"\\uz\"] ", fault invalid_escape 4 1) ∷  -- a bad digit
-    []
-
-in_mode_on_answer : map (λ r. partial_answer false On r.0) in_mode_on ≡ map (λ r. r.1) in_mode_on
+    [])
 unfolding computed_readings
-in_mode_on_answer = refl
+in_mode_on = refl
 
 -- where strings are kept
-abbrev with_strings : List (List ℕ × Reading Tree)
-with_strings =
+with_strings : Give (partial_answer false TrailingStrings ∷ []) (
     (codes "{\"a\":\"x\",\"b", done (paired ((ascii "a", word "x") ∷ [])) 9) ∷
     (codes "[\"ab\\u00", done (listed (own_text (codes "ab") ∷ [])) 8) ∷  -- a cut escape at the end
     (codes "[\"a\\", done (listed (own_text (codes "a") ∷ [])) 4) ∷
     (codes "[\"a\\ud83d\\ud", done (listed (own_text (codes "a") ∷ [])) 12) ∷  -- a cut pair
-    []
-
-with_strings_answer : map (λ r. partial_answer false TrailingStrings r.0) with_strings ≡ map (λ r. r.1) with_strings
+    [])
 unfolding computed_readings
-with_strings_answer = refl
+with_strings = refl
 
 a_cut_name : partial_answer true On (codes "[-Inf") ≡ done (listed []) 1
 unfolding computed_readings

@@ -1,16 +1,14 @@
 -- Strings read in each of the four forms, by computation.
-use Rattle.std.proofs.Common.{◌≡◌, ℕ, List, [], ◌∷◌, ◌++◌, refl, codes, map}
+use Rattle.std.proofs.Common.{◌≡◌, [], ◌∷◌, ◌++◌, refl, codes}
 use Rattle.jiter_scan.specs.Kind.{eof_string, invalid_escape, invalid_code_point, control_character, lone_surrogate}
 use Rattle.jiter_scan.specs.Kind.{end_of_hex_escape}
-use Rattle.jiter_scan.specs.Scanned.{Scanned, taken, failed}
+use Rattle.jiter_scan.specs.Scanned.{taken, failed}
 use Rattle.jiter_steps.specs.StringReading.{string_at, whole, kept, raw, raw_kept}
-use Rattle.jiter_steps.specs.Tree.{Text}
-use Rattle.jiter_steps.proofs.Rows.Trees.{borrowed, owned, ascii}
+use Rattle.jiter_steps.proofs.Rows.Trees.{borrowed, owned, ascii, GiveAt}
 use Rattle.jiter_steps.proofs.Computed.{computed_strings}
 
 -- what every form answers: nothing to decode, and the faults of each
-abbrev in_every_form : List (List ℕ × ℕ × Scanned Text)
-in_every_form =
+in_every_form : GiveAt (string_at whole ∷ string_at kept ∷ string_at raw ∷ string_at raw_kept ∷ []) (
     (codes "\"\"", 0, taken (borrowed []) 2) ∷
     (codes "[\"abc\"]", 1, taken (ascii "abc") 6) ∷
     (codes "\"ab\"", 0, taken (ascii "ab") 4) ∷
@@ -35,27 +33,12 @@ in_every_form =
     (codes "\"\\ud83dx\"", 0, failed end_of_hex_escape 7) ∷  -- a high surrogate and a letter
     (codes "\"\\ud83d\"", 0, failed end_of_hex_escape 7) ∷  -- a high surrogate and the quote
     (codes "\"" ++ 255 ∷ 31 ∷ codes "\"", 0, failed control_character 2) ∷  -- a later fault before broken UTF-8
-    []
-
-in_every_form_whole : map (λ r. string_at whole r.0 r.1) in_every_form ≡ map (λ r. r.2) in_every_form
+    [])
 unfolding computed_strings
-in_every_form_whole = refl
-
-in_every_form_kept : map (λ r. string_at kept r.0 r.1) in_every_form ≡ map (λ r. r.2) in_every_form
-unfolding computed_strings
-in_every_form_kept = refl
-
-in_every_form_raw : map (λ r. string_at raw r.0 r.1) in_every_form ≡ map (λ r. r.2) in_every_form
-unfolding computed_strings
-in_every_form_raw = refl
-
-in_every_form_raw_kept : map (λ r. string_at raw_kept r.0 r.1) in_every_form ≡ map (λ r. r.2) in_every_form
-unfolding computed_strings
-in_every_form_raw_kept = refl
+in_every_form = refl
 
 -- escapes that the end of input cuts, which kept alone forgives
-abbrev cut_escapes : List (List ℕ × ℕ × Scanned Text)
-cut_escapes =
+cut_escapes : GiveAt (string_at whole ∷ string_at raw ∷ string_at raw_kept ∷ []) (
     (codes "\"\\u00\"", 0, failed eof_string 6) ∷  -- u and three bytes
     (codes "\"\\uz\"", 0, failed eof_string 5) ∷  -- u and two bytes and a quote
     (codes "\"\\u", 0, failed eof_string 3) ∷  -- u alone
@@ -63,39 +46,21 @@ cut_escapes =
     (codes "\"\\ud83d", 0, failed eof_string 7) ∷  -- a high surrogate and the end
     (codes "\"\\ud83d\\", 0, failed eof_string 8) ∷  -- a high surrogate and a backslash and the end
     (codes "\"\\", 0, failed eof_string 2) ∷
-    []
-
-cut_escapes_whole : map (λ r. string_at whole r.0 r.1) cut_escapes ≡ map (λ r. r.2) cut_escapes
+    [])
 unfolding computed_strings
-cut_escapes_whole = refl
-
-cut_escapes_raw : map (λ r. string_at raw r.0 r.1) cut_escapes ≡ map (λ r. r.2) cut_escapes
-unfolding computed_strings
-cut_escapes_raw = refl
-
-cut_escapes_raw_kept : map (λ r. string_at raw_kept r.0 r.1) cut_escapes ≡ map (λ r. r.2) cut_escapes
-unfolding computed_strings
-cut_escapes_raw_kept = refl
+cut_escapes = refl
 
 -- no closing quote, which both kept forms forgive
-abbrev open_strings : List (List ℕ × ℕ × Scanned Text)
-open_strings =
+open_strings : GiveAt (string_at whole ∷ string_at raw ∷ []) (
     (codes "\"a", 0, failed eof_string 2) ∷
     (codes "\"", 0, failed eof_string 1) ∷
     (codes "\"a\\\"", 0, failed eof_string 4) ∷
-    []
-
-open_strings_whole : map (λ r. string_at whole r.0 r.1) open_strings ≡ map (λ r. r.2) open_strings
+    [])
 unfolding computed_strings
-open_strings_whole = refl
-
-open_strings_raw : map (λ r. string_at raw r.0 r.1) open_strings ≡ map (λ r. r.2) open_strings
-unfolding computed_strings
-open_strings_raw = refl
+open_strings = refl
 
 -- texts between two quotes
-abbrev texts : List (List ℕ × ℕ × Scanned Text)
-texts =
+texts : GiveAt (string_at whole ∷ string_at kept ∷ []) (
     (codes "\"" ++ 195 ∷ 169 ∷ codes "\"", 0, taken (borrowed (195 ∷ 169 ∷ [])) 4) ∷  -- two bytes of one character
     -- four bytes of one character
     (codes "\"" ++ 240 ∷ 159 ∷ 152 ∷ 128 ∷ codes "\"", 0, taken (borrowed (240 ∷ 159 ∷ 152 ∷ 128 ∷ [])) 6) ∷
@@ -124,15 +89,9 @@ texts =
     (codes "\"" ++ 244 ∷ 144 ∷ 128 ∷ 128 ∷ codes "\"", 0, failed invalid_code_point 1) ∷  -- past the last character
     (codes "\"" ++ 237 ∷ 160 ∷ 128 ∷ codes "\"", 0, failed invalid_code_point 1) ∷  -- a surrogate in UTF-8
     (codes "[\"" ++ 255 ∷ codes "\"]", 1, failed invalid_code_point 2) ∷  -- broken UTF-8
-    []
-
-texts_whole : map (λ r. string_at whole r.0 r.1) texts ≡ map (λ r. r.2) texts
+    [])
 unfolding computed_strings
-texts_whole = refl
-
-texts_kept : map (λ r. string_at kept r.0 r.1) texts ≡ map (λ r. r.2) texts
-unfolding computed_strings
-texts_kept = refl
+texts = refl
 
 -- kept leaves the character out
 an_unfinished_character_whole : string_at whole (codes "[\"a" ++ 226 ∷ 130 ∷ codes "\"]") 1
@@ -141,8 +100,7 @@ unfolding computed_strings
 an_unfinished_character_whole = refl
 
 -- what there is of a text where the input ends, without an unfinished character
-abbrev kept_texts : List (List ℕ × ℕ × Scanned Text)
-kept_texts =
+kept_texts : GiveAt (string_at kept ∷ []) (
     (codes "\"a", 0, taken (ascii "a") 2) ∷
     (codes "[\"", 1, taken (borrowed []) 2) ∷
     (codes "\"ab\\", 0, taken (owned (codes "ab")) 4) ∷
@@ -160,40 +118,28 @@ kept_texts =
     (codes "\"a" ++ 255 ∷ [], 0, failed invalid_code_point 2) ∷  -- broken UTF-8 and the end
     (codes "\"" ++ 226 ∷ codes "(", 0, failed invalid_code_point 1) ∷  -- a first byte and a letter
     (codes "\"a" ++ 255 ∷ codes "\\", 0, failed invalid_code_point 2) ∷  -- broken UTF-8 and a backslash and the end
-    []
-
-kept_texts_kept : map (λ r. string_at kept r.0 r.1) kept_texts ≡ map (λ r. r.2) kept_texts
+    [])
 unfolding computed_strings
-kept_texts_kept = refl
+kept_texts = refl
 
 -- the bytes between the quotes as they stand
-abbrev bytes : List (List ℕ × ℕ × Scanned Text)
-bytes =
+bytes : GiveAt (string_at raw ∷ string_at raw_kept ∷ []) (
     (codes "\"a\\n\"", 0, taken (ascii "a\\n") 5) ∷
     (codes "\"\\u0061\"", 0, taken (ascii "\\u0061") 8) ∷  -- a letter escaped
     (codes "\"\\ud83d\\ude00\"", 0, taken (ascii "\\ud83d\\ude00") 14) ∷  -- a surrogate pair
     (codes "\"" ++ 255 ∷ codes "\"", 0, taken (borrowed (255 ∷ [])) 3) ∷  -- broken UTF-8
     (codes "\"\\n" ++ 255 ∷ codes "\"", 0, taken (borrowed (92 ∷ 110 ∷ 255 ∷ [])) 5) ∷  -- broken UTF-8 behind an escape
-    []
-
-bytes_raw : map (λ r. string_at raw r.0 r.1) bytes ≡ map (λ r. r.2) bytes
+    [])
 unfolding computed_strings
-bytes_raw = refl
-
-bytes_raw_kept : map (λ r. string_at raw_kept r.0 r.1) bytes ≡ map (λ r. r.2) bytes
-unfolding computed_strings
-bytes_raw_kept = refl
+bytes = refl
 
 -- the bytes to the end of input
-abbrev bytes_to_the_end : List (List ℕ × ℕ × Scanned Text)
-bytes_to_the_end =
+bytes_to_the_end : GiveAt (string_at raw_kept ∷ []) (
     (codes "\"ab", 0, taken (ascii "ab") 3) ∷
     (codes "\"", 0, taken (borrowed []) 1) ∷
     (codes "\"a\\n", 0, taken (ascii "a\\n") 4) ∷
     (codes "\"a" ++ 255 ∷ [], 0, taken (borrowed (97 ∷ 255 ∷ [])) 3) ∷  -- broken UTF-8 and the end
     (codes "\"a\\\"", 0, taken (ascii "a\\\"") 4) ∷
-    []
-
-bytes_to_the_end_raw_kept : map (λ r. string_at raw_kept r.0 r.1) bytes_to_the_end ≡ map (λ r. r.2) bytes_to_the_end
+    [])
 unfolding computed_strings
-bytes_to_the_end_raw_kept = refl
+bytes_to_the_end = refl

@@ -1,6 +1,6 @@
--- How the rows write trees and long texts.
+-- How the rows write trees and long texts, and what a table of rows says.
 use Prim.Native.String.{String}
-use Rattle.std.proofs.Common.{ℕ, zero, suc, pos, true, false, List, [], ◌∷◌, ◌++◌, codes}
+use Rattle.std.proofs.Common.{◌≡◌, ℕ, zero, suc, pos, true, false, List, [], ◌∷◌, ◌++◌, codes, map}
 use Rattle.jiter_steps.specs.Tree.{Text, Tree, items_of, members_of}
 use Rattle.jiter_steps.specs.Tree as tree
 
@@ -44,3 +44,10 @@ nested (suc n) = listed (nested n ∷ [])
 abbrev pub times : ℕ → List ℕ → List ℕ
 times zero w = []
 times (suc n) w = w ++ times n w
+
+-- A table of texts, each with what every one of the functions gives for it; and of texts with a place in them.
+abbrev pub Give : {A : Type 0} → List (List ℕ → A) → List (List ℕ × A) → Type 0
+Give fs rows = map (λ f. map (λ r. f r.0) rows) fs ≡ map (λ f. map (λ r. r.1) rows) fs
+
+abbrev pub GiveAt : {A : Type 0} → List (List ℕ → ℕ → A) → List (List ℕ × ℕ × A) → Type 0
+GiveAt fs rows = map (λ f. map (λ r. f r.0 r.1) rows) fs ≡ map (λ f. map (λ r. r.2) rows) fs

@@ -6,28 +6,23 @@ use Rattle.jiter_steps.proofs.raw_string.content_end.Goals as goal
 
 pub returns-in-Some-eq92-clause-over : goal.returns-in-Some-eq92-clause-over
 returns-in-Some-eq92-clause-over c =
-    let t = c.args.bytes.now in
-    let to = c.scan_string-to.result.0 in
-    let run = run-goes_on t c.args.from to c.requires c.scan_string-to.ensures.stop in
-    over-again t c.args.from to c.escaped_end.result run.0 c.escaped_end.ensures.over
+    let s = c.scan_string-to in
+    let run = run-goes_on c.args.bytes.now c.args.from s.result.0 c.requires s.ensures.stop in
+    over-again c.args.bytes.now c.args.from s.result.0 c.escaped_end.result run.0 c.escaped_end.ensures.over
 
 pub returns-in-Some-clause-over : goal.returns-in-Some-clause-over
 returns-in-Some-clause-over c =
-    let t = c.args.bytes.now in
-    let to = c.scan_string-to.result.0 in
-    let here : slice_get t to ≡ Some c.in-Some.field-0 = cc in
-    run-over t c.args.from to c.requires c.scan_string-to.ensures.stop
+    let s = c.scan_string-to in
+    let here : slice_get c.args.bytes.now s.result.0 ≡ Some c.in-Some.field-0 = cc in
+    run-over c.args.bytes.now c.args.from s.result.0 c.requires s.ensures.stop
     (λ e. c.in-Some.field-0-test.1 (same_Some _ _ (sym here ∙ e)))
 
 pub returns-in-Some-clause-stop : goal.returns-in-Some-clause-stop
 returns-in-Some-clause-stop c =
-    let t = c.args.bytes.now in
-    let run = run-goes_on t c.args.from c.scan_string-to.result.0 c.requires c.scan_string-to.ensures.stop in
-    run.3
+    let s = c.scan_string-to in (run-goes_on c.args.bytes.now c.args.from s.result.0 c.requires s.ensures.stop).3
 
 pub returns-in-None-clause-over : goal.returns-in-None-clause-over
 returns-in-None-clause-over c =
-    let t = c.args.bytes.now in
-    let to = c.scan_string-to.result.0 in
-    let none : slice_get t to ≡ None = cc in
-    run-over t c.args.from to c.requires c.scan_string-to.ensures.stop (λ e. none-some _ (sym none ∙ e))
+    let s = c.scan_string-to in
+    let none : slice_get c.args.bytes.now s.result.0 ≡ None = cc in
+    run-over c.args.bytes.now c.args.from s.result.0 c.requires s.ensures.stop (λ e. none-some _ (sym none ∙ e))

@@ -22,18 +22,10 @@ loop-to-preserved c =
     c.put_char-count.ensures.text in
     record { text = m.0; stop = m.1; within = m.3; room = c.put_char-count.ensures.place }
 
-pub returns-in-End-clause-text : goal.returns-in-End-clause-text
-returns-in-End-clause-text c =
+pub returns-in-End : goal.returns-in-End
+returns-in-End c =
     let l = c.loop-to in
     let e = c.in_ok-to.ensures in
     let m = decode_over c.args.bytes.now [] (take l.count l.tape.items) _ c.args.from l.at c.in_ok-to.to
     (stop_view c.in-End.ending) l.invariant.text l.invariant.stop l.invariant.within e.stop e.text c.in-End.ensures in
-    m.0
-
-pub returns-in-End-clause-stop : goal.returns-in-End-clause-stop
-returns-in-End-clause-stop c =
-    let l = c.loop-to in
-    let e = c.in_ok-to.ensures in
-    let m = decode_over c.args.bytes.now [] (take l.count l.tape.items) _ c.args.from l.at c.in_ok-to.to
-    (stop_view c.in-End.ending) l.invariant.text l.invariant.stop l.invariant.within e.stop e.text c.in-End.ensures in
-    m.1
+    record { text = m.0; within = omega arith; stop = m.1 }

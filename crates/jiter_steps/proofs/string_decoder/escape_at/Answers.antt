@@ -1,4 +1,4 @@
-use Rattle.std.proofs.Common.{◌+◌, get_or, true, ap, sym, ◌∙◌, arith}
+use Rattle.std.proofs.Common.{◌+◌, true, ap, sym, ◌∙◌, arith}
 use Rattle.std.specs.Prelude.{Some}
 use Rattle.std.proofs.lemmas.Option.{slice_get-get_or}
 use Rattle.std.specs.Char.{encode_utf8}
@@ -12,10 +12,8 @@ returns-then-letter-eq117 c =
     let i = c.args.at in
     let backslash = slice_get-get_or t i 0 (omega arith) ∙ ap Some c.if-bytes-at-ne92.false in
     let letter = slice_get-get_or t (i + 1) 0 (omega arith) ∙ ap Some c.if-letter-eq117.true in
-    let unit = c.in_ok-unit.unit in
     let scalar = c.in_ok-c.ensures.value in
-    sym
-    (place_at-unit t i backslash unit letter c.in_ok-unit.ensures.value scalar.0
+    sym (place_at-unit t i backslash c.in_ok-unit.unit letter c.in_ok-unit.ensures.value scalar.0
     ∙ ap (λ u. part (encode_utf8 u) true (i + 6)) (sym scalar.1))
 
 pub returns : goal.returns
@@ -24,5 +22,4 @@ returns c =
     let i = c.args.at in
     let backslash = slice_get-get_or t i 0 (omega arith) ∙ ap Some c.if-bytes-at-ne92.false in
     let letter = slice_get-get_or t (i + 1) 0 (omega arith) in
-    sym (place_at-letter t i backslash (get_or t (i + 1) 0) c.in_ok-c-2.c letter c.if-letter-eq117.false
-    (sym c.in_ok-c-2.ensures.value))
+    sym (place_at-letter t i backslash _ c.in_ok-c-2.c letter c.if-letter-eq117.false (sym c.in_ok-c-2.ensures.value))
