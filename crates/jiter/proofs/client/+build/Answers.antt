@@ -106,17 +106,13 @@ build_object-returns-clause-value t c =
 pub build_inside-returns-then-room-eq0-clause-value : goal.build_inside-returns-then-room-eq0-clause-value
 build_inside-returns-then-room-eq0-clause-value t c =
     let s = c.args.jiter.now in
-    let index = c.current_index.ensures.value in
+    let at = c.current_index.ensures in
     record {
-      moves = record {
-        same = refl;
-        forward = omega arith;
-        within = omega (arith, c.current_index.ensures.within, index);
-      };
+      moves = record { same = refl; forward = omega arith; within = omega (arith, at.within, at.value) };
       value =
           λ m. ap value_reply (inside_at-none (owned_trees s.names) s.text c.args.room s.position c.if-room-eq0.true)
-          ∙ ap (λ x. refused (json_error recursion_limit) x s.position) (sym index);
-      place = λ m. sym index;
+          ∙ ap (λ x. refused (json_error recursion_limit) x s.position) (sym at.value);
+      place = λ m. sym at.value;
     }
 
 pub build_inside-build_value-requires : goal.build_inside-build_value-requires
