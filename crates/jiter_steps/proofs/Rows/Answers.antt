@@ -52,8 +52,7 @@ literals_and_numbers : Give (answer false ∷ []) (
     (codes "[-I]", fault invalid_number 2 1) ∷
     (codes "[I]", fault expected_value 1 1) ∷
     [])
-unfolding computed_readings
-literals_and_numbers = refl
+literals_and_numbers = unfold computed_readings in refl
 
 strings : Give (answer false ∷ []) (
     (codes "\"\\ud83d\\ude00\"", done (own_text (240 ∷ 159 ∷ 152 ∷ 128 ∷ [])) 14) ∷  -- a surrogate pair
@@ -82,8 +81,7 @@ strings : Give (answer false ∷ []) (
     (codes "\"" ++ 195 ∷ 169 ∷ codes "aaaaaaaaaaaaa\"", done (text (195 ∷ 169 ∷ codes "aaaaaaaaaaaaa")) 17) ∷
     (codes "\"aaaaaaaaaaaaaaa\\n\"", done (own_text (codes "aaaaaaaaaaaaaaa\n")) 19) ∷
     [])
-unfolding computed_readings
-strings = refl
+strings = unfold computed_readings in refl
 
 containers : Give (answer false ∷ []) (
     -- arrays
@@ -125,8 +123,7 @@ containers : Give (answer false ∷ []) (
     (codes "{\"" ++ 255 ∷ codes "\":1}", fault invalid_code_point 2 1) ∷  -- broken UTF-8 in a key
     (codes "{\"a\": [1, {\"b\": \"x", fault eof_string 18 16) ∷
     [])
-unfolding computed_readings
-containers = refl
+containers = unfold computed_readings in refl
 
 abbrev person : Tree
 person = paired ((ascii "name", word "John Doe") ∷ (ascii "age", number 43) ∷
@@ -147,5 +144,4 @@ with_names : Give (answer true ∷ []) (
           float (ascii "NaN") ∷ float (ascii "Infinity") ∷ float (ascii "-Infinity") ∷ [])) 65,
     ) ∷
     [])
-unfolding computed_readings
-with_names = refl
+with_names = unfold computed_readings in refl

@@ -53,8 +53,7 @@ completed =
 completed_document : (map (λ r. fault_of (answer false r.0)) completed ≡ map (λ r. Some (r.1, r.2)) completed)
     × (map (λ r. can_go_on r.1) completed ≡ map (λ r. true) completed)
     × (map (λ r. is_document (take r.2 r.0 ++ (r.3 ++ r.4))) completed ≡ map (λ r. true) completed)
-unfolding computed_readings
-completed_document = (refl, refl, refl)
+completed_document = unfold computed_readings in (refl, refl, refl)
 
 -- the kinds that say that no document begins so
 abbrev says_dead : Kind → Bool
@@ -133,8 +132,7 @@ not_completed_nowhere :
     (map (λ r. fault_of (answer false r.0)) not_completed ≡ map (λ r. Some (r.1, r.2)) not_completed)
     × (map (λ r. can_go_on r.1) not_completed ≡ map (λ r. false) not_completed)
     × (map (λ r. is_over (take r.2 r.0)) not_completed ≡ map (λ r. replicate 5 true) not_completed)
-unfolding computed_readings
-not_completed_nowhere = (refl, refl, refl)
+not_completed_nowhere = unfold computed_readings in (refl, refl, refl)
 
 abbrev NoneCompleted : List (List ℕ × Kind × ℕ) → Type 0
 NoneCompleted [] = Unit {0}
@@ -184,8 +182,7 @@ closers-printed (c ∷ cs) h = (by h.0, closers-printed cs h.1) where
 
 control_answer : (fault_of (answer false (34 ∷ 31 ∷ [])) ≡ Some (control_character, 1))
     × (is_dead (34 ∷ codes "\"\":0") ≡ true)
-unfolding computed_readings
-control_answer = (refl, refl)
+control_answer = unfold computed_readings in (refl, refl)
 
 quote_completed : CanBeCompleted false (34 ∷ []) → ⊥
 quote_completed c = by c.filler c.is_filler c.document where

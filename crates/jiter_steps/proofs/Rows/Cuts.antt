@@ -47,22 +47,18 @@ abbrev whole_value : Tree
 whole_value = listed (number 12 ∷ letters ∷ object_k ∷ [])
 
 it_is_read_as_its_node : whole_answer (nodes false) source ≡ done document 21
-unfolding computed_readings
-it_is_read_as_its_node = refl
+it_is_read_as_its_node = unfold computed_readings in refl
 
 its_value : value_of source document ≡ whole_value
-unfolding computed_readings
-its_value = refl
+its_value = unfold computed_readings in refl
 
 -- before its first byte nothing is left, in either mode
 nothing_left : map (λ m. cut false source document 0 m) (On ∷ TrailingStrings ∷ []) ≡ None ∷ None ∷ []
-unfolding computed_cuts
-nothing_left = refl
+nothing_left = unfold computed_cuts in refl
 
 nothing_read : answer false [] ∷ map (λ m. partial_answer false m []) (On ∷ TrailingStrings ∷ [])
     ≡ replicate 3 (fault eof_value 0 0)
-unfolding computed_readings
-nothing_read = refl
+nothing_read = unfold computed_readings in refl
 
 -- the place of the cut, and the answer with partial reading off; the items, and where the reading ends, without the
 -- open string; and with what there is of it
@@ -93,17 +89,14 @@ cuts =
 
 it_is_cut : map (λ r. map (cut false source document r.0) (On ∷ TrailingStrings ∷ [])) cuts
     ≡ map (λ r. Some (listed r.2) ∷ Some (listed r.4) ∷ []) cuts
-unfolding computed_cuts
-it_is_cut = refl
+it_is_cut = unfold computed_cuts in refl
 
 it_is_read_whole : map (λ r. answer false (take r.0 source)) cuts ≡ map (λ r. r.1) cuts
-unfolding computed_readings
-it_is_read_whole = refl
+it_is_read_whole = unfold computed_readings in refl
 
 it_is_read : map (λ r. map (λ m. partial_answer false m (take r.0 source)) (On ∷ TrailingStrings ∷ [])) cuts
     ≡ map (λ r. done (listed r.2) r.3 ∷ done (listed r.4) r.5 ∷ []) cuts
-unfolding computed_readings
-it_is_read = refl
+it_is_read = unfold computed_readings in refl
 
 -- By the law, at each place and in each mode: the node is this document's, and the readings above are its cuts.
 it_is_a_document : IsDocument false source document
@@ -134,5 +127,4 @@ numbers =
     []
 
 numbers_are_cut : map (λ r. cut r.1 r.0 (around_number r.0) r.2 On) numbers ≡ map (λ r. Some (listed r.3)) numbers
-unfolding computed_cuts
-numbers_are_cut = refl
+numbers_are_cut = unfold computed_cuts in refl

@@ -28,12 +28,10 @@ too_deep =
 
 too_deep_answer : Give (map (λ m. answer_in false m) (Off ∷ On ∷ TrailingStrings ∷ []))
     (map (λ r. (r.0, fault recursion_limit r.1 r.1)) too_deep)
-unfolding computed_readings
-too_deep_answer = refl
+too_deep_answer = unfold computed_readings in refl
 
 too_deep_skip : map (λ r. skip_at false r.0 0) too_deep ≡ map (λ r. fault recursion_limit r.1 r.1) too_deep
-unfolding computed_readings
-too_deep_skip = refl
+too_deep_skip = unfold computed_readings in refl
 
 -- so many objects of one member with an empty key, round an empty one
 abbrev nested_objects : ℕ → Tree
@@ -46,16 +44,13 @@ deep : Give (answer false ∷ []) (
     (times 201 (codes "["), fault eof_list 201 201) ∷
     (times 201 (codes "{\"\":"), fault eof_value 804 804) ∷
     [])
-unfolding computed_readings
-deep = refl
+deep = unfold computed_readings in refl
 
 deep_and_open : Give (partial_answer false On ∷ []) (
     (times 201 (codes "["), done (nested 200) 201) ∷
     (times 201 (codes "{\"\":"), done (nested_objects 200) 804) ∷
     [])
-unfolding computed_readings
-deep_and_open = refl
+deep_and_open = unfold computed_readings in refl
 
 arrays_skip : skip_at false (arrays 201) 0 ≡ done tt 402
-unfolding computed_readings
-arrays_skip = refl
+arrays_skip = unfold computed_readings in refl

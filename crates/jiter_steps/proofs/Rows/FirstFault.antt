@@ -52,8 +52,7 @@ gone_wrong =
 
 gone_wrong_no_sooner : (map (λ r. fault_of (answer false r.0)) gone_wrong ≡ map (λ r. Some (r.1, r.2)) gone_wrong)
     × (map (λ r. is_document (take r.2 r.0 ++ r.3)) gone_wrong ≡ map (λ r. true) gone_wrong)
-unfolding computed_readings
-gone_wrong_no_sooner = (refl, refl)
+gone_wrong_no_sooner = unfold computed_readings in (refl, refl)
 
 -- Two more kinds: what they refuse is there before the byte at their index.
 gone_wrong_before : Give ((λ t. fault_of (answer false t)) ∷ []) (
@@ -61,8 +60,7 @@ gone_wrong_before : Give ((λ t. fault_of (answer false t)) ∷ []) (
     (codes "\"\\udc00\"", Some (lone_surrogate, 6)) ∷
     (codes "\"\\ud83d\\u0041\"", Some (lone_surrogate, 12)) ∷
     [])
-unfolding computed_readings
-gone_wrong_before = refl
+gone_wrong_before = unfold computed_readings in refl
 
 -- The other kinds do not say it: a document begins with the bytes up to and including the one at the index.
 abbrev gone_on : List Row
@@ -77,13 +75,11 @@ gone_on =
 
 gone_on_document : (map (λ r. fault_of (answer false r.0)) gone_on ≡ map (λ r. Some (r.1, r.2)) gone_on)
     × (map (λ r. is_document (take (r.2 + 1) r.0 ++ r.3)) gone_on ≡ map (λ r. true) gone_on)
-unfolding computed_readings
-gone_on_document = (refl, refl)
+gone_on_document = unfold computed_readings in (refl, refl)
 
 -- By the law, of one row.
 comma_gone_wrong : answer false (codes "[1,]") ≡ fault trailing_comma 3 3
-unfolding computed_readings
-comma_gone_wrong = refl
+comma_gone_wrong = unfold computed_readings in refl
 
 no_document_begins : BeginsNoDocument false (codes "[1,]")
 no_document_begins = dead false (codes "[1,]") trailing_comma 3 3 comma_gone_wrong refl (λ e. cc)
@@ -91,5 +87,4 @@ no_document_begins = dead false (codes "[1,]") trailing_comma 3 3 comma_gone_wro
 -- Names decide: without them no document begins with `N`, and with them one does.
 a_name : (fault_of (answer false (codes "N")) ≡ Some (expected_value, 0))
     × (map (λ t. fault_of (answer true t)) (codes "N" ∷ codes "NaN" ∷ []) ≡ Some (eof_value, 1) ∷ None ∷ [])
-unfolding computed_readings
-a_name = (refl, refl)
+a_name = unfold computed_readings in (refl, refl)

@@ -22,5 +22,4 @@ rows =
     []
 
 rows_answer : map (λ r. literal_at r.0 r.1 r.2) rows ≡ map (λ r. r.3) rows
-unfolding computed_literals
-rows_answer = refl
+rows_answer = unfold computed_literals in refl

@@ -29,8 +29,7 @@ in_both_modes : Give (partial_answer false On ∷ partial_answer false TrailingS
     (codes "{\"" ++ 255 ∷ [], done (paired []) 1) ∷  -- broken UTF-8 in an open key
     (codes "{\"a" ++ 226 ∷ codes "\":1", fault invalid_code_point 3 1) ∷  -- unfinished UTF-8 in a key
     [])
-unfolding computed_readings
-in_both_modes = refl
+in_both_modes = unfold computed_readings in refl
 
 -- where the modes differ: without the open string, and with what there is of it
 open_strings : Give ((λ t. map (λ m. partial_answer false m t) (On ∷ TrailingStrings ∷ [])) ∷ []) (
@@ -50,8 +49,7 @@ open_strings : Give ((λ t. map (λ m. partial_answer false m t) (On ∷ Trailin
     (codes "[\"a" ++ 226 ∷ 130 ∷ codes "\"]", fault invalid_code_point 3 1 ∷ done (listed (word "a" ∷ [])) 7 ∷ []) ∷
     (codes "[\"" ++ 255 ∷ [], done (listed []) 1 ∷ fault invalid_code_point 2 1 ∷ []) ∷  -- broken UTF-8 and the end
     [])
-unfolding computed_readings
-open_strings = refl
+open_strings = unfold computed_readings in refl
 
 in_mode_on : Give (partial_answer false On ∷ []) (
     -- faults that no mode forgives
@@ -90,8 +88,7 @@ in_mode_on : Give (partial_answer false On ∷ []) (
     (codes "[\"\\uz\"]", done (listed []) 1) ∷  -- a short escape and the end
     (codes "[\"\\uz\"] ", fault invalid_escape 4 1) ∷  -- a bad digit
     [])
-unfolding computed_readings
-in_mode_on = refl
+in_mode_on = unfold computed_readings in refl
 
 -- where strings are kept
 with_strings : Give (partial_answer false TrailingStrings ∷ []) (
@@ -100,9 +97,7 @@ with_strings : Give (partial_answer false TrailingStrings ∷ []) (
     (codes "[\"a\\", done (listed (own_text (codes "a") ∷ [])) 4) ∷
     (codes "[\"a\\ud83d\\ud", done (listed (own_text (codes "a") ∷ [])) 12) ∷  -- a cut pair
     [])
-unfolding computed_readings
-with_strings = refl
+with_strings = unfold computed_readings in refl
 
 a_cut_name : partial_answer true On (codes "[-Inf") ≡ done (listed []) 1
-unfolding computed_readings
-a_cut_name = refl
+a_cut_name = unfold computed_readings in refl

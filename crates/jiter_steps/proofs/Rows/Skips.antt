@@ -23,16 +23,13 @@ ends : GiveAt (skip_at false ∷ []) (
     (codes "[\"" ++ 255 ∷ codes "\"]", 0, done tt 5) ∷
     (codes "{\"" ++ 255 ∷ codes "\":1}", 0, done tt 7) ∷
     [])
-unfolding computed_readings
-ends = refl
+ends = unfold computed_readings in refl
 
 a_name : skip_at true (codes "[NaN]") 1 ≡ done tt 4
-unfolding computed_readings
-a_name = refl
+a_name = unfold computed_readings in refl
 
 broken_utf8_read : read_at false (codes "[\"" ++ 255 ∷ codes "\"]") 0 ≡ fault invalid_code_point 2 1
-unfolding computed_readings
-broken_utf8_read = refl
+broken_utf8_read = unfold computed_readings in refl
 
 -- refused at this index, with the reading left at the quote
 abbrev damage : List (List ℕ × Kind × ℕ)
@@ -53,8 +50,7 @@ damage =
 
 damage_answer : (map (λ r. answer false r.0) damage ≡ map (λ r. fault r.1 r.2 0) damage)
     × (map (λ r. skip_at false r.0 0) damage ≡ map (λ r. fault r.1 r.2 0) damage)
-unfolding computed_readings
-damage_answer = (refl, refl)
+damage_answer = unfold computed_readings in (refl, refl)
 
 -- the byte FF: where it is refused as no UTF-8, and where the string ends if it is skipped
 abbrev byte_ff : List (List ℕ × ℕ × ℕ)
@@ -66,5 +62,4 @@ byte_ff =
 
 byte_ff_answer : (map (λ r. answer false r.0) byte_ff ≡ map (λ r. fault invalid_code_point r.1 0) byte_ff)
     × (map (λ r. skip_at false r.0 0) byte_ff ≡ map (λ r. done tt r.2) byte_ff)
-unfolding computed_readings
-byte_ff_answer = (refl, refl)
+byte_ff_answer = unfold computed_readings in (refl, refl)

@@ -18,8 +18,7 @@ array_begins : GiveAt ((λ t. step t array_first) ∷ []) (
     (codes "[ \t\n\r]", 1, closed 6) ∷  -- blanks are passed
     (codes "[" ++ 12 ∷ codes "]", 1, more 1) ∷  -- a form feed is no blank
     [])
-unfolding computed_steps
-array_begins = refl
+array_begins = unfold computed_steps in refl
 
 -- behind an item
 item_ends : GiveAt ((λ t. step t (array_step t)) ∷ []) (
@@ -30,8 +29,7 @@ item_ends : GiveAt ((λ t. step t (array_step t)) ∷ []) (
     (codes "[1,", 2, stuck eof_value 3) ∷
     (codes "[1,]", 2, stuck trailing_comma 3) ∷
     [])
-unfolding computed_steps
-item_ends = refl
+item_ends = unfold computed_steps in refl
 
 -- behind a comma in an array
 array_goes_on : GiveAt ((λ t. step t (container_comma shape.Array)) ∷ []) (
@@ -40,8 +38,7 @@ array_goes_on : GiveAt ((λ t. step t (container_comma shape.Array)) ∷ []) (
     (codes "[1, x", 3, more 4) ∷
     (codes "[1,,", 3, more 3) ∷
     [])
-unfolding computed_steps
-array_goes_on = refl
+array_goes_on = unfold computed_steps in refl
 
 -- behind an opening brace
 object_begins : GiveAt ((λ t. step t object_first) ∷ []) (
@@ -50,8 +47,7 @@ object_begins : GiveAt ((λ t. step t object_first) ∷ []) (
     (codes "{ \"a\"", 1, more 2) ∷
     (codes "{1:2}", 1, stuck key_must_be_a_string 1) ∷
     [])
-unfolding computed_steps
-object_begins = refl
+object_begins = unfold computed_steps in refl
 
 -- behind a member
 member_ends : GiveAt ((λ t. step t (object_step t)) ∷ []) (
@@ -60,8 +56,7 @@ member_ends : GiveAt ((λ t. step t (object_step t)) ∷ []) (
     (codes "{\"a\":1 , \"b\"", 6, more 9) ∷
     (codes "{\"a\":1 \"b\"}", 6, stuck expected_object_comma_or_end 7) ∷
     [])
-unfolding computed_steps
-member_ends = refl
+member_ends = unfold computed_steps in refl
 
 -- behind a comma in an object
 object_goes_on : GiveAt ((λ t. step t (container_comma shape.Object)) ∷ []) (
@@ -70,8 +65,7 @@ object_goes_on : GiveAt ((λ t. step t (container_comma shape.Object)) ∷ []) (
     (codes "{\"a\":1, \"b\"", 7, more 8) ∷
     (codes "{\"a\":1,2", 7, stuck key_must_be_a_string 7) ∷
     [])
-unfolding computed_steps
-object_goes_on = refl
+object_goes_on = unfold computed_steps in refl
 
 -- behind a key
 key_ends : GiveAt ((λ t. step t colon) ∷ []) (
@@ -79,16 +73,14 @@ key_ends : GiveAt ((λ t. step t colon) ∷ []) (
     (codes "{\"a\" :1", 4, taken tt 6) ∷
     (codes "{\"a\" 1}", 4, failed expected_colon 5) ∷
     [])
-unfolding computed_steps
-key_ends = refl
+key_ends = unfold computed_steps in refl
 
 -- behind a colon
 colon_ends : GiveAt ((λ t. step t value_first) ∷ []) (
     (codes "{\"a\": ", 5, failed eof_value 6) ∷
     (codes "{\"a\": }", 5, taken tt 6) ∷
     [])
-unfolding computed_steps
-colon_ends = refl
+colon_ends = unfold computed_steps in refl
 
 -- behind a key, to where its value begins
 key_leads_on : GiveAt (object_colon ∷ []) (
@@ -97,5 +89,4 @@ key_leads_on : GiveAt (object_colon ∷ []) (
     (codes "{\"a\"", 4, failed eof_object 4) ∷
     (codes "{\"a\" 1", 4, failed expected_colon 5) ∷
     [])
-unfolding computed_steps
-key_leads_on = refl
+key_leads_on = unfold computed_steps in refl

@@ -34,8 +34,7 @@ in_every_form : GiveAt (string_at whole ∷ string_at kept ∷ string_at raw ∷
     (codes "\"\\ud83d\"", 0, failed end_of_hex_escape 7) ∷  -- a high surrogate and the quote
     (codes "\"" ++ 255 ∷ 31 ∷ codes "\"", 0, failed control_character 2) ∷  -- a later fault before broken UTF-8
     [])
-unfolding computed_strings
-in_every_form = refl
+in_every_form = unfold computed_strings in refl
 
 -- escapes that the end of input cuts, which kept alone forgives
 cut_escapes : GiveAt (string_at whole ∷ string_at raw ∷ string_at raw_kept ∷ []) (
@@ -47,8 +46,7 @@ cut_escapes : GiveAt (string_at whole ∷ string_at raw ∷ string_at raw_kept �
     (codes "\"\\ud83d\\", 0, failed eof_string 8) ∷  -- a high surrogate and a backslash and the end
     (codes "\"\\", 0, failed eof_string 2) ∷
     [])
-unfolding computed_strings
-cut_escapes = refl
+cut_escapes = unfold computed_strings in refl
 
 -- no closing quote, which both kept forms forgive
 open_strings : GiveAt (string_at whole ∷ string_at raw ∷ []) (
@@ -56,8 +54,7 @@ open_strings : GiveAt (string_at whole ∷ string_at raw ∷ []) (
     (codes "\"", 0, failed eof_string 1) ∷
     (codes "\"a\\\"", 0, failed eof_string 4) ∷
     [])
-unfolding computed_strings
-open_strings = refl
+open_strings = unfold computed_strings in refl
 
 -- texts between two quotes
 texts : GiveAt (string_at whole ∷ string_at kept ∷ []) (
@@ -90,14 +87,12 @@ texts : GiveAt (string_at whole ∷ string_at kept ∷ []) (
     (codes "\"" ++ 237 ∷ 160 ∷ 128 ∷ codes "\"", 0, failed invalid_code_point 1) ∷  -- a surrogate in UTF-8
     (codes "[\"" ++ 255 ∷ codes "\"]", 1, failed invalid_code_point 2) ∷  -- broken UTF-8
     [])
-unfolding computed_strings
-texts = refl
+texts = unfold computed_strings in refl
 
 -- kept leaves the character out
 an_unfinished_character_whole : string_at whole (codes "[\"a" ++ 226 ∷ 130 ∷ codes "\"]") 1
     ≡ failed invalid_code_point 3
-unfolding computed_strings
-an_unfinished_character_whole = refl
+an_unfinished_character_whole = unfold computed_strings in refl
 
 -- what there is of a text where the input ends, without an unfinished character
 kept_texts : GiveAt (string_at kept ∷ []) (
@@ -119,8 +114,7 @@ kept_texts : GiveAt (string_at kept ∷ []) (
     (codes "\"" ++ 226 ∷ codes "(", 0, failed invalid_code_point 1) ∷  -- a first byte and a letter
     (codes "\"a" ++ 255 ∷ codes "\\", 0, failed invalid_code_point 2) ∷  -- broken UTF-8 and a backslash and the end
     [])
-unfolding computed_strings
-kept_texts = refl
+kept_texts = unfold computed_strings in refl
 
 -- the bytes between the quotes as they stand
 bytes : GiveAt (string_at raw ∷ string_at raw_kept ∷ []) (
@@ -130,8 +124,7 @@ bytes : GiveAt (string_at raw ∷ string_at raw_kept ∷ []) (
     (codes "\"" ++ 255 ∷ codes "\"", 0, taken (borrowed (255 ∷ [])) 3) ∷  -- broken UTF-8
     (codes "\"\\n" ++ 255 ∷ codes "\"", 0, taken (borrowed (92 ∷ 110 ∷ 255 ∷ [])) 5) ∷  -- broken UTF-8 behind an escape
     [])
-unfolding computed_strings
-bytes = refl
+bytes = unfold computed_strings in refl
 
 -- the bytes to the end of input
 bytes_to_the_end : GiveAt (string_at raw_kept ∷ []) (
@@ -141,5 +134,4 @@ bytes_to_the_end : GiveAt (string_at raw_kept ∷ []) (
     (codes "\"a" ++ 255 ∷ [], 0, taken (borrowed (97 ∷ 255 ∷ [])) 3) ∷  -- broken UTF-8 and the end
     (codes "\"a\\\"", 0, taken (ascii "a\\\"") 4) ∷
     [])
-unfolding computed_strings
-bytes_to_the_end = refl
+bytes_to_the_end = unfold computed_strings in refl
