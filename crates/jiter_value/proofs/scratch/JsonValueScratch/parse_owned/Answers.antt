@@ -1,4 +1,4 @@
-use Rattle.std.proofs.Common.{length, subst}
+use Rattle.std.proofs.Common.{length, rules, subst}
 use Rattle.jiter_steps.specs.Answer.{answer_in}
 use Rattle.jiter_steps.specs.Cut.{cut}
 use Rattle.jiter_steps.specs.Node.{value_of}
@@ -27,10 +27,7 @@ returns-clause-cut c = λ on f.
     c.own_answer.result (length a.bytes.now) c.own_answer.ensures (c.parse-read.ensures.cut on f)
 
 pub returns-clause-answer : goal.returns-clause-answer
-returns-clause-answer c =
-    let a = c.args in
-    owned-answers c.parse-read.result c.own_answer.result (length a.bytes.now)
-    (answer_in a.allow_inf_nan a.allow_partial a.bytes.now) c.own_answer.ensures c.parse-read.ensures.answer
+returns-clause-answer c = search (rules, owned-answers)
 
 pub returns-clause-first : goal.returns-clause-first
 returns-clause-first c = λ off.
@@ -46,30 +43,19 @@ returns-clause-dead c = λ off.
     c.own_answer.ensures (c.parse-read.ensures.dead off)
 
 pub returns-clause-alive : goal.returns-clause-alive
-returns-clause-alive c = λ off.
-    let a = c.args in
-    owned-alive a.allow_inf_nan a.bytes.now c.parse-read.result c.own_answer.result (length a.bytes.now)
-    c.own_answer.ensures (c.parse-read.ensures.alive off)
+returns-clause-alive c = search (rules, owned-alive, c.parse-read.ensures.alive)
 
 pub returns-clause-early : goal.returns-clause-early
-returns-clause-early c = λ off cut_short.
-    owned-early c.parse-read.result c.own_answer.result (length c.args.bytes.now) c.own_answer.ensures
-    (c.parse-read.ensures.early off cut_short)
+returns-clause-early c = search (rules, owned-early, c.parse-read.ensures.early)
 
 pub returns-clause-index : goal.returns-clause-index
-returns-clause-index c =
-    owned-index c.args.bytes.now c.parse-read.result c.own_answer.result c.own_answer.ensures c.parse-read.ensures.index
+returns-clause-index c = search (rules, owned-index)
 
 pub returns-clause-ends : goal.returns-clause-ends
-returns-clause-ends c =
-    owned-ends c.args.bytes.now c.parse-read.result c.own_answer.result c.own_answer.ensures c.parse-read.ensures.ends
+returns-clause-ends c = search (rules, owned-ends)
 
 pub returns-clause-memory : goal.returns-clause-memory
-returns-clause-memory c =
-    let a = c.args in
-    owned-memory a.allow_inf_nan a.allow_partial a.bytes.now c.parse-read.result c.own_answer.result
-    (length a.bytes.now) c.own_answer.ensures c.parse-read.ensures.answer c.parse-read.ensures.memory
+returns-clause-memory c = search (rules, owned-memory)
 
 pub returns-clause-place : goal.returns-clause-place
-returns-clause-place c =
-    owned-place c.args.bytes.now c.parse-read.result c.own_answer.result c.own_answer.ensures c.parse-read.ensures.place
+returns-clause-place c = search (rules, owned-place)
