@@ -38,7 +38,10 @@ returns-clause-first c = λ off.
     c.parse_with_config-read.ensures.answer)
 
 pub returns-clause-dead : goal.returns-clause-dead
-returns-clause-dead c = search (rules, owned-dead, c.parse_with_config-read.ensures.dead)
+returns-clause-dead c = λ off.
+    let a = c.args in
+    owned-dead a.allow_inf_nan a.bytes.now c.parse_with_config-read.result c.own_answer.result (length a.bytes.now)
+    c.own_answer.ensures (c.parse_with_config-read.ensures.dead off)
 
 pub returns-clause-alive : goal.returns-clause-alive
 returns-clause-alive c = search (rules, owned-alive, c.parse_with_config-read.ensures.alive)
