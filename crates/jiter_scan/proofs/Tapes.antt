@@ -13,7 +13,8 @@ use Rattle.jiter_scan.proofs.Standing.{slice_range-on, slice_range-split}
 module _ (t : List ℕ) (i j : ℕ) (ahead : i ≤ j) where
   -- so many bytes of a chunk are the text's
   slice_range-chunk : (k : ℕ) → k ≤ 16 → slice_range t i (j + k) ≡ slice_range t i j ++ take k (chunk j 16 t)
-  slice_range-chunk k few = slice_range-on t i j ahead k ∙ ap (λ l. slice_range t i j ++ l) (sym (take-take k 16 (drop j t) few))
+  slice_range-chunk k few =
+      slice_range-on t i j ahead k ∙ ap (λ l. slice_range t i j ++ l) (sym (take-take k 16 (drop j t) few))
 
   -- where the text's bytes stand on a tape, and its next ones are written behind them
   pub put-range : (front tape next : List ℕ) (n m e : ℕ) → j ≤ e → m ≡ n + (e - j)

@@ -50,7 +50,8 @@ returns-in-Some c =
     (sym c.goes_on.ensures ∙ c.if-not-goes_on.false) c.in-Some.ensures in
     record {
       decimal = decimal_at-tail t i (i + n) end whole c.in-Some.ensures;
-      value = λ j le. number_value-tail t j (i + n) end (omega arith) (omega (arith, place.0)) (omega arith) c.in-Some.ensures;
+      value = λ j le.
+          number_value-tail t j (i + n) end (omega arith) (omega (arith, place.0)) (omega arith) c.in-Some.ensures;
       some = omega (arith, place.0);
       within = place.1;
     }
