@@ -217,9 +217,9 @@ fn long_end(bytes: &[u8], at: usize, allow_inf_nan: bool) -> Result<usize, Fault
     }
 }
 
-// Behind a minus, or where none stands.
+/// The byte index behind a minus, or where none stands: that of a number's first digit.
 #[inline(always)]
-fn minus_end(bytes: &[u8], at: usize) -> usize
+pub fn minus_end(bytes: &[u8], at: usize) -> usize
     requires { at < length bytes.now }
     ensures minus { IsMinusTo bytes.now at result }
     ensures place { (at ≤ result) × (result ≤ length bytes.now) }

@@ -6,7 +6,6 @@ ghost use Rattle.std.specs.Prelude.{vec_capacity};
 ghost use Rattle.jiter_scan.specs.Ascii as ascii;
 ghost use Rattle.jiter_scan.specs.Kind.{fault_kind};
 ghost use Rattle.jiter_scan.specs.Number.{minus_of};
-ghost use Rattle.jiter_scan.specs.NumberDecoder.{IsMinusTo};
 ghost use Rattle.jiter_scan.specs.Scan.{scan_stop};
 ghost use Rattle.jiter_steps.specs.Literal.{start_of};
 ghost use Rattle.jiter_steps.specs.Node.{nesting_limit};
@@ -35,6 +34,7 @@ use crate::stacks::{
 use crate::value::JsonValue;
 use jiter_scan::errors::{Fault, FaultKind};
 use jiter_scan::memory::{Refused, make_room, push_small};
+use jiter_scan::number_extent::minus_end;
 use jiter_scan::short_number::{Short, short_at};
 use jiter_scan::simd::scan_string;
 use jiter_scan::text::ascii_text;
@@ -582,16 +582,6 @@ fn signed<'j>(magnitude: u64, negative: bool) -> JsonValue<'j>
     JsonValue::Int(if negative { 0 - number } else { number })
 }
 
-// The place of the first digit of a number, behind its minus.
-#[inline(always)]
-fn digits_begin(bytes: &[u8], at: usize) -> usize
-    requires { at < length bytes.now }
-    ensures minus { IsMinusTo bytes.now at result }
-    ensures within { result ≤ length bytes.now }
-{
-    if bytes[at] == b'-' { at + 1 } else { at }
-}
-
 // A short number goes where it belongs: the place behind it.
 #[inline(always)]
 fn put_short_number<'j>(
@@ -608,7 +598,7 @@ fn put_short_number<'j>(
     ensures put { IfSome result (λ e. IsPutAt bytes.now stacks.old at awaits stacks.new e) }
     ensures same { result ≡ None → stacks.new ≡ stacks.old }
 {
-    let from = digits_begin(bytes, at);
+    let from = minus_end(bytes, at);
     match short_at(bytes, from) {
         Short::Int(magnitude, end) => {
             put_reserved(stacks, awaits, signed(magnitude, from > at));

@@ -10,8 +10,8 @@ use Rattle.jiter_value.proofs.turns.put_short_number.Goals as goal
 
 pub ascii_text-text-requires : goal.ascii_text-text-requires
 ascii_text-text-requires c =
-    IsAscii-decimal c.args.bytes.now c.args.at c.digits_begin-from.result c.in-Float.end
-    c.digits_begin-from.ensures.minus
+    IsAscii-decimal c.args.bytes.now c.args.at c.minus_end-from.result c.in-Float.end
+    c.minus_end-from.ensures.minus
     c.in-Float.ensures.decimal
 
 pub returns-in-Int-clause-put : goal.returns-in-Int-clause-put
@@ -20,8 +20,8 @@ returns-in-Int-clause-put c =
     let t = a.bytes.now in
     let e = c.in-Int.end in
     let m = c.in-Int.magnitude in
-    let from = c.digits_begin-from.result in
-    let minus = c.digits_begin-from.ensures.minus in
+    let from = c.minus_end-from.result in
+    let minus = c.minus_end-from.ensures.minus in
     let found = c.in-Int.ensures in
     let n = c.put_reserved in
     let z = if nat_lt a.at from then minus_of m else pos m in
@@ -36,8 +36,8 @@ returns-in-Float-clause-put c =
     let a = c.args in
     let t = a.bytes.now in
     let e = c.in-Float.end in
-    let from = c.digits_begin-from.result in
-    let minus = c.digits_begin-from.ensures.minus in
+    let from = c.minus_end-from.result in
+    let minus = c.minus_end-from.ensures.minus in
     let found = c.in-Float.ensures in
     let n = c.put_reserved-in-Float in
     let w = slice_range t a.at e in
