@@ -73,19 +73,19 @@ abbrev pub AnswersOwned : Result JsonValue JsonError → Reading Tree → Type 0
 AnswersOwned (Ok v) r = (read : Tree) × (e : ℕ) × (r ≡ done read e) × (view v ≡ owned_tree read)
 AnswersOwned (Err e) r = (e.error_type ≡ OutOfMemory) ⊎ ((stop : ℕ) × (r ≡ fault (kind_of e.error_type) e.index stop))
 
--- the owned value that a text answers may want memory: reading it does, or it holds a text or a part
+-- the owned value that a text answers may want memory: reading it does, or it is read with a borrowed text or a part
 abbrev pub ReadHolds : Reading Tree → Type 0
-ReadHolds (done v e) = HoldsTextOrPart v
+ReadHolds (done v e) = HoldsBorrowedTextOrPart v
 ReadHolds (fault k x stop) = ⊥
 
 abbrev pub OwnedMayGrow : Bool → PartialMode → List ℕ → Type 0
 OwnedMayGrow names mode t = MayGrow t ⊎ ReadHolds (answer_in names mode t)
 
--- What became of an answer: the same value, each text owned, or want of memory at an index, where there was a text or
--- a part to own; the same fault.
+-- What became of an answer: the same value, each text owned, or want of memory at an index, where there was a borrowed
+-- text or a part to own; the same fault.
 abbrev pub IsOwnedAnswer : Result JsonValue JsonError → ℕ → Result JsonValue JsonError → Type 0
 IsOwnedAnswer (Ok v) i (Ok w) = view w ≡ owned_tree (view v)
-IsOwnedAnswer (Ok v) i (Err e) = (e ≡ record { error_type = OutOfMemory; index = i }) × HoldsTextOrPart (view v)
+IsOwnedAnswer (Ok v) i (Err e) = (e ≡ record { error_type = OutOfMemory; index = i }) × HoldsBorrowedTextOrPart (view v)
 IsOwnedAnswer (Err f) i (Ok w) = ⊥
 IsOwnedAnswer (Err f) i (Err e) = e ≡ f
 

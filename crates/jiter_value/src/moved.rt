@@ -23,9 +23,9 @@ impl<'s> JsonValue<'s> {
     }
 }
 
-// A value that owns all its texts, those moved that were owned.
+/// A value that owns all its texts, those moved that were owned.
 #[cycle(move_out)]
-fn move_value(alloc: Global, value: &mut JsonValue<'_>) -> Result<JsonValue<'static>, Refused>
+pub(crate) fn move_value(alloc: Global, value: &mut JsonValue<'_>) -> Result<JsonValue<'static>, Refused>
     ensures value { IfOk result (λ v. view v ≡ owned_tree (view value.old)) }
     ensures memory { OnErr result (HoldsBorrowedTextOrPart (view value.old)) }
 {

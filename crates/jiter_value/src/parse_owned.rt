@@ -16,7 +16,7 @@ ghost use Rattle.jiter_value.specs.Owned.{AnswersOwned, IsOwnedAnswer, OwnedMayG
 ghost use Rattle.jiter_value.specs.Settings.{rules};
 ghost use Rattle.jiter_value.specs.Value.{view, MayGrowAt};
 
-use crate::owned::own_value;
+use crate::moved::move_value;
 use crate::reading::{error_at, read_value};
 use crate::settings::Settings;
 use crate::value::JsonValue;
@@ -100,7 +100,7 @@ pub(crate) fn own_answer(
     ensures { IsOwnedAnswer answer.entry index result }
 {
     match answer {
-        Ok(value) => match own_value(alloc, &value) {
+        Ok(mut value) => match move_value(alloc, &mut value) {
             Ok(owned) => Ok(owned),
             Err(refused) => Err(error_at(ReadError::Memory(refused), index)),
         },
@@ -122,7 +122,7 @@ pub fn read_owned(
         ⊎ ReadHolds (value_at (rules settings) parser.old.bytes.now nesting_limit parser.old.index)) }
 {
     match read_value(alloc, parser, settings) {
-        Ok(value) => match own_value(alloc, &value) {
+        Ok(mut value) => match move_value(alloc, &mut value) {
             Ok(owned) => Ok(owned),
             Err(refused) => Err(ReadError::Memory(refused)),
         },
