@@ -19,23 +19,23 @@ owned_members-of [] = refl
 owned_members-of (m ∷ ms) = ap (member (owned_text m.0) (owned_tree m.1)) (owned_members-of ms)
 
 -- the copy of an array, by the copies of its items
-pub copied-Array : (v w : Vec JsonValue Global) → map view v.items ≡ map view w.items → view (Array v) ≡ view (Array w)
-copied-Array v w h = view_array v ∙ ap (λ ts. array (items_of ts)) h ∙ sym (view_array w)
+pub copied_array : (v w : Vec JsonValue Global) → map view v.items ≡ map view w.items → view (Array v) ≡ view (Array w)
+copied_array v w h = view_array v ∙ ap (λ ts. array (items_of ts)) h ∙ sym (view_array w)
 
-pub copied-Object : (v w : Vec Member Global) → map member_view v.items ≡ map member_view w.items
+pub copied_object : (v w : Vec Member Global) → map member_view v.items ≡ map member_view w.items
     → view (Object v) ≡ view (Object w)
-copied-Object v w h = view_object v ∙ ap (λ ms. object (members_of ms)) h ∙ sym (view_object w)
+copied_object v w h = view_object v ∙ ap (λ ms. object (members_of ms)) h ∙ sym (view_object w)
 
 -- the owned copy of an array, by the owned copies of its items
-pub owned-Array : (v w : Vec JsonValue Global) → map view v.items ≡ map owned_tree (map view w.items)
+pub owned_array : (v w : Vec JsonValue Global) → map view v.items ≡ map owned_tree (map view w.items)
     → view (Array v) ≡ owned_tree (view (Array w))
-owned-Array v w h =
+owned_array v w h =
     view_array v ∙ ap (λ ts. array (items_of ts)) h ∙ ap array (sym (owned_items-of (map view w.items)))
     ∙ ap owned_tree (sym (view_array w))
 
-pub owned-Object : (v w : Vec Member Global) → map member_view v.items ≡ map owned_member (map member_view w.items)
+pub owned_object : (v w : Vec Member Global) → map member_view v.items ≡ map owned_member (map member_view w.items)
     → view (Object v) ≡ owned_tree (view (Object w))
-owned-Object v w h =
+owned_object v w h =
     view_object v ∙ ap (λ ms. object (members_of ms)) h
     ∙ ap object (sym (owned_members-of (map member_view w.items)))
     ∙ ap owned_tree (sym (view_object w))
@@ -65,11 +65,11 @@ where-err : {A E : Type 0} (r : Result A E) (P : Type 0) → P → OnErr r P
 where-err (Ok a) P p = tt
 where-err (Err e) P p = p
 
-pub refused-Array : {A E : Type 0} (P : Text → Type 0) (r : Result A E) (v : Vec JsonValue Global) → 0 < length v.items
+pub refused_array : {A E : Type 0} (P : Text → Type 0) (r : Result A E) (v : Vec JsonValue Global) → 0 < length v.items
     → OnErr r (HoldsSuchOrPart P (view (Array v)))
-refused-Array P r v h = where-err r (HoldsSuchOrPart P (view (Array v))) (rw (view_array v) (array-holds P v.items h))
+refused_array P r v h = where-err r (HoldsSuchOrPart P (view (Array v))) (rw (view_array v) (array-holds P v.items h))
 
-pub refused-Object : {A E : Type 0} (P : Text → Type 0) (r : Result A E) (v : Vec Member Global) → 0 < length v.items
+pub refused_object : {A E : Type 0} (P : Text → Type 0) (r : Result A E) (v : Vec Member Global) → 0 < length v.items
     → OnErr r (HoldsSuchOrPart P (view (Object v)))
-refused-Object P r v h =
+refused_object P r v h =
     where-err r (HoldsSuchOrPart P (view (Object v))) (rw (view_object v) (object-holds P v.items h))

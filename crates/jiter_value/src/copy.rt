@@ -24,6 +24,7 @@ impl<'s> JsonValue<'s> {
 }
 
 #[cycle(copy)]
+#[tactic(auto, using(crate::proofs::Owning::copied_array, crate::proofs::Owning::copied_object))]
 fn copy_value<'s>(alloc: Global, value: &JsonValue<'s>) -> Result<JsonValue<'s>, Refused>
     ensures value { IfOk result (λ v. view v ≡ view value.now) }
     ensures memory { OnErr result (HoldsOwnedTextOrPart (view value.now)) }
@@ -41,9 +42,10 @@ fn copy_value<'s>(alloc: Global, value: &JsonValue<'s>) -> Result<JsonValue<'s>,
 }
 
 #[cycle(copy)]
+#[tactic(auto, using(crate::proofs::Owning::refused_array))]
 fn copy_items<'s>(alloc: Global, items: &JsonArray<'s>) -> Result<JsonArray<'s>, Refused>
     ensures value { IfOk result (λ v. map view v.items ≡ map view items.now.items) }
-    ensures memory { OnErr result (0 < length items.now.items) }
+    ensures memory { OnErr result (HoldsOwnedTextOrPart (view (JsonValue.Array items.now))) }
 {
     let mut copies = with_capacity(alloc, items.len())?;
     for i in 0..items.len() {
@@ -54,9 +56,10 @@ fn copy_items<'s>(alloc: Global, items: &JsonArray<'s>) -> Result<JsonArray<'s>,
 }
 
 #[cycle(copy)]
+#[tactic(auto, using(crate::proofs::Owning::refused_object))]
 fn copy_members<'s>(alloc: Global, members: &JsonObject<'s>) -> Result<JsonObject<'s>, Refused>
     ensures value { IfOk result (λ v. map member_view v.items ≡ map member_view members.now.items) }
-    ensures memory { OnErr result (0 < length members.now.items) }
+    ensures memory { OnErr result (HoldsOwnedTextOrPart (view (JsonValue.Object members.now))) }
 {
     let mut copies = with_capacity(alloc, members.len())?;
     for i in 0..members.len() {

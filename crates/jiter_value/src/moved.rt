@@ -25,7 +25,11 @@ impl<'s> JsonValue<'s> {
 
 /// A value that owns all its texts, those moved that were owned.
 #[cycle(move_out)]
-pub(crate) fn move_value(alloc: Global, value: &mut JsonValue<'_>) -> Result<JsonValue<'static>, Refused>
+#[tactic(auto, using(crate::proofs::Owning::owned_array, crate::proofs::Owning::owned_object))]
+pub(crate) fn move_value(
+    alloc: Global,
+    value: &mut JsonValue<'_>,
+) -> Result<JsonValue<'static>, Refused>
     ensures value { IfOk result (λ v. view v ≡ owned_tree (view value.old)) }
     ensures memory { OnErr result (HoldsBorrowedTextOrPart (view value.old)) }
 {
@@ -42,10 +46,11 @@ pub(crate) fn move_value(alloc: Global, value: &mut JsonValue<'_>) -> Result<Jso
 }
 
 #[cycle(move_out)]
+#[tactic(auto, using(crate::proofs::Owning::refused_array))]
 fn move_items(alloc: Global, items: &mut JsonArray<'_>) -> Result<JsonArray<'static>, Refused>
     ensures value { IfOk result (λ v. map view v.items
         ≡ map owned_tree (map view items.old.items)) }
-    ensures memory { OnErr result (0 < length items.old.items) }
+    ensures memory { OnErr result (HoldsBorrowedTextOrPart (view (JsonValue.Array items.old))) }
 {
     let mut moved = with_capacity(alloc, items.len())?;
     for i in 0..items.len() {
@@ -56,10 +61,11 @@ fn move_items(alloc: Global, items: &mut JsonArray<'_>) -> Result<JsonArray<'sta
 }
 
 #[cycle(move_out)]
+#[tactic(auto, using(crate::proofs::Owning::refused_object))]
 fn move_members(alloc: Global, members: &mut JsonObject<'_>) -> Result<JsonObject<'static>, Refused>
     ensures value { IfOk result (λ v. map member_view v.items
         ≡ map owned_member (map member_view members.old.items)) }
-    ensures memory { OnErr result (0 < length members.old.items) }
+    ensures memory { OnErr result (HoldsBorrowedTextOrPart (view (JsonValue.Object members.old))) }
 {
     let mut moved = with_capacity(alloc, members.len())?;
     for i in 0..members.len() {

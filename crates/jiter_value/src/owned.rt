@@ -25,6 +25,7 @@ impl<'s> JsonValue<'s> {
 
 /// A copy that owns all its texts.
 #[cycle(own)]
+#[tactic(auto, using(crate::proofs::Owning::owned_array, crate::proofs::Owning::owned_object))]
 pub(crate) fn own_value(alloc: Global, value: &JsonValue<'_>) -> Result<JsonValue<'static>, Refused>
     ensures value { IfOk result (λ v. view v ≡ owned_tree (view value.now)) }
     ensures memory { OnErr result (HoldsTextOrPart (view value.now)) }
@@ -42,10 +43,11 @@ pub(crate) fn own_value(alloc: Global, value: &JsonValue<'_>) -> Result<JsonValu
 }
 
 #[cycle(own)]
+#[tactic(auto, using(crate::proofs::Owning::refused_array))]
 fn own_items(alloc: Global, items: &JsonArray<'_>) -> Result<JsonArray<'static>, Refused>
     ensures value { IfOk result (λ v. map view v.items
         ≡ map owned_tree (map view items.now.items)) }
-    ensures memory { OnErr result (0 < length items.now.items) }
+    ensures memory { OnErr result (HoldsTextOrPart (view (JsonValue.Array items.now))) }
 {
     let mut copies = with_capacity(alloc, items.len())?;
     for i in 0..items.len() {
@@ -56,10 +58,11 @@ fn own_items(alloc: Global, items: &JsonArray<'_>) -> Result<JsonArray<'static>,
 }
 
 #[cycle(own)]
+#[tactic(auto, using(crate::proofs::Owning::refused_object))]
 fn own_members(alloc: Global, members: &JsonObject<'_>) -> Result<JsonObject<'static>, Refused>
     ensures value { IfOk result (λ v. map member_view v.items
         ≡ map owned_member (map member_view members.now.items)) }
-    ensures memory { OnErr result (0 < length members.now.items) }
+    ensures memory { OnErr result (HoldsTextOrPart (view (JsonValue.Object members.now))) }
 {
     let mut copies = with_capacity(alloc, members.len())?;
     for i in 0..members.len() {
