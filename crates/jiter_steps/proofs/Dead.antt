@@ -22,10 +22,6 @@ use Rattle.jiter_steps.proofs.Documents.{answer-of}
 use Rattle.jiter_steps.proofs.Instances.{trees-advances}
 
 -- Rules that see what was read.
-refused-seen : {A B : Type 0} (f : A → ℕ → B) (y : Scanned A) → IsRefused y → IsRefused (seen_as f y)
-refused-seen f (taken a e) h = absurd h
-refused-seen f (failed k j) h = tt
-
 same-or-fault : {A : Type 0} (x y : Scanned A) → y ≡ x → SameOrFault x y
 same-or-fault (taken a e) y h = h
 same-or-fault (failed k j) y h = subst IsRefused (sym h) tt
@@ -34,7 +30,8 @@ module _ (t u : List ℕ) (m : ℕ) (same : SameBefore t u m) where
   seen-same : {A B : Type 0} (f : A → ℕ → B) (i : ℕ) (x y : Scanned A) → SameScalar t m i x y
       → SameScalar t m i (seen_as f x) (seen_as f y)
   seen-same f i (taken a e) y h = λ shown. let at = h shown in (at.0, ap (seen_as f) at.1)
-  seen-same f i (failed k j) y h = λ shown. let at = h shown in (at.0, refused-seen f y at.1)
+  seen-same f i (failed k j) (taken b e) h = λ shown. absurd (h shown).1
+  seen-same f i (failed k j) (failed l x) h = h
 
   module _ (names : Bool) where
     literal-kept : (l : Literal) (i : ℕ) → SameScalar t m i (literal_at t l i) (literal_at u l i)

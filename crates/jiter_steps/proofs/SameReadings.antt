@@ -24,7 +24,7 @@ use Rattle.jiter_steps.proofs.SameFront.{SameBefore, index-same}
 use Rattle.jiter_steps.proofs.SameRuns.{IsOfByte, within-too, past_blanks-same}
 use Rattle.jiter_steps.proofs.SameNumbers.{Shown}
 use Rattle.jiter_steps.proofs.SameSteps.{ShownStep, SameStep, first-same, next-same, object_colon-same}
-use Rattle.jiter_steps.proofs.SameStrings.{IsRefused, SameScalar}
+use Rattle.jiter_steps.proofs.SameStrings.{SameScalar}
 use Rattle.jiter_steps.proofs.Blanks.{past_blanks-after}
 use Rattle.jiter_steps.proofs.Bounds.{Ahead, ExtentAhead, Within, object_colon-ahead}
 use Rattle.jiter_steps.proofs.Values.{Advances, AllWithin, Goes, parts-fault, parts-part, array_of-goes, object_of-goes}
@@ -76,22 +76,6 @@ module _ (t u : List ℕ) (m : ℕ) (same : SameBefore t u m) where
     unforgiven : (close : ℕ → A) (k : Kind) (i stop : ℕ) → if_forgiven r close k i stop ≡ fault k i stop
     unforgiven close k i stop = ap (λ b. cond b (done (close stop) stop) (fault k i stop)) (strict k)
 
-    follow-stays : (i : ℕ) (f g : ℕ → Reading A) (close shut : ℕ → A) (s z : Step) → ((e : ℕ) → shut e ≡ close e)
-        → Ahead t i s → (ShownStep m s → (i < m) × (i < length t) × (z ≡ s))
-        → ((j : ℕ) → j < length t → Stays j (f j) (g j)) → StaysAhead i (follow r f close s) (follow r g shut z)
-    follow-stays i f g close shut (more j) z built ahead here all = λ shown.
-        let rest = all j ahead.1 shown in
-        let at = here rest.0 in
-        (at.0, at.1, subst (λ z. Meets (f j) (follow r g shut z)) (sym at.2) rest.1)
-    follow-stays i f g close shut (closed e) z built ahead here all = λ shown.
-        let at = here shown.0 in
-        (at.0, at.1, ap (follow r g shut) at.2 ∙ ap (λ a. done a e) (built e))
-    follow-stays i f g close shut (stuck k j) z built ahead here all =
-        subst (λ x. StaysAhead i x (follow r g shut z)) (sym (unforgiven close k j j))
-        (λ shown.
-        let at = here shown in
-        (at.0, at.1, subst IsFault (sym (ap (follow r g shut) at.2 ∙ unforgiven shut k j j)) tt))
-
     -- containers
     module _ {P : Type 0} (c d : Container P A) (goes : Goes c t) (goes_too : Goes d u) (keeps : Keeps c d) where
       abbrev PartsToo : List P → ℕ → Reading A
@@ -110,9 +94,24 @@ module _ (t u : List ℕ) (m : ℕ) (same : SameBefore t u m) where
           → (ShownStep m s → (i < m) × (i < length t) × (z ≡ s))
           → StaysAhead i (follow r (go parts) (λ e. c.build e parts) s)
           (follow r (PartsToo parts) (λ e. d.build e parts) z)
-      next-stays go parts i s z all ahead here =
-          follow-stays i (go parts) (PartsToo parts) (λ e. c.build e parts) (λ e. d.build e parts) s z
-          (λ e. keeps.build e parts) ahead here all
+      next-stays go parts i s z all ahead here = by s ahead here where
+        other : Step → Reading A
+        other s = follow r (PartsToo parts) (λ e. d.build e parts) s
+
+        by : (s : Step) → Ahead t i s → (ShownStep m s → (i < m) × (i < length t) × (z ≡ s))
+            → StaysAhead i (follow r (go parts) (λ e. c.build e parts) s) (other z)
+        by (more j) ahead here = λ shown.
+            let rest = all j ahead.1 shown in
+            let at = here rest.0 in
+            (at.0, at.1, subst (λ z. Meets (go parts j) (other z)) (sym at.2) rest.1)
+        by (closed e) ahead here = λ shown.
+            let at = here shown.0 in
+            (at.0, at.1, ap other at.2 ∙ ap (λ a. done a e) (keeps.build e parts))
+        by (stuck k j) ahead here =
+            subst (λ x. StaysAhead i x (other z)) (sym (unforgiven (λ e. c.build e parts) k j j))
+            (λ shown.
+            let at = here shown in
+            (at.0, at.1, subst IsFault (sym (ap other at.2 ∙ unforgiven (λ e. d.build e parts) k j j)) tt))
 
       behind_part-stays : (go : List P → ℕ → Reading A)
           → ((parts : List P) (j : ℕ) → j < length t → Stays j (go parts j) (PartsToo parts j))
@@ -147,27 +146,17 @@ module _ (t u : List ℕ) (m : ℕ) (same : SameBefore t u m) where
           (omega (arith, s.0), s.2)
 
     -- scalars
-    refused-fault : {B : Type 0} (i : ℕ) (y : Scanned B) → IsRefused y → IsFault (scalar_at i y)
-    refused-fault i (taken a e) h = absurd h
-    refused-fault i (failed k j) h = tt
-
     scalar-stays : {B : Type 0} (i : ℕ) (x y : Scanned B) → SameScalar t m i x y
         → Stays i (scalar_at i x) (scalar_at i y)
     scalar-stays i (taken a e) y h shown = let at = h shown in (at.0, ap (scalar_at i) at.1)
-    scalar-stays i (failed k j) y h shown = let at = h shown in (at.0, refused-fault i y at.1)
+    scalar-stays i (failed k j) (taken b e) h shown = absurd (h shown).1
+    scalar-stays i (failed k j) (failed l x) h shown = h shown
 
     -- members
-    keyed-shown : (key : K) (x : Reading A) → ShownReading t m (with_key key x) → ShownReading t m x
-    keyed-shown key (done a e) h = h
-    keyed-shown key (fault k j stop) h = h
-
-    keyed-fault : (key : K) (y : Reading A) → IsFault y → IsFault (with_key key y)
-    keyed-fault key (done a e) h = h
-    keyed-fault key (fault k j stop) h = h
-
-    keyed-meets : (key : K) (x y : Reading A) → Meets x y → Meets (with_key key x) (with_key key y)
-    keyed-meets key (done a e) y h = ap (with_key key) h
-    keyed-meets key (fault k j stop) y h = keyed-fault key y h
+    keyed-stays : (key : K) (i : ℕ) (x y : Reading A) → Stays i x y → Stays i (with_key key x) (with_key key y)
+    keyed-stays key i (done a e) y h = λ shown. let at = h shown in (at.0, ap (with_key key) at.1)
+    keyed-stays key i (fault k j stop) (done b d) h = λ shown. absurd (h shown).1
+    keyed-stays key i (fault k j stop) (fault l x y) h = h
 
     module _ (inner inner_too : ℕ → Reading A) (all : (i : ℕ) → i < length t → Stays i (inner i) (inner_too i)) where
       colon-stays : (key : K) (e : ℕ) (x y : Extent) → ExtentAhead t e 0 x
@@ -175,21 +164,17 @@ module _ (t u : List ℕ) (m : ℕ) (same : SameBefore t u m) where
           → StaysAhead e (behind_colon key inner x) (behind_colon key inner_too y)
       colon-stays key e (taken w j) y ahead here = λ shown.
           let lt : j < length t = omega (arith, ahead.1) in
-          let value = all j lt (keyed-shown key (inner j) shown) in
+          let value = keyed-stays key j (inner j) (inner_too j) (all j lt) shown in
           let at = here (value.0, lt) in
-          let meets = keyed-meets key (inner j) (inner_too j) value.1 in
-          (at.0, at.1, subst (λ y. Meets (with_key key (inner j)) (behind_colon key inner_too y)) (sym at.2) meets)
+          (at.0, at.1, subst (λ y. Meets (with_key key (inner j)) (behind_colon key inner_too y)) (sym at.2) value.1)
       colon-stays key e (failed k j) y ahead here = λ shown.
           let at = here shown in
           (at.0, at.1, subst (λ y. IsFault (behind_colon key inner_too y)) (sym at.2) tt)
 
-      refused-key : (i : ℕ) (y : Scanned K) → IsRefused y → IsFault (behind_key inner_too u i y)
-      refused-key i (taken a e) h = absurd h
-      refused-key i (failed k j) h = tt
-
       key-stays : (i : ℕ) (x y : Scanned K) → ScalarWithin t i x → SameScalar t m i x y
           → Stays i (behind_key inner t i x) (behind_key inner_too u i y)
-      key-stays i (failed k j) y within here = λ shown. let at = here shown in (at.0, refused-key i y at.1)
+      key-stays i (failed k j) (taken key e) within here = λ shown. absurd (here shown).1
+      key-stays i (failed k j) (failed l x) within here = here
       key-stays i (taken key e) y within here = λ shown.
           let x = object_colon t e in
           let z = object_colon u e in
@@ -253,23 +238,17 @@ module _ (t u : List ℕ) (m : ℕ) (same : SameBefore t u m) where
             let start = ap start_of (sym (index-same t u m same i v.0 lt)) in
             (v.0, subst (λ s. Meets (value_with r inner t i (here t)) (value_with r inner_too u i s)) start v.1)
 
-      inside-within : (room : ℕ) → AllWithin t (inside_at r t room)
-      inside-within = inside_at-within r t good
-
-      inside-within_too : (room : ℕ) → AllWithin u (inside_at r u room)
-      inside-within_too = inside_at-within r u good_too
-
       inside-stays : (room i : ℕ) → i < length t → Stays i (inside_at r t room i) (inside_at r u room i)
       unfolding inside_at
       inside-stays zero i lt = λ shown. (shown.0, tt)
       inside-stays (suc room) i lt =
-          value-stays (inside_at r t room) (inside_at r u room) (inside-within room) (inside-within_too room)
-          (inside-stays room) i lt
+          value-stays (inside_at r t room) (inside_at r u room) (inside_at-within r t good room)
+          (inside_at-within r u good_too room) (inside-stays room) i lt
 
       value_at-stays : (room i : ℕ) → i < length t → Stays i (value_at r t room i) (value_at r u room i)
       value_at-stays room =
-          value-stays (inside_at r t room) (inside_at r u room) (inside-within room) (inside-within_too room)
-          (inside-stays room)
+          value-stays (inside_at r t room) (inside_at r u room) (inside_at-within r t good room)
+          (inside_at-within r u good_too room) (inside-stays room)
 
       -- whole texts
       front-stays : (i : ℕ) (o : Option ℕ) → past_blanks t 0 ≡ i → slice_get t i ≡ o

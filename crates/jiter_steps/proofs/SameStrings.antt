@@ -27,19 +27,16 @@ use Rattle.jiter_steps.proofs.Places.{Explains, place_at-explains}
 -- a part or a quote that ends before m, or a fault of a place there
 abbrev ShownStop : ℕ → Stop → Type 0
 ShownStop m (closed e) = e < m
-ShownStop m unclosed = ⊥
-ShownStop m cut = ⊥
 ShownStop m (wrong k j) = j < m
+ShownStop m s = ⊥
 
 abbrev ShownFound : ℕ → Place → Type 0
 ShownFound m (part bytes owned e) = e < m
 ShownFound m (over s) = ShownStop m s
 
 abbrev IsWrong : Stop → Type 0
-IsWrong (closed e) = ⊥
-IsWrong unclosed = ⊥
-IsWrong cut = ⊥
 IsWrong (wrong k j) = Unit {0}
+IsWrong s = ⊥
 
 -- the same is place_by; or, where a fault is place_by, that the text ends within the escape
 abbrev Finds : Place → Place → Type 0
@@ -268,10 +265,8 @@ module _ (t u : List ℕ) (m : ℕ) (same : SameBefore t u m) where
   wrong-ends i b d w (inl e) = subst (λ (d : Body). IsRefused (text_in_form whole u i d.bytes d.owned d.stop)) (sym e)
       (by b.stop w) where
         by : (s : Stop) → IsWrong s → IsRefused (text_in_form whole u i b.bytes b.owned s)
-        by (closed e) w = absurd w
-        by unclosed w = absurd w
-        by cut w = absurd w
         by (wrong k j) w = tt
+        by s w = absurd w
 
   -- a string of this body, if it is UTF-8
   abbrev if_valid : ℕ → Body → ℕ → Bool → Scanned Text
