@@ -45,7 +45,8 @@ other c d none h = by (c == d) refl where
   by false e = refl
 
 begins-no_blank : (c : ℕ) → start_of c ≢ start.Nothing → is_blank c ≡ false
-begins-no_blank c h = grind (arith, nat_tests, other c 32 refl h, other c 9 refl h, other c 10 refl h, other c 13 refl h)
+begins-no_blank c h =
+    grind (arith, nat_tests, other c 32 refl h, other c 9 refl h, other c 10 refl h, other c 13 refl h)
 
 -- a node begins a value
 node-begins : (n : Node) → start_is n ≢ start.Nothing

@@ -48,20 +48,13 @@ pub record BeginsValue (t : List ℕ) (i : ℕ) (s : Start) : Type 0 where
   pub no_blank : is_blank byte ≡ false
   pub no_closer : (byte == 93) ≡ false
 
-number-starts : (c : ℕ) → begins_number c ≡ true → start_of c ≡ start.Number
-number-starts c e = grind (arith, nat_tests, e)
-
-number-no_blank : (c : ℕ) → begins_number c ≡ true → is_blank c ≡ false
-number-no_blank c e = grind (arith, nat_tests, e)
-
-number-no_closer : (c : ℕ) → begins_number c ≡ true → (c == 93) ≡ false
-number-no_closer c e = grind (arith, nat_tests, e)
+-- the byte that begins a number
+number-byte : (c : ℕ) → begins_number c ≡ true
+    → (start_of c ≡ start.Number) × (is_blank c ≡ false) × ((c == 93) ≡ false)
+number-byte c e = (grind (arith, nat_tests, e), grind (arith, nat_tests, e), grind (arith, nat_tests, e))
 
 blank-ends : (c : ℕ) → IsBlankByte c → continues_number c ≡ false
-blank-ends c (inl e) = ap continues_number e
-blank-ends c (inr (inl e)) = ap continues_number e
-blank-ends c (inr (inr (inl e))) = ap continues_number e
-blank-ends c (inr (inr (inr e))) = ap continues_number e
+blank-ends c h = grind (arith, nat_tests, h)
 
 slice-empty : (t : List ℕ) (b e : ℕ) → e ≡ b → slice_range t b e ≡ []
 slice-empty t b e h = let none : e - b ≡ 0 = omega arith in ap (λ k. take k (drop b t)) none
@@ -145,14 +138,14 @@ module _ (names : Bool) (t : List ℕ) where
   number-begins : (b e : ℕ) → SpellsNumber names t b e → BeginsValue t b start.Number
   number-begins b e h =
       let lt = number-ahead b e h (cases_eq b e) in
-      let first = laws.number-begins (slice_index t b) (slice_range t (b + 1) e)
-      (subst (IsNumberText names) (slice-first t b e lt h.within) h.text) in
+      let first = number-byte (slice_index t b) (laws.number-begins (slice_index t b) (slice_range t (b + 1) e)
+      (subst (IsNumberText names) (slice-first t b e lt h.within) h.text)) in
       record {
         byte = slice_index t b;
         here = slice_get-get_or t b 0 (omega (arith, h.within));
-        starts = number-starts (slice_index t b) first;
-        no_blank = number-no_blank (slice_index t b) first;
-        no_closer = number-no_closer (slice_index t b) first;
+        starts = first.0;
+        no_blank = first.1;
+        no_closer = first.2;
       }
 
   pub begins-value : (n : Node) → Spells names t n → BeginsValue t (begin n) (start_is n)
@@ -347,9 +340,8 @@ module _ (names : Bool) (t : List ℕ) where
       order-within room (λ m. m.1) (members_list ms) (b + 1) e (members-order room ms (b + 1) e h.1 (omega arith))
 
   word-ahead : (l : Literal) (b e : ℕ) → Stands t b e (word_of l) → b < e
-  word-ahead literal.Null b e h = let after = stands-length t b e (word_of literal.Null) h in omega arith
-  word-ahead literal.True b e h = let after = stands-length t b e (word_of literal.True) h in omega arith
-  word-ahead literal.False b e h = let after = stands-length t b e (word_of literal.False) h in omega arith
+  word-ahead literal.Null b e h = omega (arith, stands-length t b e (word_of literal.Null) h)
+  word-ahead l b e h = omega (arith, stands-length t b e (word_of l) h)
 
   ahead : (room : ℕ) → Ahead room
   ahead zero n h d = absurd (omega arith)

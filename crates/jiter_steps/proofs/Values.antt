@@ -39,7 +39,7 @@ module _ {K A : Type 0} (r : Rules K A) (t : List ℕ) where
   if_forgiven-within : (b : ℕ) (close : ℕ → A) (k : Kind) (x stop : ℕ) → b < stop → stop ≤ length t → FaultAt t k x
       → Within t b (if_forgiven r close k x stop)
   if_forgiven-within b close k x stop lt le at =
-      either (Within t b) (r.forgives k) (done (close stop) stop) (fault k x stop) (lt, le) (omega arith, le, at)
+      either (Within t b) (r.forgives k) _ _ (lt, le) (omega arith, le, at)
 
   follow-within : (b e : ℕ) (next : ℕ → Reading A) (close : ℕ → A) (s : Step) → b < e → Ahead t e s
       → ((j : ℕ) → e ≤ j → j < length t → Within t b (next j)) → Within t b (follow r next close s)
