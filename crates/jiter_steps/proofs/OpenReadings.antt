@@ -67,8 +67,7 @@ module _ (t : List ℕ) (At : ℕ → Type 0) where
       → LiveIs At (text_in_form whole t i bs o s)
   text_in_form-live i bs o (wrong k j) w = λ live. absurd (false≢true (sym (place-dead k w.2) ∙ live))
   text_in_form-live i bs o (closed e) w =
-      either (LiveIs At) (utf8_valid_len bs == length bs) (taken (record { owned = o; bytes = bs }) e)
-      (failed invalid_code_point (i + utf8_valid_len bs)) tt no_live
+      either (LiveIs At) (utf8_valid_len bs == length bs) _ _ tt no_live
   text_in_form-live i bs o unclosed w = no_live
   text_in_form-live i bs o cut w = no_live
 
@@ -79,8 +78,7 @@ module _ (t : List ℕ) (At : ℕ → Type 0) where
 
   colon-live : (j : ℕ) (o : Option ℕ) → LiveIs At (colon j o)
   colon-live j None = no_live
-  colon-live j (Some c) =
-      either (LiveIs At) (c == 58) (taken tt (j + 1)) (failed expected_colon j) tt no_live
+  colon-live j (Some c) = either (LiveIs At) (c == 58) _ _ tt no_live
 
   value_first-live : (j : ℕ) (o : Option ℕ) → LiveIs At (value_first j o)
   value_first-live j None = no_live

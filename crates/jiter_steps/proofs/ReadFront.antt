@@ -19,11 +19,11 @@ use Rattle.jiter_steps.specs.declared.parse.Shape.TheVariants as shape
 use Rattle.jiter_steps.specs.declared.parse.Literal.{Literal}
 use Rattle.jiter_steps.specs.declared.parse.Start.{Start}
 use Rattle.jiter_steps.proofs.SpelledParts.{start_is, node-starts, begins-value, nodes_list, members_list, IsItem}
-use Rattle.jiter_steps.proofs.SpelledParts.{IsMember, items-parts, members-parts, behind-ahead, key-ahead, node-ahead}
+use Rattle.jiter_steps.proofs.SpelledParts.{IsMember, items-parts, members-parts, key-ahead, node-ahead}
 use Rattle.jiter_steps.proofs.CutParts.{ReadTo, CutParts, ReadsFront, cuts, colon-cut, value_first-cut, container-whole}
 use Rattle.jiter_steps.proofs.CutParts.{parts-cut}
 use Rattle.jiter_steps.proofs.Front.{front-get, front-index, front-blank, front-behind}
-use Rattle.jiter_steps.proofs.Parts.{Parts}
+use Rattle.jiter_steps.proofs.Parts.{behind-ahead, Parts}
 use Rattle.jiter_steps.proofs.RowSteps.{PartAt, delimits, object_colon-taken}
 use Rattle.jiter_steps.proofs.ScalarLaws.{EndsNumber}
 use Rattle.jiter_steps.proofs.Values.{Advances, AllWithin, Goes, array_of-goes, object_of-goes, inside_at-within}
@@ -155,7 +155,7 @@ module _ {K A : Type 0} (r : Rules K A) (names : Bool) (t : List ℕ) (k : ℕ) 
       value-read : (m : Key × Node) → SpellsKey t m.0 (begin m.1) → Spells names t m.1 → begin m.1 < k
           → MemberAt m.0.begin ≡ with_key (see_key m.0) (inner (begin m.1))
       value-read m h s lt =
-          let order = behind-ahead names t m.0.end 58 h.colon h.behind in
+          let order = behind-ahead t m.0.end 58 h.colon h.behind in
           let key = rules.key m.0 h.string (omega (arith, h.blanks.ordered)) in
           let colon = colon-read m.0 m.1 h s lt in
           member-value r u inner m.0.begin m.0.end (begin m.1) (see_key m.0) (inner (begin m.1)) key colon refl
@@ -199,7 +199,7 @@ module _ {K A : Type 0} (r : Rules K A) (names : Bool) (t : List ℕ) (k : ℕ) 
             by gt (inl past) place =
                 let begun : m.0.begin < k = omega (arith, is.begins) in
                 let key = rules.key-cut m.0 is.key.string begun past in
-                let behind = behind-ahead names t m.0.end 58 is.key.colon is.key.behind in
+                let behind = behind-ahead t m.0.end 58 is.key.colon is.key.behind in
                 inl (record {
                   kind = eof_string;
                   stop = m.0.begin;
@@ -247,11 +247,8 @@ module _ {K A : Type 0} (r : Rules K A) (names : Bool) (t : List ℕ) (k : ℕ) 
       )
 
       -- a value, by what it begins with
-      abbrev ValueWith : ℕ → Start → Reading A
-      ValueWith b s = value_with r inner u b s
-
       value-reads : InnerReads → (n : Node) → Spells names t n → nesting n ≤ room → EndsNumber t (end n) → begin n < k
-          → Reads n (ValueWith (begin n) (start_is n))
+          → Reads n (value_with r inner u (begin n) (start_is n))
       value-reads all (grammar.literal l b e) h d q lt = rules.literal l b e h lt
       value-reads all (grammar.number b e) h d q lt = rules.number b e h q lt
       value-reads all (grammar.string ps b e) h d q lt = rules.text ps b e h lt

@@ -27,6 +27,7 @@ use Rattle.jiter_steps.proofs.SameSteps.{ShownStep, SameStep, first-same, next-s
 use Rattle.jiter_steps.proofs.SameStrings.{SameScalar}
 use Rattle.jiter_steps.proofs.Blanks.{past_blanks-after}
 use Rattle.jiter_steps.proofs.Bounds.{Ahead, ExtentAhead, Within, object_colon-ahead}
+use Rattle.jiter_steps.proofs.Parts.{unforgiven}
 use Rattle.jiter_steps.proofs.Values.{Advances, AllWithin, Goes, parts-fault, parts-part, array_of-goes, object_of-goes}
 use Rattle.jiter_steps.proofs.Values.{inside_at-within}
 
@@ -73,9 +74,6 @@ module _ (t u : List ℕ) (m : ℕ) (same : SameBefore t u m) where
     pub build : (e : ℕ) (ps : List P) → d.build e ps ≡ c.build e ps
 
   module _ {K A : Type 0} (r : Rules K A) (strict : (k : Kind) → r.forgives k ≡ false) where
-    unforgiven : (close : ℕ → A) (k : Kind) (i stop : ℕ) → if_forgiven r close k i stop ≡ fault k i stop
-    unforgiven close k i stop = ap (λ b. cond b (done (close stop) stop) (fault k i stop)) (strict k)
-
     -- containers
     module _ {P : Type 0} (c d : Container P A) (goes : Goes c t) (goes_too : Goes d u) (keeps : Keeps c d) where
       abbrev PartsToo : List P → ℕ → Reading A
@@ -86,7 +84,7 @@ module _ (t u : List ℕ) (m : ℕ) (same : SameBefore t u m) where
       fault-too parts i lt (done p e) is h = absurd h
       fault-too parts i lt (fault k j stop) is h =
           let close = λ (e : ℕ). d.build e parts in
-          subst IsFault (sym (parts-fault r u d goes_too i j stop parts k lt is ∙ unforgiven close k j stop)) tt
+          subst IsFault (sym (parts-fault r u d goes_too i j stop parts k lt is ∙ unforgiven r strict close k j stop)) tt
 
       -- behind these parts
       next-stays : (go : List P → ℕ → Reading A) (parts : List P) (i : ℕ) (s z : Step)
@@ -108,17 +106,17 @@ module _ (t u : List ℕ) (m : ℕ) (same : SameBefore t u m) where
             let at = here shown.0 in
             (at.0, at.1, ap other at.2 ∙ ap (λ a. done a e) (keeps.build e parts))
         by (stuck k j) ahead here =
-            subst (λ x. StaysAhead i x (other z)) (sym (unforgiven (λ e. c.build e parts) k j j))
+            subst (λ x. StaysAhead i x (other z)) (sym (unforgiven r strict (λ e. c.build e parts) k j j))
             (λ shown.
             let at = here shown in
-            (at.0, at.1, subst IsFault (sym (ap other at.2 ∙ unforgiven (λ e. d.build e parts) k j j)) tt))
+            (at.0, at.1, subst IsFault (sym (ap other at.2 ∙ unforgiven r strict (λ e. d.build e parts) k j j)) tt))
 
       behind_part-stays : (go : List P → ℕ → Reading A)
           → ((parts : List P) (j : ℕ) → j < length t → Stays j (go parts j) (PartsToo parts j))
           → (parts : List P) (i : ℕ) → i < length t → (x : Reading P) → Within t i x → Stays i x (d.part i)
           → Stays i (behind_part r c t go parts x) (PartsToo parts i)
       behind_part-stays go all parts i lt (fault k j stop) within stays =
-          subst (λ x. Stays i x (PartsToo parts i)) (sym (unforgiven (λ e. c.build e parts) k j stop))
+          subst (λ x. Stays i x (PartsToo parts i)) (sym (unforgiven r strict (λ e. c.build e parts) k j stop))
           (λ shown.
           let at = stays shown in
           (at.0, fault-too parts i (within-too t u m same i at.0 lt) (d.part i) refl at.1))
