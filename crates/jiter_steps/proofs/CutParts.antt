@@ -91,7 +91,7 @@ module _ (t : List ℕ) (k : ℕ) (within : k ≤ length t) where
       pub ahead : (j : ℕ) (p : P) (e : ℕ) → IsPart j p e → j < e
       pub reads : (j : ℕ) (p : P) (e : ℕ) → IsPart j p e → j < k → ReadTo seen IsCut p e (c.part j)
 
-    module _ (closer : ℕ) (Begins : List ℕ → ℕ → Type 0) (IsPart : ℕ → P → ℕ → Type 0)
+    module _ {closer : ℕ} {Begins : List ℕ → ℕ → Type 0} {IsPart : ℕ → P → ℕ → Type 0}
         (front : ReadsFront closer Begins IsPart) where
       abbrev More : List P → ℕ → ℕ → Type 0
       More ps i e = MoreParts t closer (Begins t) IsPart ps i e

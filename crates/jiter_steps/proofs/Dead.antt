@@ -1,8 +1,8 @@
 -- Where a fault of a byte is answered, no document begins with the bytes up to its index.
-use Rattle.std.proofs.Common.{◌≡◌, ◌≢◌, ℕ, ◌+◌, ◌<◌, Bool, false, List, ◌++◌, length, take, refl, sym, ap, ◌∙◌, subst}
-use Rattle.std.proofs.Common.{arith, length-append}
+use Rattle.std.proofs.Common.{◌≡◌, ◌≢◌, ℕ, ◌+◌, Bool, false, List, ◌++◌, take, refl, sym, ap, ◌∙◌, subst}
+use Rattle.std.proofs.Common.{arith}
 use Rattle.std.specs.Prelude.{Some}
-use Rattle.std.proofs.lemmas.List.{get_or-take, get_or_append_left, length-take}
+use Rattle.std.proofs.lemmas.List.{get_or-take, length-take}
 use Rattle.std.proofs.lemmas.Option.{slice_get_within, slice_get-get_or, get_or_from_slice_get}
 use Rattle.jiter_scan.specs.Kind.{Kind, is_end_kind, invalid_code_point}
 use Rattle.jiter_scan.specs.NumberReading.{number_at}
@@ -10,10 +10,8 @@ use Rattle.jiter_scan.specs.Scanned.{Scanned, taken, failed}
 use Rattle.jiter_steps.specs.Answer.{seen_as, whole_trees, nothing_forgiven, answer}
 use Rattle.jiter_steps.specs.FirstFault.{BeginsNoDocument}
 use Rattle.jiter_steps.specs.Literal.{literal_at, word_of}
-use Rattle.jiter_steps.specs.Node.{Node, IsDocument}
 use Rattle.jiter_steps.specs.Read.{fault}
 use Rattle.jiter_steps.specs.StringReading.{whole, string_at}
-use Rattle.jiter_steps.specs.declared.parse.Literal.{Literal}
 use Rattle.jiter_steps.proofs.Completions.{longer-same}
 use Rattle.jiter_steps.proofs.SameFront.{SameBefore}
 use Rattle.jiter_steps.proofs.SameNumbers.{Same, word-same, number-same}

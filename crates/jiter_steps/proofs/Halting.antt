@@ -2,7 +2,7 @@
 use Rattle.std.proofs.Common.{◌≡◌, ◌≢◌, ℕ, ◌<◌, ◌≤◌, ◌==◌, Bool, true, false, List, length, take, refl, ap}
 use Rattle.std.proofs.Common.{◌∙◌, subst, sym, arith, IfSome}
 use Rattle.std.specs.Prelude.{slice_get, Option, Some, None}
-use Rattle.std.proofs.lemmas.Bool.{eqb-true}
+use Rattle.std.proofs.lemmas.Bool.{ne_eqb}
 use Rattle.std.proofs.lemmas.Bool.Decides.{nat_tests}
 use Rattle.std.proofs.lemmas.Option.{slice_get_within}
 use Rattle.jiter_scan.specs.Kind.{Kind, is_end_kind, is_forgiven, expected_list_comma_or_end}
@@ -39,10 +39,7 @@ end-forgiven kind h = h
 
 -- a byte that begins no value is another
 other : (c d : ℕ) → start_of d ≡ start.Nothing → start_of c ≢ start.Nothing → (c == d) ≡ false
-other c d none h = by (c == d) refl where
-  by : (b : Bool) → (c == d) ≡ b → b ≡ false
-  by true e = absurd (h (ap start_of (eqb-true c d e) ∙ none))
-  by false e = refl
+other c d none h = ne_eqb c d (λ e. h (ap start_of e ∙ none))
 
 begins-no_blank : (c : ℕ) → start_of c ≢ start.Nothing → is_blank c ≡ false
 begins-no_blank c h =

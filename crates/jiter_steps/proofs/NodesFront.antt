@@ -1,6 +1,6 @@
 -- The front of a text, read as nodes: what ends before the cut is read as its node, and where a value is cut the input
 -- ends too early.
-use Rattle.std.proofs.Common.{◌≡◌, inl, inr, ℕ, ◌+◌, ◌<◌, ◌≤◌, Bool, true, false, cond, List, [], ◌∷◌, ◌++◌, length}
+use Rattle.std.proofs.Common.{◌≡◌, inl, inr, ℕ, ◌+◌, ◌<◌, ◌≤◌, Bool, true, false, List, [], ◌∷◌, ◌++◌, length}
 use Rattle.std.proofs.Common.{take, refl, sym, ap, ◌∙◌, subst, arith}
 use Rattle.std.specs.Prelude.{slice_range, Option}
 use Rattle.std.specs.Str.{chars}
@@ -11,13 +11,14 @@ use Rattle.jiter_scan.specs.NumberReading.{number_at}
 use Rattle.jiter_scan.specs.Scanned.{Scanned, taken, failed}
 use Rattle.jiter_scan.specs.Stands.{Stands}
 use Rattle.jiter_scan.specs.Word.{Extent}
+use Rattle.jiter_scan.proofs.Choices.{if-false}
 use Rattle.jiter_steps.specs.Answer.{seen_as}
 use Rattle.jiter_steps.specs.Literal.{word_of, literal_at}
 use Rattle.jiter_steps.specs.Node as grammar
 use Rattle.jiter_steps.specs.Node.{Key, Node, begin, end, SpellsNumber, Spells, nesting, IsContainer}
 use Rattle.jiter_steps.specs.Piece.{Piece, SpellsString}
 use Rattle.jiter_steps.specs.Read.{Reading, done, fault, Rules, Container, scalar_at, with_key, if_forgiven, follow}
-use Rattle.jiter_steps.specs.Read.{parts_at, container_at, array_of, object_of, value_at}
+use Rattle.jiter_steps.specs.Read.{parts_at, array_of, object_of, value_at}
 use Rattle.jiter_steps.specs.Step.{Step, stuck, step, array_first, object_first}
 use Rattle.jiter_steps.specs.StringReading.{whole, string_at}
 use Rattle.jiter_steps.specs.Tree.{Text}
@@ -30,7 +31,6 @@ use Rattle.jiter_steps.proofs.Instances.{nodes-advances}
 use Rattle.jiter_steps.proofs.NodeRules.{nodes, nodes_of, node_members_of, key_of}
 use Rattle.jiter_steps.proofs.NumberCut.{CutAt, number_at-cut}
 use Rattle.jiter_steps.proofs.NumberCutLaws.{number_at-before}
-use Rattle.jiter_steps.proofs.Parts.{unforgiven}
 use Rattle.jiter_steps.proofs.Pieces.{pieces_from}
 use Rattle.jiter_steps.proofs.ReadFront.{see_member, IsCutMember, CutRules, value_at-front}
 use Rattle.jiter_steps.proofs.ScalarLaws.{ScalarLaws, scalar-laws, EndsNumber}
@@ -65,7 +65,7 @@ module _ (t : List ℕ) (k : ℕ) (within : k ≤ length t) where
 
     fault-early : (close : ℕ → A) (kind : Kind) (i stop : ℕ) → is_end_kind kind ≡ true
         → EndsEarly (if_forgiven r close kind i stop)
-    fault-early close kind i stop early = subst EndsEarly (sym (unforgiven r strict close kind i stop)) early
+    fault-early close kind i stop early = subst EndsEarly (sym (if-false _ (done (close stop) stop) _ (strict kind))) early
 
     input-early : (qs : List Q) (s : Step) → EndsInput t k within s → EndsEarly (Behind qs s)
     input-early qs s h = subst (λ s. EndsEarly (Behind qs s)) (sym h.1) (fault-early (λ e. c.build e qs) h.0 k k h.2)

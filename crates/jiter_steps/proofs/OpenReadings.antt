@@ -1,12 +1,12 @@
 -- A value whose reading meets a fault that can go on can be ended behind the bytes before it.
 use Rattle.std.proofs.Common.{◌≡◌, inl, inr, ℕ, zero, suc, ◌+◌, ◌<◌, ◌≤◌, Bool, false, List, [], ◌++◌, length, take}
-use Rattle.std.proofs.Common.{refl, sym, ap, ◌∙◌, subst, arith, codes}
+use Rattle.std.proofs.Common.{refl, sym, ◌∙◌, subst, arith, codes}
 use Rattle.std.specs.Prelude.{slice_get, slice_index, Option, Some, None, ◌==◌}
 use Rattle.std.specs.Str.{chars}
 use Rattle.std.specs.Str.Lossy.{utf8_valid_len}
 use Rattle.std.proofs.lemmas.Bool.{false≢true}
 use Rattle.std.proofs.lemmas.Option.{slice_get_within}
-use Rattle.jiter_scan.specs.Kind.{Kind, invalid_code_point, expected_colon}
+use Rattle.jiter_scan.specs.Kind.{Kind}
 use Rattle.jiter_scan.specs.Number.{Number}
 use Rattle.jiter_scan.specs.NumberReading.{number_at}
 use Rattle.jiter_scan.specs.Scanned.{Scanned, taken, failed}
@@ -57,10 +57,7 @@ OpenAs Is t i x = OpenTo (CanEndHere Is t i) x
 
 -- Faults of strings, and of the colon behind a key, are of other kinds.
 place-dead : (k : Kind) → IsPlaceKind k → can_go_on k ≡ false
-place-dead k (inl e) = ap can_go_on e
-place-dead k (inr (inl e)) = ap can_go_on e
-place-dead k (inr (inr (inl e))) = ap can_go_on e
-place-dead k (inr (inr (inr e))) = ap can_go_on e
+place-dead k h = grind (arith, h)
 
 module _ (t : List ℕ) (At : ℕ → Type 0) where
   text_in_form-live : (i : ℕ) (bs : List ℕ) (o : Bool) (s : Stop) → StopWithin t i s

@@ -1,5 +1,5 @@
 -- Values in two texts with the same bytes before a place: what one reading shows of these bytes, the other meets too.
-use Rattle.std.proofs.Common.{◌≡◌, ℕ, zero, suc, ◌+◌, ◌<◌, false, cond, List, [], ◌∷◌, ◌++◌, length, refl, sym, ap, ◌∙◌}
+use Rattle.std.proofs.Common.{◌≡◌, ℕ, zero, suc, ◌+◌, ◌<◌, false, List, [], ◌∷◌, ◌++◌, length, refl, sym, ap, ◌∙◌}
 use Rattle.std.proofs.Common.{subst, arith}
 use Rattle.std.specs.Prelude.{slice_get, slice_index, Option, Some, None}
 use Rattle.std.proofs.lemmas.Bool.{true≢false}
@@ -7,13 +7,14 @@ use Rattle.std.proofs.lemmas.Option.{slice_get_within}
 use Rattle.jiter_scan.specs.Kind.{Kind}
 use Rattle.jiter_scan.specs.Scanned.{Scanned, taken, failed}
 use Rattle.jiter_scan.specs.Word.{Extent}
+use Rattle.jiter_scan.proofs.Choices.{if-false}
 use Rattle.jiter_scan.proofs.Scanning.{ScalarWithin}
 use Rattle.jiter_steps.specs.Blank.{past_blanks}
 use Rattle.jiter_steps.specs.Literal.{start_of}
 use Rattle.jiter_steps.specs.Node.{nesting_limit}
 use Rattle.jiter_steps.specs.Step.{Step, more, closed, stuck, step, object_colon}
 use Rattle.jiter_steps.specs.Read.{Reading, done, fault, Rules, Container, scalar_at, with_key, behind_colon}
-use Rattle.jiter_steps.specs.Read.{behind_key, if_last, to_end, if_forgiven, follow, behind_part, parts_at}
+use Rattle.jiter_steps.specs.Read.{behind_key, if_last, to_end, follow, behind_part, parts_at}
 use Rattle.jiter_steps.specs.Read.{container_at, array_of, object_of, value_with, inside_at, value_at, if_begun}
 use Rattle.jiter_steps.specs.Read.{front_answer, whole_answer}
 use Rattle.jiter_steps.specs.declared.parse.Shape.TheVariants as shape
@@ -27,7 +28,6 @@ use Rattle.jiter_steps.proofs.SameSteps.{ShownStep, SameStep, first-same, next-s
 use Rattle.jiter_steps.proofs.SameStrings.{SameScalar}
 use Rattle.jiter_steps.proofs.Blanks.{past_blanks-after}
 use Rattle.jiter_steps.proofs.Bounds.{Ahead, ExtentAhead, Within, object_colon-ahead}
-use Rattle.jiter_steps.proofs.Parts.{unforgiven}
 use Rattle.jiter_steps.proofs.Values.{Advances, AllWithin, Goes, parts-fault, parts-part, array_of-goes, object_of-goes}
 use Rattle.jiter_steps.proofs.Values.{inside_at-within}
 
@@ -83,8 +83,7 @@ module _ (t u : List ℕ) (m : ℕ) (same : SameBefore t u m) where
           → IsFault (PartsToo parts i)
       fault-too parts i lt (done p e) is h = absurd h
       fault-too parts i lt (fault k j stop) is h =
-          let close = λ (e : ℕ). d.build e parts in
-          subst IsFault (sym (parts-fault r u d goes_too i j stop parts k lt is ∙ unforgiven r strict close k j stop)) tt
+          subst IsFault (sym (parts-fault r u d goes_too i j stop parts k lt is ∙ if-false _ _ _ (strict k))) tt
 
       -- behind these parts
       next-stays : (go : List P → ℕ → Reading A) (parts : List P) (i : ℕ) (s z : Step)
@@ -106,17 +105,17 @@ module _ (t u : List ℕ) (m : ℕ) (same : SameBefore t u m) where
             let at = here shown.0 in
             (at.0, at.1, ap other at.2 ∙ ap (λ a. done a e) (keeps.build e parts))
         by (stuck k j) ahead here =
-            subst (λ x. StaysAhead i x (other z)) (sym (unforgiven r strict (λ e. c.build e parts) k j j))
+            subst (λ x. StaysAhead i x (other z)) (sym (if-false _ (done _ j) _ (strict k)))
             (λ shown.
             let at = here shown in
-            (at.0, at.1, subst IsFault (sym (ap other at.2 ∙ unforgiven r strict (λ e. d.build e parts) k j j)) tt))
+            (at.0, at.1, subst IsFault (sym (ap other at.2 ∙ if-false _ _ _ (strict k))) tt))
 
       behind_part-stays : (go : List P → ℕ → Reading A)
           → ((parts : List P) (j : ℕ) → j < length t → Stays j (go parts j) (PartsToo parts j))
           → (parts : List P) (i : ℕ) → i < length t → (x : Reading P) → Within t i x → Stays i x (d.part i)
           → Stays i (behind_part r c t go parts x) (PartsToo parts i)
       behind_part-stays go all parts i lt (fault k j stop) within stays =
-          subst (λ x. Stays i x (PartsToo parts i)) (sym (unforgiven r strict (λ e. c.build e parts) k j stop))
+          subst (λ x. Stays i x (PartsToo parts i)) (sym (if-false _ (done _ stop) _ (strict k)))
           (λ shown.
           let at = stays shown in
           (at.0, fault-too parts i (within-too t u m same i at.0 lt) (d.part i) refl at.1))
@@ -185,19 +184,7 @@ module _ (t u : List ℕ) (m : ℕ) (same : SameBefore t u m) where
     module _ (good : Advances r t) (good_too : Advances r u) (kept : KeepsScalars r t u m) where
       module _ (inner inner_too : ℕ → Reading A) (within : AllWithin t inner) (within_too : AllWithin u inner_too)
           (all : (i : ℕ) → i < length t → Stays i (inner i) (inner_too i)) (i : ℕ) where
-        abbrev items : Container A A
-        items = array_of r inner t i
-
-        abbrev items_too : Container A A
-        items_too = array_of r inner_too u i
-
-        abbrev members : Container (K × A) A
-        members = object_of r inner t i
-
-        abbrev members_too : Container (K × A) A
-        members_too = object_of r inner_too u i
-
-        items-keep : Keeps items items_too
+        items-keep : Keeps (array_of r inner t i) (array_of r inner_too u i)
         items-keep = record {
           first = first-same t u m same shape.Array;
           next = next-same t u m same shape.Array;
@@ -205,7 +192,7 @@ module _ (t u : List ℕ) (m : ℕ) (same : SameBefore t u m) where
           build = λ e ps. refl;
         }
 
-        members-keep : Keeps members members_too
+        members-keep : Keeps (object_of r inner t i) (object_of r inner_too u i)
         members-keep = record {
           first = first-same t u m same shape.Object;
           next = next-same t u m same shape.Object;
@@ -216,10 +203,10 @@ module _ (t u : List ℕ) (m : ℕ) (same : SameBefore t u m) where
         value_with-stays : (s : Start) → i < length t
             → Stays i (value_with r inner t i s) (value_with r inner_too u i s)
         value_with-stays start.Array lt =
-            container-stays items items_too (array_of-goes r t good inner within i)
+            container-stays _ _ (array_of-goes r t good inner within i)
             (array_of-goes r u good_too inner_too within_too i) items-keep i lt
         value_with-stays start.Object lt =
-            container-stays members members_too (object_of-goes r t good inner within i)
+            container-stays _ _ (object_of-goes r t good inner within i)
             (object_of-goes r u good_too inner_too within_too i) members-keep i lt
         value_with-stays start.String lt = scalar-stays i (r.text t i) (r.text u i) (kept.text i lt)
         value_with-stays start.Number lt = scalar-stays i (r.number t i) (r.number u i) (kept.number i lt)

@@ -6,7 +6,7 @@ use Rattle.std.specs.Char.{encode_utf8}
 use Rattle.std.specs.Str.Lossy.{utf8_valid_len}
 use Rattle.std.proofs.lemmas.Bool.{ltb-false, le-ltb, true≢false}
 use Rattle.std.proofs.lemmas.Option.{none-some, same_Some}
-use Rattle.jiter_scan.specs.Kind.{Kind, invalid_code_point, invalid_escape, lone_surrogate, end_of_hex_escape}
+use Rattle.jiter_scan.specs.Kind.{Kind, invalid_escape, lone_surrogate, end_of_hex_escape}
 use Rattle.jiter_scan.specs.Kind.{control_character}
 use Rattle.jiter_scan.specs.Scanned.{Scanned, taken, failed}
 use Rattle.jiter_scan.proofs.Choices.{if_case, if-true, if-false}
@@ -17,7 +17,6 @@ use Rattle.jiter_steps.specs.StringReading.{unit_then, surrogate_pair, behind_hi
 use Rattle.jiter_steps.specs.StringReading.{unicode_escape, short, behind_backslash, plain}
 use Rattle.jiter_steps.specs.StringReading.{place_by, place_at, Body, before, join, body_at}
 use Rattle.jiter_steps.specs.StringReading.{whole, text_in_form, content_at, string_at}
-use Rattle.jiter_steps.specs.Tree.{Text}
 use Rattle.jiter_steps.proofs.SameFront.{SameBefore, index-same}
 use Rattle.jiter_steps.proofs.SameRuns.{both, within-too}
 use Rattle.jiter_steps.proofs.SameNumbers.{Shown}
@@ -278,11 +277,12 @@ module _ (t u : List ℕ) (m : ℕ) (same : SameBefore t u m) where
       if_case (λ x. SameScalar t m i x (content_at whole u i)) (utf8_valid_len b.bytes == length b.bytes) _ _
       (λ valid shown. let r = ends shown.0 in (r.0, again r.1 ∙ if-true _ _ _ valid))
       (λ other shown. absurd (shown.1.1 refl)) where
-    again : Ends t u m same b (body_at u i) → content_at whole u i ≡ text_in_form whole u i b.bytes b.owned (closed e)
-    again (inl h) =
-        ap (λ (d : Body). text_in_form whole u i d.bytes d.owned d.stop) h
-        ∙ ap (text_in_form whole u i b.bytes b.owned) is
-    again (inr h) = absurd (subst IsWrong is h.0)
+        again : Ends t u m same b (body_at u i)
+            → content_at whole u i ≡ text_in_form whole u i b.bytes b.owned (closed e)
+        again (inl h) =
+            ap (λ (d : Body). text_in_form whole u i d.bytes d.owned d.stop) h
+            ∙ ap (text_in_form whole u i b.bytes b.owned) is
+        again (inr h) = absurd (subst IsWrong is h.0)
 
   pub string-same : (i : ℕ) → SameScalar t m i (string_at whole t i) (string_at whole u i)
   unfolding content_at

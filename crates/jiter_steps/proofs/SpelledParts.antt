@@ -293,16 +293,15 @@ module _ (names : Bool) (t : List ℕ) where
     pub items-order : (ns : Nodes) (i e : ℕ) → SpellsItems names t i ns e → nesting_round ns ≤ room
         → InOrder (λ n. n) i (nodes_list ns) e
     items-order ns i e h d =
-        parts-are t 93 (PartAt shape.Array t) (IsItem names t room) _ _
-        (order-grammar 93 (PartAt shape.Array t) (IsItem names t room) (λ n. n) item-order) (nodes_list ns) i e
-        (items-parts room ns i e h d)
+        parts-are t 93 _ _ _ _ (order-grammar 93 (PartAt shape.Array t) (IsItem names t room) (λ n. n) item-order)
+        (nodes_list ns) i e (items-parts room ns i e h d)
 
     pub members-order : (ms : NodeMembers) (i e : ℕ) → SpellsMembers names t i ms e → nesting_round_members ms ≤ room
         → InOrder (λ m. m.1) i (members_list ms) e
     members-order ms i e h d =
-        parts-are t 125 (PartAt shape.Object t) (IsMember names t room) _ _
-        (order-grammar 125 (PartAt shape.Object t) (IsMember names t room) (λ m. m.1) member-order) (members_list ms) i e
-        (members-parts room ms i e h d)
+        parts-are t 125 _ _ _ _
+        (order-grammar 125 (PartAt shape.Object t) (IsMember names t room) (λ m. m.1) member-order)
+        (members_list ms) i e (members-parts room ms i e h d)
 
     -- from its begin on, to an end within the text
     abbrev Ends : Type 0
