@@ -321,26 +321,24 @@ module _ (names : Bool) (t : List ℕ) (k : ℕ) (within : k ≤ length t) (mode
   abbrev IsCutBy : Node → Reading Tree → Type 0
   IsCutBy n x = (v : Tree) × (e : ℕ) × (x ≡ done v e) × (cut names t n k mode ≡ Some v)
 
-  document-cut : (n : Node) → IsDocument names t n → IsContainer n → begin n < k
-      → IsCutBy n (partial_answer names mode front)
-  document-cut n d is lt = by (cases_lt k (end n)) where
-    reads : Reads n (partial_answer names mode front)
-    reads = document-reads n d lt
-
-    by : (k < end n) ⊎ (end n ≤ k) → IsCutBy n (partial_answer names mode front)
-    by (inr le) = (value_of t n, end n, reads.0 le, node-whole names t mode k n d.spelled le)
-    by (inl gt) =
-        let left = container-cut n is lt in
-        let x = partial_answer names mode front in
-        let read = left-answered left.0 x (subst (λ o. Leaves front o x) left.1 (reads.1 gt)) in
-        (left.0, read.0, read.1, left.1)
-
 -- The cut law: of a document that is an array or an object, cut at k behind its bracket, a partial reading of the front
 -- answers what the cut leaves.
 pub cut-law : (names : Bool) (t : List ℕ) (n : Node) (k : ℕ) (mode : PartialMode) → IsDocument names t n
     → IsContainer n → begin n < k → k ≤ length t
     → (v : Tree) × (e : ℕ) × (partial_answer names mode (take k t) ≡ done v e) × (cut names t n k mode ≡ Some v)
-cut-law names t n k mode d is lt within = document-cut names t k within mode n d is lt
+cut-law names t n k mode d is lt within = by (cases_lt k (end n)) where
+  x : Reading Tree
+  x = partial_answer names mode (take k t)
+
+  reads : Reads names t k within mode n x
+  reads = document-reads names t k within mode n d lt
+
+  by : (k < end n) ⊎ (end n ≤ k) → IsCutBy names t k within mode n x
+  by (inr le) = (value_of t n, end n, reads.0 le, node-whole names t mode k n d.spelled le)
+  by (inl gt) =
+      let left = container-cut names t k within mode n is lt in
+      let read = left-answered names t k within mode left.0 x (subst (λ o. Leaves (take k t) o x) left.1 (reads.1 gt)) in
+      (left.0, read.0, read.1, left.1)
 
 -- What a document stands for is answered in a partial mode too, with its end.
 pub partial_answer-of : (names : Bool) (t : List ℕ) (mode : PartialMode) (n : Node) → IsDocument names t n

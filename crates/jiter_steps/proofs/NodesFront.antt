@@ -65,7 +65,8 @@ module _ (t : List ℕ) (k : ℕ) (within : k ≤ length t) where
 
     fault-early : (close : ℕ → A) (kind : Kind) (i stop : ℕ) → is_end_kind kind ≡ true
         → EndsEarly (if_forgiven r close kind i stop)
-    fault-early close kind i stop early = subst EndsEarly (sym (if-false _ (done (close stop) stop) _ (strict kind))) early
+    fault-early close kind i stop early =
+        subst EndsEarly (sym (if-false _ (done (close stop) stop) _ (strict kind))) early
 
     input-early : (qs : List Q) (s : Step) → EndsInput t k within s → EndsEarly (Behind qs s)
     input-early qs s h = subst (λ s. EndsEarly (Behind qs s)) (sym h.1) (fault-early (λ e. c.build e qs) h.0 k k h.2)

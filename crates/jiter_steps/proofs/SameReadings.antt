@@ -246,10 +246,6 @@ module _ (t u : List ℕ) (m : ℕ) (same : SameBefore t u m) where
           let begun = ap (λ j. if_begun r u j (slice_get u j)) place ∙ ap (if_begun r u i) (same i c v.0 here) in
           (v.0, subst (Meets (value_at r t nesting_limit i)) (sym begun) v.1)
 
-      to_end-fault : (y : Reading A) → IsFault y → IsFault (to_end u y)
-      to_end-fault (done a e) h = absurd h
-      to_end-fault (fault k j stop) h = tt
-
       trailing-fault : (a : A) (e : ℕ) (y : Reading A) → ((e < m) × (e < length t) → y ≡ done a e)
           → (j : ℕ) (o : Option ℕ) → past_blanks t e ≡ j → slice_get t j ≡ o → ShownFault m (if_last a e j o)
           → IsFault (to_end u y)
@@ -266,7 +262,8 @@ module _ (t u : List ℕ) (m : ℕ) (same : SameBefore t u m) where
           → IsFault (to_end u y)
       end-stays (done a e) y all =
           trailing-fault a e y all (past_blanks t e) (slice_get t (past_blanks t e)) refl refl
-      end-stays (fault k j stop) y all = λ shown. to_end-fault y (all shown)
+      end-stays (fault k j stop) (done b e) all = λ shown. absurd (all shown)
+      end-stays (fault k j stop) (fault l x y) all = all
 
       -- A fault of a byte before m is a fault in the other text.
       pub whole_answer-stays : ShownFault m (whole_answer r t) → IsFault (whole_answer r u)

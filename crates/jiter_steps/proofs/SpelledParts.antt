@@ -279,28 +279,22 @@ module _ (names : Bool) (t : List ℕ) where
       comma = λ p ps i c e h x. (omega (arith, behind-ahead t i 44 c h, x.0), x.1, x.2, x.3);
     }
 
-    item-order : (i : ℕ) (n : Node) (e : ℕ) → IsItem names t room i n e
-        → (i ≤ begin n) × Spells names t n × (nesting n < room) × (end n ≡ e)
-    item-order i n e is = (omega (arith, is.begins), is.spelled, is.limit, is.ends)
-
-    member-order : (i : ℕ) (m : Key × Node) (e : ℕ) → IsMember names t room i m e
-        → (i ≤ begin m.1) × Spells names t m.1 × (nesting m.1 < room) × (end m.1 ≡ e)
-    member-order i m e is =
-        let behind = key-ahead m.0 (begin m.1) is.key in
-        let value = is.value in
-        (omega (arith, is.begins), value.spelled, value.limit, value.ends)
-
     pub items-order : (ns : Nodes) (i e : ℕ) → SpellsItems names t i ns e → nesting_round ns ≤ room
         → InOrder (λ n. n) i (nodes_list ns) e
     items-order ns i e h d =
-        parts-are t 93 _ _ _ _ (order-grammar 93 (PartAt shape.Array t) (IsItem names t room) (λ n. n) item-order)
+        parts-are t 93 _ _ _ _
+        (order-grammar 93 (PartAt shape.Array t) (IsItem names t room) (λ n. n)
+        (λ i n e is. (omega (arith, is.begins), is.spelled, is.limit, is.ends)))
         (nodes_list ns) i e (items-parts room ns i e h d)
 
     pub members-order : (ms : NodeMembers) (i e : ℕ) → SpellsMembers names t i ms e → nesting_round_members ms ≤ room
         → InOrder (λ m. m.1) i (members_list ms) e
     members-order ms i e h d =
         parts-are t 125 _ _ _ _
-        (order-grammar 125 (PartAt shape.Object t) (IsMember names t room) (λ m. m.1) member-order)
+        (order-grammar 125 (PartAt shape.Object t) (IsMember names t room) (λ m. m.1)
+        (λ i m e is.
+        let value = is.value in
+        (omega (arith, is.begins, key-ahead m.0 (begin m.1) is.key), value.spelled, value.limit, value.ends)))
         (members_list ms) i e (members-parts room ms i e h d)
 
     -- from its begin on, to an end within the text
