@@ -1,5 +1,5 @@
 -- Where a fault that can go on is answered, the bytes before its index can be completed to a document.
-use Rattle.std.proofs.Common.{◌≡◌, inl, ℕ, Bool, true, List, [], ◌++◌, length, take, refl, sym, subst, arith}
+use Rattle.std.proofs.Common.{◌≡◌, inl, ℕ, Bool, true, List, [], ◌++◌, length, take, refl, sym, subst, arith, ◌∙◌}
 use Rattle.std.specs.Prelude.{slice_get, Option, Some, None}
 use Rattle.std.proofs.lemmas.Option.{slice_get_within}
 use Rattle.jiter_scan.specs.Kind.{Kind}
@@ -67,42 +67,39 @@ module _ (names : Bool) (t : List ℕ) where
       } in
       record { filler = []; closers = []; is_filler = inl refl; are_closers = tt; within = within; is = (n, document) }
 
+  -- so the answer of a text that ends early
+  abbrev Opens : Reading Node → Type 0
+  Opens y = OpenTo Completed (mapped (value_of t) y)
+
   if_last-open : (i e : ℕ) (n : Node) (o : Option ℕ) → IsBlank t 0 i → Sound names t nesting_limit i (done n e)
-      → OpenTo Completed (if_last n e (past_blanks t e) o)
+      → Opens (if_last n e (past_blanks t e) o)
   if_last-open i e n None before is = tt
   if_last-open i e n (Some c) before is = λ live. trailing-document i e n before is
 
   to_end-open : (i : ℕ) (y : Reading Node) → IsBlank t 0 i → Sound names t nesting_limit i y
-      → OpenAs (IsValue names nesting_limit) t i y → OpenTo Completed (to_end t y)
+      → OpenAs (IsValue names nesting_limit) t i y → Opens (to_end t y)
   to_end-open i (done n e) before is h = if_last-open i e n (slice_get t (past_blanks t e)) before is
   to_end-open i (fault k x stop) before is h = λ live. value-document i x before (h live)
 
   if_begun-open : (i : ℕ) → IsBlank t 0 i → (o : Option ℕ) → slice_get t i ≡ o
-      → OpenTo Completed (to_end t (if_begun (nodes names) t i o))
+      → Opens (to_end t (if_begun (nodes names) t i o))
   if_begun-open i before None e = no_live
   if_begun-open i before (Some c) e =
       let inside = slice_get_within t i c e in
       to_end-open i (value_at (nodes names) t nesting_limit i) before
       (value_at-sound names t nesting_limit i inside) (value_at-open names t nesting_limit i inside)
 
-  whole-open : OpenTo Completed (whole_answer (nodes names) t)
+  whole-open : Opens (whole_answer (nodes names) t)
   unfolding whole_answer front_answer
   whole-open =
       if_begun-open (past_blanks t 0) (passed-blank t 0 (omega arith)) (slice_get t (past_blanks t 0)) refl
-
-  value-open : (y : Reading Node) → OpenTo Completed y → OpenTo Completed (mapped (value_of t) y)
-  value-open (done n e) h = tt
-  value-open (fault k x stop) h = h
-
-  answer-open : OpenTo Completed (answer names t)
-  answer-open = subst (OpenTo Completed) (answer-value names t) (value-open (whole_answer (nodes names) t) whole-open)
 
 -- Where a fault that can go on is answered, some document is the bytes before its index, then nothing, `0` or `"":0`,
 -- then closers.
 pub alive : (names : Bool) (t : List ℕ) (k : Kind) (i stop : ℕ) → answer names t ≡ fault k i stop → can_go_on k ≡ true
     → CanBeCompleted names (take i t)
 alive names t k i stop is live =
-    let h = subst (OpenTo (Completed names t)) is (answer-open names t) live in
+    let h = subst (OpenTo (Completed names t)) (answer-value names t ∙ is) (whole-open names t) live in
     record {
       filler = h.filler;
       closers = h.closers;

@@ -77,10 +77,7 @@ module _ (t : List ℕ) where
   -- Between the parts of a container.
   module _ (b : Shape) where
     end-fault : (j : ℕ) → j ≡ length t → FaultAt t (end_kind_of b) j
-    end-fault j h = record { within = omega arith; ends = λ e. h; bytes = end_kind-bytes b }
-
-    comma-fault : (j : ℕ) → j ≤ length t → FaultAt t (comma_kind_of b) j
-    comma-fault j le = fault-byte (comma_kind_of b) j (comma_kind-bytes b) (comma_kind-late b) le
+    end-fault j h = fault-end (end_kind_of b) j (end_kind-bytes b) h
 
     key-fault : (i j : ℕ) → i ≤ j → j < length t → Ahead t i (stuck key_must_be_a_string j)
     key-fault i j a h = (a, fault-byte key_must_be_a_string j (λ e. cc) refl (omega arith))
@@ -89,9 +86,8 @@ module _ (t : List ℕ) where
     first-here : RowAhead (container_first b)
     first-here i j None a h = (a, end-fault j h)
     first-here i j (Some c) a h =
-        either (Ahead t i) (begins_part b c) (more j) _ (a, h)
-        (either (Ahead t i) (c == closer_of b) (closed (j + 1)) (stuck key_must_be_a_string j)
-        (omega arith, omega arith) (key-fault i j a h))
+        either (Ahead t i) (begins_part b c) _ _ (a, h)
+        (either (Ahead t i) (c == closer_of b) _ _ (omega arith, omega arith) (key-fault i j a h))
 
     pub container_first-ahead : (i : ℕ) → i ≤ length t → Ahead t i (step t (container_first b) i)
     container_first-ahead = step-ahead (container_first b) first-here
@@ -100,9 +96,9 @@ module _ (t : List ℕ) where
     comma-here : RowAhead (container_comma b)
     comma-here i j None a h = (a, fault-end eof_value j (λ e. cc) h)
     comma-here i j (Some c) a h =
-        either (Ahead t i) (begins_part b c) (more j) _ (a, h)
-        (either (Ahead t i) (c == closer_of b) (stuck trailing_comma j) (stuck key_must_be_a_string j)
-        (a, fault-byte trailing_comma j (λ e. cc) refl (omega arith)) (key-fault i j a h))
+        either (Ahead t i) (begins_part b c) _ _ (a, h)
+        (either (Ahead t i) (c == closer_of b) _ _ (a, fault-byte trailing_comma j (λ e. cc) refl (omega arith))
+        (key-fault i j a h))
 
     comma-ahead : (i : ℕ) → i ≤ length t → Ahead t i (step t (container_comma b) i)
     comma-ahead = step-ahead (container_comma b) comma-here
@@ -112,8 +108,9 @@ module _ (t : List ℕ) where
     step-here i j None a h = (a, end-fault j h)
     step-here i j (Some c) a h =
         let behind = ahead-later i (j + 1) _ (omega arith) (comma-ahead (j + 1) (omega arith)) in
-        either (Ahead t i) (c == closer_of b) (closed (j + 1)) _ (omega arith, omega arith)
-        (either (Ahead t i) (c == 44) _ (stuck (comma_kind_of b) j) behind (a, comma-fault j (omega arith)))
+        let fault = fault-byte (comma_kind_of b) j (comma_kind-bytes b) (comma_kind-late b) (omega arith) in
+        either (Ahead t i) (c == closer_of b) _ _ (omega arith, omega arith)
+        (either (Ahead t i) (c == 44) _ _ behind (a, fault))
 
     pub container_step-ahead : (i : ℕ) → i ≤ length t → Ahead t i (step t (container_step b t) i)
     container_step-ahead = step-ahead (container_step b t) step-here
@@ -122,7 +119,7 @@ module _ (t : List ℕ) where
   colon-here : (i j : ℕ) (o : Option ℕ) → i ≤ j → Reaches t j o → ExtentAhead t i 1 (colon j o)
   colon-here i j None a h = (a, fault-end eof_object j (λ e. cc) h)
   colon-here i j (Some c) a h =
-      either (ExtentAhead t i 1) (c == 58) (taken tt (j + 1)) (failed expected_colon j) (omega arith, omega arith)
+      either (ExtentAhead t i 1) (c == 58) _ _ (omega arith, omega arith)
       (a, fault-byte expected_colon j (λ e. cc) refl (omega arith))
 
   pub colon-ahead : (i : ℕ) → i ≤ length t → ExtentAhead t i 1 (step t colon i)

@@ -205,8 +205,7 @@ module _ (names : Bool) (t : List ℕ) (k : ℕ) (within : k ≤ length t) (mode
         subst (λ l. Closes l (At qs j)) (sym (ap (λ l. qs ++ l) none ∙ append-nil qs))
         (along qs (At qs j) (if_forgiven rules (λ e. c.build e qs) kind i stop)
         (parts-fault rules front c goes j i stop qs kind lt is) (fault-closes qs kind i stop h.0 h.1))
-    part-closes qs ps j (Some v) (fault kind i stop) lt none is h = absurd h
-    part-closes qs ps j None (done q e) lt none is h = absurd h
+    part-closes qs ps j o x lt none is h = absurd h
 
     inside : (j : ℕ) → j < k → j < length front
     inside j lt = omega (arith, front-length t k within)
@@ -249,8 +248,7 @@ module _ (names : Bool) (t : List ℕ) (k : ℕ) (within : k ≤ length t) (mode
       → Leaves front (option_map (λ v. (key, v)) o) (with_key key y)
   with_key-leaves key (Some v) (done w p) h = (ap (λ a. (key, a)) h.0, h.1)
   with_key-leaves key None (fault kind i stop) h = h
-  with_key-leaves key (Some v) (fault kind i stop) h = absurd h
-  with_key-leaves key None (done w p) h = absurd h
+  with_key-leaves key o y h = absurd h
 
   key-halts : (p : ℕ) → (p ≡ k) ⊎ (slice_get front p ≡ Some 34) → Halts front p
   key-halts p (inl at) = subst (Halts front) (sym at) (cut-halts t k within)
@@ -311,11 +309,9 @@ module _ (names : Bool) (t : List ℕ) (k : ℕ) (within : k ≤ length t) (mode
       (ends-end t (end n) d.after) lt)
 
   container-cut : (n : Node) → IsContainer n → begin n < k → (v : Tree) × (cut names t n k mode ≡ Some v)
-  container-cut (grammar.literal l b e) is lt = absurd is
-  container-cut (grammar.number b e) is lt = absurd is
-  container-cut (grammar.string ps b e) is lt = absurd is
   container-cut (grammar.array b e ns) is lt = (_, array-left names t k mode b e ns lt)
   container-cut (grammar.object b e ms) is lt = (_, object-left names t k mode b e ms lt)
+  container-cut n is lt = absurd is
 
   left-answered : (v : Tree) (x : Reading Tree) → Leaves front (Some v) x → (e : ℕ) × (x ≡ done v e)
   left-answered v (done w p) h = (p, ap (λ a. done a p) h.0)
@@ -325,26 +321,24 @@ module _ (names : Bool) (t : List ℕ) (k : ℕ) (within : k ≤ length t) (mode
   abbrev IsCutBy : Node → Reading Tree → Type 0
   IsCutBy n x = (v : Tree) × (e : ℕ) × (x ≡ done v e) × (cut names t n k mode ≡ Some v)
 
-  document-cut : (n : Node) → IsDocument names t n → IsContainer n → begin n < k
-      → IsCutBy n (partial_answer names mode front)
-  document-cut n d is lt = by (cases_lt k (end n)) where
-    reads : Reads n (partial_answer names mode front)
-    reads = document-reads n d lt
-
-    by : (k < end n) ⊎ (end n ≤ k) → IsCutBy n (partial_answer names mode front)
-    by (inr le) = (value_of t n, end n, reads.0 le, node-whole names t mode k n d.spelled le)
-    by (inl gt) =
-        let left = container-cut n is lt in
-        let x = partial_answer names mode front in
-        let read = left-answered left.0 x (subst (λ o. Leaves front o x) left.1 (reads.1 gt)) in
-        (left.0, read.0, read.1, left.1)
-
 -- The cut law: of a document that is an array or an object, cut at k behind its bracket, a partial reading of the front
 -- answers what the cut leaves.
 pub cut-law : (names : Bool) (t : List ℕ) (n : Node) (k : ℕ) (mode : PartialMode) → IsDocument names t n
     → IsContainer n → begin n < k → k ≤ length t
     → (v : Tree) × (e : ℕ) × (partial_answer names mode (take k t) ≡ done v e) × (cut names t n k mode ≡ Some v)
-cut-law names t n k mode d is lt within = document-cut names t k within mode n d is lt
+cut-law names t n k mode d is lt within = by (cases_lt k (end n)) where
+  x : Reading Tree
+  x = partial_answer names mode (take k t)
+
+  reads : Reads names t k within mode n x
+  reads = document-reads names t k within mode n d lt
+
+  by : (k < end n) ⊎ (end n ≤ k) → IsCutBy names t k within mode n x
+  by (inr le) = (value_of t n, end n, reads.0 le, node-whole names t mode k n d.spelled le)
+  by (inl gt) =
+      let left = container-cut names t k within mode n is lt in
+      let read = left-answered names t k within mode left.0 x (subst (λ o. Leaves (take k t) o x) left.1 (reads.1 gt)) in
+      (left.0, read.0, read.1, left.1)
 
 -- What a document stands for is answered in a partial mode too, with its end.
 pub partial_answer-of : (names : Bool) (t : List ℕ) (mode : PartialMode) (n : Node) → IsDocument names t n

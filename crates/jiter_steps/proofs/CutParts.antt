@@ -16,7 +16,7 @@ use Rattle.jiter_steps.specs.Step.{container_step, colon, value_first, object_co
 use Rattle.jiter_steps.specs.declared.parse.Shape.{Shape}
 use Rattle.jiter_steps.proofs.BothShapes.{end_kind-early, closer-no_comma}
 use Rattle.jiter_steps.proofs.Front.{front-length, front-blank, front-behind, row-cut, row-end}
-use Rattle.jiter_steps.proofs.Parts.{PartThen, MoreParts, Parts}
+use Rattle.jiter_steps.proofs.Parts.{behind-ahead, PartThen, MoreParts, Parts}
 use Rattle.jiter_steps.proofs.RowSteps.{Delimits, row-at}
 use Rattle.jiter_steps.proofs.Values.{Goes, parts-part}
 
@@ -91,7 +91,7 @@ module _ (t : List ℕ) (k : ℕ) (within : k ≤ length t) where
       pub ahead : (j : ℕ) (p : P) (e : ℕ) → IsPart j p e → j < e
       pub reads : (j : ℕ) (p : P) (e : ℕ) → IsPart j p e → j < k → ReadTo seen IsCut p e (c.part j)
 
-    module _ (closer : ℕ) (Begins : List ℕ → ℕ → Type 0) (IsPart : ℕ → P → ℕ → Type 0)
+    module _ {closer : ℕ} {Begins : List ℕ → ℕ → Type 0} {IsPart : ℕ → P → ℕ → Type 0}
         (front : ReadsFront closer Begins IsPart) where
       abbrev More : List P → ℕ → ℕ → Type 0
       More ps i e = MoreParts t closer (Begins t) IsPart ps i e
@@ -113,15 +113,12 @@ module _ (t : List ℕ) (k : ℕ) (within : k ≤ length t) where
           front.delimits.next-more i m x.begin comma blanks (front.begins x.begin lt x.begins)
 
       -- A container that ends by k is read as in the whole text.
-      behind-ahead : (i c e : ℕ) → StandsBehind t i c e → i < e
-      behind-ahead i c e h = omega (arith, h.blanks.ordered, h.ends)
-
       more-ahead : (ps : List P) (i e : ℕ) → More ps i e → i < e
-      more-ahead [] i e h = behind-ahead i closer e h
+      more-ahead [] i e h = behind-ahead t i closer e h
       more-ahead (p ∷ ps) i e h =
           let x = h.2 in
           let order = front.ahead x.begin p x.end x.is in
-          omega (arith, behind-ahead i 44 h.0 h.1, x.blanks.ordered, more-ahead ps x.end e x.rest)
+          omega (arith, behind-ahead t i 44 h.0 h.1, x.blanks.ordered, more-ahead ps x.end e x.rest)
 
       module _ {K : Type 0} (r : Rules K A) (goes : Goes c u) where
         abbrev At : List Q → ℕ → Reading A

@@ -1,13 +1,15 @@
 -- Where a partial reading halts in a container that the text leaves open: no container round it takes a byte there.
-use Rattle.std.proofs.Common.{◌≡◌, ◌≢◌, ℕ, ◌<◌, ◌≤◌, ◌==◌, Bool, true, false, cond, List, length, take, refl, ap, ap₂}
+use Rattle.std.proofs.Common.{◌≡◌, ◌≢◌, ℕ, ◌<◌, ◌≤◌, ◌==◌, Bool, true, false, List, length, take, refl, ap}
 use Rattle.std.proofs.Common.{◌∙◌, subst, sym, arith, IfSome}
-use Rattle.std.specs.Prelude.{◌||◌, slice_get, Option, Some, None}
-use Rattle.std.proofs.lemmas.Bool.{eqb-true}
+use Rattle.std.specs.Prelude.{slice_get, Option, Some, None}
+use Rattle.std.proofs.lemmas.Bool.{ne_eqb}
+use Rattle.std.proofs.lemmas.Bool.Decides.{nat_tests}
 use Rattle.std.proofs.lemmas.Option.{slice_get_within}
 use Rattle.jiter_scan.specs.Kind.{Kind, is_end_kind, is_forgiven, expected_list_comma_or_end}
 use Rattle.jiter_scan.specs.Kind.{expected_object_comma_or_end}
+use Rattle.jiter_scan.proofs.Choices.{if-false}
 use Rattle.jiter_scan.proofs.Standing.{get-none}
-use Rattle.jiter_steps.specs.Blank.{is_blank, IsBlank}
+use Rattle.jiter_steps.specs.Blank.{is_blank}
 use Rattle.jiter_steps.specs.Literal.{start_of}
 use Rattle.jiter_steps.specs.Node as grammar
 use Rattle.jiter_steps.specs.Node.{Node, begin, Spells}
@@ -16,6 +18,7 @@ use Rattle.jiter_steps.specs.declared.parse.Shape.{Shape}
 use Rattle.jiter_steps.specs.declared.parse.Start.TheVariants as start
 use Rattle.jiter_steps.proofs.Blanks.{past_blanks-end}
 use Rattle.jiter_steps.proofs.BothShapes.{end_kind-early, comma_kind-forgiven, closer-begins_none}
+use Rattle.jiter_steps.proofs.Completions.{no-blanks}
 use Rattle.jiter_steps.proofs.Front.{front-get, front-past}
 use Rattle.jiter_steps.proofs.RowSteps.{row-at}
 use Rattle.jiter_steps.proofs.SpelledParts.{start_is, begins-value}
@@ -36,30 +39,16 @@ end-forgiven kind h = h
 
 -- a byte that begins no value is another
 other : (c d : ℕ) → start_of d ≡ start.Nothing → start_of c ≢ start.Nothing → (c == d) ≡ false
-other c d none h = by (c == d) refl where
-  by : (b : Bool) → (c == d) ≡ b → b ≡ false
-  by true e = absurd (h (ap start_of (eqb-true c d e) ∙ none))
-  by false e = refl
-
-neither : (a b : Bool) → a ≡ false → b ≡ false → (a || b) ≡ false
-neither a b h g = ap₂ (λ (x y : Bool). x || y) h g
+other c d none h = ne_eqb c d (λ e. h (ap start_of e ∙ none))
 
 begins-no_blank : (c : ℕ) → start_of c ≢ start.Nothing → is_blank c ≡ false
 begins-no_blank c h =
-    neither _ (c == 13) (neither _ (c == 10) (neither (c == 32) (c == 9) (other c 32 refl h) (other c 9 refl h))
-    (other c 10 refl h)) (other c 13 refl h)
-
--- what is chosen where neither test is true
-past-tests : (a b : Bool) (x y z : Step) → a ≡ false → b ≡ false → cond a x (cond b y z) ≡ z
-past-tests a b x y z h g = ap (λ v. cond v x (cond b y z)) h ∙ ap (λ v. cond v y z) g
+    grind (arith, nat_tests, other c 32 refl h, other c 9 refl h, other c 10 refl h, other c 13 refl h)
 
 -- a node begins a value
 node-begins : (n : Node) → start_is n ≢ start.Nothing
-node-begins (grammar.literal l b e) h = cc
 node-begins (grammar.number b e) h = cc
-node-begins (grammar.string ps b e) h = cc
-node-begins (grammar.array b e ns) h = cc
-node-begins (grammar.object b e ms) h = cc
+node-begins n h = cc
 
 pub byte-halts : (t : List ℕ) (p c : ℕ) → slice_get t p ≡ Some c → start_of c ≢ start.Nothing → Halts t p
 byte-halts t p c here h = subst (λ o. IfSome o (λ c. start_of c ≢ start.Nothing)) (sym here) h
@@ -88,8 +77,7 @@ module _ (t : List ℕ) where
         subst (StuckAt p) (sym (ap (λ m. row m (slice_get t m)) last ∙ ap (row p) e)) (none p)
     by (Some c) e h =
         let inside = slice_get_within t p c e in
-        let here : IsBlank t p p =
-        record { ordered = omega arith; within = omega arith; each = λ m l lt. absurd (omega arith) } in
+        let here = no-blanks t p p refl (omega arith) in
         subst (StuckAt p) (sym (row-at t row p p c here e (begins-no_blank c h))) (some p c h)
 
   -- behind a part
@@ -98,7 +86,7 @@ module _ (t : List ℕ) where
       row-halts (container_step b t) (λ p. (end_kind_of b, refl, end-forgiven _ (end_kind-early b)))
       (λ p c h. (
         comma_kind_of b,
-        past-tests (c == closer_of b) (c == 44) _ _ _ (other c (closer_of b) (closer-begins_none b) h)
-            (other c 44 refl h),
+        if-false (c == closer_of b) _ _ (other c (closer_of b) (closer-begins_none b) h)
+            ∙ if-false (c == 44) _ _ (other c 44 refl h),
         comma_kind-forgiven b,
       ))

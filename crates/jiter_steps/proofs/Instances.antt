@@ -31,8 +31,7 @@ seen-within f t i (failed k j) h = h
 -- a literal is a word that is not empty
 extent-within : (t : List ℕ) (l : Literal) (i : ℕ) (x : Extent) → WordWithin t (word_of l) i x → ScalarWithin t i x
 extent-within t literal.Null i (taken u e) h = (omega (arith, h.0), h.1)
-extent-within t literal.True i (taken u e) h = (omega (arith, h.0), h.1)
-extent-within t literal.False i (taken u e) h = (omega (arith, h.0), h.1)
+extent-within t l i (taken u e) h = (omega (arith, h.0), h.1)
 extent-within t l i (failed k j) h = h
 
 pub literal_at-within : (t : List ℕ) (l : Literal) (i : ℕ) → i ≤ length t → ScalarWithin t i (literal_at t l i)

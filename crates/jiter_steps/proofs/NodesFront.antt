@@ -1,6 +1,6 @@
 -- The front of a text, read as nodes: what ends before the cut is read as its node, and where a value is cut the input
 -- ends too early.
-use Rattle.std.proofs.Common.{◌≡◌, inl, inr, ℕ, ◌+◌, ◌<◌, ◌≤◌, Bool, true, false, cond, List, [], ◌∷◌, ◌++◌, length}
+use Rattle.std.proofs.Common.{◌≡◌, inl, inr, ℕ, ◌+◌, ◌<◌, ◌≤◌, Bool, true, false, List, [], ◌∷◌, ◌++◌, length}
 use Rattle.std.proofs.Common.{take, refl, sym, ap, ◌∙◌, subst, arith}
 use Rattle.std.specs.Prelude.{slice_range, Option}
 use Rattle.std.specs.Str.{chars}
@@ -11,14 +11,15 @@ use Rattle.jiter_scan.specs.NumberReading.{number_at}
 use Rattle.jiter_scan.specs.Scanned.{Scanned, taken, failed}
 use Rattle.jiter_scan.specs.Stands.{Stands}
 use Rattle.jiter_scan.specs.Word.{Extent}
+use Rattle.jiter_scan.proofs.Choices.{if-false}
 use Rattle.jiter_steps.specs.Answer.{seen_as}
 use Rattle.jiter_steps.specs.Literal.{word_of, literal_at}
 use Rattle.jiter_steps.specs.Node as grammar
 use Rattle.jiter_steps.specs.Node.{Key, Node, begin, end, SpellsNumber, Spells, nesting, IsContainer}
 use Rattle.jiter_steps.specs.Piece.{Piece, SpellsString}
 use Rattle.jiter_steps.specs.Read.{Reading, done, fault, Rules, Container, scalar_at, with_key, if_forgiven, follow}
-use Rattle.jiter_steps.specs.Read.{parts_at, container_at, array_of, object_of, value_at}
-use Rattle.jiter_steps.specs.Step.{Step, stuck, step}
+use Rattle.jiter_steps.specs.Read.{parts_at, array_of, object_of, value_at}
+use Rattle.jiter_steps.specs.Step.{Step, stuck, step, array_first, object_first}
 use Rattle.jiter_steps.specs.StringReading.{whole, string_at}
 use Rattle.jiter_steps.specs.Tree.{Text}
 use Rattle.jiter_steps.specs.declared.parse.Literal.{Literal}
@@ -46,10 +47,6 @@ abbrev CutShort : {A : Type 0} → ℕ → Reading A → Type 0
 CutShort k (done a e) = e ≡ k
 CutShort k (fault kind i stop) = is_end_kind kind ≡ true
 
-early-short : {A : Type 0} (k : ℕ) (x : Reading A) → EndsEarly x → CutShort k x
-early-short k (done n e) h = absurd h
-early-short k (fault kind i stop) h = h
-
 module _ (t : List ℕ) (k : ℕ) (within : k ≤ length t) where
   abbrev u : List ℕ
   u = take k t
@@ -69,7 +66,7 @@ module _ (t : List ℕ) (k : ℕ) (within : k ≤ length t) where
     fault-early : (close : ℕ → A) (kind : Kind) (i stop : ℕ) → is_end_kind kind ≡ true
         → EndsEarly (if_forgiven r close kind i stop)
     fault-early close kind i stop early =
-        subst (λ b. EndsEarly (cond b (done (close stop) stop) (fault kind i stop))) (sym (strict kind)) early
+        subst EndsEarly (sym (if-false _ (done (close stop) stop) _ (strict kind))) early
 
     input-early : (qs : List Q) (s : Step) → EndsInput t k within s → EndsEarly (Behind qs s)
     input-early qs s h = subst (λ s. EndsEarly (Behind qs s)) (sym h.1) (fault-early (λ e. c.build e qs) h.0 k k h.2)
@@ -86,6 +83,7 @@ module _ (t : List ℕ) (k : ℕ) (within : k ≤ length t) where
         subst EndsEarly (sym (parts-fault r u c goes j x stop qs kind (in-front j lt) is))
         (fault-early (λ e. c.build e qs) kind x stop h)
 
+    -- so the rest of a container does, and all of it
     parts-early : (ps : List P) (row : ℕ → Option ℕ → Step) (i : ℕ) (qs : List Q)
         → CutParts t k within c value seen IsCut row i ps → EndsEarly (Behind qs (step u row i))
     parts-early [] row i qs h = input-early qs (step u row i) h
@@ -97,10 +95,6 @@ module _ (t : List ℕ) (k : ℕ) (within : k ≤ length t) where
           (sym (parts-part r u c goes h.0 x.1 qs (seen p) (step u c.next x.1) (in-front h.0 h.2) x.2 refl))
           (parts-early ps c.next x.1 (qs ++ seen p ∷ []) x.3)
     ])
-
-    container-early : (b : ℕ) (ps : List P) → CutParts t k within c value seen IsCut c.first (b + 1) ps
-        → EndsEarly (container_at r c u b)
-    container-early b ps h = parts-early ps c.first (b + 1) [] h
 
 module _ (names : Bool) (t : List ℕ) (k : ℕ) (within : k ≤ length t) where
   abbrev front : List ℕ
@@ -116,7 +110,8 @@ module _ (names : Bool) (t : List ℕ) (k : ℕ) (within : k ≤ length t) where
 
   cut-short : (n : Node) (x : Reading Node) → IsCut n x → CutShort k x
   cut-short (grammar.number b e) x h = h
-  cut-short n x h = early-short k x h
+  cut-short n (done m e) h = absurd h
+  cut-short n (fault kind i stop) h = h
 
   cut-early : (n : Node) (x : Reading Node) → IsContainer n → IsCut n x → EndsEarly x
   cut-early (grammar.number b e) x is h = absurd is
@@ -194,14 +189,13 @@ module _ (names : Bool) (t : List ℕ) (k : ℕ) (within : k ≤ length t) where
         ap (λ l. grammar.object b e (node_members_of l)) (map-id (members_list ms))
         ∙ ap (grammar.object b e) (members-listed ms);
     array-cut = λ inner b e ns h lt goes parts.
-        container-early t k within (nodes names) (λ kind. refl)
-        (array_of (nodes names) inner front b) goes (λ n. n) same_node IsCut cut-short
-        (cuts t k within shape.Array) b (nodes_list ns) parts;
+        parts-early t k within (nodes names) (λ kind. refl) (array_of (nodes names) inner front b) goes (λ n. n)
+        same_node IsCut cut-short (cuts t k within shape.Array) (nodes_list ns) array_first (b + 1) [] parts;
     object-cut = λ inner b e ms h lt goes parts.
-        container-early t k within (nodes names) (λ kind. refl) (object_of (nodes names) inner front b) goes (λ m. m.1)
+        parts-early t k within (nodes names) (λ kind. refl) (object_of (nodes names) inner front b) goes (λ m. m.1)
         (see_member (nodes names) names t k within same_key same_node IsCut)
         (IsCutMember (nodes names) names t k within same_key same_node IsCut) member-short
-        (cuts t k within shape.Object) b (members_list ms) parts;
+        (cuts t k within shape.Object) (members_list ms) object_first (b + 1) [] parts;
   }
 
   -- A value that begins before the cut.

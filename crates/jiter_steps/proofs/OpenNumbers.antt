@@ -3,14 +3,15 @@ use Rattle.std.proofs.Common.{◌≡◌, ◌⊎◌, inl, inr, ℕ, ◌+◌, ◌�
 use Rattle.std.proofs.Common.{◌++◌, length, take, refl, sym, ap, ◌∙◌, subst, arith, append-nil, append_assoc}
 use Rattle.std.specs.Prelude.{slice_get, Option, Some, None, ◌==◌, nat_le, codes}
 use Rattle.std.proofs.lemmas.Bool.{false≢true, eqb-true, or_cases}
+use Rattle.std.proofs.lemmas.Bool.Decides.{nat_tests}
 use Rattle.std.proofs.lemmas.Option.{slice_get_within}
 use Rattle.jiter_scan.specs.Digits.{is_digit, digit_run_end}
-use Rattle.jiter_scan.specs.Kind.{Kind, expected_ident, expected_value, invalid_number, number_out_of_range}
+use Rattle.jiter_scan.specs.Kind.{Kind, expected_value, invalid_number}
 use Rattle.jiter_scan.specs.Number.{IsMinus, IsWhole, IsFraction, IsSign, IsExponent, IsDecimal}
 use Rattle.jiter_scan.specs.Number.{digit_limit}
 use Rattle.jiter_scan.specs.NumberReading.{extent_then, digits_from, behind_zero, within_limit, whole_from, whole_at}
 use Rattle.jiter_scan.specs.NumberReading.{fraction_from, fraction_at, power_from, exponent_from, exponent_at}
-use Rattle.jiter_scan.specs.NumberReading.{decimal_at, behind_minus, name_at, extent_from, number_extent, with_value}
+use Rattle.jiter_scan.specs.NumberReading.{decimal_at, behind_minus, extent_from, number_extent, with_value}
 use Rattle.jiter_scan.specs.NumberReading.{number_at}
 use Rattle.jiter_scan.specs.Scanned.{Scanned, taken, failed}
 use Rattle.jiter_scan.specs.Stands.{Stands}
@@ -121,21 +122,16 @@ module _ (t : List ℕ) where
   word-live At (c ∷ w) i = by (word-live At w (i + 1)) (slice_get t i) where
     by : LiveIs At (word_at t w (i + 1)) → (o : Option ℕ) → LiveIs At (byte_then (word_at t w (i + 1)) c i o)
     by rest None = no_live
-    by rest (Some b) =
-        either (LiveIs At) (b == c) (word_at t w (i + 1)) (failed expected_ident i) rest no_live
+    by rest (Some b) = either (LiveIs At) (b == c) _ _ rest no_live
 
   -- digits, and what stands behind a leading zero
   digits-live : (p : ℕ) (o : Option ℕ) → LiveIs (λ j. j ≡ p) (digits_from t p o)
   digits-live p None = no_live
-  digits-live p (Some c) =
-      let Is = LiveIs {A = Unit {0}} (λ j. j ≡ p) in
-      either Is (is_digit c) (taken tt (digit_run_end t p)) (failed invalid_number p) tt (λ live. refl)
+  digits-live p (Some c) = either (LiveIs (λ j. j ≡ p)) (is_digit c) _ _ tt (λ live. refl)
 
   zero-live : (p : ℕ) (o : Option ℕ) → LiveIs (λ j. j ≡ p) (behind_zero p o)
   zero-live p None = tt
-  zero-live p (Some c) =
-      let Is = LiveIs {A = Unit {0}} (λ j. j ≡ p) in
-      either Is (is_digit c) (failed invalid_number p) (taken tt p) (λ live. refl) tt
+  zero-live p (Some c) = either (LiveIs (λ j. j ≡ p)) (is_digit c) _ _ (λ live. refl) tt
 
   -- the integer part
   leading-live : (p : ℕ) → slice_get t p ≡ Some 48
@@ -146,25 +142,23 @@ module _ (t : List ℕ) where
       (zero-live (p + 1) (slice_get t (p + 1)))
 
   limit-live : (At : ℕ → Type 0) (p e : ℕ) → LiveIs At (within_limit p e)
-  limit-live At p e =
-      either (LiveIs At) (nat_le e (p + digit_limit)) (taken tt e) (failed number_out_of_range (p + (digit_limit + 1)))
-      tt no_live
+  limit-live At p e = either (LiveIs At) (nat_le e (p + digit_limit)) _ _ tt no_live
 
   whole-live : (p : ℕ) (o : Option ℕ) → slice_get t p ≡ o → LiveIs (Unfinished WholePart p) (whole_from t p o)
   whole-live p None e = no_live
   whole-live p (Some c) e =
-      let Is = LiveIs {A = Unit {0}} (Unfinished WholePart p) in
-      tested Is c 48 (behind_zero (p + 1) (slice_get t (p + 1))) _ (λ z. leading-live p (e ∙ ap Some z))
-      (λ other. either Is (is_digit c) (within_limit p (digit_run_end t p)) (failed invalid_number p)
-      (limit-live (Unfinished WholePart p) p (digit_run_end t p)) (λ live. with_zero WholePart p p [] refl zero-whole))
+      let At = Unfinished WholePart p in
+      tested (LiveIs At) c 48 _ _ (λ z. leading-live p (e ∙ ap Some z))
+      (λ other. either (LiveIs At) (is_digit c) _ _ (limit-live At p (digit_run_end t p))
+      (λ live. with_zero WholePart p p [] refl zero-whole))
 
   -- the fraction
   fraction-live : (p : ℕ) (o : Option ℕ) → slice_get t p ≡ o → LiveIs (Unfinished IsFraction p) (fraction_from t p o)
   fraction-live p None e = tt
   fraction-live p (Some c) e =
-      let Is = LiveIs {A = Unit {0}} (Unfinished IsFraction p) in
-      tested Is c 46 (digits_from t (p + 1) (slice_get t (p + 1))) (taken tt p)
-      (λ point. live-at (Unfinished IsFraction p) (p + 1) (digits_from t (p + 1) (slice_get t (p + 1)))
+      let At = Unfinished IsFraction p in
+      tested (LiveIs At) c 46 _ _
+      (λ point. live-at At (p + 1) _
       (with_zero IsFraction p (p + 1) (codes ".") (e ∙ ap Some point, refl) (refl, (refl, tt)))
       (digits-live (p + 1) (slice_get t (p + 1))))
       (λ other. tt)
@@ -186,30 +180,23 @@ module _ (t : List ℕ) where
   sign-is d (inl e) = inr (inl (ap (λ x. x ∷ []) (eqb-true d 43 e)))
   sign-is d (inr e) = inr (inr (ap (λ x. x ∷ []) (eqb-true d 45 e)))
 
-  letter-is : (c : ℕ) → ((c == 101) ≡ true) ⊎ ((c == 69) ≡ true) → (c ≡ 101) ⊎ (c ≡ 69)
-  letter-is c (inl e) = inl (eqb-true c 101 e)
-  letter-is c (inr e) = inr (eqb-true c 69 e)
-
   power-live : (p c : ℕ) → slice_get t p ≡ Some c → (c ≡ 101) ⊎ (c ≡ 69) → (o : Option ℕ) → slice_get t (p + 1) ≡ o
       → LiveIs (Unfinished IsExponent p) (power_from t (p + 1) o)
   power-live p c e letter None f = no_live
   power-live p c e letter (Some d) f =
       let Is = Unfinished IsExponent p in
-      let signed = digits_from t (p + 1 + 1) (slice_get t (p + 1 + 1)) in
-      if_case (LiveIs Is) ((d == 43) || (d == 45)) signed (digits_from t (p + 1) (Some d))
-      (λ sign. live-at Is (p + 1 + 1) signed
+      if_case (LiveIs Is) ((d == 43) || (d == 45)) _ _
+      (λ sign. live-at Is (p + 1 + 1) _
       (power-here p c (p + 1 + 1) (d ∷ []) e letter (sign-is d (or_cases (d == 43) (d == 45) sign)) (f, refl))
       (digits-live (p + 1 + 1) (slice_get t (p + 1 + 1))))
-      (λ other. live-at Is (p + 1) (digits_from t (p + 1) (Some d))
-      (power-here p c (p + 1) [] e letter (inl refl) refl) (digits-live (p + 1) (Some d)))
+      (λ other. live-at Is (p + 1) _ (power-here p c (p + 1) [] e letter (inl refl) refl)
+      (digits-live (p + 1) (Some d)))
 
   exponent-live : (p : ℕ) (o : Option ℕ) → slice_get t p ≡ o → LiveIs (Unfinished IsExponent p) (exponent_from t p o)
   exponent-live p None e = tt
   exponent-live p (Some c) e =
-      let power = power_from t (p + 1) (slice_get t (p + 1)) in
-      if_case (LiveIs (Unfinished IsExponent p)) ((c == 101) || (c == 69)) power (taken tt p)
-      (λ letter. power-live p c e (letter-is c (or_cases (c == 101) (c == 69) letter)) (slice_get t (p + 1)) refl)
-      (λ other. tt)
+      if_case (LiveIs (Unfinished IsExponent p)) ((c == 101) || (c == 69)) _ _
+      (λ letter. power-live p c e (grind (arith, nat_tests, letter)) (slice_get t (p + 1)) refl) (λ other. tt)
 
   -- the parts of a decimal number, one behind another
   after_whole-live : (a : ℕ)
@@ -251,27 +238,24 @@ module _ (t : List ℕ) where
   name-live : (names : Bool) (w : List ℕ) (k : Kind) (i j : ℕ) → Unfinished IsDecimal i j
       → NumberLive i (cond names (word_at t w j) (failed k j))
   name-live names w k i j h =
-      either (NumberLive i) names (word_at t w j) (failed k j) (word-live (Unfinished IsDecimal i) w j) (λ live. h)
+      either (NumberLive i) names _ _ (word-live (Unfinished IsDecimal i) w j) (λ live. h)
 
   minus-live : (names : Bool) (i : ℕ) → slice_get t i ≡ Some 45 → (o : Option ℕ)
       → NumberLive i (behind_minus names t (i + 1) o)
   minus-live names i e None = no_live
   minus-live names i e (Some c) =
       let zero = zero-here i (i + 1) (45 ∷ []) (e, refl) (inr refl) in
-      either (NumberLive i) (c == 73) _ (decimal_at t (i + 1))
-      (name-live names (codes "Infinity") invalid_number i (i + 1) zero)
+      either (NumberLive i) (c == 73) _ _ (name-live names (codes "Infinity") invalid_number i (i + 1) zero)
       (decimal-live i (i + 1) (45 ∷ []) (e, refl) (inr refl))
 
   extent-live : (names : Bool) (i : ℕ) (o : Option ℕ) → slice_get t i ≡ o → NumberLive i (extent_from names t i o)
   extent-live names i None e = no_live
   extent-live names i (Some c) e =
       let zero = zero-here i i [] refl (inl refl) in
-      tested (NumberLive i) c 45 (behind_minus names t (i + 1) (slice_get t (i + 1))) _
-      (λ minus. minus-live names i (e ∙ ap Some minus) (slice_get t (i + 1)))
-      (λ other. either (NumberLive i) (c == 78) (name_at names t (codes "NaN") i) _
-      (name-live names (codes "NaN") expected_value i i zero)
-      (either (NumberLive i) (c == 73) (name_at names t (codes "Infinity") i) (decimal_at t i)
-      (name-live names (codes "Infinity") expected_value i i zero) (decimal-live i i [] refl (inl refl))))
+      tested (NumberLive i) c 45 _ _ (λ minus. minus-live names i (e ∙ ap Some minus) (slice_get t (i + 1)))
+      (λ other. either (NumberLive i) (c == 78) _ _ (name-live names (codes "NaN") expected_value i i zero)
+      (either (NumberLive i) (c == 73) _ _ (name-live names (codes "Infinity") expected_value i i zero)
+      (decimal-live i i [] refl (inl refl))))
 
   -- with a zero or nothing more a number stands from i to the text's end
   abbrev pub CanEndNumber : Bool → ℕ → ℕ → Type 0

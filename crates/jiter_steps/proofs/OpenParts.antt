@@ -1,7 +1,8 @@
 -- A container that is not read to its end can be closed behind the parts before the fault.
-use Rattle.std.proofs.Common.{◌≡◌, inl, inr, ℕ, zero, suc, ◌+◌, ◌<◌, ◌≤◌, true, false, cond, List, [], ◌∷◌, ◌++◌}
+use Rattle.std.proofs.Common.{◌≡◌, inl, inr, ℕ, zero, suc, ◌+◌, ◌<◌, ◌≤◌, true, false, List, [], ◌∷◌, ◌++◌}
 use Rattle.std.proofs.Common.{length, take, refl, sym, ap, ◌∙◌, subst, arith, append-nil, append_assoc}
 use Rattle.jiter_scan.specs.Kind.{Kind}
+use Rattle.jiter_scan.proofs.Choices.{if-false}
 use Rattle.jiter_steps.specs.Blank.{IsBlank}
 use Rattle.jiter_steps.specs.FirstFault.{IsFiller, AreClosers, can_go_on}
 use Rattle.jiter_steps.specs.Read.{Reading, done, fault, Rules, Container, if_forgiven, follow, behind_part, parts_at}
@@ -11,6 +12,7 @@ use Rattle.jiter_steps.proofs.Bounds.{Within}
 use Rattle.jiter_steps.proofs.Completions.{CanClose, OpenTo, longer-same, no-blanks, ends-behind, taken-length}
 use Rattle.jiter_steps.proofs.Completions.{front-kept}
 use Rattle.jiter_steps.proofs.Front.{front-length, front-get}
+use Rattle.jiter_steps.proofs.OpenNumbers.{no_live}
 use Rattle.jiter_steps.proofs.Parts.{MoreParts, Parts}
 use Rattle.jiter_steps.proofs.RowSteps.{PartBehind, Behind, StepIs, Delimits}
 use Rattle.jiter_steps.proofs.SameFront.{SameBefore, same-sooner, blanks-too, behind-too}
@@ -137,8 +139,7 @@ module _ {K P A : Type 0} (r : Rules K A) (strict : (k : Kind) → r.forgives k 
 
   fault-open : (b : ℕ) (close : ℕ → A) (k : Kind) (x stop : ℕ) → (can_go_on k ≡ true → CanEnd closer IsPart t b x)
       → Open b (if_forgiven r close k x stop)
-  fault-open b close k x stop h =
-      subst (λ y. Open b (cond y (done (close stop) stop) (fault k x stop))) (sym (strict k)) h
+  fault-open b close k x stop h = subst (Open b) (sym (if-false _ (done (close stop) stop) _ (strict k))) h
 
   abbrev GoesOn : ℕ → (List P → ℕ → Reading A) → Type 0
   GoesOn b next = (ps : List P) (j : ℕ) → Begins j → SoFar b j ps → Open b (next ps j)
@@ -192,7 +193,7 @@ module _ {K P A : Type 0} (r : Rules K A) (strict : (k : Kind) → r.forgives k 
 
   parts-open : (b n : ℕ) (ps : List P) (i : ℕ) → Begins i → SoFar b i ps → Open b (parts_at r c t n ps i)
   unfolding parts_at
-  parts-open b zero ps i at so = λ live. absurd (let no : false ≡ true = live in cc)
+  parts-open b zero ps i at so = no_live
   parts-open b (suc n) ps i at so =
       part-open b i ps (λ more_parts j. parts_at r c t n more_parts j)
       (λ more_parts j begins so_far. parts-open b n more_parts j begins so_far)

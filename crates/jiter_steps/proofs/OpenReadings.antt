@@ -1,12 +1,12 @@
 -- A value whose reading meets a fault that can go on can be ended behind the bytes before it.
 use Rattle.std.proofs.Common.{◌≡◌, inl, inr, ℕ, zero, suc, ◌+◌, ◌<◌, ◌≤◌, Bool, false, List, [], ◌++◌, length, take}
-use Rattle.std.proofs.Common.{refl, sym, ap, ◌∙◌, subst, arith, codes}
+use Rattle.std.proofs.Common.{refl, sym, ◌∙◌, subst, arith, codes}
 use Rattle.std.specs.Prelude.{slice_get, slice_index, Option, Some, None, ◌==◌}
 use Rattle.std.specs.Str.{chars}
 use Rattle.std.specs.Str.Lossy.{utf8_valid_len}
 use Rattle.std.proofs.lemmas.Bool.{false≢true}
 use Rattle.std.proofs.lemmas.Option.{slice_get_within}
-use Rattle.jiter_scan.specs.Kind.{Kind, invalid_code_point, expected_colon}
+use Rattle.jiter_scan.specs.Kind.{Kind}
 use Rattle.jiter_scan.specs.Number.{Number}
 use Rattle.jiter_scan.specs.NumberReading.{number_at}
 use Rattle.jiter_scan.specs.Scanned.{Scanned, taken, failed}
@@ -35,7 +35,7 @@ use Rattle.jiter_steps.proofs.Completions.{taken-first, front-kept}
 use Rattle.jiter_steps.proofs.NodeRules.{nodes, nodes_of, node_members_of, key_of}
 use Rattle.jiter_steps.proofs.OpenNumbers.{LiveIs, then-live, word-live, no_live, zero-number, CanEndNumber}
 use Rattle.jiter_steps.proofs.OpenNumbers.{number-open}
-use Rattle.jiter_steps.proofs.OpenParts.{Anywhere, CanEndHere, CanEnd, Grows, container_at-open}
+use Rattle.jiter_steps.proofs.OpenParts.{Anywhere, CanEndHere, Grows, container_at-open}
 use Rattle.jiter_steps.proofs.Parts.{Grammar, parts-are}
 use Rattle.jiter_steps.proofs.Pieces.{pieces_from}
 use Rattle.jiter_steps.proofs.Places.{IsPlaceKind}
@@ -57,18 +57,14 @@ OpenAs Is t i x = OpenTo (CanEndHere Is t i) x
 
 -- Faults of strings, and of the colon behind a key, are of other kinds.
 place-dead : (k : Kind) → IsPlaceKind k → can_go_on k ≡ false
-place-dead k (inl e) = ap can_go_on e
-place-dead k (inr (inl e)) = ap can_go_on e
-place-dead k (inr (inr (inl e))) = ap can_go_on e
-place-dead k (inr (inr (inr e))) = ap can_go_on e
+place-dead k h = grind (arith, h)
 
 module _ (t : List ℕ) (At : ℕ → Type 0) where
   text_in_form-live : (i : ℕ) (bs : List ℕ) (o : Bool) (s : Stop) → StopWithin t i s
       → LiveIs At (text_in_form whole t i bs o s)
   text_in_form-live i bs o (wrong k j) w = λ live. absurd (false≢true (sym (place-dead k w.2) ∙ live))
   text_in_form-live i bs o (closed e) w =
-      either (LiveIs At) (utf8_valid_len bs == length bs) (taken (record { owned = o; bytes = bs }) e)
-      (failed invalid_code_point (i + utf8_valid_len bs)) tt no_live
+      either (LiveIs At) (utf8_valid_len bs == length bs) _ _ tt no_live
   text_in_form-live i bs o unclosed w = no_live
   text_in_form-live i bs o cut w = no_live
 
@@ -79,8 +75,7 @@ module _ (t : List ℕ) (At : ℕ → Type 0) where
 
   colon-live : (j : ℕ) (o : Option ℕ) → LiveIs At (colon j o)
   colon-live j None = no_live
-  colon-live j (Some c) =
-      either (LiveIs At) (c == 58) (taken tt (j + 1)) (failed expected_colon j) tt no_live
+  colon-live j (Some c) = either (LiveIs At) (c == 58) _ _ tt no_live
 
   value_first-live : (j : ℕ) (o : Option ℕ) → LiveIs At (value_first j o)
   value_first-live j None = no_live
@@ -233,7 +228,7 @@ module _ (names : Bool) where
     }
 
     -- A container whose grammar is so, from its bracket on: the parts and the closer make a value.
-    container-open : {P : Type 0} (closer : ℕ) (Begins : ℕ → Type 0) (IsPart : List ℕ → ℕ → P → ℕ → Type 0)
+    container-open : {P : Type 0} {closer : ℕ} {Begins : ℕ → Type 0} {IsPart : List ℕ → ℕ → P → ℕ → Type 0}
         (Are MoreAre : List ℕ → List P → ℕ → ℕ → Type 0) (c : Container P Node)
         → Delimits t c.first c.next closer Begins → Sticks t c.first c.next → Goes c t → Grows closer IsPart t c Begins
         → ((u : List ℕ) → Grammar u closer Anywhere (IsPart u) (Are u) (MoreAre u))
@@ -241,19 +236,19 @@ module _ (names : Bool) where
         → ((u : List ℕ) (ps : List P) → slice_get u i ≡ Some b → Are u ps (i + 1) (length u)
         → (n : Node) × IsValue room u i n (length u))
         → OpenAs (IsValue room) t i (container_at (nodes names) c t i)
-    container-open closer Begins IsPart Are MoreAre c delimits sticks goes grows are i b here build =
-        open-map (CanEnd closer IsPart t (i + 1)) (CanEndHere (IsValue room) t i)
+    container-open Are MoreAre c delimits sticks goes grows are i b here build =
+        open-map _ (CanEndHere (IsValue room) t i)
         (λ x ends. (
           omega (arith, ends.0),
           close-map t x _ _
               (λ w within parts.
               let u = take x t ++ w in
               build u parts.0 (front-kept t x within w i b (omega (arith, ends.0)) here)
-              (parts-are u closer Anywhere (IsPart u) (Are u) (MoreAre u) (are u) parts.0 (i + 1) (length u) parts.1))
+              (parts-are u _ Anywhere _ (Are u) (MoreAre u) (are u) parts.0 (i + 1) (length u) parts.1))
               ends.1,
         ))
         (container_at (nodes names) c t i)
-        (container_at-open (nodes names) (λ k. refl) t c closer Begins IsPart delimits sticks goes grows i
+        (container_at-open (nodes names) (λ k. refl) t c _ _ _ delimits sticks goes grows i
         (slice_get_within t i b here))
 
     -- scalars
@@ -303,17 +298,14 @@ module _ (names : Bool) where
     value_with-open : (i : ℕ) → i < length t → (s : Start) → start_of (slice_index t i) ≡ s
         → OpenAs (IsValue room) t i (value_with (nodes names) inner t i s)
     value_with-open i h start.Array e =
-        container-open 93 (PartAt shape.Array t) (IsItem room) (λ u. ItemsAre names u room)
-        (λ u. MoreItemsAre names u room)
-        (array names t room i) (delimits t shape.Array) (sticks t shape.Array) (array-goes names t room i)
-        (items-grow i)
+        container-open (λ u. ItemsAre names u room) (λ u. MoreItemsAre names u room) (array names t room i)
+        (delimits t shape.Array) (sticks t shape.Array) (array-goes names t room i) (items-grow i)
         (λ u. items-grammar names u room Anywhere (IsItem room u) (λ j n m at is. is))
         i 91 (byte-here names t room i 91 h (array-byte _ e))
         (λ u ps opens are. value-here u (grammar.array i (length u) (nodes_of ps)) (opens, are.0) refl are.1)
     value_with-open i h start.Object e =
-        container-open 125 (PartAt shape.Object t) (IsMember room) (λ u. MembersAre names u room)
-        (λ u. MoreMembersAre names u room) (object names t room i) (delimits t shape.Object) (sticks t shape.Object)
-        (object-goes names t room i) (members-grow i)
+        container-open (λ u. MembersAre names u room) (λ u. MoreMembersAre names u room) (object names t room i)
+        (delimits t shape.Object) (sticks t shape.Object) (object-goes names t room i) (members-grow i)
         (λ u. members-grammar names u room Anywhere (IsMember room u) (λ j m e at is. is))
         i 123 (byte-here names t room i 123 h (object-byte _ e))
         (λ u ps opens are. value-here u (grammar.object i (length u) (node_members_of ps)) (opens, are.0) refl are.1)

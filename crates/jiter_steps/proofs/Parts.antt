@@ -1,7 +1,8 @@
 -- The parts of a container, one behind another: a container that is read is built of such parts.
-use Rattle.std.proofs.Common.{◌≡◌, ℕ, zero, suc, ◌+◌, ◌<◌, false, cond, List, [], ◌∷◌, ◌++◌, length, refl, sym, subst}
+use Rattle.std.proofs.Common.{◌≡◌, ℕ, zero, suc, ◌+◌, ◌<◌, false, List, [], ◌∷◌, ◌++◌, length, refl, sym, subst}
 use Rattle.std.proofs.Common.{arith, append_assoc}
 use Rattle.jiter_scan.specs.Kind.{Kind}
+use Rattle.jiter_scan.proofs.Choices.{if-false}
 use Rattle.jiter_steps.specs.Blank.{IsBlank}
 use Rattle.jiter_steps.specs.Node.{StandsBehind}
 use Rattle.jiter_steps.specs.Read.{Reading, done, fault, Rules, Container, if_forgiven, follow, behind_part, parts_at}
@@ -10,6 +11,9 @@ use Rattle.jiter_steps.specs.Step.{Step, more, closed, stuck, step}
 use Rattle.jiter_steps.proofs.Bounds.{Within}
 use Rattle.jiter_steps.proofs.RowSteps.{PartBehind, Behind, StepIs, Delimits}
 use Rattle.jiter_steps.proofs.Values.{Goes}
+
+pub behind-ahead : (t : List ℕ) (i c e : ℕ) → StandsBehind t i c e → i < e
+behind-ahead t i c e h = omega (arith, h.blanks.ordered, h.ends)
 
 module _ {P : Type 0} (t : List ℕ) (closer : ℕ) (Begins : ℕ → Type 0) (IsPart : ℕ → P → ℕ → Type 0) where
   -- the part p behind blanks from i on, and the rest behind it
@@ -83,8 +87,7 @@ module _ {K P A : Type 0} (r : Rules K A) (t : List ℕ) (c : Container P A) (cl
         (so p (q ∷ rest) m e is (h.0, h.1, first-part h.0 j h.2 q rest n e also more_parts))
 
     fault-built : (b : ℕ) (close : ℕ → A) (k : Kind) (x stop : ℕ) → BuiltOf b (if_forgiven r close k x stop)
-    fault-built b close k x stop =
-        subst (λ y. BuiltOf b (cond y (done (close stop) stop) (fault k x stop))) (sym (strict k)) tt
+    fault-built b close k x stop = subst (BuiltOf b) (sym (if-false _ (done (close stop) stop) _ (strict k))) tt
 
     abbrev GoesOn : ℕ → (List P → ℕ → Reading A) → Type 0
     GoesOn b next = (ps : List P) (j : ℕ) → Begins j → SoFar b j ps → BuiltOf b (next ps j)

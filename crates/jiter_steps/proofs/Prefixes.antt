@@ -18,35 +18,32 @@ module _ (names : Bool) (t : List ℕ) (k : ℕ) (within : k ≤ length t) where
   abbrev front : List ℕ
   front = take k t
 
-  to_end-early : (x : Reading Node) → EndsEarly x → EndsEarly (to_end front x)
+  -- so the answer of a whole text does
+  to_end-early : (x : Reading Node) → EndsEarly x → EndsEarly (mapped (value_of front) (to_end front x))
   to_end-early (done n e) h = absurd h
   to_end-early (fault kind i stop) h = h
 
+  abbrev IsEarly : Reading Node → Type 0
+  IsEarly x = EndsEarly (mapped (value_of front) x)
+
   whole-early : (n : Node) → IsDocument names t n → IsContainer n → k < end n → (begin n < k) ⊎ (k ≤ begin n)
-      → EndsEarly (whole_answer (nodes names) front)
+      → IsEarly (whole_answer (nodes names) front)
   whole-early n d is gt (inl lt) =
       let first = begins-value names t n d.spelled in
       let here = front-get t k within (begin n) first.byte lt first.here in
       let blanks = front-blank t k within 0 (begin n) d.before (omega arith) in
       let at = blank-passed front 0 (begin n) first.byte blanks here first.no_blank in
       let quiet = ends-end t (end n) d.after in
-      subst EndsEarly (sym (whole-begins (nodes names) front (begin n) at (omega (arith, front-length t k within))))
+      subst IsEarly (sym (whole-begins (nodes names) front (begin n) at (omega (arith, front-length t k within))))
       (to_end-early _ (container-front names t k within n nesting_limit is d.spelled d.limit quiet lt gt))
   whole-early n d is gt (inr ge) =
       let blanks = cut-blank t k within 0 (begin n) d.before (omega arith) ge in
-      subst EndsEarly (sym (whole-empty (nodes names) front (blank-to_end front 0 blanks))) refl
-
-  mapped-early : (x : Reading Node) → EndsEarly x → EndsEarly (mapped (value_of front) x)
-  mapped-early (done n e) h = absurd h
-  mapped-early (fault kind i stop) h = h
-
-  prefix-early : (n : Node) → IsDocument names t n → IsContainer n → k < end n → EndsEarly (answer names front)
-  prefix-early n d is gt =
-      subst EndsEarly (answer-value names front)
-      (mapped-early (whole_answer (nodes names) front) (whole-early n d is gt (cases_lt (begin n) k)))
+      subst IsEarly (sym (whole-empty (nodes names) front (blank-to_end front 0 blanks))) refl
 
 -- Of a document that is an array or an object, each front that lacks the last bracket is refused: the input ends too
 -- early.
 pub prefix-refused : (names : Bool) (t : List ℕ) (n : Node) (k : ℕ) → IsDocument names t n → IsContainer n → k < end n
     → EndsEarly (answer names (take k t))
-prefix-refused names t n k d is gt = prefix-early names t k (omega (arith, d.after.ordered)) n d is gt
+prefix-refused names t n k d is gt =
+    subst EndsEarly (answer-value names (take k t))
+    (whole-early names t k (omega (arith, d.after.ordered)) n d is gt (cases_lt (begin n) k))

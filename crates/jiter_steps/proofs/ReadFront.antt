@@ -17,13 +17,12 @@ use Rattle.jiter_steps.specs.Step.{array_first, object_first, object_colon}
 use Rattle.jiter_steps.specs.declared.parse.Shape.{Shape}
 use Rattle.jiter_steps.specs.declared.parse.Shape.TheVariants as shape
 use Rattle.jiter_steps.specs.declared.parse.Literal.{Literal}
-use Rattle.jiter_steps.specs.declared.parse.Start.{Start}
 use Rattle.jiter_steps.proofs.SpelledParts.{start_is, node-starts, begins-value, nodes_list, members_list, IsItem}
-use Rattle.jiter_steps.proofs.SpelledParts.{IsMember, items-parts, members-parts, behind-ahead, key-ahead, node-ahead}
+use Rattle.jiter_steps.proofs.SpelledParts.{IsMember, items-parts, members-parts, key-ahead, node-ahead}
 use Rattle.jiter_steps.proofs.CutParts.{ReadTo, CutParts, ReadsFront, cuts, colon-cut, value_first-cut, container-whole}
 use Rattle.jiter_steps.proofs.CutParts.{parts-cut}
 use Rattle.jiter_steps.proofs.Front.{front-get, front-index, front-blank, front-behind}
-use Rattle.jiter_steps.proofs.Parts.{Parts}
+use Rattle.jiter_steps.proofs.Parts.{behind-ahead, Parts}
 use Rattle.jiter_steps.proofs.RowSteps.{PartAt, delimits, object_colon-taken}
 use Rattle.jiter_steps.proofs.ScalarLaws.{EndsNumber}
 use Rattle.jiter_steps.proofs.Values.{Advances, AllWithin, Goes, array_of-goes, object_of-goes, inside_at-within}
@@ -155,7 +154,7 @@ module _ {K A : Type 0} (r : Rules K A) (names : Bool) (t : List ℕ) (k : ℕ) 
       value-read : (m : Key × Node) → SpellsKey t m.0 (begin m.1) → Spells names t m.1 → begin m.1 < k
           → MemberAt m.0.begin ≡ with_key (see_key m.0) (inner (begin m.1))
       value-read m h s lt =
-          let order = behind-ahead names t m.0.end 58 h.colon h.behind in
+          let order = behind-ahead t m.0.end 58 h.colon h.behind in
           let key = rules.key m.0 h.string (omega (arith, h.blanks.ordered)) in
           let colon = colon-read m.0 m.1 h s lt in
           member-value r u inner m.0.begin m.0.end (begin m.1) (see_key m.0) (inner (begin m.1)) key colon refl
@@ -199,7 +198,7 @@ module _ {K A : Type 0} (r : Rules K A) (names : Bool) (t : List ℕ) (k : ℕ) 
             by gt (inl past) place =
                 let begun : m.0.begin < k = omega (arith, is.begins) in
                 let key = rules.key-cut m.0 is.key.string begun past in
-                let behind = behind-ahead names t m.0.end 58 is.key.colon is.key.behind in
+                let behind = behind-ahead t m.0.end 58 is.key.colon is.key.behind in
                 inl (record {
                   kind = eof_string;
                   stop = m.0.begin;
@@ -230,42 +229,35 @@ module _ {K A : Type 0} (r : Rules K A) (names : Bool) (t : List ℕ) (k : ℕ) 
 
       -- a container of these parts
       container-reads : {P Q : Type 0} (c : Container Q A) (value : P → Node) (seen : P → Q)
-          (Cut : P → Reading Q → Type 0) (closer : ℕ) (Begins : List ℕ → ℕ → Type 0) (IsPart : ℕ → P → ℕ → Type 0)
+          (Cut : P → Reading Q → Type 0) {closer : ℕ} {Begins : List ℕ → ℕ → Type 0} {IsPart : ℕ → P → ℕ → Type 0}
           → ReadsFront t k within c value seen Cut closer Begins IsPart → Goes c u
           → (n : Node) (ps : List P) → Parts t closer (Begins t) IsPart ps (begin n + 1) (end n) → begin n < k
           → c.build (end n) (map seen ps) ≡ see n
           → (CutParts t k within c value seen Cut c.first (begin n + 1) ps → IsCut n (container_at r c u (begin n)))
           → Reads n (container_at r c u (begin n))
-      container-reads c value seen Cut closer Begins IsPart reads goes n ps parts lt build cut = (
+      container-reads c value seen Cut reads goes n ps parts lt build cut = (
         λ le.
-            container-whole t k within c value seen Cut closer Begins IsPart reads r goes ps (begin n) (end n) parts le
+            container-whole t k within c value seen Cut reads r goes ps (begin n) (end n) parts le
             ∙ ap (λ a. done a (end n)) build,
         λ gt.
             let before : begin n + 1 ≤ k = omega arith in
-            cut
-            (parts-cut t k within c value seen Cut closer Begins IsPart reads ps (begin n + 1) (end n) parts before gt),
+            cut (parts-cut t k within c value seen Cut reads ps (begin n + 1) (end n) parts before gt),
       )
 
       -- a value, by what it begins with
-      abbrev ValueWith : ℕ → Start → Reading A
-      ValueWith b s = value_with r inner u b s
-
       value-reads : InnerReads → (n : Node) → Spells names t n → nesting n ≤ room → EndsNumber t (end n) → begin n < k
-          → Reads n (ValueWith (begin n) (start_is n))
+          → Reads n (value_with r inner u (begin n) (start_is n))
       value-reads all (grammar.literal l b e) h d q lt = rules.literal l b e h lt
       value-reads all (grammar.number b e) h d q lt = rules.number b e h q lt
       value-reads all (grammar.string ps b e) h d q lt = rules.text ps b e h lt
       value-reads all (grammar.array b e ns) h d q lt =
           let goes = array_of-goes r u good inner inner-within b in
-          container-reads (array b) (λ n. n) see IsCut 93 (PartAt shape.Array) (IsItem names t room) (items-front all b)
-          goes
-          (grammar.array b e ns) (nodes_list ns) (items-parts names t room ns (b + 1) e h.1 d) lt
+          container-reads (array b) (λ n. n) see IsCut (items-front all b) goes (grammar.array b e ns) (nodes_list ns)
+          (items-parts names t room ns (b + 1) e h.1 d) lt
           (rules.array b e ns) (rules.array-cut inner b e ns h lt goes)
       value-reads all (grammar.object b e ms) h d q lt =
           let goes = object_of-goes r u good inner inner-within b in
-          container-reads (object b) member_value see_member IsCutMember 125 (PartAt shape.Object)
-          (IsMember names t room)
-          (members-front all b) goes
+          container-reads (object b) member_value see_member IsCutMember (members-front all b) goes
           (grammar.object b e ms) (members_list ms) (members-parts names t room ms (b + 1) e h.1 d) lt
           (rules.object b e ms) (rules.object-cut inner b e ms h lt goes)
 

@@ -1,12 +1,12 @@
 -- Words and numbers in two texts with the same bytes before a place.
-use Rattle.std.proofs.Common.{◌≡◌, ℕ, ◌+◌, ◌<◌, ◌≤◌, Bool, true, false, ◌||◌, List, [], ◌∷◌, length, refl, ap, ◌∙◌}
+use Rattle.std.proofs.Common.{◌≡◌, ℕ, ◌+◌, ◌<◌, ◌≤◌, Bool, false, ◌||◌, List, [], ◌∷◌, length, refl, ap, ◌∙◌}
 use Rattle.std.proofs.Common.{arith}
 use Rattle.std.specs.Prelude.{slice_get, Option, Some, None, ◌==◌, if◌then◌else◌, nat_le, codes}
 use Rattle.std.proofs.lemmas.Bool.{true≢false, leb-false}
 use Rattle.std.proofs.lemmas.Option.{slice_get_within}
 use Rattle.std.proofs.lemmas.Bool.Decides.{nat_tests}
 use Rattle.jiter_scan.specs.Digits.{is_digit, digit_run_end}
-use Rattle.jiter_scan.specs.Kind.{Kind, expected_ident, expected_value, invalid_number, number_out_of_range}
+use Rattle.jiter_scan.specs.Kind.{Kind, expected_ident, expected_value, invalid_number}
 use Rattle.jiter_scan.specs.Number.{digit_limit, number_value}
 use Rattle.jiter_scan.specs.NumberReading.{extent_then, digits_from, behind_zero, within_limit, whole_from, whole_at}
 use Rattle.jiter_scan.specs.NumberReading.{fraction_from, fraction_at, power_from, exponent_from, exponent_at}
@@ -14,6 +14,7 @@ use Rattle.jiter_scan.specs.NumberReading.{decimal_at}
 use Rattle.jiter_scan.specs.NumberReading.{behind_minus, extent_from, number_extent, with_value, number_at}
 use Rattle.jiter_scan.specs.Scanned.{Scanned, taken, failed}
 use Rattle.jiter_scan.specs.Word.{Extent, byte_then, word_at}
+use Rattle.jiter_scan.proofs.Choices.{if_case, if-true, if-false}
 use Rattle.jiter_scan.proofs.NumberLaws.{number_at-within}
 use Rattle.jiter_scan.proofs.Runs.{run_end-ahead}
 use Rattle.jiter_scan.proofs.Scanning.{ScalarWithin}
@@ -100,19 +101,14 @@ module _ (t u : List ℕ) (m : ℕ) (same : SameBefore t u m) where
       grind (arith, nat_tests, more)
 
   limit-same : (i : ℕ) → i < length t → Same i (within_limit i (digit_run_end t i)) (within_limit i (digit_run_end u i))
-  limit-same i lt = by (nat_le (digit_run_end t i) (i + digit_limit)) refl where
-    limited : List ℕ → Bool → Extent
-    limited l b = if b then taken tt (digit_run_end l i) else failed number_out_of_range (i + (digit_limit + 1))
-
-    by : (b : Bool) → nat_le (digit_run_end t i) (i + digit_limit) ≡ b
-        → Same i (limited t b) (within_limit i (digit_run_end u i))
-    by true le s =
-        let run = run-taken i lt s in
-        let here = run-same t u m same is_digit i (digit_run_end t i) refl s.0 s.1 in
-        (run.0, lt, ap (within_limit i) here ∙ ap (limited t) le)
-    by false gt s =
-        let no = too_long i (leb-false (digit_run_end t i) (i + digit_limit) gt) s.0 (omega arith) in
-        (omega (arith, s.0), lt, ap (limited u) no)
+  limit-same i lt =
+      if_case (λ x. Same i x (within_limit i (digit_run_end u i))) (nat_le (digit_run_end t i) (i + digit_limit)) _ _
+      (λ le s.
+      let run = run-same t u m same is_digit i (digit_run_end t i) refl s.0 s.1 in
+      ((run-taken i lt s).0, lt, ap (within_limit i) run ∙ if-true _ _ _ le))
+      (λ gt s.
+      let no = too_long i (leb-false (digit_run_end t i) (i + digit_limit) gt) s.0 (omega arith) in
+      (omega (arith, s.0), lt, if-false _ _ _ no))
 
   whole-same : (i : ℕ) → Same i (whole_at t i) (whole_at u i)
   whole-same i =

@@ -1,5 +1,5 @@
 -- Values in two texts with the same bytes before a place: what one reading shows of these bytes, the other meets too.
-use Rattle.std.proofs.Common.{◌≡◌, ℕ, zero, suc, ◌+◌, ◌<◌, false, cond, List, [], ◌∷◌, ◌++◌, length, refl, sym, ap, ◌∙◌}
+use Rattle.std.proofs.Common.{◌≡◌, ℕ, zero, suc, ◌+◌, ◌<◌, false, List, [], ◌∷◌, ◌++◌, length, refl, sym, ap, ◌∙◌}
 use Rattle.std.proofs.Common.{subst, arith}
 use Rattle.std.specs.Prelude.{slice_get, slice_index, Option, Some, None}
 use Rattle.std.proofs.lemmas.Bool.{true≢false}
@@ -7,13 +7,14 @@ use Rattle.std.proofs.lemmas.Option.{slice_get_within}
 use Rattle.jiter_scan.specs.Kind.{Kind}
 use Rattle.jiter_scan.specs.Scanned.{Scanned, taken, failed}
 use Rattle.jiter_scan.specs.Word.{Extent}
+use Rattle.jiter_scan.proofs.Choices.{if-false}
 use Rattle.jiter_scan.proofs.Scanning.{ScalarWithin}
 use Rattle.jiter_steps.specs.Blank.{past_blanks}
 use Rattle.jiter_steps.specs.Literal.{start_of}
 use Rattle.jiter_steps.specs.Node.{nesting_limit}
 use Rattle.jiter_steps.specs.Step.{Step, more, closed, stuck, step, object_colon}
 use Rattle.jiter_steps.specs.Read.{Reading, done, fault, Rules, Container, scalar_at, with_key, behind_colon}
-use Rattle.jiter_steps.specs.Read.{behind_key, if_last, to_end, if_forgiven, follow, behind_part, parts_at}
+use Rattle.jiter_steps.specs.Read.{behind_key, if_last, to_end, follow, behind_part, parts_at}
 use Rattle.jiter_steps.specs.Read.{container_at, array_of, object_of, value_with, inside_at, value_at, if_begun}
 use Rattle.jiter_steps.specs.Read.{front_answer, whole_answer}
 use Rattle.jiter_steps.specs.declared.parse.Shape.TheVariants as shape
@@ -24,7 +25,7 @@ use Rattle.jiter_steps.proofs.SameFront.{SameBefore, index-same}
 use Rattle.jiter_steps.proofs.SameRuns.{IsOfByte, within-too, past_blanks-same}
 use Rattle.jiter_steps.proofs.SameNumbers.{Shown}
 use Rattle.jiter_steps.proofs.SameSteps.{ShownStep, SameStep, first-same, next-same, object_colon-same}
-use Rattle.jiter_steps.proofs.SameStrings.{IsRefused, SameScalar}
+use Rattle.jiter_steps.proofs.SameStrings.{SameScalar}
 use Rattle.jiter_steps.proofs.Blanks.{past_blanks-after}
 use Rattle.jiter_steps.proofs.Bounds.{Ahead, ExtentAhead, Within, object_colon-ahead}
 use Rattle.jiter_steps.proofs.Values.{Advances, AllWithin, Goes, parts-fault, parts-part, array_of-goes, object_of-goes}
@@ -73,25 +74,6 @@ module _ (t u : List ℕ) (m : ℕ) (same : SameBefore t u m) where
     pub build : (e : ℕ) (ps : List P) → d.build e ps ≡ c.build e ps
 
   module _ {K A : Type 0} (r : Rules K A) (strict : (k : Kind) → r.forgives k ≡ false) where
-    unforgiven : (close : ℕ → A) (k : Kind) (i stop : ℕ) → if_forgiven r close k i stop ≡ fault k i stop
-    unforgiven close k i stop = ap (λ b. cond b (done (close stop) stop) (fault k i stop)) (strict k)
-
-    follow-stays : (i : ℕ) (f g : ℕ → Reading A) (close shut : ℕ → A) (s z : Step) → ((e : ℕ) → shut e ≡ close e)
-        → Ahead t i s → (ShownStep m s → (i < m) × (i < length t) × (z ≡ s))
-        → ((j : ℕ) → j < length t → Stays j (f j) (g j)) → StaysAhead i (follow r f close s) (follow r g shut z)
-    follow-stays i f g close shut (more j) z built ahead here all = λ shown.
-        let rest = all j ahead.1 shown in
-        let at = here rest.0 in
-        (at.0, at.1, subst (λ z. Meets (f j) (follow r g shut z)) (sym at.2) rest.1)
-    follow-stays i f g close shut (closed e) z built ahead here all = λ shown.
-        let at = here shown.0 in
-        (at.0, at.1, ap (follow r g shut) at.2 ∙ ap (λ a. done a e) (built e))
-    follow-stays i f g close shut (stuck k j) z built ahead here all =
-        subst (λ x. StaysAhead i x (follow r g shut z)) (sym (unforgiven close k j j))
-        (λ shown.
-        let at = here shown in
-        (at.0, at.1, subst IsFault (sym (ap (follow r g shut) at.2 ∙ unforgiven shut k j j)) tt))
-
     -- containers
     module _ {P : Type 0} (c d : Container P A) (goes : Goes c t) (goes_too : Goes d u) (keeps : Keeps c d) where
       abbrev PartsToo : List P → ℕ → Reading A
@@ -101,8 +83,7 @@ module _ (t u : List ℕ) (m : ℕ) (same : SameBefore t u m) where
           → IsFault (PartsToo parts i)
       fault-too parts i lt (done p e) is h = absurd h
       fault-too parts i lt (fault k j stop) is h =
-          let close = λ (e : ℕ). d.build e parts in
-          subst IsFault (sym (parts-fault r u d goes_too i j stop parts k lt is ∙ unforgiven close k j stop)) tt
+          subst IsFault (sym (parts-fault r u d goes_too i j stop parts k lt is ∙ if-false _ _ _ (strict k))) tt
 
       -- behind these parts
       next-stays : (go : List P → ℕ → Reading A) (parts : List P) (i : ℕ) (s z : Step)
@@ -110,16 +91,31 @@ module _ (t u : List ℕ) (m : ℕ) (same : SameBefore t u m) where
           → (ShownStep m s → (i < m) × (i < length t) × (z ≡ s))
           → StaysAhead i (follow r (go parts) (λ e. c.build e parts) s)
           (follow r (PartsToo parts) (λ e. d.build e parts) z)
-      next-stays go parts i s z all ahead here =
-          follow-stays i (go parts) (PartsToo parts) (λ e. c.build e parts) (λ e. d.build e parts) s z
-          (λ e. keeps.build e parts) ahead here all
+      next-stays go parts i s z all ahead here = by s ahead here where
+        other : Step → Reading A
+        other s = follow r (PartsToo parts) (λ e. d.build e parts) s
+
+        by : (s : Step) → Ahead t i s → (ShownStep m s → (i < m) × (i < length t) × (z ≡ s))
+            → StaysAhead i (follow r (go parts) (λ e. c.build e parts) s) (other z)
+        by (more j) ahead here = λ shown.
+            let rest = all j ahead.1 shown in
+            let at = here rest.0 in
+            (at.0, at.1, subst (λ z. Meets (go parts j) (other z)) (sym at.2) rest.1)
+        by (closed e) ahead here = λ shown.
+            let at = here shown.0 in
+            (at.0, at.1, ap other at.2 ∙ ap (λ a. done a e) (keeps.build e parts))
+        by (stuck k j) ahead here =
+            subst (λ x. StaysAhead i x (other z)) (sym (if-false _ (done _ j) _ (strict k)))
+            (λ shown.
+            let at = here shown in
+            (at.0, at.1, subst IsFault (sym (ap other at.2 ∙ if-false _ _ _ (strict k))) tt))
 
       behind_part-stays : (go : List P → ℕ → Reading A)
           → ((parts : List P) (j : ℕ) → j < length t → Stays j (go parts j) (PartsToo parts j))
           → (parts : List P) (i : ℕ) → i < length t → (x : Reading P) → Within t i x → Stays i x (d.part i)
           → Stays i (behind_part r c t go parts x) (PartsToo parts i)
       behind_part-stays go all parts i lt (fault k j stop) within stays =
-          subst (λ x. Stays i x (PartsToo parts i)) (sym (unforgiven (λ e. c.build e parts) k j stop))
+          subst (λ x. Stays i x (PartsToo parts i)) (sym (if-false _ (done _ stop) _ (strict k)))
           (λ shown.
           let at = stays shown in
           (at.0, fault-too parts i (within-too t u m same i at.0 lt) (d.part i) refl at.1))
@@ -147,27 +143,17 @@ module _ (t u : List ℕ) (m : ℕ) (same : SameBefore t u m) where
           (omega (arith, s.0), s.2)
 
     -- scalars
-    refused-fault : {B : Type 0} (i : ℕ) (y : Scanned B) → IsRefused y → IsFault (scalar_at i y)
-    refused-fault i (taken a e) h = absurd h
-    refused-fault i (failed k j) h = tt
-
     scalar-stays : {B : Type 0} (i : ℕ) (x y : Scanned B) → SameScalar t m i x y
         → Stays i (scalar_at i x) (scalar_at i y)
     scalar-stays i (taken a e) y h shown = let at = h shown in (at.0, ap (scalar_at i) at.1)
-    scalar-stays i (failed k j) y h shown = let at = h shown in (at.0, refused-fault i y at.1)
+    scalar-stays i (failed k j) (taken b e) h shown = absurd (h shown).1
+    scalar-stays i (failed k j) (failed l x) h shown = h shown
 
     -- members
-    keyed-shown : (key : K) (x : Reading A) → ShownReading t m (with_key key x) → ShownReading t m x
-    keyed-shown key (done a e) h = h
-    keyed-shown key (fault k j stop) h = h
-
-    keyed-fault : (key : K) (y : Reading A) → IsFault y → IsFault (with_key key y)
-    keyed-fault key (done a e) h = h
-    keyed-fault key (fault k j stop) h = h
-
-    keyed-meets : (key : K) (x y : Reading A) → Meets x y → Meets (with_key key x) (with_key key y)
-    keyed-meets key (done a e) y h = ap (with_key key) h
-    keyed-meets key (fault k j stop) y h = keyed-fault key y h
+    keyed-stays : (key : K) (i : ℕ) (x y : Reading A) → Stays i x y → Stays i (with_key key x) (with_key key y)
+    keyed-stays key i (done a e) y h = λ shown. let at = h shown in (at.0, ap (with_key key) at.1)
+    keyed-stays key i (fault k j stop) (done b d) h = λ shown. absurd (h shown).1
+    keyed-stays key i (fault k j stop) (fault l x y) h = h
 
     module _ (inner inner_too : ℕ → Reading A) (all : (i : ℕ) → i < length t → Stays i (inner i) (inner_too i)) where
       colon-stays : (key : K) (e : ℕ) (x y : Extent) → ExtentAhead t e 0 x
@@ -175,21 +161,17 @@ module _ (t u : List ℕ) (m : ℕ) (same : SameBefore t u m) where
           → StaysAhead e (behind_colon key inner x) (behind_colon key inner_too y)
       colon-stays key e (taken w j) y ahead here = λ shown.
           let lt : j < length t = omega (arith, ahead.1) in
-          let value = all j lt (keyed-shown key (inner j) shown) in
+          let value = keyed-stays key j (inner j) (inner_too j) (all j lt) shown in
           let at = here (value.0, lt) in
-          let meets = keyed-meets key (inner j) (inner_too j) value.1 in
-          (at.0, at.1, subst (λ y. Meets (with_key key (inner j)) (behind_colon key inner_too y)) (sym at.2) meets)
+          (at.0, at.1, subst (λ y. Meets (with_key key (inner j)) (behind_colon key inner_too y)) (sym at.2) value.1)
       colon-stays key e (failed k j) y ahead here = λ shown.
           let at = here shown in
           (at.0, at.1, subst (λ y. IsFault (behind_colon key inner_too y)) (sym at.2) tt)
 
-      refused-key : (i : ℕ) (y : Scanned K) → IsRefused y → IsFault (behind_key inner_too u i y)
-      refused-key i (taken a e) h = absurd h
-      refused-key i (failed k j) h = tt
-
       key-stays : (i : ℕ) (x y : Scanned K) → ScalarWithin t i x → SameScalar t m i x y
           → Stays i (behind_key inner t i x) (behind_key inner_too u i y)
-      key-stays i (failed k j) y within here = λ shown. let at = here shown in (at.0, refused-key i y at.1)
+      key-stays i (failed k j) (taken key e) within here = λ shown. absurd (here shown).1
+      key-stays i (failed k j) (failed l x) within here = here
       key-stays i (taken key e) y within here = λ shown.
           let x = object_colon t e in
           let z = object_colon u e in
@@ -202,19 +184,7 @@ module _ (t u : List ℕ) (m : ℕ) (same : SameBefore t u m) where
     module _ (good : Advances r t) (good_too : Advances r u) (kept : KeepsScalars r t u m) where
       module _ (inner inner_too : ℕ → Reading A) (within : AllWithin t inner) (within_too : AllWithin u inner_too)
           (all : (i : ℕ) → i < length t → Stays i (inner i) (inner_too i)) (i : ℕ) where
-        abbrev items : Container A A
-        items = array_of r inner t i
-
-        abbrev items_too : Container A A
-        items_too = array_of r inner_too u i
-
-        abbrev members : Container (K × A) A
-        members = object_of r inner t i
-
-        abbrev members_too : Container (K × A) A
-        members_too = object_of r inner_too u i
-
-        items-keep : Keeps items items_too
+        items-keep : Keeps (array_of r inner t i) (array_of r inner_too u i)
         items-keep = record {
           first = first-same t u m same shape.Array;
           next = next-same t u m same shape.Array;
@@ -222,7 +192,7 @@ module _ (t u : List ℕ) (m : ℕ) (same : SameBefore t u m) where
           build = λ e ps. refl;
         }
 
-        members-keep : Keeps members members_too
+        members-keep : Keeps (object_of r inner t i) (object_of r inner_too u i)
         members-keep = record {
           first = first-same t u m same shape.Object;
           next = next-same t u m same shape.Object;
@@ -233,10 +203,10 @@ module _ (t u : List ℕ) (m : ℕ) (same : SameBefore t u m) where
         value_with-stays : (s : Start) → i < length t
             → Stays i (value_with r inner t i s) (value_with r inner_too u i s)
         value_with-stays start.Array lt =
-            container-stays items items_too (array_of-goes r t good inner within i)
+            container-stays _ _ (array_of-goes r t good inner within i)
             (array_of-goes r u good_too inner_too within_too i) items-keep i lt
         value_with-stays start.Object lt =
-            container-stays members members_too (object_of-goes r t good inner within i)
+            container-stays _ _ (object_of-goes r t good inner within i)
             (object_of-goes r u good_too inner_too within_too i) members-keep i lt
         value_with-stays start.String lt = scalar-stays i (r.text t i) (r.text u i) (kept.text i lt)
         value_with-stays start.Number lt = scalar-stays i (r.number t i) (r.number u i) (kept.number i lt)
@@ -253,23 +223,17 @@ module _ (t u : List ℕ) (m : ℕ) (same : SameBefore t u m) where
             let start = ap start_of (sym (index-same t u m same i v.0 lt)) in
             (v.0, subst (λ s. Meets (value_with r inner t i (here t)) (value_with r inner_too u i s)) start v.1)
 
-      inside-within : (room : ℕ) → AllWithin t (inside_at r t room)
-      inside-within = inside_at-within r t good
-
-      inside-within_too : (room : ℕ) → AllWithin u (inside_at r u room)
-      inside-within_too = inside_at-within r u good_too
-
       inside-stays : (room i : ℕ) → i < length t → Stays i (inside_at r t room i) (inside_at r u room i)
       unfolding inside_at
       inside-stays zero i lt = λ shown. (shown.0, tt)
       inside-stays (suc room) i lt =
-          value-stays (inside_at r t room) (inside_at r u room) (inside-within room) (inside-within_too room)
-          (inside-stays room) i lt
+          value-stays (inside_at r t room) (inside_at r u room) (inside_at-within r t good room)
+          (inside_at-within r u good_too room) (inside-stays room) i lt
 
       value_at-stays : (room i : ℕ) → i < length t → Stays i (value_at r t room i) (value_at r u room i)
       value_at-stays room =
-          value-stays (inside_at r t room) (inside_at r u room) (inside-within room) (inside-within_too room)
-          (inside-stays room)
+          value-stays (inside_at r t room) (inside_at r u room) (inside_at-within r t good room)
+          (inside_at-within r u good_too room) (inside-stays room)
 
       -- whole texts
       front-stays : (i : ℕ) (o : Option ℕ) → past_blanks t 0 ≡ i → slice_get t i ≡ o
@@ -281,10 +245,6 @@ module _ (t u : List ℕ) (m : ℕ) (same : SameBefore t u m) where
           let place = past_blanks-same t u m same 0 i c at here v.0 in
           let begun = ap (λ j. if_begun r u j (slice_get u j)) place ∙ ap (if_begun r u i) (same i c v.0 here) in
           (v.0, subst (Meets (value_at r t nesting_limit i)) (sym begun) v.1)
-
-      to_end-fault : (y : Reading A) → IsFault y → IsFault (to_end u y)
-      to_end-fault (done a e) h = absurd h
-      to_end-fault (fault k j stop) h = tt
 
       trailing-fault : (a : A) (e : ℕ) (y : Reading A) → ((e < m) × (e < length t) → y ≡ done a e)
           → (j : ℕ) (o : Option ℕ) → past_blanks t e ≡ j → slice_get t j ≡ o → ShownFault m (if_last a e j o)
@@ -302,7 +262,8 @@ module _ (t u : List ℕ) (m : ℕ) (same : SameBefore t u m) where
           → IsFault (to_end u y)
       end-stays (done a e) y all =
           trailing-fault a e y all (past_blanks t e) (slice_get t (past_blanks t e)) refl refl
-      end-stays (fault k j stop) y all = λ shown. to_end-fault y (all shown)
+      end-stays (fault k j stop) (done b e) all = λ shown. absurd (all shown)
+      end-stays (fault k j stop) (fault l x y) all = all
 
       -- A fault of a byte before m is a fault in the other text.
       pub whole_answer-stays : ShownFault m (whole_answer r t) → IsFault (whole_answer r u)

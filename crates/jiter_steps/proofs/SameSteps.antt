@@ -3,11 +3,9 @@ use Rattle.std.proofs.Common.{◌≡◌, ℕ, ◌+◌, ◌<◌, ◌==◌, List, 
 use Rattle.std.specs.Prelude.{slice_get, Option, Some, None}
 use Rattle.std.proofs.lemmas.Bool.{true≢false}
 use Rattle.std.proofs.lemmas.Option.{slice_get_within}
-use Rattle.jiter_scan.specs.Kind.{expected_colon, key_must_be_a_string, trailing_comma}
-use Rattle.jiter_scan.specs.Scanned.{taken, failed}
 use Rattle.jiter_scan.specs.Word.{Extent}
 use Rattle.jiter_steps.specs.Blank.{past_blanks}
-use Rattle.jiter_steps.specs.Step.{Step, more, closed, stuck, step, closer_of, begins_part, end_kind_of, comma_kind_of}
+use Rattle.jiter_steps.specs.Step.{Step, more, closed, stuck, step, closer_of, begins_part, end_kind_of}
 use Rattle.jiter_steps.specs.Step.{container_first, container_comma, container_step}
 use Rattle.jiter_steps.specs.Step.{colon, value_first, object_colon}
 use Rattle.jiter_steps.specs.declared.parse.Shape.{Shape}
@@ -67,25 +65,21 @@ module _ (t u : List ℕ) (m : ℕ) (same : SameBefore t u m) where
     pub first-same : (i : ℕ) → SameStep (ShownStep m) i (step t (container_first b) i) (step u (container_first b) i)
     first-same =
         row-same (ShownStep m) (container_first b) end-shown
-        (λ j c. either (At j) (begins_part b c) (more j) _ (λ s. s)
-        (either (At j) (c == closer_of b) (closed (j + 1)) (stuck key_must_be_a_string j) (λ s. omega arith)
-        (λ s. s.0)))
+        (λ j c. either (At j) (begins_part b c) _ _ (λ s. s)
+        (either (At j) (c == closer_of b) _ _ (λ s. omega arith) (λ s. s.0)))
 
     -- behind a comma
     comma-same : (i : ℕ) → SameStep (ShownStep m) i (step t (container_comma b) i) (step u (container_comma b) i)
     comma-same =
         row-same (ShownStep m) (container_comma b) (λ j s. true≢false s.1.0)
-        (λ j c. either (At j) (begins_part b c) (more j) _ (λ s. s)
-        (either (At j) (c == closer_of b) (stuck trailing_comma j) (stuck key_must_be_a_string j) (λ s. s.0)
-        (λ s. s.0)))
+        (λ j c. either (At j) (begins_part b c) _ _ (λ s. s)
+        (either (At j) (c == closer_of b) _ _ (λ s. s.0) (λ s. s.0)))
 
     -- behind a part
     part-same : (j c : ℕ) → SameHere (ShownStep m) j (container_step b t j (Some c)) (container_step b u j (Some c))
     part-same j c =
-        let last = stuck (comma_kind_of b) j in
-        both (SameHere (ShownStep m) j) (c == closer_of b) (closed (j + 1)) _ (closed (j + 1)) _
-        (λ s. (omega arith, refl))
-        (both (SameHere (ShownStep m) j) (c == 44) _ last _ last
+        both (SameHere (ShownStep m) j) (c == closer_of b) _ _ _ _ (λ s. (omega arith, refl))
+        (both (SameHere (ShownStep m) j) (c == 44) _ _ _ _
         (λ s. let r = comma-same (j + 1) s in (omega (arith, r.0), r.2)) (λ s. (s.0, refl)))
 
     pub next-same : (i : ℕ)
@@ -96,12 +90,7 @@ module _ (t u : List ℕ) (m : ℕ) (same : SameBefore t u m) where
   colon-same : (i : ℕ) → SameStep (Shown t m) i (step t colon i) (step u colon i)
   colon-same =
       row-same (Shown t m) colon (λ j s. true≢false s.1.0)
-      (λ j c. either (Here j) (c == 58) (taken tt (j + 1)) (failed expected_colon j) (behind j) (λ s. s.0)) where
-        Here : ℕ → Extent → Type 0
-        Here j x = Shown t m x → j < m
-
-        behind : (j : ℕ) → (j + 1 < m) × (j + 1 < length t) → j < m
-        behind j s = omega (arith, s.0)
+      (λ j c. either (λ (x : Extent). Shown t m x → j < m) (c == 58) _ _ (λ s. omega (arith, s.0)) (λ s. s.0))
 
   value_first-same : (i : ℕ) → SameStep (Shown t m) i (step t value_first i) (step u value_first i)
   value_first-same = row-same (Shown t m) value_first (λ j s. true≢false s.1.0) (λ j c s. s.0)

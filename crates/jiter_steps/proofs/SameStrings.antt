@@ -5,11 +5,11 @@ use Rattle.std.specs.Prelude.{slice_get, slice_index, Option, Some, None, ◌==�
 use Rattle.std.specs.Char.{encode_utf8}
 use Rattle.std.specs.Str.Lossy.{utf8_valid_len}
 use Rattle.std.proofs.lemmas.Bool.{ltb-false, le-ltb, true≢false}
-use Rattle.std.proofs.lemmas.Option.{none-some}
-use Rattle.jiter_scan.specs.Kind.{Kind, invalid_code_point, invalid_escape, lone_surrogate, end_of_hex_escape}
+use Rattle.std.proofs.lemmas.Option.{none-some, same_Some}
+use Rattle.jiter_scan.specs.Kind.{Kind, invalid_escape, lone_surrogate, end_of_hex_escape}
 use Rattle.jiter_scan.specs.Kind.{control_character}
 use Rattle.jiter_scan.specs.Scanned.{Scanned, taken, failed}
-use Rattle.jiter_scan.proofs.Choices.{if_case, if-false}
+use Rattle.jiter_scan.proofs.Choices.{if_case, if-true, if-false}
 use Rattle.jiter_steps.specs.Escape.{short_escape, is_hex, unit_of, is_high, is_low, pair_of}
 use Rattle.jiter_steps.specs.StringReading.{Stop, closed, unclosed, cut, wrong, Place, part, over}
 use Rattle.jiter_steps.specs.StringReading.{bad_digit, unit_at, HexDigits, few, hex_digits_or, hex_digits_at, behind}
@@ -17,7 +17,6 @@ use Rattle.jiter_steps.specs.StringReading.{unit_then, surrogate_pair, behind_hi
 use Rattle.jiter_steps.specs.StringReading.{unicode_escape, short, behind_backslash, plain}
 use Rattle.jiter_steps.specs.StringReading.{place_by, place_at, Body, before, join, body_at}
 use Rattle.jiter_steps.specs.StringReading.{whole, text_in_form, content_at, string_at}
-use Rattle.jiter_steps.specs.Tree.{Text}
 use Rattle.jiter_steps.proofs.SameFront.{SameBefore, index-same}
 use Rattle.jiter_steps.proofs.SameRuns.{both, within-too}
 use Rattle.jiter_steps.proofs.SameNumbers.{Shown}
@@ -27,19 +26,16 @@ use Rattle.jiter_steps.proofs.Places.{Explains, place_at-explains}
 -- a part or a quote that ends before m, or a fault of a place there
 abbrev ShownStop : ℕ → Stop → Type 0
 ShownStop m (closed e) = e < m
-ShownStop m unclosed = ⊥
-ShownStop m cut = ⊥
 ShownStop m (wrong k j) = j < m
+ShownStop m s = ⊥
 
 abbrev ShownFound : ℕ → Place → Type 0
 ShownFound m (part bytes owned e) = e < m
 ShownFound m (over s) = ShownStop m s
 
 abbrev IsWrong : Stop → Type 0
-IsWrong (closed e) = ⊥
-IsWrong unclosed = ⊥
-IsWrong cut = ⊥
 IsWrong (wrong k j) = Unit {0}
+IsWrong s = ⊥
 
 -- the same is place_by; or, where a fault is place_by, that the text ends within the escape
 abbrev Finds : Place → Place → Type 0
@@ -105,15 +101,14 @@ module _ (t u : List ℕ) (m : ℕ) (same : SameBefore t u m) where
 
   digit-same : (p q : ℕ) (x y : Option ℕ) → p ≤ q → p < length t → SameBad q x y
       → SameBad p (if is_hex (slice_index t p) then x else Some p) (if is_hex (slice_index u p) then y else Some p)
-  digit-same p q x y le lt rest k lk = by (is_hex (slice_index t p)) refl where
-    there : (b : Bool) → is_hex (slice_index t p) ≡ b → p < m
-        → (if is_hex (slice_index u p) then y else Some p) ≡ (if b then y else Some p)
-    there b h lp = ap (λ (c : Bool). if c then y else Some p) (ap is_hex (index-same t u m same p lp lt) ∙ h)
-
-    by : (b : Bool) → is_hex (slice_index t p) ≡ b → (if b then x else Some p) ≡ Some k
-        → (p ≤ k) × ((if is_hex (slice_index u p) then y else Some p) ≡ Some k)
-    by true h e = let r = rest k lk e in (omega (arith, r.0), there true h (omega (arith, r.0)) ∙ r.1)
-    by false h e = let place : p ≡ k = cc in (omega arith, there false h (omega arith) ∙ e)
+  digit-same p q x y le lt rest k lk =
+      let there = λ (lp : p < m). ap is_hex (index-same t u m same p lp lt) in
+      if_case (λ o. o ≡ Some k → (p ≤ k) × ((if is_hex (slice_index u p) then y else Some p) ≡ Some k))
+      (is_hex (slice_index t p)) x (Some p)
+      (λ h e.
+      let r = rest k lk e in
+      (omega (arith, r.0), if-true _ y (Some p) (there (omega (arith, r.0)) ∙ h) ∙ r.1))
+      (λ h e. let place = same_Some p k e in (omega arith, if-false _ y (Some p) (there (omega arith) ∙ h) ∙ e))
 
   bad-same : (i : ℕ) → i + 4 ≤ length t → SameBad i (bad_digit t i) (bad_digit u i)
   bad-same i within =
@@ -259,48 +254,35 @@ abbrev pub SameScalar : {A : Type 0} → List ℕ → ℕ → ℕ → Scanned A 
 SameScalar t m i x y = Shown t m x → (i < m) × SameOrFault x y
 
 module _ (t u : List ℕ) (m : ℕ) (same : SameBefore t u m) where
-  text_in_form-cut : (i : ℕ) (b : Body) → b.stop ≡ cut → IsRefused (text_in_form whole u i b.bytes b.owned b.stop)
-  text_in_form-cut i b e = subst (λ s. IsRefused (text_in_form whole u i b.bytes b.owned s)) (sym e) tt
-
   wrong-ends : (i : ℕ) (b d : Body) → IsWrong b.stop → Ends t u m same b d
       → IsRefused (text_in_form whole u i d.bytes d.owned d.stop)
-  wrong-ends i b d w (inr h) = text_in_form-cut i d h.1
+  wrong-ends i b d w (inr h) = subst (λ s. IsRefused (text_in_form whole u i d.bytes d.owned s)) (sym h.1) tt
   wrong-ends i b d w (inl e) = subst (λ (d : Body). IsRefused (text_in_form whole u i d.bytes d.owned d.stop)) (sym e)
       (by b.stop w) where
         by : (s : Stop) → IsWrong s → IsRefused (text_in_form whole u i b.bytes b.owned s)
-        by (closed e) w = absurd w
-        by unclosed w = absurd w
-        by cut w = absurd w
         by (wrong k j) w = tt
-
-  -- a string of this body, if it is UTF-8
-  abbrev if_valid : ℕ → Body → ℕ → Bool → Scanned Text
-  if_valid i b e valid =
-      if valid then taken (record { owned = b.owned; bytes = b.bytes }) e
-      else failed invalid_code_point (i + utf8_valid_len b.bytes)
+        by s w = absurd w
 
   -- what is shown of a string with this body
   body-shown : (i : ℕ) (b : Body) (s : Stop) → b.stop ≡ s
       → (ShownStop m s → (i < m) × Ends t u m same b (body_at u i))
       → SameScalar t m i (text_in_form whole t i b.bytes b.owned s) (content_at whole u i)
   unfolding content_at
-  body-shown i b unclosed e ends shown = absurd (true≢false shown.1.0)
-  body-shown i b cut e ends shown = absurd (true≢false shown.1.0)
-  body-shown i b (wrong k j) e ends shown =
+  body-shown i b unclosed e ends = λ shown. absurd (true≢false shown.1.0)
+  body-shown i b cut e ends = λ shown. absurd (true≢false shown.1.0)
+  body-shown i b (wrong k j) e ends = λ shown.
       let r = ends shown.0 in
       (r.0, wrong-ends i b (body_at u i) (subst IsWrong (sym e) tt) r.1)
-  body-shown i b (closed e) is ends shown = by (utf8_valid_len b.bytes == length b.bytes) refl shown where
-    again : Ends t u m same b (body_at u i)
-        → content_at whole u i ≡ if_valid i b e (utf8_valid_len b.bytes == length b.bytes)
-    again (inl h) =
-        ap (λ (d : Body). text_in_form whole u i d.bytes d.owned d.stop) h
-        ∙ ap (text_in_form whole u i b.bytes b.owned) is
-    again (inr h) = absurd (subst IsWrong is h.0)
-
-    by : (valid : Bool) → (utf8_valid_len b.bytes == length b.bytes) ≡ valid
-        → SameScalar t m i (if_valid i b e valid) (content_at whole u i)
-    by true h shown = let r = ends shown.0 in (r.0, again r.1 ∙ ap (if_valid i b e) h)
-    by false h shown = absurd (shown.1.1 refl)
+  body-shown i b (closed e) is ends =
+      if_case (λ x. SameScalar t m i x (content_at whole u i)) (utf8_valid_len b.bytes == length b.bytes) _ _
+      (λ valid shown. let r = ends shown.0 in (r.0, again r.1 ∙ if-true _ _ _ valid))
+      (λ other shown. absurd (shown.1.1 refl)) where
+        again : Ends t u m same b (body_at u i)
+            → content_at whole u i ≡ text_in_form whole u i b.bytes b.owned (closed e)
+        again (inl h) =
+            ap (λ (d : Body). text_in_form whole u i d.bytes d.owned d.stop) h
+            ∙ ap (text_in_form whole u i b.bytes b.owned) is
+        again (inr h) = absurd (subst IsWrong is h.0)
 
   pub string-same : (i : ℕ) → SameScalar t m i (string_at whole t i) (string_at whole u i)
   unfolding content_at

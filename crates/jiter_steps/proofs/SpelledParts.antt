@@ -27,7 +27,7 @@ use Rattle.jiter_steps.specs.declared.parse.Literal.TheVariants as literal
 use Rattle.jiter_steps.specs.declared.parse.Start.{Start}
 use Rattle.jiter_steps.specs.declared.parse.Start.TheVariants as start
 use Rattle.jiter_steps.proofs.NodeRules.{nodes_of, node_members_of, key_of}
-use Rattle.jiter_steps.proofs.Parts.{PartThen, MoreParts, Parts}
+use Rattle.jiter_steps.proofs.Parts.{behind-ahead, MoreParts, Parts, Grammar, parts-are}
 use Rattle.jiter_steps.specs.declared.parse.Shape.TheVariants as shape
 use Rattle.jiter_steps.proofs.RowSteps.{PartAt, quote-begins}
 use Rattle.jiter_steps.proofs.ScalarLaws.{ScalarLaws, scalar-laws, EndsNumber}
@@ -48,20 +48,13 @@ pub record BeginsValue (t : List ℕ) (i : ℕ) (s : Start) : Type 0 where
   pub no_blank : is_blank byte ≡ false
   pub no_closer : (byte == 93) ≡ false
 
-number-starts : (c : ℕ) → begins_number c ≡ true → start_of c ≡ start.Number
-number-starts c e = grind (arith, nat_tests, e)
-
-number-no_blank : (c : ℕ) → begins_number c ≡ true → is_blank c ≡ false
-number-no_blank c e = grind (arith, nat_tests, e)
-
-number-no_closer : (c : ℕ) → begins_number c ≡ true → (c == 93) ≡ false
-number-no_closer c e = grind (arith, nat_tests, e)
+-- the byte that begins a number
+number-byte : (c : ℕ) → begins_number c ≡ true
+    → (start_of c ≡ start.Number) × (is_blank c ≡ false) × ((c == 93) ≡ false)
+number-byte c e = (grind (arith, nat_tests, e), grind (arith, nat_tests, e), grind (arith, nat_tests, e))
 
 blank-ends : (c : ℕ) → IsBlankByte c → continues_number c ≡ false
-blank-ends c (inl e) = ap continues_number e
-blank-ends c (inr (inl e)) = ap continues_number e
-blank-ends c (inr (inr (inl e))) = ap continues_number e
-blank-ends c (inr (inr (inr e))) = ap continues_number e
+blank-ends c h = grind (arith, nat_tests, h)
 
 slice-empty : (t : List ℕ) (b e : ℕ) → e ≡ b → slice_range t b e ≡ []
 slice-empty t b e h = let none : e - b ≡ 0 = omega arith in ap (λ k. take k (drop b t)) none
@@ -145,14 +138,14 @@ module _ (names : Bool) (t : List ℕ) where
   number-begins : (b e : ℕ) → SpellsNumber names t b e → BeginsValue t b start.Number
   number-begins b e h =
       let lt = number-ahead b e h (cases_eq b e) in
-      let first = laws.number-begins (slice_index t b) (slice_range t (b + 1) e)
-      (subst (IsNumberText names) (slice-first t b e lt h.within) h.text) in
+      let first = number-byte (slice_index t b) (laws.number-begins (slice_index t b) (slice_range t (b + 1) e)
+      (subst (IsNumberText names) (slice-first t b e lt h.within) h.text)) in
       record {
         byte = slice_index t b;
         here = slice_get-get_or t b 0 (omega (arith, h.within));
-        starts = number-starts (slice_index t b) first;
-        no_blank = number-no_blank (slice_index t b) first;
-        no_closer = number-no_closer (slice_index t b) first;
+        starts = first.0;
+        no_blank = first.1;
+        no_closer = first.2;
       }
 
   pub begins-value : (n : Node) → Spells names t n → BeginsValue t (begin n) (start_is n)
@@ -255,9 +248,6 @@ module _ (names : Bool) (t : List ℕ) where
   pub begin-within : (n : Node) → Spells names t n → begin n < length t
   begin-within n h = let first = begins-value n h in slice_get_within t (begin n) first.byte first.here
 
-  pub behind-ahead : (i c e : ℕ) → StandsBehind t i c e → i < e
-  behind-ahead i c e h = omega (arith, h.blanks.ordered, h.ends)
-
   behind-within : (i c e : ℕ) → StandsBehind t i c e → e ≤ length t
   behind-within i c e h = let last = slice_get_within t h.at c h.here in omega (arith, h.ends)
 
@@ -265,7 +255,7 @@ module _ (names : Bool) (t : List ℕ) where
   pub key-ahead : (key : Key) (j : ℕ) → SpellsKey t key j → key.begin < j
   key-ahead key j h =
       let string = laws.string-ordered key.begin key.end key.pieces h.string in
-      omega (arith, string.0, behind-ahead key.end 58 h.colon h.behind, h.blanks.ordered)
+      omega (arith, string.0, behind-ahead t key.end 58 h.colon h.behind, h.blanks.ordered)
 
   module _ (room : ℕ) where
     -- the values of these parts stand one behind another, from i to before e, which lies within the text
@@ -276,96 +266,75 @@ module _ (names : Bool) (t : List ℕ) where
         × InOrder value (end (value p)) ps e
 
     -- So stand parts whose values are such, one behind another.
-    module _ {P : Type 0} (closer : ℕ) (Begins : ℕ → Type 0) (IsPart : ℕ → P → ℕ → Type 0) (value : P → Node)
-        (each : (i : ℕ) (p : P) (e : ℕ) → IsPart i p e
-        → (i ≤ begin (value p)) × Spells names t (value p) × (nesting (value p) < room) × (end (value p) ≡ e)) where
-      part-order : (i c : ℕ) (p : P) (ps : List P) (e : ℕ) → i ≤ c
-          → (h : PartThen t closer Begins IsPart c p (λ m. MoreParts t closer Begins IsPart ps m e))
-          → InOrder value h.end ps e → InOrder value i (p ∷ ps) e
-      part-order i c p ps e le h rest =
-          let x = each h.begin p h.end h.is in
-          (omega (arith, h.blanks.ordered, x.0), x.1, x.2, subst (λ j. InOrder value j ps e) (sym x.3) rest)
-
-      more_parts-order : (ps : List P) (i e : ℕ) → MoreParts t closer Begins IsPart ps i e → InOrder value i ps e
-      more_parts-order [] i e h = (behind-ahead i closer e h, behind-within i closer e h)
-      more_parts-order (p ∷ ps) i e h =
-          part-order i h.0 p ps e (omega (arith, behind-ahead i 44 h.0 h.1)) h.2
-          (more_parts-order ps h.2.end e h.2.rest)
-
-      parts-order : (ps : List P) (i e : ℕ) → Parts t closer Begins IsPart ps i e → InOrder value i ps e
-      parts-order [] i e h = more_parts-order [] i e h
-      parts-order (p ∷ ps) i e h =
-          part-order i i p ps e (omega arith) h (more_parts-order ps h.end e h.rest)
-
-    item-order : (i : ℕ) (n : Node) (e : ℕ) → IsItem names t room i n e
-        → (i ≤ begin n) × Spells names t n × (nesting n < room) × (end n ≡ e)
-    item-order i n e is = (omega (arith, is.begins), is.spelled, is.limit, is.ends)
-
-    member-order : (i : ℕ) (m : Key × Node) (e : ℕ) → IsMember names t room i m e
-        → (i ≤ begin m.1) × Spells names t m.1 × (nesting m.1 < room) × (end m.1 ≡ e)
-    member-order i m e is =
-        let behind = key-ahead m.0 (begin m.1) is.key in
-        let value = is.value in
-        (omega (arith, is.begins), value.spelled, value.limit, value.ends)
+    order-grammar : {P : Type 0} (closer : ℕ) (Begins : ℕ → Type 0) (IsPart : ℕ → P → ℕ → Type 0) (value : P → Node)
+        → ((i : ℕ) (p : P) (e : ℕ) → IsPart i p e
+        → (i ≤ begin (value p)) × Spells names t (value p) × (nesting (value p) < room) × (end (value p) ≡ e))
+        → Grammar t closer Begins IsPart (λ ps i e. InOrder value i ps e) (λ ps i e. InOrder value i ps e)
+    order-grammar closer Begins IsPart value each = record {
+      none = λ i e h. (behind-ahead t i closer e h, behind-within i closer e h);
+      no_more = λ i e h. (behind-ahead t i closer e h, behind-within i closer e h);
+      part = λ p ps i j m e blanks begins is rest.
+          let x = each j p m is in
+          (omega (arith, blanks.ordered, x.0), x.1, x.2, subst (λ j. InOrder value j ps e) (sym x.3) rest);
+      comma = λ p ps i c e h x. (omega (arith, behind-ahead t i 44 c h, x.0), x.1, x.2, x.3);
+    }
 
     pub items-order : (ns : Nodes) (i e : ℕ) → SpellsItems names t i ns e → nesting_round ns ≤ room
         → InOrder (λ n. n) i (nodes_list ns) e
     items-order ns i e h d =
-        parts-order 93 (PartAt shape.Array t) (IsItem names t room) (λ n. n) item-order (nodes_list ns) i e
-        (items-parts room ns i e h d)
+        parts-are t 93 _ _ _ _
+        (order-grammar 93 (PartAt shape.Array t) (IsItem names t room) (λ n. n)
+        (λ i n e is. (omega (arith, is.begins), is.spelled, is.limit, is.ends)))
+        (nodes_list ns) i e (items-parts room ns i e h d)
 
     pub members-order : (ms : NodeMembers) (i e : ℕ) → SpellsMembers names t i ms e → nesting_round_members ms ≤ room
         → InOrder (λ m. m.1) i (members_list ms) e
     members-order ms i e h d =
-        parts-order 125 (PartAt shape.Object t) (IsMember names t room) (λ m. m.1) member-order (members_list ms) i e
-        (members-parts room ms i e h d)
+        parts-are t 125 _ _ _ _
+        (order-grammar 125 (PartAt shape.Object t) (IsMember names t room) (λ m. m.1)
+        (λ i m e is.
+        let value = is.value in
+        (omega (arith, is.begins, key-ahead m.0 (begin m.1) is.key), value.spelled, value.limit, value.ends)))
+        (members_list ms) i e (members-parts room ms i e h d)
 
-    order-within : {P : Type 0} (value : P → Node) (ps : List P) (i e : ℕ) → InOrder value i ps e → e ≤ length t
-    order-within value [] i e h = h.1
-    order-within value (p ∷ ps) i e h = order-within value ps (end (value p)) e h.3
+    -- from its begin on, to an end within the text
+    abbrev Ends : Type 0
+    Ends = (n : Node) → Spells names t n → nesting n < room → (begin n < end n) × (end n ≤ length t)
 
-    abbrev Ahead : Type 0
-    Ahead = (n : Node) → Spells names t n → nesting n < room → begin n < end n
-
-    order-after : Ahead → {P : Type 0} (value : P → Node) (ps : List P) (i e : ℕ) → InOrder value i ps e → i < e
-    order-after all value [] i e h = h.0
-    order-after all value (p ∷ ps) i e h =
+    order-ends : Ends → {P : Type 0} (value : P → Node) (ps : List P) (i e : ℕ) → InOrder value i ps e
+        → (i < e) × (e ≤ length t)
+    order-ends all value [] i e h = h
+    order-ends all value (p ∷ ps) i e h =
         let here = all (value p) h.1 h.2 in
-        let rest = order-after all value ps (end (value p)) e h.3 in
-        omega (arith, h.0)
-
-  pub node-within : (n : Node) → Spells names t n → end n ≤ length t
-  node-within (grammar.literal l b e) h =
-      stands-within t b e (word_of l) (omega (arith, begin-within (grammar.literal l b e) h)) h
-  node-within (grammar.number b e) h = h.within
-  node-within (grammar.string ps b e) h = (laws.string-ordered b e ps h).1
-  node-within (grammar.array b e ns) h =
-      let room = nesting_round ns in
-      order-within room (λ n. n) (nodes_list ns) (b + 1) e (items-order room ns (b + 1) e h.1 (omega arith))
-  node-within (grammar.object b e ms) h =
-      let room = nesting_round_members ms in
-      order-within room (λ m. m.1) (members_list ms) (b + 1) e (members-order room ms (b + 1) e h.1 (omega arith))
+        let rest = order-ends all value ps (end (value p)) e h.3 in
+        (omega (arith, h.0, here.0, rest.0), rest.1)
 
   word-ahead : (l : Literal) (b e : ℕ) → Stands t b e (word_of l) → b < e
-  word-ahead literal.Null b e h = let after = stands-length t b e (word_of literal.Null) h in omega arith
-  word-ahead literal.True b e h = let after = stands-length t b e (word_of literal.True) h in omega arith
-  word-ahead literal.False b e h = let after = stands-length t b e (word_of literal.False) h in omega arith
+  word-ahead literal.Null b e h = omega (arith, stands-length t b e (word_of literal.Null) h)
+  word-ahead l b e h = omega (arith, stands-length t b e (word_of l) h)
 
-  ahead : (room : ℕ) → Ahead room
-  ahead zero n h d = absurd (omega arith)
-  ahead (suc room) (grammar.literal l b e) h d = word-ahead l b e h
-  ahead (suc room) (grammar.number b e) h d = number-ahead b e h (cases_eq b e)
-  ahead (suc room) (grammar.string ps b e) h d = (laws.string-ordered b e ps h).0
-  ahead (suc room) (grammar.array b e ns) h d =
+  node-ends : (room : ℕ) → Ends room
+  node-ends zero n h d = absurd (omega arith)
+  node-ends (suc room) (grammar.literal l b e) h d =
+      let within = stands-within t b e (word_of l) (omega (arith, begin-within (grammar.literal l b e) h)) h in
+      (word-ahead l b e h, within)
+  node-ends (suc room) (grammar.number b e) h d = (number-ahead b e h (cases_eq b e), h.within)
+  node-ends (suc room) (grammar.string ps b e) h d = let order = laws.string-ordered b e ps h in (order.0, order.1)
+  node-ends (suc room) (grammar.array b e ns) h d =
       let order = items-order room ns (b + 1) e h.1 (omega arith) in
-      omega (arith, order-after room (ahead room) (λ n. n) (nodes_list ns) (b + 1) e order)
-  ahead (suc room) (grammar.object b e ms) h d =
+      let ends = order-ends room (node-ends room) (λ n. n) (nodes_list ns) (b + 1) e order in
+      (omega (arith, ends.0), ends.1)
+  node-ends (suc room) (grammar.object b e ms) h d =
       let order = members-order room ms (b + 1) e h.1 (omega arith) in
-      omega (arith, order-after room (ahead room) (λ m. m.1) (members_list ms) (b + 1) e order)
+      let ends = order-ends room (node-ends room) (λ m. m.1) (members_list ms) (b + 1) e order in
+      (omega (arith, ends.0), ends.1)
 
   pub node-ahead : (n : Node) → Spells names t n → begin n < end n
-  node-ahead n h = ahead (suc (nesting n)) n h (omega arith)
+  node-ahead n h = (node-ends (suc (nesting n)) n h (omega arith)).0
+
+  pub node-within : (n : Node) → Spells names t n → end n ≤ length t
+  node-within n h = (node-ends (suc (nesting n)) n h (omega arith)).1
 
   pub order-ahead : (room : ℕ) {P : Type 0} (value : P → Node) (ps : List P) (i e : ℕ) → InOrder room value i ps e
       → i < e
-  order-ahead room value ps i e h = order-after room (λ n spelled d. node-ahead n spelled) value ps i e h
+  order-ahead room value ps i e h = (order-ends room (node-ends room) value ps i e h).0

@@ -2,10 +2,10 @@
 use Rattle.std.proofs.Common.{◌≡◌, ◌⊎◌, inl, inr, ℕ, ◌+◌, ◌≤◌, ◌==◌, List, length, subst, arith}
 use Rattle.std.specs.Prelude.{Option, Some, None}
 use Rattle.std.proofs.lemmas.Option.{slice_get_within}
-use Rattle.jiter_scan.specs.Kind.{Kind, key_must_be_a_string, trailing_comma}
+use Rattle.jiter_scan.specs.Kind.{Kind}
 use Rattle.jiter_steps.specs.Blank.{IsBlank}
 use Rattle.jiter_steps.specs.Node.{StandsBehind}
-use Rattle.jiter_steps.specs.Step.{Step, more, closed, stuck, step, closer_of, begins_part, comma_kind_of}
+use Rattle.jiter_steps.specs.Step.{Step, more, closed, stuck, step, closer_of, begins_part}
 use Rattle.jiter_steps.specs.Step.{container_first, container_comma, container_step}
 use Rattle.jiter_steps.specs.declared.parse.Shape.{Shape}
 use Rattle.jiter_steps.proofs.Bounds.{either}
@@ -37,15 +37,14 @@ module _ (t : List ℕ) where
     first-here : (i j : ℕ) (o : Option ℕ) → Stops t i j o → StuckIs (IsBlank t i) (container_first b j o)
     first-here i j None s = s.blanks
     first-here i j (Some c) s =
-        either (StuckIs (IsBlank t i)) (begins_part b c) (more j) _ tt
-        (either (StuckIs (IsBlank t i)) (c == closer_of b) (closed (j + 1)) (stuck key_must_be_a_string j) tt s.blanks)
+        let Is = StuckIs (IsBlank t i) in
+        either Is (begins_part b c) _ _ tt (either Is (c == closer_of b) _ _ tt s.blanks)
 
     comma-here : (i j : ℕ) (o : Option ℕ) → Stops t i j o → StuckIs (IsBlank t i) (container_comma b j o)
     comma-here i j None s = s.blanks
     comma-here i j (Some c) s =
-        either (StuckIs (IsBlank t i)) (begins_part b c) (more j) _ tt
-        (either (StuckIs (IsBlank t i)) (c == closer_of b) (stuck trailing_comma j) (stuck key_must_be_a_string j)
-        s.blanks s.blanks)
+        let Is = StuckIs (IsBlank t i) in
+        either Is (begins_part b c) _ _ tt (either Is (c == closer_of b) _ _ s.blanks s.blanks)
 
     step-here : (i j : ℕ) (o : Option ℕ) → Stops t i j o → StuckIs (BlanksOrComma t i) (container_step b t j o)
     step-here i j None s = inl s.blanks
@@ -53,15 +52,14 @@ module _ (t : List ℕ) where
         let inside = slice_get_within t j c s.here in
         let Is = StuckIs (IsBlank t (j + 1)) in
         let behind-comma = row-is t Is (container_comma b) (j + 1) (comma-here (j + 1)) (omega arith) in
-        either (StuckIs (BlanksOrComma t i)) (c == closer_of b) (closed (j + 1)) _ tt
-        (tested (StuckIs (BlanksOrComma t i)) c 44 (step t (container_comma b) (j + 1)) (stuck (comma_kind_of b) j)
+        either (StuckIs (BlanksOrComma t i)) (c == closer_of b) _ _ tt
+        (tested (StuckIs (BlanksOrComma t i)) c 44 _ _
         (λ e. comma-then i (j + 1) _ (behind t i j c 44 s e) behind-comma) (λ e. inl s.blanks))
 
     pub sticks : Sticks (container_first b) (container_step b t)
     sticks = record {
       first-stuck = λ i j k h e.
-          let Is = StuckIs (IsBlank t i) in
-          subst Is e (row-is t Is (container_first b) i (first-here i) h);
+          subst (StuckIs (IsBlank t i)) e (row-is t (StuckIs (IsBlank t i)) (container_first b) i (first-here i) h);
       next-stuck = λ i j k h e.
           let Is = StuckIs (BlanksOrComma t i) in
           subst Is e (row-is t Is (container_step b t) i (step-here i) h);

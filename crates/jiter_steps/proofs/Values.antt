@@ -39,7 +39,7 @@ module _ {K A : Type 0} (r : Rules K A) (t : List ℕ) where
   if_forgiven-within : (b : ℕ) (close : ℕ → A) (k : Kind) (x stop : ℕ) → b < stop → stop ≤ length t → FaultAt t k x
       → Within t b (if_forgiven r close k x stop)
   if_forgiven-within b close k x stop lt le at =
-      either (Within t b) (r.forgives k) (done (close stop) stop) (fault k x stop) (lt, le) (omega arith, le, at)
+      either (Within t b) (r.forgives k) _ _ (lt, le) (omega arith, le, at)
 
   follow-within : (b e : ℕ) (next : ℕ → Reading A) (close : ℕ → A) (s : Step) → b < e → Ahead t e s
       → ((j : ℕ) → e ≤ j → j < length t → Within t b (next j)) → Within t b (follow r next close s)
@@ -96,18 +96,11 @@ module _ {K A : Type 0} (r : Rules K A) (t : List ℕ) where
         behind_part-same _ _ i parts (c.part i) (goes.part i h)
         (λ ps j lj h'. parts_at-turns n m ps j h' (omega arith) (omega arith))
 
-    enough : (n : ℕ) (parts : List P) (i : ℕ) → i < length t → length t ≤ i + n
-        → parts_at r c t n parts i ≡ behind_part r c t (parts_at r c t (length t)) parts (c.part i)
-    unfolding parts_at
-    enough zero parts i h p = let no : ⊥ = omega arith in absurd no
-    enough (suc n) parts i h p =
-        behind_part-same _ _ i parts (c.part i) (goes.part i h)
-        (λ ps j lj h'. parts_at-turns n (length t) ps j h' (omega arith) (omega arith))
-
     -- One part, and then the step behind it. After this no proof speaks of turns.
     pub parts_at_is : (parts : List P) (i : ℕ) → i < length t
         → parts_at r c t (length t) parts i ≡ behind_part r c t (parts_at r c t (length t)) parts (c.part i)
-    parts_at_is parts i h = enough (length t) parts i h (omega arith)
+    unfolding parts_at
+    parts_at_is parts i h = parts_at-turns (length t) (suc (length t)) parts i h (omega arith) (omega arith)
 
     pub parts-fault : (i x stop : ℕ) (parts : List P) (k : Kind) → i < length t → c.part i ≡ fault k x stop
         → parts_at r c t (length t) parts i ≡ if_forgiven r (λ e. c.build e parts) k x stop
