@@ -20,7 +20,7 @@ use Rattle.jiter_steps.specs.StringReading.{unicode_escape, behind_backslash}
 use Rattle.jiter_steps.specs.StringReading.{place_by, place_at, before, body_at, whole, content_at, string_at}
 use Rattle.jiter_scan.proofs.Standing.{stands-split}
 use Rattle.jiter_steps.proofs.Utf8Shape.{AllFollow, lead}
-use Rattle.jiter_steps.proofs.Places.{HexAt, scalar-pair, scalar-short}
+use Rattle.jiter_steps.proofs.Places.{HexAt, UnitAt, scalar-pair, scalar-short}
 use Rattle.jiter_steps.proofs.Bodies.{before-before, body_at-place_by}
 
 pub record IsPrinted (b : ℕ) : Type 0 where
@@ -71,17 +71,10 @@ module _ (t : List ℕ) where
   hex_digits_at-good i h =
       rw (le-ltb (length t) (i + 4) h.within, h.digits.0, h.digits.1, h.digits.2, h.digits.3)
 
-  pub record UnitAt (o e u : ℕ) : Type 0 where
-    pub slash : slice_get t o ≡ Some 92
-    pub letter : slice_get t (o + 1) ≡ Some 117
-    pub hex : HexAt t (o + 1 + 1)
-    pub number : unit_at t (o + 1 + 1) ≡ u
-    pub ends : e ≡ o + 6
-
   index-at : (k m x : ℕ) → k ≡ m → slice_get t k ≡ Some x → slice_index t m ≡ x
   index-at k m x e h = get_or_from_slice_get t m x 0 (subst (λ n. slice_get t n ≡ Some x) e h)
 
-  pub unit-at : (o e u : ℕ) (p : List ℕ) → IsUnit p u → Stands t o e p → UnitAt o e u
+  pub unit-at : (o e u : ℕ) (p : List ℕ) → IsUnit p u → Stands t o e p → UnitAt t o e u
   unit-at o e u p is s =
       let h : Stands t o e (92 ∷ 117 ∷ is.a ∷ is.b ∷ is.c ∷ is.d ∷ []) = subst (Stands t o e) is.is s in
       let a = index-at (o + 1 + 1) (o + 1 + 1) is.a refl h.1.1.0 in
@@ -97,12 +90,12 @@ module _ (t : List ℕ) where
         ends = omega (arith, h.1.1.1.1.1.1);
       }
 
-  pub place_by-number : (i e u : ℕ) → UnitAt i e u → place_at t i ≡ unicode_escape t (i + 1 + 1 + 4) u
+  pub place_by-number : (i e u : ℕ) → UnitAt t i e u → place_at t i ≡ unicode_escape t (i + 1 + 1 + 4) u
   place_by-number i e u x =
       rw (place_by-backslash i x.slash, x.letter, hex_digits_at-good (i + 1 + 1) x.hex, x.number)
 
-  place_by-pair : (i j k high low : ℕ) → is_high high ≡ true → is_low low ≡ true → UnitAt i k high
-      → UnitAt (i + 1 + 1 + 4) j low → place_at t i ≡ part (encode_utf8 (pair_of high low)) true j
+  place_by-pair : (i j k high low : ℕ) → is_high high ≡ true → is_low low ≡ true → UnitAt t i k high
+      → UnitAt t (i + 1 + 1 + 4) j low → place_at t i ≡ part (encode_utf8 (pair_of high low)) true j
   place_by-pair i j k high low hi lo x y =
       let o = i + 1 + 1 + 4 in
       rw (place_by-number i k high x, hi, y.slash, y.letter, hex_digits_at-good (o + 1 + 1) y.hex, y.number, lo)

@@ -19,9 +19,10 @@ use Rattle.jiter_steps.proofs.Utf8Shape.{lead}
 use Rattle.jiter_scan.proofs.Standing.{stands-split}
 use Rattle.jiter_steps.proofs.Front.{front-length, front-get, front-stands}
 use Rattle.jiter_steps.proofs.SameFront.{string-too}
+use Rattle.jiter_steps.proofs.Places.{UnitAt}
 use Rattle.jiter_steps.proofs.Bodies.{body_at-place_by, place_by-end}
 use Rattle.jiter_steps.proofs.StringComplete.{ArePrinted, plain-printed, bytes-read, char-read, place_by-backslash}
-use Rattle.jiter_steps.proofs.StringComplete.{place_by-number, UnitAt, unit-at}
+use Rattle.jiter_steps.proofs.StringComplete.{place_by-number, unit-at}
 use Rattle.jiter_scan.specs.Kind.{eof_string}
 use Rattle.jiter_steps.proofs.CutCharacters.{IsFront, tail-unfinished, tail-taken}
 
