@@ -281,8 +281,8 @@ place_at-explains t i = by (slice_get t i) refl where
       if_case (Explains t i) (b == 34) _ _ (λ q. (e ∙ ap Some (eqb-true b 34 q), refl)) (λ q.
       if_case (Explains t i) (b == 92) _ _
       (λ s. behind_backslash-explains t i (e ∙ ap Some (eqb-true b 92 s)) (slice_get t (i + 1)) refl) (λ s.
-      if_case (Explains t i) (nat_lt b 32) _ _ (λ c. (omega arith, slice_get_within t i b e, inr (inr (inr refl)))) (λ c.
-      record {
+      if_case (Explains t i) (nat_lt b 32) _ _ (λ c. (omega arith, slice_get_within t i b e, inr (inr (inr refl))))
+      (λ c. record {
         byte = b;
         here = e;
         is = refl;

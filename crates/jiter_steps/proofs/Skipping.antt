@@ -45,18 +45,13 @@ module _ (names : Bool) (t : List ℕ) where
   -- Which parts a container has makes no difference.
   module _ {P : Type 0} (c : Container P (Unit {0}))
       (same : (e : ℕ) (ps qs : List P) → c.build e ps ≡ c.build e qs) where
-    follow-any : (f g : ℕ → Reading (Unit {0})) → ((j : ℕ) → f j ≡ g j) → (ps qs : List P) (s : Step)
-        → follow (ends names) f (λ e. c.build e ps) s ≡ follow (ends names) g (λ e. c.build e qs) s
-    follow-any f g all ps qs (more j) = all j
-    follow-any f g all ps qs (closed e) = ap (λ a. done a e) (same e ps qs)
-    follow-any f g all ps qs (stuck k j) = refl
-
     behind_part-any : (go : List P → ℕ → Reading (Unit {0}))
         → ((ps qs : List P) (j : ℕ) → go ps j ≡ go qs j) → (ps qs : List P) (x : Reading P)
         → behind_part (ends names) c t go ps x ≡ behind_part (ends names) c t go qs x
     behind_part-any go all ps qs (done p e) =
-        follow-any (go (ps ++ p ∷ [])) (go (qs ++ p ∷ [])) (all (ps ++ p ∷ []) (qs ++ p ∷ []))
-        (ps ++ p ∷ []) (qs ++ p ∷ []) (step t c.next e)
+        let us = ps ++ p ∷ [] in
+        let vs = qs ++ p ∷ [] in
+        λ k. follow (ends names) (λ j. all us vs j k) (λ e. same e us vs k) (step t c.next e)
     behind_part-any go all ps qs (fault k i stop) = refl
 
     parts_at-any : (n : ℕ) (ps qs : List P) (i : ℕ)
