@@ -12,7 +12,7 @@ use Rattle.jiter_steps.specs.Tree.{Text}
 use Rattle.jiter_steps.specs.StringReading.{Stop, closed, unclosed, cut, wrong, body_at, whole, kept, raw}
 use Rattle.jiter_steps.specs.StringReading.{valid_front, between, text_in_form, content_at}
 
-kept-valid : (i e : ℕ) (o : Bool) (bs : List ℕ) → utf8_valid_len bs ≡ length bs
+pub kept-valid : (i e : ℕ) (o : Bool) (bs : List ℕ) → utf8_valid_len bs ≡ length bs
     → valid_front i o bs e ≡ taken (record { owned = o; bytes = bs }) e
 unfolding utf8_error_len
 kept-valid i e o bs h =
