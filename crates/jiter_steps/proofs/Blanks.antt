@@ -1,5 +1,5 @@
 -- Blanks: those that reading passes, and those of the grammar.
-use Rattle.std.proofs.Common.{◌≡◌, ℕ, ◌+◌, ◌-◌, ◌<◌, ◌≤◌, inl, inr, true, false, List, length, drop, get_or, IfSome, ap}
+use Rattle.std.proofs.Common.{◌≡◌, ℕ, ◌+◌, ◌-◌, ◌<◌, ◌≤◌, true, false, List, length, drop, get_or, IfSome, ap}
 use Rattle.std.proofs.Common.{◌∙◌, arith}
 use Rattle.std.specs.Prelude.{slice_get, Option, Some, None}
 use Rattle.std.proofs.lemmas.List.{get_or-drop, length-drop}
@@ -16,10 +16,7 @@ use lib.Count.{count_trailing_zeros}
 use Rattle.jiter_steps.specs.Blank.{is_blank, past_blanks, IsBlankByte, IsBlank}
 
 blank-is : (c : ℕ) → IsBlankByte c → is_blank c ≡ true
-blank-is c (inl e) = ap is_blank e
-blank-is c (inr (inl e)) = ap is_blank e
-blank-is c (inr (inr (inl e))) = ap is_blank e
-blank-is c (inr (inr (inr e))) = ap is_blank e
+blank-is c h = grind (arith, nat_tests, h)
 
 is-blank : (c : ℕ) → is_blank c ≡ true → IsBlankByte c
 is-blank c h = grind (arith, nat_tests, h)

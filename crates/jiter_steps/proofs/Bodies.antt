@@ -45,31 +45,39 @@ module _ (t : List ℕ) where
   pub body_at-place_by : (i : ℕ) (f : Place) → place_at t i ≡ f → body_at t i ≡ join (body_at t) f
   body_at-place_by i f e = body_at-is i ∙ ap (join (body_at t)) e
 
+  -- What holds where a string is over, and of a body where it holds of what is behind its first part, holds of all.
+  module _ (P : ℕ → Body → Type 0)
+      (behind-part : (i j : ℕ) (bs : List ℕ) (o : Bool) → Explains t i (part bs o j) → P j (body_at t j)
+      → P i (before bs o (body_at t j)))
+      (at-end : (i : ℕ) (s : Stop) → Explains t i (over s) → P i (join (body_at t) (over s))) where
+    by-place : (i : ℕ) → ((j : ℕ) → i < j → P j (body_at t j)) → (f : Place) → Explains t i f
+        → P i (join (body_at t) f)
+    by-place i go (part bs o j) h = behind-part i j bs o h (go j (part-ahead t i j bs o h).0)
+    by-place i go (over s) h = at-end i s h
+
+    by-turns : (n i : ℕ) → length t ≤ n + i → P i (body_at t i)
+    by-turns zero i p =
+        let past : length t ≤ i = omega arith in
+        subst (P i) (sym (body_at-place_by i (over unclosed) (place_by-end t i past)))
+        (at-end i unclosed (slice_get_past t i past))
+    by-turns (suc n) i p =
+        subst (P i) (sym (body_at-is i))
+        (by-place i (λ j l. by-turns n j (omega arith)) (place_at t i) (place_at-explains t i))
+
+    pub each-body : (i : ℕ) → P i (body_at t i)
+    each-body i = by-turns (length t) i (omega arith)
+
   part-wide : (i j : ℕ) (bs : List ℕ) (o : Bool) → Explains t i (part bs o j) → i + length bs ≤ j
   part-wide i j bs true h = h.wide
   part-wide i j bs false h = omega (arith, h.ends, ap length h.is)
 
-  long-join : (n i : ℕ) → length t ≤ suc n + i → i ≤ length t
-      → ((j : ℕ) → length t ≤ n + j → j ≤ length t → j + length (body_at t j).bytes ≤ length t)
-      → (f : Place) → Explains t i f → i + length (join (body_at t) f).bytes ≤ length t
-  long-join n i p q go (part bs o j) h =
-      let a = part-ahead t i j bs o h in
-      let w = part-wide i j bs o h in
-      let r = go j (omega arith) a.1 in
-      omega (arith, length-append bs (body_at t j).bytes)
-  long-join n i p q go (over s) h = omega arith
-
-  long : (n i : ℕ) → length t ≤ n + i → i ≤ length t → i + length (body_at t i).bytes ≤ length t
-  long zero i p q =
-      subst (λ (b : Body). i + length b.bytes ≤ length t)
-      (sym (body_at-place_by i (over unclosed) (place_by-end t i (omega arith)))) (omega arith)
-  long (suc n) i p q =
-      subst (λ (b : Body). i + length b.bytes ≤ length t) (sym (body_at-is i))
-      (long-join n i p q (λ j x y. long n j x y) (place_at t i) (place_at-explains t i))
-
   -- a text is no longer than its source
   pub body_at-long : (i : ℕ) → i ≤ length t → i + length (body_at t i).bytes ≤ length t
-  body_at-long i h = long (length t) i (omega arith) h
+  body_at-long =
+      each-body (λ i b. i ≤ length t → i + length b.bytes ≤ length t)
+      (λ i j bs o h go le.
+      omega (arith, part-wide i j bs o h, go (part-ahead t i j bs o h).1, length-append bs (body_at t j).bytes))
+      (λ i s h le. omega arith)
 
 -- where a string stops that is read from i on: behind i, or at a fault of a place
 abbrev pub StopWithin : List ℕ → ℕ → Stop → Type 0
@@ -90,20 +98,7 @@ stop-over t i unclosed h = tt
 stop-over t i cut h = tt
 stop-over t i (wrong k j) h = h
 
-module _ (t : List ℕ) where
-  within-join : (n i : ℕ) → length t ≤ suc n + i → ((j : ℕ) → length t ≤ n + j → StopWithin t j (body_at t j).stop)
-      → (f : Place) → Explains t i f → StopWithin t i (join (body_at t) f).stop
-  within-join n i p go (part bs o j) h =
-      let a = part-ahead t i j bs o h in stop-later t i j a.0 (body_at t j).stop (go j (omega arith))
-  within-join n i p go (over s) h = stop-over t i s h
-
-  within : (n i : ℕ) → length t ≤ n + i → StopWithin t i (body_at t i).stop
-  within zero i p =
-      subst (λ (b : Body). StopWithin t i b.stop)
-      (sym (body_at-place_by t i (over unclosed) (place_by-end t i (omega arith)))) tt
-  within (suc n) i p =
-      subst (λ (b : Body). StopWithin t i b.stop) (sym (body_at-is t i))
-      (within-join n i p (λ j x. within n j x) (place_at t i) (place_at-explains t i))
-
-  pub body_at-within : (i : ℕ) → StopWithin t i (body_at t i).stop
-  body_at-within i = within (length t) i (omega arith)
+pub body_at-within : (t : List ℕ) (i : ℕ) → StopWithin t i (body_at t i).stop
+body_at-within t =
+    each-body t (λ i b. StopWithin t i b.stop)
+    (λ i j bs o h go. stop-later t i j (part-ahead t i j bs o h).0 (body_at t j).stop go) (stop-over t)

@@ -1,8 +1,7 @@
 -- A text that ends within a character.
-use Rattle.std.proofs.Common.{◌≡◌, ◌⊎◌, inl, inr, ℕ, ◌<◌, ◌≤◌, Bool, true, ◌&&◌, List, [], ◌∷◌, ◌++◌, length, take}
-use Rattle.std.proofs.Common.{drop, None, Some, refl, sym, ap, ap₂, ◌∙◌, subst, arith, length-append, append-nil}
+use Rattle.std.proofs.Common.{◌≡◌, ◌⊎◌, inl, inr, ℕ, zero, suc, ◌<◌, ◌≤◌, Bool, true, ◌&&◌, List, [], ◌∷◌, ◌++◌, length}
+use Rattle.std.proofs.Common.{take, drop, None, refl, sym, ap, ap₂, ◌∙◌, subst, arith, length-append, append-nil}
 use Rattle.std.proofs.Common.{append_assoc}
-use Rattle.std.specs.Prelude.{if◌then◌else◌}
 use Rattle.std.specs.Int.{is_in_range}
 use Rattle.std.specs.Char.{IsScalar}
 use Rattle.std.specs.Str.{IsUtf8, IsValidUpTo, all_scalars}
@@ -28,64 +27,46 @@ range-true lo hi x p q = ap₂ (λ (a b : Bool). a && b) (le-leb lo x p) (le-leb
 
 one-unfinished : (a : ℕ) → 194 ≤ a → a < 245 → utf8_error_len (a ∷ []) ≡ None
 unfolding utf8_error_len
-one-unfinished a l h = ap (λ (p : Bool). if p then None else Some 1) (range-true 194 244 a l (omega arith))
+one-unfinished a l h = rw (range-true 194 244 a l (omega arith))
 
 two-unfinished : (a b : ℕ) → 194 ≤ a → a < 245 → second_byte_min a ≤ b → b ≤ second_byte_max a
     → utf8_error_len (a ∷ b ∷ []) ≡ None
 unfolding utf8_error_len
 two-unfinished a b l h u v =
-    ap₂ (λ (p q : Bool). if p then (if q then None else Some 1) else Some 1) (range-true 194 244 a l (omega arith))
-    (range-true (second_byte_min a) (second_byte_max a) b u v)
+    rw (range-true 194 244 a l (omega arith), range-true (second_byte_min a) (second_byte_max a) b u v)
 
 three-unfinished : (a b d : ℕ) → 194 ≤ a → a < 245 → second_byte_min a ≤ b → b ≤ second_byte_max a → Follows d
     → utf8_error_len (a ∷ b ∷ d ∷ []) ≡ None
 unfolding utf8_error_len
 three-unfinished a b d l h u v f =
-    (λ i. if range-true 194 244 a l (omega arith) i
-    then (if range-true (second_byte_min a) (second_byte_max a) b u v i
-    then (if range-true 128 191 d f.least (most d f.most) i then None else Some 2) else Some 1) else Some 1) where
-      most : (d : ℕ) → d < 192 → d ≤ 191
-      most d h = omega arith
+    rw (
+      range-true 194 244 a l (omega arith),
+      range-true (second_byte_min a) (second_byte_max a) b u v,
+      range-true 128 191 d f.least (omega (arith, f.most)),
+    )
 
-heads : (x y : ℕ) (l m : List ℕ) → x ∷ l ≡ y ∷ m → (x ≡ y) × (l ≡ m)
-heads x y l m e = (cc, cc)
-
-too-long : (l w more : List ℕ) → l ≡ w ++ more → length l ≤ length w → 0 < length more → ⊥
-too-long l w more e h s = omega (arith, ap length e, length-append w more)
-
-pub front-unfinished : (w : List ℕ) → IsFront w → utf8_error_len w ≡ None
+-- so many of its bytes, and not all
+unfinished : (c n : ℕ) → Shape c → n < length (encode c) → utf8_error_len (take n (encode c)) ≡ None
 unfolding utf8_error_len
-front-unfinished w f = by (shape f.c f.scalar) w f.more f.is f.some where
-  by : {c : ℕ} → Shape c → (w more : List ℕ) → encode c ≡ w ++ more → 0 < length more → utf8_error_len w ≡ None
-  by s [] more e h = refl
-  by (of1 l is) (x ∷ w) more e h = absurd (too-long _ (x ∷ w) more (sym is ∙ e) (omega arith) h)
-  by (of2 a b k l m f is) (x ∷ []) more e h =
-      let p = heads _ _ _ _ (sym is ∙ e) in
-      subst (λ y. utf8_error_len (y ∷ []) ≡ None) p.0 (one-unfinished a l (omega arith))
-  by (of2 a b k l m f is) (x ∷ y ∷ w) more e h = absurd (too-long _ (x ∷ y ∷ w) more (sym is ∙ e) (omega arith) h)
-  by (of3 a b d u v k l m f g is) (x ∷ []) more e h =
-      let p = heads _ _ _ _ (sym is ∙ e) in
-      subst (λ y. utf8_error_len (y ∷ []) ≡ None) p.0 (one-unfinished a (omega arith) (omega arith))
-  by (of3 a b d u v k l m f g is) (x ∷ y ∷ []) more e h =
-      let p = heads _ _ _ _ (sym is ∙ e) in
-      let q = heads _ _ _ _ p.1 in
-      sym (λ i. utf8_error_len (p.0 i ∷ q.0 i ∷ [])) ∙ two-unfinished a b (omega arith) (omega arith) u v
-  by (of3 a b d u v k l m f g is) (x ∷ y ∷ z ∷ w) more e h =
-      absurd (too-long _ (x ∷ y ∷ z ∷ w) more (sym is ∙ e) (omega arith) h)
-  by (of4 a b d g u v k l m f o r is) (x ∷ []) more e h =
-      let p = heads _ _ _ _ (sym is ∙ e) in
-      subst (λ y. utf8_error_len (y ∷ []) ≡ None) p.0 (one-unfinished a (omega arith) m)
-  by (of4 a b d g u v k l m f o r is) (x ∷ y ∷ []) more e h =
-      let p = heads _ _ _ _ (sym is ∙ e) in
-      let q = heads _ _ _ _ p.1 in
-      sym (λ i. utf8_error_len (p.0 i ∷ q.0 i ∷ [])) ∙ two-unfinished a b (omega arith) m u v
-  by (of4 a b d g u v k l m f o r is) (x ∷ y ∷ z ∷ []) more e h =
-      let p = heads _ _ _ _ (sym is ∙ e) in
-      let q = heads _ _ _ _ p.1 in
-      let s = heads _ _ _ _ q.1 in
-      sym (λ i. utf8_error_len (p.0 i ∷ q.0 i ∷ s.0 i ∷ [])) ∙ three-unfinished a b d (omega arith) m u v o
-  by (of4 a b d g u v k l m f o r is) (x ∷ y ∷ z ∷ t ∷ w) more e h =
-      absurd (too-long _ (x ∷ y ∷ z ∷ t ∷ w) more (sym is ∙ e) (omega arith) h)
+unfinished c zero s h = refl
+unfinished c (suc n) (of1 l is) h = absurd (omega (arith, ap length is))
+unfinished c (suc zero) (of2 a b k l m f is) h = rw is (one-unfinished a l (omega arith))
+unfinished c (suc (suc n)) (of2 a b k l m f is) h = absurd (omega (arith, ap length is))
+unfinished c (suc zero) (of3 a b d u v k l m f g is) h = rw is (one-unfinished a (omega arith) (omega arith))
+unfinished c (suc (suc zero)) (of3 a b d u v k l m f g is) h =
+    rw is (two-unfinished a b (omega arith) (omega arith) u v)
+unfinished c (suc (suc (suc n))) (of3 a b d u v k l m f g is) h = absurd (omega (arith, ap length is))
+unfinished c (suc zero) (of4 a b d g u v k l m f o r is) h = rw is (one-unfinished a (omega arith) m)
+unfinished c (suc (suc zero)) (of4 a b d g u v k l m f o r is) h = rw is (two-unfinished a b (omega arith) m u v)
+unfinished c (suc (suc (suc zero))) (of4 a b d g u v k l m f o r is) h =
+    rw is (three-unfinished a b d (omega arith) m u v o)
+unfinished c (suc (suc (suc (suc n)))) (of4 a b d g u v k l m f o r is) h = absurd (omega (arith, ap length is))
+
+front-unfinished : (w : List ℕ) → IsFront w → utf8_error_len w ≡ None
+front-unfinished w f =
+    let front : take (length w) (encode f.c) ≡ w = ap (take (length w)) f.is ∙ take-append_seam w f.more in
+    subst (λ x. utf8_error_len x ≡ None) front
+    (unfinished f.c (length w) (shape f.c f.scalar) (omega (arith, ap length f.is, length-append w f.more, f.some)))
 
 -- no text ends in it
 no-text : (v more : List ℕ) (c : ℕ) → IsUtf8 v → 0 < length v → encode c ≡ v ++ more → 0 < length more → ⊥

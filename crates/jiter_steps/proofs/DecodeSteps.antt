@@ -1,33 +1,29 @@
 -- Steps of the code's loops.
 use Rattle.std.proofs.Common.{◌≡◌, ◌≢◌, ℕ, ◌+◌, ◌<◌, ◌≤◌, Bool, true, false, List, [], ◌∷◌, ◌++◌, length, refl, sym, ap}
-use Rattle.std.proofs.Common.{◌∙◌, subst, arith, append_assoc, append-nil, ap₂}
-use Rattle.std.specs.Prelude.{slice_get, slice_index, slice_range, Some, None, ◌==◌, nat_lt}
+use Rattle.std.proofs.Common.{◌∙◌, subst, arith, append_assoc, append-nil}
+use Rattle.std.specs.Prelude.{slice_get, slice_index, slice_range, Some, None}
 use Rattle.std.proofs.lemmas.Bool.{ne_eqb, lt-ltb, eq-eqb}
 use Rattle.std.proofs.lemmas.List.Edits.{between_more}
 use Rattle.std.proofs.lemmas.Option.{none-some, same_Some}
 use Rattle.jiter_scan.specs.Scanned.{failed, taken}
-use Rattle.jiter_steps.specs.StringReading.{Place, part, over, Stop, closed, unclosed, cut, wrong, place_by, place_at}
-use Rattle.jiter_steps.specs.StringReading.{behind_backslash, plain, escape_or_plain, Body, before, body_at, whole}
+use Rattle.jiter_steps.specs.StringReading.{Place, part, over, Stop, closed, unclosed, cut, wrong, place_at}
+use Rattle.jiter_steps.specs.StringReading.{Body, before, body_at, whole}
 use Rattle.jiter_steps.specs.StringReading.{if_utf8, text_in_form, content_at, join}
-use Rattle.jiter_scan.specs.Kind.{Kind, eof_string, control_character, invalid_code_point}
+use Rattle.jiter_scan.specs.Kind.{eof_string, control_character}
 use Rattle.std.specs.Str.{IsUtf8}
-use Rattle.std.specs.Str.Lossy.{utf8_valid_len}
 use Rattle.std.proofs.lemmas.Str.{utf8_valid_len-IsUtf8}
 use Rattle.jiter_steps.proofs.StringStand.{got}
 use Rattle.jiter_steps.proofs.Places.{place_at-explains, Explains}
 use Rattle.jiter_steps.proofs.Bodies.{before-before, body_at-is, body_at-place_by, part-ahead}
-use Rattle.jiter_scan.proofs.Choices.{if-true, if-false}
-use Rattle.jiter_steps.proofs.StringComplete.{place_by-byte, place_by-quote}
+use Rattle.jiter_steps.proofs.StringComplete.{IsPrinted, place_by-byte, place_by-quote}
 
 pub plain_more : (t : List ℕ) (from at : ℕ) → body_at t from ≡ before (slice_range t from at) false (body_at t at)
-    → from ≤ at → at < length t
-    → slice_index t at ≢ 34 → slice_index t at ≢ 92 → 32 ≤ slice_index t at
+    → from ≤ at → at < length t → IsPrinted (slice_index t at)
     → body_at t from ≡ before (slice_range t from (at + 1)) false (body_at t (at + 1))
-plain_more t from at h le lt q s p =
+plain_more t from at h le lt printed =
     let b = slice_index t at in
     let step =
-    body_at-place_by t at (part (b ∷ []) false (at + 1))
-    (place_by-byte t at b (got t at lt) (record { printed = p; no_quote = q; no_backslash = s })) in
+    body_at-place_by t at (part (b ∷ []) false (at + 1)) (place_by-byte t at b (got t at lt) printed) in
     h ∙ ap (before (slice_range t from at) false) step
     ∙ before-before (slice_range t from at) (b ∷ []) false false (body_at t (at + 1))
     ∙ ap (λ l. before l false (body_at t (at + 1))) (sym (between_more t from at 0 le lt))
@@ -40,13 +36,8 @@ pub part_more : (t old tape bs : List ℕ) (from at j : ℕ) (o : Bool)
     × ((body_at t from).stop ≡ (body_at t j).stop) × (at < j) × (j ≤ length t)
 part_more t old tape bs from at j o h s e =
     let b = body_at-place_by t at (part bs o j) e in
-    let a = part-ahead t at j bs o (subst (Explains t at) e (place_at-explains t at)) in (
-      h ∙ ap (λ (x : Body). tape ++ x.bytes) b ∙ sym (append_assoc tape bs (body_at t j).bytes),
-      s
-          ∙ ap (λ (x : Body). x.stop) b,
-      a.0,
-      a.1,
-    )
+    let a = part-ahead t at j bs o (subst (Explains t at) e (place_at-explains t at)) in
+    (rw (h, b, append_assoc), rw (s, b), a.0, a.1)
 
 -- the end
 pub part_over : (t old tape : List ℕ) (from at : ℕ) (x : Stop)
@@ -55,41 +46,30 @@ pub part_over : (t old tape : List ℕ) (from at : ℕ) (x : Stop)
     → (tape ≡ old ++ (body_at t from).bytes) × ((body_at t from).stop ≡ x)
 part_over t old tape from at x h s e =
     let b = body_at-place_by t at (over x) e in
-    (sym (h ∙ ap (λ (x : Body). tape ++ x.bytes) b ∙ append-nil tape), s ∙ ap (λ (x : Body). x.stop) b)
+    (rw (h, b, append-nil), rw (s, b))
 
 -- how a string goes on behind its plain bytes, by the byte there
 pub at_none : (t : List ℕ) (from to : ℕ) → body_at t from ≡ before (slice_range t from to) false (body_at t to)
     → slice_get t to ≡ None → content_at whole t from ≡ failed eof_string (length t)
 unfolding content_at place_at
 at_none t from to h e =
-    ap (λ (b : Body). text_in_form whole t from b.bytes b.owned b.stop)
-    (h ∙ ap (before (slice_range t from to) false) (body_at-place_by t to (over unclosed) (ap (place_by t to) e)))
+    let there : place_at t to ≡ over unclosed = rw e in rw (h, body_at-place_by t to (over unclosed) there)
 
 pub at_quote : (t : List ℕ) (from to : ℕ) → body_at t from ≡ before (slice_range t from to) false (body_at t to)
     → slice_get t to ≡ Some 34
     → content_at whole t from ≡ if_utf8 from false (slice_range t from to) (to + 1)
 unfolding content_at
 at_quote t from to h e =
-    ap (λ (b : Body). text_in_form whole t from b.bytes b.owned b.stop)
-    (h ∙ ap (before (slice_range t from to) false)
-    (body_at-place_by t to (over (closed (to + 1))) (place_by-quote t to e)))
-    ∙ ap (λ l. if_utf8 from false l (to + 1)) (append-nil (slice_range t from to))
+    rw (h, body_at-place_by t to (over (closed (to + 1))) (place_by-quote t to e), append-nil)
 
 pub at_control : (t : List ℕ) (from to b : ℕ) → body_at t from ≡ before (slice_range t from to) false (body_at t to)
     → slice_get t to ≡ Some b → b ≢ 34 → b ≢ 92 → b < 32
     → content_at whole t from ≡ failed control_character to
 unfolding content_at place_at
 at_control t from to b h e q s l =
-    let there =
-    ap (place_by t to) e ∙ if-false (b == 34) (over (closed (to + 1))) (escape_or_plain t to b) (ne_eqb b 34 q)
-    ∙ if-false (b == 92) (behind_backslash t (to + 1) (slice_get t (to + 1))) (plain to b) (ne_eqb b 92 s)
-    ∙ if-true (nat_lt b 32) (over (wrong control_character to)) (part (b ∷ []) false (to + 1)) (lt-ltb b 32 l) in
-    ap (λ (b : Body). text_in_form whole t from b.bytes b.owned b.stop)
-    (h ∙ ap (before (slice_range t from to) false)
-    (body_at-place_by t to (over (wrong control_character to)) there))
-
-no_fault : (k : Kind) (j e : ℕ) (s : Stop) → s ≡ wrong k j → s ≡ closed e → ⊥
-no_fault k j e s p q = let same : wrong k j ≡ closed e = sym p ∙ q in cc
+    let there : place_at t to ≡ over (wrong control_character to) =
+    rw (e, ne_eqb b 34 q, ne_eqb b 92 s, lt-ltb b 32 l) in
+    rw (h, body_at-place_by t to (over (wrong control_character to)) there)
 
 -- behind a backslash
 owned_behind : (t : List ℕ) (i e : ℕ) → slice_get t i ≡ Some 92 → (x : Place) → Explains t i x
@@ -99,7 +79,7 @@ owned_behind t i e h (part bs false j) x s = absurd (x.no_backslash (same_Some _
 owned_behind t i e h (over (closed f)) x s = let no = same_Some _ _ (sym x.0 ∙ h) in absurd (omega arith)
 owned_behind t i e h (over unclosed) x s = absurd (none-some _ (sym x ∙ h))
 owned_behind t i e h (over cut) x s = refl
-owned_behind t i e h (over (wrong k j)) x s = absurd (no_fault k j e _ refl s)
+owned_behind t i e h (over (wrong k j)) x s = let no : wrong k j ≡ closed e = s in absurd (cc)
 
 backslash_owned : (t : List ℕ) (i e : ℕ) → slice_get t i ≡ Some 92 → (body_at t i).stop ≡ closed e
     → (body_at t i).owned ≡ true
@@ -111,9 +91,7 @@ backslash_owned t i e h s =
 -- bytes that are UTF-8
 pub checked_text : (i e : ℕ) (o : Bool) (bs : List ℕ) → IsUtf8 bs
     → if_utf8 i o bs e ≡ taken (record { owned = o; bytes = bs }) e
-checked_text i e o bs u =
-    if-true (utf8_valid_len bs == length bs) (taken (record { owned = o; bytes = bs }) e)
-    (failed invalid_code_point (i + utf8_valid_len bs)) (eq-eqb _ _ (utf8_valid_len-IsUtf8 bs u))
+checked_text i e o bs u = rw (eq-eqb _ _ (utf8_valid_len-IsUtf8 bs u))
 
 pub at_backslash : (t : List ℕ) (from to e : ℕ) → body_at t from ≡ before (slice_range t from to) false (body_at t to)
     → slice_get t to ≡ Some 92 → (body_at t from).stop ≡ closed e
@@ -121,9 +99,9 @@ pub at_backslash : (t : List ℕ) (from to e : ℕ) → body_at t from ≡ befor
 unfolding content_at
 at_backslash t from to e h b s =
     let owned = ap (λ (x : Body). x.owned) h ∙ backslash_owned t to e b (sym (ap (λ (x : Body). x.stop) h) ∙ s) in
-    ap₂ (λ (o : Bool) (x : Stop). text_in_form whole t from (body_at t from).bytes o x) owned s
+    rw (owned, s)
 
 pub at_stop : (t : List ℕ) (from : ℕ) (x : Stop) → (body_at t from).stop ≡ x
     → content_at whole t from ≡ text_in_form whole t from (body_at t from).bytes (body_at t from).owned x
 unfolding content_at
-at_stop t from x s = ap (λ (y : Stop). text_in_form whole t from (body_at t from).bytes (body_at t from).owned y) s
+at_stop t from x s = rw s

@@ -3,10 +3,8 @@ use Rattle.std.proofs.Common.{◌≡◌, ℕ, ◌+◌, Bool, List, [], ◌∷◌
 use Rattle.std.specs.Prelude.{slice_get, Option, Some, None}
 use Rattle.std.specs.Str.{chars}
 use Rattle.std.proofs.lemmas.Option.{slice_get_within, slice_get_past}
-use Rattle.jiter_scan.specs.Number.{Number}
 use Rattle.jiter_scan.specs.NumberReading.{number_at}
 use Rattle.jiter_scan.specs.Scanned.{Scanned, taken, failed}
-use Rattle.jiter_scan.specs.Word.{Extent}
 use Rattle.jiter_steps.specs.Answer.{seen_as, whole_trees, answer}
 use Rattle.jiter_steps.specs.Blank.{past_blanks, IsBlank}
 use Rattle.jiter_steps.specs.Literal.{literal_at, literal_tree}
@@ -18,7 +16,6 @@ use Rattle.jiter_steps.specs.Read.{whole_answer}
 use Rattle.jiter_steps.specs.StringReading.{whole, string_at}
 use Rattle.jiter_steps.specs.Tree.{Text, Tree, items_of}
 use Rattle.jiter_steps.specs.Tree as tree
-use Rattle.jiter_steps.specs.declared.parse.Literal.{Literal}
 use Rattle.jiter_steps.proofs.Blanks.{past_blanks-bound}
 use Rattle.jiter_steps.proofs.Complete.{value_at-complete}
 use Rattle.jiter_steps.proofs.SpelledParts.{begins-value, ends-end}
@@ -59,21 +56,11 @@ module _ (names : Bool) (t : List ℕ) where
   laws = scalar-laws names t
 
   -- the value of the node read is the value read
-  literal-leads : (l : Literal) (i : ℕ) (x : Extent)
-      → scanned_as (value_of t) (seen_as (λ u e. grammar.literal l i e) x) ≡ seen_as (λ u e. literal_tree l) x
-  literal-leads l i (taken u e) = refl
-  literal-leads l i (failed k j) = refl
-
-  number-leads : (i : ℕ) (x : Scanned Number) → number_at names t i ≡ x
-      → scanned_as (value_of t) (seen_as (λ n e. grammar.number i e) x) ≡ seen_as (λ n e. number_tree n) x
-  number-leads i (taken n e) is = ap (λ m. taken (number_tree m) e) (sym (laws.number-sound i e n is).1)
-  number-leads i (failed k j) is = refl
-
-  text-leads : (i : ℕ) → slice_get t i ≡ Some 34 → (x : Scanned Text) → string_at whole t i ≡ x
-      → scanned_as (value_of t) (seen_as (λ s e. grammar.string (pieces_from t (i + 1) (chars s.bytes)) i e) x)
-      ≡ seen_as (λ s e. tree.string s) x
-  text-leads i quote (taken s e) is = ap (λ m. taken (tree.string m) e) (sym (laws.string-sound i e s quote is).1)
-  text-leads i quote (failed k j) is = refl
+  scalar-leads : {X : Type 0} (f : X → ℕ → Node) (g : X → ℕ → Tree) (x : Scanned X)
+      → ((s : X) (e : ℕ) → x ≡ taken s e → value_of t (f s e) ≡ g s e)
+      → scanned_as (value_of t) (seen_as f x) ≡ seen_as g x
+  scalar-leads f g (taken s e) all = ap (λ v. taken v e) (all s e refl)
+  scalar-leads f g (failed k j) all = refl
 
   key-leads : (i : ℕ) → slice_get t i ≡ Some 34 → (x : Scanned Text) → string_at whole t i ≡ x
       → scanned_as (key_text t) (seen_as (key_of t i) x) ≡ x
@@ -83,9 +70,14 @@ module _ (names : Bool) (t : List ℕ) where
   pub nodes-lead : Leads (nodes names) (whole_trees names) (key_text t) (value_of t) t
   nodes-lead = record {
     forgives = λ k. refl;
-    literal = λ l i h s. literal-leads l i (literal_at t l i);
-    number = λ i h s. number-leads i (number_at names t i) refl;
-    text = λ i quote. text-leads i quote (string_at whole t i) refl;
+    literal = λ l i h s.
+        scalar-leads (λ u e. grammar.literal l i e) (λ u e. literal_tree l) (literal_at t l i) (λ u e is. refl);
+    number = λ i h s.
+        scalar-leads (λ n e. grammar.number i e) (λ n e. number_tree n) (number_at names t i)
+        (λ n e is. ap number_tree (sym (laws.number-sound i e n is).1));
+    text = λ i quote.
+        scalar-leads (λ s e. grammar.string (pieces_from t (i + 1) (chars s.bytes)) i e) (λ s e. tree.string s)
+        (string_at whole t i) (λ s e is. ap tree.string (sym (laws.string-sound i e s quote is).1));
     key = λ i quote. key-leads i quote (string_at whole t i) refl;
     array = λ b e items. ap tree.array (values-of t items);
     object = λ b e members. ap tree.object (members-of t members);
@@ -133,17 +125,13 @@ module _ (names : Bool) (t : List ℕ) where
   front-complete n d =
       let first = begins-value names t n d.spelled in
       let start = blank-passed t 0 (begin n) first.byte d.before first.here first.no_blank in
-      ap (λ i. if_begun (nodes names) t i (slice_get t i)) start ∙ ap (if_begun (nodes names) t (begin n)) first.here
-      ∙ value_at-complete names t n nesting_limit d.spelled d.limit (ends-end t (end n) d.after)
+      rw (start, first.here) (value_at-complete names t n nesting_limit d.spelled d.limit (ends-end t (end n) d.after))
 
   -- A document is read.
   pub answer-complete : (n : Node) → IsDocument names t n → whole_answer (nodes names) t ≡ done n (end n)
   unfolding whole_answer
   answer-complete n d =
-      let last = blank-to_end t (end n) d.after in
-      ap (to_end t) (front-complete n d)
-      ∙ ap (λ j. if_last n (end n) j (slice_get t j)) last
-      ∙ ap (if_last n (end n) (length t)) (slice_get_past t (length t) (omega arith))
+      rw (front-complete n d, blank-to_end t (end n) d.after, slice_get_past t (length t) (omega arith))
 
   -- At most one node fits a text.
   pub one_node : (n m : Node) → IsDocument names t n → IsDocument names t m → n ≡ m

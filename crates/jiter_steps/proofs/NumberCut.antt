@@ -1,8 +1,8 @@
 -- A number in a front of the text: read as in the whole text, or up to the cut.
 use Rattle.std.proofs.Common.{◌≡◌, ◌⊎◌, inl, inr, ℕ, zero, suc, ◌+◌, ◌-◌, ◌<◌, ◌≤◌, ◌==◌, ◌||◌, Bool, true, false, List}
 use Rattle.std.proofs.Common.{[], ◌∷◌, length, get_or, take, min, refl, sym, ap, ◌∙◌, subst, arith}
-use Rattle.std.specs.Prelude.{slice_get, slice_range, Option, Some, None, if◌then◌else◌, nat_le, codes}
-use Rattle.std.proofs.lemmas.Bool.{cases_lt, le-leb, lt-leb}
+use Rattle.std.specs.Prelude.{slice_get, slice_range, Option, Some, None, if◌then◌else◌, codes}
+use Rattle.std.proofs.lemmas.Bool.{cases_lt, cases_Bool, le-leb, lt-leb}
 use Rattle.std.proofs.lemmas.Option.{slice_get-get_or}
 use Rattle.jiter_scan.specs.Digits.{is_digit, digit_run_end}
 use Rattle.jiter_scan.specs.Kind.{Kind, is_end_kind, expected_ident, expected_value, invalid_number}
@@ -13,7 +13,7 @@ use Rattle.jiter_scan.specs.NumberReading.{fraction_from, fraction_at, power_fro
 use Rattle.jiter_scan.specs.NumberReading.{decimal_at, behind_minus, extent_from, number_extent, with_value, number_at}
 use Rattle.jiter_scan.specs.Scanned.{Scanned, taken, failed}
 use Rattle.jiter_scan.specs.Word.{Extent, byte_then, word_at}
-use Rattle.jiter_scan.proofs.Choices.{failed-taken, same_taken, if-true, if-false}
+use Rattle.jiter_scan.proofs.Choices.{failed-taken, same_taken}
 use Rattle.jiter_scan.proofs.Runs.{run_end-past, run_end-more, run_end-here, run_end-ahead}
 use Rattle.jiter_steps.proofs.Front.{front-length, front-same, front-past}
 
@@ -39,14 +39,12 @@ module _ (t : List ℕ) (k : ℕ) (within : k ≤ length t) where
   by_byte : (F G : Option ℕ → Extent) (i : ℕ) → i ≤ k
       → ((c : ℕ) → i < k → slice_get t i ≡ Some c → InFront k (F (Some c)) (G (Some c))) → (i ≡ k → CutAt k (G None))
       → InFront k (F (slice_get t i)) (G (slice_get u i))
-  by_byte F G i le go last = by (cases_lt i k) where
-    by : (i < k) ⊎ (k ≤ i) → InFront k (F (slice_get t i)) (G (slice_get u i))
-    by (inl lt) =
+  by_byte F G i le go last = elim (cases_lt i k) [
+    | inl lt ↦
         let here = slice_get-get_or t i 0 (omega arith) in
-        subst (λ o. InFront k (F (slice_get t i)) (G o)) (sym (front-same t k within i lt ∙ here))
-        (subst (λ o. InFront k (F o) (G (Some (get_or t i 0)))) (sym here) (go (get_or t i 0) lt here))
-    by (inr ge) =
-        subst (λ o. InFront k (F (slice_get t i)) (G o)) (sym (front-past t k within i ge)) (inr (last (omega arith)))
+        rw (front-same t k within i lt, here) (go (get_or t i 0) lt here)
+    | inr ge ↦ rw (front-past t k within i ge) (inr (last (omega arith)))
+  ]
 
   by_test : (b : Bool) (x x' y y' : Extent) → InFront k x y → InFront k x' y'
       → InFront k (if b then x else x') (if b then y else y')
@@ -72,30 +70,22 @@ module _ (t : List ℕ) (k : ℕ) (within : k ≤ length t) where
       let none = run_end-past is_digit u i (omega (arith, front-length t k within)) in
       let ahead = run_end-ahead is_digit t i in
       omega arith
-  run_end-cut (suc n) i h = digit (is_digit (get_or t i 0)) refl (run_end-cut n (i + 1) (omega arith)) where
-    here : slice_get t i ≡ Some (get_or t i 0)
-    here = slice_get-get_or t i 0 (omega arith)
-
-    there : slice_get u i ≡ Some (get_or t i 0)
-    there = front-same t k within i (omega arith) ∙ here
-
-    digit : (y : Bool) → is_digit (get_or t i 0) ≡ y → digit_run_end u (i + 1) ≡ min (digit_run_end t (i + 1)) k
-        → digit_run_end u i ≡ min (digit_run_end t i) k
-    digit true d go =
-        let a = run_end-more is_digit t i (get_or t i 0) here d in
-        let b = run_end-more is_digit u i (get_or t i 0) there d in
-        b ∙ go ∙ ap (λ e. min e k) (sym a)
-    digit false d go =
-        let a = run_end-here is_digit t i _ here d in
-        let b = run_end-here is_digit u i _ there d in
-        omega arith
+  run_end-cut (suc n) i h =
+      let go = run_end-cut n (i + 1) (omega arith) in
+      let here = slice_get-get_or t i 0 (omega arith) in
+      let there = front-same t k within i (omega arith) ∙ here in
+      elim (cases_Bool (is_digit (get_or t i 0))) [
+        | inl d ↦ rw (run_end-more is_digit t i _ here d, run_end-more is_digit u i _ there d) go
+        | inr d ↦ omega (arith, run_end-here is_digit t i _ here d, run_end-here is_digit u i _ there d)
+      ]
 
   run-front : (i : ℕ) → i ≤ k → InFront k (taken tt (digit_run_end t i)) (taken tt (digit_run_end u i))
-  run-front i le = by (cases_lt k (digit_run_end t i)) (run_end-cut (k - i) i (omega arith)) where
-    by : (k < digit_run_end t i) ⊎ (digit_run_end t i ≤ k) → digit_run_end u i ≡ min (digit_run_end t i) k
-        → InFront k (taken tt (digit_run_end t i)) (taken tt (digit_run_end u i))
-    by (inl past) is = inr (omega arith)
-    by (inr all) is = inl (ap (taken tt) (omega arith), omega arith)
+  run-front i le =
+      let is = run_end-cut (k - i) i (omega arith) in
+      elim (cases_lt k (digit_run_end t i)) [
+        | inl past ↦ inr (omega arith)
+        | inr all ↦ inl (ap (taken tt) (omega arith), omega arith)
+      ]
 
   digits-front : (i : ℕ) → i ≤ k → InFront k (digits_from t i (slice_get t i)) (digits_from u i (slice_get u i))
   digits-front i le =
@@ -110,31 +100,24 @@ module _ (t : List ℕ) (k : ℕ) (within : k ≤ length t) where
 
   limit-front : (i : ℕ) → i ≤ k → InFront k (within_limit i (digit_run_end t i)) (within_limit i (digit_run_end u i))
   limit-front i le =
-      by (cases_lt k (digit_run_end t i)) (cases_lt (i + digit_limit) (digit_run_end u i))
-      (run_end-cut (k - i) i (omega arith)) where
-        many : Extent
-        many = failed number_out_of_range (i + (digit_limit + 1))
-
-        fits : (e : ℕ) → e ≤ i + digit_limit → within_limit i e ≡ taken tt e
-        fits e few = if-true (nat_le e (i + digit_limit)) (taken tt e) many (le-leb e (i + digit_limit) few)
-
-        exceeds : (e : ℕ) → i + digit_limit < e → within_limit i e ≡ many
-        exceeds e lt = if-false (nat_le e (i + digit_limit)) (taken tt e) many (lt-leb e (i + digit_limit) lt)
-
-        by : (k < digit_run_end t i) ⊎ (digit_run_end t i ≤ k)
-            → (i + digit_limit < digit_run_end u i) ⊎ (digit_run_end u i ≤ i + digit_limit)
-            → digit_run_end u i ≡ min (digit_run_end t i) k
-            → InFront k (within_limit i (digit_run_end t i)) (within_limit i (digit_run_end u i))
-        by x (inl long) is =
-            subst (λ z. InFront k (within_limit i (digit_run_end t i)) z) (sym (exceeds (digit_run_end u i) long))
-            (inl (exceeds (digit_run_end t i) (omega arith), tt))
-        by (inl past) (inr few) is =
-            subst (λ z. InFront k (within_limit i (digit_run_end t i)) z) (sym (fits (digit_run_end u i) few))
-            (inr (omega arith))
-        by (inr all) (inr few) is =
-            let same : digit_run_end t i ≡ digit_run_end u i = omega arith in
-            subst (λ z. InFront k (within_limit i (digit_run_end t i)) z) (sym (fits (digit_run_end u i) few))
-            (inl (ap (within_limit i) same ∙ fits (digit_run_end u i) few, omega arith))
+      let is = run_end-cut (k - i) i (omega arith) in
+      elim (cases_lt (i + digit_limit) (digit_run_end u i)) [
+        | inl long ↦
+            rw (
+              lt-leb (digit_run_end t i) (i + digit_limit) (omega arith),
+              lt-leb (digit_run_end u i) (i + digit_limit) long,
+            )
+            (fault-front number_out_of_range (i + (digit_limit + 1)))
+        | inr few ↦ elim (cases_lt k (digit_run_end t i)) [
+          | inl past ↦ rw (le-leb (digit_run_end u i) (i + digit_limit) few) (inr (omega arith))
+          | inr all ↦
+              rw (
+                le-leb (digit_run_end t i) (i + digit_limit) (omega arith),
+                le-leb (digit_run_end u i) (i + digit_limit) few,
+              )
+              (run-front i le)
+        ]
+      ]
 
   whole-front : (i : ℕ) → i ≤ k → InFront k (whole_at t i) (whole_at u i)
   whole-front i le =

@@ -1,7 +1,7 @@
 -- What is found at a place, in the grammar's words.
-use Rattle.std.proofs.Common.{◌≡◌, ◌≢◌, ◌⊎◌, inl, inr, ℕ, ◌+◌, ◌-◌, ◌*◌, ◌<◌, ◌≤◌, true, false, List, [], ◌∷◌, ◌++◌}
-use Rattle.std.proofs.Common.{length, refl, sym, ap, ◌∙◌, subst, arith}
-use Rattle.std.specs.Prelude.{slice_get, slice_index, Option, Some, None, if◌then◌else◌, ◌==◌, nat_lt}
+use Rattle.std.proofs.Common.{◌≡◌, ◌≢◌, ◌⊎◌, inl, inr, ℕ, ◌+◌, ◌*◌, ◌<◌, ◌≤◌, true, false, List, [], ◌∷◌, ◌++◌}
+use Rattle.std.proofs.Common.{length, refl, ap, ◌∙◌, subst, arith}
+use Rattle.std.specs.Prelude.{slice_get, slice_index, Option, Some, None, ◌==◌, nat_lt}
 use Rattle.std.specs.Char.{IsScalar, encode_utf8, digit_value}
 use Rattle.std.proofs.lemmas.Bool.{eqb-true, eqb-false, ltb-true, ltb-false}
 use Rattle.std.proofs.lemmas.Bool.Decides.{nat_tests}
@@ -11,13 +11,13 @@ use Rattle.jiter_scan.specs.Kind.{Kind, invalid_escape, lone_surrogate, end_of_h
 use Rattle.jiter_steps.specs.Escape.{short_escape, is_hex, unit_of, is_high, is_low, pair_of}
 use Rattle.jiter_scan.specs.Stands.{Stands}
 use Rattle.jiter_steps.specs.Piece.{IsUnit, IsEscape}
-use Rattle.jiter_steps.specs.StringReading.{closed, unclosed, cut, wrong, Place, part, over, bad_digit, unit_at, few}
-use Rattle.jiter_steps.specs.StringReading.{hex_digits_or, hex_digits_at, behind, unit_then, surrogate_pair}
+use Rattle.jiter_steps.specs.StringReading.{closed, unclosed, cut, wrong, Place, part, over, bad_digit, unit_at}
+use Rattle.jiter_steps.specs.StringReading.{hex_digits_or, hex_digits_at, behind, surrogate_pair}
 use Rattle.jiter_steps.specs.StringReading.{behind_high_backslash, behind_high, single, unicode_escape, short}
-use Rattle.jiter_steps.specs.StringReading.{behind_backslash, plain, escape_or_plain, place_by, place_at}
+use Rattle.jiter_steps.specs.StringReading.{behind_backslash, place_by, place_at}
 use Rattle.jiter_scan.proofs.Choices.{if_case}
 use Rattle.jiter_scan.proofs.Standing.{stands-append}
-use Rattle.jiter_steps.proofs.StringStand.{stands-more, got}
+use Rattle.jiter_steps.proofs.StringStand.{got}
 
 pub record ByteAt (t : List ℕ) (i : ℕ) (bs : List ℕ) (j : ℕ) : Type 0 where
   pub byte : ℕ
@@ -64,13 +64,10 @@ BadOrHex t i (Some k) = (i ≤ k) × (k < i + 4)
 
 bad_digit-explains : (t : List ℕ) (i : ℕ) → i + 4 ≤ length t → BadOrHex t i (bad_digit t i)
 bad_digit-explains t i within =
-    let third = if is_hex (slice_index t (i + 3)) then None else Some (i + 3) in
-    let last = if is_hex (slice_index t (i + 2)) then third else Some (i + 2) in
-    let two = if is_hex (slice_index t (i + 1)) then last else Some (i + 1) in
-    if_case (BadOrHex t i) (is_hex (slice_index t i)) two (Some i) (λ d0.
-    if_case (BadOrHex t i) (is_hex (slice_index t (i + 1))) last (Some (i + 1)) (λ d1.
-    if_case (BadOrHex t i) (is_hex (slice_index t (i + 2))) third (Some (i + 2)) (λ d2.
-    if_case (BadOrHex t i) (is_hex (slice_index t (i + 3))) None (Some (i + 3))
+    if_case (BadOrHex t i) (is_hex (slice_index t i)) _ _ (λ d0.
+    if_case (BadOrHex t i) (is_hex (slice_index t (i + 1))) _ _ (λ d1.
+    if_case (BadOrHex t i) (is_hex (slice_index t (i + 2))) _ _ (λ d2.
+    if_case (BadOrHex t i) (is_hex (slice_index t (i + 3))) _ _
     (λ d3. record { within = within; digits = (d0, d1, d2, d3) }) (λ e. (omega arith, omega arith)))
     (λ e. (omega arith, omega arith)))
     (λ e. (omega arith, omega arith)))
@@ -80,7 +77,7 @@ pub hex_digits_at-case : (P : Place → Type 0) (t : List ℕ) (i : ℕ) (next :
     → ((k : ℕ) → i ≤ k → k < length t → P (over (wrong invalid_escape k))) → (HexAt t i → P (next (unit_at t i)))
     → P (behind next (hex_digits_at t i))
 hex_digits_at-case P t i next none wrong_at good =
-    if_case (λ d. P (behind next d)) (nat_lt (length t) (i + 4)) few (hex_digits_or (bad_digit t i) (unit_at t i))
+    if_case (λ d. P (behind next d)) (nat_lt (length t) (i + 4)) _ _
     (λ e. none) (λ e.
     let within : i + 4 ≤ length t =
     ltb-false (length t) (i + 4) e in by within (bad_digit t i) (bad_digit-explains t i within)) where
@@ -88,49 +85,62 @@ hex_digits_at-case P t i next none wrong_at good =
       by within None h = good h
       by within (Some k) h = wrong_at k h.0 (omega arith)
 
+-- `\u` and four hex digits of the number u, from o to before e
+pub record UnitAt (t : List ℕ) (o e u : ℕ) : Type 0 where
+  pub slash : slice_get t o ≡ Some 92
+  pub letter : slice_get t (o + 1) ≡ Some 117
+  pub hex : HexAt t (o + 1 + 1)
+  pub number : unit_at t (o + 1 + 1) ≡ u
+  pub ends : e ≡ o + 6
+
 -- the bytes of `\u` and the digits at i
-abbrev pub unit_bytes : List ℕ → ℕ → List ℕ
+abbrev unit_bytes : List ℕ → ℕ → List ℕ
 unit_bytes t i = 92 ∷ 117 ∷ slice_index t i ∷ slice_index t (i + 1) ∷ slice_index t (i + 2) ∷ slice_index t (i + 3) ∷ []
 
-pub unit_bytes-stands : (t : List ℕ) (o h e : ℕ) → h ≡ o + 2 → e ≡ h + 4 → slice_get t o ≡ Some 92
-    → slice_get t (o + 1) ≡ Some 117 → h + 4 ≤ length t → Stands t o e (unit_bytes t h)
-unit_bytes-stands t o h e at to b u within =
-    let d3 = stands-more t (h + 3) e e (slice_index t (h + 3)) [] (omega arith) (got t (h + 3) (omega arith)) refl in
-    let d2 = stands-more t (h + 2) (h + 3) e (slice_index t (h + 2)) (slice_index t (h + 3) ∷ []) (omega arith)
-    (got t (h + 2) (omega arith)) d3 in
-    let d1 = stands-more t (h + 1) (h + 2) e (slice_index t (h + 1))
-    (slice_index t (h + 2) ∷ slice_index t (h + 3) ∷ []) (omega arith) (got t (h + 1) (omega arith)) d2 in
-    let d0 = stands-more t h (h + 1) e (slice_index t h)
-    (slice_index t (h + 1) ∷ slice_index t (h + 2) ∷ slice_index t (h + 3) ∷ []) refl (got t h (omega arith)) d1 in
-    let d = slice_index t h ∷ slice_index t (h + 1) ∷ slice_index t (h + 2) ∷ slice_index t (h + 3) ∷ [] in
-    stands-more t o (o + 1) e 92 (117 ∷ d) refl b (stands-more t (o + 1) h e 117 d (omega arith) u d0)
+got-at : (t : List ℕ) (k m : ℕ) → k ≡ m → m < length t → slice_get t k ≡ Some (slice_index t m)
+got-at t k m e h = rw e (got t m h)
 
-pub unit_bytes-unit : (t : List ℕ) (h : ℕ) → HexAt t h → IsUnit (unit_bytes t h) (unit_at t h)
-unit_bytes-unit t h x =
+unit-stands : (t : List ℕ) (o e u : ℕ) → UnitAt t o e u → Stands t o e (unit_bytes t (o + 1 + 1))
+unit-stands t o e u x =
+    let h = o + 1 + 1 in
+    let within = x.hex.within in
+    let first = got-at t h h refl (omega arith) in
+    let second = got-at t (h + 1) (h + 1) refl (omega arith) in
+    let third = got-at t (h + 1 + 1) (h + 2) (omega arith) (omega arith) in
+    let fourth = got-at t (h + 1 + 1 + 1) (h + 3) (omega arith) (omega arith) in
+    (x.slash, (x.letter, (first, (second, (third, (fourth, omega (arith, x.ends)))))))
+
+unit-is : (t : List ℕ) (o e u : ℕ) → UnitAt t o e u → IsUnit (unit_bytes t (o + 1 + 1)) u
+unit-is t o e u x =
+    let h = o + 1 + 1 in
     record {
       a = slice_index t h;
       b = slice_index t (h + 1);
       c = slice_index t (h + 2);
       d = slice_index t (h + 3);
       is = refl;
-      digits = x.digits;
-      means = refl;
+      digits = x.hex.digits;
+      means = x.number;
     }
 
 -- numbers
-pub unit_of-bound : (a b c d : ℕ) → is_hex a ≡ true → is_hex b ≡ true → is_hex c ≡ true → is_hex d ≡ true
+unit_of-bound : (a b c d : ℕ) → is_hex a ≡ true → is_hex b ≡ true → is_hex c ≡ true → is_hex d ≡ true
     → unit_of a b c d < 65536
 unit_of-bound a b c d ha hb hc hd =
-    let la : digit_value a < 16 = ltb-true (digit_value a) 16 ha in
-    let lb : digit_value b < 16 = ltb-true (digit_value b) 16 hb in
-    let lc : digit_value c < 16 = ltb-true (digit_value c) 16 hc in
-    let ld : digit_value d < 16 = ltb-true (digit_value d) 16 hd in
-    sum (digit_value a) (digit_value b) (digit_value c) (digit_value d) la lb lc ld where
+    sum (digit_value a) (digit_value b) (digit_value c) (digit_value d) (ltb-true _ 16 ha) (ltb-true _ 16 hb)
+    (ltb-true _ 16 hc) (ltb-true _ 16 hd) where
       sum : (a b c d : ℕ) → a < 16 → b < 16 → c < 16 → d < 16 → a * 4096 + b * 256 + c * 16 + d < 65536
       sum a b c d p q r s = omega arith
 
-pub scalar-unit : (u : ℕ) → u < 65536 → is_high u ≡ false → is_low u ≡ false → IsScalar u
-scalar-unit u h a b = grind (arith, nat_tests, a, b)
+scalar-unit : (t : List ℕ) (o e u : ℕ) → UnitAt t o e u → is_high u ≡ false → is_low u ≡ false → IsScalar u
+scalar-unit t o e u x a b =
+    let h = o + 1 + 1 in
+    let d = x.hex.digits in
+    let bound =
+    unit_of-bound (slice_index t h) (slice_index t (h + 1)) (slice_index t (h + 2)) (slice_index t (h + 3)) d.0 d.1 d.2
+    d.3 in
+    let small = subst (λ n. n < 65536) x.number bound in
+    grind (arith, nat_tests, a, b, small)
 
 pub scalar-pair : (h l : ℕ) → is_high h ≡ true → is_low l ≡ true → IsScalar (pair_of h l)
 scalar-pair h l a b = grind (arith, nat_tests, a, b)
@@ -142,126 +152,125 @@ ascii-short : (b c : ℕ) → short_escape b ≡ Some c → c < 128
 ascii-short b c e = grind (arith, nat_tests, e)
 
 at-most-four : (c o j : ℕ) → o + 6 ≤ j → o + length (encode_utf8 c) ≤ j
-at-most-four c o j h = let long = length-encode c in let most = len_utf8_bounds c in omega (arith, most.1)
+at-most-four c o j h = omega (arith, length-encode c, (len_utf8_bounds c).1)
 
-module _ (t : List ℕ) (o : ℕ) (slash : slice_get t o ≡ Some 92) where
-  surrogate_pair-explains : (high i : ℕ) → i ≡ o + 7 → slice_get t (o + 1) ≡ Some 117 → slice_get t (o + 6) ≡ Some 92
-      → slice_get t i ≡ Some 117 → is_high high ≡ true → HexAt t (o + 2) → unit_at t (o + 2) ≡ high
-      → HexAt t (i + 1) → Explains t o (surrogate_pair high (i + 1 + 4) (unit_at t (i + 1)))
-  surrogate_pair-explains high i at u s2 u2 hi hx me y =
-      let low = unit_at t (i + 1) in
-      if_case (Explains t o) (is_low low) (part (encode_utf8 (pair_of high low)) true (i + 1 + 4))
-      (over (wrong lone_surrogate (i + 1 + 4 - 1))) (λ lo. record {
+module _ (t : List ℕ) (o : ℕ) where
+  -- where the digits of the escape at o end, and those of one behind it
+  abbrev one : ℕ
+  one = o + 1 + 1 + 4
+
+  abbrev two : ℕ
+  two = one + 1 + 1 + 4
+
+  surrogate_pair-explains : (high low : ℕ) → is_high high ≡ true → UnitAt t o one high → UnitAt t one two low
+      → Explains t o (surrogate_pair high two low)
+  surrogate_pair-explains high low hi x y =
+      if_case (Explains t o) (is_low low) _ _ (λ lo. record {
         character = pair_of high low;
-        bytes = unit_bytes t (o + 2) ++ unit_bytes t (i + 1);
+        bytes = unit_bytes t (o + 1 + 1) ++ unit_bytes t (one + 1 + 1);
         is = refl;
         scalar = scalar-pair high low hi lo;
-        backslash = slash;
-        stands = stands-append t o (o + 6) (i + 1 + 4) (unit_bytes t (o + 2)) (unit_bytes t (i + 1))
-            (unit_bytes-stands t o (o + 2) (o + 6) refl (omega arith) slash u hx.within)
-            (unit_bytes-stands t (o + 6) (i + 1) (i + 1 + 4) (omega arith) (omega arith) s2
-            (subst (λ k. slice_get t k ≡ Some 117) (let e : i ≡ o + 6 + 1 = omega arith in e) u2) y.within);
+        backslash = x.slash;
+        stands = stands-append t o one two (unit_bytes t (o + 1 + 1)) (unit_bytes t (one + 1 + 1))
+            (unit-stands t o one high x) (unit-stands t one two low y);
         escape = inr (inr (record {
-          front = unit_bytes t (o + 2);
-          back = unit_bytes t (i + 1);
+          front = unit_bytes t (o + 1 + 1);
+          back = unit_bytes t (one + 1 + 1);
           high = high;
           low = low;
           is = refl;
-          first = subst (IsUnit (unit_bytes t (o + 2))) me (unit_bytes-unit t (o + 2) hx);
-          second = unit_bytes-unit t (i + 1) y;
+          first = unit-is t o one high x;
+          second = unit-is t one two low y;
           is_high = hi;
           is_low = lo;
           means = refl;
         }));
         ahead = omega arith;
-        wide = at-most-four (pair_of high low) o (i + 1 + 4) (omega arith);
-        within = omega (arith, y.within);
+        wide = at-most-four (pair_of high low) o two (omega arith);
+        within = omega (arith, y.hex.within);
       })
-      (λ no. (omega arith, omega (arith, y.within), inr (inl refl)))
+      (λ no. (omega arith, omega (arith, y.hex.within), inr (inl refl)))
 
-  behind_high_backslash-explains : (high i : ℕ) → i ≡ o + 7 → slice_get t (o + 1) ≡ Some 117
-      → slice_get t (o + 6) ≡ Some 92 → is_high high ≡ true → HexAt t (o + 2) → unit_at t (o + 2) ≡ high
-      → (x : Option ℕ) → slice_get t i ≡ x → Explains t o (behind_high_backslash t high i x)
-  behind_high_backslash-explains high i at u s2 hi hx me None e = slash
-  behind_high_backslash-explains high i at u s2 hi hx me (Some b) e =
-      let inside = slice_get_within t i b e in
-      if_case (Explains t o) (b == 117) (unit_then t (i + 1) (surrogate_pair high)) (over (wrong end_of_hex_escape i))
-      (λ q. hex_digits_at-case (Explains t o) t (i + 1) (surrogate_pair high (i + 1 + 4)) slash
+  behind_high_backslash-explains : (high : ℕ) → is_high high ≡ true → UnitAt t o one high → slice_get t one ≡ Some 92
+      → (x : Option ℕ) → slice_get t (one + 1) ≡ x → Explains t o (behind_high_backslash t high (one + 1) x)
+  behind_high_backslash-explains high hi x s None e = x.slash
+  behind_high_backslash-explains high hi x s (Some b) e =
+      if_case (Explains t o) (b == 117) _ _
+      (λ q. hex_digits_at-case (Explains t o) t (one + 1 + 1) (surrogate_pair high two) x.slash
       (λ k lo up. (omega arith, up, inl refl))
-      (λ y. surrogate_pair-explains high i at u s2 (e ∙ ap Some (eqb-true b 117 q)) hi hx me y))
-      (λ q. (omega arith, inside, inr (inr (inl refl))))
+      (λ y. surrogate_pair-explains high _ hi x (record {
+        slash = s;
+        letter = e ∙ ap Some (eqb-true b 117 q);
+        hex = y;
+        number = refl;
+        ends = omega arith;
+      })))
+      (λ q. (omega arith, slice_get_within t (one + 1) b e, inr (inr (inl refl))))
 
-  behind_high-explains : (high i : ℕ) → i ≡ o + 6 → slice_get t (o + 1) ≡ Some 117 → is_high high ≡ true
-      → HexAt t (o + 2) → unit_at t (o + 2) ≡ high
-      → (x : Option ℕ) → slice_get t i ≡ x → Explains t o (behind_high t high i x)
-  behind_high-explains high i at u hi hx me None e = slash
-  behind_high-explains high i at u hi hx me (Some b) e =
-      let inside = slice_get_within t i b e in
-      if_case (Explains t o) (b == 92) (behind_high_backslash t high (i + 1) (slice_get t (i + 1)))
-      (over (wrong end_of_hex_escape i))
-      (λ q. behind_high_backslash-explains high (i + 1) (omega arith) u
-      (subst (λ k. slice_get t k ≡ Some 92) at (e ∙ ap Some (eqb-true b 92 q))) hi hx me (slice_get t (i + 1)) refl)
-      (λ q. (omega arith, inside, inr (inr (inl refl))))
+  behind_high-explains : (high : ℕ) → is_high high ≡ true → UnitAt t o one high
+      → (x : Option ℕ) → slice_get t one ≡ x → Explains t o (behind_high t high one x)
+  behind_high-explains high hi x None e = x.slash
+  behind_high-explains high hi x (Some b) e =
+      if_case (Explains t o) (b == 92) _ _
+      (λ q. behind_high_backslash-explains high hi x (e ∙ ap Some (eqb-true b 92 q)) (slice_get t (one + 1)) refl)
+      (λ q. (omega arith, slice_get_within t one b e, inr (inr (inl refl))))
 
-  single-explains : (j : ℕ) → j ≡ o + 6 → slice_get t (o + 1) ≡ Some 117 → HexAt t (o + 2) → (u : ℕ)
-      → unit_at t (o + 2) ≡ u → is_high u ≡ false → Explains t o (single j u)
-  single-explains j at uu hx u me hi =
-      if_case (Explains t o) (is_low u) (over (wrong lone_surrogate (j - 1))) (part (encode_utf8 u) true j)
-      (λ lo. (omega arith, omega (arith, hx.within), inr (inl refl)))
-      (λ lo.
-      let small =
-      unit_of-bound (slice_index t (o + 2)) (slice_index t (o + 2 + 1)) (slice_index t (o + 2 + 2))
-      (slice_index t (o + 2 + 3)) hx.digits.0 hx.digits.1 hx.digits.2 hx.digits.3 in
-      let scalar = scalar-unit u (subst (λ x. x < 65536) me small) hi lo in
+  single-explains : (u : ℕ) → UnitAt t o one u → is_high u ≡ false → Explains t o (single one u)
+  single-explains u x hi =
+      if_case (Explains t o) (is_low u) _ _ (λ lo. (omega arith, omega (arith, x.hex.within), inr (inl refl))) (λ lo.
+      let scalar = scalar-unit t o one u x hi lo in
       record {
         character = u;
-        bytes = unit_bytes t (o + 2);
+        bytes = unit_bytes t (o + 1 + 1);
         is = refl;
         scalar = scalar;
-        backslash = slash;
-        stands = unit_bytes-stands t o (o + 2) j refl (omega arith) slash uu hx.within;
-        escape = inr (inl (subst (IsUnit (unit_bytes t (o + 2))) me (unit_bytes-unit t (o + 2) hx), scalar));
+        backslash = x.slash;
+        stands = unit-stands t o one u x;
+        escape = inr (inl (unit-is t o one u x, scalar));
         ahead = omega arith;
-        wide = at-most-four u o j (omega arith);
-        within = omega (arith, hx.within);
+        wide = at-most-four u o one (omega arith);
+        within = omega (arith, x.hex.within);
       })
 
-  unicode_escape-explains : (j : ℕ) → j ≡ o + 6 → slice_get t (o + 1) ≡ Some 117 → HexAt t (o + 2) → (u : ℕ)
-      → unit_at t (o + 2) ≡ u → Explains t o (unicode_escape t j u)
-  unicode_escape-explains j at uu hx u me =
-      if_case (Explains t o) (is_high u) (behind_high t u j (slice_get t j)) (single j u)
-      (λ hi. behind_high-explains u j at uu hi hx me (slice_get t j) refl)
-      (λ hi. single-explains j at uu hx u me hi)
+  unicode_escape-explains : (u : ℕ) → UnitAt t o one u → Explains t o (unicode_escape t one u)
+  unicode_escape-explains u x =
+      if_case (Explains t o) (is_high u) _ _ (λ hi. behind_high-explains u hi x (slice_get t one) refl)
+      (λ hi. single-explains u x hi)
 
-  short-explains : (i b : ℕ) → i ≡ o + 1 → slice_get t i ≡ Some b → (x : Option ℕ) → short_escape b ≡ x
-      → Explains t o (short i x)
-  short-explains i b at e None me = (omega arith, slice_get_within t i b e, inl refl)
-  short-explains i b at e (Some c) me =
-      let inside = slice_get_within t i b e in record {
-        character = c;
-        bytes = 92 ∷ b ∷ [];
-        is = refl;
-        scalar = scalar-short b c me;
-        backslash = slash;
-        stands = stands-more t o i (i + 1) 92 (b ∷ []) at slash (e, refl);
-        escape = inl (record { sign = b; is = refl; means = me });
-        ahead = omega arith;
-        wide = let small = len_utf8_ascii c (ascii-short b c me) in let long = length-encode c in omega arith;
-        within = omega arith;
-      }
+  module _ (slash : slice_get t o ≡ Some 92) where
+    short-explains : (b : ℕ) → slice_get t (o + 1) ≡ Some b → (x : Option ℕ) → short_escape b ≡ x
+        → Explains t o (short (o + 1) x)
+    short-explains b e None me = (omega arith, slice_get_within t (o + 1) b e, inl refl)
+    short-explains b e (Some c) me =
+        let inside = slice_get_within t (o + 1) b e in
+        record {
+          character = c;
+          bytes = 92 ∷ b ∷ [];
+          is = refl;
+          scalar = scalar-short b c me;
+          backslash = slash;
+          stands = (slash, (e, refl));
+          escape = inl (record { sign = b; is = refl; means = me });
+          ahead = omega arith;
+          wide = omega (arith, len_utf8_ascii c (ascii-short b c me), length-encode c);
+          within = omega arith;
+        }
 
-  behind_backslash-explains : (i : ℕ) → i ≡ o + 1 → (x : Option ℕ) → slice_get t i ≡ x
-      → Explains t o (behind_backslash t i x)
-  behind_backslash-explains i at None e = slash
-  behind_backslash-explains i at (Some b) e =
-      let next : i + 1 ≡ o + 2 = omega arith in
-      if_case (Explains t o) (b == 117) (unit_then t (i + 1) (unicode_escape t)) (short i (short_escape b))
-      (λ q. hex_digits_at-case (Explains t o) t (i + 1) (unicode_escape t (i + 1 + 4)) slash
-      (λ k lo up. (omega arith, up, inl refl))
-      (λ y. unicode_escape-explains (i + 1 + 4) (omega arith)
-      (subst (λ k. slice_get t k ≡ Some 117) at (e ∙ ap Some (eqb-true b 117 q))) (subst (HexAt t) next y)
-      (unit_at t (i + 1)) (ap (unit_at t) (sym next))))
-      (λ q. short-explains i b at e (short_escape b) refl)
+    behind_backslash-explains : (x : Option ℕ) → slice_get t (o + 1) ≡ x
+        → Explains t o (behind_backslash t (o + 1) x)
+    behind_backslash-explains None e = slash
+    behind_backslash-explains (Some b) e =
+        if_case (Explains t o) (b == 117) _ _
+        (λ q. hex_digits_at-case (Explains t o) t (o + 1 + 1) (unicode_escape t one) slash
+        (λ k lo up. (omega arith, up, inl refl))
+        (λ y. unicode_escape-explains _ (record {
+          slash = slash;
+          letter = e ∙ ap Some (eqb-true b 117 q);
+          hex = y;
+          number = refl;
+          ends = omega arith;
+        })))
+        (λ q. short-explains b e (short_escape b) refl)
 
 pub place_at-explains : (t : List ℕ) (i : ℕ) → Explains t i (place_at t i)
 unfolding place_at
@@ -269,13 +278,10 @@ place_at-explains t i = by (slice_get t i) refl where
   by : (x : Option ℕ) → slice_get t i ≡ x → Explains t i (place_by t i x)
   by None e = e
   by (Some b) e =
-      if_case (Explains t i) (b == 34) (over (closed (i + 1))) (escape_or_plain t i b)
-      (λ q. (e ∙ ap Some (eqb-true b 34 q), refl)) (λ q.
-      if_case (Explains t i) (b == 92) (behind_backslash t (i + 1) (slice_get t (i + 1))) (plain i b)
-      (λ s. behind_backslash-explains t i (e ∙ ap Some (eqb-true b 92 s)) (i + 1) refl (slice_get t (i + 1)) refl)
-      (λ s.
-      if_case (Explains t i) (nat_lt b 32) (over (wrong control_character i)) (part (b ∷ []) false (i + 1))
-      (λ c. (omega arith, slice_get_within t i b e, inr (inr (inr refl))))
+      if_case (Explains t i) (b == 34) _ _ (λ q. (e ∙ ap Some (eqb-true b 34 q), refl)) (λ q.
+      if_case (Explains t i) (b == 92) _ _
+      (λ s. behind_backslash-explains t i (e ∙ ap Some (eqb-true b 92 s)) (slice_get t (i + 1)) refl) (λ s.
+      if_case (Explains t i) (nat_lt b 32) _ _ (λ c. (omega arith, slice_get_within t i b e, inr (inr (inr refl))))
       (λ c. record {
         byte = b;
         here = e;

@@ -1,29 +1,26 @@
 -- The plain bytes of a string stand for themselves, up to the first stop.
-use Rattle.std.proofs.Common.{◌≡◌, ◌≢◌, ℕ, zero, suc, ◌+◌, ◌<◌, ◌≤◌, Bool, true, false, not, List, [], ◌++◌, length}
-use Rattle.std.proofs.Common.{drop, refl, sym, ap, ◌∙◌, arith, append_assoc}
+use Rattle.std.proofs.Common.{◌≡◌, ℕ, zero, suc, ◌+◌, ◌<◌, ◌≤◌, true, false, List, [], ◌++◌, length}
+use Rattle.std.proofs.Common.{drop, sym, ap, ◌∙◌, arith, append_assoc}
 use Rattle.std.specs.Prelude.{slice_get, slice_range, Some}
 use Rattle.std.specs.List.{prefix_len}
 use Rattle.std.proofs.lemmas.Bool.Decides.{nat_tests}
 use Rattle.std.proofs.lemmas.List.Edits.{between_none}
 use Rattle.jiter_scan.specs.Scan.{is_stop, is_plain, scan_stop}
 use Rattle.jiter_scan.proofs.Runs.{run_end-ahead, run_end-within, run_end-passes, run_end-stops}
-use Rattle.jiter_steps.specs.StringReading.{part, over, place_at, Stop, Body, before, body_at}
+use Rattle.jiter_steps.specs.StringReading.{part, over, place_at, Stop, before, body_at}
+use Rattle.jiter_steps.proofs.StringComplete.{IsPrinted}
 use Rattle.jiter_steps.proofs.DecodeSteps.{plain_more, part_more, part_over}
 
-plain-no_quote : (b : ℕ) → is_plain b ≡ true → b ≢ 34
-plain-no_quote b e = grind (arith, nat_tests, e)
-
-plain-no_backslash : (b : ℕ) → is_plain b ≡ true → b ≢ 92
-plain-no_backslash b e = grind (arith, nat_tests, e)
-
-plain-printed : (b : ℕ) → is_plain b ≡ true → 32 ≤ b
-plain-printed b e = grind (arith, nat_tests, e)
+plain-printed : (b : ℕ) → is_plain b ≡ true → IsPrinted b
+plain-printed b e =
+    record {
+      printed = grind (arith, nat_tests, e);
+      no_quote = grind (arith, nat_tests, e);
+      no_backslash = grind (arith, nat_tests, e);
+    }
 
 stop-again : (b : ℕ) → is_plain b ≡ false → is_stop b ≡ true
-stop-again b e = by (is_stop b) e where
-  by : (x : Bool) → not x ≡ false → x ≡ true
-  by true h = refl
-  by false h = sym h
+stop-again b e = grind (arith, nat_tests, e)
 
 module _ (t : List ℕ) where
   pub scan_stop_within : (i : ℕ) → i ≤ length t → (i ≤ scan_stop t i) × (scan_stop t i ≤ length t)
@@ -44,7 +41,7 @@ module _ (t : List ℕ) where
       let plain = run_end-passes is_plain t i (i + k) (omega arith) (omega arith) in
       let at : i + k + 1 ≡ i + suc k = omega arith in
       plain_more t i (i + k) (run i k w (omega arith)) (omega arith) (omega (arith, run_end-within is_plain t i w))
-      (plain-no_quote _ plain) (plain-no_backslash _ plain) (plain-printed _ plain)
+      (plain-printed _ plain)
       ∙ ap (λ j. before (slice_range t i j) false (body_at t j)) at
 
   pub plain_run : (i : ℕ) → i ≤ length t
@@ -61,11 +58,7 @@ module _ (t : List ℕ) where
       → next ≡ tape ++ slice_range t at to
       → (old ++ (body_at t from).bytes ≡ next ++ (body_at t to).bytes) × ((body_at t from).stop ≡ (body_at t to).stop)
   run_more old tape next from at to h s w e n =
-      let b = plain_run_to at to w e in (
-        h ∙ ap (λ (x : Body). tape ++ x.bytes) b ∙ sym (append_assoc tape (slice_range t at to) (body_at t to).bytes)
-            ∙ ap (λ l. l ++ (body_at t to).bytes) (sym n),
-        s ∙ ap (λ (x : Body). x.stop) b,
-      )
+      let b = plain_run_to at to w e in (rw (h, b, n, append_assoc), rw (s, b))
 
   -- and the character of an escape
   pub decode_more : (old tape next after bs : List ℕ) (from at to end : ℕ)
@@ -78,7 +71,7 @@ module _ (t : List ℕ) where
       let r = run_more old tape next from at to h s w e n in
       let m = part_more t old next bs from to end true r.0 r.1 (sym f) in
       let ahead = scan_stop_within at w in
-      (m.0 ∙ ap (λ l. l ++ (body_at t end).bytes) (sym a), m.1, omega (arith, m.2, ahead.0, e), m.3)
+      (rw a m.0, m.1, omega (arith, m.2, ahead.0, e), m.3)
 
   -- or the string is over
   pub decode_over : (old tape next : List ℕ) (from at to : ℕ) (x : Stop)

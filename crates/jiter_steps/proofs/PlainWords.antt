@@ -1,20 +1,15 @@
 -- Words whose bytes are known to stand.
-use Rattle.std.proofs.Common.{◌≡◌, ℕ, ◌+◌, List, [], ◌∷◌, refl, sym, ap, ◌∙◌, arith}
-use Rattle.std.specs.Prelude.{◌==◌, slice_get, Some}
+use Rattle.std.proofs.Common.{◌≡◌, ℕ, ◌+◌, List, [], ◌∷◌, refl, ◌∙◌, arith}
+use Rattle.std.specs.Prelude.{slice_get, Some}
 use Rattle.std.proofs.lemmas.Bool.{eq-eqb}
-use Rattle.jiter_scan.specs.Kind.{expected_ident}
-use Rattle.jiter_scan.specs.Scanned.{taken, failed}
-use Rattle.jiter_scan.specs.Word.{byte_then, word_at}
-use Rattle.jiter_scan.proofs.Choices.{if-true}
+use Rattle.jiter_scan.specs.Scanned.{taken}
+use Rattle.jiter_scan.specs.Word.{word_at}
 
 module _ (t : List ℕ) where
   pub word_at-byte : (c : ℕ) (w : List ℕ) (i j : ℕ) → slice_get t i ≡ Some c → j ≡ i + 1
       → word_at t (c ∷ w) i ≡ word_at t w j
   unfolding word_at
-  word_at-byte c w i j here next =
-      ap (byte_then (word_at t w (i + 1)) c i) here
-      ∙ if-true (c == c) (word_at t w (i + 1)) (failed expected_ident i) (eq-eqb c c refl)
-      ∙ ap (word_at t w) (sym next)
+  word_at-byte c w i j here next = rw (here, eq-eqb c c refl, next)
 
   word_at-none : (i : ℕ) → word_at t [] i ≡ taken tt i
   unfolding word_at

@@ -3,7 +3,7 @@ use Rattle.std.proofs.Common.{◌≡◌, ◌≢◌, ℕ, ◌+◌, ◌-◌, ◌<�
 use Rattle.std.proofs.Common.{subst, arith}
 use Rattle.std.specs.Prelude.{slice_get, Option, Some, None, IfSome}
 use Rattle.std.proofs.lemmas.Bool.Decides.{nat_tests}
-use Rattle.std.proofs.lemmas.Option.{none-some, same_Some}
+use Rattle.std.proofs.lemmas.Option.{none-some}
 use Rattle.jiter_scan.specs.Scan.{is_stop, scan_stop}
 use Rattle.jiter_scan.specs.Kind.{Kind, eof_string}
 use Rattle.jiter_scan.specs.Scanned.{Scanned, taken, failed}
@@ -13,7 +13,7 @@ use Rattle.jiter_steps.specs.StringReading.{Place, part, over, Stop, closed, unc
 use Rattle.jiter_steps.specs.StringReading.{Body, body_at, Form, raw, raw_kept, between, text_in_form, content_at}
 use Rattle.jiter_steps.specs.RawString.{EndsAt}
 use Rattle.jiter_steps.proofs.Bodies.{body_at-place_by, part-ahead}
-use Rattle.jiter_steps.proofs.Places.{ByteAt, Explains, place_at-explains}
+use Rattle.jiter_steps.proofs.Places.{Explains, place_at-explains}
 use Rattle.jiter_steps.proofs.PlainRuns.{scan_stop_within, scan_stop_stops, plain_run_to}
 use Rattle.jiter_steps.proofs.StringComplete.{place_by-quote}
 use Rattle.jiter_steps.proofs.StringStand.{got}
@@ -75,11 +75,6 @@ module _ (t : List ℕ) where
       let stop : (body_at t j).stop ≡ s = ap (λ (b : Body). b.stop) (body_at-place_by t j (over s) (sym p)) in
       sym p ∙ ap over (sym (h ∙ stop))
 
-  stop-no_byte : (j : ℕ) (bs : List ℕ) (k b : ℕ) → is_stop b ≡ true → slice_get t j ≡ Some b → ByteAt t j bs k → ⊥
-  stop-no_byte j bs k b h e x =
-      let same : x.byte ≡ b = same_Some _ _ (sym x.here ∙ e) in
-      plain-no_stop x.byte x.printed x.no_quote x.no_backslash (subst (λ c. is_stop c ≡ true) (sym same) h)
-
   -- where a stop other than a backslash stands, or nothing, a content is over
   pub over-unless : (j : ℕ) → IfSome (slice_get t j) (λ b. is_stop b ≡ true) → slice_get t j ≢ Some 92
       → (s : Stop) × (place_at t j ≡ over s)
@@ -87,7 +82,8 @@ module _ (t : List ℕ) where
     by : (p : Place) → Explains t j p → place_at t j ≡ p → (s : Stop) × (place_at t j ≡ over s)
     by (part bs true k) x e = absurd (ne x.backslash)
     by (part bs false k) x e =
-        absurd (stop-no_byte j bs k x.byte (subst (λ o. IfSome o (λ b. is_stop b ≡ true)) x.here h) x.here x)
+        let stops = subst (λ o. IfSome o (λ b. is_stop b ≡ true)) x.here h in
+        absurd (plain-no_stop x.byte x.printed x.no_quote x.no_backslash stops)
     by (over s) x e = (s, e)
 
   pub run-over : (i to : ℕ) → i ≤ length t → to ≡ scan_stop t i → slice_get t to ≢ Some 92 → EndsAt t i to
@@ -107,7 +103,7 @@ module _ (t : List ℕ) where
       → content_at raw t i ≡ taken (between t i j) (j + 1)
   raw-closed i j o q =
       let last : j + 1 - 1 ≡ j = omega arith in
-      form-by raw i j (closed (j + 1)) o (sym (place_by-quote t j q)) ∙ ap (λ k. taken (between t i k) (j + 1)) last
+      rw (form-by raw i j (closed (j + 1)) o (sym (place_by-quote t j q)), last)
 
   -- where it ends says what it is
   raw-text_in_form : (i e : ℕ) (bs : List ℕ) (o : Bool) (s : Stop)
@@ -127,8 +123,7 @@ module _ (t : List ℕ) where
       → content_at raw_kept t i ≡ taken (between t i j) (j + 1)
   front-closed i j o q =
       let last : j + 1 - 1 ≡ j = omega arith in
-      form-by raw_kept i j (closed (j + 1)) o (sym (place_by-quote t j q))
-      ∙ ap (λ k. taken (between t i k) (j + 1)) last
+      rw (form-by raw_kept i j (closed (j + 1)) o (sym (place_by-quote t j q)), last)
 
   pub front-unclosed : (i j : ℕ) → EndsAt t i j → slice_get t j ≡ None
       → content_at raw_kept t i ≡ taken (between t i (length t)) (length t)

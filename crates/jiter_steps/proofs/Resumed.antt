@@ -1,9 +1,10 @@
 -- The turns of the machine, as what the open containers complete a reading to.
-use Rattle.std.proofs.Common.{◌≡◌, ℕ, suc, ◌+◌, ◌-◌, ◌<◌, ◌≤◌, Bool, true, false, cond, List, [], ◌∷◌, length, refl, ap}
+use Rattle.std.proofs.Common.{◌≡◌, ℕ, suc, ◌+◌, ◌-◌, ◌<◌, ◌≤◌, true, false, List, [], ◌∷◌, length, refl, ap}
 use Rattle.std.proofs.Common.{◌∙◌, arith}
 use Rattle.std.specs.Prelude.{slice_index}
 use Rattle.jiter_scan.specs.Kind.{Kind, recursion_limit}
 use Rattle.jiter_scan.specs.Scanned.{taken, failed}
+use Rattle.jiter_scan.proofs.Choices.{if_case}
 use Rattle.jiter_steps.specs.Literal.{start_of}
 use Rattle.jiter_steps.specs.Step.{Step, more, closed, stuck, step, opening, container_first, object_colon}
 use Rattle.jiter_steps.specs.Read.{Reading, done, fault, Rules, Container, if_forgiven, follow, behind_part}
@@ -52,28 +53,22 @@ module _ {K A : Type 0} (r : Rules K A) (t : List ℕ) where
   pub value_in-limit : (j : ℕ) → value_in r t 201 j ≡ fault recursion_limit j j
   value_in-limit j = inside_at-none r t 0 j refl
 
+  pub if_forgiven-yes : (close : ℕ → A) (k : Kind) (i stop : ℕ) → r.forgives k ≡ true
+      → if_forgiven r close k i stop ≡ done (close stop) stop
+  if_forgiven-yes close k i stop h = rw h
+
+  pub if_forgiven-no : (close : ℕ → A) (k : Kind) (i stop : ℕ) → r.forgives k ≡ false
+      → if_forgiven r close k i stop ≡ fault k i stop
+  if_forgiven-no close k i stop h = rw h
+
+  -- a step, its forgiven fault resolved
   follow-resolve_step : (next : ℕ → Reading A) (close : ℕ → A) (s : Step)
       → follow r next close s ≡ follow r next close (resolve_step r.forgives s)
   follow-resolve_step next close (more j) = refl
   follow-resolve_step next close (closed e) = refl
-  follow-resolve_step next close (stuck k j) = by_forgiving (r.forgives k) refl where
-    by_forgiving : (y : Bool) → r.forgives k ≡ y
-        → if_forgiven r close k j j ≡ follow r next close (cond y (closed j) (stuck k j))
-    by_forgiving true h = ap (λ y. cond y (done (close j) j) (fault k j j)) h
-    by_forgiving false h = refl
-
-  -- a step, its forgiven fault resolved
-  follow-to : (next : ℕ → Reading A) (close : ℕ → A) (s u : Step) → resolve_step r.forgives s ≡ u
-      → follow r next close s ≡ follow r next close u
-  follow-to next close s u h = follow-resolve_step next close s ∙ ap (follow r next close) h
-
-  pub if_forgiven-yes : (close : ℕ → A) (k : Kind) (i stop : ℕ) → r.forgives k ≡ true
-      → if_forgiven r close k i stop ≡ done (close stop) stop
-  if_forgiven-yes close k i stop h = ap (λ y. cond y (done (close stop) stop) (fault k i stop)) h
-
-  pub if_forgiven-no : (close : ℕ → A) (k : Kind) (i stop : ℕ) → r.forgives k ≡ false
-      → if_forgiven r close k i stop ≡ fault k i stop
-  if_forgiven-no close k i stop h = ap (λ y. cond y (done (close stop) stop) (fault k i stop)) h
+  follow-resolve_step next close (stuck k j) =
+      if_case (λ s. if_forgiven r close k j j ≡ follow r next close s) (r.forgives k) _ _
+      (λ h. if_forgiven-yes close k j j h) (λ h. refl)
 
   -- a fault of the value that an open container awaits
   behind-fault : (depth : ℕ) (f : Frame K A) (k : Kind) (i stop : ℕ)
@@ -98,7 +93,9 @@ module _ {K A : Type 0} (r : Rules K A) (t : List ℕ) where
   module _ {P : Type 0} (c : Container P A) (fs : Frames) (parts : List P) where
     pub step-to : (s u : Step) → resolve_step r.forgives s ≡ u
         → resume r t fs (parts_step r t c parts s) ≡ resume r t fs (parts_step r t c parts u)
-    step-to s u h = ap (resume r t fs) (follow-to (parts_from r t c parts) (λ e. c.build e parts) s u h)
+    step-to s u h =
+        ap (resume r t fs) (follow-resolve_step (parts_from r t c parts) (λ e. c.build e parts) s
+        ∙ ap (parts_step r t c parts) h)
 
     pub step-stuck : (s : Step) (k : Kind) (j : ℕ) → resolve_step r.forgives s ≡ stuck k j → r.forgives k ≡ false
         → resume r t fs (parts_step r t c parts s) ≡ fault k j j

@@ -1,5 +1,5 @@
 -- Steps between the parts of a container, by the grammar.
-use Rattle.std.proofs.Common.{◌≡◌, ℕ, ◌+◌, ◌<◌, ◌≤◌, ◌==◌, Bool, true, false, cond, List, length, IfSome, refl, sym, ap}
+use Rattle.std.proofs.Common.{◌≡◌, ℕ, ◌+◌, ◌<◌, ◌≤◌, ◌==◌, true, false, cond, List, length, IfSome, refl, ap}
 use Rattle.std.proofs.Common.{◌∙◌, arith}
 use Rattle.std.specs.Prelude.{slice_get, Option, Some, None}
 use Rattle.std.proofs.lemmas.Option.{slice_get_within}
@@ -8,7 +8,7 @@ use Rattle.jiter_scan.specs.Kind.{trailing_comma, expected_colon, key_must_be_a_
 use Rattle.jiter_scan.specs.Scanned.{taken, failed}
 use Rattle.jiter_scan.specs.Word.{Extent}
 use Rattle.jiter_scan.specs.NumberReading.{extent_then}
-use Rattle.jiter_scan.proofs.Choices.{if_case, if-true, if-false}
+use Rattle.jiter_scan.proofs.Choices.{if_case}
 use Rattle.jiter_steps.specs.Blank.{is_blank, past_blanks, IsBlank}
 use Rattle.jiter_steps.specs.Node.{StandsBehind}
 use Rattle.jiter_steps.specs.Step.{Step, more, closed, stuck, step, closer_of, begins_part, comma_kind_of}
@@ -80,10 +80,7 @@ pub record Delimits (t : List ℕ) (first next : ℕ → Option ℕ → Step) (c
 -- what holds of both arms of a test for a byte
 pub tested : {A : Type 0} (P : A → Type 0) (c d : ℕ) (x y : A) → (c ≡ d → P x) → ((c == d) ≡ false → P y)
     → P (cond (c == d) x y)
-tested P c d x y p q = by (c == d) refl where
-  by : (b : Bool) → (c == d) ≡ b → P (cond b x y)
-  by true e = p (eqb-true c d e)
-  by false e = q e
+tested P c d x y p q = if_case P (c == d) x y (λ e. p (eqb-true c d e)) q
 
 module _ (t : List ℕ) where
   -- the byte behind blanks, or none
@@ -154,25 +151,12 @@ module _ (t : List ℕ) where
         (λ e. comma-then i (j + 1) (closer_of b) (PartAt b t) _ (behind i j c 44 s e) next) (λ e. tt))
 
     -- they find what is there
-    begins : (row : ℕ → Option ℕ → Step) (other : ℕ → ℕ → Step)
-        → ((j c : ℕ) → row j (Some c) ≡ cond (begins_part b c) (more j) (other j c))
-        → (i j : ℕ) → IsBlank t i j → PartAt b t j → step t row i ≡ more j
-    begins row other is i j blanks h =
-        row-at row i j h.byte blanks h.here h.no_blank ∙ is j h.byte
-        ∙ if-true _ (more j) (other j h.byte) h.begins
-
-    closes : (row : ℕ → Option ℕ → Step) → ((j : ℕ) → row j (Some (closer_of b)) ≡ closed (j + 1))
-        → (i e : ℕ) → StandsBehind t i (closer_of b) e → step t row i ≡ closed e
-    closes row is i e h =
-        row-at row i h.at (closer_of b) h.blanks h.here (closer-no_blank b) ∙ is h.at ∙ ap closed (sym h.ends)
+    closed-at : (row : ℕ → Option ℕ → Step) (i e : ℕ) (h : StandsBehind t i (closer_of b) e)
+        → step t row i ≡ row h.at (Some (closer_of b))
+    closed-at row i e h = row-at row i h.at (closer_of b) h.blanks h.here (closer-no_blank b)
 
     is_closer : (closer_of b == closer_of b) ≡ true
     is_closer = eq-eqb (closer_of b) (closer_of b) refl
-
-    first-closes : (j : ℕ) → container_first b j (Some (closer_of b)) ≡ closed (j + 1)
-    first-closes j =
-        if-false _ (more j) _ (closer-begins_no_part b)
-        ∙ if-true _ (closed (j + 1)) (stuck key_must_be_a_string j) is_closer
 
     pub delimits : Delimits t (container_first b) (container_step b t) (closer_of b) (PartAt b t)
     delimits = record {
@@ -181,14 +165,18 @@ module _ (t : List ℕ) where
       next-is = λ i.
           let Next = Behind t i 44 (PartBehind t (PartAt b t)) in
           row-is (StepIs t i (closer_of b) Next) (container_step b t) i (step-is i);
-      first-closed = closes (container_first b) first-closes;
-      first-more = begins (container_first b) _ (λ j c. refl);
-      next-closed = closes (container_step b t) (λ j. if-true _ (closed (j + 1)) _ is_closer);
+      first-closed = λ i e h.
+          rw (closed-at (container_first b) i e h, closer-begins_no_part b, is_closer, h.ends);
+      first-more = λ i j blanks h. rw (row-at (container_first b) i j h.byte blanks h.here h.no_blank, h.begins);
+      next-closed = λ i e h. rw (closed-at (container_step b t) i e h, is_closer, h.ends);
       next-more = λ i m j h blanks x.
-          row-at (container_step b t) i h.at 44 h.blanks h.here refl
-          ∙ if-false _ (closed (h.at + 1)) (step t (container_comma b) (h.at + 1)) (closer-no_comma b)
-          ∙ ap (step t (container_comma b)) (sym h.ends)
-          ∙ begins (container_comma b) _ (λ j c. refl) m j blanks x;
+          rw (
+            row-at (container_step b t) i h.at 44 h.blanks h.here refl,
+            closer-no_comma b,
+            ← h.ends,
+            row-at (container_comma b) m j x.byte blanks x.here x.no_blank,
+            x.begins,
+          );
     }
 
   -- behind a key: its colon, and the byte where its value may begin
@@ -221,6 +209,8 @@ module _ (t : List ℕ) where
   pub object_colon-taken : (i m j : ℕ) → StandsBehind t i 58 m → IsBlank t m j → ByteAt t j
       → object_colon t i ≡ taken tt j
   object_colon-taken i m j h b x =
-      ap (λ x. extent_then x (step t value_first)) (row-at colon i h.at 58 h.blanks h.here refl)
-      ∙ ap (step t value_first) (sym h.ends)
-      ∙ row-at value_first m j x.byte b x.here x.no_blank
+      rw (
+        row-at colon i h.at 58 h.blanks h.here refl,
+        ← h.ends,
+        row-at value_first m j x.byte b x.here x.no_blank,
+      )

@@ -1,7 +1,7 @@
 -- The skip law: a skip ends where reading the value ends, and meets its fault, but for that of UTF-8.
 use Rattle.std.proofs.Common.{◌≡◌, ◌≢◌, ℕ, zero, suc, ◌+◌, Bool, List, [], ◌∷◌, ◌++◌, length, refl, sym, ap, subst}
 use Rattle.std.specs.Prelude.{slice_index}
-use Rattle.jiter_scan.specs.Kind.{Kind, invalid_code_point}
+use Rattle.jiter_scan.specs.Kind.{invalid_code_point}
 use Rattle.jiter_scan.specs.Scanned.{Scanned, taken, failed}
 use Rattle.jiter_scan.specs.Word.{Extent}
 use Rattle.jiter_scan.specs.NumberReading.{number_at}
@@ -146,10 +146,3 @@ module _ (names : Bool) (t : List ℕ) where
   -- The skip law.
   pub skip_at-law : (i : ℕ) → EndsAlike (read_at names t i) (skip_at names t i)
   skip_at-law i = value_at-alike nesting_limit i
-
-  pub skip_at-done : (i e : ℕ) (v : Tree) → read_at names t i ≡ done v e → skip_at names t i ≡ done tt e
-  skip_at-done i e v h = let r = subst (λ x. EndsAlike x (skip_at names t i)) h (skip_at-law i) in r.1
-
-  pub skip_at-fault : (i j stop : ℕ) (k : Kind) → k ≢ invalid_code_point → read_at names t i ≡ fault k j stop
-      → skip_at names t i ≡ fault k j stop
-  skip_at-fault i j stop k ne h = subst (λ x. EndsAlike x (skip_at names t i)) h (skip_at-law i) ne

@@ -4,7 +4,6 @@ use Rattle.std.specs.Prelude.{slice_get, slice_index, Some}
 use Rattle.std.specs.Str.{chars}
 use Rattle.std.proofs.lemmas.Option.{slice_get-get_or, slice_get_within}
 use Rattle.std.proofs.lemmas.Bool.Decides.{nat_tests}
-use Rattle.jiter_scan.specs.Number.{Number}
 use Rattle.jiter_scan.specs.NumberReading.{number_at}
 use Rattle.jiter_scan.specs.Scanned.{Scanned, taken, failed}
 use Rattle.jiter_scan.specs.Word.{Extent}
@@ -22,7 +21,6 @@ use Rattle.jiter_steps.specs.Read.{container_at, array_of, object_of, value_with
 use Rattle.jiter_steps.specs.Step.{object_colon}
 use Rattle.jiter_steps.specs.StringReading.{whole, string_at}
 use Rattle.jiter_steps.specs.Tree.{Text}
-use Rattle.jiter_steps.specs.declared.parse.Literal.{Literal}
 use Rattle.jiter_steps.specs.declared.parse.Start.{Start}
 use Rattle.jiter_steps.specs.declared.parse.Start.TheVariants as start
 use Rattle.jiter_steps.proofs.Bounds.{Within}
@@ -95,26 +93,11 @@ module _ (names : Bool) (t : List ℕ) where
   sound-at room n h le d = (record { spelled = h; begins = refl; ends = refl; within = le }, d)
 
   -- scalars
-  literal-sound : (room i : ℕ) (l : Literal) (x : Extent) → literal_at t l i ≡ x → ScalarWithin t i x
-      → Sound names t room i (scalar_at i (seen_as (λ u e. grammar.literal l i e) x))
-  literal-sound room i l (taken u e) is w =
-      sound-at room (grammar.literal l i e) (laws.literal-sound l i e is) w.1 (omega arith)
-  literal-sound room i l (failed k j) is w = tt
-
-  number-sound : (room i : ℕ) (x : Scanned Number) → number_at names t i ≡ x → ScalarWithin t i x
-      → Sound names t room i (scalar_at i (seen_as (λ n e. grammar.number i e) x))
-  number-sound room i (taken n e) is w =
-      let spelled : SpellsNumber names t i e =
-      record { ordered = omega (arith, w.0); within = w.1; text = (laws.number-sound i e n is).0 } in
-      sound-at room (grammar.number i e) spelled w.1 (omega arith)
-  number-sound room i (failed k j) is w = tt
-
-  text-sound : (room i : ℕ) (x : Scanned Text) → slice_get t i ≡ Some 34 → string_at whole t i ≡ x → ScalarWithin t i x
-      → Sound names t room i
-      (scalar_at i (seen_as (λ s e. grammar.string (pieces_from t (i + 1) (chars s.bytes)) i e) x))
-  text-sound room i (taken s e) here is w =
-      sound-at room (grammar.string _ i e) (laws.string-sound i e s here is).0 w.1 (omega arith)
-  text-sound room i (failed k j) here is w = tt
+  scalar-sound : {X : Type 0} (room i : ℕ) (f : X → ℕ → Node) (x : Scanned X) → ScalarWithin t i x
+      → ((s : X) (e : ℕ) → x ≡ taken s e → i < e → e ≤ length t → Sound names t room i (done (f s e) e))
+      → Sound names t room i (scalar_at i (seen_as f x))
+  scalar-sound room i f (taken s e) w all = all s e refl w.0 w.1
+  scalar-sound room i f (failed k j) w all = tt
 
   module _ (room : ℕ) where
     abbrev pub inner : ℕ → Reading Node
@@ -267,10 +250,17 @@ module _ (names : Bool) (t : List ℕ) where
         (members-grammar (PartAt shape.Object t) (Reads (object i)) (member-read all i)) i h
         (λ ms f x le. sound-at room (grammar.object i f (node_members_of ms)) (here, x.0) le x.1)
     value_with-sound all i h start.String e =
-        text-sound room i (string_at whole t i) (byte-here i 34 h (string-first _ e)) refl (laws.string-within i h)
-    value_with-sound all i h start.Number e = number-sound room i (number_at names t i) refl (laws.number-within i h)
+        let here = byte-here i 34 h (string-first _ e) in
+        scalar-sound room i (λ s e. grammar.string (pieces_from t (i + 1) (chars s.bytes)) i e) (string_at whole t i)
+        (laws.string-within i h)
+        (λ s e is l le. sound-at room (grammar.string _ i e) (laws.string-sound i e s here is).0 le (omega arith))
+    value_with-sound all i h start.Number e =
+        scalar-sound room i (λ n e. grammar.number i e) (number_at names t i) (laws.number-within i h)
+        (λ n e is l le. sound-at room (grammar.number i e)
+        (record { ordered = omega arith; within = le; text = (laws.number-sound i e n is).0 }) le (omega arith))
     value_with-sound all i h (start.Literal l) e =
-        literal-sound room i l (literal_at t l i) refl (laws.literal-within l i h)
+        scalar-sound room i (λ u e. grammar.literal l i e) (literal_at t l i) (laws.literal-within l i h)
+        (λ u e is b le. sound-at room (grammar.literal l i e) (laws.literal-sound l i e is) le (omega arith))
     value_with-sound all i h start.Nothing e = tt
 
   -- a value inside needs room for the container round it

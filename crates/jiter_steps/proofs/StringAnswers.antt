@@ -4,30 +4,25 @@ use Rattle.std.specs.Prelude.{slice_get, slice_range, Some, None, Result, Ok, Er
 use Rattle.std.specs.declared.alloc.Global.{Global}
 use Rattle.std.specs.declared.borrow.CowStr.{CowStr}
 use Rattle.std.proofs.lemmas.Bool.Decides.{nat_tests}
-use Rattle.jiter_scan.specs.Kind.{Kind, eof_string, control_character}
-use Rattle.jiter_scan.specs.Scan.{is_stop, scan_stop}
-use Rattle.jiter_scan.specs.Scanned.{Scanned, taken, failed, Scans, with_end}
+use Rattle.jiter_scan.specs.Kind.{eof_string, control_character}
+use Rattle.jiter_scan.specs.Scan.{scan_stop}
+use Rattle.jiter_scan.specs.Scanned.{failed, Scans, with_end}
 use Rattle.jiter_scan.proofs.Scanning.{ScalarWithin}
-use Rattle.jiter_steps.specs.Tree.{Text}
 use Rattle.jiter_steps.specs.ReadError.{UnlessRefused}
 use Rattle.jiter_steps.specs.StringDecoder.{text_view}
-use Rattle.jiter_steps.specs.StringReading.{closed, unclosed, cut, wrong, before, body_at, if_utf8, whole, string_at}
+use Rattle.jiter_steps.specs.StringReading.{closed, before, body_at, if_utf8, whole, string_at}
 use Rattle.jiter_steps.specs.declared.read_error.ReadError.{ReadError}
 use Rattle.jiter_steps.specs.declared.read_error.ReadError.TheVariants.{Fault, Memory}
-use Rattle.jiter_steps.proofs.DecodeSteps.{at_none, at_quote, at_control, at_backslash, at_stop}
+use Rattle.jiter_steps.proofs.DecodeSteps.{at_none, at_quote, at_control, at_backslash}
 use Rattle.jiter_steps.proofs.PlainRuns.{plain_run_to, scan_stop_stops}
 use Rattle.jiter_steps.proofs.StringLaws.{string_at-within}
 
 module _ (t : List ℕ) (at : ℕ) (inside : at < length t) where
-  ok-within : (x : CowStr Global × ℕ) (s : Scanned Text) → s ≡ taken (text_view x.0) x.1 → ScalarWithin t at s
-      → (at < x.1) × (x.1 ≤ length t)
-  ok-within x s e w = subst (ScalarWithin t at) e w
-
   -- a text ends behind its begin and within the bytes
   pub string-advances : (r : Result (CowStr Global × ℕ) ReadError)
       → UnlessRefused r (λ x. Scans (with_end text_view) x (string_at whole t at))
       → IfOk r (λ x. (at < x.1) × (x.1 ≤ length t))
-  string-advances (Ok x) g = ok-within x (string_at whole t at) g (string_at-within whole t at inside)
+  string-advances (Ok x) g = subst (ScalarWithin t at) g (string_at-within whole t at inside)
   string-advances (Err (Fault f)) g = tt
   string-advances (Err (Memory m)) g = tt
 
@@ -43,26 +38,13 @@ module _ (t : List ℕ) (at : ℕ) (inside : at < length t) where
         → string_at whole t at ≡ if_utf8 (at + 1) false (slice_range t (at + 1) to) (to + 1)
     string-quote e = at_quote t (at + 1) to front e
 
-    low : (b : ℕ) → is_stop b ≡ true → b ≢ 34 → b ≢ 92 → b < 32
-    low b e q s = grind (arith, nat_tests, e, q, s)
-
     pub string-control : (b : ℕ) → slice_get t to ≡ Some b → b ≢ 34 → b ≢ 92
         → string_at whole t at ≡ failed control_character to
     string-control b e q s =
-        at_control t (at + 1) to b front e q s
-        (low b (scan_stop_stops t (at + 1) b (subst (λ j. slice_get t j ≡ Some b) stop e)) q s)
+        let stops = scan_stop_stops t (at + 1) b (subst (λ j. slice_get t j ≡ Some b) stop e) in
+        at_control t (at + 1) to b front e q s (grind (arith, nat_tests, stops, q, s))
 
     -- with a backslash
     pub string-closed : (e : ℕ) → slice_get t to ≡ Some 92 → (body_at t (at + 1)).stop ≡ closed e
         → string_at whole t at ≡ if_utf8 (at + 1) true (body_at t (at + 1)).bytes e
     string-closed e b s = at_backslash t (at + 1) to e front b s
-
-  -- by how it ends
-  pub string-wrong : (k : Kind) (j : ℕ) → (body_at t (at + 1)).stop ≡ wrong k j → string_at whole t at ≡ failed k j
-  string-wrong k j s = at_stop t (at + 1) (wrong k j) s
-
-  pub string-unclosed : (body_at t (at + 1)).stop ≡ unclosed → string_at whole t at ≡ failed eof_string (length t)
-  string-unclosed s = at_stop t (at + 1) unclosed s
-
-  pub string-cut : (body_at t (at + 1)).stop ≡ cut → string_at whole t at ≡ failed eof_string (length t)
-  string-cut s = at_stop t (at + 1) cut s

@@ -1,28 +1,26 @@
 -- What is spelled is read.
-use Rattle.std.proofs.Common.{◌≡◌, ◌≢◌, ◌⊎◌, inl, inr, ℕ, ◌+◌, ◌<◌, ◌≤◌, Bool, true, false, ◌||◌, ◌&&◌, ap₂, List, []}
+use Rattle.std.proofs.Common.{◌≡◌, ◌≢◌, inl, inr, ℕ, ◌+◌, ◌≤◌, Bool, true, false, ◌||◌, ◌&&◌, ap₂, List, []}
 use Rattle.std.proofs.Common.{◌∷◌, length, refl, sym, ap, ◌∙◌, subst, arith}
-use Rattle.std.specs.Prelude.{slice_get, slice_index, Some, None, ◌==◌, nat_lt}
+use Rattle.std.specs.Prelude.{slice_get, slice_index, Some, ◌==◌}
 use Rattle.std.specs.Char.{IsScalar, encode_utf8}
 use Rattle.std.specs.Str.{all_scalars}
 use Rattle.std.specs.Str.Lossy.{utf8_valid_len}
-use Rattle.std.proofs.lemmas.Bool.{eq-eqb, ne_eqb, le-ltb, cases_lt}
+use Rattle.std.proofs.lemmas.Bool.{eq-eqb, ne_eqb, le-ltb}
 use Rattle.std.proofs.lemmas.Bool.Decides.{nat_tests}
 use Rattle.std.proofs.lemmas.Option.{slice_get_within, get_or_from_slice_get}
 use Rattle.std.proofs.lemmas.Str.{utf8_valid_len-IsUtf8}
-use Rattle.jiter_steps.specs.Escape.{short_escape, is_hex, unit_of, is_high, is_low, pair_of}
+use Rattle.jiter_steps.specs.Escape.{is_high, is_low, pair_of}
 use Rattle.jiter_scan.specs.Stands.{Stands}
-use Rattle.jiter_steps.specs.Piece.{IsUnit, IsEscape, IsPiece, Piece, SpellsChar, SpellsPieces, SpellsString}
+use Rattle.jiter_steps.specs.Piece.{IsPlain, IsUnit, IsEscape, Piece, SpellsChar, SpellsPieces, SpellsString}
 use Rattle.jiter_steps.specs.Piece.{characters, text_of}
 use Rattle.jiter_scan.specs.Scanned.{taken}
-use Rattle.jiter_steps.specs.StringReading.{closed, part, over, bad_digit, unit_at, few, number, hex_digits_or}
-use Rattle.jiter_steps.specs.StringReading.{hex_digits_at, behind, surrogate_pair, behind_high_backslash, behind_high}
-use Rattle.jiter_steps.specs.StringReading.{single, unicode_escape, short, behind_backslash, plain, escape_or_plain}
-use Rattle.jiter_steps.specs.StringReading.{place_by, place_at, Body, before, body_at, whole, content_at, string_at}
-use Rattle.jiter_steps.specs.StringReading.{text_in_form}
-use Rattle.jiter_scan.proofs.Choices.{if-true, if-false}
+use Rattle.jiter_steps.specs.StringReading.{closed, part, over, unit_at, number}
+use Rattle.jiter_steps.specs.StringReading.{hex_digits_at}
+use Rattle.jiter_steps.specs.StringReading.{unicode_escape, behind_backslash}
+use Rattle.jiter_steps.specs.StringReading.{place_by, place_at, before, body_at, whole, content_at, string_at}
 use Rattle.jiter_scan.proofs.Standing.{stands-split}
-use Rattle.jiter_steps.proofs.Utf8Shape.{AllFollow, Lead, lead}
-use Rattle.jiter_steps.proofs.Places.{HexAt, scalar-pair, scalar-short}
+use Rattle.jiter_steps.proofs.Utf8Shape.{AllFollow, lead}
+use Rattle.jiter_steps.proofs.Places.{HexAt, UnitAt, scalar-pair, scalar-short}
 use Rattle.jiter_steps.proofs.Bodies.{before-before, body_at-place_by}
 
 pub record IsPrinted (b : ℕ) : Type 0 where
@@ -41,19 +39,24 @@ all_follow-printed : (w : List ℕ) → AllFollow w → ArePrinted w
 all_follow-printed [] h = tt
 all_follow-printed (b ∷ w) h = (high-printed b h.0.least, all_follow-printed w h.1)
 
-pub plain-printed : (c : ℕ) → 32 ≤ c → c ≢ 34 → c ≢ 92 → Lead c → ArePrinted (encode_utf8 c)
-plain-printed c p q b l = subst ArePrinted (sym l.is) (first (cases_lt c 128), all_follow-printed l.rest l.follow) where
-  first : (c < 128) ⊎ (128 ≤ c) → IsPrinted l.first
-  first (inl low) = subst IsPrinted (l.low low) (record { printed = p; no_quote = q; no_backslash = b })
-  first (inr high) = high-printed l.first (omega (arith, l.high high))
+-- the bytes of a character that stands for itself
+pub plain-printed : (p : List ℕ) (c : ℕ) → IsPlain p c → ArePrinted (encode_utf8 c)
+plain-printed p c is =
+    let l = lead c is.scalar in
+    let high = all_follow-printed l.rest l.follow in
+    subst ArePrinted (sym l.is) (
+      record {
+        printed = omega (arith, l.byte, is.printed);
+        no_quote = omega (arith, l.byte, is.no_quote);
+        no_backslash = omega (arith, l.byte, is.no_backslash);
+      },
+      high,
+    )
 
 module _ (t : List ℕ) where
   pub place_by-byte : (i b : ℕ) → slice_get t i ≡ Some b → IsPrinted b → place_at t i ≡ part (b ∷ []) false (i + 1)
   unfolding place_at
-  place_by-byte i b e p =
-      ap (place_by t i) e ∙ if-false (b == 34) (over (closed (i + 1))) (escape_or_plain t i b) (ne_eqb b 34 p.no_quote)
-      ∙ if-false (b == 92) (behind_backslash t (i + 1) (slice_get t (i + 1))) (plain i b) (ne_eqb b 92 p.no_backslash)
-      ∙ if-false (nat_lt b 32) _ (part (b ∷ []) false (i + 1)) (le-ltb b 32 p.printed)
+  place_by-byte i b e p = rw (e, ne_eqb b 34 p.no_quote, ne_eqb b 92 p.no_backslash, le-ltb b 32 p.printed)
 
   pub place_by-quote : (i : ℕ) → slice_get t i ≡ Some 34 → place_at t i ≡ over (closed (i + 1))
   unfolding place_at
@@ -66,93 +69,55 @@ module _ (t : List ℕ) where
 
   hex_digits_at-good : (i : ℕ) → HexAt t i → hex_digits_at t i ≡ number (unit_at t i)
   hex_digits_at-good i h =
-      if-false (nat_lt (length t) (i + 4)) few (hex_digits_or (bad_digit t i) (unit_at t i))
-      (le-ltb (length t) (i + 4) h.within)
-      ∙ ap (λ x. hex_digits_or x (unit_at t i)) good where
-        good : bad_digit t i ≡ None
-        good = if-true (is_hex (slice_index t i)) _ _ h.digits.0
-            ∙ if-true (is_hex (slice_index t (i + 1))) _ _ h.digits.1
-            ∙ if-true (is_hex (slice_index t (i + 2))) _ _ h.digits.2
-            ∙ if-true (is_hex (slice_index t (i + 3))) _ _ h.digits.3
-
-  pub record UnitAt (o e u : ℕ) : Type 0 where
-    pub slash : slice_get t o ≡ Some 92
-    pub letter : slice_get t (o + 1) ≡ Some 117
-    pub hex : HexAt t (o + 1 + 1)
-    pub number : unit_at t (o + 1 + 1) ≡ u
-    pub ends : e ≡ o + 6
+      rw (le-ltb (length t) (i + 4) h.within, h.digits.0, h.digits.1, h.digits.2, h.digits.3)
 
   index-at : (k m x : ℕ) → k ≡ m → slice_get t k ≡ Some x → slice_index t m ≡ x
   index-at k m x e h = get_or_from_slice_get t m x 0 (subst (λ n. slice_get t n ≡ Some x) e h)
 
-  pub unit-at : (o e u : ℕ) (p : List ℕ) → IsUnit p u → Stands t o e p → UnitAt o e u
-  unit-at o e u p is s = by (subst (Stands t o e) is.is s) where
-    by : Stands t o e (92 ∷ 117 ∷ is.a ∷ is.b ∷ is.c ∷ is.d ∷ []) → UnitAt o e u
-    by s =
-        let a = index-at (o + 1 + 1) (o + 1 + 1) is.a refl s.1.1.0 in
-        let b = index-at (o + 1 + 1 + 1) (o + 1 + 1 + 1) is.b refl s.1.1.1.0 in
-        let c = index-at (o + 1 + 1 + 1 + 1) (o + 1 + 1 + 2) is.c (omega arith) s.1.1.1.1.0 in
-        let d = index-at (o + 1 + 1 + 1 + 1 + 1) (o + 1 + 1 + 3) is.d (omega arith) s.1.1.1.1.1.0 in
-        let last = slice_get_within t (o + 1 + 1 + 1 + 1 + 1) is.d s.1.1.1.1.1.0 in
-        record {
-          slash = s.0;
-          letter = s.1.0;
-          hex = record {
-            within = omega arith;
-            digits = (
-              ap is_hex a ∙ is.digits.0,
-              ap is_hex b ∙ is.digits.1,
-              ap is_hex c ∙ is.digits.2,
-              ap is_hex d
-                  ∙ is.digits.3,
-            );
-          };
-          number = (λ k. unit_of (a k) (b k) (c k) (d k)) ∙ is.means;
-          ends = omega (arith, s.1.1.1.1.1.1);
-        }
+  pub unit-at : (o e u : ℕ) (p : List ℕ) → IsUnit p u → Stands t o e p → UnitAt t o e u
+  unit-at o e u p is s =
+      let h : Stands t o e (92 ∷ 117 ∷ is.a ∷ is.b ∷ is.c ∷ is.d ∷ []) = subst (Stands t o e) is.is s in
+      let a = index-at (o + 1 + 1) (o + 1 + 1) is.a refl h.1.1.0 in
+      let b = index-at (o + 1 + 1 + 1) (o + 1 + 1 + 1) is.b refl h.1.1.1.0 in
+      let c = index-at (o + 1 + 1 + 1 + 1) (o + 1 + 1 + 2) is.c (omega arith) h.1.1.1.1.0 in
+      let d = index-at (o + 1 + 1 + 1 + 1 + 1) (o + 1 + 1 + 3) is.d (omega arith) h.1.1.1.1.1.0 in
+      let last = slice_get_within t (o + 1 + 1 + 1 + 1 + 1) is.d h.1.1.1.1.1.0 in
+      record {
+        slash = h.0;
+        letter = h.1.0;
+        hex = record { within = omega arith; digits = rw (a, b, c, d) is.digits };
+        number = rw (a, b, c, d) is.means;
+        ends = omega (arith, h.1.1.1.1.1.1);
+      }
 
-  pub place_by-number : (i e u : ℕ) → UnitAt i e u → place_at t i ≡ unicode_escape t (i + 1 + 1 + 4) u
+  pub place_by-number : (i e u : ℕ) → UnitAt t i e u → place_at t i ≡ unicode_escape t (i + 1 + 1 + 4) u
   place_by-number i e u x =
-      place_by-backslash i x.slash ∙ ap (behind_backslash t (i + 1)) x.letter
-      ∙ ap (behind (unicode_escape t (i + 1 + 1 + 4))) (hex_digits_at-good (i + 1 + 1) x.hex)
-      ∙ ap (unicode_escape t (i + 1 + 1 + 4)) x.number
+      rw (place_by-backslash i x.slash, x.letter, hex_digits_at-good (i + 1 + 1) x.hex, x.number)
 
-  place_by-pair : (i j k high low : ℕ) → is_high high ≡ true → is_low low ≡ true → UnitAt i k high
-      → UnitAt (i + 1 + 1 + 4) j low → place_at t i ≡ part (encode_utf8 (pair_of high low)) true j
+  place_by-pair : (i j k high low : ℕ) → is_high high ≡ true → is_low low ≡ true → UnitAt t i k high
+      → UnitAt t (i + 1 + 1 + 4) j low → place_at t i ≡ part (encode_utf8 (pair_of high low)) true j
   place_by-pair i j k high low hi lo x y =
       let o = i + 1 + 1 + 4 in
-      place_by-number i k high x ∙ if-true (is_high high) (behind_high t high o (slice_get t o)) (single o high) hi
-      ∙ ap (behind_high t high o) y.slash ∙ ap (behind_high_backslash t high (o + 1)) y.letter
-      ∙ ap (behind (surrogate_pair high (o + 1 + 1 + 4))) (hex_digits_at-good (o + 1 + 1) y.hex)
-      ∙ ap (surrogate_pair high (o + 1 + 1 + 4)) y.number
-      ∙ if-true (is_low low) (part (encode_utf8 (pair_of high low)) true (o + 1 + 1 + 4)) _ lo
-      ∙ ap (part (encode_utf8 (pair_of high low)) true) (omega (arith, y.ends))
+      rw (place_by-number i k high x, hi, y.slash, y.letter, hex_digits_at-good (o + 1 + 1) y.hex, y.number, lo)
+      (ap (part (encode_utf8 (pair_of high low)) true) (omega (arith, y.ends)))
 
   pub place_by-escape : (i j c : ℕ) (p : List ℕ) → IsEscape p c → Stands t i j p
       → place_at t i ≡ part (encode_utf8 c) true j
-  place_by-escape i j c p (inl is) s = by (subst (Stands t i j) is.is s) where
-    no_u : (b : Bool) → (is.sign == 117) ≡ b → b ≡ false
-    no_u b e = grind (arith, nat_tests, is.means, e)
-
-    by : Stands t i j (92 ∷ is.sign ∷ []) → place_at t i ≡ part (encode_utf8 c) true j
-    by h =
-        place_by-backslash i h.0 ∙ ap (behind_backslash t (i + 1)) h.1.0
-        ∙ if-false (is.sign == 117) _ (short (i + 1) (short_escape is.sign)) (no_u _ refl)
-        ∙ ap (short (i + 1)) is.means ∙ ap (part (encode_utf8 c) true) h.1.1
+  place_by-escape i j c p (inl is) s =
+      let h : Stands t i j (92 ∷ is.sign ∷ []) = subst (Stands t i j) is.is s in
+      let no_u : (is.sign == 117) ≡ false = grind (arith, nat_tests, is.means) in
+      rw (place_by-backslash i h.0, h.1.0, no_u, is.means) (ap (part (encode_utf8 c) true) h.1.1)
   place_by-escape i j c p (inr (inl is)) s =
       let x = unit-at i j c p is.0 s in
       let no_high : is_high c ≡ false = grind (arith, nat_tests, is.1) in
       let no_low : is_low c ≡ false = grind (arith, nat_tests, is.1) in
-      place_by-number i j c x ∙ if-false (is_high c) _ (single (i + 1 + 1 + 4) c) no_high
-      ∙ if-false (is_low c) _ (part (encode_utf8 c) true (i + 1 + 1 + 4)) no_low
-      ∙ ap (part (encode_utf8 c) true) (omega (arith, x.ends))
+      rw (place_by-number i j c x, no_high, no_low) (ap (part (encode_utf8 c) true) (omega (arith, x.ends)))
   place_by-escape i j c p (inr (inr is)) s =
       let h = stands-split t i j is.front is.back (subst (Stands t i j) is.is s) in
       let x = unit-at i h.0 is.high is.front is.first h.1 in
       let at : h.0 ≡ i + 1 + 1 + 4 = omega (arith, x.ends) in
       let y = unit-at (i + 1 + 1 + 4) j is.low is.back is.second (subst (λ o. Stands t o j is.back) at h.2) in
-      place_by-pair i j h.0 is.high is.low is.is_high is.is_low x y
-      ∙ ap (λ x. part (encode_utf8 x) true j) (sym is.means)
+      rw is.means (place_by-pair i j h.0 is.high is.low is.is_high is.is_low x y)
 
   pub escape-scalar : (p : List ℕ) (c : ℕ) → IsEscape p c → IsScalar c
   escape-scalar p c (inl is) = scalar-short is.sign c is.means
@@ -168,19 +133,18 @@ module _ (t : List ℕ) where
 
   pub char-read : (i j c : ℕ) → SpellsChar t i j c
       → (o : Bool) × (body_at t i ≡ before (encode_utf8 c) o (body_at t j)) × IsScalar c
-  char-read i j c s = by s.piece where
-    by : IsPiece s.bytes c → (o : Bool) × (body_at t i ≡ before (encode_utf8 c) o (body_at t j)) × IsScalar c
-    by (inl p) = (
+  char-read i j c s = elim s.piece [
+    | inl p ↦ (
       false,
-      bytes-read i j (encode_utf8 c) (plain-printed c p.printed p.no_quote p.no_backslash (lead c p.scalar))
-          (subst (Stands t i j) p.is s.stands),
+      bytes-read i j (encode_utf8 c) (plain-printed s.bytes c p) (subst (Stands t i j) p.is s.stands),
       p.scalar,
     )
-    by (inr x) = (
+    | inr x ↦ (
       true,
       body_at-place_by t i (part (encode_utf8 c) true j) (place_by-escape i j c s.bytes x s.stands),
       escape-scalar s.bytes c x,
     )
+  ]
 
   pub pieces-read : (i q : ℕ) (ps : List Piece) → SpellsPieces t i ps q → slice_get t q ≡ Some 34
       → (o : Bool) × (body_at t i ≡ record { bytes = text_of ps; owned = o; stop = closed (q + 1) })
@@ -201,7 +165,5 @@ module _ (t : List ℕ) where
       let good : (utf8_valid_len text == length text) ≡ true =
       eq-eqb _ _ (utf8_valid_len-IsUtf8 text (characters ps, (r.2, refl))) in (
         r.0,
-        ap (λ (b : Body). text_in_form whole t (i + 1) b.bytes b.owned b.stop) r.1
-            ∙ if-true (utf8_valid_len text == length text) _ _ good
-            ∙ ap (taken (record { owned = r.0; bytes = text })) (sym s.ends),
+        rw (r.1, good) (ap (taken (record { owned = r.0; bytes = text })) (sym s.ends)),
       )

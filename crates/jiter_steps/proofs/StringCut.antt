@@ -1,30 +1,28 @@
 -- A string that is cut, where it is kept: the characters of the pieces that end before the cut.
-use Rattle.std.proofs.Common.{◌≡◌, ◌⊎◌, inl, inr, ℕ, suc, ◌+◌, ◌<◌, ◌≤◌, Bool, true, false, ◌&&◌, List, [], ◌∷◌, ◌++◌}
-use Rattle.std.proofs.Common.{length, take, refl, sym, ap, ap₂, ◌∙◌, subst, arith, append-nil, append_assoc}
-use Rattle.std.specs.Prelude.{slice_get, Some, nat_le, nat_lt}
+use Rattle.std.proofs.Common.{◌≡◌, ◌⊎◌, inl, inr, ℕ, suc, ◌+◌, ◌<◌, ◌≤◌, Bool, true, false, List, [], ◌∷◌, ◌++◌}
+use Rattle.std.proofs.Common.{length, take, refl, sym, ap, ◌∙◌, subst, arith, append-nil, append_assoc}
+use Rattle.std.specs.Prelude.{slice_get, Some}
 use Rattle.std.specs.Char.{encode_utf8}
 use Rattle.std.specs.Str.{all_scalars, IsUtf8}
-use Rattle.std.proofs.lemmas.Bool.{le-leb, cases_lt, lt-ltb}
-use Rattle.std.proofs.lemmas.Bool.Decides.{nat_tests}
+use Rattle.std.proofs.lemmas.Bool.{le-leb, lt-leb, cases_lt, lt-ltb}
 use Rattle.std.proofs.lemmas.Option.{slice_get_past}
-use Rattle.jiter_steps.specs.Escape.{is_high}
 use Rattle.jiter_scan.specs.Stands.{Stands}
-use Rattle.jiter_steps.specs.Piece.{IsPlain, IsEscape, IsPiece, Piece, SpellsChar, SpellsPieces, SpellsString}
+use Rattle.jiter_steps.specs.Piece.{IsPlain, IsEscape, Piece, SpellsChar, SpellsPieces, SpellsString}
 use Rattle.jiter_steps.specs.Piece.{characters, text_of, pieces_to}
 use Rattle.jiter_scan.specs.Scanned.{taken, failed}
-use Rattle.jiter_steps.specs.StringReading.{Stop, unclosed, cut, over, few, hex_digits_or, bad_digit, unit_at}
-use Rattle.jiter_steps.specs.StringReading.{hex_digits_at, behind, surrogate_pair, behind_high_backslash, behind_high}
-use Rattle.jiter_steps.specs.StringReading.{single, unicode_escape, behind_backslash, place_at, Body, before, body_at}
-use Rattle.jiter_steps.specs.StringReading.{kept, valid_front_by, valid_front, text_in_form, content_at, string_at}
+use Rattle.jiter_steps.specs.StringReading.{Stop, unclosed, cut, over, few}
+use Rattle.jiter_steps.specs.StringReading.{hex_digits_at, behind_high}
+use Rattle.jiter_steps.specs.StringReading.{place_at, Body, before, body_at}
+use Rattle.jiter_steps.specs.StringReading.{kept, valid_front, content_at, string_at}
 use Rattle.jiter_steps.specs.StringReading.{whole, raw}
 use Rattle.jiter_steps.proofs.Utf8Shape.{lead}
-use Rattle.jiter_scan.proofs.Choices.{if-true, if-false}
 use Rattle.jiter_scan.proofs.Standing.{stands-split}
 use Rattle.jiter_steps.proofs.Front.{front-length, front-get, front-stands}
 use Rattle.jiter_steps.proofs.SameFront.{string-too}
+use Rattle.jiter_steps.proofs.Places.{UnitAt}
 use Rattle.jiter_steps.proofs.Bodies.{body_at-place_by, place_by-end}
 use Rattle.jiter_steps.proofs.StringComplete.{ArePrinted, plain-printed, bytes-read, char-read, place_by-backslash}
-use Rattle.jiter_steps.proofs.StringComplete.{place_by-number, UnitAt, unit-at}
+use Rattle.jiter_steps.proofs.StringComplete.{place_by-number, unit-at}
 use Rattle.jiter_scan.specs.Kind.{eof_string}
 use Rattle.jiter_steps.proofs.CutCharacters.{IsFront, tail-unfinished, tail-taken}
 
@@ -42,12 +40,17 @@ module _ (t : List ℕ) (k : ℕ) (within : k ≤ length t) where
   char-cut i j c s l =
       record { bytes = s.bytes; stands = front-stands t k within i j s.bytes s.stands l; piece = s.piece }
 
-  -- the input ends at k, within or before a character
-  record EndsAt (i : ℕ) : Type 0 where
+  -- of these pieces, which begin at i, those before k are read, and a front of the next one's bytes
+  record CutAt (i : ℕ) (ps : List Piece) : Type 0 where
     rest : List ℕ
     front : IsFront rest
-    bytes : (body_at u i).bytes ≡ rest
+    bytes : (body_at u i).bytes ≡ text_of (pieces_to k ps) ++ rest
     stop : ((body_at u i).stop ≡ unclosed) ⊎ ((body_at u i).stop ≡ cut)
+    scalars : all_scalars (characters (pieces_to k ps)) ≡ true
+
+  -- the input ends at k, within or before a character
+  abbrev EndsAt : ℕ → Type 0
+  EndsAt i = CutAt i []
 
   any-front : IsFront []
   any-front = record {
@@ -58,25 +61,13 @@ module _ (t : List ℕ) (k : ℕ) (within : k ≤ length t) where
     some = let l = lead 65 refl in subst (λ x. 0 < length x) (sym l.is) (omega arith);
   }
 
-  ends-here : (i : ℕ) → k ≤ i → EndsAt i
-  ends-here i h =
-      let b = body_at-place_by u i (over unclosed) (place_by-end u i (omega (arith, long))) in
-      record {
-        rest = [];
-        front = any-front;
-        bytes = ap (λ (x : Body). x.bytes) b;
-        stop = inl (ap (λ (x : Body). x.stop) b);
-      }
+  ends-at : (i : ℕ) (s : Stop) → place_at u i ≡ over s → (s ≡ unclosed) ⊎ (s ≡ cut) → EndsAt i
+  ends-at i s e h =
+      let b = body_at-place_by u i (over s) e in
+      record { rest = []; front = any-front; bytes = ap (λ (x : Body). x.bytes) b; stop = rw b h; scalars = refl }
 
-  ends-cut : (i : ℕ) → place_at u i ≡ over cut → EndsAt i
-  ends-cut i e =
-      let b = body_at-place_by u i (over cut) e in
-      record {
-        rest = [];
-        front = any-front;
-        bytes = ap (λ (x : Body). x.bytes) b;
-        stop = inr (ap (λ (x : Body). x.stop) b);
-      }
+  ends-here : (i : ℕ) → k ≤ i → EndsAt i
+  ends-here i h = ends-at i unclosed (place_by-end u i (omega (arith, long))) (inl refl)
 
   -- a plain character's front
   front-split : (i j : ℕ) (w : List ℕ) → Stands t i j w → i ≤ k → k < j → (v : List ℕ) × (more : List ℕ)
@@ -96,35 +87,41 @@ module _ (t : List ℕ) (k : ℕ) (within : k ≤ length t) where
   plain-ends : (i j c : ℕ) (p : List ℕ) → IsPlain p c → Stands t i j p → i ≤ k → k < j → EndsAt i
   plain-ends i j c p is s l m =
       let r = front-split i j (encode_utf8 c) (subst (Stands t i j) is.is s) l m in
-      let all = plain-printed c is.printed is.no_quote is.no_backslash (lead c is.scalar) in
-      let b = bytes-read u i k r.0 (printed-front r.0 r.1 (subst ArePrinted r.2 all)) r.3 in
+      let printed = printed-front r.0 r.1 (subst ArePrinted r.2 (plain-printed p c is)) in
       let e = body_at-place_by u k (over unclosed) (place_by-end u k (omega (arith, long))) in
-      let both = b ∙ ap (before r.0 false) e in
+      let both = bytes-read u i k r.0 printed r.3 ∙ ap (before r.0 false) e in
       record {
         rest = r.0;
         front = record { c = c; more = r.1; scalar = is.scalar; is = r.2; some = r.4 };
         bytes = ap (λ (x : Body). x.bytes) both ∙ append-nil r.0;
-        stop = inl (ap (λ (x : Body). x.stop) both);
+        stop = rw both (inl refl);
+        scalars = refl;
       }
 
   digits-few : (x : ℕ) → k < x + 4 → hex_digits_at u x ≡ few
-  digits-few x h =
-      if-true (nat_lt (length u) (x + 4)) few (hex_digits_or (bad_digit u x) (unit_at u x))
-      (lt-ltb (length u) (x + 4) (omega (arith, long)))
+  digits-few x h = rw (lt-ltb (length u) (x + 4) (omega (arith, long)))
 
   -- an escape's front
   unit-ends : (i e n : ℕ) → UnitAt t i e n → i < k → k < i + 6 → place_at u i ≡ over cut
-  unit-ends i e n x l m = place_by-backslash u i (same i 92 l x.slash) ∙ elim (cases_lt (i + 1) k) [
-    | inl lt ↦ ap (behind_backslash u (i + 1)) (same (i + 1) 117 lt x.letter)
-        ∙ ap (behind (unicode_escape u (i + 1 + 1 + 4))) (digits-few (i + 1 + 1) (omega arith))
-    | inr ge ↦ ap (behind_backslash u (i + 1)) (slice_get_past u (i + 1) (omega (arith, long)))
+  unit-ends i e n x l m = rw (place_by-backslash u i (same i 92 l x.slash)) (elim (cases_lt (i + 1) k) [
+    | inl lt ↦ rw (same (i + 1) 117 lt x.letter, digits-few (i + 1 + 1) (omega arith))
+    | inr ge ↦ rw (slice_get_past u (i + 1) (omega (arith, long)))
+  ])
+
+  behind_high-ends : (o j high low : ℕ) → UnitAt t o j low → o ≤ k → k < o + 6
+      → behind_high u high o (slice_get u o) ≡ over cut
+  behind_high-ends o j high low y ge m = elim (cases_lt o k) [
+    | inr none ↦ rw (slice_get_past u o (omega (arith, long)))
+    | inl some ↦ rw (same o 92 some y.slash) (elim (cases_lt (o + 1) k) [
+      | inr none ↦ rw (slice_get_past u (o + 1) (omega (arith, long)))
+      | inl more ↦ rw (same (o + 1) 117 more y.letter, digits-few (o + 1 + 1) (omega arith))
+    ])
   ]
 
   escape-ends : (i j c : ℕ) (p : List ℕ) → IsEscape p c → Stands t i j p → i < k → k < j → place_at u i ≡ over cut
   escape-ends i j c p (inl is) s l m =
       let h : Stands t i j (92 ∷ is.sign ∷ []) = subst (Stands t i j) is.is s in
-      place_by-backslash u i (same i 92 l h.0) ∙ ap (behind_backslash u (i + 1))
-      (slice_get_past u (i + 1) (omega (arith, long, h.1.1)))
+      rw (place_by-backslash u i (same i 92 l h.0), slice_get_past u (i + 1) (omega (arith, long, h.1.1)))
   escape-ends i j c p (inr (inl is)) s l m =
       let x = unit-at t i j c p is.0 s in
       unit-ends i j c x l (omega (arith, x.ends))
@@ -138,71 +135,39 @@ module _ (t : List ℕ) (k : ℕ) (within : k ≤ length t) where
         | inl lt ↦ unit-ends i h.0 is.high x l (omega arith)
         | inr ge ↦
             let first = front-stands t k within i h.0 is.front h.1 (omega (arith, at)) in
-            place_by-number u i h.0 is.high (unit-at u i h.0 is.high is.front is.first first)
-            ∙ if-true (is_high is.high) (behind_high u is.high o (slice_get u o)) (single o is.high) is.is_high
-            ∙ behind_high-ends o j is.high is.low y ge (omega (arith, y.ends))
-      ] where
-        behind_high-ends : (o j high low : ℕ) → UnitAt t o j low → o ≤ k → k < o + 6
-            → behind_high u high o (slice_get u o) ≡ over cut
-        behind_high-ends o j high low y ge m = elim (cases_lt o k) [
-          | inr none ↦ ap (behind_high u high o) (slice_get_past u o (omega (arith, long)))
-          | inl some ↦ ap (behind_high u high o) (same o 92 some y.slash) ∙ elim (cases_lt (o + 1) k) [
-            | inr none ↦ ap (behind_high_backslash u high (o + 1)) (slice_get_past u (o + 1) (omega (arith, long)))
-            | inl more ↦ ap (behind_high_backslash u high (o + 1)) (same (o + 1) 117 more y.letter)
-                ∙ ap (behind (surrogate_pair high (o + 1 + 1 + 4))) (digits-few (o + 1 + 1) (omega arith))
-          ]
-        ]
+            let z = unit-at u i h.0 is.high is.front is.first first in
+            rw (place_by-number u i h.0 is.high z, is.is_high)
+            (behind_high-ends o j is.high is.low y ge (omega (arith, y.ends)))
+      ]
 
   char-ends : (i j c : ℕ) → SpellsChar t i j c → i ≤ k → k < j → EndsAt i
-  char-ends i j c s l m = by s.piece where
-    by : IsPiece s.bytes c → EndsAt i
-    by (inl p) = plain-ends i j c s.bytes p s.stands l m
-    by (inr x) =
-        elim (cases_lt i k) [
-          | inl lt ↦ ends-cut i (escape-ends i j c s.bytes x s.stands lt m)
-          | inr ge ↦ ends-here i ge
-        ]
-
-  record CutAt (i : ℕ) (ps : List Piece) : Type 0 where
-    rest : List ℕ
-    front : IsFront rest
-    bytes : (body_at u i).bytes ≡ text_of (pieces_to k ps) ++ rest
-    stop : ((body_at u i).stop ≡ unclosed) ⊎ ((body_at u i).stop ≡ cut)
-    scalars : all_scalars (characters (pieces_to k ps)) ≡ true
+  char-ends i j c s l m = elim s.piece [
+    | inl p ↦ plain-ends i j c s.bytes p s.stands l m
+    | inr x ↦ elim (cases_lt i k) [
+      | inl lt ↦ ends-at i cut (escape-ends i j c s.bytes x s.stands lt m) (inr refl)
+      | inr ge ↦ ends-here i ge
+    ]
+  ]
 
   pieces-cut : (ps : List Piece) (i q : ℕ) → SpellsPieces t i ps q → i ≤ k → k ≤ q → CutAt i ps
-  pieces-cut [] i q s l m =
-      let e = ends-here i (omega (arith, s)) in
-      record { rest = e.rest; front = e.front; bytes = e.bytes; stop = e.stop; scalars = refl }
+  pieces-cut [] i q s l m = ends-here i (omega (arith, s))
   pieces-cut (p ∷ ps) i q s l m = elim (cases_lt k p.end) [
     | inl lt ↦
         let e = char-ends i p.end p.character s.0 l lt in
-        let none : [] ≡ pieces_to k (p ∷ ps) = sym (if-false (nat_le p.end k) (p ∷ pieces_to k ps) [] (no p.end lt)) in
-        record {
-          rest = e.rest;
-          front = e.front;
-          bytes = e.bytes ∙ ap (λ x. text_of x ++ e.rest) none;
-          stop = e.stop;
-          scalars = subst (λ x. all_scalars (characters x) ≡ true) none refl;
-        }
+        let none = lt-leb p.end k lt in
+        record { rest = e.rest; front = e.front; bytes = rw none e.bytes; stop = e.stop; scalars = rw none }
     | inr ge ↦
         let x = char-read u i p.end p.character (char-cut i p.end p.character s.0 ge) in
         let r = pieces-cut ps p.end q s.1 ge m in
-        let some : p ∷ pieces_to k ps ≡ pieces_to k (p ∷ ps) =
-        sym (if-true (nat_le p.end k) (p ∷ pieces_to k ps) [] (le-leb p.end k ge)) in
+        let some = le-leb p.end k ge in
         record {
           rest = r.rest;
           front = r.front;
-          bytes =
-              ap (λ (b : Body). b.bytes) x.1 ∙ ap (λ l. encode_utf8 p.character ++ l) r.bytes
-              ∙ sym (append_assoc (encode_utf8 p.character) (text_of (pieces_to k ps)) r.rest)
-              ∙ ap (λ y. text_of y ++ r.rest) some;
-          stop = subst (λ (z : Stop). (z ≡ unclosed) ⊎ (z ≡ cut)) (sym (ap (λ (b : Body). b.stop) x.1)) r.stop;
-          scalars = subst (λ y. all_scalars (characters y) ≡ true) some (ap₂ (λ (a b : Bool). a && b) x.2 r.scalars);
+          bytes = rw (some, x.1, r.bytes, append_assoc);
+          stop = rw x.1 r.stop;
+          scalars = rw (some, x.2, r.scalars);
         }
-  ] where
-    no : (e : ℕ) → k < e → nat_le e k ≡ false
-    no e h = grind (arith, nat_tests)
+  ]
 
   pub kept-cut : (i e : ℕ) (ps : List Piece) → SpellsString t i ps e → i < k → k < e → (o : Bool)
       × (string_at kept u i ≡ taken (record { owned = o; bytes = text_of (pieces_to k ps) }) k)
@@ -214,22 +179,8 @@ module _ (t : List ℕ) (k : ℕ) (within : k ≤ length t) where
       let utf8 : IsUtf8 text = (characters (pieces_to k ps), (c.scalars, refl)) in
       let kept_so : valid_front (i + 1) b.owned b.bytes (length u)
       ≡ taken (record { owned = b.owned; bytes = text }) k =
-      ap (λ l. valid_front (i + 1) b.owned l (length u)) c.bytes
-      ∙ ap (valid_front_by (i + 1) b.owned (text ++ c.rest) (length u)) (tail-unfinished text c.rest utf8 c.front)
-      ∙ ap₂ (λ (l : List ℕ) (n : ℕ). taken (record { owned = b.owned; bytes = l }) n)
-      (tail-taken text c.rest utf8 c.front) long in (
-        b.owned,
-        elim c.stop [
-          | inl x ↦ ap (text_in_form kept u (i + 1) b.bytes b.owned) x ∙ kept_so
-          | inr x ↦ ap (text_in_form kept u (i + 1) b.bytes b.owned) x ∙ kept_so
-        ],
-      )
-
-  open-whole : (bs : List ℕ) (o : Bool) (s : Stop) → (s ≡ unclosed) ⊎ (s ≡ cut) → (i : ℕ)
-      → (text_in_form whole u i bs o s ≡ failed eof_string (length u))
-      × (text_in_form raw u i bs o s ≡ failed eof_string (length u))
-  open-whole bs o s (inl h) i = (ap (text_in_form whole u i bs o) h, ap (text_in_form raw u i bs o) h)
-  open-whole bs o s (inr h) i = (ap (text_in_form whole u i bs o) h, ap (text_in_form raw u i bs o) h)
+      rw (c.bytes, tail-unfinished text c.rest utf8 c.front, tail-taken text c.rest utf8 c.front, long) in
+      (b.owned, elim c.stop [ inl x ↦ rw x kept_so | inr x ↦ rw x kept_so ])
 
   -- and where it isn't kept, the end of input is the fault
   pub whole-cut : (i e : ℕ) (ps : List Piece) → SpellsString t i ps e → i < k → k < e
@@ -237,9 +188,7 @@ module _ (t : List ℕ) (k : ℕ) (within : k ≤ length t) where
   unfolding content_at
   whole-cut i e ps s l m =
       let c = pieces-cut ps (i + 1) s.close s.spelled (omega arith) (omega (arith, s.ends)) in
-      let b = body_at u (i + 1) in
-      let r = open-whole b.bytes b.owned b.stop c.stop (i + 1) in
-      (r.0 ∙ ap (failed eof_string) long, r.1 ∙ ap (failed eof_string) long)
+      elim c.stop [ inl x ↦ rw (x, long) (refl, refl) | inr x ↦ rw (x, long) (refl, refl) ]
 
   pub string-still : (i e : ℕ) (ps : List Piece) → SpellsString t i ps e → e ≤ k → SpellsString u i ps e
   string-still i e ps s l = string-too t u k same i e ps l s

@@ -1,10 +1,9 @@
 -- A string whose text is cut, with its mark.
-use Rattle.std.proofs.Common.{◌≡◌, ℕ, ◌+◌, ◌-◌, ◌<◌, ◌≤◌, ◌==◌, Bool, List, length, take, drop, sym, ap, ◌∙◌, subst}
+use Rattle.std.proofs.Common.{◌≡◌, ℕ, ◌+◌, ◌<◌, ◌≤◌, ◌==◌, Bool, List, length, take, drop, sym, ap, ◌∙◌, subst}
 use Rattle.std.proofs.Common.{arith}
-use Rattle.std.specs.Prelude.{slice_get, slice_range, Option, Some, None}
+use Rattle.std.specs.Prelude.{slice_get, Option, Some, None}
 use Rattle.std.specs.List.{list_any}
 use Rattle.std.specs.Str.Lossy.{utf8_valid_len, utf8_error_len}
-use Rattle.std.proofs.lemmas.List.{drop-take, take-take}
 use Rattle.std.proofs.lemmas.Option.{slice_get_within}
 use Rattle.jiter_scan.specs.Kind.{eof_string}
 use Rattle.jiter_scan.specs.Scanned.{taken, failed}
@@ -15,18 +14,9 @@ use Rattle.jiter_steps.specs.Node.{has_backslash, text_at}
 use Rattle.jiter_steps.specs.StringReading.{Stop, closed, unclosed, cut, wrong, body_at, whole, kept, raw}
 use Rattle.jiter_steps.specs.StringReading.{valid_front_by, text_in_form, content_at, string_at}
 use Rattle.jiter_steps.proofs.StringMarks.{EndOf, mark-is}
-use Rattle.jiter_steps.proofs.StringCut.{same, string-still, kept-cut, whole-cut}
+use Rattle.jiter_steps.proofs.Front.{front-get, front-range}
+use Rattle.jiter_steps.proofs.StringCut.{string-still, kept-cut, whole-cut}
 use Rattle.jiter_steps.proofs.StringLaws.{string_at-within, string_at-complete, string-ordered, kept-whole}
-
--- before the cut the bytes are the same
-slice_range-take : (t : List ℕ) (k i e : ℕ) → i ≤ k → e ≤ k → slice_range (take k t) i e ≡ slice_range t i e
-slice_range-take t k i e l m =
-    let all : i + (k - i) ≡ k = omega arith in
-    ap (λ n. take (e - i) (drop i (take n t))) (sym all) ∙ ap (take (e - i)) (drop-take i (k - i) t)
-    ∙ take-take (e - i) (k - i) (drop i t) (omega arith)
-
-pub has_backslash-take : (t : List ℕ) (k i e : ℕ) → i ≤ k → e ≤ k → has_backslash (take k t) i e ≡ has_backslash t i e
-has_backslash-take t k i e l m = ap (list_any (λ c. c == 92)) (slice_range-take t k i e l m)
 
 module _ (t : List ℕ) (i : ℕ) where
   valid_front_by-text : (bs : List ℕ) (o : Bool) (f : ℕ) (r : Option ℕ) (x : Text) (e : ℕ)
@@ -56,6 +46,10 @@ module _ (t : List ℕ) (i : ℕ) where
       c.0 ∙ mark-is t i e q within.1 c.1
 
 module _ (t : List ℕ) (k : ℕ) (within : k ≤ length t) where
+  -- before the cut the bytes are the same
+  has_backslash-take : (i e : ℕ) → i ≤ e → e ≤ k → has_backslash (take k t) i e ≡ has_backslash t i e
+  has_backslash-take i e l m = ap (list_any (λ c. c == 92)) (front-range t k within i e l m)
+
   -- a string that is cut is kept as its pieces before the cut
   pub string_at-cut : (i e : ℕ) (ps : List Piece) → SpellsString t i ps e → i < k → k < e
       → string_at kept (take k t) i ≡ taken (text_at t (pieces_to k ps) i k) k
@@ -63,8 +57,8 @@ module _ (t : List ℕ) (k : ℕ) (within : k ≤ length t) where
       let r = kept-cut t k within i e ps s l m in
       let text : Text = record { owned = r.0; bytes = text_of (pieces_to k ps) } in
       let mark : r.0 ≡ has_backslash t i k =
-      kept-mark (take k t) i text k (same t k within i 34 l s.opens) r.1
-      ∙ has_backslash-take t k i k (omega arith) (omega arith) in
+      kept-mark (take k t) i text k (front-get t k within i 34 l s.opens) r.1
+      ∙ has_backslash-take i k (omega arith) (omega arith) in
       r.1 ∙ ap (λ (o : Bool). taken (record { owned = o; bytes = text_of (pieces_to k ps) }) k) mark
 
   -- where it is not kept, the end of input is the fault
@@ -80,7 +74,7 @@ module _ (t : List ℕ) (k : ℕ) (within : k ≤ length t) where
       let there = string-still t k within i e ps s l in
       let ahead = string-ordered (take k t) i e ps there in
       let mark : has_backslash (take k t) i e ≡ has_backslash t i e =
-      has_backslash-take t k i e (omega (arith, ahead.0)) l in
+      has_backslash-take i e (omega (arith, ahead.0)) l in
       let read : string_at whole (take k t) i ≡ taken (text_at t ps i e) e =
       string_at-complete (take k t) i e ps there
       ∙ ap (λ (o : Bool). taken (record { owned = o; bytes = text_of ps }) e) mark in

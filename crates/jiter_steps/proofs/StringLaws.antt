@@ -8,7 +8,7 @@ use Rattle.std.proofs.lemmas.Option.{slice_get_within}
 use Rattle.std.proofs.lemmas.Str.{chars-encodes, utf8_valid_len_le}
 use Rattle.jiter_scan.specs.Kind.{Kind, eof_string, invalid_escape, invalid_code_point, lone_surrogate}
 use Rattle.jiter_scan.specs.Kind.{end_of_hex_escape, control_character}
-use Rattle.jiter_scan.specs.Scanned.{Scanned, taken, failed}
+use Rattle.jiter_scan.specs.Scanned.{taken, failed}
 use Rattle.jiter_scan.proofs.Scanning.{ScalarWithin, FaultAt}
 use Rattle.jiter_steps.specs.Tree.{Text}
 use Rattle.jiter_steps.specs.Piece.{Piece, SpellsString, characters, text_of}
@@ -46,9 +46,8 @@ module _ (t : List ℕ) (i : ℕ) (inside : i < length t) where
   if_utf8-within : (o : Bool) (bs : List ℕ) (e : ℕ) → i + 1 + length bs ≤ length t → i < e → e ≤ length t
       → ScalarWithin t i (if_utf8 (i + 1) o bs e)
   if_utf8-within o bs e h l m =
-      if_case (ScalarWithin t i) (utf8_valid_len bs == length bs) (taken (record { owned = o; bytes = bs }) e)
-      (failed invalid_code_point (i + 1 + utf8_valid_len bs))
-      (λ q. (l, m)) (λ q. code-within (utf8_valid_len bs) (omega (arith, utf8_valid_len_le bs)))
+      if_case (ScalarWithin t i) (utf8_valid_len bs == length bs) _ _ (λ q. (l, m))
+      (λ q. code-within (utf8_valid_len bs) (omega (arith, utf8_valid_len_le bs)))
 
   kept-within : (o : Bool) (bs : List ℕ) (e : ℕ) → i + 1 + length bs ≤ length t → i < e → e ≤ length t
       → ScalarWithin t i (valid_front (i + 1) o bs e)
@@ -136,32 +135,3 @@ kept-whole t i e x h = (content-kept t (i + 1) x e h).0
 pub raw-whole-fault : (t : List ℕ) (i : ℕ) (k : Kind) (j : ℕ) → k ≢ invalid_code_point
     → string_at whole t i ≡ failed k j → string_at raw t i ≡ failed k j
 raw-whole-fault t i k j ne h = content-raw t (i + 1) k j ne h
-
-place-no_code : (k : Kind) → IsPlaceKind k → k ≢ invalid_code_point
-place-no_code k (inl e) m = cc
-place-no_code k (inr (inl e)) m = cc
-place-no_code k (inr (inr (inl e))) m = cc
-place-no_code k (inr (inr (inr e))) m = cc
-
-same-kind : (s r : Scanned Text) (k l : Kind) (i j : ℕ) → s ≡ failed k i → r ≡ failed l j → s ≡ r → k ≡ l
-same-kind s r k l i j p q h = cc
-
-module _ (t : List ℕ) (i : ℕ) where
-  code-raw : (bs : List ℕ) (o : Bool) (s : Stop) (j : ℕ) → StopWithin t i s
-      → text_in_form whole t i bs o s ≡ failed invalid_code_point j
-      → (e : ℕ) × (text_in_form raw t i bs o s ≡ taken (between t i (e - 1)) e)
-  code-raw bs o (wrong k x) j w h = absurd (place-no_code k w.2 (same-kind _ _ k invalid_code_point x j refl refl h))
-  code-raw bs o unclosed j w h =
-      let no : eof_string ≡ invalid_code_point =
-      same-kind _ _ eof_string invalid_code_point (length t) j refl refl h in absurd (cc)
-  code-raw bs o cut j w h =
-      let no : eof_string ≡ invalid_code_point =
-      same-kind _ _ eof_string invalid_code_point (length t) j refl refl h in absurd (cc)
-  code-raw bs o (closed f) j w h = (f, refl)
-
--- where the fault is that of UTF-8, raw reading goes through
-pub raw-whole-code_point : (t : List ℕ) (i j : ℕ) → string_at whole t i ≡ failed invalid_code_point j
-    → (e : ℕ) × (string_at raw t i ≡ taken (between t (i + 1) (e - 1)) e)
-unfolding content_at
-raw-whole-code_point t i j h =
-    let b = body_at t (i + 1) in code-raw t (i + 1) b.bytes b.owned b.stop j (body_at-within t (i + 1)) h

@@ -1,28 +1,27 @@
 -- What is read is spelled, and in one way.
-use Rattle.std.proofs.Common.{◌≡◌, ◌≢◌, ◌⊎◌, inl, inr, ℕ, zero, suc, ◌+◌, ◌<◌, ◌≤◌, Bool, true, false, List, [], ◌∷◌}
+use Rattle.std.proofs.Common.{◌≡◌, inl, inr, ℕ, zero, suc, ◌+◌, Bool, true, false, List, [], ◌∷◌}
 use Rattle.std.proofs.Common.{◌++◌, length, take, refl, sym, ap, ◌∙◌, subst, arith}
-use Rattle.std.specs.Prelude.{slice_get, Some, ◌==◌, if◌then◌else◌}
+use Rattle.std.specs.Prelude.{slice_get, Some, ◌==◌}
 use Rattle.std.specs.Char.{IsScalar, encode_utf8}
 use Rattle.std.specs.Str.{encode_utf8_all, all_scalars, IsUtf8, is_utf8, chars}
 use Rattle.std.specs.Str.Lossy.{utf8_valid_len, valid_len_up_to}
-use Rattle.std.proofs.lemmas.Bool.{eqb-true, and_parts, cases_lt}
+use Rattle.std.proofs.lemmas.Bool.{eqb-true, and_parts}
 use Rattle.std.proofs.lemmas.Str.{encode_same, IsUtf8-from_is_utf8, IsUtf8-nil, scalars-chars}
 use Rattle.std.proofs.lemmas.Str.{encodes-chars}
 use Rattle.std.proofs.lemmas.List.{take_all}
-use Rattle.jiter_scan.specs.Kind.{invalid_code_point}
 use Rattle.jiter_scan.specs.Stands.{Stands}
-use Rattle.jiter_steps.specs.Piece.{IsPlain, IsEscape, IsPiece, Piece, SpellsChar, SpellsPieces, SpellsString}
+use Rattle.jiter_steps.specs.Piece.{IsPlain, IsEscape, Piece, SpellsChar, SpellsPieces, SpellsString}
 use Rattle.jiter_steps.specs.Piece.{characters, text_of}
-use Rattle.jiter_scan.specs.Scanned.{taken, failed}
+use Rattle.jiter_scan.specs.Scanned.{taken}
 use Rattle.jiter_steps.specs.Tree.{Text}
-use Rattle.jiter_steps.specs.StringReading.{Stop, closed, unclosed, cut, wrong, Place, part, over, place_at, Body}
+use Rattle.jiter_steps.specs.StringReading.{Stop, closed, unclosed, cut, wrong, Place, part, over, place_at, join}
 use Rattle.jiter_steps.specs.StringReading.{body_at, whole, content_at, string_at, text_in_form}
 use Rattle.jiter_steps.proofs.Pieces.{end_of, pieces_from}
 use Rattle.jiter_steps.proofs.Utf8Shape.{Follows, AllFollow, Lead, lead}
-use Rattle.jiter_scan.proofs.Choices.{if_case}
+use Rattle.jiter_scan.proofs.Choices.{if_case, if_gives, failed-taken, same_taken}
 use Rattle.jiter_scan.proofs.Standing.{stands-length}
 use Rattle.jiter_steps.proofs.Places.{Explains, place_at-explains}
-use Rattle.jiter_steps.proofs.Bodies.{body_at-place_by}
+use Rattle.jiter_steps.proofs.Bodies.{body_at-is}
 use Rattle.jiter_steps.proofs.StringComplete.{ArePrinted, plain-printed, place_by-byte, place_by-escape}
 
 -- what is left of a body behind some of its bytes
@@ -30,36 +29,11 @@ pub record Leaves (t : List ℕ) (i j : ℕ) (bs : List ℕ) : Type 0 where
   pub bytes : (body_at t j).bytes ≡ bs
   pub stop : (body_at t j).stop ≡ (body_at t i).stop
 
-plain-from_first : (c b : ℕ) (l : Lead c) → IsScalar c → b ≡ l.first → 32 ≤ b → b ≢ 34 → b ≢ 92
-    → IsPlain (encode_utf8 c) c
-plain-from_first c b l sc e p q s = by (cases_lt c 128) where
-  by : (c < 128) ⊎ (128 ≤ c) → IsPlain (encode_utf8 c) c
-  by (inl low) =
-      let same : c ≡ b =
-      l.low low ∙ sym e in record {
-        is = refl;
-        scalar = sc;
-        printed = omega arith;
-        no_quote = λ z. q (sym same ∙ z);
-        no_backslash = λ z. s (sym same ∙ z);
-      }
-  by (inr high) =
-      record {
-        is = refl;
-        scalar = sc;
-        printed = omega arith;
-        no_quote = λ z. omega arith;
-        no_backslash = λ z. omega arith;
-      }
-
 valid_front : (bs : List ℕ) (n : ℕ) → IsUtf8 (take (valid_len_up_to bs n) bs)
 valid_front bs zero = IsUtf8-nil
 valid_front bs (suc n) =
     if_case (λ k. IsUtf8 (take k bs)) (is_utf8 (take (suc n) bs)) (suc n) (valid_len_up_to bs n)
     (λ e. IsUtf8-from_is_utf8 (take (suc n) bs) e) (λ e. valid_front bs n)
-
-taken-parts : (x y : Text) (e f : ℕ) → taken x e ≡ taken y f → (x ≡ y) × (e ≡ f)
-taken-parts x y e f h = (cc, cc)
 
 -- the valid front is UTF-8
 pub IsUtf8-valid : (bs : List ℕ) → IsUtf8 (take (utf8_valid_len bs) bs)
@@ -73,37 +47,20 @@ module _ (t : List ℕ) where
   -- a byte that follows is no escape's first
   follow-read : (i y : ℕ) (r : List ℕ) → Follows y → (body_at t i).bytes ≡ y ∷ r
       → (slice_get t i ≡ Some y) × Leaves t i (i + 1) r
-  follow-read i y r f e = by (place_at t i) (place_at-explains t i) refl where
-    by : (x : Place) → Explains t i x → place_at t i ≡ x → (slice_get t i ≡ Some y) × Leaves t i (i + 1) r
-    by (part bs false j) h is =
-        let b = body_at-place_by t i (part bs false j) is in
-        let all : bs ++ (body_at t j).bytes ≡ y ∷ r = sym (ap (λ (x : Body). x.bytes) b) ∙ e in
-        let one : h.byte ∷ (body_at t j).bytes ≡ y ∷ r = ap (λ l. l ++ (body_at t j).bytes) (sym h.is) ∙ all in
+  follow-read i y r f e = by (place_at t i) (place_at-explains t i) (body_at-is t i) where
+    by : (x : Place) → Explains t i x → body_at t i ≡ join (body_at t) x
+        → (slice_get t i ≡ Some y) × Leaves t i (i + 1) r
+    by (part bs false j) h b =
+        let all = rw (b, h.is) at e in
         let head : h.byte ≡ y = cc in
         let tail : (body_at t j).bytes ≡ r = cc in
-        let at : j ≡ i + 1 = h.ends in (
-          h.here ∙ ap Some head,
-          record {
-            bytes = subst (λ k. (body_at t k).bytes ≡ r) at tail;
-            stop = subst (λ k. (body_at t k).stop ≡ (body_at t i).stop) at (sym (ap (λ (x : Body). x.stop) b));
-          },
-        )
-    by (part bs true j) h is =
-        let b = body_at-place_by t i (part bs true j) is in
+        (h.here ∙ ap Some head, rw (← h.ends) (record { bytes = tail; stop = rw b }))
+    by (part bs true j) h b =
         let l = lead h.character h.scalar in
-        let all : bs ++ (body_at t j).bytes ≡ y ∷ r = sym (ap (λ (x : Body). x.bytes) b) ∙ e in
-        let one : l.first ∷ (l.rest ++ (body_at t j).bytes) ≡ y ∷ r =
-        ap (λ l. l ++ (body_at t j).bytes) (sym (h.is ∙ l.is)) ∙ all in
+        let all = rw (b, h.is, l.is) at e in
         let head : l.first ≡ y = cc in
-        let least = f.least in
-        let most = f.most in
-        absurd (no (cases_lt h.character 128) l.low l.high head least most) where
-          no : {c a b : ℕ} → (c < 128) ⊎ (128 ≤ c) → (c < 128 → c ≡ a) → (128 ≤ c → 194 ≤ a) → a ≡ b → 128 ≤ b → b < 192
-              → ⊥
-          no (inl x) p q e m n = omega (arith, p x)
-          no (inr x) p q e m n = omega (arith, q x)
-    by (over s) h is =
-        let none : [] ≡ y ∷ r = sym (ap (λ (x : Body). x.bytes) (body_at-place_by t i (over s) is)) ∙ e in absurd (cc)
+        absurd (omega (arith, l.byte, f.least, f.most))
+    by (over s) h b = let none = rw b at e in absurd (cc)
 
   follows-read : (w : List ℕ) (i : ℕ) (r : List ℕ) → AllFollow w → (body_at t i).bytes ≡ w ++ r
       → (j : ℕ) × Stands t i j w × Leaves t i j r
@@ -116,71 +73,45 @@ module _ (t : List ℕ) where
   -- a character that is read is spelled
   char-sound : (i c : ℕ) (r : List ℕ) → IsScalar c → (body_at t i).bytes ≡ encode_utf8 c ++ r → let j =
       end_of i c (place_at t i) in SpellsChar t i j c × Leaves t i j r
-  char-sound i c r sc e = by (place_at t i) (place_at-explains t i) refl where
-    by : (x : Place) → Explains t i x → place_at t i ≡ x → let j = end_of i c x in SpellsChar t i j c × Leaves t i j r
-    by (part bs false j) h is =
-        let b = body_at-place_by t i (part bs false j) is in
-        let l = lead c sc in
-        let all : h.byte ∷ (body_at t j).bytes ≡ l.first ∷ (l.rest ++ r) =
-        ap (λ l. l ++ (body_at t j).bytes) (sym h.is) ∙ sym (ap (λ (x : Body). x.bytes) b) ∙ e
-        ∙ ap (λ w. w ++ r) l.is in
+  char-sound i c r sc e = by (place_at t i) (place_at-explains t i) (body_at-is t i) where
+    l : Lead c
+    l = lead c sc
+
+    by : (x : Place) → Explains t i x → body_at t i ≡ join (body_at t) x → let j = end_of i c x in
+        SpellsChar t i j c × Leaves t i j r
+    by (part bs false j) h b =
+        let all = rw (b, h.is, l.is) at e in
         let head : h.byte ≡ l.first = cc in
         let tail : (body_at t j).bytes ≡ l.rest ++ r = cc in
-        let x = follows-read l.rest (i + 1) r l.follow (subst (λ k. (body_at t k).bytes ≡ l.rest ++ r) h.ends tail) in
+        let x = follows-read l.rest (i + 1) r l.follow (rw (← h.ends) tail) in
         let w : Stands t i x.0 (encode_utf8 c) = subst (Stands t i x.0) (sym l.is) (h.here ∙ ap Some head, x.1) in
-        let at : x.0 ≡ i + length (encode_utf8 c) = stands-length t i x.0 (encode_utf8 c) w in
-        let stop : (body_at t x.0).stop ≡ (body_at t i).stop =
-        x.2.stop ∙ sym (ap (λ k. (body_at t k).stop) h.ends) ∙ sym (ap (λ (x : Body). x.stop) b) in
-        subst (λ k. SpellsChar t i k c × Leaves t i k r) at (
-          record {
-            bytes = encode_utf8 c;
-            stands = w;
-            piece = inl (plain-from_first c h.byte l sc head h.printed h.no_quote h.no_backslash);
-          },
-          record { bytes = x.2.bytes; stop = stop },
+        let same : (body_at t (i + 1)).stop ≡ (body_at t i).stop = rw (b, h.ends) in
+        let plain : IsPlain (encode_utf8 c) c =
+        record {
+          is = refl;
+          scalar = sc;
+          printed = omega (arith, l.byte, h.printed);
+          no_quote = omega (arith, l.byte, h.no_quote);
+          no_backslash = omega (arith, l.byte, h.no_backslash);
+        } in
+        rw (← stands-length t i x.0 (encode_utf8 c) w) (
+          record { bytes = encode_utf8 c; stands = w; piece = inl plain },
+          record { bytes = x.2.bytes; stop = x.2.stop ∙ same },
         )
-    by (part bs true j) h is =
-        let b = body_at-place_by t i (part bs true j) is in
-        let all : encode_utf8 h.character ++ (body_at t j).bytes ≡ encode_utf8 c ++ r =
-        ap (λ l. l ++ (body_at t j).bytes) (sym h.is) ∙ sym (ap (λ (x : Body). x.bytes) b) ∙ e in
-        let same = encode_same h.character c (body_at t j).bytes r all in (
+    by (part bs true j) h b =
+        let same = encode_same h.character c (body_at t j).bytes r (rw (b, h.is) at e) in (
           record { bytes = h.bytes; stands = h.stands; piece = inr (subst (IsEscape h.bytes) same.0 h.escape) },
-          record { bytes = same.1; stop = sym (ap (λ (x : Body). x.stop) b) },
+          record { bytes = same.1; stop = rw b },
         )
-    by (over s) h is =
-        let l = lead c sc in
-        let none : [] ≡ l.first ∷ (l.rest ++ r) =
-        sym (ap (λ (x : Body). x.bytes) (body_at-place_by t i (over s) is)) ∙ e ∙ ap (λ w. w ++ r) l.is in
-        absurd (cc)
+    by (over s) h b = let none = rw (b, l.is) at e in absurd (cc)
 
   none-sound : (i e : ℕ) → (body_at t i).bytes ≡ [] → (body_at t i).stop ≡ closed e
       → (slice_get t i ≡ Some 34) × (e ≡ i + 1)
-  none-sound i e b s = by (place_at t i) (place_at-explains t i) refl where
-    by : (x : Place) → Explains t i x → place_at t i ≡ x → (slice_get t i ≡ Some 34) × (e ≡ i + 1)
-    by (part bs false j) h is =
-        let none : h.byte ∷ (body_at t j).bytes ≡ [] =
-        ap (λ l. l ++ (body_at t j).bytes) (sym h.is)
-        ∙ sym (ap (λ (x : Body). x.bytes) (body_at-place_by t i (part bs false j) is)) ∙ b in
-        absurd (cc)
-    by (part bs true j) h is =
-        let l = lead h.character h.scalar in
-        let none : l.first ∷ (l.rest ++ (body_at t j).bytes) ≡ [] =
-        ap (λ l. l ++ (body_at t j).bytes) (sym (h.is ∙ l.is))
-        ∙ sym (ap (λ (x : Body). x.bytes) (body_at-place_by t i (part bs true j) is)) ∙ b in
-        absurd (cc)
-    by (over (closed f)) h is =
-        let same : closed f ≡ closed e =
-        sym (ap (λ (x : Body). x.stop) (body_at-place_by t i (over (closed f)) is)) ∙ s in let at : f ≡ e =
-        cc in (h.0, sym at ∙ h.1)
-    by (over unclosed) h is =
-        let no : unclosed ≡ closed e =
-        sym (ap (λ (x : Body). x.stop) (body_at-place_by t i (over unclosed) is)) ∙ s in absurd (cc)
-    by (over cut) h is =
-        let no : cut ≡ closed e =
-        sym (ap (λ (x : Body). x.stop) (body_at-place_by t i (over cut) is)) ∙ s in absurd (cc)
-    by (over (wrong k j)) h is =
-        let no : wrong k j ≡ closed e =
-        sym (ap (λ (x : Body). x.stop) (body_at-place_by t i (over (wrong k j)) is)) ∙ s in absurd (cc)
+  none-sound i e b s = by (place_at t i) (place_at-explains t i) (body_at-is t i) where
+    by : (x : Place) → Explains t i x → body_at t i ≡ join (body_at t) x → (slice_get t i ≡ Some 34) × (e ≡ i + 1)
+    by (part bs false j) h is = let none = rw (is, h.is) at b in absurd (cc)
+    by (part bs true j) h is = let none = rw (is, h.is, (lead h.character h.scalar).is) at b in absurd (cc)
+    by (over x) h is = subst (λ (y : Stop). Explains t i (over y)) (rw is at s) h
 
   pub pieces-sound : (cs : List ℕ) (i e : ℕ) → all_scalars cs ≡ true → (body_at t i).bytes ≡ encode_utf8_all cs
       → (body_at t i).stop ≡ closed e
@@ -194,21 +125,16 @@ module _ (t : List ℕ) where
       (r.0, (x.0, r.1), r.2, r.3)
 
   -- ---- in one way
-  plain-place_by : (i j : ℕ) (w : List ℕ) → ArePrinted w → 0 < length w → Stands t i j w
-      → (bs : List ℕ) × (place_at t i ≡ part bs false (i + 1))
-  plain-place_by i j [] p l s = absurd (omega arith)
-  plain-place_by i j (b ∷ w) p l s = (b ∷ [], place_by-byte t i b s.0 p.0)
-
   char-end : (i j c : ℕ) → SpellsChar t i j c → j ≡ end_of i c (place_at t i)
-  char-end i j c s = by s.piece where
-    by : IsPiece s.bytes c → j ≡ end_of i c (place_at t i)
-    by (inl p) =
+  char-end i j c s = elim s.piece [
+    | inl p ↦
         let l = lead c p.scalar in
-        let w : Stands t i j (encode_utf8 c) = subst (Stands t i j) p.is s.stands in
-        let f = plain-place_by i j (encode_utf8 c) (plain-printed c p.printed p.no_quote p.no_backslash l)
-        (subst (λ w. 0 < length w) (sym l.is) (omega arith)) w in
-        stands-length t i j (encode_utf8 c) w ∙ sym (ap (end_of i c) f.1)
-    by (inr x) = sym (ap (end_of i c) (place_by-escape t i j c s.bytes x s.stands))
+        let w = subst (Stands t i j) p.is s.stands in
+        let printed = subst ArePrinted l.is (plain-printed s.bytes c p) in
+        let here = subst (Stands t i j) l.is w in
+        stands-length t i j (encode_utf8 c) w ∙ sym (ap (end_of i c) (place_by-byte t i l.first here.0 printed.0))
+    | inr x ↦ sym (ap (end_of i c) (place_by-escape t i j c s.bytes x s.stands))
+  ]
 
   pub pieces-unique : (ps : List Piece) (i q : ℕ) → SpellsPieces t i ps q → ps ≡ pieces_from t i (characters ps)
   pieces-unique [] i q s = refl
@@ -230,14 +156,10 @@ module _ (t : List ℕ) where
   closed-text i bs o (wrong k j) x e h = absurd (cc)
   closed-text i bs o unclosed x e h = absurd (cc)
   closed-text i bs o cut x e h = absurd (cc)
-  closed-text i bs o (closed f) x e h = by (utf8_valid_len bs == length bs) refl h where
-    by : (b : Bool) → (utf8_valid_len bs == length bs) ≡ b
-        → (if b then taken (record { owned = o; bytes = bs }) f else failed invalid_code_point
-        (i + utf8_valid_len bs)) ≡ taken x e
-        → (x ≡ record { owned = o; bytes = bs }) × (closed f ≡ closed e) × ((utf8_valid_len bs == length bs) ≡ true)
-    by true is h =
-        let same : f ≡ e = cc in let text : record { owned = o; bytes = bs } ≡ x = cc in (sym text, ap closed same, is)
-    by false is h = absurd (cc)
+  closed-text i bs o (closed f) x e h =
+      if_gives (utf8_valid_len bs == length bs) _ _ (taken x e) h
+      (λ is z. let p = same_taken _ x f e z in (sym p.0, ap closed p.1, is))
+      (λ is z. absurd (failed-taken _ _ x e z))
 
   pub string-sound : (i e : ℕ) (x : Text) → slice_get t i ≡ Some 34 → string_at whole t i ≡ taken x e
       → let ps = pieces_from t (i + 1) (chars x.bytes) in SpellsString t i ps e × (x.bytes ≡ text_of ps)

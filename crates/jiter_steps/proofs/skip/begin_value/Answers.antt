@@ -1,17 +1,16 @@
-use Rattle.std.proofs.Common.{◌≤◌, ◌∙◌, arith, length}
+use Rattle.std.proofs.Common.{◌∙◌, arith}
 use Rattle.jiter_steps.specs.Skip.{open_frames}
-use Rattle.jiter_steps.proofs.Skipping.{value_from-is, fault-passes, length-open_frames}
+use Rattle.jiter_steps.proofs.Skipping.{value_from-is, fault-passes}
 use Rattle.jiter_steps.proofs.skip.begin_value.Goals as goal
 
 pub returns-in-Ok : goal.returns-in-Ok
 returns-in-Ok c =
     let p = c.args.parser.now in
     let n = c.args.nest.now in
-    let fs = open_frames n.objects n.depth in
-    let few : length fs ≤ 200 = omega (arith, length-open_frames n.objects n.depth) in
+    let value = c.in-Ok.ensures.value in
     record {
       moves = c.in-Ok.ensures.moves;
-      value = value_from-is c.args.allow_inf_nan p.bytes.now fs p.index _ few c.in-Ok.ensures.value;
+      value = value_from-is c.args.allow_inf_nan p.bytes.now n.objects n.depth p.index _ (omega arith) value;
       ahead = c.in-Ok.ensures.ahead;
     }
 
@@ -19,11 +18,10 @@ pub returns-in-Err : goal.returns-in-Err
 returns-in-Err c =
     let p = c.args.parser.now in
     let n = c.args.nest.now in
-    let fs = open_frames n.objects n.depth in
-    let few : length fs ≤ 200 = omega (arith, length-open_frames n.objects n.depth) in
+    let value = c.in-Err.ensures.value in
     record {
       moves = c.in-Err.ensures.moves;
-      value = value_from-is c.args.allow_inf_nan p.bytes.now fs p.index _ few c.in-Err.ensures.value
-          ∙ fault-passes c.args.allow_inf_nan p.bytes.now fs _ _ _;
+      value = value_from-is c.args.allow_inf_nan p.bytes.now n.objects n.depth p.index _ (omega arith) value
+          ∙ fault-passes c.args.allow_inf_nan p.bytes.now (open_frames n.objects n.depth) _ _ _;
       ahead = tt;
     }

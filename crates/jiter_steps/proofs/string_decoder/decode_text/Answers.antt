@@ -1,5 +1,6 @@
-use Rattle.std.proofs.Common.{◌∙◌, refl, sym, ap, take}
-use Rattle.jiter_steps.proofs.StringAnswers.{string-closed, string-wrong, string-unclosed, string-cut}
+use Rattle.std.proofs.Common.{◌+◌, ◌∙◌, refl, sym, ap, take}
+use Rattle.jiter_steps.proofs.DecodeSteps.{at_stop}
+use Rattle.jiter_steps.proofs.StringAnswers.{string-closed}
 use Rattle.jiter_steps.proofs.string_decoder.decode_text.Goals as goal
 
 pub returns-in-Ok-default-Closed : goal.returns-in-Ok-default-Closed
@@ -14,14 +15,14 @@ returns-in-Ok-default-Closed c =
 pub returns-in-Ok-default-Wrong : goal.returns-in-Ok-default-Wrong
 returns-in-Ok-default-Wrong c =
     let d = rw c.in-Ok-default-Wrong.field-0-1-is at c.in-Ok-default-Wrong.ensures in
-    string-wrong c.args.bytes.now c.args.at c.requires.within _ _ (sym d.stop)
+    at_stop c.args.bytes.now (c.args.at + 1) _ (sym d.stop)
 
 pub returns-in-Ok-default-Unclosed : goal.returns-in-Ok-default-Unclosed
 returns-in-Ok-default-Unclosed c =
     let d = rw c.in-Ok-default-Unclosed.field-0-1-is at c.in-Ok-default-Unclosed.ensures in
-    rw c.cut_short.ensures (string-unclosed c.args.bytes.now c.args.at c.requires.within (sym d.stop))
+    rw c.cut_short.ensures (at_stop c.args.bytes.now (c.args.at + 1) _ (sym d.stop))
 
 pub returns-in-Ok-default-Cut : goal.returns-in-Ok-default-Cut
 returns-in-Ok-default-Cut c =
     let d = rw c.in-Ok-default-Cut.field-0-1-is at c.in-Ok-default-Cut.ensures in
-    rw c.cut_short-in-Ok-default-Cut.ensures (string-cut c.args.bytes.now c.args.at c.requires.within (sym d.stop))
+    rw c.cut_short-in-Ok-default-Cut.ensures (at_stop c.args.bytes.now (c.args.at + 1) _ (sym d.stop))
