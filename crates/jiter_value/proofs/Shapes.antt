@@ -18,13 +18,13 @@ use Rattle.jiter_steps.specs.declared.parse.Shape.TheVariants as shape
 use Rattle.jiter_steps.specs.declared.read_error.ReadError.{ReadError}
 use Rattle.jiter_steps.specs.declared.read_error.ReadError.TheVariants as errors
 use Rattle.jiter_value.specs.Settings.{forgives, rules}
-use Rattle.jiter_value.specs.Size.{size, held, behind_size, behind_size_in, inside_size, inside_size_in, value_size}
+use Rattle.jiter_value.specs.Size.{held, behind_size, inside_size, inside_size_in, value_size}
 use Rattle.jiter_value.specs.Size.{frames_size, parts_size}
-use Rattle.jiter_value.specs.Stacks.{resume_with, from_value, behind, behind_in, meaning, container_ends, Stands}
+use Rattle.jiter_value.specs.Stacks.{resume_with, from_value, behind, meaning, container_ends, Stands}
 use Rattle.jiter_value.specs.Stacks.{StandsInside, HavePartBase, frames, parts_above, frames_below, member_view}
 use Rattle.jiter_value.specs.Stacks.{awaited_in, base_of, part_of, empty_tree}
 use Rattle.jiter_value.specs.Turns.{IsWithin, IsResolved, Reaches, Fails, outcome}
-use Rattle.jiter_value.specs.Value.{view, LeadsOn, MayGrowAs, MayGrowAt}
+use Rattle.jiter_value.specs.Value.{view}
 use Rattle.jiter_value.specs.declared.settings.Settings.{Settings}
 use Rattle.jiter_value.specs.declared.stacks.Open.{Open}
 use Rattle.jiter_value.specs.declared.stacks.Awaits.{Awaits}
@@ -53,15 +53,6 @@ pub part-within : (t : List ℕ) (s : Stacks) (h : Shape) (j : ℕ) → StandsIn
     → IsWithin t s (part_of h) j
 part-within t s shape.Array j b few low lt = (b, few refl, lt)
 part-within t s shape.Object j b few low lt = (b, low, lt)
-
--- where nothing is awaited inside a container
-pub root-only : (a : Awaits) (s : Stacks) → Stands s a → a ≢ awaits.Item → a ≢ awaits.Value → a ≡ awaits.Root
-root-only awaits.Root s b i v = refl
-root-only awaits.Item s b i v = absurd (i refl)
-root-only awaits.Value s b i v = absurd (v refl)
-root-only awaits.Key s b i v = absurd b
-root-only awaits.Done s b i v = absurd b
-root-only awaits.Refused s b i v = absurd b
 
 given-up : (error : ReadError) (j : ℕ) (x : Reading Tree) (f : Fault) → error ≡ errors.Fault f → f.index ≡ j
     → x ≡ fault (fault_kind f.kind) j j → Fails error j x
@@ -178,29 +169,9 @@ module _ (p : Settings) (t : List ℕ) (s : Stacks) where
         array-limit p t a (reverse s.nest.items) s.items.items s.members.items b few i j
         (length-reverse s.nest.items ∙ full) lt starts (ap (resolve_step (forgives p.mode)) is)
 
--- the whole value is at the root
-pub root-behind : (p : Settings) (t : List ℕ) (s : Stacks) (e : ℕ) → Stands s awaits.Root
-    → behind p t s awaits.Root e ≡ done (view s.root) e
-root-behind p t s e b = by (reverse s.nest.items) where
-  by : (os : List Open) → behind_in p t awaits.Root os s.items.items s.members.items s.root e ≡ done (view s.root) e
-  by [] = refl
-  by (o ∷ os) = refl
-
-pub root-size : (s : Stacks) → behind_size s awaits.Root ≡ size (view s.root)
-root-size s = by (reverse s.nest.items) where
-  by : (os : List Open) → behind_size_in awaits.Root os s.items.items s.members.items s.root ≡ size (view s.root)
-  by [] = refl
-  by (o ∷ os) = refl
-
 pub not-root : (h : Shape) → awaited_in h ≡ awaits.Root → ⊥
 not-root shape.Array h = cc
 not-root shape.Object h = cc
-
--- a container with a part may want memory
-pub may-grow : (t : List ℕ) (i j : ℕ) (h : Shape) → start_of (slice_index t i) ≡ opening h
-    → step t (container_first h) (i + 1) ≡ more j → MayGrowAt t i
-may-grow t i j shape.Array starts is = subst (MayGrowAs t i) (sym starts) (subst LeadsOn (sym is) tt)
-may-grow t i j shape.Object starts is = subst (MayGrowAs t i) (sym starts) (subst LeadsOn (sym is) tt)
 
 -- an open container counts one
 part-held-by : (s : Stacks) (h : Shape) (n : ℕ) → inside_size h s ≤ n → IfOk (outcome s (part_of h)) (λ x. held s x ≤ n)

@@ -25,7 +25,7 @@ use Rattle.jiter_steps.specs.declared.parse.Shape.TheVariants as shape
 use Rattle.jiter_steps.specs.declared.parse.Start.TheVariants as start
 use Rattle.jiter_steps.proofs.Values.{Advances}
 use Rattle.jiter_steps.proofs.Instances.{trees-advances}
-use Rattle.jiter_steps.proofs.Resumed.{IgnoresBegin, value_in-room, value_in-limit, if_forgiven-yes, if_forgiven-no}
+use Rattle.jiter_steps.proofs.Resumed.{IgnoresBegin, value_in-room, value_in-limit, if_forgiven-no}
 use Rattle.jiter_steps.proofs.Resumed.{resume-fault, resume-forgiven, step-to, step-stuck, items-value, key-value}
 use Rattle.jiter_steps.proofs.Resumed.{key-failed, colon-failed, container-begins}
 use Rattle.jiter_value.specs.Settings.{forgives, rules}
@@ -136,12 +136,6 @@ module _ (p : Settings) (t : List ℕ) where
       ap (λ fs. resume (rules p) t fs (done (view v) e)) (value-frames o os es before key old le)
       ∙ ap₂ (λ xs ys. members_from (rules p) t (frames o.outer os es ys) xs e) part rest
 
-  pub put-root : (os : List Open) (es : List JsonValue) (ms : List Member) (v : JsonValue) (e : ℕ)
-      → HaveBases awaits.Root os (length es) (length ms)
-      → resume (rules p) t (frames awaits.Root os es ms) (done (view v) e) ≡ behind_in p t awaits.Root os es ms v e
-  put-root [] es ms v e h = refl
-  put-root (o ∷ os) es ms v e h = absurd h
-
   -- A container ends.
   pub container-closes : (h : Shape) (nest init : List Open) (o : Open) (es : List JsonValue) (ms : List Member)
       (fs : List (Frame Text Tree)) (x : Tree) (e : ℕ)
@@ -229,14 +223,6 @@ module _ (p : Settings) (t : List ℕ) where
       → forgives p.mode k ≡ false → resume (rules p) t (frames a os es ms) (fault k x stop) ≡ fault k x stop
   fault-kept a os es ms k x stop bad = resume-fault (rules p) t (frames a os es ms) k x stop bad
 
-  pub fault-item : (os : List Open) (es : List JsonValue) (ms : List Member) (k : Kind) (x stop : ℕ)
-      → HaveBases awaits.Item os (length es) (length ms) → forgives p.mode k ≡ true
-      → resume (rules p) t (frames awaits.Item os es ms) (fault k x stop) ≡ container_in p t shape.Array os es ms stop
-  fault-item [] es ms k x stop b ok = absurd b
-  fault-item (o ∷ os) es ms k x stop b ok =
-      resume-forgiven (rules p) t (items_frame (map view (drop o.base es)))
-      (frames o.outer os (take o.base es) ms) k x stop ok
-
   pub fault-value : (os : List Open) (es : List JsonValue) (before : List Member) (key : CowStr Global)
       (old : JsonValue) (k : Kind) (x stop : ℕ) → HaveKeyBase os (length es) (length before) → forgives p.mode k ≡ true
       → resume (rules p) t (frames awaits.Value os es (before ++ (key, old) ∷ [])) (fault k x stop) ≡ container_in p t
@@ -246,11 +232,6 @@ module _ (p : Settings) (t : List ℕ) where
       ap (λ fs. resume (rules p) t fs (fault k x stop)) (value-frames o os es before key old b.0)
       ∙ resume-forgiven (rules p) t (members_frame (map member_view (drop o.base before)) (text_view key))
       (frames o.outer os es (take o.base before)) k x stop ok
-
-  pub fault-root : (os : List Open) (es : List JsonValue) (ms : List Member) (x : Reading Tree)
-      → HaveBases awaits.Root os (length es) (length ms) → resume (rules p) t (frames awaits.Root os es ms) x ≡ x
-  fault-root [] es ms x b = refl
-  fault-root (o ∷ os) es ms x b = absurd b
 
   kept : (k : Kind) (j : ℕ) → forgives p.mode k ≡ false → resolve_step (forgives p.mode) (stuck k j) ≡ stuck k j
   kept k j bad = ap (λ y. cond y (closed j) (stuck k j)) bad
@@ -353,34 +334,14 @@ module _ (p : Settings) (t : List ℕ) where
       (if_forgiven-no (rules p) t (λ e. (rules p).object 0 e (map member_view (drop o.base ms))) k x stop bad)
       ∙ resume-fault (rules p) t fs k x stop bad
 
-  pub key-forgiven : (os : List Open) (es : List JsonValue) (ms : List Member) (k : Kind) (x stop : ℕ)
-      → HaveKeyBase os (length es) (length ms) → forgives p.mode k ≡ true
-      → key_fault_in p t os es ms k x stop ≡ container_in p t shape.Object os es ms stop
-  key-forgiven [] es ms k x stop b ok = absurd b
-  key-forgiven (o ∷ os) es ms k x stop b ok =
-      ap (resume (rules p) t (frames o.outer os es (take o.base ms)))
-      (if_forgiven-yes (rules p) t (λ e. (rules p).object 0 e (map member_view (drop o.base ms))) k x stop ok)
-
 -- a value that is there needs no key any more
 pub key-base : (os : List Open) (n m : ℕ) → HaveBases awaits.Value os n m → HaveKeyBase os n m
 key-base [] n m h = absurd h
 key-base (o ∷ os) n m h = (omega (arith, h.0), h.1)
 
-pub item-base : (os : List Open) (n m : ℕ) → HaveBases awaits.Item os n m → HaveBases awaits.Item os (n + 1) m
-item-base [] n m h = absurd h
-item-base (o ∷ os) n m h = (omega (arith, h.0), h.1)
-
 pub value-base : (os : List Open) (n m : ℕ) → HaveBases awaits.Value os n m → 0 < m
 value-base [] n m h = absurd h
 value-base (o ∷ os) n m h = omega (arith, h.0)
-
-pub array-below : (init : List Open) (o : Open) (n m : ℕ) → HaveBases awaits.Item (reverse (init ++ o ∷ [])) n m
-    → (o.base ≤ n) × HaveBases o.outer (reverse init) o.base m
-array-below init o n m h = subst (λ os. HaveBases awaits.Item os n m) (reverse-append init (o ∷ [])) h
-
-pub object-below : (init : List Open) (o : Open) (n m : ℕ) → HaveKeyBase (reverse (init ++ o ∷ [])) n m
-    → (o.base ≤ m) × HaveBases o.outer (reverse init) n o.base
-object-below init o n m h = subst (λ os. HaveKeyBase os n m) (reverse-append init (o ∷ [])) h
 
 pub key-above : (os : List Open) (n m : ℕ) → HaveKeyBase os n m → HaveBases awaits.Value os n (m + 1)
 key-above [] n m h = absurd h
