@@ -1,11 +1,11 @@
-use Rattle.std.proofs.Common.{◌≡◌, ◌<◌, ◌∙◌, refl, sym, ap, subst, arith, length}
+use Rattle.std.proofs.Common.{◌≡◌, ◌<◌, ◌∙◌, refl, sym, ap, subst, arith, length, reverse}
 use Rattle.jiter_steps.specs.Step.{container_step}
 use Rattle.jiter_steps.specs.Step.{more, step}
 use Rattle.jiter_value.specs.Size.{behind_size, inside_size}
 use Rattle.jiter_value.specs.Stacks.{behind, container_ends, Stands, awaited_in}
 use Rattle.jiter_value.proofs.TurnOutcomes.{fails-along}
-use Rattle.jiter_value.proofs.Shapes.{reaches-part, inside-more, inside-ends, inside-fails, inside-stands, inside-size}
-use Rattle.jiter_value.proofs.Shapes.{part-within, not-root}
+use Rattle.jiter_value.proofs.Shapes.{reaches-part, inside-more, inside-stands, inside-size, part-within, not-root}
+use Rattle.jiter_value.proofs.StackTurns.{behind-closed, behind-fails}
 use Rattle.jiter_value.proofs.turns.after.Goals as goal
 
 pub returns-in-Part-clause-reaches : goal.returns-in-Part-clause-reaches
@@ -37,7 +37,8 @@ returns-then-not-ends-clause-reaches c =
     let b : Stands s (awaited_in h) = subst (Stands s) in_shape l.invariant.3 in
     fails-along c.ends.new.stacks.error j (behind p t c.args.stacks.now c.args.awaits c.args.from)
     (behind p t s (awaited_in h) l.at) (l.invariant.2 ∙ ap (λ a. behind p t s a l.at) in_shape)
-    (inside-fails p t s h l.at j c.ends.new.stacks.error b c.if-not-ends.ensures.resolved)
+    (behind-fails p t h s.items.items s.members.items s.root l.at (reverse s.nest.items) j c.ends.new.stacks.error b
+    c.if-not-ends.ensures.resolved)
 
 pub closing-preserved : goal.closing-preserved
 closing-preserved c =
@@ -56,7 +57,8 @@ closing-preserved c =
       omega (arith, l.invariant.0, forward),
       c.step_at-next.ensures.within.1,
       l.invariant.2 ∙ ap (λ a. behind p t s a l.at) in_shape
-          ∙ inside-ends p t s h l.at j b c.if-not-ends.ensures.resolved
+          ∙ behind-closed p t h s.items.items s.members.items s.root l.at (reverse s.nest.items) j b
+          c.if-not-ends.ensures.resolved
           ∙ ap (λ x. container_ends p t h x j) (sym same) ∙ c.in-Ok.ensures.value p t j,
       c.in-Ok.ensures.stands,
       omega (arith, l.invariant.4, nest, fewer),

@@ -6,7 +6,7 @@ use Rattle.jiter_value.specs.Stacks.{from_value, resume_with, empty_tree}
 use Rattle.jiter_value.specs.Size.{value_size}
 use Rattle.jiter_value.specs.Turns.{outcome}
 use Rattle.jiter_value.proofs.TurnOutcomes.{reaches-along, root-grows, refused-weaker, fault-grows}
-use Rattle.jiter_value.proofs.Shapes.{first-ends, first-fails}
+use Rattle.jiter_value.proofs.StackTurns.{begins-closed, begins-fails}
 use Rattle.jiter_value.proofs.turns.begin.Goals as goal
 
 pub returns-then-not-ends_at_first : goal.returns-then-not-ends_at_first
@@ -18,8 +18,8 @@ returns-then-not-ends_at_first c =
     let r = c.if-not-ends_at_first.ensures.resolved in
     record {
       within = (omega (arith, c.first_at-next.ensures.within.0), c.first_at-next.ensures.within.1);
-      reaches = first-fails a.settings a.bytes.now s a.awaits c.requires.stands few a.at a.shape j
-          c.ends_at_first.new.stacks.error c.requires.bracket r;
+      reaches = begins-fails a.settings a.bytes.now a.awaits (reverse s.nest.items) s.items.items s.members.items
+          c.requires.stands few a.at a.shape j c.ends_at_first.new.stacks.error c.requires.bracket r;
       left = tt;
       held = tt;
       memory = λ e. fault-grows c.ends_at_first.new.stacks.error r.0 _ r.1;
@@ -43,8 +43,8 @@ returns c =
       within = (omega (arith, forward, n.ensures.within.0), n.ensures.within.1);
       reaches = reaches-along p t n.new.stacks n.result.0 r (from_value p t s a.awaits a.at)
           (resume_with p t c.ends_at_first.new.stacks a.awaits (done (empty_tree a.shape) j))
-          (first-ends p t s a.awaits c.requires.stands few a.at a.shape j c.requires.bracket
-          c.if-not-ends_at_first.ensures.resolved
+          (begins-closed p t a.awaits (reverse s.nest.items) s.items.items s.members.items c.requires.stands few a.at
+          a.shape j c.requires.bracket c.if-not-ends_at_first.ensures.resolved
           ∙ ap (λ x. resume_with p t x a.awaits (done (empty_tree a.shape) j)) (sym same))
           n.ensures.reaches;
       left = on_ok_weaker r (λ l. omega (arith, l, forward, nest)) n.ensures.left;
