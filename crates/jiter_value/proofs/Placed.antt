@@ -3,7 +3,6 @@ use Rattle.std.proofs.Common.{◌≡◌, inl, inr, ℕ, ◌+◌, ◌<◌, ◌≤
 use Rattle.std.proofs.Common.{Vec, refl, sym, ap, subst, ◌∙◌, slice_range, arith}
 use Rattle.std.specs.Prelude.{reverse, slice_index, nat_lt, pos, if◌then◌else◌}
 use Rattle.std.proofs.lemmas.Bool.Decides.{nat_tests}
-use Rattle.std.proofs.lemmas.List.{length-reverse}
 use Rattle.jiter_scan.specs.Number.{Number, integer, float, minus_of}
 use Rattle.jiter_scan.specs.NumberDecoder.{IsMinusTo}
 use Rattle.jiter_scan.specs.ShortNumber.{IsShortInteger, IsShortFloat}
@@ -72,12 +71,10 @@ module _ {t : List ℕ} {old new : Stacks} {a : Awaits} {i e : ℕ} (v : JsonVal
       → i < e → e ≤ length t → ((p : Settings) (room : ℕ) → value_at (rules p) t room i ≡ done x e)
       → IsPutAt t old i a new e
   put-at seen b few put stands nest held one ahead within read =
-      let os = reverse old.nest.items in
-      let low : length os ≤ 200 = omega (arith, length-reverse old.nest.items) in
       let counts : size (view v) ≡ 1 = ap size seen ∙ one in
       record {
         value = λ p.
-            value-read p t a os old.items.items old.members.items b low i (done x e) (read p)
+            value-read p t old a b few i (done x e) (read p)
             ∙ ap (λ y. resume_with p t old a (done y e)) (sym seen) ∙ put p t e;
         stands = stands;
         nest = nest;

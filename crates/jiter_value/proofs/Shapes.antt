@@ -77,10 +77,9 @@ base-above : (s : Stacks) (a : Awaits) (h : Shape) → Stands s a
 base-above s a shape.Array b = (omega arith, b)
 base-above s a shape.Object b = (omega arith, b)
 
-turned : (s : Stacks) (a : Awaits) (h : Shape) (o : Open) (n : SmallVec Open) → n.items ≡ s.nest.items ++ o ∷ []
-    → o ≡ opened s a h → reverse n.items ≡ opened s a h ∷ reverse s.nest.items
-turned s a h o n pushed eq =
-    ap reverse pushed ∙ reverse-append s.nest.items (o ∷ []) ∙ ap (λ x. x ∷ reverse s.nest.items) eq
+turned : (s : Stacks) (a : Awaits) (h : Shape) (n : SmallVec Open) → n.items ≡ s.nest.items ++ opened s a h ∷ []
+    → reverse n.items ≡ opened s a h ∷ reverse s.nest.items
+turned s a h n pushed = ap reverse pushed ∙ reverse-append s.nest.items (opened s a h ∷ [])
 
 part-meaning : (p : Settings) (t : List ℕ) (s : Stacks) (h : Shape) (j : ℕ)
     → part_in p t h (reverse s.nest.items) s.items.items s.members.items j ≡ meaning p t s (part_of h) j
@@ -94,7 +93,7 @@ module _ (p : Settings) (t : List ℕ) (s : Stacks) where
   inside-more h e j b is lt =
       behind-more p t h s.items.items s.members.items s.root e (reverse s.nest.items) j b is lt ∙ part-meaning p t s h j
 
-  module _ (a : Awaits) (b : Stands s a) (few : length (reverse s.nest.items) ≤ 200) (i : ℕ) where
+  module _ (a : Awaits) (b : Stands s a) (few : length s.nest.items ≤ 200) (i : ℕ) where
     -- a container begins with a part
     opens : (h : Shape) (j : ℕ) → j < length t → start_of (slice_index t i) ≡ opening h
         → step t (container_first h) (i + 1) ≡ more j
@@ -102,30 +101,28 @@ module _ (p : Settings) (t : List ℕ) (s : Stacks) where
         ≡ part_in p t h (opened s a h ∷ reverse s.nest.items) s.items.items s.members.items j
     opens h j lt starts is =
         let os = reverse s.nest.items in
-        begins p t a os s.items.items s.members.items b few i h (more j) starts (ap (resolve_step (forgives p.mode)) is)
+        begins p t s a b few i h (more j) starts (ap (resolve_step (forgives p.mode)) is)
         ∙ ap₂ (λ fs xs. resume (rules p) t fs (parts_from (rules p) t (container_of p t h (length fs)) xs j))
         (sym (same-below s a h)) (sym (no-parts s h))
         ∙ next-part p t h (opened s a h) os s.items.items s.members.items j lt
 
     -- and stands open
-    pub shape-opens : (h : Shape) (j : ℕ) (o : Open) (n : SmallVec Open) → n.items ≡ s.nest.items ++ o ∷ []
-        → o ≡ opened s a h → j < length t → start_of (slice_index t i) ≡ opening h
+    pub shape-opens : (h : Shape) (j : ℕ) (n : SmallVec Open) → n.items ≡ s.nest.items ++ opened s a h ∷ []
+        → j < length t → start_of (slice_index t i) ≡ opening h
         → step t (container_first h) (i + 1) ≡ more j → (h ≡ shape.Array → length s.nest.items ≢ 200)
         → (from_value p t s a i ≡ meaning p t (with_nest s n) (part_of h) j) × IsWithin t (with_nest s n) (part_of h) j
-    shape-opens h j o n pushed eq lt starts is some =
+    shape-opens h j n pushed lt starts is some =
         let es = s.items.items in
         let ms = s.members.items in
-        let nest = turned s a h o n pushed eq in
-        let longer = ap length pushed in
-        let more_by = length-append s.nest.items (o ∷ []) in
-        let same_few = length-reverse s.nest.items in
+        let nest = turned s a h n pushed in
+        let longer = ap length pushed ∙ length-append s.nest.items (opened s a h ∷ []) in
         let stands : StandsInside h (with_nest s n) =
         subst (λ qs. HavePartBase h qs (length es) (length ms)) (sym nest) (base-above s a h b) in (
           opens h j lt starts is ∙ ap (λ qs. part_in p t h qs es ms j) (sym nest)
               ∙ part-meaning p t (with_nest s n) h j,
           part-within t (with_nest s n) h j stands
-              (λ array. let full = some array in omega (arith, few, full, longer, more_by, same_few))
-              (omega (arith, few, longer, more_by, same_few)) lt,
+              (λ array. let full = some array in omega (arith, few, full, longer))
+              (omega (arith, few, longer)) lt,
         )
 
     -- an array stands too deep
@@ -151,13 +148,12 @@ no-size : (h : Shape) → parts_size h [] ≡ 0
 no-size shape.Array = refl
 no-size shape.Object = refl
 
-pub part-held : (s : Stacks) (a : Awaits) (h : Shape) (o : Open) (n : SmallVec Open)
-    → n.items ≡ s.nest.items ++ o ∷ [] → o ≡ opened s a h
+pub part-held : (s : Stacks) (a : Awaits) (h : Shape) (n : SmallVec Open) → n.items ≡ s.nest.items ++ opened s a h ∷ []
     → IfOk (outcome (with_nest s n) (part_of h)) (λ x. held (with_nest s n) x ≤ value_size s a + 1)
-part-held s a h o n pushed eq =
+part-held s a h n pushed =
     let is : inside_size h (with_nest s n) ≡ inside_size_in h (opened s a h ∷ reverse s.nest.items) s.items.items
     s.members.items =
-    ap (λ qs. inside_size_in h qs s.items.items s.members.items) (turned s a h o n pushed eq) in
+    ap (λ qs. inside_size_in h qs s.items.items s.members.items) (turned s a h n pushed) in
     let none = ap (parts_size h) (no-parts s h) ∙ no-size h in
     let rest = ap frames_size (same-below s a h) in
     part-held-by (with_nest s n) h (value_size s a + 1) (omega (arith, is, none, rest))

@@ -6,7 +6,7 @@ use Rattle.std.specs.declared.alloc.Global.{Global}
 use Rattle.std.specs.declared.borrow.CowStr.{CowStr}
 use Rattle.std.proofs.Math.Seq.{set-append_seam, get_or-append_seam}
 use Rattle.std.proofs.lemmas.List.{reverse-append, map_push, drop-append-le, take-append-le, take_all, take_more}
-use Rattle.std.proofs.lemmas.List.{length-take-le}
+use Rattle.std.proofs.lemmas.List.{length-take-le, length-reverse}
 use Rattle.jiter_scan.specs.Kind.{Kind, fault_kind, recursion_limit}
 use Rattle.jiter_scan.specs.Scanned.{Scanned, taken, failed}
 use Rattle.jiter_scan.specs.declared.partial_mode.PartialMode.{PartialMode}
@@ -32,13 +32,14 @@ use Rattle.jiter_steps.proofs.Resumed.{key-failed, colon-failed, container-begin
 use Rattle.jiter_value.specs.Settings.{forgives, rules}
 use Rattle.jiter_value.specs.Stacks.{Member, member_view, last_key_of, last_key, front, frames, PartTree, built}
 use Rattle.jiter_value.specs.Stacks.{parts_above, frames_below, HaveBases, HaveKeyBase, key_in, key_fault_in, behind_in}
-use Rattle.jiter_value.specs.Stacks.{container_in, awaited_in, empty_tree}
+use Rattle.jiter_value.specs.Stacks.{container_in, awaited_in, empty_tree, Stands}
 use Rattle.jiter_value.specs.Turns.{Fails, IsResolved}
 use Rattle.jiter_value.specs.Value.{view}
 use Rattle.jiter_value.specs.declared.settings.Settings.{Settings}
 use Rattle.jiter_value.specs.declared.stacks.Awaits.{Awaits}
 use Rattle.jiter_value.specs.declared.stacks.Awaits.TheVariants as awaits
 use Rattle.jiter_value.specs.declared.stacks.Open.{Open}
+use Rattle.jiter_value.specs.declared.stacks.Stacks.{Stacks}
 use Rattle.jiter_value.specs.declared.value.JsonValue.{JsonValue}
 use Rattle.jiter_value.specs.declared.value.JsonValue.TheVariants.{Null}
 
@@ -250,16 +251,16 @@ module _ (p : Settings) (t : List ℕ) where
       (frames o.outer os es (take o.base before)) k x stop ok
 
   -- A value begins.
-  module _ (a : Awaits) (os : List Open) (es : List JsonValue) (ms : List Member)
-      (bases : HaveBases a os (length es) (length ms)) (few : length os ≤ 200) (i : ℕ) where
+  module _ (s : Stacks) (a : Awaits) (bases : Stands s a) (few : length s.nest.items ≤ 200) (i : ℕ) where
     abbrev fs : List (Frame Text Tree)
-    fs = frames a os es ms
-
-    deep : length fs ≡ length os
-    deep = length-frames a os (length es) (length ms) es ms bases
+    fs = frames a (reverse s.nest.items) s.items.items s.members.items
 
     low : length fs ≤ 200
-    low = omega (arith, deep)
+    low =
+        let os = reverse s.nest.items in
+        let deep = length-frames a os (length s.items.items) (length s.members.items) s.items.items s.members.items bases
+        in
+        omega (arith, deep, few, length-reverse s.nest.items)
 
     pub value-read : (x : Reading Tree) → ((room : ℕ) → value_at (rules p) t room i ≡ x)
         → value_from (rules p) t fs i ≡ resume (rules p) t fs x
