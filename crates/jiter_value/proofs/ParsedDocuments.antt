@@ -11,9 +11,8 @@ use Rattle.jiter_scan.specs.PartialMode.{is_active}
 use Rattle.jiter_scan.specs.declared.partial_mode.PartialMode.TheVariants.{Off}
 use Rattle.jiter_steps.specs.Cut.{cut, IsBegunContainer}
 use Rattle.jiter_steps.specs.FirstFault.{IsDeadEnd, BeginsNoDocument, can_go_on, CanBeCompleted}
-use Rattle.jiter_steps.specs.Node.{Node, end, IsDocument, IsCutContainer, value_of}
-use Rattle.jiter_steps.specs.Read.{done, fault}
-use Rattle.jiter_steps.specs.Tree.{Tree}
+use Rattle.jiter_steps.specs.Node.{Node, IsDocument, IsCutContainer, value_of}
+use Rattle.jiter_steps.specs.Read.{fault}
 use Rattle.jiter_steps.specs.declared.read_error.ReadError.{ReadError}
 use Rattle.jiter_steps.specs.declared.read_error.ReadError.TheVariants as error
 use Rattle.jiter_steps.proofs.Alive.{alive}
@@ -65,19 +64,12 @@ module _ (names : Bool) (t : List ℕ) (mode : PartialMode) where
       → Answers r (answer names t)
   answer-off r h off = subst (λ m. Answers r (answer_in names m t)) off h
 
-  same-tree : (v w : Tree) (i j : ℕ) → done v i ≡ done w j → v ≡ w
-  same-tree v w i j h = cc
-
-  no-fault : {P : Type 0} → (v : Tree) (i x stop : ℕ) (k : Kind) → done v i ≡ fault k x stop → P
-  no-fault v i x stop k h = let no : ⊥ = cc in absurd no
-
   pub parse-accepts : (r : Result JsonValue JsonError) → Answers r (answer_in names mode t) → (n : Node)
       → IsDocument names t n
       → MatchResult r (λ v. view v ≡ value_of t n) (λ e. e.error_type ≡ OutOfMemory)
-  parse-accepts (Ok v) h n d = same-tree (view v) (value_of t n) h.0 (end n) (sym h.1 ∙ answer_in-of names t mode n d)
+  parse-accepts (Ok v) h n d = let read = h.1 in let is = answer_in-of names t mode n d in cc
   parse-accepts (Err e) (inl m) n d = m
-  parse-accepts (Err e) (inr h) n d =
-      no-fault (value_of t n) (end n) e.index h.0 (kind_of e.error_type) (sym (answer_in-of names t mode n d) ∙ h.1)
+  parse-accepts (Err e) (inr h) n d = let read = h.1 in let is = answer_in-of names t mode n d in absurd (cc)
 
   pub parse-cut : (r : Result JsonValue JsonError) → Answers r (answer_in names mode t) → is_active mode ≡ true
       → (f : IsBegunContainer names t)
@@ -91,15 +83,9 @@ module _ (names : Bool) (t : List ℕ) (mode : PartialMode) (i : ℕ) (e : JsonE
   fault-at : (k : Kind) (x : ℕ) → answer_in names mode t ≡ fault k x i → FaultAt t k x
   fault-at k x h = let w = subst (Within t 0) h (answer_in-within names t mode) in w.2
 
-  pub error-index : (x : ReadError) → IsErrorOf x i e → GivesWhole (Err x) i (answer_in names mode t) → i ≤ length t
-      → e.index ≤ length t
-  error-index (error.Fault f) is h le =
-      subst (λ j. j ≤ length t) (sym is.1) (fault-at (fault_kind f.kind) f.index h).within
-  error-index (error.Memory m) is h le = subst (λ j. j ≤ length t) (sym (ap (λ e. e.index) is)) le
-
-  pub error-ends : (x : ReadError) → IsErrorOf x i e → GivesWhole (Err x) i (answer_in names mode t)
-      → is_end_kind (kind_of e.error_type) ≡ true → e.index ≡ length t
-  error-ends (error.Fault f) is h k =
-      is.1 ∙ (fault-at (fault_kind f.kind) f.index h).ends (ap is_end_kind (sym is.0) ∙ k)
-  error-ends (error.Memory m) is h k =
-      let other = ap (λ e. is_end_kind (kind_of e.error_type)) (sym is) ∙ k in absurd (cc)
+  pub error-stands : (x : ReadError) → IsErrorOf x i e → GivesWhole (Err x) i (answer_in names mode t) → i ≤ length t
+      → (e.index ≤ length t) × (is_end_kind (kind_of e.error_type) ≡ true → e.index ≡ length t)
+  error-stands (error.Fault f) is h le =
+      let at = fault-at (fault_kind f.kind) f.index h in
+      (subst (λ j. j ≤ length t) (sym is.1) at.within, λ k. is.1 ∙ at.ends (ap is_end_kind (sym is.0) ∙ k))
+  error-stands (error.Memory m) is h le = rw is (le, λ k. absurd (cc))

@@ -1,9 +1,8 @@
 -- Plain scalars, read and put where they belong.
 use Rattle.std.proofs.Common.{◌≡◌, inl, inr, ℕ, ◌+◌, ◌<◌, ◌≤◌, Bool, true, false, List, [], ◌∷◌, ◌++◌, length}
-use Rattle.std.proofs.Common.{length-append, Vec, refl, sym, ap, subst, ◌∙◌, slice_range, arith}
+use Rattle.std.proofs.Common.{Vec, refl, sym, ap, subst, ◌∙◌, slice_range, arith}
 use Rattle.std.specs.Prelude.{reverse, slice_index, nat_lt, pos, if◌then◌else◌}
 use Rattle.std.proofs.lemmas.Bool.Decides.{nat_tests}
-use Rattle.std.proofs.lemmas.List.{length-reverse}
 use Rattle.jiter_scan.specs.Number.{Number, integer, float, minus_of}
 use Rattle.jiter_scan.specs.NumberDecoder.{IsMinusTo}
 use Rattle.jiter_scan.specs.ShortNumber.{IsShortInteger, IsShortFloat}
@@ -65,19 +64,17 @@ module _ (p : Settings) (t : List ℕ) (i e room : ℕ) where
   literal-read l h is = begins (start.Literal l) h ∙ ap (λ x. scalar_at i (seen_as (λ u e. literal_tree l) x)) is
 
 -- a scalar that was read so, and put so
-module _ (t : List ℕ) (old new : Stacks) (a : Awaits) (i e : ℕ) (v : JsonValue) (x : Tree) (seen : view v ≡ x) where
-  pub put-at : Stands old a → length old.nest.items ≤ 200
+module _ {t : List ℕ} {old new : Stacks} {a : Awaits} {i e : ℕ} (v : JsonValue) (x : Tree) where
+  pub put-at : view v ≡ x → Stands old a → length old.nest.items ≤ 200
       → ((p : Settings) (u : List ℕ) (j : ℕ) → resume_with p u old a (done (view v) j) ≡ behind p u new a j)
       → Stands new a → new.nest ≡ old.nest → behind_size new a ≡ value_size old a + size (view v) → size x ≡ 1
       → i < e → e ≤ length t → ((p : Settings) (room : ℕ) → value_at (rules p) t room i ≡ done x e)
       → IsPutAt t old i a new e
-  put-at b few put stands nest held one ahead within read =
-      let os = reverse old.nest.items in
-      let low : length os ≤ 200 = omega (arith, length-reverse old.nest.items) in
+  put-at seen b few put stands nest held one ahead within read =
       let counts : size (view v) ≡ 1 = ap size seen ∙ one in
       record {
         value = λ p.
-            value-read p t a os old.items.items old.members.items b low i (done x e) (read p)
+            value-read p t old a b few i (done x e) (read p)
             ∙ ap (λ y. resume_with p t old a (done y e)) (sym seen) ∙ put p t e;
         stands = stands;
         nest = nest;
@@ -106,25 +103,22 @@ module _ (t : List ℕ) (names : Bool) (i e : ℕ) where
       short-negative_float t names e i minus (subst (λ k. IsShortFloat t k e) next s)
 
 -- a key that was read so, and put so
-pub key-at : (t : List ℕ) (s : Stacks) (ms : Vec Member Global) (i e j : ℕ) (k : CowStr Global) (x : Text)
-    → text_view k ≡ x
-    → StandsAtKey s → i < length t → string_at whole t i ≡ taken x e → object_colon t e ≡ taken tt j
+pub key-at : (t : List ℕ) (s : Stacks) (ms : Vec Member Global) (i e j : ℕ) (k : CowStr Global) → StandsAtKey s
+    → i < length t → scalar_at i (string_at whole t i) ≡ done (text_view k) e → object_colon t e ≡ taken tt j
     → ms.items ≡ s.members.items ++ (k, Null) ∷ [] → i < j → j < length t
     → IsKeyAt t s i (record
     { items = s.items; members = ms; nest = s.nest; root = s.root; error = s.error; kept = s.kept }) j
-key-at t s ms i e j k x seen b inside read colon pushed ahead within =
+key-at t s ms i e j k b inside read colon pushed ahead within =
     let os = reverse s.nest.items in
     let es = s.items.items in
-    let n = length s.members.items in
-    let long : n + 1 ≡ length ms.items = omega (arith, ap length pushed, length-append s.members.items ((k, Null) ∷ []))
-    in
     record {
       value = λ p.
-          key-opens p t os es s.members.items i k e j b inside (read ∙ ap (λ y. taken y e) (sym seen)) colon
+          key-opens p t os es s.members.items i k e j b inside read colon
           ∙ ap (λ ys. value_from (rules p) t (frames awaits.Value os es ys) j) (sym pushed);
-      stands = subst (λ m. HaveBases awaits.Value os (length es) m) long (key-above os (length es) n b);
+      stands = subst (λ ys. HaveBases awaits.Value os (length es) (length ys)) (sym pushed)
+          (key-above os (length es) s.members.items (k, Null) b);
       nest = refl;
-      held = ap (λ ys. frames_size (frames awaits.Value os es ys)) pushed ∙ key-size os es s.members.items k Null b;
+      held = ap (λ ys. frames_size (frames awaits.Value os es ys)) pushed ∙ key-size os es s.members.items (k, Null) b;
       ahead = ahead;
       within = within;
     }

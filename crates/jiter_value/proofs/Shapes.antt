@@ -1,37 +1,33 @@
 -- What arrays and objects have in common on the stacks: behind a part, where they begin and where they end.
-use Rattle.std.proofs.Common.{◌≡◌, ◌≢◌, ℕ, ◌+◌, ◌<◌, ◌≤◌, false, List, [], ◌∷◌, ◌++◌, length, map, length-append, refl}
+use Rattle.std.proofs.Common.{◌≡◌, ◌≢◌, ℕ, ◌+◌, ◌<◌, ◌≤◌, List, [], ◌∷◌, ◌++◌, length, map, length-append, refl}
 use Rattle.std.proofs.Common.{sym, ap, ap₂, subst, ◌∙◌, arith}
 use Rattle.std.specs.Prelude.{slice_index, reverse, IfOk}
 use Rattle.std.proofs.lemmas.List.{reverse-append, length-reverse, take_all, drop_all}
 use Rattle.smallvec.specs.SmallVec.{SmallVec}
 use Rattle.jiter_steps.specs.declared.parse.Start.TheVariants as start
-use Rattle.jiter_scan.specs.Kind.{fault_kind, recursion_limit}
-use Rattle.jiter_scan.specs.declared.errors.Fault.{Fault}
+use Rattle.jiter_scan.specs.Kind.{recursion_limit}
 use Rattle.jiter_steps.specs.Frames.{resolve_step, resume, parts_from}
 use Rattle.jiter_steps.specs.Literal.{start_of}
 use Rattle.jiter_steps.specs.Step.{container_first, container_step, opening}
-use Rattle.jiter_steps.specs.Read.{Reading, done, fault}
-use Rattle.jiter_steps.specs.Step.{more, closed, step, array_first}
+use Rattle.jiter_steps.specs.Read.{Reading, fault}
+use Rattle.jiter_steps.specs.Step.{more, step, array_first}
 use Rattle.jiter_steps.specs.Tree.{Tree}
 use Rattle.jiter_steps.specs.declared.parse.Shape.{Shape}
 use Rattle.jiter_steps.specs.declared.parse.Shape.TheVariants as shape
-use Rattle.jiter_steps.specs.declared.read_error.ReadError.{ReadError}
-use Rattle.jiter_steps.specs.declared.read_error.ReadError.TheVariants as errors
 use Rattle.jiter_value.specs.Settings.{forgives, rules}
-use Rattle.jiter_value.specs.Size.{size, held, behind_size, behind_size_in, inside_size, inside_size_in, value_size}
+use Rattle.jiter_value.specs.Size.{held, behind_size, inside_size, inside_size_in, value_size}
 use Rattle.jiter_value.specs.Size.{frames_size, parts_size}
-use Rattle.jiter_value.specs.Stacks.{resume_with, from_value, behind, behind_in, meaning, container_ends, Stands}
+use Rattle.jiter_value.specs.Stacks.{from_value, behind, meaning, Stands}
 use Rattle.jiter_value.specs.Stacks.{StandsInside, HavePartBase, frames, parts_above, frames_below, member_view}
-use Rattle.jiter_value.specs.Stacks.{awaited_in, base_of, part_of, empty_tree}
-use Rattle.jiter_value.specs.Turns.{IsWithin, IsResolved, Reaches, Fails, outcome}
-use Rattle.jiter_value.specs.Value.{view, LeadsOn, MayGrowAs, MayGrowAt}
+use Rattle.jiter_value.specs.Stacks.{awaited_in, base_of, part_of}
+use Rattle.jiter_value.specs.Turns.{IsWithin, Reaches, outcome}
+use Rattle.jiter_value.specs.Value.{view}
 use Rattle.jiter_value.specs.declared.settings.Settings.{Settings}
 use Rattle.jiter_value.specs.declared.stacks.Open.{Open}
 use Rattle.jiter_value.specs.declared.stacks.Awaits.{Awaits}
 use Rattle.jiter_value.specs.declared.stacks.Awaits.TheVariants as awaits
 use Rattle.jiter_value.specs.declared.stacks.Stacks.{Stacks}
-use Rattle.jiter_value.proofs.StackTurns.{behind-more, behind-closed, behind-stuck, begins, begins-closed, begins-stuck}
-use Rattle.jiter_value.proofs.StackTurns.{next-part, part_in, container_of, key-base, array-limit}
+use Rattle.jiter_value.proofs.StackTurns.{behind-more, begins, next-part, part_in, container_of, key-base, limit-reached}
 use Rattle.jiter_value.proofs.Sizes.{behind-part-size, item-size}
 
 -- a part begins
@@ -53,20 +49,6 @@ pub part-within : (t : List ℕ) (s : Stacks) (h : Shape) (j : ℕ) → StandsIn
     → IsWithin t s (part_of h) j
 part-within t s shape.Array j b few low lt = (b, few refl, lt)
 part-within t s shape.Object j b few low lt = (b, low, lt)
-
--- where nothing is awaited inside a container
-pub root-only : (a : Awaits) (s : Stacks) → Stands s a → a ≢ awaits.Item → a ≢ awaits.Value → a ≡ awaits.Root
-root-only awaits.Root s b i v = refl
-root-only awaits.Item s b i v = absurd (i refl)
-root-only awaits.Value s b i v = absurd (v refl)
-root-only awaits.Key s b i v = absurd b
-root-only awaits.Done s b i v = absurd b
-root-only awaits.Refused s b i v = absurd b
-
-given-up : (error : ReadError) (j : ℕ) (x : Reading Tree) (f : Fault) → error ≡ errors.Fault f → f.index ≡ j
-    → x ≡ fault (fault_kind f.kind) j j → Fails error j x
-given-up error j x f is at h =
-    subst (λ e. Fails e j x) (sym is) (h ∙ ap (λ y. fault (fault_kind f.kind) y j) (sym at))
 
 -- the stacks with other open containers
 abbrev pub with_nest : Stacks → SmallVec Open → Stacks
@@ -92,13 +74,12 @@ same-below s a shape.Object =
 
 base-above : (s : Stacks) (a : Awaits) (h : Shape) → Stands s a
     → HavePartBase h (opened s a h ∷ reverse s.nest.items) (length s.items.items) (length s.members.items)
-base-above s a shape.Array b = let le : length s.items.items ≤ length s.items.items = omega arith in (le, b)
-base-above s a shape.Object b = let le : length s.members.items ≤ length s.members.items = omega arith in (le, b)
+base-above s a shape.Array b = (omega arith, b)
+base-above s a shape.Object b = (omega arith, b)
 
-turned : (s : Stacks) (a : Awaits) (h : Shape) (o : Open) (n : SmallVec Open) → n.items ≡ s.nest.items ++ o ∷ []
-    → o ≡ opened s a h → reverse n.items ≡ opened s a h ∷ reverse s.nest.items
-turned s a h o n pushed eq =
-    ap reverse pushed ∙ reverse-append s.nest.items (o ∷ []) ∙ ap (λ x. x ∷ reverse s.nest.items) eq
+turned : (s : Stacks) (a : Awaits) (h : Shape) (n : SmallVec Open) → n.items ≡ s.nest.items ++ opened s a h ∷ []
+    → reverse n.items ≡ opened s a h ∷ reverse s.nest.items
+turned s a h n pushed = ap reverse pushed ∙ reverse-append s.nest.items (opened s a h ∷ [])
 
 part-meaning : (p : Settings) (t : List ℕ) (s : Stacks) (h : Shape) (j : ℕ)
     → part_in p t h (reverse s.nest.items) s.items.items s.members.items j ≡ meaning p t s (part_of h) j
@@ -110,64 +91,38 @@ module _ (p : Settings) (t : List ℕ) (s : Stacks) where
       → j < length t
       → behind p t s (awaited_in h) e ≡ meaning p t s (part_of h) j
   inside-more h e j b is lt =
-      behind-more p t h s.items.items s.members.items s.root e (reverse s.nest.items) j b
-      (ap (resolve_step (forgives p.mode)) is) lt
-      ∙ part-meaning p t s h j
+      behind-more p t h s.items.items s.members.items s.root e (reverse s.nest.items) j b is lt ∙ part-meaning p t s h j
 
-  pub inside-ends : (h : Shape) (e c : ℕ) → Stands s (awaited_in h)
-      → resolve_step (forgives p.mode) (step t (container_step h t) e) ≡ closed c
-      → behind p t s (awaited_in h) e ≡ container_ends p t h s c
-  inside-ends h e c b is =
-      behind-closed p t h s.items.items s.members.items s.root e (reverse s.nest.items) c b is
+  module _ (a : Awaits) (b : Stands s a) (few : length s.nest.items ≤ 200) (i : ℕ) where
+    -- a container begins with a part
+    opens : (h : Shape) (j : ℕ) → j < length t → start_of (slice_index t i) ≡ opening h
+        → step t (container_first h) (i + 1) ≡ more j
+        → from_value p t s a i
+        ≡ part_in p t h (opened s a h ∷ reverse s.nest.items) s.items.items s.members.items j
+    opens h j lt starts is =
+        let os = reverse s.nest.items in
+        begins p t s a b few i h (more j) starts (ap (resolve_step (forgives p.mode)) is)
+        ∙ ap₂ (λ fs xs. resume (rules p) t fs (parts_from (rules p) t (container_of p t h (length fs)) xs j))
+        (sym (same-below s a h)) (sym (no-parts s h))
+        ∙ next-part p t h (opened s a h) os s.items.items s.members.items j lt
 
-  -- a fault behind a part that is not forgiven
-  pub inside-fails : (h : Shape) (e j : ℕ) (error : ReadError) → Stands s (awaited_in h)
-      → IsResolved p false error j (step t (container_step h t) e) → Fails error j (behind p t s (awaited_in h) e)
-  inside-fails h e j error b r =
-      given-up error j (behind p t s (awaited_in h) e) r.0 r.1 r.2
-      (behind-stuck p t h s.items.items s.members.items s.root e (reverse s.nest.items) j (fault_kind r.0.kind) b r.3
-      r.4)
-
-  module _ (a : Awaits) (b : Stands s a) (few : length (reverse s.nest.items) ≤ 200) (i : ℕ) where
-    -- a container without a part
-    pub first-ends : (h : Shape) (c : ℕ) → start_of (slice_index t i) ≡ opening h
-        → resolve_step (forgives p.mode) (step t (container_first h) (i + 1)) ≡ closed c
-        → from_value p t s a i ≡ resume_with p t s a (done (empty_tree h) c)
-    first-ends = begins-closed p t a (reverse s.nest.items) s.items.items s.members.items b few i
-
-    -- a fault behind the bracket that is not forgiven
-    pub first-fails : (h : Shape) (j : ℕ) (error : ReadError) → start_of (slice_index t i) ≡ opening h
-        → IsResolved p false error j (step t (container_first h) (i + 1)) → Fails error j (from_value p t s a i)
-    first-fails h j error starts r =
-        given-up error j (from_value p t s a i) r.0 r.1 r.2
-        (begins-stuck p t a (reverse s.nest.items) s.items.items s.members.items b few i h j (fault_kind r.0.kind)
-        starts
-        r.3 r.4)
-
-    -- a container opens
-    pub shape-opens : (h : Shape) (j : ℕ) (o : Open) (n : SmallVec Open) → n.items ≡ s.nest.items ++ o ∷ []
-        → o ≡ opened s a h → j < length t → start_of (slice_index t i) ≡ opening h
+    -- and stands open
+    pub shape-opens : (h : Shape) (j : ℕ) (n : SmallVec Open) → n.items ≡ s.nest.items ++ opened s a h ∷ []
+        → j < length t → start_of (slice_index t i) ≡ opening h
         → step t (container_first h) (i + 1) ≡ more j → (h ≡ shape.Array → length s.nest.items ≢ 200)
         → (from_value p t s a i ≡ meaning p t (with_nest s n) (part_of h) j) × IsWithin t (with_nest s n) (part_of h) j
-    shape-opens h j o n pushed eq lt starts is some =
-        let os = reverse s.nest.items in
+    shape-opens h j n pushed lt starts is some =
         let es = s.items.items in
         let ms = s.members.items in
-        let nest = turned s a h o n pushed eq in
-        let longer = ap length pushed in
-        let more_by = length-append s.nest.items (o ∷ []) in
-        let same_few = length-reverse s.nest.items in
+        let nest = turned s a h n pushed in
+        let longer = ap length pushed ∙ length-append s.nest.items (opened s a h ∷ []) in
         let stands : StandsInside h (with_nest s n) =
         subst (λ qs. HavePartBase h qs (length es) (length ms)) (sym nest) (base-above s a h b) in (
-          begins p t a os es ms b few i h (more j) starts (ap (resolve_step (forgives p.mode)) is)
-              ∙ ap₂ (λ fs xs. resume (rules p) t fs (parts_from (rules p) t (container_of p t h (length fs)) xs j))
-              (sym (same-below s a h)) (sym (no-parts s h))
-              ∙ next-part p t h (opened s a h) os es ms j lt
-              ∙ ap (λ qs. part_in p t h qs es ms j) (sym nest)
+          opens h j lt starts is ∙ ap (λ qs. part_in p t h qs es ms j) (sym nest)
               ∙ part-meaning p t (with_nest s n) h j,
           part-within t (with_nest s n) h j stands
-              (λ array. let full = some array in omega (arith, few, full, longer, more_by, same_few))
-              (omega (arith, few, longer, more_by, same_few)) lt,
+              (λ array. let full = some array in omega (arith, few, full, longer))
+              (omega (arith, few, longer)) lt,
         )
 
     -- an array stands too deep
@@ -175,32 +130,13 @@ module _ (p : Settings) (t : List ℕ) (s : Stacks) where
         → start_of (slice_index t i) ≡ start.Array → step t array_first (i + 1) ≡ more j
         → from_value p t s a i ≡ fault recursion_limit j j
     array-too-deep j full lt starts is =
-        array-limit p t a (reverse s.nest.items) s.items.items s.members.items b few i j
-        (length-reverse s.nest.items ∙ full) lt starts (ap (resolve_step (forgives p.mode)) is)
-
--- the whole value is at the root
-pub root-behind : (p : Settings) (t : List ℕ) (s : Stacks) (e : ℕ) → Stands s awaits.Root
-    → behind p t s awaits.Root e ≡ done (view s.root) e
-root-behind p t s e b = by (reverse s.nest.items) where
-  by : (os : List Open) → behind_in p t awaits.Root os s.items.items s.members.items s.root e ≡ done (view s.root) e
-  by [] = refl
-  by (o ∷ os) = refl
-
-pub root-size : (s : Stacks) → behind_size s awaits.Root ≡ size (view s.root)
-root-size s = by (reverse s.nest.items) where
-  by : (os : List Open) → behind_size_in awaits.Root os s.items.items s.members.items s.root ≡ size (view s.root)
-  by [] = refl
-  by (o ∷ os) = refl
+        opens shape.Array j lt starts is
+        ∙ limit-reached p t awaits.Item (opened s a shape.Array ∷ reverse s.nest.items) s.items.items s.members.items j
+        (base-above s a shape.Array b) (omega (arith, full, length-reverse s.nest.items))
 
 pub not-root : (h : Shape) → awaited_in h ≡ awaits.Root → ⊥
 not-root shape.Array h = cc
 not-root shape.Object h = cc
-
--- a container with a part may want memory
-pub may-grow : (t : List ℕ) (i j : ℕ) (h : Shape) → start_of (slice_index t i) ≡ opening h
-    → step t (container_first h) (i + 1) ≡ more j → MayGrowAt t i
-may-grow t i j shape.Array starts is = subst (MayGrowAs t i) (sym starts) (subst LeadsOn (sym is) tt)
-may-grow t i j shape.Object starts is = subst (MayGrowAs t i) (sym starts) (subst LeadsOn (sym is) tt)
 
 -- an open container counts one
 part-held-by : (s : Stacks) (h : Shape) (n : ℕ) → inside_size h s ≤ n → IfOk (outcome s (part_of h)) (λ x. held s x ≤ n)
@@ -212,13 +148,12 @@ no-size : (h : Shape) → parts_size h [] ≡ 0
 no-size shape.Array = refl
 no-size shape.Object = refl
 
-pub part-held : (s : Stacks) (a : Awaits) (h : Shape) (o : Open) (n : SmallVec Open)
-    → n.items ≡ s.nest.items ++ o ∷ [] → o ≡ opened s a h
+pub part-held : (s : Stacks) (a : Awaits) (h : Shape) (n : SmallVec Open) → n.items ≡ s.nest.items ++ opened s a h ∷ []
     → IfOk (outcome (with_nest s n) (part_of h)) (λ x. held (with_nest s n) x ≤ value_size s a + 1)
-part-held s a h o n pushed eq =
+part-held s a h n pushed =
     let is : inside_size h (with_nest s n) ≡ inside_size_in h (opened s a h ∷ reverse s.nest.items) s.items.items
     s.members.items =
-    ap (λ qs. inside_size_in h qs s.items.items s.members.items) (turned s a h o n pushed eq) in
+    ap (λ qs. inside_size_in h qs s.items.items s.members.items) (turned s a h n pushed) in
     let none = ap (parts_size h) (no-parts s h) ∙ no-size h in
     let rest = ap frames_size (same-below s a h) in
     part-held-by (with_nest s n) h (value_size s a + 1) (omega (arith, is, none, rest))

@@ -1,10 +1,7 @@
 -- Counting what the machine holds.
-use Rattle.std.proofs.Common.{◌≡◌, suc, ◌+◌, ◌≤◌, List, [], ◌∷◌, ◌++◌, length, take, drop, map, refl, ap, ◌∙◌, arith}
-use Rattle.std.proofs.Common.{length-append}
+use Rattle.std.proofs.Common.{◌≡◌, suc, ◌+◌, List, [], ◌∷◌, ◌++◌, length, drop, map, refl, ap, ◌∙◌, arith}
 use Rattle.std.specs.Prelude.{reverse}
-use Rattle.std.specs.declared.alloc.Global.{Global}
-use Rattle.std.specs.declared.borrow.CowStr.{CowStr}
-use Rattle.std.proofs.lemmas.List.{reverse-append, map_push, drop-append-le, take-append-le}
+use Rattle.std.proofs.lemmas.List.{reverse-append, take-append-le}
 use Rattle.jiter_steps.specs.Frames.{Frame}
 use Rattle.jiter_steps.specs.Tree.{Text, Tree}
 use Rattle.jiter_steps.specs.StringDecoder.{text_view}
@@ -18,7 +15,7 @@ use Rattle.jiter_value.specs.Stacks.{Member, member_view, frames, PartTree, buil
 use Rattle.jiter_value.specs.Stacks.{HaveKeyBase, awaited_in}
 use Rattle.jiter_value.specs.Size.{size, items_size, members_size, parts_size, frames_size, inside_size_in}
 use Rattle.jiter_value.specs.Size.{behind_size_in}
-use Rattle.jiter_value.proofs.StackTurns.{value-frames}
+use Rattle.jiter_value.proofs.StackTurns.{value-frames, above-more}
 
 items_size-push : (xs : List Tree) (x : Tree) → items_size (xs ++ x ∷ []) ≡ items_size xs + size x
 items_size-push [] x = omega arith
@@ -34,37 +31,19 @@ pub put-item-size : (os : List Open) (es : List JsonValue) (ms : List Member) (r
     → behind_size_in awaits.Item os (es ++ v ∷ []) ms root ≡ frames_size (frames awaits.Item os es ms) + size (view v)
 put-item-size [] es ms root v h = absurd h
 put-item-size (o ∷ os) es ms root v h =
-    let part : map view (drop o.base (es ++ v ∷ [])) ≡ map view (drop o.base es) ++ view v ∷ [] = ap (map view)
-    (drop-append-le o.base es (v ∷ []) h.0) ∙ map_push view (drop o.base es) v in
-    let rest : take o.base (es ++ v ∷ []) ≡ take o.base es = take-append-le o.base es (v ∷ []) h.0 in
-    let grown : items_size (map view (drop o.base (es ++ v ∷ []))) ≡ items_size (map view (drop o.base es)) + size
-    (view v) = ap items_size part ∙ items_size-push (map view (drop o.base es)) (view v) in
-    let outer : frames_size (frames o.outer os (take o.base (es ++ v ∷ [])) ms) ≡ frames_size
-    (frames o.outer os (take o.base es) ms) = ap (λ ys. frames_size (frames o.outer os ys ms)) rest in
-    omega (arith, grown, outer)
+    let grown = items_size-push (map view (drop o.base es)) (view v) in
+    rw (above-more view o.base es v h.0, take-append-le o.base es (v ∷ []) h.0) (omega (arith, grown))
 
-pub put-value-size : (os : List Open) (es : List JsonValue) (before : List Member) (key : CowStr Global)
-    (old root v : JsonValue) → HaveBases awaits.Value os (length es) (length (before ++ (key, old) ∷ []))
-    → behind_size_in awaits.Value os es (before ++ (key, v) ∷ []) root ≡ frames_size
-    (frames awaits.Value os es (before ++ (key, old) ∷ [])) + size (view v)
-put-value-size [] es before key old root v h = absurd h
-put-value-size (o ∷ os) es before key old root v h =
-    let le : o.base ≤ length before = omega (arith, h.0, length-append before ((key, old) ∷ [])) in
-    let part : map member_view (drop o.base (before ++ (key, v) ∷ [])) ≡ map member_view (drop o.base before) ++
-    (text_view key, view v) ∷ [] =
-    ap (map member_view) (drop-append-le o.base before ((key, v) ∷ []) le)
-    ∙ map_push member_view (drop o.base before) (key, v) in
-    let rest : take o.base (before ++ (key, v) ∷ []) ≡ take o.base before = take-append-le o.base before
-    ((key, v) ∷ []) le in
-    let grown : members_size (map member_view (drop o.base (before ++ (key, v) ∷ []))) ≡ members_size
-    (map member_view (drop o.base before)) + suc (size (view v)) = ap members_size part
-    ∙ members_size-push (map member_view (drop o.base before)) (text_view key, view v) in
-    let outer : frames_size (frames o.outer os es (take o.base (before ++ (key, v) ∷ []))) ≡ frames_size
-    (frames o.outer os es (take o.base before)) = ap (λ ys. frames_size (frames o.outer os es ys)) rest in
-    let was : frames_size (frames awaits.Value (o ∷ os) es (before ++ (key, old) ∷ [])) ≡ suc
-    (suc (members_size (map member_view (drop o.base before)))) + frames_size
-    (frames o.outer os es (take o.base before)) = ap frames_size (value-frames o os es before key old le) in
-    omega (arith, grown, outer, was)
+pub put-value-size : (os : List Open) (es : List JsonValue) (before : List Member) (m : Member) (root v : JsonValue)
+    → HaveKeyBase os (length es) (length before)
+    → behind_size_in awaits.Value os es (before ++ (m.0, v) ∷ []) root ≡ frames_size
+    (frames awaits.Value os es (before ++ m ∷ [])) + size (view v)
+put-value-size [] es before m root v h = absurd h
+put-value-size (o ∷ os) es before m root v h =
+    let grown = members_size-push (map member_view (drop o.base before)) (text_view m.0, view v) in
+    let was = ap frames_size (value-frames o os es before m h.0) in
+    rw (above-more member_view o.base before (m.0, v) h.0, take-append-le o.base before ((m.0, v) ∷ []) h.0)
+    (omega (arith, grown, was))
 
 pub put-root-size : (os : List Open) (es : List JsonValue) (ms : List Member) (v : JsonValue)
     → HaveBases awaits.Root os (length es) (length ms)
@@ -103,9 +82,9 @@ item-size [] es ms = refl
 item-size (o ∷ os) es ms = refl
 
 -- a key that awaits its value counts one
-pub key-size : (os : List Open) (es : List JsonValue) (before : List Member) (key : CowStr Global) (old : JsonValue)
+pub key-size : (os : List Open) (es : List JsonValue) (before : List Member) (m : Member)
     → HaveKeyBase os (length es) (length before)
-    → frames_size (frames awaits.Value os es (before ++ (key, old) ∷ [])) ≡ inside_size_in shape.Object os es before + 1
-key-size [] es before key old h = absurd h
-key-size (o ∷ os) es before key old h =
-    let was = ap frames_size (value-frames o os es before key old h.0) in omega (arith, was)
+    → frames_size (frames awaits.Value os es (before ++ m ∷ [])) ≡ inside_size_in shape.Object os es before + 1
+key-size [] es before m h = absurd h
+key-size (o ∷ os) es before m h =
+    let was = ap frames_size (value-frames o os es before m h.0) in omega (arith, was)

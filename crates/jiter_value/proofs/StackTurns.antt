@@ -6,37 +6,40 @@ use Rattle.std.specs.declared.alloc.Global.{Global}
 use Rattle.std.specs.declared.borrow.CowStr.{CowStr}
 use Rattle.std.proofs.Math.Seq.{set-append_seam, get_or-append_seam}
 use Rattle.std.proofs.lemmas.List.{reverse-append, map_push, drop-append-le, take-append-le, take_all, take_more}
-use Rattle.jiter_scan.specs.Kind.{Kind, recursion_limit}
-use Rattle.jiter_scan.specs.Scanned.{taken, failed}
+use Rattle.std.proofs.lemmas.List.{length-take-le, length-reverse}
+use Rattle.jiter_scan.specs.Kind.{Kind, fault_kind, recursion_limit}
+use Rattle.jiter_scan.specs.Scanned.{Scanned, taken, failed}
 use Rattle.jiter_scan.specs.declared.partial_mode.PartialMode.{PartialMode}
 use Rattle.jiter_scan.specs.declared.partial_mode.PartialMode.TheVariants.{Off, On, TrailingStrings}
 use Rattle.jiter_steps.specs.Answer.{value_form}
 use Rattle.jiter_steps.specs.Tree.{Text, Tree}
 use Rattle.jiter_steps.specs.Literal.{start_of}
-use Rattle.jiter_steps.specs.Step.{Step, more, closed, stuck, step, array_first, container_first, container_step}
+use Rattle.jiter_steps.specs.Step.{Step, more, closed, stuck, step, container_first, container_step}
 use Rattle.jiter_steps.specs.Step.{object_colon, opening}
 use Rattle.jiter_steps.specs.StringDecoder.{text_view}
 use Rattle.jiter_steps.specs.StringReading.{whole, string_at}
-use Rattle.jiter_steps.specs.Read.{Reading, Container, done, fault, value_at}
-use Rattle.jiter_steps.specs.Frames.{Frame, items_frame, members_frame, resolve_step, resume, parts_from, parts_step}
-use Rattle.jiter_steps.specs.Frames.{value_in, array_in, object_in, value_from, items_from, members_from}
+use Rattle.jiter_steps.specs.Read.{Reading, Container, done, fault, value_at, scalar_at}
+use Rattle.jiter_steps.specs.declared.read_error.ReadError.{ReadError}
+use Rattle.jiter_steps.specs.Frames.{Frame, members_frame, resolve_step, resume, parts_from, parts_step}
+use Rattle.jiter_steps.specs.Frames.{value_in, array_in, object_in, value_from}
 use Rattle.jiter_steps.specs.declared.parse.Shape.{Shape}
 use Rattle.jiter_steps.specs.declared.parse.Shape.TheVariants as shape
-use Rattle.jiter_steps.specs.declared.parse.Start.TheVariants as start
 use Rattle.jiter_steps.proofs.Values.{Advances}
 use Rattle.jiter_steps.proofs.Instances.{trees-advances}
-use Rattle.jiter_steps.proofs.Resumed.{IgnoresBegin, value_in-room, value_in-limit, if_forgiven-yes, if_forgiven-no}
+use Rattle.jiter_steps.proofs.Resumed.{IgnoresBegin, value_in-room, value_in-limit, if_forgiven-no}
 use Rattle.jiter_steps.proofs.Resumed.{resume-fault, resume-forgiven, step-to, step-stuck, items-value, key-value}
 use Rattle.jiter_steps.proofs.Resumed.{key-failed, colon-failed, container-begins}
 use Rattle.jiter_value.specs.Settings.{forgives, rules}
 use Rattle.jiter_value.specs.Stacks.{Member, member_view, last_key_of, last_key, front, frames, PartTree, built}
 use Rattle.jiter_value.specs.Stacks.{parts_above, frames_below, HaveBases, HaveKeyBase, key_in, key_fault_in, behind_in}
-use Rattle.jiter_value.specs.Stacks.{container_in, awaited_in, empty_tree}
+use Rattle.jiter_value.specs.Stacks.{container_in, awaited_in, empty_tree, Stands}
+use Rattle.jiter_value.specs.Turns.{Fails, IsResolved}
 use Rattle.jiter_value.specs.Value.{view}
 use Rattle.jiter_value.specs.declared.settings.Settings.{Settings}
 use Rattle.jiter_value.specs.declared.stacks.Awaits.{Awaits}
 use Rattle.jiter_value.specs.declared.stacks.Awaits.TheVariants as awaits
 use Rattle.jiter_value.specs.declared.stacks.Open.{Open}
+use Rattle.jiter_value.specs.declared.stacks.Stacks.{Stacks}
 use Rattle.jiter_value.specs.declared.value.JsonValue.{JsonValue}
 use Rattle.jiter_value.specs.declared.value.JsonValue.TheVariants.{Null}
 
@@ -49,13 +52,16 @@ set-last xs before n key old v got h at g =
     ap₂ (λ ys m. slice_set ys m (got.0, v)) h at ∙ set-append_seam before (key, old) [] (got.0, v)
     ∙ ap (λ m. before ++ (m.0, v) ∷ []) is
 
-pub last-split : {X : Type 0} (xs : List X) → 0 < length xs → (x : X) × (xs ≡ take (length xs - 1) xs ++ x ∷ [])
+last-split : {X : Type 0} (xs : List X) → 0 < length xs → (x : X) × (xs ≡ take (length xs - 1) xs ++ x ∷ [])
 last-split [] h = let no : ⊥ = omega arith in absurd no
 last-split (y ∷ ys) h =
-    let xs = y ∷ ys in
-    let n = length xs - 1 in
-    let within : n < length xs = omega arith in
-    (get_or xs n y, sym (take_all (n + 1) xs (omega arith)) ∙ take_more xs n y within)
+    let n = length (y ∷ ys) - 1 in
+    (get_or (y ∷ ys) n y, sym (take_all (n + 1) (y ∷ ys) (omega arith)) ∙ take_more (y ∷ ys) n y (omega arith))
+
+-- a list with one more, above a place within it
+pub above-more : {X Y : Type 0} (f : X → Y) (n : ℕ) (xs : List X) (x : X) → n ≤ length xs
+    → map f (drop n (xs ++ x ∷ [])) ≡ map f (drop n xs) ++ f x ∷ []
+above-more f n xs x h = ap (map f) (drop-append-le n xs (x ∷ []) h) ∙ map_push f (drop n xs) x
 
 last_key_of-append : (x : Member) (xs : List Member) (m : Member) → last_key_of x (xs ++ m ∷ []) ≡ text_view m.0
 last_key_of-append x [] m = refl
@@ -72,34 +78,48 @@ front-append xs m =
     ∙ take_all (length xs) xs (omega arith)
 
 -- an object that awaits the value of this key
-pub value-frames : (o : Open) (os : List Open) (es : List JsonValue) (before : List Member) (key : CowStr Global)
-    (old : JsonValue) → o.base ≤ length before
-    → frames awaits.Value (o ∷ os) es (before ++ (key, old) ∷ []) ≡ members_frame (map member_view (drop o.base before))
-    (text_view key) ∷ frames o.outer os es (take o.base before)
-value-frames o os es before key old h =
-    let m : Member = (key, old) in
-    let dropped : drop o.base (before ++ m ∷ []) ≡ drop o.base before ++ m ∷ [] = drop-append-le o.base before
-    (m ∷ []) h in
-    let kept : take o.base (before ++ m ∷ []) ≡ take o.base before = take-append-le o.base before (m ∷ []) h in
-    ap₂
-    (λ part rest. members_frame (map member_view (front part)) (last_key part) ∷ frames o.outer os es rest) dropped kept
-    ∙ ap₂ (λ part k. members_frame (map member_view part) k ∷ frames o.outer os es (take o.base before))
-    (front-append (drop o.base before) m) (last_key-append (drop o.base before) m)
+pub value-frames : (o : Open) (os : List Open) (es : List JsonValue) (before : List Member) (m : Member)
+    → o.base ≤ length before
+    → frames awaits.Value (o ∷ os) es (before ++ m ∷ []) ≡ members_frame (map member_view (drop o.base before))
+    (text_view m.0) ∷ frames o.outer os es (take o.base before)
+value-frames o os es before m h =
+    rw (
+      drop-append-le o.base before (m ∷ []) h,
+      take-append-le o.base before (m ∷ []) h,
+      front-append (drop o.base before) m,
+      last_key-append (drop o.base before) m,
+    ) refl
 
-pub length-frames : (a : Awaits) (os : List Open) (n m : ℕ) (es : List JsonValue) (ms : List Member)
+length-frames : (a : Awaits) (os : List Open) (n m : ℕ) (es : List JsonValue) (ms : List Member)
     → HaveBases a os n m → length (frames a os es ms) ≡ length os
 length-frames a [] n m es ms h = refl
 length-frames awaits.Item (o ∷ os) n m es ms h = ap suc (length-frames o.outer os o.base m (take o.base es) ms h.1)
 length-frames awaits.Value (o ∷ os) n m es ms h = ap suc (length-frames o.outer os n o.base es (take o.base ms) h.1)
-length-frames awaits.Root (o ∷ os) n m es ms h = absurd h
-length-frames awaits.Key (o ∷ os) n m es ms h = absurd h
-length-frames awaits.Done (o ∷ os) n m es ms h = absurd h
-length-frames awaits.Refused (o ∷ os) n m es ms h = absurd h
+length-frames _ (o ∷ os) n m es ms h = absurd h
+
+-- A value that is awaited stands behind the last key.
+pub last-member : (os : List Open) (n : ℕ) (ms : List Member) → HaveBases awaits.Value os n (length ms)
+    → (m : Member) × (ms ≡ take (length ms - 1) ms ++ m ∷ []) × HaveKeyBase os n (length (take (length ms - 1) ms))
+last-member [] n ms h = absurd h
+last-member (o ∷ os) n ms h =
+    let last = last-split ms (omega (arith, h.0)) in
+    let long = length-take-le (length ms - 1) ms (omega arith) in
+    (last.0, last.1, (omega (arith, h.0, long), h.1))
 
 limit-kept : (mode : PartialMode) → forgives mode recursion_limit ≡ false
 limit-kept Off = refl
 limit-kept On = refl
 limit-kept TrailingStrings = refl
+
+-- what the reading of a scalar says of the scalar
+scalar-taken : {A : Type 0} (i : ℕ) (x : Scanned A) (a : A) (e : ℕ) → scalar_at i x ≡ done a e → x ≡ taken a e
+scalar-taken i (taken b d) a e h = cc
+scalar-taken i (failed k j) a e h = absurd (cc)
+
+scalar-failed : {A : Type 0} (i : ℕ) (x : Scanned A) (k : Kind) (j stop : ℕ) → scalar_at i x ≡ fault k j stop
+    → (x ≡ failed k j) × (stop ≡ i)
+scalar-failed i (taken b d) k j stop h = absurd (cc)
+scalar-failed i (failed l m) k j stop h = (cc, cc)
 
 module _ (p : Settings) (t : List ℕ) where
   good : Advances (rules p) t
@@ -114,33 +134,19 @@ module _ (p : Settings) (t : List ℕ) where
       → resume (rules p) t (frames awaits.Item os es ms) (done (view v) e) ≡ behind_in p t awaits.Item os (es ++ v ∷ [])
       ms root e
   put-item [] es ms root v e h = absurd h
-  put-item (o ∷ os) es ms root v e h =
-      let part : map view (drop o.base es) ++ view v ∷ [] ≡ map view (drop o.base (es ++ v ∷ [])) = sym
-      (map_push view (drop o.base es) v) ∙ ap (map view) (sym (drop-append-le o.base es (v ∷ []) h.0)) in
-      let rest : take o.base es ≡ take o.base (es ++ v ∷ []) = sym (take-append-le o.base es (v ∷ []) h.0) in
-      ap₂ (λ xs ys. items_from (rules p) t (frames o.outer os ys ms) xs e) part rest
+  put-item (o ∷ os) es ms root v e h = rw (above-more view o.base es v h.0, take-append-le o.base es (v ∷ []) h.0) refl
 
-  pub put-value : (os : List Open) (es : List JsonValue) (before : List Member) (key : CowStr Global)
-      (old root v : JsonValue) (e : ℕ) → HaveBases awaits.Value os (length es) (length (before ++ (key, old) ∷ []))
-      → resume (rules p) t (frames awaits.Value os es (before ++ (key, old) ∷ [])) (done (view v) e) ≡ behind_in p t
-      awaits.Value os es (before ++ (key, v) ∷ []) root e
-  put-value [] es before key old root v e h = absurd h
-  put-value (o ∷ os) es before key old root v e h =
-      let le : o.base ≤ length before = omega (arith, h.0, length-append before ((key, old) ∷ [])) in
-      let part : map member_view (drop o.base before) ++ (text_view key, view v) ∷ [] ≡ map member_view
-      (drop o.base (before ++ (key, v) ∷ [])) =
-      sym (map_push member_view (drop o.base before) (key, v))
-      ∙ ap (map member_view) (sym (drop-append-le o.base before ((key, v) ∷ []) le)) in
-      let rest : take o.base before ≡ take o.base (before ++ (key, v) ∷ []) = sym
-      (take-append-le o.base before ((key, v) ∷ []) le) in
-      ap (λ fs. resume (rules p) t fs (done (view v) e)) (value-frames o os es before key old le)
-      ∙ ap₂ (λ xs ys. members_from (rules p) t (frames o.outer os es ys) xs e) part rest
-
-  pub put-root : (os : List Open) (es : List JsonValue) (ms : List Member) (v : JsonValue) (e : ℕ)
-      → HaveBases awaits.Root os (length es) (length ms)
-      → resume (rules p) t (frames awaits.Root os es ms) (done (view v) e) ≡ behind_in p t awaits.Root os es ms v e
-  put-root [] es ms v e h = refl
-  put-root (o ∷ os) es ms v e h = absurd h
+  pub put-value : (os : List Open) (es : List JsonValue) (before : List Member) (m : Member) (root v : JsonValue)
+      (e : ℕ) → HaveKeyBase os (length es) (length before)
+      → resume (rules p) t (frames awaits.Value os es (before ++ m ∷ [])) (done (view v) e) ≡ behind_in p t
+      awaits.Value os es (before ++ (m.0, v) ∷ []) root e
+  put-value [] es before m root v e h = absurd h
+  put-value (o ∷ os) es before m root v e h =
+      rw (
+        value-frames o os es before m h.0,
+        above-more member_view o.base before (m.0, v) h.0,
+        take-append-le o.base before ((m.0, v) ∷ []) h.0,
+      ) refl
 
   -- A container ends.
   pub container-closes : (h : Shape) (nest init : List Open) (o : Open) (es : List JsonValue) (ms : List Member)
@@ -156,25 +162,41 @@ module _ (p : Settings) (t : List ℕ) where
   container_of shape.Array depth = array_in (rules p) t depth
   container_of shape.Object depth = object_in (rules p) t depth
 
-  builds : (h : Shape) (depth e : ℕ) (xs : List (PartTree h)) → (container_of h depth).build e xs ≡ built h xs
-  builds shape.Array depth e xs = refl
-  builds shape.Object depth e xs = refl
+  -- where a step behind a part of it leads
+  behind-to : (h : Shape) (o : Open) (os : List Open) (es : List JsonValue) (ms : List Member) (root : JsonValue)
+      (e : ℕ) (u : Step) → resolve_step (forgives p.mode) (step t (container_step h t) e) ≡ u
+      → behind_in p t (awaited_in h) (o ∷ os) es ms root e ≡ resume (rules p) t (frames_below h o os es ms)
+      (parts_step (rules p) t (container_of h (length (frames_below h o os es ms))) (parts_above h o.base es ms) u)
+  behind-to shape.Array o os es ms root e u is =
+      let fs = frames o.outer os (take o.base es) ms in
+      step-to (rules p) t (array_in (rules p) t (length fs)) fs (map view (drop o.base es)) _ u is
+  behind-to shape.Object o os es ms root e u is =
+      let fs = frames o.outer os es (take o.base ms) in
+      step-to (rules p) t (object_in (rules p) t (length fs)) fs (map member_view (drop o.base ms)) _ u is
 
-  builds-empty : (h : Shape) (depth e : ℕ) → (container_of h depth).build e [] ≡ empty_tree h
-  builds-empty shape.Array depth e = refl
-  builds-empty shape.Object depth e = refl
+  -- what a container of these parts ends as
+  built-to : (h : Shape) (fs : List (Frame Text Tree)) (xs : List (PartTree h)) (c : ℕ)
+      → resume (rules p) t fs (parts_step (rules p) t (container_of h (length fs)) xs (closed c))
+      ≡ resume (rules p) t fs (done (built h xs) c)
+  built-to shape.Array fs xs c = refl
+  built-to shape.Object fs xs c = refl
+
+  -- and a fault in it that is not forgiven
+  stuck-to : (h : Shape) (fs : List (Frame Text Tree)) (xs : List (PartTree h)) (k : Kind) (j : ℕ)
+      → forgives p.mode k ≡ false
+      → resume (rules p) t fs (parts_step (rules p) t (container_of h (length fs)) xs (stuck k j)) ≡ fault k j j
+  stuck-to h fs xs k j bad =
+      step-stuck (rules p) t (container_of h (length fs)) fs xs (stuck k j) k j
+      (ap (λ y. cond y (closed j) (stuck k j)) bad) bad
+
+  given-up : (error : ReadError) (j : ℕ) (s : Step) (x : Reading Tree) (r : IsResolved p false error j s)
+      → x ≡ fault (fault_kind r.0.kind) j j → Fails error j x
+  given-up error j s x r h =
+      subst (λ e. Fails e j x) (sym r.1) (h ∙ ap (λ y. fault (fault_kind r.0.kind) y j) (sym r.2))
 
   outermost : (h : Shape) (n m : ℕ) → HaveBases (awaited_in h) [] n m → ⊥
   outermost shape.Array n m b = b
   outermost shape.Object n m b = b
-
-  behind-part : (h : Shape) (o : Open) (os : List Open) (es : List JsonValue) (ms : List Member) (root : JsonValue)
-      (e : ℕ)
-      → behind_in p t (awaited_in h) (o ∷ os) es ms root e ≡ resume (rules p) t (frames_below h o os es ms)
-      (parts_step (rules p) t (container_of h (length (frames_below h o os es ms))) (parts_above h o.base es ms)
-      (step t (container_step h t) e))
-  behind-part shape.Array o os es ms root e = refl
-  behind-part shape.Object o os es ms root e = refl
 
   -- a part of the innermost container is awaited at j
   abbrev pub part_in : Shape → List Open → List JsonValue → List Member → ℕ → Reading Tree
@@ -192,80 +214,53 @@ module _ (p : Settings) (t : List ℕ) where
 
   module _ (h : Shape) (es : List JsonValue) (ms : List Member) (root : JsonValue) (e : ℕ) where
     pub behind-more : (os : List Open) (j : ℕ) → HaveBases (awaited_in h) os (length es) (length ms)
-        → resolve_step (forgives p.mode) (step t (container_step h t) e) ≡ more j → j < length t
+        → step t (container_step h t) e ≡ more j → j < length t
         → behind_in p t (awaited_in h) os es ms root e ≡ part_in h os es ms j
     behind-more [] j b s lt = absurd (outermost h (length es) (length ms) b)
     behind-more (o ∷ os) j b s lt =
-        let fs = frames_below h o os es ms in
-        behind-part h o os es ms root e
-        ∙ step-to (rules p) t (container_of h (length fs)) fs (parts_above h o.base es ms)
-        (step t (container_step h t) e)
-        (more j) s
-        ∙ next-part h o os es ms j lt
+        behind-to h o os es ms root e (more j) (ap (resolve_step (forgives p.mode)) s) ∙ next-part h o os es ms j lt
 
     pub behind-closed : (os : List Open) (c : ℕ) → HaveBases (awaited_in h) os (length es) (length ms)
         → resolve_step (forgives p.mode) (step t (container_step h t) e) ≡ closed c
         → behind_in p t (awaited_in h) os es ms root e ≡ container_in p t h os es ms c
     behind-closed [] c b s = absurd (outermost h (length es) (length ms) b)
     behind-closed (o ∷ os) c b s =
-        let fs = frames_below h o os es ms in
-        let xs = parts_above h o.base es ms in
-        behind-part h o os es ms root e
-        ∙ step-to (rules p) t (container_of h (length fs)) fs xs (step t (container_step h t) e) (closed c) s
-        ∙ ap (λ y. resume (rules p) t fs (done y c)) (builds h (length fs) c xs)
+        behind-to h o os es ms root e (closed c) s
+        ∙ built-to h (frames_below h o os es ms) (parts_above h o.base es ms) c
 
-    pub behind-stuck : (os : List Open) (j : ℕ) (k : Kind) → HaveBases (awaited_in h) os (length es) (length ms)
-        → resolve_step (forgives p.mode) (step t (container_step h t) e) ≡ stuck k j → forgives p.mode k ≡ false
-        → behind_in p t (awaited_in h) os es ms root e ≡ fault k j j
-    behind-stuck [] j k b s bad = absurd (outermost h (length es) (length ms) b)
-    behind-stuck (o ∷ os) j k b s bad =
-        let fs = frames_below h o os es ms in
-        behind-part h o os es ms root e
-        ∙ step-stuck (rules p) t (container_of h (length fs)) fs (parts_above h o.base es ms)
-        (step t (container_step h t) e) k j s bad
+    -- a fault that is not forgiven
+    pub behind-fails : (os : List Open) (j : ℕ) (error : ReadError)
+        → HaveBases (awaited_in h) os (length es) (length ms)
+        → IsResolved p false error j (step t (container_step h t) e)
+        → Fails error j (behind_in p t (awaited_in h) os es ms root e)
+    behind-fails [] j error b r = absurd (outermost h (length es) (length ms) b)
+    behind-fails (o ∷ os) j error b r =
+        given-up error j (step t (container_step h t) e) _ r
+        (behind-to h o os es ms root e (stuck (fault_kind r.0.kind) j) r.3
+        ∙ stuck-to h (frames_below h o os es ms) (parts_above h o.base es ms) (fault_kind r.0.kind) j r.4)
 
   -- A fault where a value is awaited.
-  pub fault-kept : (a : Awaits) (os : List Open) (es : List JsonValue) (ms : List Member) (k : Kind) (x stop : ℕ)
-      → forgives p.mode k ≡ false → resume (rules p) t (frames a os es ms) (fault k x stop) ≡ fault k x stop
-  fault-kept a os es ms k x stop bad = resume-fault (rules p) t (frames a os es ms) k x stop bad
-
-  pub fault-item : (os : List Open) (es : List JsonValue) (ms : List Member) (k : Kind) (x stop : ℕ)
-      → HaveBases awaits.Item os (length es) (length ms) → forgives p.mode k ≡ true
-      → resume (rules p) t (frames awaits.Item os es ms) (fault k x stop) ≡ container_in p t shape.Array os es ms stop
-  fault-item [] es ms k x stop b ok = absurd b
-  fault-item (o ∷ os) es ms k x stop b ok =
-      resume-forgiven (rules p) t (items_frame (map view (drop o.base es)))
-      (frames o.outer os (take o.base es) ms) k x stop ok
-
-  pub fault-value : (os : List Open) (es : List JsonValue) (before : List Member) (key : CowStr Global)
-      (old : JsonValue) (k : Kind) (x stop : ℕ) → HaveKeyBase os (length es) (length before) → forgives p.mode k ≡ true
-      → resume (rules p) t (frames awaits.Value os es (before ++ (key, old) ∷ [])) (fault k x stop) ≡ container_in p t
+  pub fault-value : (os : List Open) (es : List JsonValue) (before : List Member) (m : Member) (k : Kind)
+      (x stop : ℕ) → HaveKeyBase os (length es) (length before) → forgives p.mode k ≡ true
+      → resume (rules p) t (frames awaits.Value os es (before ++ m ∷ [])) (fault k x stop) ≡ container_in p t
       shape.Object os es before stop
-  fault-value [] es before key old k x stop b ok = absurd b
-  fault-value (o ∷ os) es before key old k x stop b ok =
-      ap (λ fs. resume (rules p) t fs (fault k x stop)) (value-frames o os es before key old b.0)
-      ∙ resume-forgiven (rules p) t (members_frame (map member_view (drop o.base before)) (text_view key))
+  fault-value [] es before m k x stop b ok = absurd b
+  fault-value (o ∷ os) es before m k x stop b ok =
+      ap (λ fs. resume (rules p) t fs (fault k x stop)) (value-frames o os es before m b.0)
+      ∙ resume-forgiven (rules p) t (members_frame (map member_view (drop o.base before)) (text_view m.0))
       (frames o.outer os es (take o.base before)) k x stop ok
 
-  pub fault-root : (os : List Open) (es : List JsonValue) (ms : List Member) (x : Reading Tree)
-      → HaveBases awaits.Root os (length es) (length ms) → resume (rules p) t (frames awaits.Root os es ms) x ≡ x
-  fault-root [] es ms x b = refl
-  fault-root (o ∷ os) es ms x b = absurd b
-
-  kept : (k : Kind) (j : ℕ) → forgives p.mode k ≡ false → resolve_step (forgives p.mode) (stuck k j) ≡ stuck k j
-  kept k j bad = ap (λ y. cond y (closed j) (stuck k j)) bad
-
   -- A value begins.
-  module _ (a : Awaits) (os : List Open) (es : List JsonValue) (ms : List Member)
-      (bases : HaveBases a os (length es) (length ms)) (few : length os ≤ 200) (i : ℕ) where
+  module _ (s : Stacks) (a : Awaits) (bases : Stands s a) (few : length s.nest.items ≤ 200) (i : ℕ) where
     abbrev fs : List (Frame Text Tree)
-    fs = frames a os es ms
-
-    deep : length fs ≡ length os
-    deep = length-frames a os (length es) (length ms) es ms bases
+    fs = frames a (reverse s.nest.items) s.items.items s.members.items
 
     low : length fs ≤ 200
-    low = omega (arith, deep)
+    low =
+        let os = reverse s.nest.items in
+        let deep = length-frames a os (length s.items.items) (length s.members.items) s.items.items s.members.items bases
+        in
+        omega (arith, deep, few, length-reverse s.nest.items)
 
     pub value-read : (x : Reading Tree) → ((room : ℕ) → value_at (rules p) t room i ≡ x)
         → value_from (rules p) t fs i ≡ resume (rules p) t fs x
@@ -281,68 +276,57 @@ module _ (p : Settings) (t : List ℕ) where
     pub begins-closed : (h : Shape) (c : ℕ) → start_of (slice_index t i) ≡ opening h
         → resolve_step (forgives p.mode) (step t (container_first h) (i + 1)) ≡ closed c
         → value_from (rules p) t fs i ≡ resume (rules p) t fs (done (empty_tree h) c)
-    begins-closed h c is s =
-        begins h (closed c) is s ∙ ap (λ y. resume (rules p) t fs (done y c)) (builds-empty h (length fs) c)
+    begins-closed shape.Array c is s = begins shape.Array (closed c) is s
+    begins-closed shape.Object c is s = begins shape.Object (closed c) is s
 
-    pub begins-stuck : (h : Shape) (j : ℕ) (k : Kind) → start_of (slice_index t i) ≡ opening h
-        → resolve_step (forgives p.mode) (step t (container_first h) (i + 1)) ≡ stuck k j → forgives p.mode k ≡ false
-        → value_from (rules p) t fs i ≡ fault k j j
-    begins-stuck h j k is s bad =
-        begins h (stuck k j) is s
-        ∙ step-stuck (rules p) t (container_of h (length fs)) fs [] (stuck k j) k j (kept k j bad) bad
+    -- a fault behind its bracket that is not forgiven
+    pub begins-fails : (h : Shape) (j : ℕ) (error : ReadError) → start_of (slice_index t i) ≡ opening h
+        → IsResolved p false error j (step t (container_first h) (i + 1))
+        → Fails error j (value_from (rules p) t fs i)
+    begins-fails h j error is r =
+        given-up error j (step t (container_first h) (i + 1)) _ r
+        (begins h (stuck (fault_kind r.0.kind) j) is r.3 ∙ stuck-to h fs [] (fault_kind r.0.kind) j r.4)
 
-    pub array-limit : (j : ℕ) → length os ≡ 200 → j < length t → start_of (slice_index t i) ≡ start.Array
-        → resolve_step (forgives p.mode) (step t array_first (i + 1)) ≡ more j
-        → value_from (rules p) t fs i ≡ fault recursion_limit j j
-    array-limit j full h is s =
-        let d : suc (length fs) ≡ 201 = omega (arith, deep) in
-        let f : Frame Text Tree = items_frame [] in
-        container-begins (rules p) t good any fs i (more j) low shape.Array is s
-        ∙ items-value (rules p) t good fs [] j h
-        ∙ ap (λ n. resume (rules p) t (f ∷ fs) (value_in (rules p) t n j)) d
-        ∙ ap (resume (rules p) t (f ∷ fs)) (value_in-limit (rules p) t j)
-        ∙ resume-fault (rules p) t (f ∷ fs) recursion_limit j j (limit-kept p.mode)
+  -- A value stands inside too many containers.
+  pub limit-reached : (a : Awaits) (os : List Open) (es : List JsonValue) (ms : List Member) (j : ℕ)
+      → HaveBases a os (length es) (length ms) → length os ≡ 201
+      → value_from (rules p) t (frames a os es ms) j ≡ fault recursion_limit j j
+  limit-reached a os es ms j b full =
+      let fs = frames a os es ms in
+      ap (λ n. resume (rules p) t fs (value_in (rules p) t n j))
+      (length-frames a os (length es) (length ms) es ms b ∙ full)
+      ∙ ap (resume (rules p) t fs) (value_in-limit (rules p) t j)
+      ∙ resume-fault (rules p) t fs recursion_limit j j (limit-kept p.mode)
 
   -- A key begins.
   pub key-opens : (os : List Open) (es : List JsonValue) (ms : List Member) (j : ℕ) (k : CowStr Global) (e m : ℕ)
-      → HaveKeyBase os (length es) (length ms) → j < length t → string_at whole t j ≡ taken (text_view k) e
-      → object_colon t e ≡ taken tt m
+      → HaveKeyBase os (length es) (length ms) → j < length t
+      → scalar_at j (string_at whole t j) ≡ done (text_view k) e → object_colon t e ≡ taken tt m
       → key_in p t os es ms j ≡ value_from (rules p) t (frames awaits.Value os es (ms ++ (k, Null) ∷ [])) m
   key-opens [] es ms j k e m b h v s = absurd b
   key-opens (o ∷ os) es ms j k e m b h v s =
       key-value (rules p) t good (frames o.outer os es (take o.base ms)) (map member_view (drop o.base ms)) j e m
-      (text_view k) h v s
-      ∙ ap (λ fs. value_from (rules p) t fs m) (sym (value-frames o os es ms k Null b.0))
-
-  pub key-limit : (os : List Open) (es : List JsonValue) (ms : List Member) (j : ℕ) (k : Text) (e m : ℕ)
-      → HaveKeyBase os (length es) (length ms) → j < length t → string_at whole t j ≡ taken k e
-      → object_colon t e ≡ taken tt m → length os ≡ 201 → key_in p t os es ms j ≡ fault recursion_limit m m
-  key-limit [] es ms j k e m b h v s full = absurd b
-  key-limit (o ∷ os) es ms j k e m b h v s full =
-      let fs = frames o.outer os es (take o.base ms) in
-      let f : Frame Text Tree = members_frame (map member_view (drop o.base ms)) k in
-      let d : suc (length fs) ≡ 201 = omega
-      (arith, full, length-frames o.outer os (length es) o.base es (take o.base ms) b.1) in
-      key-value (rules p) t good fs (map member_view (drop o.base ms)) j e m k h v s
-      ∙ ap (λ n. resume (rules p) t (f ∷ fs) (value_in (rules p) t n m)) d
-      ∙ ap (resume (rules p) t (f ∷ fs)) (value_in-limit (rules p) t m)
-      ∙ resume-fault (rules p) t (f ∷ fs) recursion_limit m m (limit-kept p.mode)
+      (text_view k) h (scalar-taken j (string_at whole t j) (text_view k) e v) s
+      ∙ ap (λ fs. value_from (rules p) t fs m) (sym (value-frames o os es ms (k, Null) b.0))
 
   -- a fault of the key, and of its colon
-  pub key-fails : (os : List Open) (es : List JsonValue) (ms : List Member) (j : ℕ) (k : Kind) (x : ℕ)
-      → HaveKeyBase os (length es) (length ms) → j < length t → string_at whole t j ≡ failed k x
-      → key_in p t os es ms j ≡ key_fault_in p t os es ms k x j
-  key-fails [] es ms j k x b h v = absurd b
-  key-fails (o ∷ os) es ms j k x b h v =
-      key-failed (rules p) t good (frames o.outer os es (take o.base ms)) (map member_view (drop o.base ms)) j x k h v
+  pub key-fails : (os : List Open) (es : List JsonValue) (ms : List Member) (j : ℕ) (k : Kind) (x stop : ℕ)
+      → HaveKeyBase os (length es) (length ms) → j < length t → scalar_at j (string_at whole t j) ≡ fault k x stop
+      → key_in p t os es ms j ≡ key_fault_in p t os es ms k x stop
+  key-fails [] es ms j k x stop b h v = absurd b
+  key-fails (o ∷ os) es ms j k x stop b h v =
+      let key = scalar-failed j (string_at whole t j) k x stop v in
+      key-failed (rules p) t good (frames o.outer os es (take o.base ms)) (map member_view (drop o.base ms)) j x k h
+      key.0 ∙ ap (key_fault_in p t (o ∷ os) es ms k x) (sym key.1)
 
-  pub colon-fails : (os : List Open) (es : List JsonValue) (ms : List Member) (j : ℕ) (key : Text) (e x : ℕ) (k : Kind)
-      → HaveKeyBase os (length es) (length ms) → j < length t → string_at whole t j ≡ taken key e
-      → object_colon t e ≡ failed k x → key_in p t os es ms j ≡ key_fault_in p t os es ms k x x
-  colon-fails [] es ms j key e x k b h v s = absurd b
-  colon-fails (o ∷ os) es ms j key e x k b h v s =
-      colon-failed (rules p) t good (frames o.outer os es (take o.base ms))
-      (map member_view (drop o.base ms)) j e x key k h v s
+  pub colon-fails : (os : List Open) (es : List JsonValue) (ms : List Member) (j : ℕ) (key : Text) (e x stop : ℕ)
+      (k : Kind) → HaveKeyBase os (length es) (length ms) → j < length t
+      → scalar_at j (string_at whole t j) ≡ done key e → (object_colon t e ≡ failed k x) × (stop ≡ x)
+      → key_in p t os es ms j ≡ key_fault_in p t os es ms k x stop
+  colon-fails [] es ms j key e x stop k b h v s = absurd b
+  colon-fails (o ∷ os) es ms j key e x stop k b h v s =
+      colon-failed (rules p) t good (frames o.outer os es (take o.base ms)) (map member_view (drop o.base ms)) j e x key
+      k h (scalar-taken j (string_at whole t j) key e v) s.0 ∙ ap (key_fault_in p t (o ∷ os) es ms k x) (sym s.1)
 
   pub key-kept : (os : List Open) (es : List JsonValue) (ms : List Member) (k : Kind) (x stop : ℕ)
       → forgives p.mode k ≡ false → key_fault_in p t os es ms k x stop ≡ fault k x stop
@@ -353,55 +337,22 @@ module _ (p : Settings) (t : List ℕ) where
       (if_forgiven-no (rules p) t (λ e. (rules p).object 0 e (map member_view (drop o.base ms))) k x stop bad)
       ∙ resume-fault (rules p) t fs k x stop bad
 
-  pub key-forgiven : (os : List Open) (es : List JsonValue) (ms : List Member) (k : Kind) (x stop : ℕ)
-      → HaveKeyBase os (length es) (length ms) → forgives p.mode k ≡ true
-      → key_fault_in p t os es ms k x stop ≡ container_in p t shape.Object os es ms stop
-  key-forgiven [] es ms k x stop b ok = absurd b
-  key-forgiven (o ∷ os) es ms k x stop b ok =
-      ap (resume (rules p) t (frames o.outer os es (take o.base ms)))
-      (if_forgiven-yes (rules p) t (λ e. (rules p).object 0 e (map member_view (drop o.base ms))) k x stop ok)
-
 -- a value that is there needs no key any more
 pub key-base : (os : List Open) (n m : ℕ) → HaveBases awaits.Value os n m → HaveKeyBase os n m
 key-base [] n m h = absurd h
 key-base (o ∷ os) n m h = (omega (arith, h.0), h.1)
 
-pub item-base : (os : List Open) (n m : ℕ) → HaveBases awaits.Item os n m → HaveBases awaits.Item os (n + 1) m
-item-base [] n m h = absurd h
-item-base (o ∷ os) n m h = (omega (arith, h.0), h.1)
-
-pub value-base : (os : List Open) (n m : ℕ) → HaveBases awaits.Value os n m → 0 < m
-value-base [] n m h = absurd h
-value-base (o ∷ os) n m h = omega (arith, h.0)
-
-pub array-below : (init : List Open) (o : Open) (n m : ℕ) → HaveBases awaits.Item (reverse (init ++ o ∷ [])) n m
-    → (o.base ≤ n) × HaveBases o.outer (reverse init) o.base m
-array-below init o n m h = subst (λ os. HaveBases awaits.Item os n m) (reverse-append init (o ∷ [])) h
-
-pub object-below : (init : List Open) (o : Open) (n m : ℕ) → HaveKeyBase (reverse (init ++ o ∷ [])) n m
-    → (o.base ≤ m) × HaveBases o.outer (reverse init) n o.base
-object-below init o n m h = subst (λ os. HaveKeyBase os n m) (reverse-append init (o ∷ [])) h
-
-pub key-above : (os : List Open) (n m : ℕ) → HaveKeyBase os n m → HaveBases awaits.Value os n (m + 1)
-key-above [] n m h = absurd h
-key-above (o ∷ os) n m h = (omega (arith, h.0), h.1)
-
-pub key-of-value : (os : List Open) (n m : ℕ) → HaveBases awaits.Value os n m → HaveKeyBase os n (m - 1)
-key-of-value [] n m h = absurd h
-key-of-value (o ∷ os) n m h = (omega (arith, h.0), h.1)
+-- and behind a key one is awaited
+pub key-above : (os : List Open) (n : ℕ) (ms : List Member) (m : Member) → HaveKeyBase os n (length ms)
+    → HaveBases awaits.Value os n (length (ms ++ m ∷ []))
+key-above [] n ms m h = absurd h
+key-above (o ∷ os) n ms m h = (omega (arith, h.0, length-append ms (m ∷ [])), h.1)
 
 -- Nothing is held before the first value.
 pub root-stands : (nest : List Open) (es : List JsonValue) (ms : List Member) → nest ≡ [] → es ≡ [] → ms ≡ []
     → HaveBases awaits.Root (reverse nest) (length es) (length ms)
 root-stands nest es ms a b c =
     subst (λ os. HaveBases awaits.Root (reverse os) (length es) (length ms)) (sym a) (ap length b, ap length c)
-
-pub root-begins : (p : Settings) (t : List ℕ) (nest : List Open) (es : List JsonValue) (ms : List Member) (i : ℕ)
-    → nest ≡ []
-    → value_at (rules p) t 200 i ≡ value_from (rules p) t (frames awaits.Root (reverse nest) es ms) i
-root-begins p t nest es ms i e =
-    sym (value_in-room (rules p) t 0 i (omega arith))
-    ∙ ap (λ os. value_from (rules p) t (frames awaits.Root (reverse os) es ms) i) (sym e)
 
 pub root-from : (p : Settings) (t : List ℕ) (os : List Open) (es : List JsonValue) (ms : List Member) (n m i : ℕ)
     → HaveBases awaits.Root os n m

@@ -1,8 +1,6 @@
-use Rattle.std.proofs.Common.{◌≡◌, ◌≤◌, refl, ap, arith, length, reverse}
 use Rattle.jiter_scan.specs.declared.errors.FaultKind.TheVariants.{RecursionLimitExceeded}
-use Rattle.std.proofs.lemmas.List.{length-reverse}
-use Rattle.jiter_value.specs.Stacks.{from_value, base_of}
-use Rattle.jiter_value.specs.declared.stacks.Open.{Open}
+use Rattle.std.proofs.Common.{refl}
+use Rattle.jiter_value.specs.Stacks.{from_value}
 use Rattle.jiter_value.proofs.TurnOutcomes.{gave-up}
 use Rattle.jiter_value.proofs.Shapes.{shape-opens, reaches-part, array-too-deep, with_nest, part-held}
 use Rattle.jiter_value.proofs.turns.open.Goals as goal
@@ -14,13 +12,10 @@ returns-then-is_full-clause-reaches c =
     let p = a.settings in
     let t = a.bytes.now in
     let full = c.if-is_full.ensures.full refl in
-    let few : length (reverse s.nest.items) ≤ 200 = omega (arith, length-reverse s.nest.items, c.requires.room) in
-    let starts = rw full.0 at c.requires.bracket in
-    let is = rw full.0 at c.requires.part in
-    gave-up p t c.too_deep.new.stacks c.too_deep.result (record { kind = RecursionLimitExceeded; index = a.next })
-    a.next
+    gave-up p t c.too_deep.new.stacks c.too_deep.result (record { kind = RecursionLimitExceeded; index = a.next }) a.next
     (from_value p t s a.awaits a.at) c.too_deep.ensures.place c.too_deep.ensures.error
-    (array-too-deep p t s a.awaits c.requires.stands few a.at a.next full.1 c.requires.within.1 starts is)
+    (array-too-deep p t s a.awaits c.requires.stands c.requires.room a.at a.next full.1 c.requires.within.1
+    (rw full.0 at c.requires.bracket) (rw full.0 at c.requires.part))
 
 pub returns-in-Ok-clause-reaches : goal.returns-in-Ok-clause-reaches
 returns-in-Ok-clause-reaches c =
@@ -29,21 +24,13 @@ returns-in-Ok-clause-reaches c =
     let p = a.settings in
     let t = a.bytes.now in
     let n = c.push_small.new.items in
-    let few : length (reverse s.nest.items) ≤ 200 = omega (arith, length-reverse s.nest.items, c.requires.room) in
-    let o : Open = record { outer = a.awaits; base = c.base_of-base.result } in
-    let is : o ≡ record { outer = a.awaits; base = base_of a.shape s } = ap
-    (λ b. record { outer = a.awaits; base = b }) c.base_of-base.ensures in
-    let opens = shape-opens p t s a.awaits c.requires.stands few a.at a.shape a.next o n c.in-Ok.ensures.ok is
-    c.requires.within.1 c.requires.bracket c.requires.part (c.if-is_full.ensures.few refl) in
-    rw c.part_of.ensures
-    (reaches-part p t (with_nest s n) a.shape a.next (from_value p t s a.awaits a.at) opens.0 opens.1)
+    let opens = shape-opens p t s a.awaits c.requires.stands c.requires.room a.at a.shape a.next n
+    (rw c.base_of-base.ensures at c.in-Ok.ensures.ok) c.requires.within.1 c.requires.bracket c.requires.part
+    (c.if-is_full.ensures.few refl) in
+    rw c.part_of.ensures (reaches-part p t (with_nest s n) a.shape a.next (from_value p t s a.awaits a.at) opens.0 opens.1)
 
 pub returns-in-Ok-clause-held : goal.returns-in-Ok-clause-held
 returns-in-Ok-clause-held c =
     let a = c.args in
-    let s = a.stacks.now in
-    let n = c.push_small.new.items in
-    let o : Open = record { outer = a.awaits; base = c.base_of-base.result } in
-    let is : o ≡ record { outer = a.awaits; base = base_of a.shape s } = ap
-    (λ b. record { outer = a.awaits; base = b }) c.base_of-base.ensures in
-    rw c.part_of.ensures (part-held s a.awaits a.shape o n c.in-Ok.ensures.ok is)
+    rw c.part_of.ensures
+    (part-held a.stacks.now a.awaits a.shape c.push_small.new.items (rw c.base_of-base.ensures at c.in-Ok.ensures.ok))

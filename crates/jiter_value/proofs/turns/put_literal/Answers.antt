@@ -10,11 +10,11 @@ returns-in-Null-clause-put c =
     let a = c.args in
     let t = a.bytes.now in
     let e = c.in-Some.end in
-    let n = c.put_reserved in
+    let n = c.put_reserved.ensures in
     let l = a.literal in
-    put-at t a.stacks.now n.new.stacks a.awaits a.at e _ (literal_tree l)
+    put-at _ (literal_tree l)
     (view_null ∙ ap literal_tree (sym c.in-Null.is))
-    c.requires.stands c.requires.few n.ensures.value n.ensures.stands n.ensures.nest n.ensures.held
+    c.requires.stands c.requires.few n.value n.stands n.nest n.held
     (ap (λ x. size (literal_tree x)) c.in-Null.is) c.in-Some.ensures.within.0 c.in-Some.ensures.within.1
     (λ p room. literal-read p t a.at e room l c.requires.begins c.in-Some.ensures.value)
 
@@ -23,11 +23,11 @@ returns-in-True-clause-put c =
     let a = c.args in
     let t = a.bytes.now in
     let e = c.in-Some.end in
-    let n = c.put_reserved-in-True in
+    let n = c.put_reserved-in-True.ensures in
     let l = a.literal in
-    put-at t a.stacks.now n.new.stacks a.awaits a.at e _ (literal_tree l)
-    (view_bool true ∙ ap literal_tree (sym c.in-True.is)) c.requires.stands c.requires.few n.ensures.value
-    n.ensures.stands n.ensures.nest n.ensures.held (ap (λ x. size (literal_tree x)) c.in-True.is)
+    put-at _ (literal_tree l)
+    (view_bool true ∙ ap literal_tree (sym c.in-True.is)) c.requires.stands c.requires.few n.value
+    n.stands n.nest n.held (ap (λ x. size (literal_tree x)) c.in-True.is)
     c.in-Some.ensures.within.0 c.in-Some.ensures.within.1
     (λ p room. literal-read p t a.at e room l c.requires.begins c.in-Some.ensures.value)
 
@@ -36,10 +36,10 @@ returns-in-False-clause-put c =
     let a = c.args in
     let t = a.bytes.now in
     let e = c.in-Some.end in
-    let n = c.put_reserved-in-False in
+    let n = c.put_reserved-in-False.ensures in
     let l = a.literal in
-    put-at t a.stacks.now n.new.stacks a.awaits a.at e _ (literal_tree l)
-    (view_bool false ∙ ap literal_tree (sym c.in-False.is)) c.requires.stands c.requires.few n.ensures.value
-    n.ensures.stands n.ensures.nest n.ensures.held (ap (λ x. size (literal_tree x)) c.in-False.is)
+    put-at _ (literal_tree l)
+    (view_bool false ∙ ap literal_tree (sym c.in-False.is)) c.requires.stands c.requires.few n.value
+    n.stands n.nest n.held (ap (λ x. size (literal_tree x)) c.in-False.is)
     c.in-Some.ensures.within.0 c.in-Some.ensures.within.1
     (λ p room. literal-read p t a.at e room l c.requires.begins c.in-Some.ensures.value)

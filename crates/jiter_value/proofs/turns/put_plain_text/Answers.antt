@@ -12,9 +12,9 @@ returns-clause-put c =
     let scanned = c.scan_string-to in
     let to = scanned.result.0 in
     let text = c.ascii_between-text.ensures in
-    let n = c.put_reserved in
-    put-at t a.stacks.now n.new.stacks a.awaits a.at (to + 1) _ (string (between t (a.at + 1) to))
+    let n = c.put_reserved.ensures in
+    put-at _ (string (between t (a.at + 1) to))
     (view_str _ ∙ ap (λ w. string (record { owned = false; bytes = w })) text.text)
-    c.requires.stands c.requires.few n.ensures.value n.ensures.stands n.ensures.nest n.ensures.held
+    c.requires.stands c.requires.few n.value n.stands n.nest n.held
     refl (omega (arith, scanned.ensures.within.0)) (omega (arith, c.if-to-bytes.false))
     (λ p room. text-read p t a.at (to + 1) room (between t (a.at + 1) to) c.requires.begins text.whole text.kept)

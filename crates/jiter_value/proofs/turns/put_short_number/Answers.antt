@@ -23,10 +23,10 @@ returns-in-Int-clause-put c =
     let from = c.minus_end-from.result in
     let minus = c.minus_end-from.ensures.minus in
     let found = c.in-Int.ensures in
-    let n = c.put_reserved in
+    let n = c.put_reserved.ensures in
     let z = if nat_lt a.at from then minus_of m else pos m in
-    put-at t a.stacks.now n.new.stacks a.awaits a.at e _ (int z) c.signed.ensures
-    c.requires.stands c.requires.few n.ensures.value n.ensures.stands n.ensures.nest n.ensures.held
+    put-at _ (int z) c.signed.ensures
+    c.requires.stands c.requires.few n.value n.stands n.nest n.held
     refl (omega (arith, found.some, IsMinusTo-le t a.at from minus)) found.within
     (λ p room. number-read p t a.at e room (integer z) c.requires.begins
     (short-signed t p.allow_inf_nan a.at e from m minus found))
@@ -39,11 +39,11 @@ returns-in-Float-clause-put c =
     let from = c.minus_end-from.result in
     let minus = c.minus_end-from.ensures.minus in
     let found = c.in-Float.ensures in
-    let n = c.put_reserved-in-Float in
+    let n = c.put_reserved-in-Float.ensures in
     let w = slice_range t a.at e in
-    put-at t a.stacks.now n.new.stacks a.awaits a.at e _ (float (record { owned = false; bytes = w }))
+    put-at _ (float (record { owned = false; bytes = w }))
     (view_float _ ∙ ap (λ w. float (record { owned = false; bytes = w })) c.ascii_text-text.ensures)
-    c.requires.stands c.requires.few n.ensures.value n.ensures.stands n.ensures.nest n.ensures.held
+    c.requires.stands c.requires.few n.value n.stands n.nest n.held
     refl (omega (arith, found.some, IsMinusTo-le t a.at from minus)) found.within
     (λ p room. number-read p t a.at e room (number.float w) c.requires.begins
     (short-signed_float t p.allow_inf_nan a.at e from minus found))

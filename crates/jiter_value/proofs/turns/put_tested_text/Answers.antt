@@ -10,9 +10,9 @@ returns-in-Some-clause-put c =
     let a = c.args in
     let t = a.bytes.now in
     let found = c.in-Some.ensures in
-    let n = c.put_reserved in
-    put-at t a.stacks.now n.new.stacks a.awaits a.at (a.to + 1) _ (string (between t (a.at + 1) a.to))
+    let n = c.put_reserved.ensures in
+    put-at _ (string (between t (a.at + 1) a.to))
     (view_str _ ∙ ap (λ w. string (record { owned = false; bytes = w })) found.text)
-    c.requires.stands c.requires.few n.ensures.value n.ensures.stands n.ensures.nest n.ensures.held
+    c.requires.stands c.requires.few n.value n.stands n.nest n.held
     refl (omega (arith, c.requires.within.0)) (omega (arith, c.requires.within.1))
     (λ p room. text-read p t a.at (a.to + 1) room (between t (a.at + 1) a.to) c.requires.begins found.whole found.kept)

@@ -1,21 +1,19 @@
-use Rattle.std.proofs.Common.{◌≡◌, ◌≤◌, ◌∙◌, ap, subst, length}
-use Rattle.jiter_value.proofs.ParsedDocuments.{error-index, error-ends}
+use Rattle.std.proofs.Common.{◌∙◌, ap, arith, length, rules}
+use Rattle.jiter_value.proofs.ParsedDocuments.{error-stands}
 use Rattle.jiter_value.proofs.value.read_text.Goals as goal
 
-pub returns-in-Err-clause-index : goal.returns-in-Err-clause-index
-returns-in-Err-clause-index c =
+pub returns-in-Err : goal.returns-in-Err
+returns-in-Err c =
     let a = c.args in
-    let t = a.bytes.now in
-    let i = c.read_whole.new.parser.index in
-    let same : c.read_whole.new.parser.bytes.now ≡ t = ap (λ b. b.now)
-    (c.in-Err.ensures.moves.same ∙ c.new-parser.ensures.same) in
-    let within : i ≤ length t = subst (λ u. i ≤ length u) same c.read_whole.new.parser.within in
-    error-index a.settings.allow_inf_nan t a.settings.mode i c.error_at.result c.in-Err.error c.error_at.ensures
-    (rw c.new-parser.ensures.same at c.in-Err.ensures.value) within
-
-pub returns-in-Err-clause-ends : goal.returns-in-Err-clause-ends
-returns-in-Err-clause-ends c =
-    let a = c.args in
-    let i = c.read_whole.new.parser.index in
-    error-ends a.settings.allow_inf_nan a.bytes.now a.settings.mode i c.error_at.result c.in-Err.error
-    c.error_at.ensures (rw c.new-parser.ensures.same at c.in-Err.ensures.value)
+    let read = c.in-Err.ensures in
+    let same = ap (λ b. length b.now) (read.moves.same ∙ c.new-parser.ensures.same) in
+    let at = error-stands a.settings.allow_inf_nan a.bytes.now a.settings.mode c.read_whole.new.parser.index
+    c.error_at.result c.in-Err.error c.error_at.ensures (rw c.new-parser.ensures.same at read.value)
+    (omega (arith, c.read_whole.new.parser.within, same)) in
+    record {
+      answer = search rules;
+      index = at.0;
+      ends = at.1;
+      memory = search rules;
+      place = search rules;
+    }

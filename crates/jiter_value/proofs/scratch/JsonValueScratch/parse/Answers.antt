@@ -4,30 +4,28 @@ use Rattle.jiter_value.proofs.ParsedDocuments.{answer-off, parse-found, parse-ac
 use Rattle.jiter_value.proofs.ParsedDocuments.{parse-alive, parse-early}
 use Rattle.jiter_value.proofs.scratch.JsonValueScratch.parse.Goals as goal
 
-pub returns-clause-found : goal.returns-clause-found
-returns-clause-found c = search (rules, parse-found, answer-off)
-
-pub returns-clause-accepts : goal.returns-clause-accepts
-returns-clause-accepts c =
-    parse-accepts c.args.allow_inf_nan c.args.bytes.now c.args.allow_partial c.read_text_on.result
-    c.read_text_on.ensures.answer
-
-pub returns-clause-one : goal.returns-clause-one
-returns-clause-one c = one_node c.args.allow_inf_nan c.args.bytes.now
-
-pub returns-clause-cut : goal.returns-clause-cut
-returns-clause-cut c =
-    parse-cut c.args.allow_inf_nan c.args.bytes.now c.args.allow_partial c.read_text_on.result
-    c.read_text_on.ensures.answer
-
-pub returns-clause-first : goal.returns-clause-first
-returns-clause-first c = search (rules, answer-off)
-
-pub returns-clause-dead : goal.returns-clause-dead
-returns-clause-dead c = search (rules, parse-dead, answer-off)
-
-pub returns-clause-alive : goal.returns-clause-alive
-returns-clause-alive c = search (rules, parse-alive, answer-off)
-
-pub returns-clause-early : goal.returns-clause-early
-returns-clause-early c = search (rules, parse-early, answer-off)
+pub returns : goal.returns
+returns c =
+    let names = c.args.allow_inf_nan in
+    let mode = c.args.allow_partial in
+    let t = c.args.bytes.now in
+    let r = c.read_text_on.result in
+    let read = c.read_text_on.ensures in
+    let whole = answer-off names t mode r read.answer in
+    record {
+      elements = search rules;
+      members = search rules;
+      found = λ off. parse-found names t r (whole off);
+      accepts = parse-accepts names t mode r read.answer;
+      one = one_node names t;
+      cut = parse-cut names t mode r read.answer;
+      answer = read.answer;
+      first = whole;
+      dead = λ off. parse-dead names t r (whole off);
+      alive = λ off. parse-alive names t r (whole off);
+      index = read.index;
+      ends = read.ends;
+      early = λ off. parse-early names t r (whole off);
+      memory = read.memory;
+      place = read.place;
+    }

@@ -1,62 +1,40 @@
-use Rattle.std.proofs.Common.{length, rules, subst}
-use Rattle.jiter_steps.specs.Answer.{answer_in}
+use Rattle.std.proofs.Common.{◌≡◌, true≢false, length, refl, sym, ap, arith}
+use Rattle.std.specs.Prelude.{Some, option_map}
+use Rattle.jiter_steps.specs.Answer.{answer, answer_in}
 use Rattle.jiter_steps.specs.Cut.{cut}
 use Rattle.jiter_steps.specs.Node.{value_of}
-use Rattle.jiter_value.specs.Owned.{AnswersOwned}
-use Rattle.jiter_value.proofs.OwnedAnswers.{owned-answers, owned-found, owned-accepts, owned-cut, owned-dead}
-use Rattle.jiter_value.proofs.OwnedAnswers.{owned-alive}
-use Rattle.jiter_value.proofs.OwnedAnswers.{owned-early, owned-index, owned-ends, owned-memory, owned-place}
+use Rattle.jiter_steps.proofs.Blanks.{past_blanks-bound}
+use Rattle.jiter_value.specs.Owned.{owned_tree}
+use Rattle.jiter_value.proofs.OwnedAnswers.{owned-answers, owned-found, owned-tree, owned-err, owned-early, owned-memory}
 use Rattle.jiter_value.proofs.value.JsonValue.parse_owned.Goals as goal
 
-pub returns-clause-found : goal.returns-clause-found
-returns-clause-found c = λ off.
+pub returns : goal.returns
+returns c =
     let a = c.args in
-    owned-found a.allow_inf_nan a.bytes.now c.parse_with_config-read.result c.own_answer.result (length a.bytes.now)
-    c.own_answer.ensures (c.parse_with_config-read.ensures.found off)
-
-pub returns-clause-accepts : goal.returns-clause-accepts
-returns-clause-accepts c = λ n d.
-    let a = c.args in
-    owned-accepts (value_of a.bytes.now n) c.parse_with_config-read.result c.own_answer.result (length a.bytes.now)
-    c.own_answer.ensures (c.parse_with_config-read.ensures.accepts n d)
-
-pub returns-clause-cut : goal.returns-clause-cut
-returns-clause-cut c = λ on f.
-    let a = c.args in
-    owned-cut (cut a.allow_inf_nan f.text f.node f.place a.allow_partial) c.parse_with_config-read.result
-    c.own_answer.result (length a.bytes.now) c.own_answer.ensures (c.parse_with_config-read.ensures.cut on f)
-
-pub returns-clause-answer : goal.returns-clause-answer
-returns-clause-answer c = search (rules, owned-answers)
-
-pub returns-clause-first : goal.returns-clause-first
-returns-clause-first c = λ off.
-    let a = c.args in
-    subst (λ m. AnswersOwned c.own_answer.result (answer_in a.allow_inf_nan m a.bytes.now)) off
-    (owned-answers c.parse_with_config-read.result c.own_answer.result (length a.bytes.now)
-    (answer_in a.allow_inf_nan a.allow_partial a.bytes.now) c.own_answer.ensures
-    c.parse_with_config-read.ensures.answer)
-
-pub returns-clause-dead : goal.returns-clause-dead
-returns-clause-dead c = λ off.
-    let a = c.args in
-    owned-dead a.allow_inf_nan a.bytes.now c.parse_with_config-read.result c.own_answer.result (length a.bytes.now)
-    c.own_answer.ensures (c.parse_with_config-read.ensures.dead off)
-
-pub returns-clause-alive : goal.returns-clause-alive
-returns-clause-alive c = search (rules, owned-alive, c.parse_with_config-read.ensures.alive)
-
-pub returns-clause-early : goal.returns-clause-early
-returns-clause-early c = search (rules, owned-early, c.parse_with_config-read.ensures.early)
-
-pub returns-clause-index : goal.returns-clause-index
-returns-clause-index c = search (rules, owned-index)
-
-pub returns-clause-ends : goal.returns-clause-ends
-returns-clause-ends c = search (rules, owned-ends)
-
-pub returns-clause-memory : goal.returns-clause-memory
-returns-clause-memory c = search (rules, owned-memory)
-
-pub returns-clause-place : goal.returns-clause-place
-returns-clause-place c = search (rules, owned-place)
+    let names = a.allow_inf_nan in
+    let mode = a.allow_partial in
+    let t = a.bytes.now in
+    let r = c.parse_with_config-read.result in
+    let read = c.parse_with_config-read.ensures in
+    let s = c.own_answer.result in
+    let i = length t in
+    let is = c.own_answer.ensures in
+    record {
+      found = λ off. owned-found names t r s i is (read.found off);
+      accepts = λ n d.
+          owned-tree r s i (λ v. v ≡ value_of t n) (λ v. v ≡ owned_tree (value_of t n)) (λ v h. ap owned_tree h) is
+          (read.accepts n d);
+      one = read.one;
+      cut = λ on f. let left = cut names f.text f.node f.place mode in
+          owned-tree r s i (λ v. left ≡ Some v) (λ v. option_map owned_tree left ≡ Some v)
+          (λ v h. ap (option_map owned_tree) h) is (read.cut on f);
+      answer = owned-answers r s i (answer_in names mode t) is read.answer;
+      first = λ off. owned-answers r s i (answer names t) is (read.first off);
+      dead = λ off. owned-err r s i _ is (read.dead off) (λ d. absurd (d.2 refl));
+      alive = λ off. owned-err r s i _ is (read.alive off) (λ on. absurd (true≢false (sym on)));
+      index = owned-err r s i _ is read.index (omega arith);
+      ends = owned-err r s i _ is read.ends (λ k. refl);
+      early = λ off early. owned-early r s i is (read.early off early);
+      memory = owned-memory names mode t r s i is read.answer read.memory;
+      place = owned-err r s i _ is read.place (λ m. past_blanks-bound t 0 (omega arith));
+    }
