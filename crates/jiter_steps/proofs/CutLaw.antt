@@ -337,7 +337,8 @@ cut-law names t n k mode d is lt within = by (cases_lt k (end n)) where
   by (inr le) = (value_of t n, end n, reads.0 le, node-whole names t mode k n d.spelled le)
   by (inl gt) =
       let left = container-cut names t k within mode n is lt in
-      let read = left-answered names t k within mode left.0 x (subst (λ o. Leaves (take k t) o x) left.1 (reads.1 gt)) in
+      let leaves = subst (λ o. Leaves (take k t) o x) left.1 (reads.1 gt) in
+      let read = left-answered names t k within mode left.0 x leaves in
       (left.0, read.0, read.1, left.1)
 
 -- What a document stands for is answered in a partial mode too, with its end.

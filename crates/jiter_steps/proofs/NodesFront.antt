@@ -26,6 +26,7 @@ use Rattle.jiter_steps.specs.declared.parse.Literal.{Literal}
 use Rattle.jiter_steps.proofs.SpelledParts.{nodes_list, members_list, nodes-listed, members-listed, key-taken}
 use Rattle.jiter_steps.specs.declared.parse.Shape.TheVariants as shape
 use Rattle.jiter_steps.proofs.CutParts.{EndsInput, Cuts, cuts, CutParts}
+use Rattle.jiter_steps.proofs.Completions.{no-blanks}
 use Rattle.jiter_steps.proofs.Front.{front-length, front-stands, front-word}
 use Rattle.jiter_steps.proofs.Instances.{nodes-advances}
 use Rattle.jiter_steps.proofs.NodeRules.{nodes, nodes_of, node_members_of, key_of}
@@ -76,7 +77,7 @@ module _ (t : List ℕ) (k : ℕ) (within : k ≤ length t) where
 
     part-early : (qs : List Q) (j : ℕ) (x : Reading Q) → j < k → c.part j ≡ x → CutShort k x → EndsEarly (At qs j)
     part-early qs j (done q e) lt is h =
-        let last = ends.end-cut e h in
+        let last = ends.next-cut e e (no-blanks t e e refl (omega arith)) (omega arith) (omega arith) in
         subst EndsEarly (sym (parts-part r u c goes j e qs q (stuck last.0 k) (in-front j lt) is last.1))
         (fault-early (λ e. c.build e (qs ++ q ∷ [])) last.0 k k last.2)
     part-early qs j (fault kind x stop) lt is h =

@@ -282,9 +282,7 @@ module _ (t : List ℕ) where
       let at_end : x + length f ≡ length u = omega arith in
       let front = stands-too t u x (front-kept t x within (f ++ [])) i x h.front (omega arith) h.stands in
       let all = stands-append u i x (x + length f) h.front f front (zero-stands x within f h.zero) in
-      let decimal = subst IsDecimal (slice-stands u i (x + length f) (h.front ++ f) all) h.is in
-      let spelled : SpellsNumber names u i (x + length f) =
-      record { ordered = omega arith; within = omega arith; text = inl decimal } in (
+      let text = inl (subst IsDecimal (slice-stands u i (x + length f) (h.front ++ f) all) h.is) in (
         omega arith,
         record {
           filler = f;
@@ -292,7 +290,8 @@ module _ (t : List ℕ) where
           is_filler = zero-filler f h.zero;
           are_closers = tt;
           within = within;
-          is = subst (SpellsNumber names u i) at_end spelled;
+          is = subst (SpellsNumber names u i) at_end
+              (record { ordered = omega arith; within = omega arith; text = text });
         },
       )
 

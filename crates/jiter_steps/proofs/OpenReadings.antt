@@ -145,11 +145,10 @@ module _ (names : Bool) where
         ends = omega arith;
       } in
       let blanks = no-blanks u (x + 3) (x + 3) refl (omega arith) in
-      let n = grammar.number (x + 3) (x + 4) in
+      let value = zero-node u (x + 3) (x + 4) (omega arith) (taken-behind t x within w 3 48 refl) in
       let spelled : SpellsKey u key (x + 3) =
       record { string = string; colon = x + 3; behind = behind; blanks = blanks } in
-      let value = zero-node u (x + 3) (x + 4) (omega arith) (taken-behind t x within w 3 48 refl) in
-      ((key, n), record { begins = refl; key = spelled; value = value; limit = omega arith })
+      ((key, _), record { begins = refl; key = spelled; value = value; limit = omega arith })
 
   -- Inside a container with this room.
   module _ (t : List ℕ) (room : ℕ)
@@ -266,10 +265,10 @@ module _ (names : Bool) where
         le,
         close-map t j _ _
             (λ w within h.
-            let u = take j t ++ w in
-            let value : IsNodeAt names u i (grammar.number i (length u)) (length u) =
-            record { spelled = h; begins = refl; ends = refl; within = omega arith } in
-            (grammar.number i (length u), (value, omega arith)))
+            let end_of_text = length (take j t ++ w) in (
+              grammar.number i end_of_text,
+              (record { spelled = h; begins = refl; ends = refl; within = omega arith }, omega arith),
+            ))
             ends,
       )
 

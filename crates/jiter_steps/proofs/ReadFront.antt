@@ -184,7 +184,8 @@ module _ {K A : Type 0} (r : Rules K A) (names : Bool) (t : List ℕ) (k : ℕ) 
       member-reads : InnerReads → (j : ℕ) (m : Key × Node) (e : ℕ) → IsMember names t room j m e → j < k
           → ReadTo t k within see_member IsCutMember m e (MemberAt j)
       member-reads all j m e is lt =
-          subst (λ i. ReadTo t k within see_member IsCutMember m e (MemberAt i)) is.begins (whole, cut) where
+          subst (λ i. ReadTo t k within see_member IsCutMember m e (MemberAt i)) is.begins
+          (whole, λ gt. by gt (cases_lt k m.0.end) (cases_lt (begin m.1) k)) where
             value : begin m.1 < k → ReadTo t k within see IsCut m.1 e (inner (begin m.1))
             value begun = item-reads all (begin m.1) m.1 e is.value begun
 
@@ -210,9 +211,6 @@ module _ {K A : Type 0} (r : Rules K A) (names : Bool) (t : List ℕ) (k : ℕ) 
             by gt (inr le) (inr ge) = colon-short m is.key le ge
             by gt (inr le) (inl begun) =
                 inr (inner (begin m.1), value-read m is.key is.value.spelled begun, (value begun).1 gt)
-
-            cut : k < e → IsCutMember m (MemberAt m.0.begin)
-            cut gt = by gt (cases_lt k m.0.end) (cases_lt (begin m.1) k)
 
       members-front : InnerReads → (b : ℕ)
           → ReadsFront t k within (object b) member_value see_member IsCutMember 125 (PartAt shape.Object)
