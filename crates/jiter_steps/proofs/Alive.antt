@@ -49,13 +49,14 @@ module _ (names : Bool) (t : List ℕ) where
   trailing-document i e n before is =
       let x = past_blanks t e in
       let blanks = passed-blank t e is.0.within in
+      let within = blanks.within in
       let order = blanks.ordered in
       let ends = is.0.ends in
       let begins = is.0.begins in
       let ahead = node-ahead names t n is.0.spelled in
       let u = take x t ++ [] in
-      let same = front-kept t x blanks.within [] in
-      let long = taken-length t x blanks.within [] in
+      let same = front-kept t x within [] in
+      let long = taken-length t x within [] in
       let behind : IsBlank u e (length u) =
       subst (IsBlank u e) (omega arith) (blanks-too t u x same e x (omega arith) blanks) in
       let document : IsDocument names u n = record {
@@ -64,7 +65,7 @@ module _ (names : Bool) (t : List ℕ) where
         after = subst (λ k. IsBlank u k (length u)) (sym ends) behind;
         limit = is.1;
       } in
-      record { filler = []; closers = []; is_filler = inl refl; are_closers = tt; within = blanks.within; is = (n, document) }
+      record { filler = []; closers = []; is_filler = inl refl; are_closers = tt; within = within; is = (n, document) }
 
   -- so the answer of a text that ends early
   abbrev Opens : Reading Node → Type 0

@@ -20,7 +20,8 @@ use Rattle.jiter_scan.proofs.Runs.{run_end-ahead}
 use Rattle.jiter_scan.proofs.Scanning.{ScalarWithin}
 use Rattle.jiter_scan.proofs.Standing.{get-none}
 use Rattle.jiter_steps.proofs.SameFront.{SameBefore, range-same}
-use Rattle.jiter_steps.proofs.SameRuns.{IsOfByte, both, run-long, run-same}
+use Rattle.jiter_steps.proofs.Bounds.{both}
+use Rattle.jiter_steps.proofs.SameRuns.{IsOfByte, run-long, run-same}
 
 -- an end before m, where the text goes on; or a fault of a byte there
 abbrev pub Shown : {A : Type 0} → List ℕ → ℕ → Scanned A → Type 0

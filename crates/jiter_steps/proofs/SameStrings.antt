@@ -18,7 +18,8 @@ use Rattle.jiter_steps.specs.StringReading.{unicode_escape, short, behind_backsl
 use Rattle.jiter_steps.specs.StringReading.{place_by, place_at, Body, before, join, body_at}
 use Rattle.jiter_steps.specs.StringReading.{whole, text_in_form, content_at, string_at}
 use Rattle.jiter_steps.proofs.SameFront.{SameBefore, index-same}
-use Rattle.jiter_steps.proofs.SameRuns.{both, within-too}
+use Rattle.jiter_steps.proofs.Bounds.{both}
+use Rattle.jiter_steps.proofs.SameRuns.{within-too}
 use Rattle.jiter_steps.proofs.SameNumbers.{Shown}
 use Rattle.jiter_steps.proofs.Bodies.{part-ahead, body_at-is, body_at-place_by, place_by-end}
 use Rattle.jiter_steps.proofs.Places.{Explains, place_at-explains}

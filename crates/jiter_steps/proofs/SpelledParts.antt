@@ -59,7 +59,8 @@ slice-first : (t : List ℕ) (b e : ℕ) → b < e → e ≤ length t
     → slice_range t b e ≡ slice_index t b ∷ slice_range t (b + 1) e
 slice-first t b e h le =
     let here = slice_get-get_or t b 0 (omega arith) in
-    sym (slice-stands t b e (slice_index t b ∷ slice_range t (b + 1) e) (here, stands-slice t (b + 1) e (omega arith) le))
+    let rest = stands-slice t (b + 1) e (omega arith) le in
+    sym (slice-stands t b e (slice_index t b ∷ slice_range t (b + 1) e) (here, rest))
 
 module _ (t : List ℕ) where
   -- a number does not go on at i
