@@ -11,7 +11,7 @@ use Rattle.std.specs.Option.{option_map}
 use Rattle.std.proofs.lemmas.Bool.{cases_lt}
 use Rattle.std.proofs.lemmas.List.{take_all}
 use Rattle.jiter_scan.specs.Kind.{Kind, is_forgiven}
-use Rattle.jiter_scan.specs.Number.{Number, number_value}
+use Rattle.jiter_scan.specs.Number.{Number}
 use Rattle.jiter_scan.specs.NumberReading.{number_at, is_number_text}
 use Rattle.jiter_scan.specs.PartialMode.{is_active, allows_trailing_strings}
 use Rattle.jiter_scan.specs.Scanned.{Scanned, taken, failed}
@@ -19,7 +19,7 @@ use Rattle.jiter_scan.specs.Stands.{Stands}
 use Rattle.jiter_scan.specs.Word.{Extent}
 use Rattle.jiter_scan.specs.declared.partial_mode.PartialMode.{PartialMode}
 use Rattle.jiter_scan.proofs.Choices.{if_case, if-true, if-false}
-use Rattle.jiter_steps.specs.Answer.{seen_as, value_form, partial_trees, answer, partial_answer, answer_in}
+use Rattle.jiter_steps.specs.Answer.{seen_as, value_form, partial_trees, partial_answer, answer_in}
 use Rattle.jiter_steps.specs.Cut.{cut, cut_number, cut_string, IsBegunContainer}
 use Rattle.jiter_steps.specs.Literal.{word_of, literal_at, literal_tree}
 use Rattle.jiter_steps.specs.Node as grammar
@@ -104,15 +104,12 @@ module _ (names : Bool) (t : List ℕ) (k : ℕ) (within : k ≤ length t) (mode
   number-leaves : (b : ℕ) (x : Scanned Number) → Halts front b → CutNumber names t k within b x
       → Leaves front (cut_number names (slice_range t b k)) (NumberOf b x)
   number-leaves b (taken n e) halts h =
-      let w = slice_range t b k in
       subst (λ o. Leaves front o (done (number_tree n) e))
-      (sym (if-true (is_number_text names w) (Some (number_tree (number_value w))) None h.0))
+      (sym (if-true (is_number_text names (slice_range t b k)) _ None h.0))
       (ap number_tree h.1, subst (Halts front) (sym h.2) (cut-halts t k within))
   number-leaves b (failed kind j) halts h =
-      let w = slice_range t b k in
       subst (λ o. Leaves front o (fault kind j b))
-      (sym (if-false (is_number_text names w) (Some (number_tree (number_value w))) None h.0))
-      (end-forgiven kind h.1, halts)
+      (sym (if-false (is_number_text names (slice_range t b k)) _ None h.0)) (end-forgiven kind h.1, halts)
 
   number-reads : (b e : ℕ) → SpellsNumber names t b e → EndsNumber t e → b < k
       → Reads (grammar.number b e) (NumberOf b (number_at names front b))
@@ -180,7 +177,7 @@ module _ (names : Bool) (t : List ℕ) (k : ℕ) (within : k ≤ length t) (mode
     fault-closes : (qs : List Q) (kind : Kind) (i stop : ℕ) → is_forgiven kind ≡ true → Halts front stop
         → Closes qs (if_forgiven rules (λ e. c.build e qs) kind i stop)
     fault-closes qs kind i stop h halts =
-        (stop, if-true (is_forgiven kind) (done (c.build stop qs) stop) (fault kind i stop) h, halts)
+        (stop, if-true (is_forgiven kind) _ _ h, halts)
 
     stuck-closes : (qs : List Q) (p : ℕ) (s : Step) → StuckAt p s → Halts front p → Closes qs (Behind qs s)
     stuck-closes qs p s h halts =
@@ -337,7 +334,8 @@ cut-law names t n k mode d is lt within = by (cases_lt k (end n)) where
   by (inr le) = (value_of t n, end n, reads.0 le, node-whole names t mode k n d.spelled le)
   by (inl gt) =
       let left = container-cut names t k within mode n is lt in
-      let read = left-answered names t k within mode left.0 x (subst (λ o. Leaves (take k t) o x) left.1 (reads.1 gt)) in
+      let leaves = subst (λ o. Leaves (take k t) o x) left.1 (reads.1 gt) in
+      let read = left-answered names t k within mode left.0 x leaves in
       (left.0, read.0, read.1, left.1)
 
 -- What a document stands for is answered in a partial mode too, with its end.
@@ -359,13 +357,12 @@ pub answer_in-cut : (names : Bool) (u : List ℕ) (mode : PartialMode) (f : IsBe
     → is_active mode ≡ true → AnswersCut names u mode f (answer_in names mode u)
 answer_in-cut names u mode f active =
     let law = cut-law names f.text f.node f.place mode f.document f.container f.begun f.within in
-    let read = if-true (is_active mode) (partial_answer names mode u) (answer names u) active
-    ∙ ap (partial_answer names mode) f.is ∙ law.2 in
+    let read = if-true (is_active mode) _ _ active ∙ ap (partial_answer names mode) f.is ∙ law.2 in
     subst (AnswersCut names u mode f) (sym read) law.3
 
 -- and the value of a document, in every mode.
 pub answer_in-of : (names : Bool) (t : List ℕ) (mode : PartialMode) (n : Node) → IsDocument names t n
     → answer_in names mode t ≡ done (value_of t n) (end n)
 answer_in-of names t mode n d =
-    if_case (λ x. x ≡ done (value_of t n) (end n)) (is_active mode) (partial_answer names mode t) (answer names t)
-    (λ e. partial_answer-of names t mode n d) (λ e. answer-of names t n d)
+    if_case (λ x. x ≡ done (value_of t n) (end n)) (is_active mode) _ _ (λ e. partial_answer-of names t mode n d)
+    (λ e. answer-of names t n d)

@@ -15,7 +15,7 @@ use Rattle.jiter_steps.specs.Step.{Step, more, closed, stuck, step, end_kind_of,
 use Rattle.jiter_steps.specs.Step.{container_step, colon, value_first, object_colon}
 use Rattle.jiter_steps.specs.declared.parse.Shape.{Shape}
 use Rattle.jiter_steps.proofs.BothShapes.{end_kind-early, closer-no_comma}
-use Rattle.jiter_steps.proofs.Front.{front-length, front-blank, front-behind, row-cut, row-end}
+use Rattle.jiter_steps.proofs.Front.{front-length, front-blank, front-behind, row-cut}
 use Rattle.jiter_steps.proofs.Parts.{behind-ahead, PartThen, MoreParts, Parts}
 use Rattle.jiter_steps.proofs.RowSteps.{Delimits, row-at}
 use Rattle.jiter_steps.proofs.Values.{Goes, parts-part}
@@ -33,7 +33,6 @@ module _ (t : List ℕ) (k : ℕ) (within : k ≤ length t) where
     pub first-cut : (i j : ℕ) → IsBlank t i j → i ≤ k → k ≤ j → EndsInput (step u first i)
     pub next-cut : (i j : ℕ) → IsBlank t i j → i ≤ k → k ≤ j → EndsInput (step u next i)
     pub comma-cut : (i m j : ℕ) → StandsBehind t i 44 m → m ≤ k → IsBlank t m j → k ≤ j → EndsInput (step u next i)
-    pub end-cut : (i : ℕ) → i ≡ k → EndsInput (step u next i)
 
   pub cuts : (b : Shape) → Cuts (container_first b) (container_step b u)
   cuts b =
@@ -49,7 +48,6 @@ module _ (t : List ℕ) (k : ℕ) (within : k ≤ length t) where
             let there = if-false _ (closed (g.at + 1)) (step u comma (g.at + 1)) (closer-no_comma b) in
             let ends = here ∙ there ∙ ap (step u comma) (sym g.ends) ∙ row-cut t k within comma m j blanks le ge in
             (eof_value, ends, refl);
-        end-cut = λ i h. (end_kind_of b, row-end t k within next i h, early);
       }
 
   -- behind a key: its colon, and what stands before its value

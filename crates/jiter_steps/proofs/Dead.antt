@@ -16,15 +16,11 @@ use Rattle.jiter_steps.proofs.Completions.{longer-same}
 use Rattle.jiter_steps.proofs.SameFront.{SameBefore}
 use Rattle.jiter_steps.proofs.SameNumbers.{Same, word-same, number-same}
 use Rattle.jiter_steps.proofs.SameReadings.{IsFault, KeepsScalars, ShownFault, whole_answer-stays}
-use Rattle.jiter_steps.proofs.SameStrings.{IsRefused, SameOrFault, SameScalar, string-same}
+use Rattle.jiter_steps.proofs.SameStrings.{IsRefused, SameScalar, string-same}
 use Rattle.jiter_steps.proofs.Documents.{answer-of}
 use Rattle.jiter_steps.proofs.Instances.{trees-advances}
 
 -- Rules that see what was read.
-same-or-fault : {A : Type 0} (x y : Scanned A) → y ≡ x → SameOrFault x y
-same-or-fault (taken a e) y h = h
-same-or-fault (failed k j) y h = subst IsRefused (sym h) tt
-
 module _ (t u : List ℕ) (m : ℕ) (same : SameBefore t u m) where
   seen-same : {A B : Type 0} (f : A → ℕ → B) (i : ℕ) (x y : Scanned A) → SameScalar t m i x y
       → SameScalar t m i (seen_as f x) (seen_as f y)
@@ -33,7 +29,8 @@ module _ (t u : List ℕ) (m : ℕ) (same : SameBefore t u m) where
   seen-same f i (failed k j) (failed l x) h = h
 
   kept : {A : Type 0} (i : ℕ) (x y : Scanned A) → Same t u m same i x y → SameScalar t m i x y
-  kept i x y h shown = let at = h shown in (at.0, same-or-fault x y at.2)
+  kept i (taken a e) y h shown = let at = h shown in (at.0, at.2)
+  kept i (failed k j) y h shown = let at = h shown in (at.0, subst IsRefused (sym at.2) tt)
 
   trees-keep : (names : Bool) → KeepsScalars (whole_trees names) t u m
   trees-keep names = record {

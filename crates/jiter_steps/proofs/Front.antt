@@ -12,7 +12,6 @@ use Rattle.jiter_scan.specs.Word.{byte_then, word_at}
 use Rattle.jiter_steps.specs.Blank.{past_blanks, IsBlankByte, IsBlank}
 use Rattle.jiter_steps.specs.Node.{StandsBehind, SpellsNumber}
 use Rattle.jiter_steps.specs.Step.{step}
-use Rattle.jiter_steps.proofs.Blanks.{past_blanks-end}
 use Rattle.jiter_steps.proofs.Blanks.{blank-to_end}
 use Rattle.jiter_steps.proofs.SameFront.{stands-too, range-same, number-too, blanks-too, behind-too}
 
@@ -89,9 +88,4 @@ module _ (t : List ℕ) (k : ℕ) (within : k ≤ length t) where
       → step u row i ≡ row k None
   row-cut row i j b le ge =
       let last : past_blanks u i ≡ k = blank-to_end u i (cut-blank i j b le ge) ∙ front-length in
-      ap (λ m. row m (slice_get u m)) last ∙ ap (row k) (front-past k (omega arith))
-
-  pub row-end : {A : Type 0} (row : ℕ → Option ℕ → A) (i : ℕ) → i ≡ k → step u row i ≡ row k None
-  row-end row i h =
-      let last : past_blanks u i ≡ k = past_blanks-end u i (omega (arith, front-length)) ∙ h in
       ap (λ m. row m (slice_get u m)) last ∙ ap (row k) (front-past k (omega arith))

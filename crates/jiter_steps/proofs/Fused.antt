@@ -1,5 +1,5 @@
 -- What is built of one reading of a text maps to what is built of another.
-use Rattle.std.proofs.Common.{◌≡◌, ℕ, zero, suc, ◌+◌, ◌<◌, Bool, true, false, cond, List, [], ◌∷◌, ◌++◌, length, map}
+use Rattle.std.proofs.Common.{◌≡◌, ℕ, zero, suc, ◌+◌, ◌<◌, cond, List, [], ◌∷◌, ◌++◌, length, map}
 use Rattle.std.proofs.Common.{refl, sym, ap, ◌∙◌}
 use Rattle.std.specs.Prelude.{slice_index, slice_get, Option, Some, None}
 use Rattle.std.proofs.lemmas.List.{map_push}
@@ -18,6 +18,7 @@ use Rattle.jiter_steps.specs.declared.parse.Literal.{Literal}
 use Rattle.jiter_steps.specs.declared.parse.Start.{Start}
 use Rattle.jiter_steps.specs.declared.parse.Start.TheVariants as start
 use Rattle.jiter_steps.specs.declared.parse.Shape.TheVariants as shape
+use Rattle.jiter_steps.proofs.Bounds.{both}
 use Rattle.jiter_steps.proofs.FirstBytes.{begins-within, string-begins, GoesTo, BeginsAt, key-quote}
 use Rattle.jiter_steps.proofs.FirstBytes.{container_first-begins, container_step-begins}
 
@@ -62,11 +63,8 @@ module _ {K L A B : Type 0} (p : Rules K A) (q : Rules L B) (g : K → L) (h : A
   if_forgiven-mapped : (f : ℕ → A) (f' : ℕ → B) → ((e : ℕ) → h (f e) ≡ f' e) → (k : Kind) (i stop : ℕ)
       → mapped h (if_forgiven p f k i stop) ≡ if_forgiven q f' k i stop
   if_forgiven-mapped f f' same k i stop =
-      both (p.forgives k) ∙ ap (λ y. cond y (done (f' stop) stop) (fault k i stop)) (leads.forgives k) where
-        both : (y : Bool)
-            → mapped h (cond y (done (f stop) stop) (fault k i stop)) ≡ cond y (done (f' stop) stop) (fault k i stop)
-        both true = ap (λ a. done a stop) (same stop)
-        both false = refl
+      both (λ x y. mapped h x ≡ y) (p.forgives k) _ _ _ _ (ap (λ a. done a stop) (same stop)) refl
+      ∙ ap (λ y. cond y (done (f' stop) stop) (fault k i stop)) (leads.forgives k)
 
   scalar-mapped : (i : ℕ) (x : Scanned A) → mapped h (scalar_at i x) ≡ scalar_at i (scanned_as h x)
   scalar-mapped i (taken a e) = refl
@@ -99,10 +97,8 @@ module _ {K L A B : Type 0} (p : Rules K A) (q : Rules L B) (g : K → L) (h : A
     unfolding parts_at
     parts_at-mapped zero parts i b = refl
     parts_at-mapped (suc n) parts i b =
-        behind_part-mapped (λ more_parts j. parts_at p c t n more_parts j)
-        (λ more_parts j. parts_at q d t n more_parts j)
-        (λ more_parts j begins. parts_at-mapped n more_parts j begins) parts (c.part i)
-        ∙ ap (behind_part q d t (λ more_parts j. parts_at q d t n more_parts j) (map m parts)) (maps.part i b)
+        behind_part-mapped (parts_at p c t n) (parts_at q d t n) (parts_at-mapped n) parts (c.part i)
+        ∙ ap (behind_part q d t (parts_at q d t n) (map m parts)) (maps.part i b)
 
     container_at-mapped : (i : ℕ) → mapped h (container_at p c t i) ≡ container_at q d t i
     container_at-mapped i =
@@ -166,7 +162,7 @@ module _ {K L A B : Type 0} (p : Rules K A) (q : Rules L B) (g : K → L) (h : A
   unfolding inside_at
   inside_at-mapped zero i = refl
   inside_at-mapped (suc room) i =
-      value_with-mapped (λ j. inside_at p t room j) (λ j. inside_at q t room j) (inside_at-mapped room) i
+      value_with-mapped (inside_at p t room) (inside_at q t room) (inside_at-mapped room) i
       (start_of (slice_index t i)) refl
 
   pub value_at-mapped : (room i : ℕ) → mapped h (value_at p t room i) ≡ value_at q t room i

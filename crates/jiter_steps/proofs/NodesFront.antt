@@ -26,6 +26,7 @@ use Rattle.jiter_steps.specs.declared.parse.Literal.{Literal}
 use Rattle.jiter_steps.proofs.SpelledParts.{nodes_list, members_list, nodes-listed, members-listed, key-taken}
 use Rattle.jiter_steps.specs.declared.parse.Shape.TheVariants as shape
 use Rattle.jiter_steps.proofs.CutParts.{EndsInput, Cuts, cuts, CutParts}
+use Rattle.jiter_steps.proofs.Completions.{no-blanks}
 use Rattle.jiter_steps.proofs.Front.{front-length, front-stands, front-word}
 use Rattle.jiter_steps.proofs.Instances.{nodes-advances}
 use Rattle.jiter_steps.proofs.NodeRules.{nodes, nodes_of, node_members_of, key_of}
@@ -76,7 +77,7 @@ module _ (t : List ℕ) (k : ℕ) (within : k ≤ length t) where
 
     part-early : (qs : List Q) (j : ℕ) (x : Reading Q) → j < k → c.part j ≡ x → CutShort k x → EndsEarly (At qs j)
     part-early qs j (done q e) lt is h =
-        let last = ends.end-cut e h in
+        let last = ends.next-cut e e (no-blanks t e e refl (omega arith)) (omega arith) (omega arith) in
         subst EndsEarly (sym (parts-part r u c goes j e qs q (stuck last.0 k) (in-front j lt) is last.1))
         (fault-early (λ e. c.build e (qs ++ q ∷ [])) last.0 k k last.2)
     part-early qs j (fault kind x stop) lt is h =
@@ -117,12 +118,6 @@ module _ (names : Bool) (t : List ℕ) (k : ℕ) (within : k ≤ length t) where
   cut-early (grammar.number b e) x is h = absurd is
   cut-early n x is h = h
 
-  abbrev same_key : Key → Key
-  same_key key = key
-
-  abbrev same_node : Node → Node
-  same_node n = n
-
   abbrev Reads : Node → Reading Node → Type 0
   Reads n x = (end n ≤ k → x ≡ done n (end n)) × (k < end n → IsCut n x)
 
@@ -131,7 +126,7 @@ module _ (names : Bool) (t : List ℕ) (k : ℕ) (within : k ≤ length t) where
   with_key-short key (fault kind i stop) h = h
 
   member-short : (m : Key × Node) (x : Reading (Key × Node))
-      → IsCutMember (nodes names) names t k within same_key same_node IsCut m x → CutShort k x
+      → IsCutMember (nodes names) names t k within (λ key. key) (λ n. n) IsCut m x → CutShort k x
   member-short m x (inl h) = subst (CutShort k) (sym h.is) h.early
   member-short m x (inr h) = subst (CutShort k) (sym h.1) (with_key-short m.0 h.0 (cut-short m.1 h.0 h.2))
 
@@ -175,7 +170,7 @@ module _ (names : Bool) (t : List ℕ) (k : ℕ) (within : k ≤ length t) where
     λ gt. subst (λ x. EndsEarly (StringOf b x)) (sym (whole-cut t k within b e ps h lt gt).0) refl,
   )
 
-  nodes-front : CutRules (nodes names) names t k within same_key same_node IsCut
+  nodes-front : CutRules (nodes names) names t k within (λ key. key) (λ n. n) IsCut
   nodes-front = record {
     literal = literal-reads;
     number = number-reads;
@@ -190,11 +185,11 @@ module _ (names : Bool) (t : List ℕ) (k : ℕ) (within : k ≤ length t) where
         ∙ ap (grammar.object b e) (members-listed ms);
     array-cut = λ inner b e ns h lt goes parts.
         parts-early t k within (nodes names) (λ kind. refl) (array_of (nodes names) inner front b) goes (λ n. n)
-        same_node IsCut cut-short (cuts t k within shape.Array) (nodes_list ns) array_first (b + 1) [] parts;
+        (λ n. n) IsCut cut-short (cuts t k within shape.Array) (nodes_list ns) array_first (b + 1) [] parts;
     object-cut = λ inner b e ms h lt goes parts.
         parts-early t k within (nodes names) (λ kind. refl) (object_of (nodes names) inner front b) goes (λ m. m.1)
-        (see_member (nodes names) names t k within same_key same_node IsCut)
-        (IsCutMember (nodes names) names t k within same_key same_node IsCut) member-short
+        (see_member (nodes names) names t k within (λ key. key) (λ n. n) IsCut)
+        (IsCutMember (nodes names) names t k within (λ key. key) (λ n. n) IsCut) member-short
         (cuts t k within shape.Object) (members_list ms) object_first (b + 1) [] parts;
   }
 
@@ -202,7 +197,7 @@ module _ (names : Bool) (t : List ℕ) (k : ℕ) (within : k ≤ length t) where
   pub node-front : (n : Node) (room : ℕ) → Spells names t n → nesting n ≤ room → EndsNumber t (end n) → begin n < k
       → Reads n (value_at (nodes names) front room (begin n))
   node-front =
-      value_at-front (nodes names) names t k within same_key same_node IsCut (nodes-advances front names) nodes-front
+      value_at-front (nodes names) names t k within (λ key. key) (λ n. n) IsCut (nodes-advances front names) nodes-front
 
   -- A container that is cut.
   pub container-front : (n : Node) (room : ℕ) → IsContainer n → Spells names t n → nesting n ≤ room

@@ -18,8 +18,8 @@ use Rattle.jiter_scan.specs.Stands.{Stands}
 use Rattle.jiter_scan.specs.Word.{Extent, byte_then, word_at}
 use Rattle.jiter_scan.proofs.Choices.{if_case}
 use Rattle.jiter_scan.proofs.NumberSound.{whole_from-sound, fraction_from-sound}
-use Rattle.jiter_scan.proofs.Standing.{stands-length, stands-append, slice-stands, slice-one}
-use Rattle.jiter_steps.specs.FirstFault.{IsFiller, can_go_on}
+use Rattle.jiter_scan.proofs.Standing.{stands-length, stands-within, stands-append, slice-stands, slice-one}
+use Rattle.jiter_steps.specs.FirstFault.{can_go_on}
 use Rattle.jiter_steps.specs.Node.{SpellsNumber}
 use Rattle.jiter_steps.proofs.Bounds.{either}
 use Rattle.jiter_steps.proofs.Completions.{CanClose, taken-length, taken-first, front-kept}
@@ -35,8 +35,9 @@ LiveIs At (failed k j) = can_go_on k ≡ true → At j
 pub no_live : {A : Type 0} → false ≡ true → A
 no_live live = absurd (false≢true live)
 
-map-live : (At Then : ℕ → Type 0) → ((j : ℕ) → At j → Then j) → (x : Extent) → LiveIs At x → LiveIs Then x
-map-live At Then all (taken u e) h = tt
+pub map-live : {A : Type 0} (At Then : ℕ → Type 0) → ((j : ℕ) → At j → Then j) → (x : Scanned A) → LiveIs At x
+    → LiveIs Then x
+map-live At Then all (taken a e) h = tt
 map-live At Then all (failed k j) h = λ live. all j (h live)
 
 pub then-live : (At : ℕ → Type 0) (x : Extent) (next : ℕ → Extent) → LiveIs At x
@@ -261,10 +262,6 @@ module _ (t : List ℕ) where
   abbrev pub CanEndNumber : Bool → ℕ → ℕ → Type 0
   CanEndNumber names i x = (i ≤ x) × CanClose t x (λ u. SpellsNumber names u i (length u))
 
-  zero-filler : (f : List ℕ) → IsZero f → IsFiller f
-  zero-filler f (inl e) = inl e
-  zero-filler f (inr e) = inr (inl e)
-
   zero-stands : (x : ℕ) → x ≤ length t → (f : List ℕ) → IsZero f → Stands (take x t ++ (f ++ [])) x (x + length f) f
   zero-stands x within f (inl e) =
       subst (λ f. Stands (take x t ++ (f ++ [])) x (x + length f) f) (sym e) (omega arith)
@@ -282,17 +279,19 @@ module _ (t : List ℕ) where
       let at_end : x + length f ≡ length u = omega arith in
       let front = stands-too t u x (front-kept t x within (f ++ [])) i x h.front (omega arith) h.stands in
       let all = stands-append u i x (x + length f) h.front f front (zero-stands x within f h.zero) in
-      let decimal = subst IsDecimal (slice-stands u i (x + length f) (h.front ++ f) all) h.is in
-      let spelled : SpellsNumber names u i (x + length f) =
-      record { ordered = omega arith; within = omega arith; text = inl decimal } in (
+      let text = inl (subst IsDecimal (slice-stands u i (x + length f) (h.front ++ f) all) h.is) in (
         omega arith,
         record {
           filler = f;
           closers = [];
-          is_filler = zero-filler f h.zero;
+          is_filler = elim h.zero [
+            | inl e ↦ inl e
+            | inr e ↦ inr (inl e)
+          ];
           are_closers = tt;
           within = within;
-          is = subst (SpellsNumber names u i) at_end spelled;
+          is = subst (SpellsNumber names u i) at_end
+              (record { ordered = omega arith; within = omega arith; text = text });
         },
       )
 
@@ -305,7 +304,8 @@ module _ (t : List ℕ) where
   number-live names i = value-live i (number_extent names t i) (extent-live names i (slice_get t i) refl)
 
   -- A number whose fault can go on.
-  pub number-open : (names : Bool) (i j : ℕ) (k : Kind) → j ≤ length t → number_at names t i ≡ failed k j
-      → can_go_on k ≡ true → CanEndNumber names i j
-  number-open names i j k within e live =
-      number-ends names i j within (subst (LiveIs (Unfinished IsDecimal i)) e (number-live names i) live)
+  pub number-open : (names : Bool) (i : ℕ) → i ≤ length t → LiveIs (CanEndNumber names i) (number_at names t i)
+  number-open names i le =
+      map-live (Unfinished IsDecimal i) (CanEndNumber names i)
+      (λ j h. number-ends names i j (stands-within t i j h.front le h.stands) h)
+      (number_at names t i) (number-live names i)

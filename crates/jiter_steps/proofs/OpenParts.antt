@@ -195,9 +195,7 @@ module _ {K P A : Type 0} (r : Rules K A) (strict : (k : Kind) → r.forgives k 
   unfolding parts_at
   parts-open b zero ps i at so = no_live
   parts-open b (suc n) ps i at so =
-      part-open b i ps (λ more_parts j. parts_at r c t n more_parts j)
-      (λ more_parts j begins so_far. parts-open b n more_parts j begins so_far)
-      at so (c.part i) refl (goes.part i (delimits.within i at))
+      part-open b i ps (parts_at r c t n) (parts-open b n) at so (c.part i) refl (goes.part i (delimits.within i at))
 
   bracket-open : (b : ℕ) → b ≤ length t → (s : Step) → step t c.first b ≡ s
       → StepIs t b closer (PartBehind t Begins b) s

@@ -7,7 +7,6 @@ use Rattle.std.specs.Str.Lossy.{utf8_valid_len}
 use Rattle.std.proofs.lemmas.Bool.{false≢true}
 use Rattle.std.proofs.lemmas.Option.{slice_get_within}
 use Rattle.jiter_scan.specs.Kind.{Kind}
-use Rattle.jiter_scan.specs.Number.{Number}
 use Rattle.jiter_scan.specs.NumberReading.{number_at}
 use Rattle.jiter_scan.specs.Scanned.{Scanned, taken, failed}
 use Rattle.jiter_scan.specs.Word.{Extent}
@@ -33,7 +32,7 @@ use Rattle.jiter_steps.proofs.Bounds.{either}
 use Rattle.jiter_steps.proofs.Completions.{close-map, OpenTo, open-map, no-blanks, taken-length, taken-behind}
 use Rattle.jiter_steps.proofs.Completions.{taken-first, front-kept}
 use Rattle.jiter_steps.proofs.NodeRules.{nodes, nodes_of, node_members_of, key_of}
-use Rattle.jiter_steps.proofs.OpenNumbers.{LiveIs, then-live, word-live, no_live, zero-number, CanEndNumber}
+use Rattle.jiter_steps.proofs.OpenNumbers.{LiveIs, map-live, then-live, word-live, no_live, zero-number, CanEndNumber}
 use Rattle.jiter_steps.proofs.OpenNumbers.{number-open}
 use Rattle.jiter_steps.proofs.OpenParts.{Anywhere, CanEndHere, Grows, container_at-open}
 use Rattle.jiter_steps.proofs.Parts.{Grammar, parts-are}
@@ -117,11 +116,13 @@ module _ (names : Bool) where
         limit = is.limit;
       }
 
+  number-node : (u : List ℕ) (x e : ℕ) → SpellsNumber names u x e → IsNodeAt names u x (grammar.number x e) e
+  number-node u x e h = record { spelled = h; begins = refl; ends = refl; within = h.within }
+
   -- a zero in place of a value
   zero-node : (u : List ℕ) (x e : ℕ) → x + 1 ≡ e → slice_get u x ≡ Some 48 → IsNodeAt names u x (grammar.number x e) e
   zero-node u x e last h =
-      let spelled = subst (SpellsNumber names u x) last (zero-number names u x h) in
-      record { spelled = spelled; begins = refl; ends = refl; within = spelled.within }
+      number-node u x e (subst (SpellsNumber names u x) last (zero-number names u x h))
 
   -- a zero behind an empty key
   zero-member : (room : ℕ) (t : List ℕ) (x : ℕ) → x ≤ length t → 0 < room
@@ -145,11 +146,10 @@ module _ (names : Bool) where
         ends = omega arith;
       } in
       let blanks = no-blanks u (x + 3) (x + 3) refl (omega arith) in
-      let n = grammar.number (x + 3) (x + 4) in
+      let value = zero-node u (x + 3) (x + 4) (omega arith) (taken-behind t x within w 3 48 refl) in
       let spelled : SpellsKey u key (x + 3) =
       record { string = string; colon = x + 3; behind = behind; blanks = blanks } in
-      let value = zero-node u (x + 3) (x + 4) (omega arith) (taken-behind t x within w 3 48 refl) in
-      ((key, n), record { begins = refl; key = spelled; value = value; limit = omega arith })
+      ((key, _), record { begins = refl; key = spelled; value = value; limit = omega arith })
 
   -- Inside a container with this room.
   module _ (t : List ℕ) (room : ℕ)
@@ -257,21 +257,16 @@ module _ (names : Bool) where
     scalar-open i seen (taken a e) h = tt
     scalar-open i seen (failed k j) h = h
 
-    number-here : (i : ℕ) (x : Scanned Number) → number_at names t i ≡ x → ScalarWithin t i x
-        → OpenAs (IsValue room) t i (scalar_at i (seen_as (λ n e. grammar.number i e) x))
-    number-here i (taken n e) is w = tt
-    number-here i (failed k j) is w = λ live. by (number-open t names i j k w.1.within is live) where
-      by : CanEndNumber t names i j → CanEndHere (IsValue room) t i j
-      by (le, ends) = (
-        le,
-        close-map t j _ _
-            (λ w within h.
-            let u = take j t ++ w in
-            let value : IsNodeAt names u i (grammar.number i (length u)) (length u) =
-            record { spelled = h; begins = refl; ends = refl; within = omega arith } in
-            (grammar.number i (length u), (value, omega arith)))
-            ends,
-      )
+    number-here : (i : ℕ) → i < length t → LiveIs (CanEndHere (IsValue room) t i) (number_at names t i)
+    number-here i h =
+        map-live (CanEndNumber t names i) (CanEndHere (IsValue room) t i)
+        (λ x ends. (
+          ends.0,
+          close-map t x _ _
+              (λ w within h. (_, (number-node (take x t ++ w) i (length (take x t ++ w)) h, omega arith)))
+              ends.1,
+        ))
+        (number_at names t i) (number-open t names i (omega arith))
 
     zero-here : (i : ℕ) → i ≤ length t → CanEndHere (IsValue room) t i i
     zero-here i within =
@@ -313,7 +308,7 @@ module _ (names : Bool) where
         scalar-open i (λ x e. grammar.string (pieces_from t (i + 1) (chars x.bytes)) i e) (string_at whole t i)
         (string-live t (CanEndHere (IsValue room) t i) i)
     value_with-open i h start.Number e =
-        number-here i (number_at names t i) refl ((scalar-laws names t).number-within i h)
+        scalar-open i (λ n e. grammar.number i e) (number_at names t i) (number-here i h)
     value_with-open i h (start.Literal l) e =
         scalar-open i (λ x e. grammar.literal l i e) (literal_at t l i)
         (word-live t (CanEndHere (IsValue room) t i) (word_of l) i)

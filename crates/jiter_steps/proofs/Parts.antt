@@ -110,9 +110,7 @@ module _ {K P A : Type 0} (r : Rules K A) (t : List ℕ) (c : Container P A) (cl
     unfolding parts_at
     parts-built b zero ps i at so = tt
     parts-built b (suc n) ps i at so =
-        part-built b i ps (λ more_parts j. parts_at r c t n more_parts j)
-        (λ more_parts j begins so_far. parts-built b n more_parts j begins so_far)
-        so (c.part i) refl (goes.part i (delimits.within i at))
+        part-built b i ps (parts_at r c t n) (parts-built b n) so (c.part i) refl (goes.part i (delimits.within i at))
 
     bracket-built : (b : ℕ) (s : Step) → StepIs t b closer (PartBehind t Begins b) s
         → BuiltOf b (follow r (parts_at r c t (length t) []) (λ e. c.build e []) s)

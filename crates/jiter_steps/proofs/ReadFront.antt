@@ -40,9 +40,6 @@ module _ {K A : Type 0} (r : Rules K A) (names : Bool) (t : List ℕ) (k : ℕ) 
   abbrev pub see_member : Key × Node → K × A
   see_member m = (see_key m.0, see m.1)
 
-  abbrev pub member_value : Key × Node → Node
-  member_value m = m.1
-
   -- a member that is cut before its value: the input ends, and the reading stands there or at the key's quote
   pub record IsCutBefore (m : Key × Node) (x : Reading (K × A)) : Type 0 where
     pub kind : Kind
@@ -78,7 +75,7 @@ module _ {K A : Type 0} (r : Rules K A) (names : Bool) (t : List ℕ) (k : ℕ) 
     pub object-cut : (inner : ℕ → Reading A) (b e : ℕ) (ms : NodeMembers) → Spells names t (grammar.object b e ms)
         → b < k
         → Goes (object_of r inner u b) u
-        → CutParts t k within (object_of r inner u b) member_value see_member IsCutMember object_first (b + 1)
+        → CutParts t k within (object_of r inner u b) (λ m. m.1) see_member IsCutMember object_first (b + 1)
         (members_list ms)
         → IsCut (grammar.object b e ms) (container_at r (object_of r inner u b) u b)
 
@@ -184,7 +181,8 @@ module _ {K A : Type 0} (r : Rules K A) (names : Bool) (t : List ℕ) (k : ℕ) 
       member-reads : InnerReads → (j : ℕ) (m : Key × Node) (e : ℕ) → IsMember names t room j m e → j < k
           → ReadTo t k within see_member IsCutMember m e (MemberAt j)
       member-reads all j m e is lt =
-          subst (λ i. ReadTo t k within see_member IsCutMember m e (MemberAt i)) is.begins (whole, cut) where
+          subst (λ i. ReadTo t k within see_member IsCutMember m e (MemberAt i)) is.begins
+          (whole, λ gt. by gt (cases_lt k m.0.end) (cases_lt (begin m.1) k)) where
             value : begin m.1 < k → ReadTo t k within see IsCut m.1 e (inner (begin m.1))
             value begun = item-reads all (begin m.1) m.1 e is.value begun
 
@@ -211,11 +209,8 @@ module _ {K A : Type 0} (r : Rules K A) (names : Bool) (t : List ℕ) (k : ℕ) 
             by gt (inr le) (inl begun) =
                 inr (inner (begin m.1), value-read m is.key is.value.spelled begun, (value begun).1 gt)
 
-            cut : k < e → IsCutMember m (MemberAt m.0.begin)
-            cut gt = by gt (cases_lt k m.0.end) (cases_lt (begin m.1) k)
-
       members-front : InnerReads → (b : ℕ)
-          → ReadsFront t k within (object b) member_value see_member IsCutMember 125 (PartAt shape.Object)
+          → ReadsFront t k within (object b) (λ m. m.1) see_member IsCutMember 125 (PartAt shape.Object)
           (IsMember names t room)
       members-front all b = record {
         delimits = delimits u shape.Object;
@@ -257,7 +252,7 @@ module _ {K A : Type 0} (r : Rules K A) (names : Bool) (t : List ℕ) (k : ℕ) 
           (rules.array b e ns) (rules.array-cut inner b e ns h lt goes)
       value-reads all (grammar.object b e ms) h d q lt =
           let goes = object_of-goes r u good inner inner-within b in
-          container-reads (object b) member_value see_member IsCutMember (members-front all b) goes
+          container-reads (object b) (λ m. m.1) see_member IsCutMember (members-front all b) goes
           (grammar.object b e ms) (members_list ms) (members-parts names t room ms (b + 1) e h.1 d) lt
           (rules.object b e ms) (rules.object-cut inner b e ms h lt goes)
 

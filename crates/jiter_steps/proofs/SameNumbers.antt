@@ -1,5 +1,5 @@
 -- Words and numbers in two texts with the same bytes before a place.
-use Rattle.std.proofs.Common.{◌≡◌, ℕ, ◌+◌, ◌<◌, ◌≤◌, Bool, false, ◌||◌, List, [], ◌∷◌, length, refl, ap, ◌∙◌}
+use Rattle.std.proofs.Common.{◌≡◌, ℕ, ◌+◌, ◌<◌, ◌≤◌, Bool, ◌||◌, List, [], ◌∷◌, length, refl, ap, ◌∙◌}
 use Rattle.std.proofs.Common.{arith}
 use Rattle.std.specs.Prelude.{slice_get, Option, Some, None, ◌==◌, if◌then◌else◌, nat_le, codes}
 use Rattle.std.proofs.lemmas.Bool.{true≢false, leb-false}
@@ -20,7 +20,8 @@ use Rattle.jiter_scan.proofs.Runs.{run_end-ahead}
 use Rattle.jiter_scan.proofs.Scanning.{ScalarWithin}
 use Rattle.jiter_scan.proofs.Standing.{get-none}
 use Rattle.jiter_steps.proofs.SameFront.{SameBefore, range-same}
-use Rattle.jiter_steps.proofs.SameRuns.{IsOfByte, both, run-long, run-same}
+use Rattle.jiter_steps.proofs.Bounds.{both}
+use Rattle.jiter_steps.proofs.SameRuns.{IsOfByte, run-long, run-same}
 
 -- an end before m, where the text goes on; or a fault of a byte there
 abbrev pub Shown : {A : Type 0} → List ℕ → ℕ → Scanned A → Type 0
@@ -94,12 +95,6 @@ module _ (t u : List ℕ) (m : ℕ) (same : SameBefore t u m) where
       (λ c lt. both (SameExtent i) (is_digit c) _ _ _ _ (failed-here i invalid_number lt) (taken-here i lt))
 
   -- the integer part, unless it is too long
-  too_long : (i : ℕ) → i + digit_limit < digit_run_end t i → i + (digit_limit + 1) < m → i ≤ length t
-      → nat_le (digit_run_end u i) (i + digit_limit) ≡ false
-  too_long i long le lt =
-      let more = run-long t u m same is_digit i (digit_limit + 1) lt (omega arith) (omega arith) in
-      grind (arith, nat_tests, more)
-
   limit-same : (i : ℕ) → i < length t → Same i (within_limit i (digit_run_end t i)) (within_limit i (digit_run_end u i))
   limit-same i lt =
       if_case (λ x. Same i x (within_limit i (digit_run_end u i))) (nat_le (digit_run_end t i) (i + digit_limit)) _ _
@@ -107,8 +102,9 @@ module _ (t u : List ℕ) (m : ℕ) (same : SameBefore t u m) where
       let run = run-same t u m same is_digit i (digit_run_end t i) refl s.0 s.1 in
       ((run-taken i lt s).0, lt, ap (within_limit i) run ∙ if-true _ _ _ le))
       (λ gt s.
-      let no = too_long i (leb-false (digit_run_end t i) (i + digit_limit) gt) s.0 (omega arith) in
-      (omega (arith, s.0), lt, if-false _ _ _ no))
+      let long = leb-false (digit_run_end t i) (i + digit_limit) gt in
+      let more = run-long t u m same is_digit i (digit_limit + 1) (omega arith) (omega (arith, s.0)) (omega arith) in
+      (omega (arith, s.0), lt, if-false (nat_le _ (i + digit_limit)) _ _ (grind (arith, nat_tests, more))))
 
   whole-same : (i : ℕ) → Same i (whole_at t i) (whole_at u i)
   whole-same i =

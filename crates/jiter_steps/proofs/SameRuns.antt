@@ -1,5 +1,5 @@
 -- Runs and blanks in two texts with the same bytes before a place.
-use Rattle.std.proofs.Common.{◌≡◌, ◌≢◌, ◌⊎◌, inl, inr, ℕ, ◌+◌, ◌-◌, ◌<◌, ◌≤◌, Bool, true, false, cond, List, length}
+use Rattle.std.proofs.Common.{◌≡◌, ◌≢◌, ◌⊎◌, inl, inr, ℕ, ◌+◌, ◌-◌, ◌<◌, ◌≤◌, Bool, false, List, length}
 use Rattle.std.proofs.Common.{sym, ap, ◌∙◌, subst, arith}
 use Rattle.std.specs.Prelude.{slice_get, slice_index, Some}
 use Rattle.std.proofs.lemmas.Bool.{cases_lt, true≢false}
@@ -15,12 +15,6 @@ use Rattle.jiter_steps.proofs.Blanks.{blank-passed, passed-blank, no_blank-behin
 -- a fault of a byte at its index, or before it: the input goes on, and its UTF-8 is not in question
 abbrev pub IsOfByte : Kind → Type 0
 IsOfByte k = (is_end_kind k ≡ false) × (k ≢ invalid_code_point)
-
--- what holds of both arms of two choices by one test
-pub both : {A : Type 0} (R : A → A → Type 0) (b : Bool) (x y x' y' : A) → R x x' → R y y'
-    → R (cond b x y) (cond b x' y')
-both R true x y x' y' p q = p
-both R false x y x' y' p q = q
 
 module _ (t u : List ℕ) (m : ℕ) (same : SameBefore t u m) where
   pub within-too : (i : ℕ) → i < m → i < length t → i < length u

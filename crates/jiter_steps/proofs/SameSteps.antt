@@ -10,11 +10,11 @@ use Rattle.jiter_steps.specs.Step.{container_first, container_comma, container_s
 use Rattle.jiter_steps.specs.Step.{colon, value_first, object_colon}
 use Rattle.jiter_steps.specs.declared.parse.Shape.{Shape}
 use Rattle.jiter_steps.proofs.SameFront.{SameBefore}
-use Rattle.jiter_steps.proofs.SameRuns.{IsOfByte, both, past_blanks-same}
+use Rattle.jiter_steps.proofs.SameRuns.{IsOfByte, past_blanks-same}
 use Rattle.jiter_steps.proofs.SameNumbers.{Shown, then-same}
 use Rattle.jiter_steps.proofs.BothShapes.{end_kind-early}
 use Rattle.jiter_steps.proofs.Blanks.{past_blanks-after}
-use Rattle.jiter_steps.proofs.Bounds.{either}
+use Rattle.jiter_steps.proofs.Bounds.{either, both}
 
 -- a place before m, or a fault of a byte there
 abbrev pub ShownStep : ℕ → Step → Type 0

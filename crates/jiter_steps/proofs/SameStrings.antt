@@ -18,7 +18,8 @@ use Rattle.jiter_steps.specs.StringReading.{unicode_escape, short, behind_backsl
 use Rattle.jiter_steps.specs.StringReading.{place_by, place_at, Body, before, join, body_at}
 use Rattle.jiter_steps.specs.StringReading.{whole, text_in_form, content_at, string_at}
 use Rattle.jiter_steps.proofs.SameFront.{SameBefore, index-same}
-use Rattle.jiter_steps.proofs.SameRuns.{both, within-too}
+use Rattle.jiter_steps.proofs.Bounds.{both}
+use Rattle.jiter_steps.proofs.SameRuns.{within-too}
 use Rattle.jiter_steps.proofs.SameNumbers.{Shown}
 use Rattle.jiter_steps.proofs.Bodies.{part-ahead, body_at-is, body_at-place_by, place_by-end}
 use Rattle.jiter_steps.proofs.Places.{Explains, place_at-explains}
@@ -142,14 +143,13 @@ module _ (t u : List ℕ) (m : ℕ) (same : SameBefore t u m) where
   bad-place_by : (i k : ℕ) (next : ℕ → Place) → bad_digit u i ≡ Some k
       → Finds (over (wrong invalid_escape k)) (behind next (hex_digits_at u i))
   bad-place_by i k next e =
-      let read = hex_digits_or (bad_digit u i) (unit_at u i) in
-      if_case (λ d. Finds (over (wrong invalid_escape k)) (behind next d)) (nat_lt (length u) (i + 4)) few read
+      if_case (λ d. Finds (over (wrong invalid_escape k)) (behind next d)) (nat_lt (length u) (i + 4)) _ _
       (λ q. inr (tt, refl)) (λ q. inl (ap (λ x. behind next (hex_digits_or x (unit_at u i))) e))
 
   unit-same : (i : ℕ) (f g : ℕ → ℕ → Place) → ((x : ℕ) → Same m (i + 4) (f (i + 4) x) (g (i + 4) x))
       → Same m i (unit_then t i f) (unit_then u i g)
   unit-same i f g all =
-      if_case (λ d. Same m i (behind (f (i + 4)) d) (unit_then u i g)) (nat_lt (length t) (i + 4)) few _
+      if_case (λ d. Same m i (behind (f (i + 4)) d) (unit_then u i g)) (nat_lt (length t) (i + 4)) _ _
       (λ e s. absurd s) (λ e. by (ltb-false (length t) (i + 4) e) (bad_digit t i) refl) where
         by : i + 4 ≤ length t → (o : Option ℕ) → bad_digit t i ≡ o
             → Same m i (behind (f (i + 4)) (hex_digits_or o (unit_at t i))) (unit_then u i g)

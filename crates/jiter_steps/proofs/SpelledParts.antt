@@ -1,8 +1,7 @@
 -- What the grammar spells of a container is parts that stand one behind another; and what a value begins with.
-use Rattle.std.proofs.Common.{◌≡◌, ◌≢◌, ℕ, zero, suc, ◌+◌, ◌-◌, ◌<◌, ◌≤◌, ◌⊎◌, inl, inr, Bool, not, true, false, List}
-use Rattle.std.proofs.Common.{[], ◌∷◌, length, drop, take, refl, sym, ap, ◌∙◌, subst, arith, ◌==◌, IfSome}
+use Rattle.std.proofs.Common.{◌≡◌, ◌≢◌, ℕ, zero, suc, ◌+◌, ◌<◌, ◌≤◌, ◌⊎◌, inl, inr, Bool, not, true, false, List}
+use Rattle.std.proofs.Common.{[], ◌∷◌, length, refl, sym, ap, ◌∙◌, subst, arith, ◌==◌, IfSome}
 use Rattle.std.specs.Prelude.{slice_get, slice_index, slice_range, Some}
-use Rattle.std.proofs.lemmas.List.{drop_more}
 use Rattle.std.proofs.lemmas.Option.{slice_get_within, slice_get-get_or, slice_get_past, get_or_from_slice_get}
 use Rattle.std.proofs.lemmas.Bool.{cases_eq}
 use Rattle.std.proofs.lemmas.Bool.Decides.{nat_tests}
@@ -13,7 +12,7 @@ use Rattle.jiter_scan.proofs.NumberLaws.{continues_number}
 use Rattle.jiter_steps.specs.Answer.{seen_as}
 use Rattle.jiter_steps.specs.Blank.{is_blank, IsBlankByte, IsBlank}
 use Rattle.jiter_scan.specs.Stands.{Stands}
-use Rattle.jiter_scan.proofs.Standing.{stands-length, stands-within}
+use Rattle.jiter_scan.proofs.Standing.{stands-length, stands-within, stands-slice, slice-stands}
 use Rattle.jiter_steps.specs.Literal.{word_of, start_of}
 use Rattle.jiter_steps.specs.Node as grammar
 use Rattle.jiter_steps.specs.Node.{Key, Node, Nodes, no_nodes, node, NodeMembers, no_members, member, begin, end}
@@ -56,36 +55,35 @@ number-byte c e = (grind (arith, nat_tests, e), grind (arith, nat_tests, e), gri
 blank-ends : (c : ℕ) → IsBlankByte c → continues_number c ≡ false
 blank-ends c h = grind (arith, nat_tests, h)
 
-slice-empty : (t : List ℕ) (b e : ℕ) → e ≡ b → slice_range t b e ≡ []
-slice-empty t b e h = let none : e - b ≡ 0 = omega arith in ap (λ k. take k (drop b t)) none
-
 slice-first : (t : List ℕ) (b e : ℕ) → b < e → e ≤ length t
     → slice_range t b e ≡ slice_index t b ∷ slice_range t (b + 1) e
 slice-first t b e h le =
-    let n : e - b ≡ suc (e - (b + 1)) = omega arith in
-    ap (λ k. take k (drop b t)) n ∙ ap (take (suc (e - (b + 1)))) (drop_more t b 0 (omega arith))
+    let here = slice_get-get_or t b 0 (omega arith) in
+    let rest = stands-slice t (b + 1) e (omega arith) le in
+    sym (slice-stands t b e (slice_index t b ∷ slice_range t (b + 1) e) (here, rest))
 
 module _ (t : List ℕ) where
   -- a number does not go on at i
   ends-get : (i c : ℕ) → slice_get t i ≡ Some c → continues_number c ≡ false → EndsNumber t i
   ends-get i c e h = subst (λ o. IfSome o (λ b. continues_number b ≡ false)) (sym e) h
 
-  ends-blank : (i j : ℕ) → IsBlank t i j → i < j → EndsNumber t i
-  ends-blank i j b lt =
-      ends-get i (slice_index t i) (slice_get-get_or t i 0 (omega (arith, b.within)))
-      (blank-ends _ (b.each i (omega arith) lt))
+  -- nor before blanks behind which it does not
+  ends-before : (i j : ℕ) → IsBlank t i j → EndsNumber t j → EndsNumber t i
+  ends-before i j b quiet = by (cases_eq i j) where
+    by : (i ≡ j) ⊎ (i ≢ j) → EndsNumber t i
+    by (inl same) = subst (EndsNumber t) (sym same) quiet
+    by (inr apart) =
+        let lt : i < j = omega (arith, b.ordered) in
+        ends-get i (slice_index t i) (slice_get-get_or t i 0 (omega (arith, b.within)))
+        (blank-ends _ (b.each i (omega arith) lt))
 
   ends-behind : (i sign e : ℕ) → continues_number sign ≡ false → StandsBehind t i sign e → EndsNumber t i
-  ends-behind i sign e quiet h = by (cases_eq i h.at) where
-    by : (i ≡ h.at) ⊎ (i ≢ h.at) → EndsNumber t i
-    by (inl same) = ends-get i sign (ap (slice_get t) same ∙ h.here) quiet
-    by (inr apart) = ends-blank i h.at h.blanks (omega (arith, h.blanks.ordered))
+  ends-behind i sign e quiet h = ends-before i h.at h.blanks (ends-get h.at sign h.here quiet)
 
   pub ends-end : (i : ℕ) → IsBlank t i (length t) → EndsNumber t i
-  ends-end i h = by (cases_eq i (length t)) where
-    by : (i ≡ length t) ⊎ (i ≢ length t) → EndsNumber t i
-    by (inl same) = subst (λ o. IfSome o (λ b. continues_number b ≡ false)) (sym (slice_get_past t i (omega arith))) tt
-    by (inr apart) = ends-blank i (length t) h (omega (arith, h.ordered))
+  ends-end i h =
+      let none = slice_get_past t (length t) (omega arith) in
+      ends-before i (length t) h (subst (λ o. IfSome o (λ b. continues_number b ≡ false)) (sym none) tt)
 
 -- what follows a part ends a number
 more_parts-quiet : {P : Type 0} (t : List ℕ) (closer : ℕ) (Begins : ℕ → Type 0) (IsPart : ℕ → P → ℕ → Type 0)
@@ -131,7 +129,7 @@ module _ (names : Bool) (t : List ℕ) where
 
   number-ahead : (b e : ℕ) → SpellsNumber names t b e → (b ≡ e) ⊎ (b ≢ e) → b < e
   number-ahead b e h (inl same) =
-      absurd (laws.number-not_empty (subst (IsNumberText names) (slice-empty t b e (sym same)) h.text))
+      absurd (laws.number-not_empty (subst (IsNumberText names) (sym (slice-stands t b e [] same)) h.text))
   number-ahead b e h (inr apart) = omega (arith, h.ordered)
 
   -- what a value's first byte says

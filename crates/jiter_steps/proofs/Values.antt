@@ -68,7 +68,7 @@ module _ {K A : Type 0} (r : Rules K A) (t : List ℕ) where
     pub parts_at-within : (b n : ℕ) (parts : List P) (i : ℕ) → b < i → i < length t → length t ≤ i + n
         → Within t b (parts_at r c t n parts i)
     unfolding parts_at
-    parts_at-within b zero parts i lt h p = let no : ⊥ = omega arith in absurd no
+    parts_at-within b zero parts i lt h p = absurd (omega arith)
     parts_at-within b (suc n) parts i lt h p =
         behind_part-within b i parts _ (c.part i) lt (goes.part i h)
         (λ ps j lj h'. parts_at-within b n ps j (omega arith) h' (omega arith))
@@ -90,8 +90,8 @@ module _ {K A : Type 0} (r : Rules K A) (t : List ℕ) where
     parts_at-turns : (n m : ℕ) (parts : List P) (i : ℕ) → i < length t → length t ≤ i + n → length t ≤ i + m
         → parts_at r c t n parts i ≡ parts_at r c t m parts i
     unfolding parts_at
-    parts_at-turns zero m parts i h p q = let no : ⊥ = omega arith in absurd no
-    parts_at-turns (suc n) zero parts i h p q = let no : ⊥ = omega arith in absurd no
+    parts_at-turns zero m parts i h p q = absurd (omega arith)
+    parts_at-turns (suc n) zero parts i h p q = absurd (omega arith)
     parts_at-turns (suc n) (suc m) parts i h p q =
         behind_part-same _ _ i parts (c.part i) (goes.part i h)
         (λ ps j lj h'. parts_at-turns n m ps j h' (omega arith) (omega arith))
@@ -201,7 +201,7 @@ module _ {K A : Type 0} (r : Rules K A) (t : List ℕ) where
   pub inside_at-starts : (room i : ℕ) (s : Start) → 0 < room → start_of (slice_index t i) ≡ s
       → inside_at r t room i ≡ value_with r (inside_at r t (room - 1)) t i s
   unfolding inside_at
-  inside_at-starts zero i s lt e = let no : ⊥ = omega arith in absurd no
+  inside_at-starts zero i s lt e = absurd (omega arith)
   inside_at-starts (suc room) i s lt e =
       let same : suc room - 1 ≡ room = omega arith in ap (value_with r (inside_at r t room) t i) e
       ∙ ap (λ n. value_with r (inside_at r t n) t i s) (sym same)
