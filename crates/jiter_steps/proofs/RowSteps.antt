@@ -4,14 +4,13 @@ use Rattle.std.proofs.Common.{◌∙◌, arith}
 use Rattle.std.specs.Prelude.{slice_get, Option, Some, None}
 use Rattle.std.proofs.lemmas.Option.{slice_get_within}
 use Rattle.std.proofs.lemmas.Bool.{eqb-true, eq-eqb}
-use Rattle.jiter_scan.specs.Kind.{trailing_comma, expected_colon, key_must_be_a_string}
 use Rattle.jiter_scan.specs.Scanned.{taken, failed}
 use Rattle.jiter_scan.specs.Word.{Extent}
 use Rattle.jiter_scan.specs.NumberReading.{extent_then}
 use Rattle.jiter_scan.proofs.Choices.{if_case}
 use Rattle.jiter_steps.specs.Blank.{is_blank, past_blanks, IsBlank}
 use Rattle.jiter_steps.specs.Node.{StandsBehind}
-use Rattle.jiter_steps.specs.Step.{Step, more, closed, stuck, step, closer_of, begins_part, comma_kind_of}
+use Rattle.jiter_steps.specs.Step.{Step, more, closed, stuck, step, closer_of, begins_part}
 use Rattle.jiter_steps.specs.Step.{container_first, container_comma, container_step}
 use Rattle.jiter_steps.specs.Step.{colon, value_first, object_colon}
 use Rattle.jiter_steps.specs.declared.parse.Shape.{Shape}
@@ -128,16 +127,14 @@ module _ (t : List ℕ) where
     first-is i j None s = tt
     first-is i j (Some c) s =
         let Is = StepIs t i (closer_of b) (Part i) in
-        if_case Is (begins_part b c) (more j) _ (part-behind i j c s)
-        (λ e. tested Is c (closer_of b) (closed (j + 1)) (stuck key_must_be_a_string j) (behind i j c (closer_of b) s)
-        (λ e. tt))
+        if_case Is (begins_part b c) _ _ (part-behind i j c s)
+        (λ e. tested Is c (closer_of b) _ _ (behind i j c (closer_of b) s) (λ e. tt))
 
     comma-is : (i j : ℕ) (o : Option ℕ) → Stops i j o → OpenStepIs (Part i) (container_comma b j o)
     comma-is i j None s = tt
     comma-is i j (Some c) s =
         let Is = OpenStepIs (Part i) in
-        if_case Is (begins_part b c) (more j) _ (part-behind i j c s)
-        (λ e. either Is (c == closer_of b) (stuck trailing_comma j) (stuck key_must_be_a_string j) tt tt)
+        if_case Is (begins_part b c) _ _ (part-behind i j c s) (λ e. either Is (c == closer_of b) _ _ tt tt)
 
     step-is : (i j : ℕ) (o : Option ℕ) → Stops i j o
         → StepIs t i (closer_of b) (Behind t i 44 (PartBehind t (PartAt b t))) (container_step b t j o)
@@ -146,8 +143,8 @@ module _ (t : List ℕ) where
         let Is = StepIs t i (closer_of b) (Behind t i 44 (PartBehind t (PartAt b t))) in
         let inside = slice_get_within t j c s.here in
         let next = row-is (OpenStepIs (Part (j + 1))) (container_comma b) (j + 1) (comma-is (j + 1)) (omega arith) in
-        tested Is c (closer_of b) (closed (j + 1)) _ (behind i j c (closer_of b) s)
-        (λ e. tested Is c 44 (step t (container_comma b) (j + 1)) (stuck (comma_kind_of b) j)
+        tested Is c (closer_of b) _ _ (behind i j c (closer_of b) s)
+        (λ e. tested Is c 44 _ _
         (λ e. comma-then i (j + 1) (closer_of b) (PartAt b t) _ (behind i j c 44 s e) next) (λ e. tt))
 
     -- they find what is there
@@ -200,7 +197,7 @@ module _ (t : List ℕ) where
       let inside = slice_get_within t j c s.here in
       let value = row-is (ExtentIs (PartBehind t (ByteAt t) (j + 1))) value_first (j + 1) (value-at (j + 1))
       (omega arith) in
-      tested (ColonLeads i) c 58 (taken tt (j + 1)) (failed expected_colon j)
+      tested (ColonLeads i) c 58 _ _
       (λ e. colon-then i (j + 1) (step t value_first (j + 1)) (behind i j c 58 s e) value) (λ e. tt)
 
   pub object_colon-is : (i : ℕ) → i ≤ length t → ExtentIs (Behind t i 58 (PartBehind t (ByteAt t))) (object_colon t i)

@@ -162,7 +162,8 @@ module _ (names : Bool) (t : List ℕ) where
   first_inside-is b objects d i x few h opens is =
       let fs = open_frames objects d in
       let s = step t (container_first b) (i + 1) in
-      container-begins (ends names) t good any fs i s (omega (arith, length-open_frames objects d)) b opens (step-kept s)
+      let few : length fs ≤ 200 = omega (arith, length-open_frames objects d) in
+      container-begins (ends names) t good any fs i s few b opens (step-kept s)
       ∙ parts-led b fs [] (i + 1) s (container_first-ahead t b (i + 1) (omega arith)) ∙ ap (led_on b fs) is
 
   -- a scalar's end, or its fault

@@ -27,7 +27,7 @@ use Rattle.jiter_steps.proofs.Bounds.{Within}
 use Rattle.jiter_steps.proofs.FirstBytes.{string-first}
 use Rattle.jiter_steps.proofs.Instances.{nodes-advances}
 use Rattle.jiter_steps.proofs.NodeRules.{nodes, nodes_of, node_members_of, key_of}
-use Rattle.jiter_steps.proofs.Parts.{Grammar, parts-are, Reads, ReadParts, BuiltOf, container_at-built}
+use Rattle.jiter_steps.proofs.Parts.{Grammar, parts-are, Reads, BuiltOf, container_at-built}
 use Rattle.jiter_steps.proofs.Pieces.{pieces_from}
 use Rattle.jiter_steps.specs.declared.parse.Shape.TheVariants as shape
 use Rattle.jiter_steps.proofs.RowSteps.{ByteAt, PartAt, begins-quote, PartBehind, Behind, ExtentIs, delimits}
@@ -211,15 +211,6 @@ module _ (names : Bool) (t : List ℕ) where
         subst (MemberSound names t room j) is (behind_key-sound all j quote _ refl within)
 
     -- values
-    built-sound : {P : Type 0} (c : Container P Node) (closer : ℕ) (Begins : ℕ → Type 0) (b : ℕ) (x : Reading Node)
-        → BuiltOf (nodes names) t c closer Begins (b + 1) x → Within t b x
-        → ((ps : List P) (e : ℕ) → ReadParts (nodes names) t c closer Begins ps (b + 1) e → e ≤ length t
-        → Sound names t room b (done (c.build e ps) e))
-        → Sound names t room b x
-    built-sound c closer Begins b (done n e) h w all =
-        subst (λ n. Sound names t room b (done n e)) (sym h.1) (all h.0 e h.2 w.1)
-    built-sound c closer Begins b (fault k x stop) h w all = tt
-
     container-sound : {P : Type 0} (c : Container P Node) (closer : ℕ) (Begins : ℕ → Type 0)
         (Are MoreAre : List P → ℕ → ℕ → Type 0)
         → Delimits t c.first c.next closer Begins → Goes c t
@@ -228,9 +219,14 @@ module _ (names : Bool) (t : List ℕ) where
         → ((ps : List P) (e : ℕ) → Are ps (b + 1) e → e ≤ length t → Sound names t room b (done (c.build e ps) e))
         → Sound names t room b (container_at (nodes names) c t b)
     container-sound c closer Begins Are MoreAre delimits goes grammar b h all =
-        let built = container_at-built (nodes names) t c closer Begins (λ k. refl) delimits goes b h in
-        built-sound c closer Begins b _ built (container_at-within (nodes names) t c goes b h)
-        (λ ps e parts. all ps e (parts-are t closer Begins (Reads c) Are MoreAre grammar ps (b + 1) e parts))
+        by _ (container_at-built (nodes names) t c closer Begins (λ k. refl) delimits goes b h)
+        (container_at-within (nodes names) t c goes b h) where
+          by : (x : Reading Node) → BuiltOf (nodes names) t c closer Begins (b + 1) x → Within t b x
+              → Sound names t room b x
+          by (done n e) built within =
+              let are = parts-are t closer Begins (Reads c) Are MoreAre grammar built.0 (b + 1) e built.2 in
+              subst (λ n. Sound names t room b (done n e)) (sym built.1) (all built.0 e are within.1)
+          by (fault k x stop) built within = tt
 
     pub byte-here : (i c : ℕ) → i < length t → slice_index t i ≡ c → slice_get t i ≡ Some c
     byte-here i c h e = slice_get-get_or t i 0 h ∙ ap Some e
