@@ -11,7 +11,7 @@ use Rattle.jiter_scan.proofs.Scanning.{ScalarWithin}
 use Rattle.jiter_steps.specs.Tree.{Text}
 use Rattle.jiter_steps.specs.Piece.{Piece, SpellsString, text_of, pieces_to}
 use Rattle.jiter_steps.specs.Node.{has_backslash, text_at}
-use Rattle.jiter_steps.specs.StringReading.{Stop, closed, unclosed, cut, wrong, body_at, whole, kept, raw}
+use Rattle.jiter_steps.specs.StringReading.{Stop, closed, wrong, body_at, whole, kept, raw}
 use Rattle.jiter_steps.specs.StringReading.{valid_front_by, text_in_form, content_at, string_at}
 use Rattle.jiter_steps.proofs.StringMarks.{EndOf, mark-is}
 use Rattle.jiter_steps.proofs.Front.{front-get, front-range}
@@ -30,9 +30,7 @@ module _ (t : List ℕ) (i : ℕ) where
       → (x.owned ≡ o) × EndOf t s e
   kept-text bs o (wrong k j) x e h = absurd (cc)
   kept-text bs o (closed f) x e h = valid_front_by-text bs o f (utf8_error_len (drop (utf8_valid_len bs) bs)) x e h
-  kept-text bs o unclosed x e h =
-      valid_front_by-text bs o (length t) (utf8_error_len (drop (utf8_valid_len bs) bs)) x e h
-  kept-text bs o cut x e h = valid_front_by-text bs o (length t) (utf8_error_len (drop (utf8_valid_len bs) bs)) x e h
+  kept-text bs o s x e h = valid_front_by-text bs o (length t) (utf8_error_len (drop (utf8_valid_len bs) bs)) x e h
 
   -- the mark of a text that is kept
   pub kept-mark : (x : Text) (e : ℕ) → slice_get t i ≡ Some 34 → string_at kept t i ≡ taken x e

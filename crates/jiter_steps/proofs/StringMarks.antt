@@ -14,9 +14,8 @@ use Rattle.jiter_steps.proofs.Bodies.{part-ahead, each-body}
 -- where a string ends: behind its quote or with the input
 abbrev pub EndOf : List ℕ → Stop → ℕ → Type 0
 EndOf t (closed f) e = f ≡ e
-EndOf t unclosed e = length t ≡ e
-EndOf t cut e = length t ≡ e
 EndOf t (wrong k j) e = ⊥
+EndOf t s e = length t ≡ e
 
 module _ (t : List ℕ) where
   -- of the bytes from i on, the first and the others
