@@ -9,7 +9,6 @@ use Rattle.jiter_scan.specs.Scanned.{Scanned, taken, failed}
 use Rattle.jiter_scan.specs.Word.{Extent}
 use Rattle.jiter_scan.proofs.Scanning.{ScalarWithin}
 use Rattle.jiter_steps.specs.Answer.{seen_as}
-use Rattle.jiter_steps.specs.Blank.{IsBlank}
 use Rattle.jiter_steps.specs.Literal.{start_of, literal_at}
 use Rattle.jiter_steps.specs.Node as grammar
 use Rattle.jiter_steps.specs.Node.{Key, Node, Nodes, no_nodes, node, NodeMembers, no_members, member, begin, end}
@@ -112,12 +111,10 @@ module _ (names : Bool) (t : List ℕ) where
         → PartBehind t (ByteAt t) colon j → (x : Reading Node) → InsideSound names t room j x
         → MemberSound names t room i (with_key k x)
     with_key-sound i colon j k begins string behind h (done n d) is =
-        let at = sym is.0.begins in
-        let blanks = subst (IsBlank t colon) at h.blanks in
         record {
           begins = begins;
-          key = record { string = string; colon = colon; behind = behind; blanks = blanks };
-          value = subst (λ b. IsNodeAt names t b n d) at is.0;
+          key = record { string = string; colon = colon; behind = behind; blanks = rw is.0.begins h.blanks };
+          value = rw is.0.begins is.0;
           limit = is.1;
         }
     with_key-sound i colon j k begins string behind h (fault kind x stop) is = tt
@@ -175,10 +172,10 @@ module _ (names : Bool) (t : List ℕ) where
       none = λ i e h. (h, omega arith);
       no_more = λ i e h. (h, omega arith);
       part = λ n ns i j m e blanks at is rest.
-          let x = each j n m at is in
-          let more_items = subst (λ k. SpellsMoreItems names t k (nodes_of ns) e) (sym x.0.ends) rest.0 in
-          let blanks = subst (IsBlank t i) (sym x.0.begins) blanks in
-          ((blanks, x.0.spelled, more_items), round-items n (nodes_of ns) room x.1 rest.1);
+          let x = each j n m at is in (
+            (rw x.0.begins blanks, x.0.spelled, rw x.0.ends rest.0),
+            round-items n (nodes_of ns) room x.1 rest.1,
+          );
       comma = λ n ns i c e h x. ((c, h, x.0.0, x.0.1, x.0.2), x.1);
     }
 
@@ -189,10 +186,8 @@ module _ (names : Bool) (t : List ℕ) where
       none = λ i e h. (h, omega arith);
       no_more = λ i e h. (h, omega arith);
       part = λ p ms i j m e blanks at is rest.
-          let x = each j p m at is in
-          let ends = sym x.value.ends in
-          let more_members = subst (λ k. SpellsMoreMembers names t k (node_members_of ms) e) ends rest.0 in (
-            (subst (IsBlank t i) (sym x.begins) blanks, x.key, x.value.spelled, more_members),
+          let x = each j p m at is in (
+            (rw x.begins blanks, x.key, x.value.spelled, rw x.value.ends rest.0),
             round-members p.0 p.1 (node_members_of ms) room x.limit rest.1,
           );
       comma = λ p ms i c e h x. ((c, h, x.0.0, x.0.1, x.0.2, x.0.3), x.1);
