@@ -28,25 +28,24 @@ plain_more t from at h le lt printed =
     ∙ before-before (slice_range t from at) (b ∷ []) false false (body_at t (at + 1))
     ∙ ap (λ l. before l false (body_at t (at + 1))) (sym (between_more t from at 0 le lt))
 
+-- of the string read from a place, the bytes decoded up to another stand on the tape, and the rest is read from there
+abbrev pub Decoded : List ℕ → List ℕ → ℕ → ℕ → Type 0
+Decoded t tape from at =
+    ((body_at t from).bytes ≡ tape ++ (body_at t at).bytes) × ((body_at t from).stop ≡ (body_at t at).stop)
+
 -- a part is added
-pub part_more : (t old tape bs : List ℕ) (from at j : ℕ) (o : Bool)
-    → old ++ (body_at t from).bytes ≡ tape ++ (body_at t at).bytes → (body_at t from).stop ≡ (body_at t at).stop
-    → place_at t at ≡ part bs o j
-    → (old ++ (body_at t from).bytes ≡ (tape ++ bs) ++ (body_at t j).bytes)
-    × ((body_at t from).stop ≡ (body_at t j).stop) × (at < j) × (j ≤ length t)
-part_more t old tape bs from at j o h s e =
+pub part_more : (t tape bs : List ℕ) (from at j : ℕ) (o : Bool) → Decoded t tape from at → place_at t at ≡ part bs o j
+    → Decoded t (tape ++ bs) from j × (at < j) × (j ≤ length t)
+part_more t tape bs from at j o d e =
     let b = body_at-place_by t at (part bs o j) e in
-    let a = part-ahead t at j bs o (subst (Explains t at) e (place_at-explains t at)) in
-    (rw (h, b, append_assoc), rw (s, b), a.0, a.1)
+    let ahead = part-ahead t at j bs o (subst (Explains t at) e (place_at-explains t at)) in
+    ((rw (d.0, b, append_assoc), rw (d.1, b)), ahead.0, ahead.1)
 
 -- the end
-pub part_over : (t old tape : List ℕ) (from at : ℕ) (x : Stop)
-    → old ++ (body_at t from).bytes ≡ tape ++ (body_at t at).bytes → (body_at t from).stop ≡ (body_at t at).stop
-    → place_at t at ≡ over x
-    → (tape ≡ old ++ (body_at t from).bytes) × ((body_at t from).stop ≡ x)
-part_over t old tape from at x h s e =
-    let b = body_at-place_by t at (over x) e in
-    (rw (h, b, append-nil), rw (s, b))
+pub part_over : (t tape : List ℕ) (from at : ℕ) (x : Stop) → Decoded t tape from at → place_at t at ≡ over x
+    → (tape ≡ (body_at t from).bytes) × ((body_at t from).stop ≡ x)
+part_over t tape from at x d e =
+    let b = body_at-place_by t at (over x) e in (rw (d.0, b, append-nil), rw (d.1, b))
 
 -- how a string goes on behind its plain bytes, by the byte there
 pub at_none : (t : List ℕ) (from to : ℕ) → body_at t from ≡ before (slice_range t from to) false (body_at t to)
