@@ -47,6 +47,12 @@ pub either : {A : Type 0} (P : A → Type 0) (b : Bool) (x y : A) → P x → P 
 either P true x y p q = p
 either P false x y p q = q
 
+-- what holds of both arms of two choices by one test
+pub both : {A B : Type 0} (R : A → B → Type 0) (b : Bool) (x y : A) (x' y' : B) → R x x' → R y y'
+    → R (cond b x y) (cond b x' y')
+both R true x y x' y' p q = p
+both R false x y x' y' p q = q
+
 reaches : (t : List ℕ) (j : ℕ) → j ≤ length t → (o : Option ℕ) → slice_get t j ≡ o → Reaches t j o
 reaches t j le None e = omega (arith, get-none t j e)
 reaches t j le (Some c) e = slice_get_within t j c e

@@ -16,7 +16,8 @@ use Rattle.jiter_scan.specs.Word.{Extent, byte_then, word_at}
 use Rattle.jiter_scan.proofs.Choices.{failed-taken, same_taken}
 use Rattle.jiter_scan.proofs.Runs.{run_end-ahead, run_end-within}
 use Rattle.jiter_steps.proofs.Front.{front-length, front-same, front-get, front-past}
-use Rattle.jiter_steps.proofs.SameRuns.{both, run-same, run-long}
+use Rattle.jiter_steps.proofs.SameRuns.{run-same, run-long}
+use Rattle.jiter_steps.proofs.Bounds.{both}
 
 -- it is taken up to k, or the input ends too early
 abbrev pub CutAt : {A : Type 0} → ℕ → Scanned A → Type 0
