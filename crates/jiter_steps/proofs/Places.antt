@@ -60,7 +60,7 @@ pub record HexAt (t : List ℕ) (i : ℕ) : Type 0 where
 -- every digit is good, or the first bad one is there
 abbrev BadOrHex : List ℕ → ℕ → Option ℕ → Type 0
 BadOrHex t i None = HexAt t i
-BadOrHex t i (Some k) = (i ≤ k) × (k < i + 4)
+BadOrHex t i (Some k) = (i ≤ k) × (k < length t)
 
 bad_digit-explains : (t : List ℕ) (i : ℕ) → i + 4 ≤ length t → BadOrHex t i (bad_digit t i)
 bad_digit-explains t i within =
@@ -73,17 +73,15 @@ bad_digit-explains t i within =
     (λ e. (omega arith, omega arith)))
     (λ e. (omega arith, omega arith))
 
-pub hex_digits_at-case : (P : Place → Type 0) (t : List ℕ) (i : ℕ) (next : ℕ → Place) → P (over cut)
+hex_digits_at-case : (P : Place → Type 0) (t : List ℕ) (i : ℕ) (next : ℕ → Place) → P (over cut)
     → ((k : ℕ) → i ≤ k → k < length t → P (over (wrong invalid_escape k))) → (HexAt t i → P (next (unit_at t i)))
     → P (behind next (hex_digits_at t i))
 hex_digits_at-case P t i next none wrong_at good =
-    if_case (λ d. P (behind next d)) (nat_lt (length t) (i + 4)) _ _
-    (λ e. none) (λ e.
-    let within : i + 4 ≤ length t =
-    ltb-false (length t) (i + 4) e in by within (bad_digit t i) (bad_digit-explains t i within)) where
-      by : i + 4 ≤ length t → (x : Option ℕ) → BadOrHex t i x → P (behind next (hex_digits_or x (unit_at t i)))
-      by within None h = good h
-      by within (Some k) h = wrong_at k h.0 (omega arith)
+    if_case (λ d. P (behind next d)) (nat_lt (length t) (i + 4)) _ _ (λ e. none)
+    (λ e. by (bad_digit t i) (bad_digit-explains t i (ltb-false (length t) (i + 4) e))) where
+      by : (x : Option ℕ) → BadOrHex t i x → P (behind next (hex_digits_or x (unit_at t i)))
+      by None h = good h
+      by (Some k) h = wrong_at k h.0 h.1
 
 -- `\u` and four hex digits of the number u, from o to before e
 pub record UnitAt (t : List ℕ) (o e u : ℕ) : Type 0 where
