@@ -2,7 +2,7 @@
 use Rattle.std.proofs.Common.{◌≡◌, ℕ, zero, suc, ◌+◌, ◌<◌, ◌≤◌, ◌||◌, Bool, true, false, List, ◌++◌, length, refl, sym}
 use Rattle.std.proofs.Common.{ap, ◌∙◌, subst, arith, append_assoc, length-append}
 use Rattle.std.proofs.lemmas.Option.{slice_get_past, slice_get_within}
-use Rattle.jiter_steps.specs.StringReading.{Stop, closed, unclosed, cut, wrong, Place, part, over, place_by, place_at}
+use Rattle.jiter_steps.specs.StringReading.{Stop, closed, unclosed, wrong, Place, part, over, place_by, place_at}
 use Rattle.jiter_steps.specs.StringReading.{Body, before, join, body_within, body_at}
 use Rattle.jiter_steps.proofs.Places.{IsPlaceKind, Explains, place_at-explains}
 
@@ -82,21 +82,18 @@ module _ (t : List ℕ) where
 -- where a string stops that is read from i on: behind i, or at a fault of a place
 abbrev pub StopWithin : List ℕ → ℕ → Stop → Type 0
 StopWithin t i (closed e) = (i < e) × (e ≤ length t)
-StopWithin t i unclosed = Unit {0}
-StopWithin t i cut = Unit {0}
 StopWithin t i (wrong k j) = (i ≤ j) × (j < length t) × IsPlaceKind k
+StopWithin t i s = Unit {0}
 
 stop-later : (t : List ℕ) (i j : ℕ) → i < j → (s : Stop) → StopWithin t j s → StopWithin t i s
 stop-later t i j l (closed e) h = (omega (arith, h.0), h.1)
-stop-later t i j l unclosed h = tt
-stop-later t i j l cut h = tt
 stop-later t i j l (wrong k x) h = (omega (arith, h.0), h.1, h.2)
+stop-later t i j l s h = tt
 
 stop-over : (t : List ℕ) (i : ℕ) (s : Stop) → Explains t i (over s) → StopWithin t i s
 stop-over t i (closed e) h = let inside = slice_get_within t i 34 h.0 in (omega (arith, h.1), omega (arith, h.1))
-stop-over t i unclosed h = tt
-stop-over t i cut h = tt
 stop-over t i (wrong k j) h = h
+stop-over t i s h = tt
 
 pub body_at-within : (t : List ℕ) (i : ℕ) → StopWithin t i (body_at t i).stop
 body_at-within t =

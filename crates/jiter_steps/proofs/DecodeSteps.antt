@@ -1,20 +1,20 @@
 -- Steps of the code's loops.
-use Rattle.std.proofs.Common.{◌≡◌, ◌≢◌, ℕ, ◌+◌, ◌<◌, ◌≤◌, Bool, true, false, List, [], ◌∷◌, ◌++◌, length, refl, sym, ap}
-use Rattle.std.proofs.Common.{◌∙◌, subst, arith, append_assoc, append-nil}
+use Rattle.std.proofs.Common.{◌≡◌, ◌≢◌, ℕ, ◌+◌, ◌<◌, ◌≤◌, Bool, true, false, List, [], ◌∷◌, ◌++◌, length, sym, ap}
+use Rattle.std.proofs.Common.{◌∙◌, subst, append_assoc, append-nil}
 use Rattle.std.specs.Prelude.{slice_get, slice_index, slice_range, Some, None}
 use Rattle.std.proofs.lemmas.Bool.{ne_eqb, lt-ltb, eq-eqb}
 use Rattle.std.proofs.lemmas.List.Edits.{between_more}
-use Rattle.std.proofs.lemmas.Option.{none-some, same_Some}
 use Rattle.jiter_scan.specs.Scanned.{failed, taken}
-use Rattle.jiter_steps.specs.StringReading.{Place, part, over, Stop, closed, unclosed, cut, wrong, place_at}
+use Rattle.jiter_steps.specs.StringReading.{part, over, Stop, closed, unclosed, wrong, place_at}
 use Rattle.jiter_steps.specs.StringReading.{Body, before, body_at, whole}
-use Rattle.jiter_steps.specs.StringReading.{if_utf8, text_in_form, content_at, join}
+use Rattle.jiter_steps.specs.StringReading.{if_utf8, text_in_form, content_at}
 use Rattle.jiter_scan.specs.Kind.{eof_string, control_character}
 use Rattle.std.specs.Str.{IsUtf8}
 use Rattle.std.proofs.lemmas.Str.{utf8_valid_len-IsUtf8}
 use Rattle.jiter_steps.proofs.StringStand.{got}
 use Rattle.jiter_steps.proofs.Places.{place_at-explains, Explains}
-use Rattle.jiter_steps.proofs.Bodies.{before-before, body_at-is, body_at-place_by, part-ahead}
+use Rattle.jiter_steps.proofs.Bodies.{before-before, body_at-place_by, part-ahead}
+use Rattle.jiter_steps.proofs.StringMarks.{backslash-owned}
 use Rattle.jiter_steps.proofs.StringComplete.{IsPrinted, place_by-byte, place_by-quote}
 
 pub plain_more : (t : List ℕ) (from at : ℕ) → body_at t from ≡ before (slice_range t from at) false (body_at t at)
@@ -28,25 +28,24 @@ plain_more t from at h le lt printed =
     ∙ before-before (slice_range t from at) (b ∷ []) false false (body_at t (at + 1))
     ∙ ap (λ l. before l false (body_at t (at + 1))) (sym (between_more t from at 0 le lt))
 
+-- of the string read from a place, the bytes decoded up to another stand on the tape, and the rest is read from there
+abbrev pub Decoded : List ℕ → List ℕ → ℕ → ℕ → Type 0
+Decoded t tape from at =
+    ((body_at t from).bytes ≡ tape ++ (body_at t at).bytes) × ((body_at t from).stop ≡ (body_at t at).stop)
+
 -- a part is added
-pub part_more : (t old tape bs : List ℕ) (from at j : ℕ) (o : Bool)
-    → old ++ (body_at t from).bytes ≡ tape ++ (body_at t at).bytes → (body_at t from).stop ≡ (body_at t at).stop
-    → place_at t at ≡ part bs o j
-    → (old ++ (body_at t from).bytes ≡ (tape ++ bs) ++ (body_at t j).bytes)
-    × ((body_at t from).stop ≡ (body_at t j).stop) × (at < j) × (j ≤ length t)
-part_more t old tape bs from at j o h s e =
+pub part_more : (t tape bs : List ℕ) (from at j : ℕ) (o : Bool) → Decoded t tape from at → place_at t at ≡ part bs o j
+    → Decoded t (tape ++ bs) from j × (at < j) × (j ≤ length t)
+part_more t tape bs from at j o d e =
     let b = body_at-place_by t at (part bs o j) e in
-    let a = part-ahead t at j bs o (subst (Explains t at) e (place_at-explains t at)) in
-    (rw (h, b, append_assoc), rw (s, b), a.0, a.1)
+    let ahead = part-ahead t at j bs o (subst (Explains t at) e (place_at-explains t at)) in
+    ((rw (d.0, b, append_assoc), rw (d.1, b)), ahead.0, ahead.1)
 
 -- the end
-pub part_over : (t old tape : List ℕ) (from at : ℕ) (x : Stop)
-    → old ++ (body_at t from).bytes ≡ tape ++ (body_at t at).bytes → (body_at t from).stop ≡ (body_at t at).stop
-    → place_at t at ≡ over x
-    → (tape ≡ old ++ (body_at t from).bytes) × ((body_at t from).stop ≡ x)
-part_over t old tape from at x h s e =
-    let b = body_at-place_by t at (over x) e in
-    (rw (h, b, append-nil), rw (s, b))
+pub part_over : (t tape : List ℕ) (from at : ℕ) (x : Stop) → Decoded t tape from at → place_at t at ≡ over x
+    → (tape ≡ (body_at t from).bytes) × ((body_at t from).stop ≡ x)
+part_over t tape from at x d e =
+    let b = body_at-place_by t at (over x) e in (rw (d.0, b, append-nil), rw (d.1, b))
 
 -- how a string goes on behind its plain bytes, by the byte there
 pub at_none : (t : List ℕ) (from to : ℕ) → body_at t from ≡ before (slice_range t from to) false (body_at t to)
@@ -71,23 +70,6 @@ at_control t from to b h e q s l =
     rw (e, ne_eqb b 34 q, ne_eqb b 92 s, lt-ltb b 32 l) in
     rw (h, body_at-place_by t to (over (wrong control_character to)) there)
 
--- behind a backslash
-owned_behind : (t : List ℕ) (i e : ℕ) → slice_get t i ≡ Some 92 → (x : Place) → Explains t i x
-    → (join (body_at t) x).stop ≡ closed e → (join (body_at t) x).owned ≡ true
-owned_behind t i e h (part bs true j) x s = refl
-owned_behind t i e h (part bs false j) x s = absurd (x.no_backslash (same_Some _ _ (sym x.here ∙ h)))
-owned_behind t i e h (over (closed f)) x s = let no = same_Some _ _ (sym x.0 ∙ h) in absurd (omega arith)
-owned_behind t i e h (over unclosed) x s = absurd (none-some _ (sym x ∙ h))
-owned_behind t i e h (over cut) x s = refl
-owned_behind t i e h (over (wrong k j)) x s = let no : wrong k j ≡ closed e = s in absurd (cc)
-
-backslash_owned : (t : List ℕ) (i e : ℕ) → slice_get t i ≡ Some 92 → (body_at t i).stop ≡ closed e
-    → (body_at t i).owned ≡ true
-backslash_owned t i e h s =
-    let b = body_at-is t i in
-    ap (λ (b : Body). b.owned) b ∙ owned_behind t i e h (place_at t i) (place_at-explains t i)
-    (sym (ap (λ (b : Body). b.stop) b) ∙ s)
-
 -- bytes that are UTF-8
 pub checked_text : (i e : ℕ) (o : Bool) (bs : List ℕ) → IsUtf8 bs
     → if_utf8 i o bs e ≡ taken (record { owned = o; bytes = bs }) e
@@ -98,7 +80,7 @@ pub at_backslash : (t : List ℕ) (from to e : ℕ) → body_at t from ≡ befor
     → content_at whole t from ≡ if_utf8 from true (body_at t from).bytes e
 unfolding content_at
 at_backslash t from to e h b s =
-    let owned = ap (λ (x : Body). x.owned) h ∙ backslash_owned t to e b (sym (ap (λ (x : Body). x.stop) h) ∙ s) in
+    let owned = ap (λ (x : Body). x.owned) h ∙ backslash-owned t to e b (sym (ap (λ (x : Body). x.stop) h) ∙ s) in
     rw (owned, s)
 
 pub at_stop : (t : List ℕ) (from : ℕ) (x : Stop) → (body_at t from).stop ≡ x

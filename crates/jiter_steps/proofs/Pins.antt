@@ -22,15 +22,13 @@ same-fault e f k x = (fault_kind-injective e.kind f.kind k, x)
 -- equal values, or equal faults
 abbrev pub SameResult : {X A : Type 0} → (X → A) → Result X Fault → Result X Fault → Type 0
 SameResult view (Ok x) (Ok y) = view x ≡ view y
-SameResult view (Ok x) (Err f) = ⊥
-SameResult view (Err e) (Ok y) = ⊥
 SameResult view (Err e) (Err f) = SameFault e f
+SameResult view r q = ⊥
 
 going-same : (a b : Bool) (i j : ℕ) (s : Step) → s ≡ going a i → s ≡ going b j → (a ≡ b) × (i ≡ j)
 going-same true true i j s h g = (λ k. true, cc)
 going-same false false i j s h g = (λ k. false, cc)
-going-same true false i j s h g = absurd (cc)
-going-same false true i j s h g = absurd (cc)
+going-same a b i j s h g = absurd (cc)
 
 going-stuck : (a : Bool) (i j : ℕ) (k : Kind) (s : Step) → s ≡ going a i → s ≡ stuck k j → ⊥
 going-stuck true i j k s h g = cc
@@ -78,14 +76,12 @@ module _ {X A : Type 0} (view : X → A) (s : Reading A) where
   SameOrRefused (Err (error.Memory m)) q i j = Unit {0}
   SameOrRefused r (Err (error.Memory m)) i j = Unit {0}
   SameOrRefused (Ok x) (Ok y) i j = (view x ≡ view y) × (i ≡ j)
-  SameOrRefused (Ok x) (Err (error.Fault f)) i j = ⊥
-  SameOrRefused (Err (error.Fault e)) (Ok y) i j = ⊥
   SameOrRefused (Err (error.Fault e)) (Err (error.Fault f)) i j = SameFault e f × (i ≡ j)
+  SameOrRefused r q i j = ⊥
 
   pub Gives-pins : (r q : Result X ReadError) (i j : ℕ) → Gives view r i s → Gives view q j s → SameOrRefused r q i j
   Gives-pins (Err (error.Memory m)) q i j h g = tt
-  Gives-pins (Ok x) (Err (error.Memory m)) i j h g = tt
-  Gives-pins (Err (error.Fault e)) (Err (error.Memory m)) i j h g = tt
+  Gives-pins r (Err (error.Memory m)) i j h g = tt
   Gives-pins (Ok x) (Ok y) i j h g = Reads-pins (Ok x) (Ok y) i j h g
   Gives-pins (Ok x) (Err (error.Fault f)) i j h g = (Reads-pins (Ok x) (Err f) i j h g).0
   Gives-pins (Err (error.Fault e)) (Ok y) i j h g = (Reads-pins (Err e) (Ok y) i j h g).0

@@ -1,6 +1,6 @@
 -- What is found at a place, in the grammar's words.
 use Rattle.std.proofs.Common.{◌≡◌, ◌≢◌, ◌⊎◌, inl, inr, ℕ, ◌+◌, ◌*◌, ◌<◌, ◌≤◌, true, false, List, [], ◌∷◌, ◌++◌}
-use Rattle.std.proofs.Common.{length, refl, ap, ◌∙◌, subst, arith}
+use Rattle.std.proofs.Common.{length, refl, sym, ap, ◌∙◌, subst, arith}
 use Rattle.std.specs.Prelude.{slice_get, slice_index, Option, Some, None, ◌==◌, nat_lt}
 use Rattle.std.specs.Char.{IsScalar, encode_utf8, digit_value}
 use Rattle.std.proofs.lemmas.Bool.{eqb-true, eqb-false, ltb-true, ltb-false}
@@ -16,7 +16,7 @@ use Rattle.jiter_steps.specs.StringReading.{hex_digits_or, hex_digits_at, behind
 use Rattle.jiter_steps.specs.StringReading.{behind_high_backslash, behind_high, single, unicode_escape, short}
 use Rattle.jiter_steps.specs.StringReading.{behind_backslash, place_by, place_at}
 use Rattle.jiter_scan.proofs.Choices.{if_case}
-use Rattle.jiter_scan.proofs.Standing.{stands-append}
+use Rattle.jiter_scan.proofs.Standing.{stands-append, stands-within}
 use Rattle.jiter_steps.proofs.StringStand.{got}
 
 pub record ByteAt (t : List ℕ) (i : ℕ) (bs : List ℕ) (j : ℕ) : Type 0 where
@@ -60,7 +60,7 @@ pub record HexAt (t : List ℕ) (i : ℕ) : Type 0 where
 -- every digit is good, or the first bad one is there
 abbrev BadOrHex : List ℕ → ℕ → Option ℕ → Type 0
 BadOrHex t i None = HexAt t i
-BadOrHex t i (Some k) = (i ≤ k) × (k < i + 4)
+BadOrHex t i (Some k) = (i ≤ k) × (k < length t)
 
 bad_digit-explains : (t : List ℕ) (i : ℕ) → i + 4 ≤ length t → BadOrHex t i (bad_digit t i)
 bad_digit-explains t i within =
@@ -73,17 +73,15 @@ bad_digit-explains t i within =
     (λ e. (omega arith, omega arith)))
     (λ e. (omega arith, omega arith))
 
-pub hex_digits_at-case : (P : Place → Type 0) (t : List ℕ) (i : ℕ) (next : ℕ → Place) → P (over cut)
+hex_digits_at-case : (P : Place → Type 0) (t : List ℕ) (i : ℕ) (next : ℕ → Place) → P (over cut)
     → ((k : ℕ) → i ≤ k → k < length t → P (over (wrong invalid_escape k))) → (HexAt t i → P (next (unit_at t i)))
     → P (behind next (hex_digits_at t i))
 hex_digits_at-case P t i next none wrong_at good =
-    if_case (λ d. P (behind next d)) (nat_lt (length t) (i + 4)) _ _
-    (λ e. none) (λ e.
-    let within : i + 4 ≤ length t =
-    ltb-false (length t) (i + 4) e in by within (bad_digit t i) (bad_digit-explains t i within)) where
-      by : i + 4 ≤ length t → (x : Option ℕ) → BadOrHex t i x → P (behind next (hex_digits_or x (unit_at t i)))
-      by within None h = good h
-      by within (Some k) h = wrong_at k h.0 (omega arith)
+    if_case (λ d. P (behind next d)) (nat_lt (length t) (i + 4)) _ _ (λ e. none)
+    (λ e. by (bad_digit t i) (bad_digit-explains t i (ltb-false (length t) (i + 4) e))) where
+      by : (x : Option ℕ) → BadOrHex t i x → P (behind next (hex_digits_or x (unit_at t i)))
+      by None h = good h
+      by (Some k) h = wrong_at k h.0 h.1
 
 -- `\u` and four hex digits of the number u, from o to before e
 pub record UnitAt (t : List ℕ) (o e u : ℕ) : Type 0 where
@@ -151,8 +149,31 @@ scalar-short b c e = grind (arith, nat_tests, e)
 ascii-short : (b c : ℕ) → short_escape b ≡ Some c → c < 128
 ascii-short b c e = grind (arith, nat_tests, e)
 
+pub escape-scalar : (p : List ℕ) (c : ℕ) → IsEscape p c → IsScalar c
+escape-scalar p c (inl is) = scalar-short is.sign c is.means
+escape-scalar p c (inr (inl is)) = is.1
+escape-scalar p c (inr (inr is)) = subst IsScalar (sym is.means) (scalar-pair is.high is.low is.is_high is.is_low)
+
 at-most-four : (c o j : ℕ) → o + 6 ≤ j → o + length (encode_utf8 c) ≤ j
 at-most-four c o j h = omega (arith, length-encode c, (len_utf8_bounds c).1)
+
+-- an escape that stands there
+escaped : (t : List ℕ) (o j c : ℕ) (p : List ℕ) → slice_get t o ≡ Some 92 → Stands t o j p → IsEscape p c
+    → o + length (encode_utf8 c) ≤ j → EscapeAt t o (encode_utf8 c) j
+escaped t o j c p slash stands escape wide =
+    let inside = slice_get_within t o 92 slash in
+    record {
+      character = c;
+      bytes = p;
+      is = refl;
+      scalar = escape-scalar p c escape;
+      backslash = slash;
+      stands = stands;
+      escape = escape;
+      ahead = omega (arith, wide, length-encode c, (len_utf8_bounds c).0);
+      wide = wide;
+      within = stands-within t o j p (omega arith) stands;
+    }
 
 module _ (t : List ℕ) (o : ℕ) where
   -- where the digits of the escape at o end, and those of one behind it
@@ -165,30 +186,22 @@ module _ (t : List ℕ) (o : ℕ) where
   surrogate_pair-explains : (high low : ℕ) → is_high high ≡ true → UnitAt t o one high → UnitAt t one two low
       → Explains t o (surrogate_pair high two low)
   surrogate_pair-explains high low hi x y =
-      if_case (Explains t o) (is_low low) _ _ (λ lo. record {
-        character = pair_of high low;
-        bytes = unit_bytes t (o + 1 + 1) ++ unit_bytes t (one + 1 + 1);
+      let front = unit_bytes t (o + 1 + 1) in
+      let back = unit_bytes t (one + 1 + 1) in
+      let stands = stands-append t o one two front back (unit-stands t o one high x) (unit-stands t one two low y) in
+      if_case (Explains t o) (is_low low) _ _
+      (λ lo. escaped t o two (pair_of high low) (front ++ back) x.slash stands (inr (inr (record {
+        front = front;
+        back = back;
+        high = high;
+        low = low;
         is = refl;
-        scalar = scalar-pair high low hi lo;
-        backslash = x.slash;
-        stands = stands-append t o one two (unit_bytes t (o + 1 + 1)) (unit_bytes t (one + 1 + 1))
-            (unit-stands t o one high x) (unit-stands t one two low y);
-        escape = inr (inr (record {
-          front = unit_bytes t (o + 1 + 1);
-          back = unit_bytes t (one + 1 + 1);
-          high = high;
-          low = low;
-          is = refl;
-          first = unit-is t o one high x;
-          second = unit-is t one two low y;
-          is_high = hi;
-          is_low = lo;
-          means = refl;
-        }));
-        ahead = omega arith;
-        wide = at-most-four (pair_of high low) o two (omega arith);
-        within = omega (arith, y.hex.within);
-      })
+        first = unit-is t o one high x;
+        second = unit-is t one two low y;
+        is_high = hi;
+        is_low = lo;
+        means = refl;
+      }))) (at-most-four (pair_of high low) o two (omega arith)))
       (λ no. (omega arith, omega (arith, y.hex.within), inr (inl refl)))
 
   behind_high_backslash-explains : (high : ℕ) → is_high high ≡ true → UnitAt t o one high → slice_get t one ≡ Some 92
@@ -218,19 +231,8 @@ module _ (t : List ℕ) (o : ℕ) where
   single-explains : (u : ℕ) → UnitAt t o one u → is_high u ≡ false → Explains t o (single one u)
   single-explains u x hi =
       if_case (Explains t o) (is_low u) _ _ (λ lo. (omega arith, omega (arith, x.hex.within), inr (inl refl))) (λ lo.
-      let scalar = scalar-unit t o one u x hi lo in
-      record {
-        character = u;
-        bytes = unit_bytes t (o + 1 + 1);
-        is = refl;
-        scalar = scalar;
-        backslash = x.slash;
-        stands = unit-stands t o one u x;
-        escape = inr (inl (unit-is t o one u x, scalar));
-        ahead = omega arith;
-        wide = at-most-four u o one (omega arith);
-        within = omega (arith, x.hex.within);
-      })
+      escaped t o one u (unit_bytes t (o + 1 + 1)) x.slash (unit-stands t o one u x)
+      (inr (inl (unit-is t o one u x, scalar-unit t o one u x hi lo))) (at-most-four u o one (omega arith)))
 
   unicode_escape-explains : (u : ℕ) → UnitAt t o one u → Explains t o (unicode_escape t one u)
   unicode_escape-explains u x =
@@ -242,19 +244,10 @@ module _ (t : List ℕ) (o : ℕ) where
         → Explains t o (short (o + 1) x)
     short-explains b e None me = (omega arith, slice_get_within t (o + 1) b e, inl refl)
     short-explains b e (Some c) me =
-        let inside = slice_get_within t (o + 1) b e in
-        record {
-          character = c;
-          bytes = 92 ∷ b ∷ [];
-          is = refl;
-          scalar = scalar-short b c me;
-          backslash = slash;
-          stands = (slash, (e, refl));
-          escape = inl (record { sign = b; is = refl; means = me });
-          ahead = omega arith;
-          wide = omega (arith, len_utf8_ascii c (ascii-short b c me), length-encode c);
-          within = omega arith;
-        }
+        let wide : o + length (encode_utf8 c) ≤ o + 1 + 1 =
+        omega (arith, len_utf8_ascii c (ascii-short b c me), length-encode c) in
+        escaped t o (o + 1 + 1) c (92 ∷ b ∷ []) slash (slash, (e, refl))
+        (inl (record { sign = b; is = refl; means = me })) wide
 
     behind_backslash-explains : (x : Option ℕ) → slice_get t (o + 1) ≡ x
         → Explains t o (behind_backslash t (o + 1) x)

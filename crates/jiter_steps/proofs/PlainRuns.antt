@@ -9,7 +9,7 @@ use Rattle.jiter_scan.specs.Scan.{is_stop, is_plain, scan_stop}
 use Rattle.jiter_scan.proofs.Runs.{run_end-ahead, run_end-within, run_end-passes, run_end-stops}
 use Rattle.jiter_steps.specs.StringReading.{part, over, place_at, Stop, before, body_at}
 use Rattle.jiter_steps.proofs.StringComplete.{IsPrinted}
-use Rattle.jiter_steps.proofs.DecodeSteps.{plain_more, part_more, part_over}
+use Rattle.jiter_steps.proofs.DecodeSteps.{Decoded, plain_more, part_more, part_over}
 
 plain-printed : (b : ℕ) → is_plain b ≡ true → IsPrinted b
 plain-printed b e =
@@ -53,33 +53,22 @@ module _ (t : List ℕ) where
   plain_run_to i to h e = plain_run i h ∙ ap (λ j. before (slice_range t i j) false (body_at t j)) (sym e)
 
   -- a run of plain bytes is added
-  run_more : (old tape next : List ℕ) (from at to : ℕ) → old ++ (body_at t from).bytes ≡ tape ++ (body_at t at).bytes
-      → (body_at t from).stop ≡ (body_at t at).stop → at ≤ length t → to ≡ scan_stop t at
-      → next ≡ tape ++ slice_range t at to
-      → (old ++ (body_at t from).bytes ≡ next ++ (body_at t to).bytes) × ((body_at t from).stop ≡ (body_at t to).stop)
-  run_more old tape next from at to h s w e n =
-      let b = plain_run_to at to w e in (rw (h, b, n, append_assoc), rw (s, b))
+  module _ (tape next : List ℕ) (from at to : ℕ) (so_far : Decoded t tape from at) (within : at ≤ length t)
+      (stop : to ≡ scan_stop t at) (added : next ≡ tape ++ slice_range t at to) where
+    run_more : Decoded t next from to
+    run_more =
+        let b = plain_run_to at to within stop in
+        (rw (so_far.0, b, added, append_assoc), rw (so_far.1, b))
 
-  -- and the character of an escape
-  pub decode_more : (old tape next after bs : List ℕ) (from at to end : ℕ)
-      → old ++ (body_at t from).bytes ≡ tape ++ (body_at t at).bytes → (body_at t from).stop ≡ (body_at t at).stop
-      → at ≤ length t → to ≡ scan_stop t at
-      → next ≡ tape ++ slice_range t at to → part bs true end ≡ place_at t to → after ≡ next ++ bs
-      → (old ++ (body_at t from).bytes ≡ after ++ (body_at t end).bytes)
-      × ((body_at t from).stop ≡ (body_at t end).stop) × (at < end) × (end ≤ length t)
-  decode_more old tape next after bs from at to end h s w e n f a =
-      let r = run_more old tape next from at to h s w e n in
-      let m = part_more t old next bs from to end true r.0 r.1 (sym f) in
-      let ahead = scan_stop_within at w in
-      (rw a m.0, m.1, omega (arith, m.2, ahead.0, e), m.3)
+    -- and the character of an escape
+    pub decode_more : (after bs : List ℕ) (end : ℕ) → part bs true end ≡ place_at t to → after ≡ next ++ bs
+        → Decoded t after from end × (at < end) × (end ≤ length t)
+    decode_more after bs end f a =
+        let m = part_more t next bs from to end true run_more (sym f) in
+        let ahead = scan_stop_within at within in
+        (rw a m.0, omega (arith, m.1, ahead.0, stop), m.2)
 
-  -- or the string is over
-  pub decode_over : (old tape next : List ℕ) (from at to : ℕ) (x : Stop)
-      → old ++ (body_at t from).bytes ≡ tape ++ (body_at t at).bytes → (body_at t from).stop ≡ (body_at t at).stop
-      → at ≤ length t → to ≡ scan_stop t at
-      → next ≡ tape ++ slice_range t at to → over x ≡ place_at t to
-      → (next ≡ old ++ (body_at t from).bytes) × (x ≡ (body_at t from).stop)
-  decode_over old tape next from at to x h s w e n f =
-      let r = run_more old tape next from at to h s w e n in
-      let m = part_over t old next from to x r.0 r.1 (sym f) in
-      (m.0, sym m.1)
+    -- or the string is over
+    pub decode_over : (x : Stop) → over x ≡ place_at t to
+        → (next ≡ (body_at t from).bytes) × (x ≡ (body_at t from).stop)
+    decode_over x f = let m = part_over t next from to x run_more (sym f) in (m.0, sym m.1)

@@ -5,11 +5,11 @@ use Rattle.std.specs.Prelude.{slice_get, Option, Some, None, IfSome}
 use Rattle.std.proofs.lemmas.Bool.Decides.{nat_tests}
 use Rattle.std.proofs.lemmas.Option.{none-some}
 use Rattle.jiter_scan.specs.Scan.{is_stop, scan_stop}
-use Rattle.jiter_scan.specs.Kind.{Kind, eof_string}
+use Rattle.jiter_scan.specs.Kind.{Kind}
 use Rattle.jiter_scan.specs.Scanned.{Scanned, taken, failed}
 use Rattle.jiter_scan.proofs.Choices.{failed-taken, same_taken}
 use Rattle.jiter_steps.specs.Answer.{seen_as}
-use Rattle.jiter_steps.specs.StringReading.{Place, part, over, Stop, closed, unclosed, cut, wrong, place_by, place_at}
+use Rattle.jiter_steps.specs.StringReading.{Place, part, over, Stop, closed, unclosed, place_by, place_at}
 use Rattle.jiter_steps.specs.StringReading.{Body, body_at, Form, raw, raw_kept, between, text_in_form, content_at}
 use Rattle.jiter_steps.specs.RawString.{EndsAt}
 use Rattle.jiter_steps.proofs.Bodies.{body_at-place_by, part-ahead}
@@ -110,9 +110,7 @@ module _ (t : List ℕ) where
       → seen_as (λ x k. tt {0}) (text_in_form raw t i bs o s) ≡ taken tt e
       → text_in_form raw t i bs o s ≡ taken (between t i (e - 1)) e
   raw-text_in_form i e bs o (closed f) h = ap (λ k. taken (between t i (k - 1)) k) (same_taken tt tt f e h).1
-  raw-text_in_form i e bs o unclosed h = absurd (failed-taken eof_string (length t) tt e h)
-  raw-text_in_form i e bs o cut h = absurd (failed-taken eof_string (length t) tt e h)
-  raw-text_in_form i e bs o (wrong k j) h = absurd (failed-taken k j tt e h)
+  raw-text_in_form i e bs o s h = absurd (cc)
 
   pub raw-text : (i e : ℕ) → seen_as (λ x k. tt {0}) (content_at raw t i) ≡ taken tt e
       → content_at raw t i ≡ taken (between t i (e - 1)) e

@@ -4,14 +4,13 @@ use Rattle.std.proofs.Common.{◌∙◌, arith}
 use Rattle.std.specs.Prelude.{slice_get, Option, Some, None}
 use Rattle.std.proofs.lemmas.Option.{slice_get_within}
 use Rattle.std.proofs.lemmas.Bool.{eqb-true, eq-eqb}
-use Rattle.jiter_scan.specs.Kind.{trailing_comma, expected_colon, key_must_be_a_string}
 use Rattle.jiter_scan.specs.Scanned.{taken, failed}
 use Rattle.jiter_scan.specs.Word.{Extent}
 use Rattle.jiter_scan.specs.NumberReading.{extent_then}
 use Rattle.jiter_scan.proofs.Choices.{if_case}
 use Rattle.jiter_steps.specs.Blank.{is_blank, past_blanks, IsBlank}
 use Rattle.jiter_steps.specs.Node.{StandsBehind}
-use Rattle.jiter_steps.specs.Step.{Step, more, closed, stuck, step, closer_of, begins_part, comma_kind_of}
+use Rattle.jiter_steps.specs.Step.{Step, more, closed, stuck, step, closer_of, begins_part}
 use Rattle.jiter_steps.specs.Step.{container_first, container_comma, container_step}
 use Rattle.jiter_steps.specs.Step.{colon, value_first, object_colon}
 use Rattle.jiter_steps.specs.declared.parse.Shape.{Shape}
@@ -54,12 +53,6 @@ abbrev pub StepIs : List ℕ → ℕ → ℕ → (ℕ → Type 0) → Step → T
 StepIs t i closer More (more j) = More j
 StepIs t i closer More (closed e) = StandsBehind t i closer e
 StepIs t i closer More (stuck k j) = Unit {0}
-
--- a step that closes nothing
-abbrev OpenStepIs : (ℕ → Type 0) → Step → Type 0
-OpenStepIs More (more j) = More j
-OpenStepIs More (closed e) = ⊥
-OpenStepIs More (stuck k j) = Unit {0}
 
 -- the place that an extent leads to
 abbrev pub ExtentIs : (ℕ → Type 0) → Extent → Type 0
@@ -105,14 +98,6 @@ module _ (t : List ℕ) where
       → step t row i ≡ row j (Some c)
   row-at row i j c b e other = ap (λ k. row k (slice_get t k)) (blank-passed t i j c b e other) ∙ ap (row j) e
 
-  -- a comma, and what follows it
-  comma-then : (i m closer : ℕ) (Begins : ℕ → Type 0) (s : Step) → StandsBehind t i 44 m
-      → OpenStepIs (PartBehind t Begins m) s
-      → StepIs t i closer (Behind t i 44 (PartBehind t Begins)) s
-  comma-then i m closer Begins (more j) b h = (m, b, h)
-  comma-then i m closer Begins (closed e) b h = absurd h
-  comma-then i m closer Begins (stuck k j) b h = tt
-
   -- The steps of arrays and of objects.
   module _ (b : Shape) where
     abbrev Part : ℕ → ℕ → Type 0
@@ -128,27 +113,26 @@ module _ (t : List ℕ) where
     first-is i j None s = tt
     first-is i j (Some c) s =
         let Is = StepIs t i (closer_of b) (Part i) in
-        if_case Is (begins_part b c) (more j) _ (part-behind i j c s)
-        (λ e. tested Is c (closer_of b) (closed (j + 1)) (stuck key_must_be_a_string j) (behind i j c (closer_of b) s)
-        (λ e. tt))
+        if_case Is (begins_part b c) _ _ (part-behind i j c s)
+        (λ e. tested Is c (closer_of b) _ _ (behind i j c (closer_of b) s) (λ e. tt))
 
-    comma-is : (i j : ℕ) (o : Option ℕ) → Stops i j o → OpenStepIs (Part i) (container_comma b j o)
-    comma-is i j None s = tt
-    comma-is i j (Some c) s =
-        let Is = OpenStepIs (Part i) in
-        if_case Is (begins_part b c) (more j) _ (part-behind i j c s)
-        (λ e. either Is (c == closer_of b) (stuck trailing_comma j) (stuck key_must_be_a_string j) tt tt)
+    -- behind a part, where a comma leads on
+    abbrev Next : ℕ → Step → Type 0
+    Next i s = StepIs t i (closer_of b) (Behind t i 44 (PartBehind t (PartAt b t))) s
 
-    step-is : (i j : ℕ) (o : Option ℕ) → Stops i j o
-        → StepIs t i (closer_of b) (Behind t i 44 (PartBehind t (PartAt b t))) (container_step b t j o)
+    comma-is : (i m : ℕ) → StandsBehind t i 44 m → (j : ℕ) (o : Option ℕ) → Stops m j o → Next i (container_comma b j o)
+    comma-is i m h j None s = tt
+    comma-is i m h j (Some c) s =
+        if_case (Next i) (begins_part b c) _ _ (λ begins. (m, h, part-behind m j c s begins))
+        (λ e. either (Next i) (c == closer_of b) _ _ tt tt)
+
+    step-is : (i j : ℕ) (o : Option ℕ) → Stops i j o → Next i (container_step b t j o)
     step-is i j None s = tt
     step-is i j (Some c) s =
-        let Is = StepIs t i (closer_of b) (Behind t i 44 (PartBehind t (PartAt b t))) in
         let inside = slice_get_within t j c s.here in
-        let next = row-is (OpenStepIs (Part (j + 1))) (container_comma b) (j + 1) (comma-is (j + 1)) (omega arith) in
-        tested Is c (closer_of b) (closed (j + 1)) _ (behind i j c (closer_of b) s)
-        (λ e. tested Is c 44 (step t (container_comma b) (j + 1)) (stuck (comma_kind_of b) j)
-        (λ e. comma-then i (j + 1) (closer_of b) (PartAt b t) _ (behind i j c 44 s e) next) (λ e. tt))
+        tested (Next i) c (closer_of b) _ _ (behind i j c (closer_of b) s)
+        (λ e. tested (Next i) c 44 _ _ (λ e. row-is (Next i) (container_comma b) (j + 1)
+        (comma-is i (j + 1) (behind i j c 44 s e)) (omega arith)) (λ e. tt))
 
     -- they find what is there
     closed-at : (row : ℕ → Option ℕ → Step) (i e : ℕ) (h : StandsBehind t i (closer_of b) e)
@@ -162,9 +146,7 @@ module _ (t : List ℕ) where
     delimits = record {
       within = λ j h. slice_get_within t j h.byte h.here;
       first-is = λ i. row-is (StepIs t i (closer_of b) (Part i)) (container_first b) i (first-is i);
-      next-is = λ i.
-          let Next = Behind t i 44 (PartBehind t (PartAt b t)) in
-          row-is (StepIs t i (closer_of b) Next) (container_step b t) i (step-is i);
+      next-is = λ i. row-is (Next i) (container_step b t) i (step-is i);
       first-closed = λ i e h.
           rw (closed-at (container_first b) i e h, closer-begins_no_part b, is_closer, h.ends);
       first-more = λ i j blanks h. rw (row-at (container_first b) i j h.byte blanks h.here h.no_blank, h.begins);
@@ -180,28 +162,25 @@ module _ (t : List ℕ) where
     }
 
   -- behind a key: its colon, and the byte where its value may begin
-  value-at : (i j : ℕ) (o : Option ℕ) → Stops i j o → ExtentIs (PartBehind t (ByteAt t) i) (value_first j o)
-  value-at i j None s = tt
-  value-at i j (Some c) s =
-      record { blanks = s.blanks; begins = record { byte = c; here = s.here; no_blank = s.no_blank } }
+  abbrev ValueBehind : ℕ → Extent → Type 0
+  ValueBehind i x = ExtentIs (Behind t i 58 (PartBehind t (ByteAt t))) x
 
-  colon-then : (i m : ℕ) (x : Extent) → StandsBehind t i 58 m → ExtentIs (PartBehind t (ByteAt t) m) x
-      → ExtentIs (Behind t i 58 (PartBehind t (ByteAt t))) x
-  colon-then i m (taken u j) b h = (m, b, h)
-  colon-then i m (failed k j) b h = tt
+  value-at : (i m : ℕ) → StandsBehind t i 58 m → (j : ℕ) (o : Option ℕ) → Stops m j o → ValueBehind i (value_first j o)
+  value-at i m h j None s = tt
+  value-at i m h j (Some c) s =
+      (m, h, record { blanks = s.blanks; begins = record { byte = c; here = s.here; no_blank = s.no_blank } })
 
   -- the colon behind blanks, and then its value
   abbrev ColonLeads : ℕ → Extent → Type 0
-  ColonLeads i x = ExtentIs (Behind t i 58 (PartBehind t (ByteAt t))) (extent_then x (step t value_first))
+  ColonLeads i x = ValueBehind i (extent_then x (step t value_first))
 
   colon-at : (i j : ℕ) (o : Option ℕ) → Stops i j o → ColonLeads i (colon j o)
   colon-at i j None s = tt
   colon-at i j (Some c) s =
       let inside = slice_get_within t j c s.here in
-      let value = row-is (ExtentIs (PartBehind t (ByteAt t) (j + 1))) value_first (j + 1) (value-at (j + 1))
-      (omega arith) in
-      tested (ColonLeads i) c 58 (taken tt (j + 1)) (failed expected_colon j)
-      (λ e. colon-then i (j + 1) (step t value_first (j + 1)) (behind i j c 58 s e) value) (λ e. tt)
+      tested (ColonLeads i) c 58 _ _
+      (λ e. row-is (ValueBehind i) value_first (j + 1) (value-at i (j + 1) (behind i j c 58 s e)) (omega arith))
+      (λ e. tt)
 
   pub object_colon-is : (i : ℕ) → i ≤ length t → ExtentIs (Behind t i 58 (PartBehind t (ByteAt t))) (object_colon t i)
   object_colon-is i = row-is (ColonLeads i) colon i (colon-at i)

@@ -1,5 +1,5 @@
 -- The skip law: a skip ends where reading the value ends, and meets its fault, but for that of UTF-8.
-use Rattle.std.proofs.Common.{◌≡◌, ◌≢◌, ℕ, zero, suc, ◌+◌, Bool, List, [], ◌∷◌, ◌++◌, length, refl, sym, ap, subst}
+use Rattle.std.proofs.Common.{◌≡◌, ◌≢◌, ℕ, zero, suc, ◌+◌, Bool, List, [], ◌∷◌, ◌++◌, length, refl, ap}
 use Rattle.std.specs.Prelude.{slice_index}
 use Rattle.jiter_scan.specs.Kind.{invalid_code_point}
 use Rattle.jiter_scan.specs.Scanned.{Scanned, taken, failed}
@@ -56,18 +56,17 @@ module _ (names : Bool) (t : List ℕ) where
   scalar-alike i (failed k j) y h = λ ne. ap (scalar_at i) (h ne)
 
   -- containers with the same steps, whose parts end alike
-  module _ {P Q : Type 0} (c : Container P Tree) (d : Container Q (Unit {0}))
-      (first : (i : ℕ) → step t c.first i ≡ step t d.first i) (next : (i : ℕ) → step t c.next i ≡ step t d.next i)
-      (part : (i : ℕ) → EndsAlike (c.part i) (d.part i)) where
+  module _ {P Q : Type 0} (c : Container P Tree) (part : ℕ → Reading Q)
+      (alike : (i : ℕ) → EndsAlike (c.part i) (part i)) where
+    abbrev d : Container Q (Unit {0})
+    d = record { first = c.first; next = c.next; part = part; build = λ e parts. tt }
+
     follow-alike : (f : ℕ → Reading Tree) (g : ℕ → Reading (Unit {0})) → ((j : ℕ) → EndsAlike (f j) (g j))
-        → (close : ℕ → Tree) (shut : ℕ → Unit {0}) (s z : Step) → s ≡ z
-        → EndsAlike (follow (whole_trees names) f close s) (follow (ends names) g shut z)
-    follow-alike f g all close shut s z same =
-        subst (λ z. EndsAlike (follow (whole_trees names) f close s) (follow (ends names) g shut z)) same (by s) where
-          by : (s : Step) → EndsAlike (follow (whole_trees names) f close s) (follow (ends names) g shut s)
-          by (more j) = all j
-          by (closed e) = (shut e, refl)
-          by (stuck k j) = λ ne. refl
+        → (close : ℕ → Tree) (s : Step)
+        → EndsAlike (follow (whole_trees names) f close s) (follow (ends names) g (λ e. tt) s)
+    follow-alike f g all close (more j) = all j
+    follow-alike f g all close (closed e) = (tt, refl)
+    follow-alike f g all close (stuck k j) = λ ne. refl
 
     behind_part-alike : (f : List P → ℕ → Reading Tree) (g : List Q → ℕ → Reading (Unit {0}))
         → ((ps : List P) (qs : List Q) (j : ℕ) → EndsAlike (f ps j) (g qs j))
@@ -76,10 +75,7 @@ module _ (names : Bool) (t : List ℕ) where
     behind_part-alike f g all ps qs (done p e) y h =
         let ps' = ps ++ p ∷ [] in
         let qs' = qs ++ h.0 ∷ [] in
-        subst
-        (λ y. EndsAlike (behind_part (whole_trees names) c t f ps (done p e)) (behind_part (ends names) d t g qs y))
-        (sym h.1)
-        (follow-alike (f ps') (g qs') (all ps' qs') (λ e. c.build e ps') (λ e. d.build e qs') _ _ (next e))
+        rw h.1 (follow-alike (f ps') (g qs') (all ps' qs') (λ e. c.build e ps') (step t c.next e))
     behind_part-alike f g all ps qs (fault k i stop) y h = λ ne. ap (behind_part (ends names) d t g qs) (h ne)
 
     parts_at-alike : (n : ℕ) (ps : List P) (qs : List Q) (i : ℕ)
@@ -88,12 +84,12 @@ module _ (names : Bool) (t : List ℕ) where
     parts_at-alike zero ps qs i = λ ne. refl
     parts_at-alike (suc n) ps qs i =
         behind_part-alike (parts_at (whole_trees names) c t n) (parts_at (ends names) d t n)
-        (λ us vs j. parts_at-alike n us vs j) ps qs (c.part i) (d.part i) (part i)
+        (λ us vs j. parts_at-alike n us vs j) ps qs (c.part i) (part i) (alike i)
 
     container_at-alike : (i : ℕ) → EndsAlike (container_at (whole_trees names) c t i) (container_at (ends names) d t i)
     container_at-alike i =
         follow-alike (parts_at (whole_trees names) c t (length t) []) (parts_at (ends names) d t (length t) [])
-        (parts_at-alike (length t) [] []) (λ e. c.build e []) (λ e. d.build e []) _ _ (first (i + 1))
+        (parts_at-alike (length t) [] []) (λ e. c.build e []) (step t c.first (i + 1))
 
   module _ (f : ℕ → Reading Tree) (g : ℕ → Reading (Unit {0})) (all : (i : ℕ) → EndsAlike (f i) (g i)) where
     -- a member
@@ -109,18 +105,15 @@ module _ (names : Bool) (t : List ℕ) where
     behind_key-alike : (i : ℕ) (x : Scanned Text) (y : Scanned (Unit {0})) → ScansAlike x y
         → EndsAlike (behind_key f t i x) (behind_key g t i y)
     behind_key-alike i (taken k e) y h =
-        subst (λ y. EndsAlike (behind_key f t i (taken k e)) (behind_key g t i y)) (sym h.1)
-        (behind_colon-alike k h.0 (object_colon t e))
+        rw h.1 (behind_colon-alike k h.0 (object_colon t e))
     behind_key-alike i (failed kind j) y h = λ ne. ap (behind_key g t i) (h ne)
 
     value_with-alike : (i : ℕ) (s : Start)
         → EndsAlike (value_with (whole_trees names) f t i s) (value_with (ends names) g t i s)
     value_with-alike i start.Array =
-        container_at-alike (array_of (whole_trees names) f t i) (array_of (ends names) g t i)
-        (λ j. refl) (λ j. refl) all i
+        container_at-alike (array_of (whole_trees names) f t i) g all i
     value_with-alike i start.Object =
-        container_at-alike (object_of (whole_trees names) f t i) (object_of (ends names) g t i)
-        (λ j. refl) (λ j. refl)
+        container_at-alike (object_of (whole_trees names) f t i) (object_of (ends names) g t i).part
         (λ j. behind_key-alike j (string_at whole t j) _ (strings-alike t j (string_at whole t j) refl)) i
     value_with-alike i start.String =
         scalar-alike i _ _

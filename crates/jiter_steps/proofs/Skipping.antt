@@ -1,7 +1,7 @@
 -- The turns of a skip, as what its open containers complete the reading to.
 use Rattle.std.proofs.Common.{◌≡◌, ◌≢◌, ℕ, zero, suc, ◌+◌, ◌-◌, ◌<◌, ◌≤◌, Bool, true, false, List, [], ◌∷◌, ◌++◌}
 use Rattle.std.proofs.Common.{length, refl, sym, ap, ap₂, ◌∙◌, arith}
-use Rattle.std.specs.Prelude.{slice_index, slice_index_or, slice_set, Result, Ok, Err}
+use Rattle.std.specs.Prelude.{slice_index, slice_index_or, slice_set, Result, Ok}
 use Rattle.std.proofs.lemmas.List.{get_or-set_same, get_or-set_other}
 use Rattle.jiter_scan.specs.Kind.{Kind, recursion_limit}
 use Rattle.jiter_scan.specs.Scanned.{Scanned, taken, failed}
@@ -162,7 +162,8 @@ module _ (names : Bool) (t : List ℕ) where
   first_inside-is b objects d i x few h opens is =
       let fs = open_frames objects d in
       let s = step t (container_first b) (i + 1) in
-      container-begins (ends names) t good any fs i s (omega (arith, length-open_frames objects d)) b opens (step-kept s)
+      let few : length fs ≤ 200 = omega (arith, length-open_frames objects d) in
+      container-begins (ends names) t good any fs i s few b opens (step-kept s)
       ∙ parts-led b fs [] (i + 1) s (container_first-ahead t b (i + 1) (omega arith)) ∙ ap (led_on b fs) is
 
   -- a scalar's end, or its fault
@@ -185,8 +186,7 @@ module _ (names : Bool) (t : List ℕ) where
   pub continues-along : (fs : Frames) (result : Result Bool Fault) (i : ℕ) (x y : Reading (Unit {0})) → x ≡ y
       → Continues names t fs result i y → Continues names t fs result i x
   continues-along fs (Ok true) i x y q h = (q ∙ h.0, h.1)
-  continues-along fs (Ok false) i x y q h = q ∙ h
-  continues-along fs (Err f) i x y q h = q ∙ h
+  continues-along fs result i x y q h = q ∙ h
 
 -- the innermost one of some, and what it leads to behind a value
 pub open_frames-innermost : (objects : List Bool) (d : ℕ) (b : Shape) → 0 < d

@@ -9,7 +9,6 @@ use Rattle.jiter_scan.specs.Scanned.{Scanned, taken, failed}
 use Rattle.jiter_scan.specs.Word.{Extent}
 use Rattle.jiter_scan.proofs.Scanning.{ScalarWithin}
 use Rattle.jiter_steps.specs.Answer.{seen_as}
-use Rattle.jiter_steps.specs.Blank.{IsBlank}
 use Rattle.jiter_steps.specs.Literal.{start_of, literal_at}
 use Rattle.jiter_steps.specs.Node as grammar
 use Rattle.jiter_steps.specs.Node.{Key, Node, Nodes, no_nodes, node, NodeMembers, no_members, member, begin, end}
@@ -27,7 +26,7 @@ use Rattle.jiter_steps.proofs.Bounds.{Within}
 use Rattle.jiter_steps.proofs.FirstBytes.{string-first}
 use Rattle.jiter_steps.proofs.Instances.{nodes-advances}
 use Rattle.jiter_steps.proofs.NodeRules.{nodes, nodes_of, node_members_of, key_of}
-use Rattle.jiter_steps.proofs.Parts.{Grammar, parts-are, Reads, ReadParts, BuiltOf, container_at-built}
+use Rattle.jiter_steps.proofs.Parts.{Grammar, parts-are, Reads, BuiltOf, container_at-built}
 use Rattle.jiter_steps.proofs.Pieces.{pieces_from}
 use Rattle.jiter_steps.specs.declared.parse.Shape.TheVariants as shape
 use Rattle.jiter_steps.proofs.RowSteps.{ByteAt, PartAt, begins-quote, PartBehind, Behind, ExtentIs, delimits}
@@ -112,12 +111,10 @@ module _ (names : Bool) (t : List ℕ) where
         → PartBehind t (ByteAt t) colon j → (x : Reading Node) → InsideSound names t room j x
         → MemberSound names t room i (with_key k x)
     with_key-sound i colon j k begins string behind h (done n d) is =
-        let at = sym is.0.begins in
-        let blanks = subst (IsBlank t colon) at h.blanks in
         record {
           begins = begins;
-          key = record { string = string; colon = colon; behind = behind; blanks = blanks };
-          value = subst (λ b. IsNodeAt names t b n d) at is.0;
+          key = record { string = string; colon = colon; behind = behind; blanks = rw is.0.begins h.blanks };
+          value = rw is.0.begins is.0;
           limit = is.1;
         }
     with_key-sound i colon j k begins string behind h (fault kind x stop) is = tt
@@ -175,10 +172,10 @@ module _ (names : Bool) (t : List ℕ) where
       none = λ i e h. (h, omega arith);
       no_more = λ i e h. (h, omega arith);
       part = λ n ns i j m e blanks at is rest.
-          let x = each j n m at is in
-          let more_items = subst (λ k. SpellsMoreItems names t k (nodes_of ns) e) (sym x.0.ends) rest.0 in
-          let blanks = subst (IsBlank t i) (sym x.0.begins) blanks in
-          ((blanks, x.0.spelled, more_items), round-items n (nodes_of ns) room x.1 rest.1);
+          let x = each j n m at is in (
+            (rw x.0.begins blanks, x.0.spelled, rw x.0.ends rest.0),
+            round-items n (nodes_of ns) room x.1 rest.1,
+          );
       comma = λ n ns i c e h x. ((c, h, x.0.0, x.0.1, x.0.2), x.1);
     }
 
@@ -189,10 +186,8 @@ module _ (names : Bool) (t : List ℕ) where
       none = λ i e h. (h, omega arith);
       no_more = λ i e h. (h, omega arith);
       part = λ p ms i j m e blanks at is rest.
-          let x = each j p m at is in
-          let ends = sym x.value.ends in
-          let more_members = subst (λ k. SpellsMoreMembers names t k (node_members_of ms) e) ends rest.0 in (
-            (subst (IsBlank t i) (sym x.begins) blanks, x.key, x.value.spelled, more_members),
+          let x = each j p m at is in (
+            (rw x.begins blanks, x.key, x.value.spelled, rw x.value.ends rest.0),
             round-members p.0 p.1 (node_members_of ms) room x.limit rest.1,
           );
       comma = λ p ms i c e h x. ((c, h, x.0.0, x.0.1, x.0.2, x.0.3), x.1);
@@ -211,15 +206,6 @@ module _ (names : Bool) (t : List ℕ) where
         subst (MemberSound names t room j) is (behind_key-sound all j quote _ refl within)
 
     -- values
-    built-sound : {P : Type 0} (c : Container P Node) (closer : ℕ) (Begins : ℕ → Type 0) (b : ℕ) (x : Reading Node)
-        → BuiltOf (nodes names) t c closer Begins (b + 1) x → Within t b x
-        → ((ps : List P) (e : ℕ) → ReadParts (nodes names) t c closer Begins ps (b + 1) e → e ≤ length t
-        → Sound names t room b (done (c.build e ps) e))
-        → Sound names t room b x
-    built-sound c closer Begins b (done n e) h w all =
-        subst (λ n. Sound names t room b (done n e)) (sym h.1) (all h.0 e h.2 w.1)
-    built-sound c closer Begins b (fault k x stop) h w all = tt
-
     container-sound : {P : Type 0} (c : Container P Node) (closer : ℕ) (Begins : ℕ → Type 0)
         (Are MoreAre : List P → ℕ → ℕ → Type 0)
         → Delimits t c.first c.next closer Begins → Goes c t
@@ -228,9 +214,14 @@ module _ (names : Bool) (t : List ℕ) where
         → ((ps : List P) (e : ℕ) → Are ps (b + 1) e → e ≤ length t → Sound names t room b (done (c.build e ps) e))
         → Sound names t room b (container_at (nodes names) c t b)
     container-sound c closer Begins Are MoreAre delimits goes grammar b h all =
-        let built = container_at-built (nodes names) t c closer Begins (λ k. refl) delimits goes b h in
-        built-sound c closer Begins b _ built (container_at-within (nodes names) t c goes b h)
-        (λ ps e parts. all ps e (parts-are t closer Begins (Reads c) Are MoreAre grammar ps (b + 1) e parts))
+        by _ (container_at-built (nodes names) t c closer Begins (λ k. refl) delimits goes b h)
+        (container_at-within (nodes names) t c goes b h) where
+          by : (x : Reading Node) → BuiltOf (nodes names) t c closer Begins (b + 1) x → Within t b x
+              → Sound names t room b x
+          by (done n e) built within =
+              let are = parts-are t closer Begins (Reads c) Are MoreAre grammar built.0 (b + 1) e built.2 in
+              subst (λ n. Sound names t room b (done n e)) (sym built.1) (all built.0 e are within.1)
+          by (fault k x stop) built within = tt
 
     pub byte-here : (i c : ℕ) → i < length t → slice_index t i ≡ c → slice_get t i ≡ Some c
     byte-here i c h e = slice_get-get_or t i 0 h ∙ ap Some e

@@ -12,7 +12,6 @@ use Rattle.jiter_steps.specs.ReadError.{UnlessRefused}
 use Rattle.jiter_steps.specs.StringDecoder.{text_view}
 use Rattle.jiter_steps.specs.StringReading.{closed, before, body_at, if_utf8, whole, string_at}
 use Rattle.jiter_steps.specs.declared.read_error.ReadError.{ReadError}
-use Rattle.jiter_steps.specs.declared.read_error.ReadError.TheVariants.{Fault, Memory}
 use Rattle.jiter_steps.proofs.DecodeSteps.{at_none, at_quote, at_control, at_backslash}
 use Rattle.jiter_steps.proofs.PlainRuns.{plain_run_to, scan_stop_stops}
 use Rattle.jiter_steps.proofs.StringLaws.{string_at-within}
@@ -23,8 +22,7 @@ module _ (t : List ℕ) (at : ℕ) (inside : at < length t) where
       → UnlessRefused r (λ x. Scans (with_end text_view) x (string_at whole t at))
       → IfOk r (λ x. (at < x.1) × (x.1 ≤ length t))
   string-advances (Ok x) g = subst (ScalarWithin t at) g (string_at-within whole t at inside)
-  string-advances (Err (Fault f)) g = tt
-  string-advances (Err (Memory m)) g = tt
+  string-advances (Err e) g = tt
 
   -- how the string goes on where its plain bytes end
   module _ (to : ℕ) (stop : to ≡ scan_stop t (at + 1)) where

@@ -20,7 +20,7 @@ use Rattle.jiter_steps.specs.StringReading.{unicode_escape, behind_backslash}
 use Rattle.jiter_steps.specs.StringReading.{place_by, place_at, before, body_at, whole, content_at, string_at}
 use Rattle.jiter_scan.proofs.Standing.{stands-split}
 use Rattle.jiter_steps.proofs.Utf8Shape.{AllFollow, lead}
-use Rattle.jiter_steps.proofs.Places.{HexAt, UnitAt, scalar-pair, scalar-short}
+use Rattle.jiter_steps.proofs.Places.{HexAt, UnitAt, escape-scalar}
 use Rattle.jiter_steps.proofs.Bodies.{before-before, body_at-place_by}
 
 pub record IsPrinted (b : ℕ) : Type 0 where
@@ -118,11 +118,6 @@ module _ (t : List ℕ) where
       let at : h.0 ≡ i + 1 + 1 + 4 = omega (arith, x.ends) in
       let y = unit-at (i + 1 + 1 + 4) j is.low is.back is.second (subst (λ o. Stands t o j is.back) at h.2) in
       rw is.means (place_by-pair i j h.0 is.high is.low is.is_high is.is_low x y)
-
-  pub escape-scalar : (p : List ℕ) (c : ℕ) → IsEscape p c → IsScalar c
-  escape-scalar p c (inl is) = scalar-short is.sign c is.means
-  escape-scalar p c (inr (inl is)) = is.1
-  escape-scalar p c (inr (inr is)) = subst IsScalar (sym is.means) (scalar-pair is.high is.low is.is_high is.is_low)
 
   pub bytes-read : (i j : ℕ) (w : List ℕ) → ArePrinted w → Stands t i j w → body_at t i ≡ before w false (body_at t j)
   bytes-read i j [] p s = ap (body_at t) s

@@ -1,5 +1,5 @@
 -- A string that is cut, where it is kept: the characters of the pieces that end before the cut.
-use Rattle.std.proofs.Common.{◌≡◌, ◌⊎◌, inl, inr, ℕ, suc, ◌+◌, ◌<◌, ◌≤◌, Bool, true, false, List, [], ◌∷◌, ◌++◌}
+use Rattle.std.proofs.Common.{◌≡◌, ◌⊎◌, inl, inr, ℕ, suc, ◌+◌, ◌<◌, ◌≤◌, true, false, List, [], ◌∷◌, ◌++◌}
 use Rattle.std.proofs.Common.{length, take, refl, sym, ap, ◌∙◌, subst, arith, append-nil, append_assoc}
 use Rattle.std.specs.Prelude.{slice_get, Some}
 use Rattle.std.specs.Char.{encode_utf8}
@@ -21,6 +21,7 @@ use Rattle.jiter_steps.proofs.Front.{front-length, front-get, front-stands}
 use Rattle.jiter_steps.proofs.SameFront.{string-too}
 use Rattle.jiter_steps.proofs.Places.{UnitAt}
 use Rattle.jiter_steps.proofs.Bodies.{body_at-place_by, place_by-end}
+use Rattle.jiter_steps.proofs.StringMarks.{EndOf}
 use Rattle.jiter_steps.proofs.StringComplete.{ArePrinted, plain-printed, bytes-read, char-read, place_by-backslash}
 use Rattle.jiter_steps.proofs.StringComplete.{place_by-number, unit-at}
 use Rattle.jiter_scan.specs.Kind.{eof_string}
@@ -169,8 +170,9 @@ module _ (t : List ℕ) (k : ℕ) (within : k ≤ length t) where
         }
   ]
 
-  pub kept-cut : (i e : ℕ) (ps : List Piece) → SpellsString t i ps e → i < k → k < e → (o : Bool)
-      × (string_at kept u i ≡ taken (record { owned = o; bytes = text_of (pieces_to k ps) }) k)
+  pub kept-cut : (i e : ℕ) (ps : List Piece) → SpellsString t i ps e → i < k → k < e
+      → EndOf u (body_at u (i + 1)).stop k
+      × (string_at kept u i ≡ taken (record { owned = (body_at u (i + 1)).owned; bytes = text_of (pieces_to k ps) }) k)
   unfolding content_at
   kept-cut i e ps s l m =
       let c = pieces-cut ps (i + 1) s.close s.spelled (omega arith) (omega (arith, s.ends)) in
@@ -180,7 +182,7 @@ module _ (t : List ℕ) (k : ℕ) (within : k ≤ length t) where
       let kept_so : valid_front (i + 1) b.owned b.bytes (length u)
       ≡ taken (record { owned = b.owned; bytes = text }) k =
       rw (c.bytes, tail-unfinished text c.rest utf8 c.front, tail-taken text c.rest utf8 c.front, long) in
-      (b.owned, elim c.stop [ inl x ↦ rw x kept_so | inr x ↦ rw x kept_so ])
+      elim c.stop [ inl x ↦ rw x (long, kept_so) | inr x ↦ rw x (long, kept_so) ]
 
   -- and where it isn't kept, the end of input is the fault
   pub whole-cut : (i e : ℕ) (ps : List Piece) → SpellsString t i ps e → i < k → k < e

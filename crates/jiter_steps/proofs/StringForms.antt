@@ -9,7 +9,7 @@ use Rattle.jiter_scan.specs.Kind.{Kind, invalid_code_point}
 use Rattle.jiter_scan.specs.Scanned.{taken, failed}
 use Rattle.jiter_scan.proofs.Choices.{if_gives, failed-taken, same_taken}
 use Rattle.jiter_steps.specs.Tree.{Text}
-use Rattle.jiter_steps.specs.StringReading.{Stop, closed, unclosed, cut, wrong, body_at, whole, kept, raw}
+use Rattle.jiter_steps.specs.StringReading.{Stop, closed, body_at, whole, kept, raw}
 use Rattle.jiter_steps.specs.StringReading.{valid_front, between, text_in_form, content_at}
 
 pub kept-valid : (i e : ℕ) (o : Bool) (bs : List ℕ) → utf8_valid_len bs ≡ length bs
@@ -22,15 +22,13 @@ module _ (t : List ℕ) (i : ℕ) where
   -- what is read whole is kept
   whole-kept : (bs : List ℕ) (o : Bool) (s : Stop) (x : Text) (e : ℕ) → text_in_form whole t i bs o s ≡ taken x e
       → (text_in_form kept t i bs o s ≡ taken x e) × (text_in_form raw t i bs o s ≡ taken (between t i (e - 1)) e)
-  whole-kept bs o (wrong k j) x e h = absurd (cc)
-  whole-kept bs o unclosed x e h = absurd (cc)
-  whole-kept bs o cut x e h = absurd (cc)
   whole-kept bs o (closed f) x e h =
       if_gives (utf8_valid_len bs == length bs) _ _ (taken x e) h
       (λ is z.
       let same = (same_taken _ x f e z).1 in
       (kept-valid i f o bs (eqb-true _ _ is) ∙ z, ap (λ n. taken (between t i (n - 1)) n) same))
       (λ is z. absurd (failed-taken _ _ x e z))
+  whole-kept bs o s x e h = absurd (cc)
 
   pub content-kept : (x : Text) (e : ℕ) → content_at whole t i ≡ taken x e
       → (content_at kept t i ≡ taken x e) × (content_at raw t i ≡ taken (between t i (e - 1)) e)
@@ -39,12 +37,10 @@ module _ (t : List ℕ) (i : ℕ) where
 
   whole-raw : (bs : List ℕ) (o : Bool) (s : Stop) (k : Kind) (j : ℕ) → k ≢ invalid_code_point
       → text_in_form whole t i bs o s ≡ failed k j → text_in_form raw t i bs o s ≡ failed k j
-  whole-raw bs o (wrong k j) x e ne h = h
-  whole-raw bs o unclosed x e ne h = h
-  whole-raw bs o cut x e ne h = h
   whole-raw bs o (closed f) x e ne h =
       if_gives (utf8_valid_len bs == length bs) _ _ (failed x e) h (λ is z. absurd (failed-taken x e _ f (sym z)))
       (λ is z. let kind : invalid_code_point ≡ x = cc in absurd (ne (sym kind)))
+  whole-raw bs o s x e ne h = h
 
   -- a fault other than that of UTF-8 is one of raw reading too
   pub content-raw : (k : Kind) (j : ℕ) → k ≢ invalid_code_point → content_at whole t i ≡ failed k j

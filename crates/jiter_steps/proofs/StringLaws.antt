@@ -1,13 +1,12 @@
 -- The laws of reading a string that the layers above stand on.
-use Rattle.std.proofs.Common.{◌≡◌, ◌≢◌, inl, inr, ℕ, ◌+◌, ◌-◌, ◌<◌, ◌≤◌, Bool, List, length, drop, refl, sym, ap, ◌∙◌}
+use Rattle.std.proofs.Common.{◌≡◌, ◌≢◌, ℕ, ◌+◌, ◌-◌, ◌<◌, ◌≤◌, Bool, List, length, drop, refl, sym, ap, ◌∙◌}
 use Rattle.std.proofs.Common.{subst, arith}
 use Rattle.std.specs.Prelude.{slice_get, Option, Some, None, ◌==◌}
 use Rattle.std.specs.Str.{chars}
 use Rattle.std.specs.Str.Lossy.{utf8_valid_len, utf8_error_len}
 use Rattle.std.proofs.lemmas.Option.{slice_get_within}
 use Rattle.std.proofs.lemmas.Str.{chars-encodes, utf8_valid_len_le}
-use Rattle.jiter_scan.specs.Kind.{Kind, eof_string, invalid_escape, invalid_code_point, lone_surrogate}
-use Rattle.jiter_scan.specs.Kind.{end_of_hex_escape, control_character}
+use Rattle.jiter_scan.specs.Kind.{Kind, eof_string, invalid_code_point}
 use Rattle.jiter_scan.specs.Scanned.{taken, failed}
 use Rattle.jiter_scan.proofs.Scanning.{ScalarWithin, FaultAt}
 use Rattle.jiter_steps.specs.Tree.{Text}
@@ -30,10 +29,7 @@ use Rattle.jiter_steps.proofs.StringMarks.{EndOf, mark-is}
 -- ---- how far reading gets
 -- a fault of a place is one of a byte
 place-fault : (t : List ℕ) (k : Kind) (j : ℕ) → j ≤ length t → IsPlaceKind k → FaultAt t k j
-place-fault t k j le (inl e) = rw e (fault-byte t invalid_escape j (λ m. cc) refl le)
-place-fault t k j le (inr (inl e)) = rw e (fault-byte t lone_surrogate j (λ m. cc) refl le)
-place-fault t k j le (inr (inr (inl e))) = rw e (fault-byte t end_of_hex_escape j (λ m. cc) refl le)
-place-fault t k j le (inr (inr (inr e))) = rw e (fault-byte t control_character j (λ m. cc) refl le)
+place-fault t k j le h = fault-byte t k j (grind (arith, h)) (grind (arith, h)) le
 
 -- each way that a string whose quote is at i can end
 module _ (t : List ℕ) (i : ℕ) (inside : i < length t) where
@@ -61,16 +57,12 @@ module _ (t : List ℕ) (i : ℕ) (inside : i < length t) where
   text_in_form-within form bs o (wrong k j) h w = (omega (arith, w.0), place-fault t k j (omega (arith, w.1)) w.2)
   text_in_form-within whole bs o (closed e) h w = if_utf8-within o bs e h (omega (arith, w.0)) w.1
   text_in_form-within kept bs o (closed e) h w = kept-within o bs e h (omega (arith, w.0)) w.1
-  text_in_form-within raw bs o (closed e) h w = (omega (arith, w.0), w.1)
-  text_in_form-within raw_kept bs o (closed e) h w = (omega (arith, w.0), w.1)
-  text_in_form-within whole bs o unclosed h w = end-within
+  text_in_form-within form bs o (closed e) h w = (omega (arith, w.0), w.1)
   text_in_form-within kept bs o unclosed h w = kept-within o bs (length t) h inside (omega arith)
-  text_in_form-within raw bs o unclosed h w = end-within
   text_in_form-within raw_kept bs o unclosed h w = (inside, omega arith)
-  text_in_form-within whole bs o cut h w = end-within
+  text_in_form-within form bs o unclosed h w = end-within
   text_in_form-within kept bs o cut h w = kept-within o bs (length t) h inside (omega arith)
-  text_in_form-within raw bs o cut h w = end-within
-  text_in_form-within raw_kept bs o cut h w = end-within
+  text_in_form-within form bs o cut h w = end-within
 
 -- a string ends behind its begin; a fault stands in the text, or at its end
 pub string_at-within : (form : Form) (t : List ℕ) (i : ℕ) → i < length t → ScalarWithin t i (string_at form t i)

@@ -14,7 +14,7 @@ use Rattle.jiter_steps.specs.Piece.{IsPlain, IsEscape, Piece, SpellsChar, Spells
 use Rattle.jiter_steps.specs.Piece.{characters, text_of}
 use Rattle.jiter_scan.specs.Scanned.{taken}
 use Rattle.jiter_steps.specs.Tree.{Text}
-use Rattle.jiter_steps.specs.StringReading.{Stop, closed, unclosed, cut, wrong, Place, part, over, place_at, join}
+use Rattle.jiter_steps.specs.StringReading.{Stop, closed, Place, part, over, place_at, join}
 use Rattle.jiter_steps.specs.StringReading.{body_at, whole, content_at, string_at, text_in_form}
 use Rattle.jiter_steps.proofs.Pieces.{end_of, pieces_from}
 use Rattle.jiter_steps.proofs.Utf8Shape.{Follows, AllFollow, Lead, lead}
@@ -153,13 +153,11 @@ module _ (t : List ℕ) where
   pub closed-text : (i : ℕ) (bs : List ℕ) (o : Bool) (s : Stop) (x : Text) (e : ℕ)
       → text_in_form whole t i bs o s ≡ taken x e
       → (x ≡ record { owned = o; bytes = bs }) × (s ≡ closed e) × ((utf8_valid_len bs == length bs) ≡ true)
-  closed-text i bs o (wrong k j) x e h = absurd (cc)
-  closed-text i bs o unclosed x e h = absurd (cc)
-  closed-text i bs o cut x e h = absurd (cc)
   closed-text i bs o (closed f) x e h =
       if_gives (utf8_valid_len bs == length bs) _ _ (taken x e) h
       (λ is z. let p = same_taken _ x f e z in (sym p.0, ap closed p.1, is))
       (λ is z. absurd (failed-taken _ _ x e z))
+  closed-text i bs o s x e h = absurd (cc)
 
   pub string-sound : (i e : ℕ) (x : Text) → slice_get t i ≡ Some 34 → string_at whole t i ≡ taken x e
       → let ps = pieces_from t (i + 1) (chars x.bytes) in SpellsString t i ps e × (x.bytes ≡ text_of ps)
