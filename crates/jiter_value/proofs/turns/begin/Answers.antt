@@ -1,10 +1,10 @@
 use Rattle.std.proofs.Common.{◌≡◌, ◌∙◌, refl, sym, ap, arith, length}
 use Rattle.std.proofs.lemmas.Result.{IfOk-weaker, on_ok_weaker}
 use Rattle.jiter_steps.specs.Read.{done}
-use Rattle.jiter_value.specs.Stacks.{from_value, resume_with, empty_tree}
+use Rattle.jiter_value.specs.Stacks.{resume_with, empty_tree}
 use Rattle.jiter_value.specs.Size.{value_size}
 use Rattle.jiter_value.specs.Turns.{outcome}
-use Rattle.jiter_value.proofs.TurnOutcomes.{reaches-along, root-grows, refused-weaker, fault-grows}
+use Rattle.jiter_value.proofs.TurnOutcomes.{root-grows, refused-weaker, fault-grows}
 use Rattle.jiter_value.proofs.StackTurns.{begins-closed, begins-fails}
 use Rattle.jiter_value.proofs.turns.begin.Goals as goal
 
@@ -36,8 +36,7 @@ returns c =
     let size = ap (λ x. value_size x a.awaits) same in
     record {
       within = (omega (arith, forward, n.ensures.within.0), n.ensures.within.1);
-      reaches = reaches-along p t n.new.stacks n.result.0 r (from_value p t s a.awaits a.at)
-          (resume_with p t c.ends_at_first.new.stacks a.awaits (done (empty_tree a.shape) j))
+      reaches = rw
           (begins-closed p t s a.awaits c.requires.stands c.requires.room a.at a.shape j c.requires.bracket
           c.if-not-ends_at_first.ensures.resolved
           ∙ ap (λ x. resume_with p t x a.awaits (done (empty_tree a.shape) j)) (sym same))

@@ -7,11 +7,10 @@ use Rattle.jiter_steps.specs.declared.parse.Shape.TheVariants as shape
 use Rattle.jiter_steps.proofs.Resumed.{resume-fault}
 use Rattle.jiter_value.specs.Settings.{forgives, rules}
 use Rattle.jiter_value.specs.Size.{frames_size, inside_size_in}
-use Rattle.jiter_value.specs.Stacks.{frames, container_in, resume_with}
+use Rattle.jiter_value.specs.Stacks.{frames, container_in}
 use Rattle.jiter_value.specs.Turns.{outcome}
 use Rattle.jiter_value.specs.declared.stacks.Awaits.TheVariants as awaits
 use Rattle.jiter_value.proofs.StackTurns.{fault-value, last-member}
-use Rattle.jiter_value.proofs.TurnOutcomes.{reaches-along, gave-up}
 use Rattle.jiter_value.proofs.Sizes.{key-size}
 use Rattle.jiter_value.proofs.turns.fault_at_value.Goals as goal
 
@@ -21,9 +20,7 @@ returns-then-not-forgives-clause-reaches c =
     let s = a.stacks.now in
     let k = fault_kind a.problem.kind in
     let bad : forgives a.settings.mode k ≡ false = sym c.forgives.ensures ∙ c.if-not-forgives.true in
-    gave-up a.settings a.bytes.now c.give_up.new.stacks c.give_up.result a.problem a.at
-    (resume_with a.settings a.bytes.now s a.awaits (fault k a.problem.index a.at)) c.give_up.ensures.place
-    c.give_up.ensures.error
+    rw (c.give_up.ensures.place, c.give_up.ensures.error)
     (resume-fault (rules a.settings) a.bytes.now
     (frames a.awaits (reverse s.nest.items) s.items.items s.members.items) k a.problem.index a.at bad)
 
@@ -44,9 +41,7 @@ returns-in-Value-clause-reaches c =
     let closes = ap (λ ys. resume (rules p) t (frames awaits.Value os es ys) (fault k a.problem.index a.at)) last.1
     ∙ fault-value p t os es (take (length ms - 1) ms) last.0 k a.problem.index a.at last.2 ok
     ∙ ap (λ ys. container_in p t shape.Object os es ys a.at) (sym popped) in
-    let n = c.close_and_go_on-in-Value in
-    rw c.in-Value.is
-    (reaches-along p t n.new.stacks n.result.0 (outcome n.new.stacks n.result.1) _ _ closes n.ensures.reaches)
+    rw (c.in-Value.is, closes) c.close_and_go_on-in-Value.ensures.reaches
 
 pub returns-in-Value-clause-held : goal.returns-in-Value-clause-held
 returns-in-Value-clause-held c =
