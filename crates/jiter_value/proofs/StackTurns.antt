@@ -352,7 +352,7 @@ key-above (o ∷ os) n ms m h = (omega (arith, h.0, length-append ms (m ∷ []))
 pub root-stands : (nest : List Open) (es : List JsonValue) (ms : List Member) → nest ≡ [] → es ≡ [] → ms ≡ []
     → HaveBases awaits.Root (reverse nest) (length es) (length ms)
 root-stands nest es ms a b c =
-    subst (λ os. HaveBases awaits.Root (reverse os) (length es) (length ms)) (sym a) (ap length b, ap length c)
+    rw (a, b, c) (refl, refl)
 
 pub root-from : (p : Settings) (t : List ℕ) (os : List Open) (es : List JsonValue) (ms : List Member) (n m i : ℕ)
     → HaveBases awaits.Root os n m

@@ -1,6 +1,4 @@
-use Rattle.std.proofs.Common.{◌∙◌, refl, sym, ap, arith, length, reverse}
-use Rattle.jiter_value.specs.Size.{inside_size}
-use Rattle.jiter_value.specs.Stacks.{container_ends}
+use Rattle.std.proofs.Common.{◌∙◌, refl, sym, arith, reverse}
 use Rattle.jiter_value.proofs.Shapes.{reaches-part, inside-stands, not-root}
 use Rattle.jiter_value.proofs.Sizes.{behind-part-size}
 use Rattle.jiter_value.proofs.StackTurns.{behind-more, behind-closed, behind-fails}
@@ -44,18 +42,18 @@ closing-preserved c =
     let so_far = rw c.in-Some.ensures.some at l.invariant in
     let same = c.if-not-ends.ensures.same refl in
     let forward = c.step_at-next.ensures.within.0 in
-    let nest = ap (λ x. length x.nest.items) same in
-    let fewer = c.in-Ok.ensures.nest in (
+    let fewer = rw same at c.in-Ok.ensures.nest in (
       omega (arith, so_far.0, forward),
       c.step_at-next.ensures.within.1,
       so_far.2
           ∙ behind-closed p t h s.items.items s.members.items s.root l.at (reverse s.nest.items) j so_far.3
           c.if-not-ends.ensures.resolved
-          ∙ ap (λ x. container_ends p t h x j) (sym same) ∙ c.in-Ok.ensures.value p t j,
+          ∙ (rw same at c.in-Ok.ensures.value p t j),
       c.in-Ok.ensures.stands,
-      omega (arith, so_far.4, nest, fewer),
-      omega (arith, so_far.5, forward, nest, fewer),
-      c.in-Ok.ensures.held ∙ ap (inside_size h) same ∙ sym (behind-part-size h (reverse s.nest.items) s.items.items s.members.items s.root so_far.3)
+      omega (arith, so_far.4, fewer),
+      omega (arith, so_far.5, forward, fewer),
+      (rw same at c.in-Ok.ensures.held)
+          ∙ sym (behind-part-size h (reverse s.nest.items) s.items.items s.members.items s.root so_far.3)
           ∙ so_far.6,
       λ r. absurd (not-root h (so_far.7 r)),
     )

@@ -1,13 +1,11 @@
-use Rattle.std.proofs.Common.{◌≡◌, ◌-◌, ◌∙◌, sym, ap, arith, length, take, reverse, true, false}
+use Rattle.std.proofs.Common.{◌≡◌, ◌-◌, ◌∙◌, sym, ap, arith, length, take, reverse, false}
 use Rattle.std.proofs.lemmas.Result.{IfOk-weaker}
 use Rattle.jiter_scan.specs.Kind.{fault_kind}
-use Rattle.jiter_steps.specs.Frames.{resume}
-use Rattle.jiter_steps.specs.Read.{fault}
 use Rattle.jiter_steps.specs.declared.parse.Shape.TheVariants as shape
 use Rattle.jiter_steps.proofs.Resumed.{resume-fault}
 use Rattle.jiter_value.specs.Settings.{forgives, rules}
 use Rattle.jiter_value.specs.Size.{frames_size, inside_size_in}
-use Rattle.jiter_value.specs.Stacks.{frames, container_in}
+use Rattle.jiter_value.specs.Stacks.{frames}
 use Rattle.jiter_value.specs.Turns.{outcome}
 use Rattle.jiter_value.specs.declared.stacks.Awaits.TheVariants as awaits
 use Rattle.jiter_value.proofs.StackTurns.{fault-value, last-member}
@@ -37,11 +35,12 @@ returns-in-Value-clause-reaches c =
     let last = last-member os (length es) ms (rw c.in-Value.is at c.requires.stands) in
     let popped : c.pop.new.self.items ≡ take (length ms - 1) ms = c.pop.ensures.rest
     ∙ ap (λ n. take (n - 1) ms) (omega (arith, s.members.ok.0)) in
-    let ok : forgives p.mode k ≡ true = sym c.forgives.ensures ∙ c.if-not-forgives.false in
-    let closes = ap (λ ys. resume (rules p) t (frames awaits.Value os es ys) (fault k a.problem.index a.at)) last.1
-    ∙ fault-value p t os es (take (length ms - 1) ms) last.0 k a.problem.index a.at last.2 ok
-    ∙ ap (λ ys. container_in p t shape.Object os es ys a.at) (sym popped) in
-    rw (c.in-Value.is, closes) c.close_and_go_on-in-Value.ensures.reaches
+    let ok = sym c.forgives.ensures ∙ c.if-not-forgives.false in
+    rw (
+      c.in-Value.is,
+      last.1,
+      fault-value p t os es (take (length ms - 1) ms) last.0 k a.problem.index a.at last.2 ok,
+    ) (rw popped at c.close_and_go_on-in-Value.ensures.reaches)
 
 pub returns-in-Value-clause-held : goal.returns-in-Value-clause-held
 returns-in-Value-clause-held c =
