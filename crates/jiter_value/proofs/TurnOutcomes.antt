@@ -1,5 +1,5 @@
 -- Where a turn may want memory.
-use Rattle.std.proofs.Common.{◌≡◌, sym, subst}
+use Rattle.std.proofs.Common.{◌≡◌}
 use Rattle.std.specs.Prelude.{Result, Ok, Err, IfOk}
 use Rattle.jiter_scan.specs.declared.errors.Fault.{Fault}
 use Rattle.jiter_steps.specs.declared.read_error.ReadError.{ReadError}
@@ -23,4 +23,4 @@ root-grows (Err (error.Fault f)) P d h = tt
 root-grows (Err (error.Memory m)) P d h = h
 
 pub fault-grows : (e : ReadError) (f : Fault) (P : Type 0) → e ≡ error.Fault f → MayGrowFor (Err e) P
-fault-grows e f P is = subst (λ x. MayGrowFor (Err x) P) (sym is) tt
+fault-grows e f P is = rw is tt

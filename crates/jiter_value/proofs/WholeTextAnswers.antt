@@ -1,5 +1,5 @@
 -- What a whole text answers, by how its reading goes.
-use Rattle.std.proofs.Common.{◌≡◌, inl, inr, ℕ, ◌<◌, Bool, true, false, List, length, refl, sym, ap, ap₂, subst, ◌∙◌}
+use Rattle.std.proofs.Common.{◌≡◌, inl, inr, ℕ, ◌<◌, Bool, true, false, List, length, refl, sym, ap, ap₂, ◌∙◌}
 use Rattle.std.proofs.Common.{arith}
 use Rattle.std.proofs.lemmas.List.{length-reverse}
 use Rattle.std.specs.Prelude.{reverse, slice_get, Option, Some, None, Err, if◌then◌else◌}
@@ -137,9 +137,8 @@ begins-under-way p t s i b h lt =
     let at = value-begins-at t i h in
     let none : length s.nest.items ≡ 0 = sym (length-reverse s.nest.items)
     ∙ root-alone os (length s.items.items) (length s.members.items) b in (
-      ap (value_at (rules p) t 200) at
-          ∙ root-from p t os s.items.items s.members.items (length s.items.items) (length s.members.items) i b,
+      rw at (root-from p t os s.items.items s.members.items (length s.items.items) (length s.members.items) i b),
       (b, omega (arith, none), lt),
       λ e. cc,
-      subst (λ j. j < length t) (sym at) lt,
+      rw at lt,
     )
