@@ -250,9 +250,9 @@ module _ (p : Settings) (t : List ℕ) where
 
     low : length fs ≤ 200
     low =
-        let os = reverse s.nest.items in
-        let deep = length-frames a os (length s.items.items) (length s.members.items) s.items.items s.members.items bases
-        in
+        let es = s.items.items in
+        let ms = s.members.items in
+        let deep = length-frames a (reverse s.nest.items) (length es) (length ms) es ms bases in
         omega (arith, deep, few, length-reverse s.nest.items)
 
     pub value-read : (x : Reading Tree) → ((room : ℕ) → value_at (rules p) t room i ≡ x)
@@ -309,8 +309,9 @@ module _ (p : Settings) (t : List ℕ) where
   key-fails [] es ms j k x stop b h v = absurd b
   key-fails (o ∷ os) es ms j k x stop b h v =
       let key = scalar-failed j (string_at whole t j) k x stop v in
-      key-failed (rules p) t good (frames o.outer os es (take o.base ms)) (map member_view (drop o.base ms)) j x k h
-      key.0 ∙ ap (key_fault_in p t (o ∷ os) es ms k x) (sym key.1)
+      rw key.1
+      (key-failed (rules p) t good (frames o.outer os es (take o.base ms)) (map member_view (drop o.base ms)) j x k h
+      key.0)
 
   pub colon-fails : (os : List Open) (es : List JsonValue) (ms : List Member) (j : ℕ) (key : Text) (e x stop : ℕ)
       (k : Kind) → HaveKeyBase os (length es) (length ms) → j < length t

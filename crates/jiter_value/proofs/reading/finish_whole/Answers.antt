@@ -13,7 +13,8 @@ pub returns-in-Ok-clause-value : goal.returns-in-Ok-clause-value
 returns-in-Ok-clause-value c =
     let a = c.args in
     let off = sym c.is_active.ensures ∙ c.if-is_active.false in
-    (_, answer_by-end a.settings a.parser.now.bytes.now c.requires.begins _ _ c.requires.value _ off c.in-Ok.ensures.value)
+    let ends = c.in-Ok.ensures.value in
+    (_, answer_by-end a.settings a.parser.now.bytes.now c.requires.begins _ _ c.requires.value _ off ends)
 
 pub returns-clause-value : goal.returns-clause-value
 returns-clause-value c =

@@ -36,7 +36,8 @@ returns-in-Ok-make_room-clause-reaches c =
     c.object_colon.new.self.index c.in-Ok.key c.requires.stands c.requires.within c.in-Ok.ensures.value
     (rw same at read.value) pushed (omega (arith, c.in-Ok.ensures.ahead, read.moves.forward))
     (rw same at read.inside) in
-    (put.value c.args.settings, (put.stands, omega (arith, c.len.ensures.value, c.if-len-gt-NESTING_LIMIT.false), put.within))
+    let few = c.if-len-gt-NESTING_LIMIT.false in
+    (put.value c.args.settings, (put.stands, omega (arith, c.len.ensures.value, few), put.within))
 
 pub returns-in-Err-clause-reaches : goal.returns-in-Err-clause-reaches
 returns-in-Err-clause-reaches c =
