@@ -4,7 +4,7 @@ use Rattle.std.proofs.Common.{◌∙◌, true≢false, Vec, Global}
 use Rattle.std.specs.Bool.{Decides}
 use Rattle.std.proofs.lemmas.Option.{slice_get_read}
 use Rattle.std.specs.Prelude.{slice_get, Some}
-use Rattle.jiter_steps.specs.Tree.{Text, Tree, array, object, Items, item, Members, member}
+use Rattle.jiter_steps.specs.Tree.{Text, Tree, array, object, Items, Members}
 use Rattle.jiter_steps.specs.Tree.{items_of, members_of}
 use Rattle.jiter_value.specs.Owned.{owned_tree, owned_member, HoldSame}
 use Rattle.jiter_value.specs.Stacks.{Member, member_view}
@@ -26,35 +26,22 @@ inside-array is js e = cc
 inside-object : (ms ns : Members) → object ms ≡ object ns → ms ≡ ns
 inside-object ms ns e = cc
 
-first-item : (v w : Tree) (is js : Items) → item v is ≡ item w js → v ≡ w
-first-item v w is js e = cc
-
-other-items : (v w : Tree) (is js : Items) → item v is ≡ item w js → is ≡ js
-other-items v w is js e = cc
-
-first-member : (m n : Text × Tree) (ms ns : Members) → member m.0 m.1 ms ≡ member n.0 n.1 ns → m ≡ n
-first-member (k, v) (l, w) ms ns e = let keys : k ≡ l = cc in let values : v ≡ w = cc in rw (keys, values) refl
-
-other-members : (m n : Text × Tree) (ms ns : Members) → member m.0 m.1 ms ≡ member n.0 n.1 ns → ms ≡ ns
-other-members m n ms ns e = cc
-
 same-lists : (xs ys : List Tree) → items_of xs ≡ items_of ys → xs ≡ ys
 same-lists [] [] e = refl
-same-lists [] (y ∷ ys) e = absurd (cc)
-same-lists (x ∷ xs) [] e = absurd (cc)
 same-lists (x ∷ xs) (y ∷ ys) e =
-    rw (first-item x y (items_of xs) (items_of ys) e, same-lists xs ys (other-items x y (items_of xs) (items_of ys) e))
-    refl
+    let first : x ≡ y = cc in
+    let others : items_of xs ≡ items_of ys = cc in
+    rw (first, same-lists xs ys others) refl
+same-lists xs ys e = absurd (cc)
 
 same-member_lists : (ms ns : List (Text × Tree)) → members_of ms ≡ members_of ns → ms ≡ ns
 same-member_lists [] [] e = refl
-same-member_lists [] (n ∷ ns) e = absurd (cc)
-same-member_lists (m ∷ ms) [] e = absurd (cc)
-same-member_lists (m ∷ ms) (n ∷ ns) e =
-    rw (
-      first-member m n (members_of ms) (members_of ns) e,
-      same-member_lists ms ns (other-members m n (members_of ms) (members_of ns) e),
-    ) refl
+same-member_lists ((k, v) ∷ ms) ((l, w) ∷ ns) e =
+    let keys : k ≡ l = cc in
+    let values : v ≡ w = cc in
+    let others : members_of ms ≡ members_of ns = cc in
+    rw (keys, values, same-member_lists ms ns others) refl
+same-member_lists ms ns e = absurd (cc)
 
 owned-view-Array : (v : Vec JsonValue Global)
     → owned_tree (view (Array v)) ≡ array (items_of (map owned_tree (map view v.items)))
@@ -69,19 +56,14 @@ pub array-decides : (b : Bool) (v w : Vec JsonValue Global)
     → Decides b (HoldSame (view (Array v)) (view (Array w)))
 array-decides b v w d =
     along d (λ h. owned-view-Array v ∙ ap (λ ts. array (items_of ts)) h ∙ sym (owned-view-Array w))
-    (λ e. same-lists (map owned_tree (map view v.items)) (map owned_tree (map view w.items))
-    (inside-array (items_of (map owned_tree (map view v.items))) (items_of (map owned_tree (map view w.items)))
-    (sym (owned-view-Array v) ∙ e ∙ owned-view-Array w)))
+    (λ e. same-lists _ _ (inside-array _ _ (sym (owned-view-Array v) ∙ e ∙ owned-view-Array w)))
 
 pub object-decides : (b : Bool) (v w : Vec Member Global)
     → Decides b (map owned_member (map member_view v.items) ≡ map owned_member (map member_view w.items))
     → Decides b (HoldSame (view (Object v)) (view (Object w)))
 object-decides b v w d =
     along d (λ h. owned-view-Object v ∙ ap (λ ms. object (members_of ms)) h ∙ sym (owned-view-Object w))
-    (λ e. same-member_lists (map owned_member (map member_view v.items)) (map owned_member (map member_view w.items))
-    (inside-object (members_of (map owned_member (map member_view v.items)))
-    (members_of (map owned_member (map member_view w.items)))
-    (sym (owned-view-Object v) ∙ e ∙ owned-view-Object w)))
+    (λ e. same-member_lists _ _ (inside-object _ _ (sym (owned-view-Object v) ∙ e ∙ owned-view-Object w)))
 
 -- what stands at one place of two lists that are the same
 at-same : {X Y Z : Type 0} (f : X → Y) (g : Y → Z) (xs ys : List X) (i : ℕ) (x y : X) → slice_get xs i ≡ Some x

@@ -28,8 +28,9 @@ owned-found names t (Err f) (Ok w) i is h = absurd is
 owned-found names t r (Err e) i is h = tt
 
 -- what is said of a tree, where it holds of that whose texts are owned
-pub owned-tree : (r s : Result JsonValue JsonError) (i : ℕ) (P Q : Tree → Type 0) → ((v : Tree) → P v → Q (owned_tree v))
-    → IsOwnedAnswer r i s → MatchResult r (λ v. P (view v)) (λ e. e.error_type ≡ OutOfMemory)
+pub owned-tree : (r s : Result JsonValue JsonError) (i : ℕ) (P Q : Tree → Type 0)
+    → ((v : Tree) → P v → Q (owned_tree v)) → IsOwnedAnswer r i s
+    → MatchResult r (λ v. P (view v)) (λ e. e.error_type ≡ OutOfMemory)
     → MatchResult s (λ v. Q (view v)) (λ e. e.error_type ≡ OutOfMemory)
 owned-tree (Ok v) (Ok w) i P Q go is h = subst Q (sym is) (go (view v) h)
 owned-tree (Ok v) (Err e) i P Q go is h = ap (λ e. e.error_type) is.0

@@ -20,25 +20,20 @@ owned_members-of (m ∷ ms) = ap (member (owned_text m.0) (owned_tree m.1)) (own
 
 -- the copy of an array, by the copies of its items
 pub copied_array : (v w : Vec JsonValue Global) → map view v.items ≡ map view w.items → view (Array v) ≡ view (Array w)
-copied_array v w h = view_array v ∙ ap (λ ts. array (items_of ts)) h ∙ sym (view_array w)
+copied_array v w h = rw (view_array v, view_array w, h) refl
 
 pub copied_object : (v w : Vec Member Global) → map member_view v.items ≡ map member_view w.items
     → view (Object v) ≡ view (Object w)
-copied_object v w h = view_object v ∙ ap (λ ms. object (members_of ms)) h ∙ sym (view_object w)
+copied_object v w h = rw (view_object v, view_object w, h) refl
 
 -- the owned copy of an array, by the owned copies of its items
 pub owned_array : (v w : Vec JsonValue Global) → map view v.items ≡ map owned_tree (map view w.items)
     → view (Array v) ≡ owned_tree (view (Array w))
-owned_array v w h =
-    view_array v ∙ ap (λ ts. array (items_of ts)) h ∙ ap array (sym (owned_items-of (map view w.items)))
-    ∙ ap owned_tree (sym (view_array w))
+owned_array v w h = rw (view_array v, view_array w, h, owned_items-of (map view w.items)) refl
 
 pub owned_object : (v w : Vec Member Global) → map member_view v.items ≡ map owned_member (map member_view w.items)
     → view (Object v) ≡ owned_tree (view (Object w))
-owned_object v w h =
-    view_object v ∙ ap (λ ms. object (members_of ms)) h
-    ∙ ap object (sym (owned_members-of (map member_view w.items)))
-    ∙ ap owned_tree (sym (view_object w))
+owned_object v w h = rw (view_object v, view_object w, h, owned_members-of (map member_view w.items)) refl
 
 -- one more part, moved
 pub moved-more : {X Y : Type 0} (f : X → Y) (g : Y → Y) (moved xs : List X) (i : ℕ) (x y : X)

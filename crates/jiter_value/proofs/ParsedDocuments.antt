@@ -28,9 +28,7 @@ use Rattle.jiter_value.proofs.WholeTextAnswers.{answer_in-within}
 
 -- a container that is cut ends too early
 cut-early : (names : Bool) (t : List ℕ) → IsCutContainer names t → EndsEarly (answer names t)
-cut-early names t c =
-    subst (λ u. EndsEarly (answer names u)) (sym c.is)
-    (prefix-refused names c.text c.node c.place c.document c.container c.before_end)
+cut-early names t c = rw c.is (prefix-refused names c.text c.node c.place c.document c.container c.before_end)
 
 -- With partial reading off.
 module _ (names : Bool) (t : List ℕ) where

@@ -1,6 +1,6 @@
 -- Plain scalars, read and put where they belong.
 use Rattle.std.proofs.Common.{◌≡◌, inl, inr, ℕ, ◌+◌, ◌<◌, ◌≤◌, Bool, true, false, List, [], ◌∷◌, ◌++◌, length}
-use Rattle.std.proofs.Common.{Vec, refl, sym, ap, subst, ◌∙◌, slice_range, arith}
+use Rattle.std.proofs.Common.{Vec, refl, sym, ap, ◌∙◌, slice_range, arith}
 use Rattle.std.specs.Prelude.{reverse, slice_index, nat_lt, pos, if◌then◌else◌}
 use Rattle.std.proofs.lemmas.Bool.Decides.{nat_tests}
 use Rattle.jiter_scan.specs.Number.{Number, integer, float, minus_of}
@@ -21,8 +21,8 @@ use Rattle.jiter_steps.specs.declared.parse.Literal.{Literal}
 use Rattle.jiter_steps.specs.declared.parse.Start.{Start}
 use Rattle.jiter_steps.specs.declared.parse.Start.TheVariants as start
 use Rattle.jiter_value.specs.Settings.{rules}
-use Rattle.jiter_value.specs.Size.{size, value_size, behind_size, frames_size}
-use Rattle.jiter_value.specs.Stacks.{Member, resume_with, behind, frames, HaveBases, Stands, StandsAtKey}
+use Rattle.jiter_value.specs.Size.{size, value_size, behind_size}
+use Rattle.jiter_value.specs.Stacks.{Member, resume_with, behind, Stands, StandsAtKey}
 use Rattle.jiter_value.specs.Turns.{IsPutAt, IsKeyAt}
 use Rattle.jiter_value.specs.Value.{view}
 use Rattle.jiter_value.specs.declared.settings.Settings.{Settings}
@@ -30,10 +30,8 @@ use Rattle.jiter_value.specs.declared.stacks.Awaits.{Awaits}
 use Rattle.jiter_value.specs.declared.stacks.Stacks.{Stacks}
 use Rattle.jiter_value.specs.declared.value.JsonValue.{JsonValue}
 use Rattle.jiter_value.specs.declared.value.JsonValue.TheVariants.{Null}
-use Rattle.jiter_value.specs.declared.stacks.Awaits.TheVariants as awaits
 use Rattle.std.specs.declared.alloc.Global.{Global}
 use Rattle.std.specs.declared.borrow.CowStr.{CowStr}
-use Rattle.jiter_steps.specs.Frames.{value_from}
 use Rattle.jiter_steps.specs.Step.{object_colon}
 use Rattle.jiter_steps.specs.StringDecoder.{text_view}
 use Rattle.jiter_value.proofs.StackTurns.{value-read, key-opens, key-above}
@@ -89,18 +87,15 @@ module _ (t : List ℕ) (names : Bool) (i e : ℕ) where
       → number_at names t i ≡ taken (integer (if nat_lt i j then minus_of n else pos n)) e
   short-signed j n (inl same) s =
       let no : nat_lt i j ≡ false = grind (arith, nat_tests, same) in
-      short-integer t names e i n (subst (λ k. IsShortInteger t k n e) same s)
-      ∙ ap (λ (b : Bool). taken (integer (if b then minus_of n else pos n)) e) (sym no)
+      rw no (short-integer t names e i n (rw same at s))
   short-signed j n (inr (next, minus)) s =
       let yes : nat_lt i j ≡ true = grind (arith, nat_tests, next) in
-      short-negative t names e i minus n (subst (λ k. IsShortInteger t k n e) next s)
-      ∙ ap (λ (b : Bool). taken (integer (if b then minus_of n else pos n)) e) (sym yes)
+      rw yes (short-negative t names e i minus n (rw next at s))
 
   pub short-signed_float : (j : ℕ) → IsMinusTo t i j → IsShortFloat t j e
       → number_at names t i ≡ taken (float (slice_range t i e)) e
-  short-signed_float j (inl same) s = short-float t names e i (subst (λ k. IsShortFloat t k e) same s)
-  short-signed_float j (inr (next, minus)) s =
-      short-negative_float t names e i minus (subst (λ k. IsShortFloat t k e) next s)
+  short-signed_float j (inl same) s = short-float t names e i (rw same at s)
+  short-signed_float j (inr (next, minus)) s = short-negative_float t names e i minus (rw next at s)
 
 -- a key that was read so, and put so
 pub key-at : (t : List ℕ) (s : Stacks) (ms : Vec Member Global) (i e j : ℕ) (k : CowStr Global) → StandsAtKey s
@@ -112,13 +107,10 @@ key-at t s ms i e j k b inside read colon pushed ahead within =
     let os = reverse s.nest.items in
     let es = s.items.items in
     record {
-      value = λ p.
-          key-opens p t os es s.members.items i k e j b inside read colon
-          ∙ ap (λ ys. value_from (rules p) t (frames awaits.Value os es ys) j) (sym pushed);
-      stands = subst (λ ys. HaveBases awaits.Value os (length es) (length ys)) (sym pushed)
-          (key-above os (length es) s.members.items (k, Null) b);
+      value = λ p. rw pushed (key-opens p t os es s.members.items i k e j b inside read colon);
+      stands = rw pushed (key-above os (length es) s.members.items (k, Null) b);
       nest = refl;
-      held = ap (λ ys. frames_size (frames awaits.Value os es ys)) pushed ∙ key-size os es s.members.items (k, Null) b;
+      held = rw pushed (key-size os es s.members.items (k, Null) b);
       ahead = ahead;
       within = within;
     }

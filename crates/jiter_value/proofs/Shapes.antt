@@ -8,47 +8,39 @@ use Rattle.jiter_steps.specs.declared.parse.Start.TheVariants as start
 use Rattle.jiter_scan.specs.Kind.{recursion_limit}
 use Rattle.jiter_steps.specs.Frames.{resolve_step, resume, parts_from}
 use Rattle.jiter_steps.specs.Literal.{start_of}
-use Rattle.jiter_steps.specs.Step.{container_first, container_step, opening}
+use Rattle.jiter_steps.specs.Step.{container_first, opening}
 use Rattle.jiter_steps.specs.Read.{Reading, fault}
 use Rattle.jiter_steps.specs.Step.{more, step, array_first}
 use Rattle.jiter_steps.specs.Tree.{Tree}
 use Rattle.jiter_steps.specs.declared.parse.Shape.{Shape}
 use Rattle.jiter_steps.specs.declared.parse.Shape.TheVariants as shape
 use Rattle.jiter_value.specs.Settings.{forgives, rules}
-use Rattle.jiter_value.specs.Size.{held, behind_size, inside_size, inside_size_in, value_size}
+use Rattle.jiter_value.specs.Size.{held, inside_size, inside_size_in, value_size}
 use Rattle.jiter_value.specs.Size.{frames_size, parts_size}
-use Rattle.jiter_value.specs.Stacks.{from_value, behind, meaning, Stands}
+use Rattle.jiter_value.specs.Stacks.{from_value, Stands}
 use Rattle.jiter_value.specs.Stacks.{StandsInside, HavePartBase, frames, parts_above, frames_below, member_view}
 use Rattle.jiter_value.specs.Stacks.{awaited_in, base_of, part_of}
-use Rattle.jiter_value.specs.Turns.{IsWithin, Reaches, outcome}
+use Rattle.jiter_value.specs.Turns.{Reaches, outcome}
 use Rattle.jiter_value.specs.Value.{view}
 use Rattle.jiter_value.specs.declared.settings.Settings.{Settings}
 use Rattle.jiter_value.specs.declared.stacks.Open.{Open}
 use Rattle.jiter_value.specs.declared.stacks.Awaits.{Awaits}
 use Rattle.jiter_value.specs.declared.stacks.Awaits.TheVariants as awaits
 use Rattle.jiter_value.specs.declared.stacks.Stacks.{Stacks}
-use Rattle.jiter_value.proofs.StackTurns.{behind-more, begins, next-part, part_in, container_of, key-base, limit-reached}
-use Rattle.jiter_value.proofs.Sizes.{behind-part-size, item-size}
+use Rattle.jiter_value.proofs.StackTurns.{begins, next-part, part_in, container_of, key-base, limit-reached}
+use Rattle.jiter_value.proofs.Sizes.{item-size}
 
--- a part begins
+-- A part begins; an object's key may stand one deeper than an array's item.
 pub reaches-part : (p : Settings) (t : List ℕ) (s : Stacks) (h : Shape) (j : ℕ) (x : Reading Tree)
-    → x ≡ meaning p t s (part_of h) j → IsWithin t s (part_of h) j → Reaches p t s j (outcome s (part_of h)) x
-reaches-part p t s shape.Array j x is within = (is, within)
-reaches-part p t s shape.Object j x is within = (is, within)
+    → x ≡ part_in p t h (reverse s.nest.items) s.items.items s.members.items j → StandsInside h s
+    → (h ≡ shape.Array → length s.nest.items ≤ 200) → length s.nest.items ≤ 201 → j < length t
+    → Reaches p t s j (outcome s (part_of h)) x
+reaches-part p t s shape.Array j x is b few low lt = (is, (b, few refl, lt))
+reaches-part p t s shape.Object j x is b few low lt = (is, (b, low, lt))
 
 pub inside-stands : (s : Stacks) (h : Shape) → Stands s (awaited_in h) → StandsInside h s
 inside-stands s shape.Array b = b
 inside-stands s shape.Object b = key-base (reverse s.nest.items) (length s.items.items) (length s.members.items) b
-
-pub inside-size : (s : Stacks) (h : Shape) → Stands s (awaited_in h) → behind_size s (awaited_in h) ≡ inside_size h s
-inside-size s h b = behind-part-size h (reverse s.nest.items) s.items.items s.members.items s.root b
-
--- an object's key may stand one deeper than an array's item
-pub part-within : (t : List ℕ) (s : Stacks) (h : Shape) (j : ℕ) → StandsInside h s
-    → (h ≡ shape.Array → length s.nest.items ≤ 200) → length s.nest.items ≤ 201 → j < length t
-    → IsWithin t s (part_of h) j
-part-within t s shape.Array j b few low lt = (b, few refl, lt)
-part-within t s shape.Object j b few low lt = (b, low, lt)
 
 -- the stacks with other open containers
 abbrev pub with_nest : Stacks → SmallVec Open → Stacks
@@ -65,12 +57,8 @@ opened s a h = record { outer = a; base = base_of h s }
 same-below : (s : Stacks) (a : Awaits) (h : Shape)
     → frames_below h (opened s a h) (reverse s.nest.items) s.items.items s.members.items
     ≡ frames a (reverse s.nest.items) s.items.items s.members.items
-same-below s a shape.Array =
-    ap (λ es. frames a (reverse s.nest.items) es s.members.items)
-    (take_all (length s.items.items) s.items.items (omega arith))
-same-below s a shape.Object =
-    ap (frames a (reverse s.nest.items) s.items.items)
-    (take_all (length s.members.items) s.members.items (omega arith))
+same-below s a shape.Array = rw (take_all (length s.items.items) s.items.items (omega arith)) refl
+same-below s a shape.Object = rw (take_all (length s.members.items) s.members.items (omega arith)) refl
 
 base-above : (s : Stacks) (a : Awaits) (h : Shape) → Stands s a
     → HavePartBase h (opened s a h ∷ reverse s.nest.items) (length s.items.items) (length s.members.items)
@@ -81,58 +69,43 @@ turned : (s : Stacks) (a : Awaits) (h : Shape) (n : SmallVec Open) → n.items �
     → reverse n.items ≡ opened s a h ∷ reverse s.nest.items
 turned s a h n pushed = ap reverse pushed ∙ reverse-append s.nest.items (opened s a h ∷ [])
 
-part-meaning : (p : Settings) (t : List ℕ) (s : Stacks) (h : Shape) (j : ℕ)
-    → part_in p t h (reverse s.nest.items) s.items.items s.members.items j ≡ meaning p t s (part_of h) j
-part-meaning p t s shape.Array j = refl
-part-meaning p t s shape.Object j = refl
+module _ (p : Settings) (t : List ℕ) (s : Stacks) (a : Awaits) (b : Stands s a) (few : length s.nest.items ≤ 200)
+    (i : ℕ) where
+  -- a container begins with a part
+  opens : (h : Shape) (j : ℕ) → j < length t → start_of (slice_index t i) ≡ opening h
+      → step t (container_first h) (i + 1) ≡ more j
+      → from_value p t s a i
+      ≡ part_in p t h (opened s a h ∷ reverse s.nest.items) s.items.items s.members.items j
+  opens h j lt starts is =
+      let os = reverse s.nest.items in
+      begins p t s a b few i h (more j) starts (ap (resolve_step (forgives p.mode)) is)
+      ∙ ap₂ (λ fs xs. resume (rules p) t fs (parts_from (rules p) t (container_of p t h (length fs)) xs j))
+      (sym (same-below s a h)) (sym (no-parts s h))
+      ∙ next-part p t h (opened s a h) os s.items.items s.members.items j lt
 
-module _ (p : Settings) (t : List ℕ) (s : Stacks) where
-  pub inside-more : (h : Shape) (e j : ℕ) → Stands s (awaited_in h) → step t (container_step h t) e ≡ more j
-      → j < length t
-      → behind p t s (awaited_in h) e ≡ meaning p t s (part_of h) j
-  inside-more h e j b is lt =
-      behind-more p t h s.items.items s.members.items s.root e (reverse s.nest.items) j b is lt ∙ part-meaning p t s h j
+  -- and stands open
+  pub shape-opens : (h : Shape) (j : ℕ) (n : SmallVec Open) → n.items ≡ s.nest.items ++ opened s a h ∷ []
+      → j < length t → start_of (slice_index t i) ≡ opening h
+      → step t (container_first h) (i + 1) ≡ more j → (h ≡ shape.Array → length s.nest.items ≢ 200)
+      → Reaches p t (with_nest s n) j (outcome (with_nest s n) (part_of h)) (from_value p t s a i)
+  shape-opens h j n pushed lt starts is some =
+      let es = s.items.items in
+      let ms = s.members.items in
+      let nest = turned s a h n pushed in
+      let longer = ap length pushed ∙ length-append s.nest.items (opened s a h ∷ []) in
+      reaches-part p t (with_nest s n) h j _
+      (opens h j lt starts is ∙ ap (λ qs. part_in p t h qs es ms j) (sym nest))
+      (subst (λ qs. HavePartBase h qs (length es) (length ms)) (sym nest) (base-above s a h b))
+      (λ array. let full = some array in omega (arith, few, full, longer)) (omega (arith, few, longer)) lt
 
-  module _ (a : Awaits) (b : Stands s a) (few : length s.nest.items ≤ 200) (i : ℕ) where
-    -- a container begins with a part
-    opens : (h : Shape) (j : ℕ) → j < length t → start_of (slice_index t i) ≡ opening h
-        → step t (container_first h) (i + 1) ≡ more j
-        → from_value p t s a i
-        ≡ part_in p t h (opened s a h ∷ reverse s.nest.items) s.items.items s.members.items j
-    opens h j lt starts is =
-        let os = reverse s.nest.items in
-        begins p t s a b few i h (more j) starts (ap (resolve_step (forgives p.mode)) is)
-        ∙ ap₂ (λ fs xs. resume (rules p) t fs (parts_from (rules p) t (container_of p t h (length fs)) xs j))
-        (sym (same-below s a h)) (sym (no-parts s h))
-        ∙ next-part p t h (opened s a h) os s.items.items s.members.items j lt
-
-    -- and stands open
-    pub shape-opens : (h : Shape) (j : ℕ) (n : SmallVec Open) → n.items ≡ s.nest.items ++ opened s a h ∷ []
-        → j < length t → start_of (slice_index t i) ≡ opening h
-        → step t (container_first h) (i + 1) ≡ more j → (h ≡ shape.Array → length s.nest.items ≢ 200)
-        → (from_value p t s a i ≡ meaning p t (with_nest s n) (part_of h) j) × IsWithin t (with_nest s n) (part_of h) j
-    shape-opens h j n pushed lt starts is some =
-        let es = s.items.items in
-        let ms = s.members.items in
-        let nest = turned s a h n pushed in
-        let longer = ap length pushed ∙ length-append s.nest.items (opened s a h ∷ []) in
-        let stands : StandsInside h (with_nest s n) =
-        subst (λ qs. HavePartBase h qs (length es) (length ms)) (sym nest) (base-above s a h b) in (
-          opens h j lt starts is ∙ ap (λ qs. part_in p t h qs es ms j) (sym nest)
-              ∙ part-meaning p t (with_nest s n) h j,
-          part-within t (with_nest s n) h j stands
-              (λ array. let full = some array in omega (arith, few, full, longer))
-              (omega (arith, few, longer)) lt,
-        )
-
-    -- an array stands too deep
-    pub array-too-deep : (j : ℕ) → length s.nest.items ≡ 200 → j < length t
-        → start_of (slice_index t i) ≡ start.Array → step t array_first (i + 1) ≡ more j
-        → from_value p t s a i ≡ fault recursion_limit j j
-    array-too-deep j full lt starts is =
-        opens shape.Array j lt starts is
-        ∙ limit-reached p t awaits.Item (opened s a shape.Array ∷ reverse s.nest.items) s.items.items s.members.items j
-        (base-above s a shape.Array b) (omega (arith, full, length-reverse s.nest.items))
+  -- an array stands too deep
+  pub array-too-deep : (j : ℕ) → length s.nest.items ≡ 200 → j < length t
+      → start_of (slice_index t i) ≡ start.Array → step t array_first (i + 1) ≡ more j
+      → from_value p t s a i ≡ fault recursion_limit j j
+  array-too-deep j full lt starts is =
+      opens shape.Array j lt starts is
+      ∙ limit-reached p t awaits.Item (opened s a shape.Array ∷ reverse s.nest.items) s.items.items s.members.items j
+      (base-above s a shape.Array b) (omega (arith, full, length-reverse s.nest.items))
 
 pub not-root : (h : Shape) → awaited_in h ≡ awaits.Root → ⊥
 not-root shape.Array h = cc

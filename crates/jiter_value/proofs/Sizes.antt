@@ -1,5 +1,5 @@
 -- Counting what the machine holds.
-use Rattle.std.proofs.Common.{◌≡◌, suc, ◌+◌, List, [], ◌∷◌, ◌++◌, length, drop, map, refl, ap, ◌∙◌, arith}
+use Rattle.std.proofs.Common.{◌≡◌, suc, ◌+◌, List, [], ◌∷◌, ◌++◌, length, drop, map, refl, ap, arith}
 use Rattle.std.specs.Prelude.{reverse}
 use Rattle.std.proofs.lemmas.List.{reverse-append, take-append-le}
 use Rattle.jiter_steps.specs.Frames.{Frame}
@@ -61,11 +61,8 @@ pub container-size : (h : Shape) (nest init : List Open) (o : Open) (es : List J
     → nest ≡ init ++ o ∷ [] → fs ≡ frames_below h o (reverse init) es ms → x ≡ built h (parts_above h o.base es ms)
     → inside_size_in h (reverse nest) es ms ≡ frames_size fs + size x
 container-size h nest init o es ms fs x is below made =
-    let last : inside_size_in h (reverse nest) es ms ≡ inside_size_in h (o ∷ reverse init) es ms =
-    ap (λ os. inside_size_in h os es ms) (ap reverse is ∙ reverse-append init (o ∷ [])) in
-    let counts = ap size made ∙ built-size h (parts_above h o.base es ms) in
-    let outer = ap frames_size below in
-    omega (arith, last, counts, outer)
+    let counts = built-size h (parts_above h o.base es ms) in
+    rw (is, reverse-append init (o ∷ []), below, made) (omega (arith, counts))
 
 -- a container behind a value holds what it holds where it awaits none
 pub behind-part-size : (h : Shape) (os : List Open) (es : List JsonValue) (ms : List Member) (root : JsonValue)

@@ -1,6 +1,6 @@
 -- The turns of the machine, over its stacks.
 use Rattle.std.proofs.Common.{◌≡◌, ℕ, suc, ◌+◌, ◌-◌, ◌<◌, ◌≤◌, true, false, cond, List, [], ◌∷◌, ◌++◌, length, take}
-use Rattle.std.proofs.Common.{drop, map, get_or, refl, sym, ap, ap₂, subst, ◌∙◌, arith, length-append}
+use Rattle.std.proofs.Common.{drop, map, get_or, refl, sym, ap, ap₂, ◌∙◌, arith, length-append}
 use Rattle.std.specs.Prelude.{reverse, slice_set, slice_index}
 use Rattle.std.specs.declared.alloc.Global.{Global}
 use Rattle.std.specs.declared.borrow.CowStr.{CowStr}
@@ -49,8 +49,7 @@ pub set-last : (xs before : List Member) (n : ℕ) (key : CowStr Global) (old v 
     → slice_set xs n (got.0, v) ≡ before ++ (key, v) ∷ []
 set-last xs before n key old v got h at g =
     let is : got ≡ (key, old) = g ∙ ap₂ (λ ys m. get_or ys m got) h at ∙ get_or-append_seam before (key, old) [] got in
-    ap₂ (λ ys m. slice_set ys m (got.0, v)) h at ∙ set-append_seam before (key, old) [] (got.0, v)
-    ∙ ap (λ m. before ++ (m.0, v) ∷ []) is
+    rw (is, h, at) (set-append_seam before (key, old) [] (key, v))
 
 last-split : {X : Type 0} (xs : List X) → 0 < length xs → (x : X) × (xs ≡ take (length xs - 1) xs ++ x ∷ [])
 last-split [] h = let no : ⊥ = omega arith in absurd no
@@ -154,8 +153,7 @@ module _ (p : Settings) (t : List ℕ) where
       → nest ≡ init ++ o ∷ [] → fs ≡ frames_below h o (reverse init) es ms → x ≡ built h (parts_above h o.base es ms)
       → container_in p t h (reverse nest) es ms e ≡ resume (rules p) t fs (done x e)
   container-closes h nest init o es ms fs x e is below made =
-      ap (λ os. container_in p t h os es ms e) (ap reverse is ∙ reverse-append init (o ∷ []))
-      ∙ ap₂ (λ gs y. resume (rules p) t gs (done y e)) (sym below) (sym made)
+      rw (is, reverse-append init (o ∷ []), below, made) refl
 
   -- Behind a part: the step that is taken there, inside what stands below.
   abbrev pub container_of : (h : Shape) → ℕ → Container (PartTree h) Tree
@@ -188,11 +186,6 @@ module _ (p : Settings) (t : List ℕ) where
   stuck-to h fs xs k j bad =
       step-stuck (rules p) t (container_of h (length fs)) fs xs (stuck k j) k j
       (ap (λ y. cond y (closed j) (stuck k j)) bad) bad
-
-  given-up : (error : ReadError) (j : ℕ) (s : Step) (x : Reading Tree) (r : IsResolved p false error j s)
-      → x ≡ fault (fault_kind r.0.kind) j j → Fails error j x
-  given-up error j s x r h =
-      subst (λ e. Fails e j x) (sym r.1) (h ∙ ap (λ y. fault (fault_kind r.0.kind) y j) (sym r.2))
 
   outermost : (h : Shape) (n m : ℕ) → HaveBases (awaited_in h) [] n m → ⊥
   outermost shape.Array n m b = b
@@ -235,7 +228,7 @@ module _ (p : Settings) (t : List ℕ) where
         → Fails error j (behind_in p t (awaited_in h) os es ms root e)
     behind-fails [] j error b r = absurd (outermost h (length es) (length ms) b)
     behind-fails (o ∷ os) j error b r =
-        given-up error j (step t (container_step h t) e) _ r
+        rw (r.1, r.2)
         (behind-to h o os es ms root e (stuck (fault_kind r.0.kind) j) r.3
         ∙ stuck-to h (frames_below h o os es ms) (parts_above h o.base es ms) (fault_kind r.0.kind) j r.4)
 
@@ -246,9 +239,9 @@ module _ (p : Settings) (t : List ℕ) where
       shape.Object os es before stop
   fault-value [] es before m k x stop b ok = absurd b
   fault-value (o ∷ os) es before m k x stop b ok =
-      ap (λ fs. resume (rules p) t fs (fault k x stop)) (value-frames o os es before m b.0)
-      ∙ resume-forgiven (rules p) t (members_frame (map member_view (drop o.base before)) (text_view m.0))
-      (frames o.outer os es (take o.base before)) k x stop ok
+      rw (value-frames o os es before m b.0)
+      (resume-forgiven (rules p) t (members_frame (map member_view (drop o.base before)) (text_view m.0))
+      (frames o.outer os es (take o.base before)) k x stop ok)
 
   -- A value begins.
   module _ (s : Stacks) (a : Awaits) (bases : Stands s a) (few : length s.nest.items ≤ 200) (i : ℕ) where
@@ -257,9 +250,9 @@ module _ (p : Settings) (t : List ℕ) where
 
     low : length fs ≤ 200
     low =
-        let os = reverse s.nest.items in
-        let deep = length-frames a os (length s.items.items) (length s.members.items) s.items.items s.members.items bases
-        in
+        let es = s.items.items in
+        let ms = s.members.items in
+        let deep = length-frames a (reverse s.nest.items) (length es) (length ms) es ms bases in
         omega (arith, deep, few, length-reverse s.nest.items)
 
     pub value-read : (x : Reading Tree) → ((room : ℕ) → value_at (rules p) t room i ≡ x)
@@ -284,7 +277,7 @@ module _ (p : Settings) (t : List ℕ) where
         → IsResolved p false error j (step t (container_first h) (i + 1))
         → Fails error j (value_from (rules p) t fs i)
     begins-fails h j error is r =
-        given-up error j (step t (container_first h) (i + 1)) _ r
+        rw (r.1, r.2)
         (begins h (stuck (fault_kind r.0.kind) j) is r.3 ∙ stuck-to h fs [] (fault_kind r.0.kind) j r.4)
 
   -- A value stands inside too many containers.
@@ -316,8 +309,9 @@ module _ (p : Settings) (t : List ℕ) where
   key-fails [] es ms j k x stop b h v = absurd b
   key-fails (o ∷ os) es ms j k x stop b h v =
       let key = scalar-failed j (string_at whole t j) k x stop v in
-      key-failed (rules p) t good (frames o.outer os es (take o.base ms)) (map member_view (drop o.base ms)) j x k h
-      key.0 ∙ ap (key_fault_in p t (o ∷ os) es ms k x) (sym key.1)
+      rw key.1
+      (key-failed (rules p) t good (frames o.outer os es (take o.base ms)) (map member_view (drop o.base ms)) j x k h
+      key.0)
 
   pub colon-fails : (os : List Open) (es : List JsonValue) (ms : List Member) (j : ℕ) (key : Text) (e x stop : ℕ)
       (k : Kind) → HaveKeyBase os (length es) (length ms) → j < length t
@@ -352,7 +346,7 @@ key-above (o ∷ os) n ms m h = (omega (arith, h.0, length-append ms (m ∷ []))
 pub root-stands : (nest : List Open) (es : List JsonValue) (ms : List Member) → nest ≡ [] → es ≡ [] → ms ≡ []
     → HaveBases awaits.Root (reverse nest) (length es) (length ms)
 root-stands nest es ms a b c =
-    subst (λ os. HaveBases awaits.Root (reverse os) (length es) (length ms)) (sym a) (ap length b, ap length c)
+    rw (a, b, c) (refl, refl)
 
 pub root-from : (p : Settings) (t : List ℕ) (os : List Open) (es : List JsonValue) (ms : List Member) (n m i : ℕ)
     → HaveBases awaits.Root os n m

@@ -1,9 +1,10 @@
 -- What a whole text answers, by how its reading goes.
-use Rattle.std.proofs.Common.{◌≡◌, inl, inr, ℕ, ◌<◌, Bool, true, false, List, length, refl, sym, ap, ap₂, subst, ◌∙◌}
+use Rattle.std.proofs.Common.{◌≡◌, inl, inr, ℕ, ◌<◌, Bool, true, false, List, length, refl, sym, ap, ap₂, ◌∙◌}
 use Rattle.std.proofs.Common.{arith}
 use Rattle.std.proofs.lemmas.List.{length-reverse}
-use Rattle.std.specs.Prelude.{reverse, slice_get, Option, Some, None, Ok, Err}
+use Rattle.std.specs.Prelude.{reverse, slice_get, Option, Some, None, Err, if◌then◌else◌}
 use Rattle.jiter_scan.specs.Kind.{Kind, fault_kind}
+use Rattle.jiter_scan.proofs.Choices.{if_case, if-true, if-false}
 use Rattle.jiter_scan.specs.PartialMode.{is_active}
 use Rattle.jiter_scan.specs.Scanned.{taken, failed}
 use Rattle.jiter_scan.specs.declared.errors.JsonError.{JsonError}
@@ -13,12 +14,11 @@ use Rattle.jiter_steps.specs.Answer.{trees, value_form, answer_in}
 use Rattle.jiter_steps.specs.Blank.{past_blanks}
 use Rattle.jiter_steps.specs.Parse.{Gives}
 use Rattle.jiter_steps.specs.Read.{Reading, done, fault, Rules, value_at, if_begun, if_last, to_end, front_answer}
-use Rattle.jiter_steps.specs.Read.{whole_answer}
 use Rattle.jiter_steps.specs.Step.{step, value_first, document_end}
 use Rattle.jiter_steps.specs.Tree.{Text, Tree}
 use Rattle.jiter_steps.specs.declared.read_error.ReadError.{ReadError}
 use Rattle.jiter_steps.specs.declared.read_error.ReadError.TheVariants as error
-use Rattle.jiter_steps.proofs.WholeTexts.{front-begins, whole-is, whole-begins}
+use Rattle.jiter_steps.proofs.WholeTexts.{front-begins, whole-is}
 use Rattle.jiter_steps.proofs.Bounds.{Within}
 use Rattle.jiter_steps.proofs.Instances.{answer-within, partial_answer-within}
 use Rattle.jiter_value.specs.Reading.{GivesWhole, IsErrorOf}
@@ -31,7 +31,6 @@ use Rattle.jiter_value.specs.declared.settings.Settings.{Settings}
 use Rattle.jiter_value.specs.declared.stacks.Awaits.TheVariants as awaits
 use Rattle.jiter_value.specs.declared.stacks.Stacks.{Stacks}
 use Rattle.jiter_value.proofs.StackTurns.{root-from, root-alone}
-use Rattle.jiter_value.specs.declared.value.JsonValue.{JsonValue}
 
 -- where a value begins, a byte stands behind blanks
 begins-at : (i j : ℕ) (o : Option ℕ) → value_first j o ≡ taken tt i → j ≡ i
@@ -62,17 +61,12 @@ something-left a e i j k None h = absurd (cc)
 something-left a e i j k (Some c) h = cc
 
 module _ (names : Bool) (t : List ℕ) where
-  in-front : (mode : PartialMode) → is_active mode ≡ true
-      → answer_in names mode t ≡ front_answer (trees (forgives mode) (value_form mode) names) t
-  in-front Off h = absurd (cc)
-  in-front On h = refl
-  in-front TrailingStrings h = refl
-
-  in-whole : (mode : PartialMode) → is_active mode ≡ false
-      → answer_in names mode t ≡ whole_answer (trees (forgives mode) (value_form mode) names) t
-  in-whole Off h = refl
-  in-whole On h = absurd (cc)
-  in-whole TrailingStrings h = absurd (cc)
+  answer_in-is : (mode : PartialMode) (x : Reading Tree)
+      → front_answer (trees (forgives mode) (value_form mode) names) t ≡ x
+      → answer_in names mode t ≡ (if is_active mode then x else to_end t x)
+  answer_in-is Off x is = whole-is (trees (forgives Off) (value_form Off) names) t ∙ ap (to_end t) is
+  answer_in-is On x is = is
+  answer_in-is TrailingStrings x is = is
 
   -- an answer stays within the text, in every mode
   pub answer_in-within : (mode : PartialMode) → Within t 0 (answer_in names mode t)
@@ -81,45 +75,38 @@ module _ (names : Bool) (t : List ℕ) where
   answer_in-within TrailingStrings = partial_answer-within t names TrailingStrings
 
 module _ (p : Settings) (t : List ℕ) where
-  either-way : (x : Reading Tree) → (is_active p.mode ≡ true → answer_by p t ≡ x)
-      → (is_active p.mode ≡ false → answer_by p t ≡ x) → answer_by p t ≡ x
-  either-way x on off = by (is_active p.mode) refl where
-    by : (y : Bool) → is_active p.mode ≡ y → answer_by p t ≡ x
-    by true h = on h
-    by false h = off h
+  fault-is : (k : Kind) (x i : ℕ) → front_answer (rules p) t ≡ fault k x i → answer_by p t ≡ fault k x i
+  fault-is k x i is =
+      answer_in-is p.allow_inf_nan t p.mode (fault k x i) is
+      ∙ if_case (λ y. y ≡ fault k x i) (is_active p.mode) _ _ (λ on. refl) (λ off. refl)
 
   -- where no value begins
   pub answer_by-none : (k : Kind) (x i : ℕ) → (step t value_first 0 ≡ failed k x) × (i ≡ x)
       → answer_by p t ≡ fault k x i
-  answer_by-none k x i h =
-      either-way (fault k x i)
-      (λ on. in-front p.allow_inf_nan t p.mode on ∙ front-none (rules p) t k x h.0 ∙ ap (fault k x) (sym h.1))
-      (λ off. in-whole p.allow_inf_nan t p.mode off ∙ whole-is (rules p) t
-      ∙ ap (to_end t) (front-none (rules p) t k x h.0) ∙ ap (fault k x) (sym h.1))
+  answer_by-none k x i h = fault-is k x i (front-none (rules p) t k x h.0 ∙ ap (fault k x) (sym h.1))
 
   module _ (begun : past_blanks t 0 < length t) where
     abbrev pub value_here : Reading Tree
     value_here = value_at (rules p) t 200 (past_blanks t 0)
 
+    begins : front_answer (rules p) t ≡ value_here
+    begins = front-begins (rules p) t (past_blanks t 0) refl begun
+
     -- where the value is refused
     pub answer_by-refused : (e : ReadError) (j : ℕ) → Gives view (Err e) j value_here
         → GivesWhole (Err e) j (answer_by p t)
     answer_by-refused (error.Memory m) j h = tt
-    answer_by-refused (error.Fault f) j h =
-        either-way (fault (fault_kind f.kind) f.index j)
-        (λ on. in-front p.allow_inf_nan t p.mode on ∙ front-begins (rules p) t (past_blanks t 0) refl begun ∙ h)
-        (λ off. in-whole p.allow_inf_nan t p.mode off ∙ whole-begins (rules p) t (past_blanks t 0) refl begun
-        ∙ ap (to_end t) h)
+    answer_by-refused (error.Fault f) j h = fault-is (fault_kind f.kind) f.index j (begins ∙ h)
 
     module _ (v : Tree) (e : ℕ) (is : value_here ≡ done v e) where
+      value-is : answer_by p t ≡ (if is_active p.mode then done v e else to_end t (done v e))
+      value-is = answer_in-is p.allow_inf_nan t p.mode (done v e) (begins ∙ is)
+
       pub answer_by-front : is_active p.mode ≡ true → answer_by p t ≡ done v e
-      answer_by-front on =
-          in-front p.allow_inf_nan t p.mode on ∙ front-begins (rules p) t (past_blanks t 0) refl begun ∙ is
+      answer_by-front on = value-is ∙ if-true (is_active p.mode) (done v e) (to_end t (done v e)) on
 
       whole-value : is_active p.mode ≡ false → answer_by p t ≡ to_end t (done v e)
-      whole-value off =
-          in-whole p.allow_inf_nan t p.mode off ∙ whole-begins (rules p) t (past_blanks t 0) refl begun
-          ∙ ap (to_end t) is
+      whole-value off = value-is ∙ if-false (is_active p.mode) (done v e) (to_end t (done v e)) off
 
       pub answer_by-end : (j : ℕ) → is_active p.mode ≡ false → step t document_end e ≡ taken tt j
           → answer_by p t ≡ done v e
@@ -137,9 +124,6 @@ pub error-answers : (e : ReadError) (i : ℕ) (err : JsonError) (r : Reading Tre
 error-answers (error.Memory m) i err r is h = inl (ap (λ e. e.error_type) is)
 error-answers (error.Fault f) i err r is h = inr (i, h ∙ ap₂ (λ k x. fault k x i) (sym is.0) (sym is.1))
 
-pub value-answers : (v : JsonValue) (i : ℕ) (r : Reading Tree) → GivesWhole (Ok v) i r → Answers (Ok v) r
-value-answers v i r h = h
-
 -- ---- the machine
 pub fails-gives : (e : ReadError) (j : ℕ) (x y : Reading Tree) → x ≡ y → Fails e j y → Gives view (Err e) j x
 fails-gives (error.Fault f) j x y q h = q ∙ h
@@ -153,9 +137,8 @@ begins-under-way p t s i b h lt =
     let at = value-begins-at t i h in
     let none : length s.nest.items ≡ 0 = sym (length-reverse s.nest.items)
     ∙ root-alone os (length s.items.items) (length s.members.items) b in (
-      ap (value_at (rules p) t 200) at
-          ∙ root-from p t os s.items.items s.members.items (length s.items.items) (length s.members.items) i b,
+      rw at (root-from p t os s.items.items s.members.items (length s.items.items) (length s.members.items) i b),
       (b, omega (arith, none), lt),
       λ e. cc,
-      subst (λ j. j < length t) (sym at) lt,
+      rw at lt,
     )

@@ -1,17 +1,10 @@
-use Rattle.std.proofs.Common.{◌≡◌, ◌≢◌, ◌⊎◌, inl, inr, false, true, cond, refl, ap, sym, ◌∙◌}
-use Rattle.jiter_scan.specs.Kind.{Kind, fault_kind, is_forgiven}
-use Rattle.jiter_scan.specs.PartialMode.{is_active}
+use Rattle.std.proofs.Common.{◌≡◌, ◌≢◌, ◌⊎◌, inl, inr, false, true, refl, ap, sym, ◌∙◌}
+use Rattle.jiter_scan.specs.Kind.{fault_kind, is_forgiven}
 use Rattle.jiter_scan.specs.declared.errors.FaultKind.{FaultKind}
 use Rattle.jiter_scan.specs.declared.errors.FaultKind.TheVariants.{EofWhileParsingList, EofWhileParsingObject}
 use Rattle.jiter_scan.specs.declared.errors.FaultKind.TheVariants.{EofWhileParsingString, EofWhileParsingValue}
 use Rattle.jiter_scan.specs.declared.errors.FaultKind.TheVariants.{ExpectedListCommaOrEnd, ExpectedObjectCommaOrEnd}
-use Rattle.jiter_scan.specs.declared.partial_mode.PartialMode.{PartialMode}
-use Rattle.jiter_steps.specs.Answer.{nothing_forgiven}
-use Rattle.jiter_value.specs.Settings.{forgives}
 use Rattle.jiter_value.proofs.settings.forgives.Goals as goal
-
-when-active : (mode : PartialMode) (k : Kind) → is_active mode ≡ true → forgives mode k ≡ is_forgiven k
-when-active mode k on = ap (λ y. cond y is_forgiven nothing_forgiven k) on
 
 one-of : (k : FaultKind)
     → (k ≡ EofWhileParsingList) ⊎
@@ -39,13 +32,11 @@ no-other _ a b c d e f = refl
 
 pub returns-in-EofWhileParsingList : goal.returns-in-EofWhileParsingList
 returns-in-EofWhileParsingList c =
-    let on : is_active c.args.mode ≡ true = sym c.is_active.ensures ∙ c.if-is_active.true in
-    sym (when-active c.args.mode (fault_kind c.args.kind) on ∙ one-of c.args.kind c.in-EofWhileParsingList.is)
+    rw (sym c.is_active.ensures ∙ c.if-is_active.true) (sym (one-of c.args.kind c.in-EofWhileParsingList.is))
 
 pub returns-in_default : goal.returns-in_default
 returns-in_default c =
-    let on : is_active c.args.mode ≡ true = sym c.is_active.ensures ∙ c.if-is_active.true in
     let n = c.in_default in
-    sym (when-active c.args.mode (fault_kind c.args.kind) on
-    ∙ no-other c.args.kind n.not-EofWhileParsingList n.not-EofWhileParsingObject n.not-EofWhileParsingString
-    n.not-EofWhileParsingValue n.not-ExpectedListCommaOrEnd n.not-ExpectedObjectCommaOrEnd)
+    rw (sym c.is_active.ensures ∙ c.if-is_active.true)
+    (sym (no-other c.args.kind n.not-EofWhileParsingList n.not-EofWhileParsingObject n.not-EofWhileParsingString
+    n.not-EofWhileParsingValue n.not-ExpectedListCommaOrEnd n.not-ExpectedObjectCommaOrEnd))

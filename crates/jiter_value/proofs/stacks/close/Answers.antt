@@ -19,13 +19,13 @@ returns-in_ok-put-in-Array c =
     let made = view_array items.items ∙ ap (λ xs. array (items_of (map view xs))) items.ensures.value in
     rw c.in-Array.is (record {
       value = λ p t e.
-          container-closes p t shape.Array s.nest.items c.pop.new.self.items o s.items.items s.members.items _ _ e split
-          below made ∙ put.value p t e;
+          container-closes p t shape.Array s.nest.items c.pop.new.self.items o s.items.items s.members.items _ _ e
+          split below made ∙ put.value p t e;
       stands = put.stands;
       nest = search rules;
       held = put.held
-          ∙ sym (container-size shape.Array s.nest.items c.pop.new.self.items o s.items.items s.members.items _ _ split
-          below made);
+          ∙ sym (container-size shape.Array s.nest.items c.pop.new.self.items o s.items.items s.members.items _ _
+          split below made);
     })
 
 pub returns-in_ok-put-in-Object : goal.returns-in_ok-put-in-Object
@@ -39,11 +39,11 @@ returns-in_ok-put-in-Object c =
     let made = c.object_of.ensures ∙ ap (λ xs. object (members_of (map member_view xs))) members.ensures.value in
     rw c.in-Object.is (record {
       value = λ p t e.
-          container-closes p t shape.Object s.nest.items c.pop.new.self.items o s.items.items s.members.items _ _ e split
-          below made ∙ put.value p t e;
+          container-closes p t shape.Object s.nest.items c.pop.new.self.items o s.items.items s.members.items _ _ e
+          split below made ∙ put.value p t e;
       stands = put.stands;
       nest = search rules;
       held = put.held
-          ∙ sym (container-size shape.Object s.nest.items c.pop.new.self.items o s.items.items s.members.items _ _ split
-          below made);
+          ∙ sym (container-size shape.Object s.nest.items c.pop.new.self.items o s.items.items s.members.items _ _
+          split below made);
     })

@@ -1,9 +1,7 @@
-use Rattle.std.proofs.Common.{◌∙◌, refl, sym, ap, arith, length, reverse}
-use Rattle.jiter_value.specs.Size.{inside_size}
-use Rattle.jiter_value.specs.Stacks.{container_ends}
-use Rattle.jiter_value.proofs.TurnOutcomes.{fails-along}
-use Rattle.jiter_value.proofs.Shapes.{reaches-part, inside-more, inside-stands, inside-size, part-within, not-root}
-use Rattle.jiter_value.proofs.StackTurns.{behind-closed, behind-fails}
+use Rattle.std.proofs.Common.{◌∙◌, refl, sym, arith, reverse}
+use Rattle.jiter_value.proofs.Shapes.{reaches-part, inside-stands, not-root}
+use Rattle.jiter_value.proofs.Sizes.{behind-part-size}
+use Rattle.jiter_value.proofs.StackTurns.{behind-more, behind-closed, behind-fails}
 use Rattle.jiter_value.proofs.turns.after.Goals as goal
 
 pub returns-in-Part-clause-reaches : goal.returns-in-Part-clause-reaches
@@ -18,8 +16,10 @@ returns-in-Part-clause-reaches c =
     let next = rw c.in-Part.is at c.step_at-next.ensures.next in
     let lt = c.step_at-next.ensures.part c.in-Part.is in
     rw c.part_of.ensures
-    (reaches-part p t s h j _ (so_far.2 ∙ inside-more p t s h l.at j so_far.3 next lt)
-    (part-within t s h j (inside-stands s h so_far.3) (λ array. so_far.4) (omega (arith, so_far.4)) lt))
+    (reaches-part p t s h j _
+    (so_far.2
+    ∙ behind-more p t h s.items.items s.members.items s.root l.at (reverse s.nest.items) j so_far.3 next lt)
+    (inside-stands s h so_far.3) (λ array. so_far.4) (omega (arith, so_far.4)) lt)
 
 pub returns-then-not-ends-clause-reaches : goal.returns-then-not-ends-clause-reaches
 returns-then-not-ends-clause-reaches c =
@@ -27,7 +27,7 @@ returns-then-not-ends-clause-reaches c =
     let s = l.stacks in
     let j = c.step_at-next.result.0 in
     let so_far = rw c.in-Some.ensures.some at l.invariant in
-    fails-along c.ends.new.stacks.error j _ _ so_far.2
+    rw so_far.2
     (behind-fails c.args.settings c.args.bytes.now c.in-Some.shape s.items.items s.members.items s.root l.at
     (reverse s.nest.items) j c.ends.new.stacks.error so_far.3 c.if-not-ends.ensures.resolved)
 
@@ -42,17 +42,18 @@ closing-preserved c =
     let so_far = rw c.in-Some.ensures.some at l.invariant in
     let same = c.if-not-ends.ensures.same refl in
     let forward = c.step_at-next.ensures.within.0 in
-    let nest = ap (λ x. length x.nest.items) same in
-    let fewer = c.in-Ok.ensures.nest in (
+    let fewer = rw same at c.in-Ok.ensures.nest in (
       omega (arith, so_far.0, forward),
       c.step_at-next.ensures.within.1,
       so_far.2
           ∙ behind-closed p t h s.items.items s.members.items s.root l.at (reverse s.nest.items) j so_far.3
           c.if-not-ends.ensures.resolved
-          ∙ ap (λ x. container_ends p t h x j) (sym same) ∙ c.in-Ok.ensures.value p t j,
+          ∙ (rw same at c.in-Ok.ensures.value p t j),
       c.in-Ok.ensures.stands,
-      omega (arith, so_far.4, nest, fewer),
-      omega (arith, so_far.5, forward, nest, fewer),
-      c.in-Ok.ensures.held ∙ ap (inside_size h) same ∙ sym (inside-size s h so_far.3) ∙ so_far.6,
+      omega (arith, so_far.4, fewer),
+      omega (arith, so_far.5, forward, fewer),
+      (rw same at c.in-Ok.ensures.held)
+          ∙ sym (behind-part-size h (reverse s.nest.items) s.items.items s.members.items s.root so_far.3)
+          ∙ so_far.6,
       λ r. absurd (not-root h (so_far.7 r)),
     )

@@ -1,15 +1,11 @@
 use Rattle.std.proofs.Common.{◌≡◌, ◌++◌, ◌∷◌, [], ◌∙◌, ap, arith, length, reverse}
 use Rattle.std.proofs.lemmas.List.{length-reverse}
 use Rattle.jiter_scan.specs.Kind.{fault_kind}
-use Rattle.jiter_scan.specs.declared.errors.FaultKind.TheVariants.{RecursionLimitExceeded}
 use Rattle.jiter_steps.specs.StringDecoder.{text_view}
-use Rattle.jiter_value.specs.Stacks.{from_key}
-use Rattle.jiter_value.specs.Turns.{outcome}
 use Rattle.jiter_value.specs.declared.stacks.Awaits.TheVariants as awaits
 use Rattle.jiter_value.specs.declared.value.JsonValue.TheVariants.{Null}
 use Rattle.jiter_value.proofs.Placed.{key-at}
 use Rattle.jiter_value.proofs.StackTurns.{key-opens, limit-reached, key-fails, colon-fails, key-above}
-use Rattle.jiter_value.proofs.TurnOutcomes.{gave-up, reaches-along}
 use Rattle.jiter_value.proofs.turns.any_key.Goals as goal
 
 pub returns-then-len-gt-NESTING_LIMIT-clause-reaches : goal.returns-then-len-gt-NESTING_LIMIT-clause-reaches
@@ -25,8 +21,7 @@ returns-then-len-gt-NESTING_LIMIT-clause-reaches c =
     let colon = rw (ap (λ b. b.now) c.in-Ok.ensures.moves.same) at c.in-Ok-object_colon.ensures.value in
     let full : length os ≡ 201 = omega
     (arith, length-reverse s.nest.items, c.len.ensures.value, c.if-len-gt-NESTING_LIMIT.true, c.requires.room) in
-    gave-up p t c.too_deep.new.stacks c.too_deep.result (record { kind = RecursionLimitExceeded; index = m }) m
-    (from_key p t s c.args.at) c.too_deep.ensures.place c.too_deep.ensures.error
+    rw (c.too_deep.ensures.place, c.too_deep.ensures.error)
     (key-opens p t os es ms c.args.at key c.string.new.self.index m c.requires.stands c.requires.within
     c.in-Ok.ensures.value colon
     ∙ limit-reached p t awaits.Value os es (ms ++ (key, Null) ∷ []) m
@@ -41,7 +36,8 @@ returns-in-Ok-make_room-clause-reaches c =
     c.object_colon.new.self.index c.in-Ok.key c.requires.stands c.requires.within c.in-Ok.ensures.value
     (rw same at read.value) pushed (omega (arith, c.in-Ok.ensures.ahead, read.moves.forward))
     (rw same at read.inside) in
-    (put.value c.args.settings, (put.stands, omega (arith, c.len.ensures.value, c.if-len-gt-NESTING_LIMIT.false), put.within))
+    let few = c.if-len-gt-NESTING_LIMIT.false in
+    (put.value c.args.settings, (put.stands, omega (arith, c.len.ensures.value, few), put.within))
 
 pub returns-in-Err-clause-reaches : goal.returns-in-Err-clause-reaches
 returns-in-Err-clause-reaches c =
@@ -50,12 +46,11 @@ returns-in-Err-clause-reaches c =
     let s = c.args.stacks.now in
     let f = c.in-Err.fault in
     let colon = rw (ap (λ b. b.now) c.in-Ok.ensures.moves.same) at c.in-Err.ensures.value in
-    let n = c.fault_at_key in
-    reaches-along p t n.new.stacks n.result.0 (outcome n.new.stacks n.result.1) _ _
+    rw
     (colon-fails p t (reverse s.nest.items) s.items.items s.members.items c.args.at (text_view c.in-Ok.key)
     c.string.new.self.index f.index c.object_colon.new.self.index (fault_kind f.kind) c.requires.stands
     c.requires.within c.in-Ok.ensures.value colon)
-    n.ensures.reaches
+    c.fault_at_key.ensures.reaches
 
 pub returns-in-Err-Fault-clause-reaches : goal.returns-in-Err-Fault-clause-reaches
 returns-in-Err-Fault-clause-reaches c =
@@ -64,8 +59,7 @@ returns-in-Err-Fault-clause-reaches c =
     let s = c.args.stacks.now in
     let f = c.in-Err-Fault.fault in
     let read = rw c.in-Err-Fault.field-0-is at c.in-Err-Fault.ensures.value in
-    let n = c.fault_at_key-in-Err-Fault in
-    reaches-along p t n.new.stacks n.result.0 (outcome n.new.stacks n.result.1) _ _
+    rw
     (key-fails p t (reverse s.nest.items) s.items.items s.members.items c.args.at (fault_kind f.kind) f.index
     c.string.new.self.index c.requires.stands c.requires.within read)
-    n.ensures.reaches
+    c.fault_at_key-in-Err-Fault.ensures.reaches

@@ -1,10 +1,7 @@
-use Rattle.std.proofs.Common.{◌≡◌, ◌∙◌, refl, sym, ap, arith, length}
+use Rattle.std.proofs.Common.{refl, arith}
 use Rattle.std.proofs.lemmas.Result.{IfOk-weaker, on_ok_weaker}
-use Rattle.jiter_steps.specs.Read.{done}
-use Rattle.jiter_value.specs.Stacks.{from_value, resume_with, empty_tree}
-use Rattle.jiter_value.specs.Size.{value_size}
 use Rattle.jiter_value.specs.Turns.{outcome}
-use Rattle.jiter_value.proofs.TurnOutcomes.{reaches-along, root-grows, refused-weaker, fault-grows}
+use Rattle.jiter_value.proofs.TurnOutcomes.{root-grows, refused-weaker, fault-grows}
 use Rattle.jiter_value.proofs.StackTurns.{begins-closed, begins-fails}
 use Rattle.jiter_value.proofs.turns.begin.Goals as goal
 
@@ -25,25 +22,17 @@ pub returns : goal.returns
 returns c =
     let a = c.args in
     let s = a.stacks.now in
-    let p = a.settings in
-    let t = a.bytes.now in
-    let j = c.first_at-next.result.0 in
-    let n = c.empty in
-    let r = outcome n.new.stacks n.result.1 in
-    let same : c.ends_at_first.new.stacks ≡ s = c.if-not-ends_at_first.ensures.same refl in
+    let r = outcome c.empty.new.stacks c.empty.result.1 in
+    let ends = c.if-not-ends_at_first.ensures in
+    let empty = c.empty.ensures in
     let forward = c.first_at-next.ensures.within.0 in
-    let nest = ap (λ x. length x.nest.items) same in
-    let size = ap (λ x. value_size x a.awaits) same in
     record {
-      within = (omega (arith, forward, n.ensures.within.0), n.ensures.within.1);
-      reaches = reaches-along p t n.new.stacks n.result.0 r (from_value p t s a.awaits a.at)
-          (resume_with p t c.ends_at_first.new.stacks a.awaits (done (empty_tree a.shape) j))
-          (begins-closed p t s a.awaits c.requires.stands c.requires.room a.at a.shape j c.requires.bracket
-          c.if-not-ends_at_first.ensures.resolved
-          ∙ ap (λ x. resume_with p t x a.awaits (done (empty_tree a.shape) j)) (sym same))
-          n.ensures.reaches;
-      left = on_ok_weaker r (λ l. omega (arith, l, forward, nest)) n.ensures.left;
-      held = IfOk-weaker r _ _ (λ x h. omega (arith, h, size)) n.ensures.held;
-      memory = λ e. root-grows r _ (n.ensures.root e)
-          (refused-weaker r _ _ (λ other. absurd (other e)) n.ensures.memory);
+      within = (omega (arith, forward, empty.within.0), empty.within.1);
+      reaches = rw
+          (begins-closed a.settings a.bytes.now s a.awaits c.requires.stands c.requires.room a.at a.shape
+          c.first_at-next.result.0 c.requires.bracket ends.resolved)
+          (rw (ends.same refl) at empty.reaches);
+      left = on_ok_weaker r (λ l. omega (arith, l, forward)) (rw (ends.same refl) at empty.left);
+      held = IfOk-weaker r _ _ (λ x h. omega (arith, h)) (rw (ends.same refl) at empty.held);
+      memory = λ e. root-grows r _ (empty.root e) (refused-weaker r _ _ (λ other. absurd (other e)) empty.memory);
     }

@@ -1,9 +1,7 @@
 use Rattle.std.proofs.Common.{◌≡◌, ◌∙◌, sym, false, reverse}
 use Rattle.jiter_scan.specs.Kind.{fault_kind}
 use Rattle.jiter_value.specs.Settings.{forgives}
-use Rattle.jiter_value.specs.Stacks.{key_fault}
 use Rattle.jiter_value.proofs.StackTurns.{key-kept}
-use Rattle.jiter_value.proofs.TurnOutcomes.{gave-up}
 use Rattle.jiter_value.proofs.turns.fault_at_key.Goals as goal
 
 pub returns-then-not-forgives-clause-reaches : goal.returns-then-not-forgives-clause-reaches
@@ -12,6 +10,5 @@ returns-then-not-forgives-clause-reaches c =
     let s = a.stacks.now in
     let k = fault_kind a.problem.kind in
     let bad : forgives a.settings.mode k ≡ false = sym c.forgives.ensures ∙ c.if-not-forgives.true in
-    gave-up a.settings a.bytes.now c.give_up.new.stacks c.give_up.result a.problem a.at
-    (key_fault a.settings a.bytes.now s k a.problem.index a.at) c.give_up.ensures.place c.give_up.ensures.error
+    rw (c.give_up.ensures.place, c.give_up.ensures.error)
     (key-kept a.settings a.bytes.now (reverse s.nest.items) s.items.items s.members.items k a.problem.index a.at bad)

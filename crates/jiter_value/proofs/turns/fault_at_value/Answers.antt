@@ -1,17 +1,14 @@
-use Rattle.std.proofs.Common.{◌≡◌, ◌-◌, ◌∙◌, sym, ap, arith, length, take, reverse, true, false}
+use Rattle.std.proofs.Common.{◌≡◌, ◌-◌, ◌∙◌, sym, ap, arith, length, take, reverse, false}
 use Rattle.std.proofs.lemmas.Result.{IfOk-weaker}
 use Rattle.jiter_scan.specs.Kind.{fault_kind}
-use Rattle.jiter_steps.specs.Frames.{resume}
-use Rattle.jiter_steps.specs.Read.{fault}
 use Rattle.jiter_steps.specs.declared.parse.Shape.TheVariants as shape
 use Rattle.jiter_steps.proofs.Resumed.{resume-fault}
 use Rattle.jiter_value.specs.Settings.{forgives, rules}
 use Rattle.jiter_value.specs.Size.{frames_size, inside_size_in}
-use Rattle.jiter_value.specs.Stacks.{frames, container_in, resume_with}
+use Rattle.jiter_value.specs.Stacks.{frames}
 use Rattle.jiter_value.specs.Turns.{outcome}
 use Rattle.jiter_value.specs.declared.stacks.Awaits.TheVariants as awaits
 use Rattle.jiter_value.proofs.StackTurns.{fault-value, last-member}
-use Rattle.jiter_value.proofs.TurnOutcomes.{reaches-along, gave-up}
 use Rattle.jiter_value.proofs.Sizes.{key-size}
 use Rattle.jiter_value.proofs.turns.fault_at_value.Goals as goal
 
@@ -21,9 +18,7 @@ returns-then-not-forgives-clause-reaches c =
     let s = a.stacks.now in
     let k = fault_kind a.problem.kind in
     let bad : forgives a.settings.mode k ≡ false = sym c.forgives.ensures ∙ c.if-not-forgives.true in
-    gave-up a.settings a.bytes.now c.give_up.new.stacks c.give_up.result a.problem a.at
-    (resume_with a.settings a.bytes.now s a.awaits (fault k a.problem.index a.at)) c.give_up.ensures.place
-    c.give_up.ensures.error
+    rw (c.give_up.ensures.place, c.give_up.ensures.error)
     (resume-fault (rules a.settings) a.bytes.now
     (frames a.awaits (reverse s.nest.items) s.items.items s.members.items) k a.problem.index a.at bad)
 
@@ -40,13 +35,12 @@ returns-in-Value-clause-reaches c =
     let last = last-member os (length es) ms (rw c.in-Value.is at c.requires.stands) in
     let popped : c.pop.new.self.items ≡ take (length ms - 1) ms = c.pop.ensures.rest
     ∙ ap (λ n. take (n - 1) ms) (omega (arith, s.members.ok.0)) in
-    let ok : forgives p.mode k ≡ true = sym c.forgives.ensures ∙ c.if-not-forgives.false in
-    let closes = ap (λ ys. resume (rules p) t (frames awaits.Value os es ys) (fault k a.problem.index a.at)) last.1
-    ∙ fault-value p t os es (take (length ms - 1) ms) last.0 k a.problem.index a.at last.2 ok
-    ∙ ap (λ ys. container_in p t shape.Object os es ys a.at) (sym popped) in
-    let n = c.close_and_go_on-in-Value in
-    rw c.in-Value.is
-    (reaches-along p t n.new.stacks n.result.0 (outcome n.new.stacks n.result.1) _ _ closes n.ensures.reaches)
+    let ok = sym c.forgives.ensures ∙ c.if-not-forgives.false in
+    rw (
+      c.in-Value.is,
+      last.1,
+      fault-value p t os es (take (length ms - 1) ms) last.0 k a.problem.index a.at last.2 ok,
+    ) (rw popped at c.close_and_go_on-in-Value.ensures.reaches)
 
 pub returns-in-Value-clause-held : goal.returns-in-Value-clause-held
 returns-in-Value-clause-held c =

@@ -8,38 +8,26 @@ use Rattle.jiter_value.proofs.turns.put_literal.Goals as goal
 pub returns-in-Null-clause-put : goal.returns-in-Null-clause-put
 returns-in-Null-clause-put c =
     let a = c.args in
-    let t = a.bytes.now in
-    let e = c.in-Some.end in
     let n = c.put_reserved.ensures in
-    let l = a.literal in
-    put-at _ (literal_tree l)
-    (view_null ∙ ap literal_tree (sym c.in-Null.is))
-    c.requires.stands c.requires.few n.value n.stands n.nest n.held
-    (ap (λ x. size (literal_tree x)) c.in-Null.is) c.in-Some.ensures.within.0 c.in-Some.ensures.within.1
-    (λ p room. literal-read p t a.at e room l c.requires.begins c.in-Some.ensures.value)
+    let found = c.in-Some.ensures in
+    put-at _ (literal_tree a.literal) (view_null ∙ ap literal_tree (sym c.in-Null.is)) c.requires.stands
+    c.requires.few n.value n.stands n.nest n.held (ap (λ x. size (literal_tree x)) c.in-Null.is) found.within.0
+    found.within.1 (λ p room. literal-read p a.bytes.now a.at _ room a.literal c.requires.begins found.value)
 
 pub returns-in-True-clause-put : goal.returns-in-True-clause-put
 returns-in-True-clause-put c =
     let a = c.args in
-    let t = a.bytes.now in
-    let e = c.in-Some.end in
     let n = c.put_reserved-in-True.ensures in
-    let l = a.literal in
-    put-at _ (literal_tree l)
-    (view_bool true ∙ ap literal_tree (sym c.in-True.is)) c.requires.stands c.requires.few n.value
-    n.stands n.nest n.held (ap (λ x. size (literal_tree x)) c.in-True.is)
-    c.in-Some.ensures.within.0 c.in-Some.ensures.within.1
-    (λ p room. literal-read p t a.at e room l c.requires.begins c.in-Some.ensures.value)
+    let found = c.in-Some.ensures in
+    put-at _ (literal_tree a.literal) (view_bool true ∙ ap literal_tree (sym c.in-True.is)) c.requires.stands
+    c.requires.few n.value n.stands n.nest n.held (ap (λ x. size (literal_tree x)) c.in-True.is) found.within.0
+    found.within.1 (λ p room. literal-read p a.bytes.now a.at _ room a.literal c.requires.begins found.value)
 
 pub returns-in-False-clause-put : goal.returns-in-False-clause-put
 returns-in-False-clause-put c =
     let a = c.args in
-    let t = a.bytes.now in
-    let e = c.in-Some.end in
     let n = c.put_reserved-in-False.ensures in
-    let l = a.literal in
-    put-at _ (literal_tree l)
-    (view_bool false ∙ ap literal_tree (sym c.in-False.is)) c.requires.stands c.requires.few n.value
-    n.stands n.nest n.held (ap (λ x. size (literal_tree x)) c.in-False.is)
-    c.in-Some.ensures.within.0 c.in-Some.ensures.within.1
-    (λ p room. literal-read p t a.at e room l c.requires.begins c.in-Some.ensures.value)
+    let found = c.in-Some.ensures in
+    put-at _ (literal_tree a.literal) (view_bool false ∙ ap literal_tree (sym c.in-False.is)) c.requires.stands
+    c.requires.few n.value n.stands n.nest n.held (ap (λ x. size (literal_tree x)) c.in-False.is) found.within.0
+    found.within.1 (λ p room. literal-read p a.bytes.now a.at _ room a.literal c.requires.begins found.value)

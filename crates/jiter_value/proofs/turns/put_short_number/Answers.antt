@@ -18,18 +18,15 @@ pub returns-in-Int-clause-put : goal.returns-in-Int-clause-put
 returns-in-Int-clause-put c =
     let a = c.args in
     let t = a.bytes.now in
-    let e = c.in-Int.end in
-    let m = c.in-Int.magnitude in
     let from = c.minus_end-from.result in
     let minus = c.minus_end-from.ensures.minus in
     let found = c.in-Int.ensures in
     let n = c.put_reserved.ensures in
-    let z = if nat_lt a.at from then minus_of m else pos m in
-    put-at _ (int z) c.signed.ensures
-    c.requires.stands c.requires.few n.value n.stands n.nest n.held
-    refl (omega (arith, found.some, IsMinusTo-le t a.at from minus)) found.within
-    (λ p room. number-read p t a.at e room (integer z) c.requires.begins
-    (short-signed t p.allow_inf_nan a.at e from m minus found))
+    let z = if nat_lt a.at from then minus_of c.in-Int.magnitude else pos c.in-Int.magnitude in
+    put-at _ (int z) c.signed.ensures c.requires.stands c.requires.few n.value n.stands n.nest n.held refl
+    (omega (arith, found.some, IsMinusTo-le t a.at from minus)) found.within
+    (λ p room. number-read p t a.at c.in-Int.end room (integer z) c.requires.begins
+    (short-signed t p.allow_inf_nan a.at c.in-Int.end from c.in-Int.magnitude minus found))
 
 pub returns-in-Float-clause-put : goal.returns-in-Float-clause-put
 returns-in-Float-clause-put c =
@@ -40,10 +37,9 @@ returns-in-Float-clause-put c =
     let minus = c.minus_end-from.ensures.minus in
     let found = c.in-Float.ensures in
     let n = c.put_reserved-in-Float.ensures in
-    let w = slice_range t a.at e in
-    put-at _ (float (record { owned = false; bytes = w }))
+    put-at _ (float (record { owned = false; bytes = slice_range t a.at e }))
     (view_float _ ∙ ap (λ w. float (record { owned = false; bytes = w })) c.ascii_text-text.ensures)
-    c.requires.stands c.requires.few n.value n.stands n.nest n.held
-    refl (omega (arith, found.some, IsMinusTo-le t a.at from minus)) found.within
-    (λ p room. number-read p t a.at e room (number.float w) c.requires.begins
+    c.requires.stands c.requires.few n.value n.stands n.nest n.held refl
+    (omega (arith, found.some, IsMinusTo-le t a.at from minus)) found.within
+    (λ p room. number-read p t a.at e room (number.float (slice_range t a.at e)) c.requires.begins
     (short-signed_float t p.allow_inf_nan a.at e from minus found))

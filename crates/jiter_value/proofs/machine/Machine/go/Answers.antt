@@ -1,7 +1,5 @@
-use Rattle.std.proofs.Common.{sym, subst}
 use Rattle.jiter_value.specs.Settings.{answer_by}
 use Rattle.jiter_value.specs.Stacks.{meaning}
-use Rattle.jiter_value.specs.Turns.{Fails}
 use Rattle.jiter_value.proofs.WholeTextAnswers.{answer_by-refused, error-answers, fails-gives}
 use Rattle.jiter_value.proofs.machine.Machine.go.Goals as goal
 
@@ -15,6 +13,6 @@ returns-in-Refused c =
     let fails = rw c.in-Refused.is at c.turn-at.ensures.reaches in (
       error-answers e j c.error_at-in-Refused.result (answer_by p t) c.error_at-in-Refused.ensures
           (answer_by-refused p t c.requires.3 e j
-          (fails-gives e j _ x c.requires.0 (subst (λ y. Fails y j x) (sym c.take_error-error.ensures) fails))),
+          (fails-gives e j _ x c.requires.0 (rw c.take_error-error.ensures fails))),
       tt,
     )

@@ -5,7 +5,8 @@ use Rattle.jiter_steps.specs.Cut.{cut}
 use Rattle.jiter_steps.specs.Node.{value_of}
 use Rattle.jiter_steps.proofs.Blanks.{past_blanks-bound}
 use Rattle.jiter_value.specs.Owned.{owned_tree}
-use Rattle.jiter_value.proofs.OwnedAnswers.{owned-answers, owned-found, owned-tree, owned-err, owned-early, owned-memory}
+use Rattle.jiter_value.proofs.OwnedAnswers.{owned-answers, owned-found, owned-tree, owned-err, owned-early}
+use Rattle.jiter_value.proofs.OwnedAnswers.{owned-memory}
 use Rattle.jiter_value.proofs.value.JsonValue.parse_owned.Goals as goal
 
 pub returns : goal.returns
