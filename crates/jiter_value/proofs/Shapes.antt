@@ -1,7 +1,7 @@
 -- What arrays and objects have in common on the stacks: behind a part, where they begin and where they end.
 use Rattle.std.proofs.Common.{◌≡◌, ◌≢◌, ℕ, ◌+◌, ◌<◌, ◌≤◌, List, [], ◌∷◌, ◌++◌, length, map, length-append, refl}
 use Rattle.std.proofs.Common.{sym, ap, ap₂, subst, ◌∙◌, arith}
-use Rattle.std.specs.Prelude.{slice_index, reverse, IfOk}
+use Rattle.std.specs.Prelude.{slice_index, reverse}
 use Rattle.std.proofs.lemmas.List.{reverse-append, length-reverse, take_all, drop_all}
 use Rattle.smallvec.specs.SmallVec.{SmallVec}
 use Rattle.jiter_steps.specs.declared.parse.Start.TheVariants as start
@@ -15,8 +15,6 @@ use Rattle.jiter_steps.specs.Tree.{Tree}
 use Rattle.jiter_steps.specs.declared.parse.Shape.{Shape}
 use Rattle.jiter_steps.specs.declared.parse.Shape.TheVariants as shape
 use Rattle.jiter_value.specs.Settings.{forgives, rules}
-use Rattle.jiter_value.specs.Size.{held, inside_size, inside_size_in, value_size}
-use Rattle.jiter_value.specs.Size.{frames_size, parts_size}
 use Rattle.jiter_value.specs.Stacks.{from_value, Stands}
 use Rattle.jiter_value.specs.Stacks.{StandsInside, HavePartBase, frames, parts_above, frames_below, member_view}
 use Rattle.jiter_value.specs.Stacks.{awaited_in, base_of, part_of}
@@ -28,7 +26,6 @@ use Rattle.jiter_value.specs.declared.stacks.Awaits.{Awaits}
 use Rattle.jiter_value.specs.declared.stacks.Awaits.TheVariants as awaits
 use Rattle.jiter_value.specs.declared.stacks.Stacks.{Stacks}
 use Rattle.jiter_value.proofs.StackTurns.{begins, next-part, part_in, container_of, key-base, limit-reached}
-use Rattle.jiter_value.proofs.Sizes.{item-size}
 
 -- A part begins; an object's key may stand one deeper than an array's item.
 pub reaches-part : (p : Settings) (t : List ℕ) (s : Stacks) (h : Shape) (j : ℕ) (x : Reading Tree)
@@ -110,23 +107,3 @@ module _ (p : Settings) (t : List ℕ) (s : Stacks) (a : Awaits) (b : Stands s a
 pub not-root : (h : Shape) → awaited_in h ≡ awaits.Root → ⊥
 not-root shape.Array h = cc
 not-root shape.Object h = cc
-
--- an open container counts one
-part-held-by : (s : Stacks) (h : Shape) (n : ℕ) → inside_size h s ≤ n → IfOk (outcome s (part_of h)) (λ x. held s x ≤ n)
-part-held-by s shape.Array n le =
-    let is = item-size (reverse s.nest.items) s.items.items s.members.items in omega (arith, le, is)
-part-held-by s shape.Object n le = le
-
-no-size : (h : Shape) → parts_size h [] ≡ 0
-no-size shape.Array = refl
-no-size shape.Object = refl
-
-pub part-held : (s : Stacks) (a : Awaits) (h : Shape) (n : SmallVec Open) → n.items ≡ s.nest.items ++ opened s a h ∷ []
-    → IfOk (outcome (with_nest s n) (part_of h)) (λ x. held (with_nest s n) x ≤ value_size s a + 1)
-part-held s a h n pushed =
-    let is : inside_size h (with_nest s n) ≡ inside_size_in h (opened s a h ∷ reverse s.nest.items) s.items.items
-    s.members.items =
-    ap (λ qs. inside_size_in h qs s.items.items s.members.items) (turned s a h n pushed) in
-    let none = ap (parts_size h) (no-parts s h) ∙ no-size h in
-    let rest = ap frames_size (same-below s a h) in
-    part-held-by (with_nest s n) h (value_size s a + 1) (omega (arith, is, none, rest))

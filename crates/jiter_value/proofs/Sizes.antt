@@ -45,12 +45,6 @@ put-value-size (o ∷ os) es before m root v h =
     rw (above-more member_view o.base before (m.0, v) h.0, take-append-le o.base before ((m.0, v) ∷ []) h.0)
     (omega (arith, grown, was))
 
-pub put-root-size : (os : List Open) (es : List JsonValue) (ms : List Member) (v : JsonValue)
-    → HaveBases awaits.Root os (length es) (length ms)
-    → behind_size_in awaits.Root os es ms v ≡ frames_size (frames awaits.Root os es ms) + size (view v)
-put-root-size [] es ms v h = omega arith
-put-root-size (o ∷ os) es ms v h = absurd h
-
 -- a container that ends holds what it held
 built-size : (h : Shape) (xs : List (PartTree h)) → size (built h xs) ≡ suc (parts_size h xs)
 built-size shape.Array xs = refl
@@ -72,11 +66,6 @@ behind-part-size shape.Array [] es ms root b = absurd b
 behind-part-size shape.Array (o ∷ os) es ms root b = refl
 behind-part-size shape.Object [] es ms root b = absurd b
 behind-part-size shape.Object (o ∷ os) es ms root b = refl
-
-pub item-size : (os : List Open) (es : List JsonValue) (ms : List Member)
-    → frames_size (frames awaits.Item os es ms) ≡ inside_size_in shape.Array os es ms
-item-size [] es ms = refl
-item-size (o ∷ os) es ms = refl
 
 -- a key that awaits its value counts one
 pub key-size : (os : List Open) (es : List JsonValue) (before : List Member) (m : Member)

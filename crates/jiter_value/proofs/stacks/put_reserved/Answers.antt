@@ -1,5 +1,5 @@
 use Rattle.std.proofs.Common.{◌-◌, length, take, reverse, rules as library_rules}
-use Rattle.jiter_value.proofs.Sizes.{put-item-size, put-value-size, put-root-size}
+use Rattle.jiter_value.proofs.Sizes.{put-item-size, put-value-size}
 use Rattle.jiter_value.proofs.StackTurns.{put-item, put-value, last-member, key-above}
 use Rattle.jiter_value.proofs.stacks.put_reserved.Goals as goal
 
@@ -33,10 +33,3 @@ returns-in-Value c =
       nest = search library_rules;
       held = rw (last.1, set) (put-value-size os es before last.0 s.root v last.2);
     })
-
-pub returns-in-Root-clause-held : goal.returns-in-Root-clause-held
-returns-in-Root-clause-held c =
-    let s = c.args.stacks.now in
-    rw c.in-Root.is
-    (put-root-size (reverse s.nest.items) s.items.items s.members.items c.args.value
-    (rw c.in-Root.is at c.requires.stands))

@@ -1,5 +1,5 @@
 use Rattle.std.proofs.Common.{refl}
-use Rattle.jiter_value.proofs.Shapes.{shape-opens, array-too-deep, part-held}
+use Rattle.jiter_value.proofs.Shapes.{shape-opens, array-too-deep}
 use Rattle.jiter_value.proofs.turns.open.Goals as goal
 
 pub returns-then-is_full-clause-reaches : goal.returns-then-is_full-clause-reaches
@@ -17,9 +17,3 @@ returns-in-Ok-clause-reaches c =
     (shape-opens a.settings a.bytes.now a.stacks.now a.awaits c.requires.stands c.requires.room a.at a.shape a.next
     c.push_small.new.items (rw c.base_of-base.ensures at c.in-Ok.ensures.ok) c.requires.within.1 c.requires.bracket
     c.requires.part (c.if-is_full.ensures.few refl))
-
-pub returns-in-Ok-clause-held : goal.returns-in-Ok-clause-held
-returns-in-Ok-clause-held c =
-    let a = c.args in
-    rw c.part_of.ensures
-    (part-held a.stacks.now a.awaits a.shape c.push_small.new.items (rw c.base_of-base.ensures at c.in-Ok.ensures.ok))
