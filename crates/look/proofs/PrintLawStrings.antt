@@ -11,8 +11,7 @@ use Rattle.jiter_scan.specs.Stands.{Stands}
 use Rattle.jiter_scan.proofs.Choices.{if-true, if-false}
 use Rattle.jiter_scan.proofs.Standing.{stands-split}
 use Rattle.jiter_steps.specs.Escape.{is_hex}
-use Rattle.jiter_steps.specs.Piece.{IsUnit, IsPiece, Piece, SpellsPieces, SpellsString, characters, text_of}
-use Rattle.jiter_steps.proofs.Utf8Shape.{lead}
+use Rattle.jiter_steps.specs.Piece.{IsUnit, IsPlain, IsPiece, Piece, SpellsPieces, SpellsString, characters, text_of}
 use Rattle.jiter_steps.proofs.StringComplete.{IsPrinted, ArePrinted, plain-printed}
 use lib.Utf8.{encode}
 use Rattle.look.specs.Print.{hex_digit, needs_escape, escape_of, print_byte, print_text}
@@ -67,8 +66,10 @@ print_byte-piece c s = by (cases_eq c 34) (cases_eq c 92) (cases_lt c 32) where
       (inr (inl (record { sign = 92; is = ap (flat_map print_byte) (ascii-encoded 92 (omega arith)); means = refl })))
   by (inr q) (inr b) (inl low) = inr (inr (inl (control-unit c low, s)))
   by (inr q) (inr b) (inr high) =
+      let plain : IsPlain (encode_utf8 c) c =
+      record { is = refl; scalar = s; printed = high; no_quote = q; no_backslash = b } in
       inl (record {
-        is = plain-bytes (encode_utf8 c) (plain-printed c high q b (lead c s));
+        is = plain-bytes (encode_utf8 c) (plain-printed (encode_utf8 c) c plain);
         scalar = s;
         printed = high;
         no_quote = q;
