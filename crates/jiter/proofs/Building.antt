@@ -1,6 +1,5 @@
 -- What is left of a container behind the parts that the client has built, by the replies of its calls.
-use Rattle.std.proofs.Common.{◌≡◌, ◌∙◌, refl, sym, ap, ℕ, ◌+◌, ◌<◌, Bool, true, false, List, [], ◌∷◌, ◌++◌}
-use Rattle.std.proofs.Common.{length}
+use Rattle.std.proofs.Common.{◌≡◌, ◌∙◌, refl, sym, ap, ℕ, ◌+◌, ◌<◌, Bool, true, false, List, [], ◌∷◌, ◌++◌, length}
 use Rattle.std.proofs.Common.{arith}
 use Rattle.std.specs.Prelude.{slice_get, slice_index, Option, Some, None, option_map, IfSome}
 use Rattle.std.proofs.lemmas.Option.{get_or_from_slice_get, slice_get-get_or, slice_get_within}
@@ -13,8 +12,7 @@ use Rattle.jiter_steps.specs.Literal.{literal_at, literal_tree, start_of}
 use Rattle.jiter_steps.specs.StringReading.{whole, string_at}
 use Rattle.jiter_steps.specs.Tree.{Text, Tree}
 use Rattle.jiter_steps.specs.Tree as tree
-use Rattle.jiter_steps.specs.Step.{Step, more, closed, stuck, step, colon, value_first}
-use Rattle.jiter_steps.specs.Step.{object_step}
+use Rattle.jiter_steps.specs.Step.{Step, more, closed, stuck, step, colon, value_first, object_step}
 use Rattle.jiter_steps.specs.Read.{Reading, done, fault, scalar_at, Container, with_key, behind_colon, behind_key}
 use Rattle.jiter_steps.specs.Read.{follow, behind_part, parts_at, array_of, object_of, inside_at}
 use Rattle.jiter_steps.specs.Answer.{seen_as}
@@ -22,12 +20,12 @@ use Rattle.jiter_steps.specs.declared.parse.Literal.{Literal}
 use Rattle.jiter_steps.specs.declared.parse.Literal.TheVariants as literal
 use Rattle.jiter_steps.specs.declared.parse.Start.{Start}
 use Rattle.jiter_steps.specs.declared.parse.Start.TheVariants as start
-use Rattle.jiter_steps.proofs.Blanks.{past_blanks-after}
-use Rattle.jiter_steps.proofs.Bounds.{Ahead, Within}
-use Rattle.jiter_steps.proofs.Values.{Advances, AllWithin, Goes, array_of-goes, object_of-goes, inside_at-within}
-use Rattle.jiter_steps.proofs.Values.{parts_at_is}
-use Rattle.jiter_steps.proofs.Instances.{seen-within, literal_at-within}
-use Rattle.jiter_steps.proofs.StringLaws.{string_at-within}
+use Rattle.jiter_steps.proofs.Grammar.Blanks.{past_blanks-after}
+use Rattle.jiter_steps.proofs.Reading.Bounds.{Ahead, Within}
+use Rattle.jiter_steps.proofs.Reading.Values.{Advances, AllWithin, Goes, array_of-goes, object_of-goes}
+use Rattle.jiter_steps.proofs.Reading.Values.{inside_at-within, parts_at_is}
+use Rattle.jiter_steps.proofs.Reading.Instances.{seen-within, literal_at-within}
+use Rattle.jiter_steps.proofs.Grammar.StringLaws.{string_at-within}
 use Rattle.jiter_value.specs.Owned.{owned_text}
 use Rattle.jiter.specs.Client.{owned_trees, built, built_inside, IsTruthOrNothing}
 use Rattle.jiter.specs.Jiter.{StandsAt, reply_seen}

@@ -11,7 +11,7 @@ use Rattle.jiter_steps.specs.Read.{Reading, done, fault, value_at}
 use Rattle.jiter_steps.specs.Answer.{seen_as, whole_trees}
 use Rattle.jiter_steps.specs.declared.parse.Literal.{Literal}
 use Rattle.jiter_steps.specs.declared.parse.Literal.TheVariants as literal
-use Rattle.jiter_steps.proofs.Fused.{Leads, mapped, scanned_as, pairs, value_at-mapped}
+use Rattle.jiter_steps.proofs.Reading.Fused.{Leads, mapped, scanned_as, pairs, value_at-mapped}
 use Rattle.jiter_value.specs.Owned.{owned_text, owned_tree, owned_items, owned_members}
 use Rattle.jiter.specs.Client.{owned_trees, built}
 use Rattle.jiter.specs.Jiter.{MovesOn, LeavesAt, Replies, UnlessMemory, StandsAt, reply_seen}

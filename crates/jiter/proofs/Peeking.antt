@@ -1,11 +1,10 @@
 -- A second peek replies as the first, a known_ call as the next_ call, and a refused read of a scalar leaves the reader
 -- where the value begins.
-use Rattle.std.proofs.Common.{◌≡◌, ℕ, true, false}
-use Rattle.std.proofs.Common.{refl, ap, Option, Some, None, List}
-use Rattle.std.proofs.Common.{slice_get, slice_index, slice_range}
+use Rattle.std.proofs.Common.{◌≡◌, ℕ, true, false, refl, ap, Option, Some, None, List, slice_get, slice_index}
+use Rattle.std.proofs.Common.{slice_range}
 use Rattle.std.proofs.lemmas.Option.{get_or_from_slice_get}
 use Rattle.jiter_scan.proofs.Runs.{run_end-here}
-use Rattle.jiter_steps.proofs.Blanks.{no_blank-behind}
+use Rattle.jiter_steps.proofs.Grammar.Blanks.{no_blank-behind}
 use Rattle.jiter.specs.Jiter.{StandsAt}
 use Rattle.jiter_scan.specs.Scanned.{Scanned, taken, failed}
 use Rattle.jiter_scan.specs.NumberReading.{Integer, whole, float_seen, number_at, int_at}
@@ -17,8 +16,8 @@ use Rattle.jiter_steps.specs.declared.parse.Literal.TheVariants as literal
 use Rattle.jiter_steps.specs.declared.parse.Start.{Start}
 use Rattle.jiter_steps.specs.declared.parse.Start.TheVariants as start
 use Rattle.jiter.specs.Reader.{ReaderState, Reply, gave, StaysAt, with_position, position_after, value_place, if_byte}
-use Rattle.jiter.specs.Reader.{peek, next, known, scalar_reply, integer_reply, null_read}
-use Rattle.jiter.specs.Reader.{bool_read, number_read, int_read, number_bytes_read, string_read, str_read, bytes_read}
+use Rattle.jiter.specs.Reader.{peek, next, known, scalar_reply, integer_reply, null_read, bool_read, number_read}
+use Rattle.jiter.specs.Reader.{int_read, number_bytes_read, string_read, str_read, bytes_read}
 
 -- blanks are passed once
 pub past_blanks-again : (t : List ℕ) (i : ℕ) → past_blanks t (past_blanks t i) ≡ past_blanks t i

@@ -3,7 +3,7 @@ use Rattle.std.proofs.Common.{◌≡◌, ap, subst, ℕ, ◌<◌, ◌≤◌, Lis
 use Rattle.jiter_scan.specs.Scanned.{Scanned, taken, failed, FaultAt}
 use Rattle.jiter_scan.specs.Kind.{Kind}
 use Rattle.jiter_scan.proofs.Scanning.{ScalarWithin, Within}
-use Rattle.jiter_steps.proofs.Bounds as reading
+use Rattle.jiter_steps.proofs.Reading.Bounds as reading
 use Rattle.jiter_steps.specs.Read.{Reading, done, fault, scalar_at}
 use Rattle.jiter.specs.Cause.{json_error}
 use Rattle.jiter.specs.Reader.{ReaderState, Refusal}

@@ -6,7 +6,7 @@ use Rattle.jiter_steps.specs.Literal.{start_of}
 use Rattle.jiter_steps.specs.Read.{Reading, done, fault}
 use Rattle.jiter_steps.specs.Tree.{Tree}
 use Rattle.jiter_steps.specs.declared.parse.Start.{Start}
-use Rattle.jiter_steps.proofs.SkipLaw.{EndsAlike, skip_at-law}
+use Rattle.jiter_steps.proofs.Calls.SkipLaw.{EndsAlike, skip_at-law}
 use Rattle.jiter.specs.Cause.{json_error}
 use Rattle.jiter.specs.Reader.{ReaderState, Reply, value_place, if_byte, next, known, value_reply, value_read}
 use Rattle.jiter.specs.Reader.{skip_read}

@@ -269,7 +269,7 @@ fn next_place(bytes: &[u8], at: usize) -> AtStop
 
 // Decodes what stands from `from` on to the front of the tape, a run of plain bytes and an escape at a time,
 // and gives how many bytes that makes.
-#[tactic(auto, using(crate::proofs::PlainRuns::scan_stop_stops))]
+#[tactic(auto, using(crate::proofs::Calls::PlainRuns::scan_stop_stops))]
 fn decode(tape: &mut Vec<u8>, bytes: &[u8], from: usize) -> Result<(usize, Ending), Refused>
     requires { from ≤ length bytes.now }
     ensures text { IfOk result (λ r. take r.0 tape.new.items ≡ (body_at bytes.now from).bytes) }
@@ -309,7 +309,7 @@ fn text_of(bytes: &[u8], ascii: bool) -> Result<&str, Utf8Error>
 }
 
 // The text of a string with no backslash, whose closing quote is at `to`.
-#[tactic(auto, using(crate::proofs::DecodeSteps::checked_text))]
+#[tactic(auto, using(crate::proofs::Calls::DecodeSteps::checked_text))]
 fn borrow_text<'j>(
     bytes: &'j [u8],
     from: usize,
@@ -331,7 +331,7 @@ fn borrow_text<'j>(
 }
 
 // The decoded bytes, of a content that begins at `from`, as a text of their own.
-#[tactic(auto, using(crate::proofs::DecodeSteps::checked_text))]
+#[tactic(auto, using(crate::proofs::Calls::DecodeSteps::checked_text))]
 fn own_text<'j>(
     alloc: Global,
     bytes: &[u8],
@@ -428,7 +428,7 @@ pub fn string_at<'j>(
 
 // The bytes as a text, without an unfinished character at their end; or how many are right before one that is
 // wrong.
-#[tactic(auto, using(crate::proofs::FrontTexts::kept_whole, crate::proofs::FrontTexts::kept_front, crate::proofs::FrontTexts::kept_wrong))]
+#[tactic(auto, using(crate::proofs::Reading::StringForms::kept_whole, crate::proofs::Reading::StringForms::kept_front, crate::proofs::Reading::StringForms::kept_wrong))]
 fn front_text(content: &[u8], ascii: bool) -> Result<&str, usize>
     requires { IsTrue ascii → AllPass is_ascii content.now }
     ensures value { (i e : ℕ) → (owned : Bool) → MatchResult result

@@ -15,12 +15,12 @@ use Rattle.jiter_steps.specs.Node.{Node, IsDocument, IsCutContainer, value_of}
 use Rattle.jiter_steps.specs.Read.{fault}
 use Rattle.jiter_steps.specs.declared.read_error.ReadError.{ReadError}
 use Rattle.jiter_steps.specs.declared.read_error.ReadError.TheVariants as error
-use Rattle.jiter_steps.proofs.Alive.{alive}
-use Rattle.jiter_steps.proofs.Bounds.{Within}
-use Rattle.jiter_steps.proofs.CutLaw.{AnswersCut, answer_in-cut, answer_in-of}
-use Rattle.jiter_steps.proofs.Dead.{dead}
-use Rattle.jiter_steps.proofs.Documents.{IsRead, answer-is}
-use Rattle.jiter_steps.proofs.Prefixes.{EndsEarly, prefix-refused}
+use Rattle.jiter_steps.proofs.Fault.Alive.{alive}
+use Rattle.jiter_steps.proofs.Reading.Bounds.{Within}
+use Rattle.jiter_steps.proofs.Cut.CutLaw.{AnswersCut, answer_in-cut, answer_in-of}
+use Rattle.jiter_steps.proofs.Fault.Dead.{dead}
+use Rattle.jiter_steps.proofs.Grammar.Documents.{IsRead, answer-is}
+use Rattle.jiter_steps.proofs.Cut.Prefixes.{EndsEarly, prefix-refused}
 use Rattle.jiter_value.specs.Reading.{GivesWhole, IsErrorOf}
 use Rattle.jiter_value.specs.Value.{view, Answers}
 use Rattle.jiter_value.specs.declared.value.JsonValue.{JsonValue}

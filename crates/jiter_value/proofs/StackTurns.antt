@@ -14,25 +14,25 @@ use Rattle.jiter_scan.specs.declared.partial_mode.PartialMode.TheVariants.{Off, 
 use Rattle.jiter_steps.specs.Answer.{value_form}
 use Rattle.jiter_steps.specs.Tree.{Text, Tree}
 use Rattle.jiter_steps.specs.Literal.{start_of}
-use Rattle.jiter_steps.specs.Step.{Step, more, closed, stuck, step, container_first, container_step}
-use Rattle.jiter_steps.specs.Step.{object_colon, opening}
+use Rattle.jiter_steps.specs.Step.{Step, more, closed, stuck, step, container_first, container_step, object_colon}
+use Rattle.jiter_steps.specs.Step.{opening}
 use Rattle.jiter_steps.specs.StringDecoder.{text_view}
 use Rattle.jiter_steps.specs.StringReading.{whole, string_at}
 use Rattle.jiter_steps.specs.Read.{Reading, Container, done, fault, value_at, scalar_at}
 use Rattle.jiter_steps.specs.declared.read_error.ReadError.{ReadError}
-use Rattle.jiter_steps.specs.Frames.{Frame, members_frame, resolve_step, resume, parts_from, parts_step}
-use Rattle.jiter_steps.specs.Frames.{value_in, array_in, object_in, value_from}
+use Rattle.jiter_steps.specs.Frames.{Frame, members_frame, resolve_step, resume, parts_from, parts_step, value_in}
+use Rattle.jiter_steps.specs.Frames.{array_in, object_in, value_from}
 use Rattle.jiter_steps.specs.declared.parse.Shape.{Shape}
 use Rattle.jiter_steps.specs.declared.parse.Shape.TheVariants as shape
-use Rattle.jiter_steps.proofs.Values.{Advances}
-use Rattle.jiter_steps.proofs.Instances.{trees-advances}
-use Rattle.jiter_steps.proofs.Resumed.{IgnoresBegin, value_in-room, value_in-limit, if_forgiven-no}
-use Rattle.jiter_steps.proofs.Resumed.{resume-fault, resume-forgiven, step-to, step-stuck, items-value, key-value}
-use Rattle.jiter_steps.proofs.Resumed.{key-failed, colon-failed, container-begins}
+use Rattle.jiter_steps.proofs.Reading.Values.{Advances}
+use Rattle.jiter_steps.proofs.Reading.Instances.{trees-advances}
+use Rattle.jiter_steps.proofs.Calls.Resumed.{IgnoresBegin, value_in-room, value_in-limit, if_forgiven-no, resume-fault}
+use Rattle.jiter_steps.proofs.Calls.Resumed.{resume-forgiven, step-to, step-stuck, items-value, key-value, key-failed}
+use Rattle.jiter_steps.proofs.Calls.Resumed.{colon-failed, container-begins}
 use Rattle.jiter_value.specs.Settings.{forgives, rules}
 use Rattle.jiter_value.specs.Stacks.{Member, member_view, last_key_of, last_key, front, frames, PartTree, built}
-use Rattle.jiter_value.specs.Stacks.{parts_above, frames_below, HaveBases, HaveKeyBase, key_in, key_fault_in, behind_in}
-use Rattle.jiter_value.specs.Stacks.{container_in, awaited_in, empty_tree, Stands}
+use Rattle.jiter_value.specs.Stacks.{parts_above, frames_below, HaveBases, HaveKeyBase, key_in, key_fault_in}
+use Rattle.jiter_value.specs.Stacks.{behind_in, container_in, awaited_in, empty_tree, Stands}
 use Rattle.jiter_value.specs.Turns.{Fails, IsResolved}
 use Rattle.jiter_value.specs.Value.{view}
 use Rattle.jiter_value.specs.declared.settings.Settings.{Settings}

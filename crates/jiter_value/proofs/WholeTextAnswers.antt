@@ -1,6 +1,5 @@
 -- What a whole text answers, by how its reading goes.
-use Rattle.std.proofs.Common.{◌≡◌, inl, inr, ℕ, ◌<◌, Bool, true, false, List, length, refl, sym, ap, ap₂, ◌∙◌}
-use Rattle.std.proofs.Common.{arith}
+use Rattle.std.proofs.Common.{◌≡◌, inl, inr, ℕ, ◌<◌, Bool, true, false, List, length, refl, sym, ap, ap₂, ◌∙◌, arith}
 use Rattle.std.proofs.lemmas.List.{length-reverse}
 use Rattle.std.specs.Prelude.{reverse, slice_get, Option, Some, None, Err, if◌then◌else◌}
 use Rattle.jiter_scan.specs.Kind.{Kind, fault_kind}
@@ -18,9 +17,9 @@ use Rattle.jiter_steps.specs.Step.{step, value_first, document_end}
 use Rattle.jiter_steps.specs.Tree.{Text, Tree}
 use Rattle.jiter_steps.specs.declared.read_error.ReadError.{ReadError}
 use Rattle.jiter_steps.specs.declared.read_error.ReadError.TheVariants as error
-use Rattle.jiter_steps.proofs.WholeTexts.{front-begins, whole-is}
-use Rattle.jiter_steps.proofs.Bounds.{Within}
-use Rattle.jiter_steps.proofs.Instances.{answer-within, partial_answer-within}
+use Rattle.jiter_steps.proofs.Reading.WholeTexts.{front-begins, whole-is}
+use Rattle.jiter_steps.proofs.Reading.Bounds.{Within}
+use Rattle.jiter_steps.proofs.Reading.Instances.{answer-within, partial_answer-within}
 use Rattle.jiter_value.specs.Reading.{GivesWhole, IsErrorOf}
 use Rattle.jiter_value.specs.Settings.{forgives, rules, answer_by}
 use Rattle.jiter_value.specs.Value.{view, Answers}

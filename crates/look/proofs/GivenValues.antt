@@ -8,15 +8,14 @@ use Rattle.jiter_steps.specs.Blank.{past_blanks}
 use Rattle.jiter_steps.specs.Literal.{start_of}
 use Rattle.jiter_steps.specs.Node.{nesting_limit}
 use Rattle.jiter_steps.specs.Read.{Reading, done, fault, Rules, Container, scalar_at, with_key, behind_colon}
-use Rattle.jiter_steps.specs.Read.{behind_key}
-use Rattle.jiter_steps.specs.Read.{if_forgiven, follow, behind_part, parts_at, container_at, array_of, object_of}
-use Rattle.jiter_steps.specs.Read.{value_with, inside_at, value_at, if_last, to_end, if_begun, front_answer}
-use Rattle.jiter_steps.specs.Read.{whole_answer}
+use Rattle.jiter_steps.specs.Read.{behind_key, if_forgiven, follow, behind_part, parts_at, container_at, array_of}
+use Rattle.jiter_steps.specs.Read.{object_of, value_with, inside_at, value_at, if_last, to_end, if_begun}
+use Rattle.jiter_steps.specs.Read.{front_answer, whole_answer}
 use Rattle.jiter_steps.specs.Step.{Step, more, closed, stuck, step, object_colon}
 use Rattle.jiter_steps.specs.declared.parse.Literal.{Literal}
 use Rattle.jiter_steps.specs.declared.parse.Start.{Start}
 use Rattle.jiter_steps.specs.declared.parse.Start.TheVariants as start
-use Rattle.jiter_steps.proofs.Bounds.{either}
+use Rattle.jiter_steps.proofs.Reading.Bounds.{either}
 
 -- what is taken is so
 abbrev pub Takes : {A : Type 0} → (A → Type 0) → Scanned A → Type 0

@@ -1,8 +1,6 @@
 -- What is printed of a value that was read is a document of the same value.
-use Rattle.std.proofs.Common.{◌≡◌, inl, inr, ℕ, zero, suc, ◌+◌, ◌-◌, ◌≤◌, Bool, true, false, List, [], ◌∷◌}
-use Rattle.std.proofs.Common.{◌++◌, length, map}
-use Rattle.std.proofs.Common.{refl, sym}
-use Rattle.std.proofs.Common.{ap, ap₂, ◌∙◌, subst, arith}
+use Rattle.std.proofs.Common.{◌≡◌, inl, inr, ℕ, zero, suc, ◌+◌, ◌-◌, ◌≤◌, Bool, true, false, List, [], ◌∷◌, ◌++◌}
+use Rattle.std.proofs.Common.{length, map, refl, sym, ap, ap₂, ◌∙◌, subst, arith}
 use Rattle.std.specs.Prelude.{Option, Some, None, IfSome}
 use Rattle.std.specs.Str.{IsUtf8}
 use Rattle.std.proofs.lemmas.List.{length-append, take_at, get_or_push}
@@ -23,8 +21,8 @@ use Rattle.jiter_steps.specs.Tree as tree
 use Rattle.jiter_steps.specs.Tree.{Text, Tree, items_of, members_of}
 use Rattle.jiter_steps.specs.declared.parse.Literal.{Literal}
 use Rattle.jiter_steps.specs.declared.parse.Literal.TheVariants as name
-use Rattle.jiter_steps.proofs.NodeRules.{nodes_of, node_members_of}
-use Rattle.jiter_steps.proofs.Sound.{IsNodeAt, IsItemAt, IsMemberAt, items-grammar, members-grammar}
+use Rattle.jiter_steps.proofs.Grammar.NodeRules.{nodes_of, node_members_of}
+use Rattle.jiter_steps.proofs.Grammar.Sound.{IsNodeAt, IsItemAt, IsMemberAt, items-grammar, members-grammar}
 use Rattle.look.specs.Print.{print_text, with_line_feed, print_of, item_prints, member_prints}
 use Rattle.look.specs.Printed.{borrow_tree, borrow_items, borrow_members, IsLineOf, PrintsAgain}
 use Rattle.look.proofs.PrintLawNumbers.{number-again}

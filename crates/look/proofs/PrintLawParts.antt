@@ -1,6 +1,5 @@
 -- What is known of each part of a printed container, known of the container: items and members alike.
-use Rattle.std.proofs.Common.{◌≡◌, ℕ, ◌+◌, ◌≤◌, List, [], ◌∷◌, ◌++◌, length, map, refl, sym, subst, arith}
-use Rattle.std.proofs.Common.{append_assoc}
+use Rattle.std.proofs.Common.{◌≡◌, ℕ, ◌+◌, ◌≤◌, List, [], ◌∷◌, ◌++◌, length, map, refl, sym, subst, arith, append_assoc}
 use Rattle.std.specs.Prelude.{slice_get, Some}
 use Rattle.std.specs.List.{join_with_byte}
 use Rattle.std.proofs.lemmas.Option.{slice_get_within}
@@ -8,7 +7,7 @@ use Rattle.jiter_scan.specs.Stands.{Stands}
 use Rattle.jiter_scan.proofs.Standing.{stands-within, stands-split}
 use Rattle.jiter_steps.specs.Blank.{IsBlank}
 use Rattle.jiter_steps.specs.Node.{StandsBehind}
-use Rattle.jiter_steps.proofs.Parts.{Grammar}
+use Rattle.jiter_steps.proofs.Reading.Parts.{Grammar}
 use Rattle.look.proofs.GivenValues.{Each}
 
 pub no_blank : (u : List ℕ) (i : ℕ) → i ≤ length u → IsBlank u i i

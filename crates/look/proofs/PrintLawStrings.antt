@@ -1,6 +1,6 @@
 -- What is printed of a text is a string of the same characters.
-use Rattle.std.proofs.Common.{◌≡◌, ◌≢◌, ◌⊎◌, inl, inr, ℕ, ◌+◌, ◌/◌, ◌%◌, ◌<◌, ◌≤◌, true, List, [], ◌∷◌, ◌++◌, refl, sym}
-use Rattle.std.proofs.Common.{ap, ap₂, ◌∙◌, subst, arith}
+use Rattle.std.proofs.Common.{◌≡◌, ◌≢◌, ◌⊎◌, inl, inr, ℕ, ◌+◌, ◌/◌, ◌%◌, ◌<◌, ◌≤◌, true, List, [], ◌∷◌, ◌++◌, refl}
+use Rattle.std.proofs.Common.{sym, ap, ap₂, ◌∙◌, subst, arith}
 use Rattle.std.specs.Prelude.{codes, flat_map, nat_eq, nat_lt}
 use Rattle.std.specs.Char.{IsScalar, encode_utf8, digit_value}
 use Rattle.std.specs.Str.{IsUtf8, all_scalars, encode_utf8_all}
@@ -12,7 +12,7 @@ use Rattle.jiter_scan.proofs.Choices.{if-true, if-false}
 use Rattle.jiter_scan.proofs.Standing.{stands-split}
 use Rattle.jiter_steps.specs.Escape.{is_hex}
 use Rattle.jiter_steps.specs.Piece.{IsUnit, IsPlain, IsPiece, Piece, SpellsPieces, SpellsString, characters, text_of}
-use Rattle.jiter_steps.proofs.StringComplete.{IsPrinted, ArePrinted, plain-printed}
+use Rattle.jiter_steps.proofs.Grammar.StringComplete.{IsPrinted, ArePrinted, plain-printed}
 use lib.Utf8.{encode}
 use Rattle.look.specs.Print.{hex_digit, needs_escape, escape_of, print_byte, print_text}
 

@@ -1,6 +1,5 @@
 -- The values that can be printed, and that each reading gives one of them.
-use Rattle.std.proofs.Common.{◌≡◌, ℕ, zero, suc, ◌+◌, ◌==◌, Bool, List, length, refl, sym, ap}
-use Rattle.std.proofs.Common.{eqb-true}
+use Rattle.std.proofs.Common.{◌≡◌, ℕ, zero, suc, ◌+◌, ◌==◌, Bool, List, length, refl, sym, ap, eqb-true}
 use Rattle.std.specs.Prelude.{Option, Some, None, drop}
 use Rattle.std.specs.Str.{IsUtf8}
 use Rattle.std.specs.Str.Lossy.{utf8_valid_len, utf8_error_len}
@@ -17,15 +16,14 @@ use Rattle.jiter_steps.specs.Answer.{seen_as, trees, nothing_forgiven, answer_in
 use Rattle.jiter_steps.specs.Literal.{literal_at, literal_tree}
 use Rattle.jiter_steps.specs.Node.{number_tree, nesting_limit}
 use Rattle.jiter_steps.specs.StringReading.{Stop, closed, unclosed, cut, wrong, body_at, Form, whole, kept, raw}
-use Rattle.jiter_steps.specs.StringReading.{raw_kept}
-use Rattle.jiter_steps.specs.StringReading.{if_utf8, valid_front_by, valid_front, text_in_form, content_at, string_at}
+use Rattle.jiter_steps.specs.StringReading.{raw_kept, if_utf8, valid_front_by, valid_front, text_in_form, content_at}
+use Rattle.jiter_steps.specs.StringReading.{string_at}
 use Rattle.jiter_steps.specs.Tree as tree
 use Rattle.jiter_steps.specs.Tree.{Text, Tree, null, boolean, int, string, array, object, Items, no_items, item}
-use Rattle.jiter_steps.specs.Tree.{items_of}
-use Rattle.jiter_steps.specs.Tree.{Members, no_members, member, members_of}
+use Rattle.jiter_steps.specs.Tree.{items_of, Members, no_members, member, members_of}
 use Rattle.jiter_steps.specs.declared.parse.Literal.{Literal}
 use Rattle.jiter_steps.specs.declared.parse.Literal.TheVariants as name
-use Rattle.jiter_steps.proofs.StringSound.{IsUtf8-valid, valid-IsUtf8}
+use Rattle.jiter_steps.proofs.Grammar.StringSound.{IsUtf8-valid, valid-IsUtf8}
 use Rattle.look.proofs.GivenValues.{Takes, Gives, Both, Each, Builds, front_answer-gives, whole_answer-gives}
 
 -- ---- the values

@@ -1,7 +1,8 @@
 -- Which texts can be completed before their fault, by computation: each kind that can go on, and for each other kind a
 -- text that cannot.
-use Rattle.std.proofs.Common.{◌≡◌, ◌≢◌, ◌⊎◌, inl, inr, ℕ, ◌+◌, ◌≤◌, Bool, true, false, not, List, [], ◌∷◌, ◌++◌, length}
-use Rattle.std.proofs.Common.{take, drop, refl, sym, ap, ◌∙◌, subst, arith, codes, map, append_assoc, append-nil}
+use Rattle.std.proofs.Common.{◌≡◌, ◌≢◌, ◌⊎◌, inl, inr, ℕ, ◌+◌, ◌≤◌, Bool, true, false, not, List, [], ◌∷◌, ◌++◌}
+use Rattle.std.proofs.Common.{length, take, drop, refl, sym, ap, ◌∙◌, subst, arith, codes, map, append_assoc}
+use Rattle.std.proofs.Common.{append-nil}
 use Rattle.std.specs.Prelude.{Some, replicate, slice_range}
 use Rattle.std.proofs.lemmas.Bool.{false≢true}
 use Rattle.std.proofs.lemmas.List.{take-append-drop, take_all}
@@ -20,15 +21,15 @@ use Rattle.jiter_steps.specs.Read.{Reading, done, fault, scalar_at}
 use Rattle.jiter_steps.specs.StringReading.{Body, before, over, unclosed, whole, text_in_form, content_at, string_at}
 use Rattle.jiter_steps.specs.Tree.{Text, Tree}
 use Rattle.jiter_steps.specs.Tree as tree
-use Rattle.jiter_steps.proofs.WholeTexts.{whole-fault}
-use Rattle.jiter_steps.proofs.Blanks.{past_blanks-other}
-use Rattle.jiter_steps.proofs.Bodies.{body_at-place_by, place_by-end}
-use Rattle.jiter_steps.proofs.Dead.{dead}
-use Rattle.jiter_steps.proofs.Documents.{answer-of}
+use Rattle.jiter_steps.proofs.Reading.WholeTexts.{whole-fault}
+use Rattle.jiter_steps.proofs.Grammar.Blanks.{past_blanks-other}
+use Rattle.jiter_steps.proofs.Reading.Bodies.{body_at-place_by, place_by-end}
+use Rattle.jiter_steps.proofs.Fault.Dead.{dead}
+use Rattle.jiter_steps.proofs.Grammar.Documents.{answer-of}
 use Rattle.jiter_steps.proofs.Computed.{computed_readings}
 use Rattle.jiter_steps.proofs.Rows.FirstFault.{fault_of, is_done, is_document}
 use Rattle.jiter_steps.proofs.Rows.Trees.{times}
-use Rattle.jiter_steps.proofs.StringComplete.{IsPrinted, ArePrinted, bytes-read}
+use Rattle.jiter_steps.proofs.Grammar.StringComplete.{IsPrinted, ArePrinted, bytes-read}
 
 -- Each kind that can go on: a text, its fault's kind and index, and the filler and the closers that complete the bytes
 -- before the index.

@@ -1,6 +1,6 @@
 -- Documents cut before each of their bytes: what the cut of the node and what the reading of the front give.
-use Rattle.std.proofs.Common.{◌≡◌, ℕ, ◌-◌, ◌<◌, ◌≤◌, subst, Bool, true, false, List, [], ◌∷◌, ◌++◌, length, refl, codes}
-use Rattle.std.proofs.Common.{map, Some, None}
+use Rattle.std.proofs.Common.{◌≡◌, ℕ, ◌-◌, ◌<◌, ◌≤◌, subst, Bool, true, false, List, [], ◌∷◌, ◌++◌, length, refl}
+use Rattle.std.proofs.Common.{codes, map, Some, None}
 use Rattle.std.specs.Prelude.{take, replicate}
 use Rattle.jiter_scan.specs.Kind.{eof_list, eof_object, eof_string, eof_value}
 use Rattle.jiter_scan.specs.declared.partial_mode.PartialMode.{PartialMode}
@@ -9,9 +9,9 @@ use Rattle.jiter_steps.specs.declared.parse.Literal.TheVariants as literal
 use Rattle.jiter_steps.specs.Tree.{Tree, boolean, float}
 use Rattle.jiter_steps.specs.Read.{Reading, done, fault, whole_answer}
 use Rattle.jiter_steps.specs.Answer.{answer, partial_answer}
-use Rattle.jiter_steps.proofs.CutLaw.{cut-law}
-use Rattle.jiter_steps.proofs.Documents.{Fits, answer-sound}
-use Rattle.jiter_steps.proofs.NodeRules.{nodes}
+use Rattle.jiter_steps.proofs.Cut.CutLaw.{cut-law}
+use Rattle.jiter_steps.proofs.Grammar.Documents.{Fits, answer-sound}
+use Rattle.jiter_steps.proofs.Grammar.NodeRules.{nodes}
 use Rattle.jiter_steps.specs.Node.{Node, no_nodes, node, no_members, member, value_of, IsDocument}
 use Rattle.jiter_steps.specs.Node as grammar
 use Rattle.jiter_steps.specs.Cut.{cut}

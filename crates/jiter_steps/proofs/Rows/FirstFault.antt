@@ -9,7 +9,7 @@ use Rattle.jiter_scan.specs.Kind.{trailing_comma, trailing_characters, end_of_he
 use Rattle.jiter_steps.specs.Read.{Reading, done, fault}
 use Rattle.jiter_steps.specs.Answer.{answer}
 use Rattle.jiter_steps.specs.FirstFault.{BeginsNoDocument}
-use Rattle.jiter_steps.proofs.Dead.{dead}
+use Rattle.jiter_steps.proofs.Fault.Dead.{dead}
 use Rattle.jiter_steps.proofs.Rows.Trees.{times, Give}
 use Rattle.jiter_steps.proofs.Computed.{computed_readings}
 

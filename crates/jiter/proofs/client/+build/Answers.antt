@@ -2,8 +2,8 @@ use Rattle.std.proofs.Common.{◌≡◌, ◌∙◌, refl, sym, ap, subst, rules,
 use Rattle.jiter_scan.specs.Kind.{recursion_limit}
 use Rattle.jiter_steps.specs.Literal.{start_of}
 use Rattle.jiter_steps.specs.declared.parse.Start.TheVariants as start
-use Rattle.jiter_steps.proofs.Sound.{array-byte, object-byte}
-use Rattle.jiter_steps.proofs.Values.{inside_at-none, inside_at-starts}
+use Rattle.jiter_steps.proofs.Grammar.Sound.{array-byte, object-byte}
+use Rattle.jiter_steps.proofs.Reading.Values.{inside_at-none, inside_at-starts}
 use Rattle.jiter_value.specs.Stacks.{member_view}
 use Rattle.jiter_value.specs.Value.{view}
 use Rattle.jiter_value.proofs.Views.{view_array, view_object}
@@ -12,8 +12,8 @@ use Rattle.jiter.specs.Client.{owned_trees}
 use Rattle.jiter.specs.Jiter.{LeavesAt, byte_of}
 use Rattle.jiter.specs.Reader.{refused, value_reply}
 use Rattle.jiter.proofs.Building.{known-first, items-laws, members-laws}
-use Rattle.jiter.proofs.Containers.{passed-on, bytes-leave, map-pushed, array-opens, object-opens}
-use Rattle.jiter.proofs.Containers.{begins, first-refused, part-refused, stuck-behind, turn-ahead, goes-on, ended}
+use Rattle.jiter.proofs.Containers.{passed-on, bytes-leave, map-pushed, array-opens, object-opens, begins}
+use Rattle.jiter.proofs.Containers.{first-refused, part-refused, stuck-behind, turn-ahead, goes-on, ended}
 use Rattle.jiter.proofs.client.+build.Goals as goal
 
 pub build_array-loop-next-init : goal.build_array-loop-next-init

@@ -1,5 +1,5 @@
 use Rattle.std.proofs.Common.{arith, sym}
-use Rattle.jiter_steps.proofs.Blanks.{past_blanks-above}
+use Rattle.jiter_steps.proofs.Grammar.Blanks.{past_blanks-above}
 use Rattle.jiter_steps.proofs.blank.past_blanks.Goals as goal
 
 pub returns-then-bytes-from-gt32-clause-value : goal.returns-then-bytes-from-gt32-clause-value

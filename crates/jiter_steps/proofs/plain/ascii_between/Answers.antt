@@ -1,6 +1,6 @@
 use Rattle.std.proofs.Common.{arith}
-use Rattle.jiter_steps.proofs.AsciiTexts.{ascii-utf8}
-use Rattle.jiter_steps.proofs.QuotedTexts.{quoted-whole, quoted-kept}
+use Rattle.jiter_steps.proofs.Calls.PlainRuns.{ascii-utf8}
+use Rattle.jiter_steps.proofs.Calls.StringAnswers.{quoted-whole, quoted-kept}
 use Rattle.jiter_steps.proofs.plain.ascii_between.Goals as goal
 
 pub returns-clause-whole : goal.returns-clause-whole

@@ -1,7 +1,7 @@
 use Rattle.std.proofs.Common.{◌+◌, ◌∙◌, ◌∷◌, [], refl, ap, arith}
 use Rattle.std.specs.Prelude.{Some}
-use Rattle.jiter_steps.proofs.StringStand.{got}
-use Rattle.jiter_steps.proofs.PlainWords.{word_at-byte, word_at-four}
+use Rattle.jiter_steps.proofs.Grammar.Places.{got}
+use Rattle.jiter_steps.proofs.Calls.PlainRuns.{word_at-byte, word_at-four}
 use Rattle.jiter_steps.proofs.plain.plain_literal_end.Goals as goal
 
 pub returns-in-Null-clause-value : goal.returns-in-Null-clause-value

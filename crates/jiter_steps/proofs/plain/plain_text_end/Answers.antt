@@ -1,8 +1,8 @@
 use Rattle.std.proofs.Common.{◌∙◌, ap}
 use Rattle.std.specs.Prelude.{Some}
-use Rattle.jiter_steps.proofs.AsciiTexts.{ascii-utf8}
-use Rattle.jiter_steps.proofs.QuotedTexts.{quoted-whole, quoted-kept}
-use Rattle.jiter_steps.proofs.StringStand.{got}
+use Rattle.jiter_steps.proofs.Calls.PlainRuns.{ascii-utf8}
+use Rattle.jiter_steps.proofs.Calls.StringAnswers.{quoted-whole, quoted-kept}
+use Rattle.jiter_steps.proofs.Grammar.Places.{got}
 use Rattle.jiter_steps.proofs.plain.plain_text_end.Goals as goal
 
 pub returns-then-bytes-to-eq34-clause-whole : goal.returns-then-bytes-to-eq34-clause-whole

@@ -1,5 +1,5 @@
 use Rattle.std.proofs.Common.{arith}
-use Rattle.jiter_steps.proofs.QuotedTexts.{quoted-whole, quoted-kept}
+use Rattle.jiter_steps.proofs.Calls.StringAnswers.{quoted-whole, quoted-kept}
 use Rattle.jiter_steps.proofs.plain.text_between.Goals as goal
 
 pub returns-in-Ok-clause-whole : goal.returns-in-Ok-clause-whole

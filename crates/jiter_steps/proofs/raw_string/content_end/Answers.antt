@@ -1,7 +1,7 @@
 use Rattle.std.proofs.Common.{◌≡◌, ◌∙◌, sym}
 use Rattle.std.specs.Prelude.{slice_get, Some, None}
 use Rattle.std.proofs.lemmas.Option.{none-some, same_Some}
-use Rattle.jiter_steps.proofs.RawStrings.{run-goes_on, over-again, run-over}
+use Rattle.jiter_steps.proofs.Calls.RawStrings.{run-goes_on, over-again, run-over}
 use Rattle.jiter_steps.proofs.raw_string.content_end.Goals as goal
 
 pub returns-in-Some-eq92-clause-over : goal.returns-in-Some-eq92-clause-over

@@ -1,6 +1,6 @@
 use Rattle.std.proofs.Common.{◌∙◌, arith}
 use Rattle.jiter_steps.specs.StringDecoder.{stop_view}
-use Rattle.jiter_steps.proofs.RawStrings.{escape-ahead, escape-goes_on, over-here}
+use Rattle.jiter_steps.proofs.Calls.RawStrings.{escape-ahead, escape-goes_on, over-here}
 use Rattle.jiter_steps.proofs.raw_string.escaped_end.Goals as goal
 
 pub scan_string-to-requires : goal.scan_string-to-requires

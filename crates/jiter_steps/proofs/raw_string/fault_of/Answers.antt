@@ -1,5 +1,5 @@
 use Rattle.jiter_steps.specs.StringReading.{raw, raw_kept}
-use Rattle.jiter_steps.proofs.RawStrings.{form-by, not-unclosed, closed-quote}
+use Rattle.jiter_steps.proofs.Calls.RawStrings.{form-by, not-unclosed, closed-quote}
 use Rattle.jiter_steps.proofs.raw_string.fault_of.Goals as goal
 
 pub unreachable-requires : goal.unreachable-requires

@@ -1,5 +1,5 @@
 use Rattle.std.proofs.Common.{◌+◌}
-use Rattle.jiter_steps.proofs.RawStrings.{raw-text}
+use Rattle.jiter_steps.proofs.Calls.RawStrings.{raw-text}
 use Rattle.jiter_steps.proofs.raw_string.raw_string_at.Goals as goal
 
 pub returns-in-Ok-clause-value : goal.returns-in-Ok-clause-value

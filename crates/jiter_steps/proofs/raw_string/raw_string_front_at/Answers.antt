@@ -3,7 +3,7 @@ use Rattle.std.specs.Prelude.{slice_get, None}
 use Rattle.jiter_scan.specs.Scanned.{taken}
 use Rattle.jiter_scan.proofs.Standing.{get-none}
 use Rattle.jiter_steps.specs.StringReading.{between}
-use Rattle.jiter_steps.proofs.RawStrings.{front-closed, front-unclosed}
+use Rattle.jiter_steps.proofs.Calls.RawStrings.{front-closed, front-unclosed}
 use Rattle.jiter_steps.proofs.raw_string.raw_string_front_at.Goals as goal
 
 pub returns-in-None-clause-value : goal.returns-in-None-clause-value

@@ -1,6 +1,6 @@
 use Rattle.std.proofs.Common.{◌+◌, ap}
 use Rattle.jiter_steps.specs.Answer.{seen_as}
-use Rattle.jiter_steps.proofs.RawStrings.{raw-closed}
+use Rattle.jiter_steps.proofs.Calls.RawStrings.{raw-closed}
 use Rattle.jiter_steps.proofs.raw_string.string_end.Goals as goal
 
 pub returns-in-Some-eq34-clause-value : goal.returns-in-Some-eq34-clause-value

@@ -3,7 +3,7 @@ use Rattle.jiter_steps.specs.Answer.{ends}
 use Rattle.jiter_steps.specs.Frames.{value_from}
 use Rattle.jiter_steps.specs.Read.{done}
 use Rattle.jiter_steps.specs.Skip.{frame_of, open_frames, Continues}
-use Rattle.jiter_steps.proofs.Skipping.{first_inside-is, continues-along}
+use Rattle.jiter_steps.proofs.Calls.Skipping.{first_inside-is, continues-along}
 use Rattle.jiter_steps.proofs.skip.begin.Goals as goal
 
 pub returns-in-Ok-true-clause-value : goal.returns-in-Ok-true-clause-value

@@ -1,6 +1,6 @@
 use Rattle.std.proofs.Common.{◌∙◌, arith}
 use Rattle.jiter_steps.specs.Skip.{open_frames}
-use Rattle.jiter_steps.proofs.Skipping.{value_from-is, fault-passes}
+use Rattle.jiter_steps.proofs.Calls.Skipping.{value_from-is, fault-passes}
 use Rattle.jiter_steps.proofs.skip.begin_value.Goals as goal
 
 pub returns-in-Ok : goal.returns-in-Ok

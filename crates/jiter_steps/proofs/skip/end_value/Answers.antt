@@ -2,7 +2,7 @@ use Rattle.std.proofs.Common.{◌<◌, ◌∙◌, sym, ap, subst, arith, length}
 use Rattle.jiter_steps.specs.Answer.{ends}
 use Rattle.jiter_steps.specs.Frames.{value_from}
 use Rattle.jiter_steps.specs.Read.{done}
-use Rattle.jiter_steps.proofs.Skipping.{innermost-led, open_frames-innermost}
+use Rattle.jiter_steps.proofs.Calls.Skipping.{innermost-led, open_frames-innermost}
 use Rattle.jiter_steps.proofs.skip.end_value.Goals as goal
 
 pub returns-in-Ok-true-clause-value : goal.returns-in-Ok-true-clause-value

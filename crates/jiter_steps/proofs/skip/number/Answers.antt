@@ -1,6 +1,6 @@
 use Rattle.std.proofs.Common.{◌∙◌, ap}
 use Rattle.jiter_steps.specs.Read.{scalar_at}
-use Rattle.jiter_steps.proofs.Ends.{number_at-end}
+use Rattle.jiter_steps.proofs.Calls.Skipping.{number_at-end}
 use Rattle.jiter_steps.proofs.skip.number.Goals as goal
 
 pub returns-in-Ok-clause-value : goal.returns-in-Ok-clause-value

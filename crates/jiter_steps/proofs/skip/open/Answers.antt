@@ -2,7 +2,7 @@ use Rattle.std.proofs.Common.{◌<◌, ◌∙◌, ◌∷◌, length, ap, sym, ar
 use Rattle.jiter_steps.specs.Answer.{ends}
 use Rattle.jiter_steps.specs.Frames.{value_from}
 use Rattle.jiter_steps.specs.Skip.{frame_of, open_frames}
-use Rattle.jiter_steps.proofs.Skipping.{value_from-limit, length-open_frames, open_frames-opens}
+use Rattle.jiter_steps.proofs.Calls.Skipping.{value_from-limit, length-open_frames, open_frames-opens}
 use Rattle.jiter_steps.proofs.skip.open.Goals as goal
 
 pub returns-then-nest-eq-NESTING_LIMIT : goal.returns-then-nest-eq-NESTING_LIMIT

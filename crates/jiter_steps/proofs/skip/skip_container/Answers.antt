@@ -1,6 +1,6 @@
 use Rattle.std.proofs.Common.{refl, sym, arith}
 use Rattle.jiter_steps.specs.Answer.{ends}
-use Rattle.jiter_steps.proofs.Resumed.{value_in-room}
+use Rattle.jiter_steps.proofs.Calls.Resumed.{value_in-room}
 use Rattle.jiter_steps.proofs.skip.skip_container.Goals as goal
 
 pub skipping-init : goal.skipping-init

@@ -1,7 +1,7 @@
 use Rattle.std.proofs.Common.{take, arith}
 use Rattle.std.specs.Char.{encode_utf8}
 use Rattle.jiter_steps.specs.StringDecoder.{stop_view}
-use Rattle.jiter_steps.proofs.PlainRuns.{decode_more, decode_over}
+use Rattle.jiter_steps.proofs.Calls.PlainRuns.{decode_more, decode_over}
 use Rattle.jiter_steps.proofs.string_decoder.decode.Goals as goal
 
 pub loop-to-smaller : goal.loop-to-smaller

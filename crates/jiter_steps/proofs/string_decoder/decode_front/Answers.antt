@@ -1,5 +1,5 @@
 use Rattle.std.proofs.Common.{◌∙◌, refl, sym, ap, take}
-use Rattle.jiter_steps.proofs.FrontSteps.{front-closed, front-wrong, front-unclosed, front-cut}
+use Rattle.jiter_steps.proofs.Calls.FrontSteps.{front-closed, front-wrong, front-unclosed, front-cut}
 use Rattle.jiter_steps.proofs.string_decoder.decode_front.Goals as goal
 
 pub returns-in-Ok-default-Closed : goal.returns-in-Ok-default-Closed

@@ -1,6 +1,6 @@
 use Rattle.std.proofs.Common.{◌+◌, ◌∙◌, refl, sym, ap, take}
-use Rattle.jiter_steps.proofs.DecodeSteps.{at_stop}
-use Rattle.jiter_steps.proofs.StringAnswers.{string-closed}
+use Rattle.jiter_steps.proofs.Calls.DecodeSteps.{at_stop}
+use Rattle.jiter_steps.proofs.Calls.StringAnswers.{string-closed}
 use Rattle.jiter_steps.proofs.string_decoder.decode_text.Goals as goal
 
 pub returns-in-Ok-default-Closed : goal.returns-in-Ok-default-Closed

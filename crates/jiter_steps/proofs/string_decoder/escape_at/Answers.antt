@@ -3,7 +3,7 @@ use Rattle.std.specs.Prelude.{Some}
 use Rattle.std.proofs.lemmas.Option.{slice_get-get_or}
 use Rattle.std.specs.Char.{encode_utf8}
 use Rattle.jiter_steps.specs.StringReading.{part}
-use Rattle.jiter_steps.proofs.EscapesAtOnce.{place_at-unit, place_at-letter}
+use Rattle.jiter_steps.proofs.Calls.DecodeSteps.{place_at-unit, place_at-letter}
 use Rattle.jiter_steps.proofs.string_decoder.escape_at.Goals as goal
 
 pub returns-then-letter-eq117 : goal.returns-then-letter-eq117

@@ -1,5 +1,5 @@
 use Rattle.std.proofs.Common.{◌∙◌}
-use Rattle.jiter_steps.proofs.StringAnswers.{string-advances, string-none, string-quote, string-control}
+use Rattle.jiter_steps.proofs.Calls.StringAnswers.{string-advances, string-none, string-quote, string-control}
 use Rattle.jiter_steps.proofs.string_decoder.string_at.Goals as goal
 
 pub returns-in-None-clause-value : goal.returns-in-None-clause-value

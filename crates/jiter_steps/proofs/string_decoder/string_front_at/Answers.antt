@@ -3,7 +3,7 @@ use Rattle.std.specs.Prelude.{slice_get, slice_range, None}
 use Rattle.jiter_scan.specs.Scan.{scan_stop}
 use Rattle.jiter_scan.proofs.Standing.{get-none}
 use Rattle.jiter_steps.specs.StringReading.{valid_front, string_at, kept}
-use Rattle.jiter_steps.proofs.FrontSteps.{front-advances, front-none, front-quote, front-control}
+use Rattle.jiter_steps.proofs.Calls.FrontSteps.{front-advances, front-none, front-quote, front-control}
 use Rattle.jiter_steps.proofs.string_decoder.string_front_at.Goals as goal
 
 -- a string that the end of the input cuts among its plain bytes

@@ -2,7 +2,7 @@ use Rattle.std.proofs.Common.{◌≡◌, ◌-◌, ◌∙◌, sym, ap, arith, len
 use Rattle.std.proofs.lemmas.Result.{IfOk-weaker}
 use Rattle.jiter_scan.specs.Kind.{fault_kind}
 use Rattle.jiter_steps.specs.declared.parse.Shape.TheVariants as shape
-use Rattle.jiter_steps.proofs.Resumed.{resume-fault}
+use Rattle.jiter_steps.proofs.Calls.Resumed.{resume-fault}
 use Rattle.jiter_value.specs.Settings.{forgives, rules}
 use Rattle.jiter_value.specs.Size.{frames_size, inside_size_in}
 use Rattle.jiter_value.specs.Stacks.{frames}

@@ -1,4 +1,4 @@
-use Rattle.jiter_steps.proofs.Instances.{literal_at-within}
+use Rattle.jiter_steps.proofs.Reading.Instances.{literal_at-within}
 use Rattle.jiter.proofs.Refusals.{reading-within, refusal-read}
 use Rattle.jiter.proofs.jiter.Jiter.literal.Goals.{in-Ok, in-Err}
 use Rattle.jiter.proofs.jiter.Jiter.literal.Goals as goal

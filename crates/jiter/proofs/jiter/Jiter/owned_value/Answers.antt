@@ -1,5 +1,5 @@
 use Rattle.std.proofs.Common.{sym, subst}
-use Rattle.jiter_steps.proofs.Instances.{read_at-within}
+use Rattle.jiter_steps.proofs.Reading.Instances.{read_at-within}
 use Rattle.jiter_value.specs.Value.{view}
 use Rattle.jiter.proofs.Refusals.{IsInside, index-parser, index-error, owned-within}
 use Rattle.jiter.proofs.jiter.Jiter.owned_value.Goals.{in-Ok, in-Err}

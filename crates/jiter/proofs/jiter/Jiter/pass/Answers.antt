@@ -1,5 +1,5 @@
 use Rattle.std.proofs.Common.{sym, subst}
-use Rattle.jiter_steps.proofs.Instances.{skip_at-within}
+use Rattle.jiter_steps.proofs.Reading.Instances.{skip_at-within}
 use Rattle.jiter.proofs.Refusals.{IsInside, refusal-read}
 use Rattle.jiter.proofs.jiter.Jiter.pass.Goals.{in-Ok, in-Err}
 use Rattle.jiter.proofs.jiter.Jiter.pass.Goals as goal

@@ -1,5 +1,5 @@
 use Rattle.std.proofs.Common.{sym, subst}
-use Rattle.jiter_steps.proofs.StringLaws.{string_at-within}
+use Rattle.jiter_steps.proofs.Grammar.StringLaws.{string_at-within}
 use Rattle.jiter.proofs.Refusals.{IsInside, reading-within, refusal-read}
 use Rattle.jiter.proofs.jiter.Jiter.raw_string.Goals.{in-Ok, in-Err}
 use Rattle.jiter.proofs.jiter.Jiter.raw_string.Goals as goal

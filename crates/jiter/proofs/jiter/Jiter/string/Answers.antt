@@ -1,5 +1,5 @@
 use Rattle.std.proofs.Common.{◌∙◌, sym, subst}
-use Rattle.jiter_steps.proofs.StringLaws.{string_at-within}
+use Rattle.jiter_steps.proofs.Grammar.StringLaws.{string_at-within}
 use Rattle.jiter_steps.specs.StringDecoder.{text_view}
 use Rattle.jiter.proofs.Refusals.{IsInside, reading-within, index-parser, index-error}
 use Rattle.jiter.proofs.jiter.Jiter.string.Goals.{in-Ok, in-Err}

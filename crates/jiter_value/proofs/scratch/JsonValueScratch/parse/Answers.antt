@@ -1,5 +1,5 @@
 use Rattle.std.proofs.Common.{rules}
-use Rattle.jiter_steps.proofs.Documents.{one_node}
+use Rattle.jiter_steps.proofs.Grammar.Documents.{one_node}
 use Rattle.jiter_value.proofs.ParsedDocuments.{answer-off, parse-found, parse-accepts, parse-cut, parse-dead}
 use Rattle.jiter_value.proofs.ParsedDocuments.{parse-alive, parse-early}
 use Rattle.jiter_value.proofs.scratch.JsonValueScratch.parse.Goals as goal

@@ -3,7 +3,7 @@ use Rattle.std.specs.Prelude.{Some, option_map}
 use Rattle.jiter_steps.specs.Answer.{answer, answer_in}
 use Rattle.jiter_steps.specs.Cut.{cut}
 use Rattle.jiter_steps.specs.Node.{value_of}
-use Rattle.jiter_steps.proofs.Blanks.{past_blanks-bound}
+use Rattle.jiter_steps.proofs.Grammar.Blanks.{past_blanks-bound}
 use Rattle.jiter_value.specs.Owned.{owned_tree}
 use Rattle.jiter_value.proofs.OwnedAnswers.{owned-answers, owned-found, owned-tree, owned-err, owned-early}
 use Rattle.jiter_value.proofs.OwnedAnswers.{owned-memory}

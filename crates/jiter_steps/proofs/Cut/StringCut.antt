@@ -1,0 +1,194 @@
+-- A string that is cut, where it is kept: the characters of the pieces that end before the cut.
+use Rattle.std.proofs.Common.{◌≡◌, ◌⊎◌, inl, inr, ℕ, suc, ◌+◌, ◌<◌, ◌≤◌, true, false, List, [], ◌∷◌, ◌++◌, length}
+use Rattle.std.proofs.Common.{take, refl, sym, ap, ◌∙◌, subst, arith, append-nil, append_assoc}
+use Rattle.std.specs.Prelude.{slice_get, Some}
+use Rattle.std.specs.Char.{encode_utf8}
+use Rattle.std.specs.Str.{all_scalars, IsUtf8}
+use Rattle.std.proofs.lemmas.Bool.{le-leb, lt-leb, cases_lt, lt-ltb}
+use Rattle.std.proofs.lemmas.Option.{slice_get_past}
+use Rattle.jiter_scan.specs.Stands.{Stands}
+use Rattle.jiter_steps.specs.Piece.{IsPlain, IsEscape, Piece, SpellsChar, SpellsPieces, SpellsString, characters}
+use Rattle.jiter_steps.specs.Piece.{text_of, pieces_to}
+use Rattle.jiter_scan.specs.Scanned.{taken, failed}
+use Rattle.jiter_steps.specs.StringReading.{Stop, unclosed, cut, over, few, hex_digits_at, behind_high, place_at}
+use Rattle.jiter_steps.specs.StringReading.{Body, before, body_at, kept, valid_front, content_at, string_at, whole}
+use Rattle.jiter_steps.specs.StringReading.{raw}
+use Rattle.jiter_steps.proofs.Grammar.Utf8Shape.{lead}
+use Rattle.jiter_scan.proofs.Standing.{stands-split}
+use Rattle.jiter_steps.proofs.Cut.Fronts.{front-length, front-get, front-stands}
+use Rattle.jiter_steps.proofs.Fault.SameSpelling.{string-too}
+use Rattle.jiter_steps.proofs.Grammar.Places.{UnitAt}
+use Rattle.jiter_steps.proofs.Reading.Bodies.{body_at-place_by, place_by-end}
+use Rattle.jiter_steps.proofs.Grammar.StringMarks.{EndOf}
+use Rattle.jiter_steps.proofs.Grammar.StringComplete.{ArePrinted, plain-printed, bytes-read, char-read}
+use Rattle.jiter_steps.proofs.Grammar.StringComplete.{place_by-backslash, place_by-number, unit-at}
+use Rattle.jiter_scan.specs.Kind.{eof_string}
+use Rattle.jiter_steps.proofs.Cut.CutCharacters.{IsFront, tail-unfinished, tail-taken}
+
+module _ (t : List ℕ) (k : ℕ) (within : k ≤ length t) where
+  abbrev u : List ℕ
+  u = take k t
+
+  pub long : length u ≡ k
+  long = front-length t k within
+
+  pub same : (x b : ℕ) → x < k → slice_get t x ≡ Some b → slice_get u x ≡ Some b
+  same x b h e = front-get t k within x b h e
+
+  char-cut : (i j c : ℕ) → SpellsChar t i j c → j ≤ k → SpellsChar u i j c
+  char-cut i j c s l =
+      record { bytes = s.bytes; stands = front-stands t k within i j s.bytes s.stands l; piece = s.piece }
+
+  -- of these pieces, which begin at i, those before k are read, and a front of the next one's bytes
+  record CutAt (i : ℕ) (ps : List Piece) : Type 0 where
+    rest : List ℕ
+    front : IsFront rest
+    bytes : (body_at u i).bytes ≡ text_of (pieces_to k ps) ++ rest
+    stop : ((body_at u i).stop ≡ unclosed) ⊎ ((body_at u i).stop ≡ cut)
+    scalars : all_scalars (characters (pieces_to k ps)) ≡ true
+
+  -- the input ends at k, within or before a character
+  abbrev EndsAt : ℕ → Type 0
+  EndsAt i = CutAt i []
+
+  any-front : IsFront []
+  any-front = record {
+    c = 65;
+    more = encode_utf8 65;
+    scalar = refl;
+    is = refl;
+    some = let l = lead 65 refl in subst (λ x. 0 < length x) (sym l.is) (omega arith);
+  }
+
+  ends-at : (i : ℕ) (s : Stop) → place_at u i ≡ over s → (s ≡ unclosed) ⊎ (s ≡ cut) → EndsAt i
+  ends-at i s e h =
+      let b = body_at-place_by u i (over s) e in
+      record { rest = []; front = any-front; bytes = ap (λ (x : Body). x.bytes) b; stop = rw b h; scalars = refl }
+
+  ends-here : (i : ℕ) → k ≤ i → EndsAt i
+  ends-here i h = ends-at i unclosed (place_by-end u i (omega (arith, long))) (inl refl)
+
+  -- a plain character's front
+  front-split : (i j : ℕ) (w : List ℕ) → Stands t i j w → i ≤ k → k < j → (v : List ℕ) × (more : List ℕ)
+      × (w ≡ v ++ more) × Stands u i k v × (0 < length more)
+  front-split i j [] h l m = absurd (omega (arith, h))
+  front-split i j (b ∷ w) h l m = elim (cases_lt i k) [
+    | inl lt ↦
+        let r = front-split (i + 1) j w h.1 (omega arith) m in
+        (b ∷ r.0, r.1, ap (λ x. b ∷ x) r.2, (same i b lt h.0, r.3), r.4)
+    | inr ge ↦ ([], b ∷ w, refl, (let e : i ≡ k = omega arith in e), (let e : 0 < suc (length w) = omega arith in e))
+  ]
+
+  printed-front : (v more : List ℕ) → ArePrinted (v ++ more) → ArePrinted v
+  printed-front [] more h = tt
+  printed-front (b ∷ v) more h = (h.0, printed-front v more h.1)
+
+  plain-ends : (i j c : ℕ) (p : List ℕ) → IsPlain p c → Stands t i j p → i ≤ k → k < j → EndsAt i
+  plain-ends i j c p is s l m =
+      let r = front-split i j (encode_utf8 c) (subst (Stands t i j) is.is s) l m in
+      let printed = printed-front r.0 r.1 (subst ArePrinted r.2 (plain-printed p c is)) in
+      let e = body_at-place_by u k (over unclosed) (place_by-end u k (omega (arith, long))) in
+      let both = bytes-read u i k r.0 printed r.3 ∙ ap (before r.0 false) e in
+      record {
+        rest = r.0;
+        front = record { c = c; more = r.1; scalar = is.scalar; is = r.2; some = r.4 };
+        bytes = ap (λ (x : Body). x.bytes) both ∙ append-nil r.0;
+        stop = rw both (inl refl);
+        scalars = refl;
+      }
+
+  digits-few : (x : ℕ) → k < x + 4 → hex_digits_at u x ≡ few
+  digits-few x h = rw (lt-ltb (length u) (x + 4) (omega (arith, long)))
+
+  -- an escape's front
+  unit-ends : (i e n : ℕ) → UnitAt t i e n → i < k → k < i + 6 → place_at u i ≡ over cut
+  unit-ends i e n x l m = rw (place_by-backslash u i (same i 92 l x.slash)) (elim (cases_lt (i + 1) k) [
+    | inl lt ↦ rw (same (i + 1) 117 lt x.letter, digits-few (i + 1 + 1) (omega arith))
+    | inr ge ↦ rw (slice_get_past u (i + 1) (omega (arith, long)))
+  ])
+
+  behind_high-ends : (o j high low : ℕ) → UnitAt t o j low → o ≤ k → k < o + 6
+      → behind_high u high o (slice_get u o) ≡ over cut
+  behind_high-ends o j high low y ge m = elim (cases_lt o k) [
+    | inr none ↦ rw (slice_get_past u o (omega (arith, long)))
+    | inl some ↦ rw (same o 92 some y.slash) (elim (cases_lt (o + 1) k) [
+      | inr none ↦ rw (slice_get_past u (o + 1) (omega (arith, long)))
+      | inl more ↦ rw (same (o + 1) 117 more y.letter, digits-few (o + 1 + 1) (omega arith))
+    ])
+  ]
+
+  escape-ends : (i j c : ℕ) (p : List ℕ) → IsEscape p c → Stands t i j p → i < k → k < j → place_at u i ≡ over cut
+  escape-ends i j c p (inl is) s l m =
+      let h : Stands t i j (92 ∷ is.sign ∷ []) = subst (Stands t i j) is.is s in
+      rw (place_by-backslash u i (same i 92 l h.0), slice_get_past u (i + 1) (omega (arith, long, h.1.1)))
+  escape-ends i j c p (inr (inl is)) s l m =
+      let x = unit-at t i j c p is.0 s in
+      unit-ends i j c x l (omega (arith, x.ends))
+  escape-ends i j c p (inr (inr is)) s l m =
+      let h = stands-split t i j is.front is.back (subst (Stands t i j) is.is s) in
+      let x = unit-at t i h.0 is.high is.front is.first h.1 in
+      let o = i + 1 + 1 + 4 in
+      let at : h.0 ≡ o = omega (arith, x.ends) in
+      let y = unit-at t o j is.low is.back is.second (subst (λ o. Stands t o j is.back) at h.2) in
+      elim (cases_lt k o) [
+        | inl lt ↦ unit-ends i h.0 is.high x l (omega arith)
+        | inr ge ↦
+            let first = front-stands t k within i h.0 is.front h.1 (omega (arith, at)) in
+            let z = unit-at u i h.0 is.high is.front is.first first in
+            rw (place_by-number u i h.0 is.high z, is.is_high)
+            (behind_high-ends o j is.high is.low y ge (omega (arith, y.ends)))
+      ]
+
+  char-ends : (i j c : ℕ) → SpellsChar t i j c → i ≤ k → k < j → EndsAt i
+  char-ends i j c s l m = elim s.piece [
+    | inl p ↦ plain-ends i j c s.bytes p s.stands l m
+    | inr x ↦ elim (cases_lt i k) [
+      | inl lt ↦ ends-at i cut (escape-ends i j c s.bytes x s.stands lt m) (inr refl)
+      | inr ge ↦ ends-here i ge
+    ]
+  ]
+
+  pieces-cut : (ps : List Piece) (i q : ℕ) → SpellsPieces t i ps q → i ≤ k → k ≤ q → CutAt i ps
+  pieces-cut [] i q s l m = ends-here i (omega (arith, s))
+  pieces-cut (p ∷ ps) i q s l m = elim (cases_lt k p.end) [
+    | inl lt ↦
+        let e = char-ends i p.end p.character s.0 l lt in
+        let none = lt-leb p.end k lt in
+        record { rest = e.rest; front = e.front; bytes = rw none e.bytes; stop = e.stop; scalars = rw none }
+    | inr ge ↦
+        let x = char-read u i p.end p.character (char-cut i p.end p.character s.0 ge) in
+        let r = pieces-cut ps p.end q s.1 ge m in
+        let some = le-leb p.end k ge in
+        record {
+          rest = r.rest;
+          front = r.front;
+          bytes = rw (some, x.1, r.bytes, append_assoc);
+          stop = rw x.1 r.stop;
+          scalars = rw (some, x.2, r.scalars);
+        }
+  ]
+
+  pub kept-cut : (i e : ℕ) (ps : List Piece) → SpellsString t i ps e → i < k → k < e
+      → EndOf u (body_at u (i + 1)).stop k
+      × (string_at kept u i ≡ taken (record { owned = (body_at u (i + 1)).owned; bytes = text_of (pieces_to k ps) }) k)
+  unfolding content_at
+  kept-cut i e ps s l m =
+      let c = pieces-cut ps (i + 1) s.close s.spelled (omega arith) (omega (arith, s.ends)) in
+      let b = body_at u (i + 1) in
+      let text = text_of (pieces_to k ps) in
+      let utf8 : IsUtf8 text = (characters (pieces_to k ps), (c.scalars, refl)) in
+      let kept_so : valid_front (i + 1) b.owned b.bytes (length u)
+      ≡ taken (record { owned = b.owned; bytes = text }) k =
+      rw (c.bytes, tail-unfinished text c.rest utf8 c.front, tail-taken text c.rest utf8 c.front, long) in
+      elim c.stop [ inl x ↦ rw x (long, kept_so) | inr x ↦ rw x (long, kept_so) ]
+
+  -- and where it isn't kept, the end of input is the fault
+  pub whole-cut : (i e : ℕ) (ps : List Piece) → SpellsString t i ps e → i < k → k < e
+      → (string_at whole u i ≡ failed eof_string k) × (string_at raw u i ≡ failed eof_string k)
+  unfolding content_at
+  whole-cut i e ps s l m =
+      let c = pieces-cut ps (i + 1) s.close s.spelled (omega arith) (omega (arith, s.ends)) in
+      elim c.stop [ inl x ↦ rw (x, long) (refl, refl) | inr x ↦ rw (x, long) (refl, refl) ]
+
+  pub string-still : (i e : ℕ) (ps : List Piece) → SpellsString t i ps e → e ≤ k → SpellsString u i ps e
+  string-still i e ps s l = string-too t u k same i e ps l s

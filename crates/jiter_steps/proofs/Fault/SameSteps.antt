@@ -1,0 +1,100 @@
+-- The steps of containers in two texts with the same bytes before a place.
+use Rattle.std.proofs.Common.{◌≡◌, ℕ, ◌+◌, ◌<◌, ◌==◌, List, length, refl, sym, ap, ◌∙◌, arith}
+use Rattle.std.specs.Prelude.{slice_get, Option, Some, None}
+use Rattle.std.proofs.lemmas.Bool.{true≢false}
+use Rattle.std.proofs.lemmas.Option.{slice_get_within}
+use Rattle.jiter_scan.specs.Word.{Extent}
+use Rattle.jiter_steps.specs.Blank.{past_blanks}
+use Rattle.jiter_steps.specs.Step.{Step, more, closed, stuck, step, closer_of, begins_part, end_kind_of}
+use Rattle.jiter_steps.specs.Step.{container_first, container_comma, container_step, colon, value_first, object_colon}
+use Rattle.jiter_steps.specs.declared.parse.Shape.{Shape}
+use Rattle.jiter_steps.proofs.Fault.SameSpelling.{SameBefore}
+use Rattle.jiter_steps.proofs.Fault.SameRuns.{IsOfByte, past_blanks-same}
+use Rattle.jiter_steps.proofs.Fault.SameNumbers.{Shown, then-same}
+use Rattle.jiter_steps.proofs.Reading.BothShapes.{end_kind-early}
+use Rattle.jiter_steps.proofs.Grammar.Blanks.{past_blanks-after}
+use Rattle.jiter_steps.proofs.Reading.Bounds.{either, both}
+
+-- a place before m, or a fault of a byte there
+abbrev pub ShownStep : ℕ → Step → Type 0
+ShownStep m (more j) = j < m
+ShownStep m (closed e) = e < m
+ShownStep m (stuck k j) = (j < m) × IsOfByte k
+
+module _ (t u : List ℕ) (m : ℕ) (same : SameBefore t u m) where
+  -- what is shown of a step from i is what it is in the other text
+  abbrev pub SameStep : {A : Type 0} → (A → Type 0) → ℕ → A → A → Type 0
+  SameStep ShownOf i x y = ShownOf x → (i < m) × (i < length t) × (y ≡ x)
+
+  -- so at the byte behind the blanks
+  abbrev SameHere : {A : Type 0} → (A → Type 0) → ℕ → A → A → Type 0
+  SameHere ShownOf j x y = ShownOf x → (j < m) × (y ≡ x)
+
+  step-same : {A : Type 0} (ShownOf : A → Type 0) (f g : ℕ → Option ℕ → A) → ((j : ℕ) → ShownOf (f j None) → ⊥)
+      → ((j c : ℕ) → j < length t → SameHere ShownOf j (f j (Some c)) (g j (Some c)))
+      → (i : ℕ) → SameStep ShownOf i (step t f i) (step u g i)
+  step-same ShownOf f g none some i = by (slice_get t (past_blanks t i)) refl where
+    by : (o : Option ℕ) → slice_get t (past_blanks t i) ≡ o → SameStep ShownOf i (f (past_blanks t i) o) (step u g i)
+    by None e s = absurd (none (past_blanks t i) s)
+    by (Some c) e s =
+        let lt = slice_get_within t (past_blanks t i) c e in
+        let after = past_blanks-after t i in
+        let r = some (past_blanks t i) c lt s in
+        let place = past_blanks-same t u m same i (past_blanks t i) c refl e r.0 in (
+          omega (arith, r.0),
+          omega arith,
+          ap (λ k. g k (slice_get u k)) place ∙ ap (g (past_blanks t i)) (same (past_blanks t i) c r.0 e) ∙ r.1,
+        )
+
+  -- a row that does not ask the text
+  row-same : {A : Type 0} (ShownOf : A → Type 0) (f : ℕ → Option ℕ → A) → ((j : ℕ) → ShownOf (f j None) → ⊥)
+      → ((j c : ℕ) → ShownOf (f j (Some c)) → j < m)
+      → (i : ℕ) → SameStep ShownOf i (step t f i) (step u f i)
+  row-same ShownOf f none some = step-same ShownOf f f none (λ j c lt s. (some j c s, refl))
+
+  -- between the parts of a container
+  abbrev At : ℕ → Step → Type 0
+  At j s = ShownStep m s → j < m
+
+  module _ (b : Shape) where
+    end-shown : (j : ℕ) → ShownStep m (stuck (end_kind_of b) j) → ⊥
+    end-shown j s = true≢false (sym (end_kind-early b) ∙ s.1.0)
+
+    -- behind the opening bracket
+    pub first-same : (i : ℕ) → SameStep (ShownStep m) i (step t (container_first b) i) (step u (container_first b) i)
+    first-same =
+        row-same (ShownStep m) (container_first b) end-shown
+        (λ j c. either (At j) (begins_part b c) _ _ (λ s. s)
+        (either (At j) (c == closer_of b) _ _ (λ s. omega arith) (λ s. s.0)))
+
+    -- behind a comma
+    comma-same : (i : ℕ) → SameStep (ShownStep m) i (step t (container_comma b) i) (step u (container_comma b) i)
+    comma-same =
+        row-same (ShownStep m) (container_comma b) (λ j s. true≢false s.1.0)
+        (λ j c. either (At j) (begins_part b c) _ _ (λ s. s)
+        (either (At j) (c == closer_of b) _ _ (λ s. s.0) (λ s. s.0)))
+
+    -- behind a part
+    part-same : (j c : ℕ) → SameHere (ShownStep m) j (container_step b t j (Some c)) (container_step b u j (Some c))
+    part-same j c =
+        both (SameHere (ShownStep m) j) (c == closer_of b) _ _ _ _ (λ s. (omega arith, refl))
+        (both (SameHere (ShownStep m) j) (c == 44) _ _ _ _
+        (λ s. let r = comma-same (j + 1) s in (omega (arith, r.0), r.2)) (λ s. (s.0, refl)))
+
+    pub next-same : (i : ℕ)
+        → SameStep (ShownStep m) i (step t (container_step b t) i) (step u (container_step b u) i)
+    next-same = step-same (ShownStep m) (container_step b t) (container_step b u) end-shown (λ j c lt. part-same j c)
+
+  -- behind keys
+  colon-same : (i : ℕ) → SameStep (Shown t m) i (step t colon i) (step u colon i)
+  colon-same =
+      row-same (Shown t m) colon (λ j s. true≢false s.1.0)
+      (λ j c. either (λ (x : Extent). Shown t m x → j < m) (c == 58) _ _ (λ s. omega (arith, s.0)) (λ s. s.0))
+
+  value_first-same : (i : ℕ) → SameStep (Shown t m) i (step t value_first i) (step u value_first i)
+  value_first-same = row-same (Shown t m) value_first (λ j s. true≢false s.1.0) (λ j c s. s.0)
+
+  pub object_colon-same : (i : ℕ) → SameStep (Shown t m) i (object_colon t i) (object_colon u i)
+  object_colon-same i =
+      then-same t u m same i (step t colon i) (step u colon i) (step t value_first) (step u value_first) (colon-same i)
+      value_first-same

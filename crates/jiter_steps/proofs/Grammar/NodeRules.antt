@@ -1,0 +1,48 @@
+-- The reading that builds the derivation itself.
+use Rattle.std.specs.Prelude.{ℕ, ◌+◌, Bool, List, [], ◌∷◌, true, false, length}
+use Rattle.std.specs.Str.{chars}
+use Rattle.jiter_scan.specs.NumberReading.{number_at}
+use Rattle.jiter_steps.specs.Literal.{literal_at}
+use Rattle.jiter_steps.specs.StringReading.{whole, string_at, Place, part, over, place_at}
+use Rattle.jiter_steps.specs.Tree.{Text}
+use Rattle.jiter_steps.specs.Node.{Key, Node, Nodes, no_nodes, node, NodeMembers, no_members, member}
+use Rattle.jiter_steps.specs.Node as grammar
+use Rattle.jiter_steps.specs.Read.{Rules}
+use Rattle.jiter_steps.specs.Answer.{seen_as, nothing_forgiven}
+use Rattle.std.specs.Char.{encode_utf8}
+use Rattle.jiter_steps.specs.Piece.{Piece}
+
+-- The pieces of a string that was read, from its characters.
+-- where the piece at i of the character c ends
+abbrev pub end_of : ℕ → ℕ → Place → ℕ
+end_of i c (part bytes true j) = j
+end_of i c (part bytes false j) = i + length (encode_utf8 c)
+end_of i c (over s) = i
+
+-- the pieces from i on that stand for these characters
+abbrev pub pieces_from : List ℕ → ℕ → List ℕ → List Piece
+pieces_from t i [] = []
+pieces_from t i (c ∷ cs) =
+    record { character = c; end = end_of i c (place_at t i) } ∷ pieces_from t (end_of i c (place_at t i)) cs
+
+abbrev pub nodes_of : List Node → Nodes
+nodes_of [] = no_nodes
+nodes_of (n ∷ ns) = node n (nodes_of ns)
+
+abbrev pub node_members_of : List (Key × Node) → NodeMembers
+node_members_of [] = no_members
+node_members_of (m ∷ ms) = member m.0 m.1 (node_members_of ms)
+
+abbrev pub key_of : List ℕ → ℕ → Text → ℕ → Key
+key_of t i s e = record { pieces = pieces_from t (i + 1) (chars s.bytes); begin = i; end = e }
+
+abbrev pub nodes : Bool → Rules Key Node
+nodes names = record {
+  forgives = nothing_forgiven;
+  literal = λ t l i. seen_as (λ u e. grammar.literal l i e) (literal_at t l i);
+  number = λ t i. seen_as (λ n e. grammar.number i e) (number_at names t i);
+  text = λ t i. seen_as (λ s e. grammar.string (pieces_from t (i + 1) (chars s.bytes)) i e) (string_at whole t i);
+  key = λ t i. seen_as (key_of t i) (string_at whole t i);
+  array = λ b e items. grammar.array b e (nodes_of items);
+  object = λ b e members. grammar.object b e (node_members_of members);
+}

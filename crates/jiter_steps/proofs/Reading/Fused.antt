@@ -1,0 +1,189 @@
+-- What is built of one reading of a text maps to what is built of another.
+use Rattle.std.proofs.Common.{◌≡◌, ℕ, zero, suc, ◌+◌, ◌<◌, cond, List, [], ◌∷◌, ◌++◌, length, map, refl, sym, ap, ◌∙◌}
+use Rattle.std.specs.Prelude.{slice_index, slice_get, Option, Some, None}
+use Rattle.std.proofs.lemmas.List.{map_push}
+use Rattle.jiter_scan.specs.Kind.{Kind}
+use Rattle.jiter_scan.specs.Scanned.{Scanned, taken, failed}
+use Rattle.jiter_scan.specs.Word.{Extent}
+use Rattle.jiter_steps.specs.Blank.{past_blanks}
+use Rattle.jiter_steps.specs.Literal.{start_of}
+use Rattle.jiter_steps.specs.Node.{nesting_limit}
+use Rattle.jiter_steps.specs.Step.{Step, more, closed, stuck, step, object_colon}
+use Rattle.jiter_steps.specs.Read.{Reading, done, fault, Rules, Container, scalar_at, with_key, behind_colon}
+use Rattle.jiter_steps.specs.Read.{behind_key, if_forgiven, follow, behind_part, parts_at, container_at, array_of}
+use Rattle.jiter_steps.specs.Read.{object_of, value_with, inside_at, value_at, if_last, to_end, if_begun}
+use Rattle.jiter_steps.specs.Read.{front_answer, whole_answer}
+use Rattle.jiter_steps.specs.declared.parse.Literal.{Literal}
+use Rattle.jiter_steps.specs.declared.parse.Start.{Start}
+use Rattle.jiter_steps.specs.declared.parse.Start.TheVariants as start
+use Rattle.jiter_steps.specs.declared.parse.Shape.TheVariants as shape
+use Rattle.jiter_steps.proofs.Reading.Bounds.{both}
+use Rattle.jiter_steps.proofs.Reading.FirstBytes.{begins-within, string-begins, GoesTo, BeginsAt, key-quote}
+use Rattle.jiter_steps.proofs.Reading.FirstBytes.{container_first-begins, container_step-begins}
+
+abbrev pub mapped : {A B : Type 0} → (A → B) → Reading A → Reading B
+mapped h (done a e) = done (h a) e
+mapped h (fault k i stop) = fault k i stop
+
+abbrev pub scanned_as : {A B : Type 0} → (A → B) → Scanned A → Scanned B
+scanned_as h (taken a e) = taken (h a) e
+scanned_as h (failed k i) = failed k i
+
+abbrev pub pair : {K L A B : Type 0} → (K → L) → (A → B) → K × A → L × B
+pair g h m = (g m.0, h m.1)
+
+abbrev pub pairs : {K L A B : Type 0} → (K → L) → (A → B) → List (K × A) → List (L × B)
+pairs g h ms = map (pair g h) ms
+
+-- g and h take what p gives in this text to what q gives, and both forgive the same
+pub record Leads {K L A B : Type 0} (p : Rules K A) (q : Rules L B) (g : K → L) (h : A → B) (t : List ℕ) : Type 0 where
+  pub forgives : (k : Kind) → p.forgives k ≡ q.forgives k
+  pub literal : (l : Literal) (i : ℕ) → i < length t → start_of (slice_index t i) ≡ start.Literal l
+      → scanned_as h (p.literal t l i) ≡ q.literal t l i
+  pub number : (i : ℕ) → i < length t → start_of (slice_index t i) ≡ start.Number
+      → scanned_as h (p.number t i) ≡ q.number t i
+  pub text : (i : ℕ) → slice_get t i ≡ Some 34 → scanned_as h (p.text t i) ≡ q.text t i
+  pub key : (i : ℕ) → slice_get t i ≡ Some 34 → scanned_as g (p.key t i) ≡ q.key t i
+  pub array : (b e : ℕ) (items : List A) → h (p.array b e items) ≡ q.array b e (map h items)
+  pub object : (b e : ℕ) (members : List (K × A)) → h (p.object b e members) ≡ q.object b e (pairs g h members)
+
+-- m takes the parts of c to those of d, and h what is built; both take the same steps, to where a part begins
+pub record Maps {P Q A B : Type 0} (c : Container P A) (d : Container Q B) (m : P → Q) (h : A → B) (t : List ℕ)
+    (Begins : ℕ → Type 0) : Type 0 where
+  pub first : (i : ℕ) → step t c.first i ≡ step t d.first i
+  pub next : (i : ℕ) → step t c.next i ≡ step t d.next i
+  pub first-begins : (i : ℕ) → GoesTo Begins (step t c.first i)
+  pub next-begins : (i : ℕ) → GoesTo Begins (step t c.next i)
+  pub part : (i : ℕ) → Begins i → mapped m (c.part i) ≡ d.part i
+  pub build : (e : ℕ) (parts : List P) → h (c.build e parts) ≡ d.build e (map m parts)
+
+module _ {K L A B : Type 0} (p : Rules K A) (q : Rules L B) (g : K → L) (h : A → B) (t : List ℕ)
+    (leads : Leads p q g h t) where
+  if_forgiven-mapped : (f : ℕ → A) (f' : ℕ → B) → ((e : ℕ) → h (f e) ≡ f' e) → (k : Kind) (i stop : ℕ)
+      → mapped h (if_forgiven p f k i stop) ≡ if_forgiven q f' k i stop
+  if_forgiven-mapped f f' same k i stop =
+      both (λ x y. mapped h x ≡ y) (p.forgives k) _ _ _ _ (ap (λ a. done a stop) (same stop)) refl
+      ∙ ap (λ y. cond y (done (f' stop) stop) (fault k i stop)) (leads.forgives k)
+
+  scalar-mapped : (i : ℕ) (x : Scanned A) → mapped h (scalar_at i x) ≡ scalar_at i (scanned_as h x)
+  scalar-mapped i (taken a e) = refl
+  scalar-mapped i (failed k j) = refl
+
+  -- containers
+  module _ {P Q : Type 0} (c : Container P A) (d : Container Q B) (m : P → Q) (Begins : ℕ → Type 0)
+      (maps : Maps c d m h t Begins) where
+    follow-mapped : (n : ℕ → Reading A) (n' : ℕ → Reading B) → ((j : ℕ) → Begins j → mapped h (n j) ≡ n' j)
+        → (parts : List P) (s : Step)
+        → GoesTo Begins s
+        → mapped h (follow p n (λ e. c.build e parts) s) ≡ follow q n' (λ e. d.build e (map m parts)) s
+    follow-mapped n n' goes parts (more j) b = goes j b
+    follow-mapped n n' goes parts (closed e) b = ap (λ a. done a e) (maps.build e parts)
+    follow-mapped n n' goes parts (stuck k j) b = if_forgiven-mapped _ _ (λ e. maps.build e parts) k j j
+
+    behind_part-mapped : (n : List P → ℕ → Reading A) (n' : List Q → ℕ → Reading B)
+        → ((parts : List P) (j : ℕ) → Begins j → mapped h (n parts j) ≡ n' (map m parts) j)
+        → (parts : List P) (x : Reading P)
+        → mapped h (behind_part p c t n parts x) ≡ behind_part q d t n' (map m parts) (mapped m x)
+    behind_part-mapped n n' goes parts (done a e) =
+        follow-mapped (n (parts ++ a ∷ [])) (n' (map m (parts ++ a ∷ []))) (goes (parts ++ a ∷ [])) (parts ++ a ∷ []) _
+        (maps.next-begins e)
+        ∙ ap (follow q (n' (map m (parts ++ a ∷ []))) (λ e. d.build e (map m (parts ++ a ∷ [])))) (maps.next e)
+        ∙ ap (λ l. follow q (n' l) (λ e. d.build e l) (step t d.next e)) (map_push m parts a)
+    behind_part-mapped n n' goes parts (fault k i stop) = if_forgiven-mapped _ _ (λ e. maps.build e parts) k i stop
+
+    parts_at-mapped : (n : ℕ) (parts : List P) (i : ℕ) → Begins i
+        → mapped h (parts_at p c t n parts i) ≡ parts_at q d t n (map m parts) i
+    unfolding parts_at
+    parts_at-mapped zero parts i b = refl
+    parts_at-mapped (suc n) parts i b =
+        behind_part-mapped (parts_at p c t n) (parts_at q d t n) (parts_at-mapped n) parts (c.part i)
+        ∙ ap (behind_part q d t (parts_at q d t n) (map m parts)) (maps.part i b)
+
+    container_at-mapped : (i : ℕ) → mapped h (container_at p c t i) ≡ container_at q d t i
+    container_at-mapped i =
+        follow-mapped (parts_at p c t (length t) []) (parts_at q d t (length t) [])
+        (parts_at-mapped (length t) []) [] _ (maps.first-begins (i + 1))
+        ∙ ap (follow q (parts_at q d t (length t) []) (λ e. d.build e [])) (maps.first (i + 1))
+
+  module _ (f : ℕ → Reading A) (f' : ℕ → Reading B) (same : (i : ℕ) → mapped h (f i) ≡ f' i) where
+    -- a member
+    with_key-mapped : (k : K) (x : Reading A) → mapped (pair g h) (with_key k x) ≡ with_key (g k) (mapped h x)
+    with_key-mapped k (done a e) = refl
+    with_key-mapped k (fault kind i stop) = refl
+
+    behind_colon-mapped : (k : K) (x : Extent) → mapped (pair g h) (behind_colon k f x) ≡ behind_colon (g k) f' x
+    behind_colon-mapped k (taken u j) = with_key-mapped k (f j) ∙ ap (with_key (g k)) (same j)
+    behind_colon-mapped k (failed kind j) = refl
+
+    behind_key-mapped : (i : ℕ) (x : Scanned K)
+        → mapped (pair g h) (behind_key f t i x) ≡ behind_key f' t i (scanned_as g x)
+    behind_key-mapped i (taken k e) = behind_colon-mapped k (object_colon t e)
+    behind_key-mapped i (failed kind j) = refl
+
+    array-maps : (i : ℕ) → Maps (array_of p f t i) (array_of q f' t i) h h t (BeginsAt shape.Array t)
+    array-maps i = record {
+      first = λ j. refl;
+      next = λ j. refl;
+      first-begins = container_first-begins shape.Array t;
+      next-begins = container_step-begins shape.Array t;
+      part = λ j b. same j;
+      build = leads.array i;
+    }
+
+    object-maps : (i : ℕ) → Maps (object_of p f t i) (object_of q f' t i) (pair g h) h t (BeginsAt shape.Object t)
+    object-maps i = record {
+      first = λ j. refl;
+      next = λ j. refl;
+      first-begins = container_first-begins shape.Object t;
+      next-begins = container_step-begins shape.Object t;
+      part = λ j h. behind_key-mapped j (p.key t j) ∙ ap (behind_key f' t j) (leads.key j (key-quote t j h));
+      build = leads.object i;
+    }
+
+    starts : (i : ℕ) (s : Start) → start_of (slice_index t i) ≡ s → (start.Nothing ≡ s → ⊥) → i < length t
+    starts i s e other = begins-within t i (λ z. other (sym z ∙ e))
+
+    value_with-mapped : (i : ℕ) (s : Start) → start_of (slice_index t i) ≡ s
+        → mapped h (value_with p f t i s) ≡ value_with q f' t i s
+    value_with-mapped i start.Array e = container_at-mapped (array_of p f t i) (array_of q f' t i) h _ (array-maps i) i
+    value_with-mapped i start.Object e =
+        container_at-mapped (object_of p f t i) (object_of q f' t i) (pair g h) _ (object-maps i) i
+    value_with-mapped i start.String e =
+        scalar-mapped i (p.text t i) ∙ ap (scalar_at i) (leads.text i (string-begins t i e))
+    value_with-mapped i start.Number e =
+        scalar-mapped i (p.number t i) ∙ ap (scalar_at i) (leads.number i (starts i start.Number e (λ z. cc)) e)
+    value_with-mapped i (start.Literal l) e =
+        scalar-mapped i (p.literal t l i)
+        ∙ ap (scalar_at i) (leads.literal l i (starts i (start.Literal l) e (λ z. cc)) e)
+    value_with-mapped i start.Nothing e = refl
+
+  inside_at-mapped : (room i : ℕ) → mapped h (inside_at p t room i) ≡ inside_at q t room i
+  unfolding inside_at
+  inside_at-mapped zero i = refl
+  inside_at-mapped (suc room) i =
+      value_with-mapped (inside_at p t room) (inside_at q t room) (inside_at-mapped room) i
+      (start_of (slice_index t i)) refl
+
+  pub value_at-mapped : (room i : ℕ) → mapped h (value_at p t room i) ≡ value_at q t room i
+  value_at-mapped room i =
+      value_with-mapped (inside_at p t room) (inside_at q t room) (inside_at-mapped room) i
+      (start_of (slice_index t i)) refl
+
+  to_end-mapped : (x : Reading A) → mapped h (to_end t x) ≡ to_end t (mapped h x)
+  to_end-mapped (done a e) = at (slice_get t (past_blanks t e)) where
+    at : (o : Option ℕ) → mapped h (if_last a e (past_blanks t e) o) ≡ if_last (h a) e (past_blanks t e) o
+    at None = refl
+    at (Some c) = refl
+  to_end-mapped (fault k i stop) = refl
+
+  if_begun-mapped : (i : ℕ) (o : Option ℕ) → mapped h (if_begun p t i o) ≡ if_begun q t i o
+  if_begun-mapped i None = refl
+  if_begun-mapped i (Some c) = value_at-mapped nesting_limit i
+
+  front_answer-mapped : mapped h (front_answer p t) ≡ front_answer q t
+  unfolding front_answer
+  front_answer-mapped = if_begun-mapped (past_blanks t 0) (slice_get t (past_blanks t 0))
+
+  pub whole_answer-mapped : mapped h (whole_answer p t) ≡ whole_answer q t
+  unfolding whole_answer
+  whole_answer-mapped = to_end-mapped (front_answer p t) ∙ ap (to_end t) front_answer-mapped

@@ -1,0 +1,62 @@
+-- How the four forms stand to one another.
+use Rattle.std.proofs.Common.{◌≡◌, ◌≢◌, ℕ, ◌-◌, Bool, List, length, sym, ap, ◌∙◌, arith, ◌+◌, take, drop}
+use Rattle.std.specs.Prelude.{◌==◌, Some, None, IsUtf8}
+use Rattle.std.specs.Str.Lossy.{utf8_valid_len, utf8_error_len}
+use Rattle.std.proofs.lemmas.Bool.{eqb-true}
+use Rattle.std.proofs.lemmas.List.{take_all, drop_all}
+use Rattle.jiter_scan.specs.Kind.{Kind, invalid_code_point}
+use Rattle.jiter_scan.specs.Scanned.{taken, failed}
+use Rattle.jiter_scan.proofs.Choices.{if_gives, failed-taken, same_taken}
+use Rattle.jiter_steps.specs.Tree.{Text}
+use Rattle.jiter_steps.specs.StringReading.{Stop, closed, body_at, whole, kept, raw, valid_front, between}
+use Rattle.jiter_steps.specs.StringReading.{text_in_form, content_at, valid_front_by}
+use Rattle.std.proofs.lemmas.Str.{utf8_valid_len-IsUtf8}
+
+pub kept-valid : (i e : ℕ) (o : Bool) (bs : List ℕ) → utf8_valid_len bs ≡ length bs
+    → valid_front i o bs e ≡ taken (record { owned = o; bytes = bs }) e
+unfolding utf8_error_len
+kept-valid i e o bs h =
+    rw (drop_all (utf8_valid_len bs) bs (omega arith), take_all (utf8_valid_len bs) bs (omega arith))
+
+module _ (t : List ℕ) (i : ℕ) where
+  -- what is read whole is kept
+  whole-kept : (bs : List ℕ) (o : Bool) (s : Stop) (x : Text) (e : ℕ) → text_in_form whole t i bs o s ≡ taken x e
+      → (text_in_form kept t i bs o s ≡ taken x e) × (text_in_form raw t i bs o s ≡ taken (between t i (e - 1)) e)
+  whole-kept bs o (closed f) x e h =
+      if_gives (utf8_valid_len bs == length bs) _ _ (taken x e) h
+      (λ is z.
+      let same = (same_taken _ x f e z).1 in
+      (kept-valid i f o bs (eqb-true _ _ is) ∙ z, ap (λ n. taken (between t i (n - 1)) n) same))
+      (λ is z. absurd (failed-taken _ _ x e z))
+  whole-kept bs o s x e h = absurd (cc)
+
+  pub content-kept : (x : Text) (e : ℕ) → content_at whole t i ≡ taken x e
+      → (content_at kept t i ≡ taken x e) × (content_at raw t i ≡ taken (between t i (e - 1)) e)
+  unfolding content_at
+  content-kept x e h = whole-kept (body_at t i).bytes (body_at t i).owned (body_at t i).stop x e h
+
+  whole-raw : (bs : List ℕ) (o : Bool) (s : Stop) (k : Kind) (j : ℕ) → k ≢ invalid_code_point
+      → text_in_form whole t i bs o s ≡ failed k j → text_in_form raw t i bs o s ≡ failed k j
+  whole-raw bs o (closed f) x e ne h =
+      if_gives (utf8_valid_len bs == length bs) _ _ (failed x e) h (λ is z. absurd (failed-taken x e _ f (sym z)))
+      (λ is z. let kind : invalid_code_point ≡ x = cc in absurd (ne (sym kind)))
+  whole-raw bs o s x e ne h = h
+
+  -- a fault other than that of UTF-8 is one of raw reading too
+  pub content-raw : (k : Kind) (j : ℕ) → k ≢ invalid_code_point → content_at whole t i ≡ failed k j
+      → content_at raw t i ≡ failed k j
+  unfolding content_at
+  content-raw k j ne h = whole-raw (body_at t i).bytes (body_at t i).owned (body_at t i).stop k j ne h
+
+-- The texts of strings that may be cut: as far as whole characters go.
+module _ (i e : ℕ) (o : Bool) (bs : List ℕ) where
+  pub kept_front : utf8_error_len (drop (utf8_valid_len bs) bs) ≡ None
+      → valid_front i o bs e ≡ taken (record { owned = o; bytes = take (utf8_valid_len bs) bs }) e
+  kept_front h = ap (valid_front_by i o bs e) h
+
+  pub kept_wrong : (n : ℕ) → utf8_error_len (drop (utf8_valid_len bs) bs) ≡ Some n
+      → valid_front i o bs e ≡ failed invalid_code_point (i + utf8_valid_len bs)
+  kept_wrong n h = ap (valid_front_by i o bs e) h
+
+  pub kept_whole : IsUtf8 bs → valid_front i o bs e ≡ taken (record { owned = o; bytes = bs }) e
+  kept_whole u = kept-valid i e o bs (utf8_valid_len-IsUtf8 bs u)

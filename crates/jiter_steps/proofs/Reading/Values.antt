@@ -1,0 +1,207 @@
+-- The equations of reading.
+use Rattle.std.proofs.Common.{◌≡◌, ℕ, zero, suc, ◌+◌, ◌<◌, ◌≤◌, length, List, [], ◌∷◌, ◌++◌, refl, sym, ap, ◌∙◌, ◌-◌}
+use Rattle.std.proofs.Common.{arith}
+use Rattle.std.specs.Prelude.{slice_index}
+use Rattle.jiter_scan.specs.Kind.{Kind, recursion_limit, expected_value}
+use Rattle.jiter_scan.specs.Scanned.{Scanned, taken, failed}
+use Rattle.jiter_scan.specs.Word.{Extent}
+use Rattle.jiter_scan.proofs.Scanning.{ScalarWithin, FaultAt}
+use Rattle.jiter_steps.specs.Literal.{start_of}
+use Rattle.jiter_steps.specs.Step.{Step, more, closed, stuck, step, object_colon}
+use Rattle.jiter_steps.specs.Read.{Reading, done, fault, Rules, Container, scalar_at, with_key, behind_colon}
+use Rattle.jiter_steps.specs.Read.{behind_key, if_forgiven, follow, behind_part, parts_at, container_at, array_of}
+use Rattle.jiter_steps.specs.Read.{object_of, value_with, inside_at, value_at}
+use Rattle.jiter_steps.specs.declared.parse.Shape.TheVariants as shape
+use Rattle.jiter_steps.specs.declared.parse.Literal.{Literal}
+use Rattle.jiter_steps.specs.declared.parse.Start.{Start}
+use Rattle.jiter_steps.specs.declared.parse.Start.TheVariants as start
+use Rattle.jiter_steps.proofs.Reading.Bounds.{Ahead, ExtentAhead, Within, either, fault-byte, container_first-ahead}
+use Rattle.jiter_steps.proofs.Reading.Bounds.{container_step-ahead, object_colon-ahead}
+
+-- scalars and keys end behind their begin and within the text
+pub record Advances {K A : Type 0} (r : Rules K A) (t : List ℕ) : Type 0 where
+  pub literal : (l : Literal) (i : ℕ) → i < length t → ScalarWithin t i (r.literal t l i)
+  pub number : (i : ℕ) → i < length t → ScalarWithin t i (r.number t i)
+  pub text : (i : ℕ) → i < length t → ScalarWithin t i (r.text t i)
+  pub key : (i : ℕ) → i < length t → ScalarWithin t i (r.key t i)
+
+abbrev pub AllWithin : {A : Type 0} → List ℕ → (ℕ → Reading A) → Type 0
+AllWithin t inner = (i : ℕ) → i < length t → Within t i (inner i)
+
+-- the steps of a container lead on, and each part ends behind its begin
+pub record Goes {P A : Type 0} (c : Container P A) (t : List ℕ) : Type 0 where
+  pub first : (i : ℕ) → i ≤ length t → Ahead t i (step t c.first i)
+  pub next : (i : ℕ) → i ≤ length t → Ahead t i (step t c.next i)
+  pub part : (i : ℕ) → i < length t → Within t i (c.part i)
+
+module _ {K A : Type 0} (r : Rules K A) (t : List ℕ) where
+  -- Where readings end.
+  if_forgiven-within : (b : ℕ) (close : ℕ → A) (k : Kind) (x stop : ℕ) → b < stop → stop ≤ length t → FaultAt t k x
+      → Within t b (if_forgiven r close k x stop)
+  if_forgiven-within b close k x stop lt le at =
+      either (Within t b) (r.forgives k) _ _ (lt, le) (omega arith, le, at)
+
+  follow-within : (b e : ℕ) (next : ℕ → Reading A) (close : ℕ → A) (s : Step) → b < e → Ahead t e s
+      → ((j : ℕ) → e ≤ j → j < length t → Within t b (next j)) → Within t b (follow r next close s)
+  follow-within b e next close (more j) lt h go = go j h.0 h.1
+  follow-within b e next close (closed c) lt h go = (omega arith, h.1)
+  follow-within b e next close (stuck k j) lt h go =
+      if_forgiven-within b close k j j (omega (arith, h.0)) h.1.within h.1
+
+  follow-same : (close : ℕ → A) (f g : ℕ → Reading A) (e : ℕ) (s : Step) → Ahead t e s
+      → ((j : ℕ) → e ≤ j → j < length t → f j ≡ g j) → follow r f close s ≡ follow r g close s
+  follow-same close f g e (more j) h same = same j h.0 h.1
+  follow-same close f g e (closed c) h same = refl
+  follow-same close f g e (stuck k j) h same = refl
+
+  module _ {P : Type 0} (c : Container P A) (goes : Goes c t) where
+    behind_part-within : (b i : ℕ) (parts : List P) (next : List P → ℕ → Reading A) (x : Reading P) → b < i
+        → Within t i x
+        → ((ps : List P) (j : ℕ) → i < j → j < length t → Within t b (next ps j))
+        → Within t b (behind_part r c t next parts x)
+    behind_part-within b i parts next (done p e) lt h go =
+        follow-within b e _ (λ e. c.build e (parts ++ p ∷ [])) (step t c.next e) (omega arith) (goes.next e h.1)
+        (λ j le lj. go (parts ++ p ∷ []) j (omega arith) lj)
+    behind_part-within b i parts next (fault k x stop) lt h go =
+        if_forgiven-within b (λ e. c.build e parts) k x stop (omega (arith, h.0)) h.1 h.2
+
+    pub parts_at-within : (b n : ℕ) (parts : List P) (i : ℕ) → b < i → i < length t → length t ≤ i + n
+        → Within t b (parts_at r c t n parts i)
+    unfolding parts_at
+    parts_at-within b zero parts i lt h p = absurd (omega arith)
+    parts_at-within b (suc n) parts i lt h p =
+        behind_part-within b i parts _ (c.part i) lt (goes.part i h)
+        (λ ps j lj h'. parts_at-within b n ps j (omega arith) h' (omega arith))
+
+    pub container_at-within : (i : ℕ) → i < length t → Within t i (container_at r c t i)
+    container_at-within i h =
+        follow-within i (i + 1) _ (λ e. c.build e []) (step t c.first (i + 1)) (omega arith)
+        (goes.first (i + 1) (omega arith)) (λ j le lj. parts_at-within i (length t) [] j (omega arith) lj (omega arith))
+
+    -- The number of turns left serves as well as any that is enough.
+    behind_part-same : (f g : List P → ℕ → Reading A) (i : ℕ) (parts : List P) (x : Reading P) → Within t i x
+        → ((ps : List P) (j : ℕ) → i < j → j < length t → f ps j ≡ g ps j)
+        → behind_part r c t f parts x ≡ behind_part r c t g parts x
+    behind_part-same f g i parts (done p e) h same =
+        follow-same (λ e. c.build e (parts ++ p ∷ [])) _ _ e (step t c.next e) (goes.next e h.1)
+        (λ j le lj. same (parts ++ p ∷ []) j (omega arith) lj)
+    behind_part-same f g i parts (fault k x stop) h same = refl
+
+    parts_at-turns : (n m : ℕ) (parts : List P) (i : ℕ) → i < length t → length t ≤ i + n → length t ≤ i + m
+        → parts_at r c t n parts i ≡ parts_at r c t m parts i
+    unfolding parts_at
+    parts_at-turns zero m parts i h p q = absurd (omega arith)
+    parts_at-turns (suc n) zero parts i h p q = absurd (omega arith)
+    parts_at-turns (suc n) (suc m) parts i h p q =
+        behind_part-same _ _ i parts (c.part i) (goes.part i h)
+        (λ ps j lj h'. parts_at-turns n m ps j h' (omega arith) (omega arith))
+
+    -- One part, and then the step behind it. After this no proof speaks of turns.
+    pub parts_at_is : (parts : List P) (i : ℕ) → i < length t
+        → parts_at r c t (length t) parts i ≡ behind_part r c t (parts_at r c t (length t)) parts (c.part i)
+    unfolding parts_at
+    parts_at_is parts i h = parts_at-turns (length t) (suc (length t)) parts i h (omega arith) (omega arith)
+
+    pub parts-fault : (i x stop : ℕ) (parts : List P) (k : Kind) → i < length t → c.part i ≡ fault k x stop
+        → parts_at r c t (length t) parts i ≡ if_forgiven r (λ e. c.build e parts) k x stop
+    parts-fault i x stop parts k h v =
+        parts_at_is parts i h ∙ ap (behind_part r c t (parts_at r c t (length t)) parts) v
+
+    pub parts-part : (i e : ℕ) (parts : List P) (p : P) (s : Step) → i < length t → c.part i ≡ done p e
+        → step t c.next e ≡ s
+        → parts_at r c t (length t) parts i ≡ follow r (parts_at r c t (length t) (parts ++ p ∷ []))
+        (λ e. c.build e (parts ++ p ∷ [])) s
+    parts-part i e parts p s h v w =
+        let next = parts_at r c t (length t) in
+        parts_at_is parts i h ∙ ap (behind_part r c t next parts) v
+        ∙ ap (follow r (next (parts ++ p ∷ [])) (λ e. c.build e (parts ++ p ∷ []))) w
+
+  -- the value of a key, behind what stands for its colon
+  behind_colon-within : (i e : ℕ) (k : K) (inner : ℕ → Reading A) (x : Extent) → i < e → ExtentAhead t e 0 x
+      → AllWithin t inner → Within t i (behind_colon k inner x)
+  behind_colon-within i e k inner (failed kind j) lt h all = (omega (arith, h.0), h.1.within, h.1)
+  behind_colon-within i e k inner (taken u j) lt h all = by (inner j) (all j (omega (arith, h.1))) where
+    by : (x : Reading A) → Within t j x → Within t i (with_key k x)
+    by (done a d) w = (omega (arith, w.0, h.0), w.1)
+    by (fault kind x stop) w = (omega (arith, w.0, h.0), w.1, w.2)
+
+  behind_key-within : (i : ℕ) (inner : ℕ → Reading A) (x : Scanned K) → i < length t → ScalarWithin t i x
+      → AllWithin t inner
+      → ((e : ℕ) → e ≤ length t → ExtentAhead t e 0 (object_colon t e)) → Within t i (behind_key inner t i x)
+  behind_key-within i inner (failed kind j) lt h all ended = (omega arith, omega arith, h.1)
+  behind_key-within i inner (taken k e) lt h all ended =
+      behind_colon-within i e k inner (object_colon t e) h.0 (ended e h.1) all
+
+  module _ (good : Advances r t) (inner : ℕ → Reading A) (all : AllWithin t inner) (i : ℕ) where
+    pub array_of-goes : Goes (array_of r inner t i) t
+    array_of-goes =
+        record { first = container_first-ahead t shape.Array; next = container_step-ahead t shape.Array; part = all }
+
+    pub object_of-goes : Goes (object_of r inner t i) t
+    object_of-goes =
+        record {
+          first = container_first-ahead t shape.Object;
+          next = container_step-ahead t shape.Object;
+          part = λ j h.
+              behind_key-within j inner (r.key t j) h (good.key j h) all (object_colon-ahead t);
+        }
+
+    scalar_at-within : (x : Scanned A) → i < length t → ScalarWithin t i x → Within t i (scalar_at i x)
+    scalar_at-within (taken a e) h w = w
+    scalar_at-within (failed k j) h w = (omega arith, omega arith, w.1)
+
+    value_with-within : (s : Start) → i < length t → Within t i (value_with r inner t i s)
+    value_with-within start.Array h = container_at-within (array_of r inner t i) array_of-goes i h
+    value_with-within start.Object h = container_at-within (object_of r inner t i) object_of-goes i h
+    value_with-within start.String h = scalar_at-within (r.text t i) h (good.text i h)
+    value_with-within start.Number h = scalar_at-within (r.number t i) h (good.number i h)
+    value_with-within (start.Literal l) h = scalar_at-within (r.literal t l i) h (good.literal l i h)
+    value_with-within start.Nothing h =
+        (omega arith, omega arith, fault-byte t expected_value i (λ e. cc) refl (omega arith))
+
+  pub inside_at-within : Advances r t → (room : ℕ) → AllWithin t (inside_at r t room)
+  unfolding inside_at
+  inside_at-within good zero i h =
+      (omega arith, omega arith, fault-byte t recursion_limit i (λ e. cc) refl (omega arith))
+  inside_at-within good (suc room) i h =
+      value_with-within good (λ j. inside_at r t room j) (inside_at-within good room) i (start_of (slice_index t i)) h
+
+  pub value_at-within : Advances r t → (room : ℕ) → AllWithin t (value_at r t room)
+  value_at-within good room i h =
+      value_with-within good (inside_at r t room) (inside_at-within good room) i (start_of (slice_index t i)) h
+
+  pub inside_at-suc : (room i : ℕ) → inside_at r t (suc room) i ≡ value_at r t room i
+  unfolding inside_at
+  inside_at-suc room i = refl
+
+  -- A value, by its first byte.
+  pub value-starts : (room i : ℕ) (s : Start) → start_of (slice_index t i) ≡ s
+      → value_at r t room i ≡ value_with r (inside_at r t room) t i s
+  value-starts room i s e = ap (value_with r (inside_at r t room) t i) e
+
+  -- A member, by its key, its colon and its value.
+  pub member-key : (inner : ℕ → Reading A) (i j : ℕ) (k : Kind) → r.key t i ≡ failed k j
+      → behind_key inner t i (r.key t i) ≡ fault k j i
+  member-key inner i j k e = ap (behind_key inner t i) e
+
+  pub member-colon : (inner : ℕ → Reading A) (i e j : ℕ) (key : K) (k : Kind) → r.key t i ≡ taken key e
+      → object_colon t e ≡ failed k j → behind_key inner t i (r.key t i) ≡ fault k j j
+  member-colon inner i e j key k h w = ap (behind_key inner t i) h ∙ ap (behind_colon key inner) w
+
+  pub member-value : (inner : ℕ → Reading A) (i e j : ℕ) (key : K) (x : Reading A) → r.key t i ≡ taken key e
+      → object_colon t e ≡ taken tt j → inner j ≡ x → behind_key inner t i (r.key t i) ≡ with_key key x
+  member-value inner i e j key x h w v =
+      ap (behind_key inner t i) h ∙ ap (behind_colon key inner) w ∙ ap (with_key key) v
+
+  pub inside_at-none : (room i : ℕ) → room ≡ 0 → inside_at r t room i ≡ fault recursion_limit i i
+  unfolding inside_at
+  inside_at-none room i z = ap (λ n. inside_at r t n i) z
+
+  -- The value inside, by its first byte.
+  pub inside_at-starts : (room i : ℕ) (s : Start) → 0 < room → start_of (slice_index t i) ≡ s
+      → inside_at r t room i ≡ value_with r (inside_at r t (room - 1)) t i s
+  unfolding inside_at
+  inside_at-starts zero i s lt e = absurd (omega arith)
+  inside_at-starts (suc room) i s lt e =
+      let same : suc room - 1 ≡ room = omega arith in ap (value_with r (inside_at r t room) t i) e
+      ∙ ap (λ n. value_with r (inside_at r t n) t i s) (sym same)

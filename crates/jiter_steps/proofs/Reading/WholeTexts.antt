@@ -1,0 +1,73 @@
+-- The equations of a whole text's reading, and its bounds.
+use Rattle.std.proofs.Common.{◌≡◌, ℕ, ◌<◌, ◌≤◌, List, length, refl, ap, ◌∙◌, arith}
+use Rattle.std.specs.Prelude.{slice_get, Option, Some, None}
+use Rattle.std.proofs.lemmas.Option.{slice_get-get_or, slice_get_past, slice_get_within}
+use Rattle.jiter_scan.specs.Kind.{Kind, eof_value, trailing_characters}
+use Rattle.jiter_scan.proofs.Standing.{get-none}
+use Rattle.jiter_steps.specs.Blank.{past_blanks}
+use Rattle.jiter_steps.specs.Node.{nesting_limit}
+use Rattle.jiter_steps.specs.Read.{Reading, done, fault, Rules, value_at, if_last, to_end, if_begun, front_answer}
+use Rattle.jiter_steps.specs.Read.{whole_answer}
+use Rattle.jiter_steps.proofs.Grammar.Blanks.{past_blanks-bound}
+use Rattle.jiter_steps.proofs.Reading.Bounds.{Within, fault-end, fault-byte}
+use Rattle.jiter_steps.proofs.Reading.Values.{Advances, value_at-within}
+
+module _ {K A : Type 0} (r : Rules K A) (t : List ℕ) where
+  -- Whatever follows the value.
+  pub front-empty : past_blanks t 0 ≡ length t → front_answer r t ≡ fault eof_value (length t) (length t)
+  unfolding front_answer
+  front-empty e =
+      ap (λ i. if_begun r t i (slice_get t i)) e
+      ∙ ap (if_begun r t (length t)) (slice_get_past t (length t) (omega arith))
+
+  pub front-begins : (i : ℕ) → past_blanks t 0 ≡ i → i < length t → front_answer r t ≡ value_at r t nesting_limit i
+  unfolding front_answer
+  front-begins i e h = ap (λ k. if_begun r t k (slice_get t k)) e ∙ ap (if_begun r t i) (slice_get-get_or t i 0 h)
+
+  -- With nothing but blanks behind the value.
+  pub whole-is : whole_answer r t ≡ to_end t (front_answer r t)
+  unfolding whole_answer
+  whole-is = refl
+
+  pub whole-empty : past_blanks t 0 ≡ length t → whole_answer r t ≡ fault eof_value (length t) (length t)
+  whole-empty e = whole-is ∙ ap (to_end t) (front-empty e)
+
+  pub whole-begins : (i : ℕ) → past_blanks t 0 ≡ i → i < length t
+      → whole_answer r t ≡ to_end t (value_at r t nesting_limit i)
+  whole-begins i e h = whole-is ∙ ap (to_end t) (front-begins i e h)
+
+  pub whole-fault : (i : ℕ) (k : Kind) (x stop : ℕ) → past_blanks t 0 ≡ i → i < length t
+      → value_at r t nesting_limit i ≡ fault k x stop → whole_answer r t ≡ fault k x stop
+  whole-fault i k x stop e h v = whole-begins i e h ∙ ap (to_end t) v
+
+  -- An answer stays within the text.
+  within-later : (i j : ℕ) (x : Reading A) → i ≤ j → Within t j x → Within t i x
+  within-later i j (done a e) le h = (omega (arith, h.0), h.1)
+  within-later i j (fault k x stop) le h = (omega (arith, h.0), h.1, h.2)
+
+  module _ (good : Advances r t) where
+    if_begun-within : (i : ℕ) (o : Option ℕ) → i ≤ length t → slice_get t i ≡ o → Within t 0 (if_begun r t i o)
+    if_begun-within i None le q =
+        let past = get-none t i q in (omega arith, le, fault-end t eof_value i (λ m. cc) (omega (arith, past)))
+    if_begun-within i (Some c) le q =
+        within-later 0 i (value_at r t nesting_limit i) (omega arith)
+        (value_at-within r t good nesting_limit i (slice_get_within t i c q))
+
+    if_last-within : (a : A) (e j : ℕ) (o : Option ℕ) → 0 < e → e ≤ length t → j ≤ length t
+        → Within t 0 (if_last a e j o)
+    if_last-within a e j None some le lj = (some, le)
+    if_last-within a e j (Some c) some le lj = (omega arith, lj, fault-byte t trailing_characters j (λ m. cc) refl lj)
+
+    to_end-within : (x : Reading A) → Within t 0 x → Within t 0 (to_end t x)
+    to_end-within (done a e) h =
+        if_last-within a e (past_blanks t e) (slice_get t (past_blanks t e)) h.0 h.1 (past_blanks-bound t e h.1)
+    to_end-within (fault k x stop) h = h
+
+    pub front_answer-within : Within t 0 (front_answer r t)
+    unfolding front_answer
+    front_answer-within =
+        if_begun-within (past_blanks t 0) (slice_get t (past_blanks t 0)) (past_blanks-bound t 0 (omega arith)) refl
+
+    pub whole_answer-within : Within t 0 (whole_answer r t)
+    unfolding whole_answer
+    whole_answer-within = to_end-within (front_answer r t) front_answer-within
