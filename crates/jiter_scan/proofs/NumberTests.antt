@@ -1,6 +1,6 @@
 -- The test of a number's text is true exactly of the texts of numbers.
 use Rattle.std.proofs.Common.{◌≡◌, ℕ, ◌-◌, Bool, true, false, List, length, refl, sym, ap, ◌∙◌, subst, arith, Decides}
-use Rattle.std.specs.Prelude.{slice_get, slice_range, IfSome}
+use Rattle.std.specs.Prelude.{slice_range, IfSome}
 use Rattle.std.proofs.lemmas.Bool.{eqb-true, eq-eqb, false≢true}
 use Rattle.std.proofs.lemmas.List.{take_all}
 use Rattle.std.proofs.lemmas.Option.{slice_get_past}
@@ -10,7 +10,7 @@ use Rattle.jiter_scan.specs.NumberReading.{number_extent, takes_all, is_number_t
 use Rattle.jiter_scan.specs.Scanned.{taken, failed}
 use Rattle.jiter_scan.specs.Word.{Extent}
 use Rattle.jiter_scan.proofs.NumberComplete.{continues_number, number_extent-complete}
-use Rattle.jiter_scan.proofs.NumberSound.{extent_from-sound}
+use Rattle.jiter_scan.proofs.NumberSound.{number_extent-sound}
 use Rattle.jiter_scan.proofs.Standing.{stands-slice}
 
 module _ (names : Bool) (w : List ℕ) where
@@ -21,7 +21,7 @@ module _ (names : Bool) (w : List ℕ) where
   read (taken u e) is h =
       let all : length w ≡ e = eqb-true (length w) e h in
       subst (IsNumberText names) (ap (slice_range w 0) (sym all) ∙ whole)
-      (extent_from-sound w names 0 e u (slice_get w 0) refl is)
+      (number_extent-sound w names 0 e is)
   read (failed k j) is h = absurd (false≢true h)
 
   -- The test is true exactly of the texts of numbers.
