@@ -15,10 +15,10 @@ use Rattle.jiter_scan.specs.NumberReading.{extent_then, digits_from, behind_zero
 use Rattle.jiter_scan.specs.NumberReading.{exponent_at, decimal_at, number_extent, with_value, number_at}
 use Rattle.jiter_scan.specs.Scanned.{taken, failed, FaultAt}
 use Rattle.jiter_scan.specs.Stands.{Stands}
-use Rattle.jiter_scan.specs.Word.{Extent}
+use Rattle.jiter_scan.specs.Word.{Extent, word_at}
 use Rattle.jiter_scan.proofs.Choices.{if_case, failed-taken, same_taken}
 use Rattle.jiter_scan.proofs.NumberRows.{Part, Joined, IsWord, WholePart, Power, Magnitude, Over, Ended, Refused, Rows}
-use Rattle.jiter_scan.proofs.NumberRows.{digits, zero, whole, fraction, power, exponent, decimal, number}
+use Rattle.jiter_scan.proofs.NumberRows.{digits, zero, word, whole, fraction, power, exponent, decimal, number}
 use Rattle.jiter_scan.proofs.Runs.{run_end-more, run_end-sound}
 use Rattle.jiter_scan.proofs.Runs.{run_end-within}
 use Rattle.jiter_scan.proofs.Standing.{get-none, stands-length, stands-within, stands-append, slice-stands}
@@ -178,6 +178,9 @@ module _ (t : List ℕ) where
   -- the parts and the whole, as they are spelled
   pub whole-spelled : (i : ℕ) → Spelled t WholePart i (whole_at t i)
   whole-spelled i = whole t t Here Reads reads i
+
+  pub word-spelled : (w : List ℕ) (i : ℕ) → Spelled t (IsWord w) i (word_at t w i)
+  word-spelled = word t t Here Reads reads
 
   pub number-spelled : (names : Bool) (i : ℕ) → Spelled t (IsNumberText names) i (number_extent names t i)
   number-spelled names i = number t t Here Reads reads names i
