@@ -11,7 +11,7 @@ use Rattle.jiter_steps.specs.Read.{Reading, done, fault, value_at}
 use Rattle.jiter_steps.specs.Answer.{seen_as, whole_trees}
 use Rattle.jiter_steps.specs.declared.parse.Literal.{Literal}
 use Rattle.jiter_steps.specs.declared.parse.Literal.TheVariants as literal
-use Rattle.jiter_steps.proofs.Reading.Fused.{Leads, mapped, scanned_as, pairs, value_at-mapped}
+use Rattle.jiter_steps.proofs.Reading.Fused.{AllTold, Leads, mapped, scanned_as, pairs, value_at-mapped}
 use Rattle.jiter_value.specs.Owned.{owned_text, owned_tree, owned_items, owned_members}
 use Rattle.jiter.specs.Client.{owned_trees, built}
 use Rattle.jiter.specs.Jiter.{MovesOn, LeavesAt, Replies, UnlessMemory, StandsAt, reply_seen}
@@ -43,13 +43,14 @@ key-owned (taken s e) = refl
 key-owned (failed k j) = refl
 
 module _ (names : Bool) (t : List ℕ) where
-  owned-leads : Leads (whole_trees names) (owned_trees names) owned_text owned_tree t
+  owned-leads : Leads AllTold (whole_trees names) (owned_trees names) owned_text owned_tree t
   owned-leads = record {
     forgives = λ k. refl;
-    literal = λ l i lt begins. seen-owned owned_tree _ _ (literal_at t l i) (λ u e. owned-literal l);
-    number = λ i lt begins. seen-owned owned_tree _ _ (number_at names t i) (λ n e. refl);
-    text = λ i quote. seen-owned owned_tree _ _ (string_at whole t i) (λ s e. refl);
-    key = λ i quote. key-owned (string_at whole t i);
+    told = λ k h. tt;
+    literal = λ l i lt begins told. seen-owned owned_tree _ _ (literal_at t l i) (λ u e. owned-literal l);
+    number = λ i lt begins told. seen-owned owned_tree _ _ (number_at names t i) (λ n e. refl);
+    text = λ i quote told. seen-owned owned_tree _ _ (string_at whole t i) (λ s e. refl);
+    key = λ i quote told. key-owned (string_at whole t i);
     array = λ b e items. ap tree.array (items_of-owned items);
     object = λ b e members. ap tree.object (members_of-owned members);
   }

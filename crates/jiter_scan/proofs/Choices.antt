@@ -12,6 +12,12 @@ pub if_case : {A : Type 0} (P : A → Type 0) (b : Bool) (x y : A) → (b ≡ tr
 if_case P true x y p q = p refl
 if_case P false x y p q = q refl
 
+-- and what holds of both choices of two by one test
+pub if_both : {A B : Type 0} (R : A → B → Type 0) (b : Bool) (x y : A) (x' y' : B) → (b ≡ true → R x x')
+    → (b ≡ false → R y y') → R (if b then x else y) (if b then x' else y')
+if_both R true x y x' y' p q = p refl
+if_both R false x y x' y' p q = q refl
+
 -- what a choice gives, one of the two gives
 pub if_gives : {A P : Type 0} (b : Bool) (x y z : A) → (if b then x else y) ≡ z → (b ≡ true → x ≡ z → P)
     → (b ≡ false → y ≡ z → P) → P

@@ -4,10 +4,11 @@ pub mod Runs
 pub mod Digits
 pub mod Scanning
 pub mod WordLaws
-pub mod NumberBounds
+pub mod NumberRows
 pub mod NumberSound
 pub mod NumberComplete
 pub mod NumberBytes
+pub mod NumberBounds
 pub mod NumberValues
 pub mod NumberExtents
 pub mod NumberTests

@@ -1,7 +1,7 @@
 -- The bytes of a number's text.
 use Rattle.std.proofs.Common.{◌≡◌, ◌⊎◌, inl, inr, ℕ, ◌<◌, ◌≤◌, Bool, true, false, ◌||◌, List, [], ◌∷◌, ◌++◌, refl, sym}
 use Rattle.std.proofs.Common.{ap, ◌∙◌, subst, arith}
-use Rattle.std.specs.Prelude.{◌==◌, codes, slice_get, slice_range}
+use Rattle.std.specs.Prelude.{◌==◌, codes, slice_range}
 use Rattle.std.specs.List.{list_all}
 use Rattle.std.specs.Str.{IsAscii}
 use Rattle.std.proofs.lemmas.Bool.{ltb-true}
@@ -18,7 +18,8 @@ use Rattle.jiter_scan.specs.Scanned.{taken}
 use Rattle.jiter_scan.specs.Stands.{Stands}
 use Rattle.jiter_scan.specs.Word.{word_at}
 use Rattle.jiter_scan.proofs.Digits.{digit-bounds}
-use Rattle.jiter_scan.proofs.NumberSound.{decimal_at-sound, whole_from-sound}
+use Rattle.jiter_scan.proofs.NumberRows.{decimal-is}
+use Rattle.jiter_scan.proofs.NumberSound.{decimal_at-sound, whole_at-sound}
 use Rattle.jiter_scan.proofs.Standing.{stands-append, stands-length, slice-stands}
 use Rattle.jiter_scan.proofs.WordLaws.{word_at-sound}
 
@@ -119,12 +120,6 @@ module _ (t : List ℕ) where
   pub IsMinusTo-le : (i j : ℕ) → IsMinusTo t i j → i ≤ j
   IsMinusTo-le i j h = let m = minus_to i j h in let long = stands-length t i j m.0 m.2 in omega arith
 
-  -- a decimal number
-  pub IsAscii-decimal : (i j e : ℕ) → IsMinusTo t i j → decimal_at t j ≡ taken tt e → IsAscii (slice_range t i e)
-  IsAscii-decimal i j e minus h =
-      let m = minus_to i j minus in
-      number-ascii false (slice_range t i e) (inl (decimal_at-sound t i j e tt m.0 m.2 m.1 h))
-
   behind_minus-ascii : (w : List ℕ) (i j e : ℕ) → IsMinusTo t i j → Stands t j e w → IsAscii w
       → IsAscii (slice_range t i e)
   behind_minus-ascii w i j e minus stands ascii =
@@ -132,11 +127,15 @@ module _ (t : List ℕ) where
       subst IsAscii (slice-stands t i e (m.0 ++ w) (stands-append t i j e m.0 w m.2 stands))
       (IsAscii-append m.0 w (minus-ascii m.0 m.1) ascii)
 
-  -- its integer part
+  -- a decimal number, and its integer part
+  pub IsAscii-decimal : (i j e : ℕ) → IsMinusTo t i j → decimal_at t j ≡ taken tt e → IsAscii (slice_range t i e)
+  IsAscii-decimal i j e minus h =
+      let d = decimal_at-sound t j e h in
+      behind_minus-ascii d.0 i j e minus d.1 (number-ascii false d.0 (inl (decimal-is [] (inl refl) d.0 d.2)))
+
   pub IsAscii-integer : (i j e : ℕ) → IsMinusTo t i j → whole_at t j ≡ taken tt e → IsAscii (slice_range t i e)
   IsAscii-integer i j e minus h =
-      let w = whole_from-sound t j e tt (slice_get t j) refl h in
-      behind_minus-ascii w.0 i j e minus w.1 (whole-ascii w.0 w.2)
+      let w = whole_at-sound t j e h in behind_minus-ascii w.0 i j e minus w.1 (whole-ascii w.0 w.2.0)
 
   -- a name
   pub IsAscii-name : (w : List ℕ) (i j e : ℕ) → IsMinusTo t i j → word_at t w j ≡ taken tt e → IsAscii w

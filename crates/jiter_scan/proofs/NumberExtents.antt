@@ -1,12 +1,12 @@
 -- A number ends where its digits, fraction and exponent do, a minus before them or not.
-use Rattle.std.proofs.Common.{◌≡◌, inl, inr, ℕ, ◌+◌, ◌<◌, ◌≤◌, Bool, true, List, [], ◌∷◌, length, get_or, refl, sym, ap}
+use Rattle.std.proofs.Common.{◌≡◌, inl, inr, ℕ, ◌+◌, ◌<◌, Bool, true, List, [], ◌∷◌, length, get_or, sym, ap}
 use Rattle.std.proofs.Common.{◌∙◌, subst, arith, slice_range}
 use Rattle.std.specs.Prelude.{slice_get, Some, ◌==◌, if◌then◌else◌, codes}
 use Rattle.std.proofs.lemmas.Bool.{ne_eqb}
 use Rattle.std.proofs.lemmas.Option.{slice_get-get_or}
 use Rattle.jiter_scan.specs.Digits.{is_digit}
 use Rattle.jiter_scan.specs.Kind.{invalid_number}
-use Rattle.jiter_scan.specs.Number.{IsWhole, digit_limit}
+use Rattle.jiter_scan.specs.Number.{IsWhole}
 use Rattle.jiter_scan.specs.NumberDecoder.{magnitude_of, IsMinusTo}
 use Rattle.jiter_scan.specs.NumberReading.{whole_from, whole_at, fraction_at, exponent_at, extent_then, decimal_at}
 use Rattle.jiter_scan.specs.NumberReading.{behind_minus, name_at, extent_from, number_extent}
@@ -15,7 +15,8 @@ use Rattle.jiter_scan.specs.Stands.{Stands}
 use Rattle.jiter_scan.specs.Word.{word_at}
 use Rattle.jiter_scan.proofs.Choices.{if-false, extent_then-taken}
 use Rattle.jiter_scan.proofs.Digits.{digit-bounds}
-use Rattle.jiter_scan.proofs.NumberSound.{behind_zero-taken, whole_from-sound}
+use Rattle.jiter_scan.proofs.NumberRows.{WholePart}
+use Rattle.jiter_scan.proofs.NumberSound.{behind_zero-sound, whole_at-sound}
 use Rattle.jiter_scan.proofs.Standing.{slice-one}
 
 module _ (t : List ℕ) where
@@ -36,13 +37,13 @@ module _ (t : List ℕ) where
 
   -- a decimal number begins with a digit
   decimal-digit : (i e : ℕ) → decimal_at t i ≡ taken tt e → (c : ℕ) × (slice_get t i ≡ Some c) × (is_digit c ≡ true)
-  decimal-digit i e h = by whole.0 w.0 w.1 w.2
+  decimal-digit i e h = by whole.0 w.0 w.1 w.2.0
     where
       whole : (j : ℕ) × (whole_at t i ≡ taken tt j) × (extent_then (fraction_at t j) (exponent_at t) ≡ taken tt e)
       whole = extent_then-taken _ _ _ _ h
 
-      w : (w : List ℕ) × Stands t i whole.0 w × IsWhole w × (length w ≤ digit_limit)
-      w = whole_from-sound t i whole.0 tt (slice_get t i) refl whole.1
+      w : (w : List ℕ) × Stands t i whole.0 w × WholePart w
+      w = whole_at-sound t i whole.0 whole.1
 
       by : (j : ℕ) (v : List ℕ) → Stands t i j v → IsWhole v
           → (c : ℕ) × (slice_get t i ≡ Some c) × (is_digit c ≡ true)
@@ -84,5 +85,5 @@ module _ (t : List ℕ) where
   pub magnitude_of-zero : (i e : ℕ) → slice_get t i ≡ Some 48 → whole_at t i ≡ taken tt e
       → 0 ≡ magnitude_of (slice_range t i e)
   magnitude_of-zero i e q h =
-      let end = behind_zero-taken (i + 1) e tt (slice_get t (i + 1)) (sym (ap (whole_from t i) q) ∙ h) in
+      let end = behind_zero-sound t (i + 1) e (sym (ap (whole_from t i) q) ∙ h) in
       ap magnitude_of (sym (slice-one t i 48 q)) ∙ ap (λ k. magnitude_of (slice_range t i k)) end

@@ -1,175 +1,220 @@
--- What is read as a number is a number's text.
-use Rattle.std.proofs.Common.{◌≡◌, ◌⊎◌, inl, inr, ℕ, ◌+◌, ◌≤◌, Bool, true, false, ◌||◌, List, [], ◌∷◌, ◌++◌, length}
-use Rattle.std.proofs.Common.{drop, refl, sym, ap, ◌∙◌, subst, arith}
-use Rattle.std.specs.Prelude.{slice_get, slice_range, Option, Some, None, ◌==◌, nat_le, codes}
+-- What is read as a number is a number's text; a fault stands within the text, and a zero or nothing ends what is before
+-- it, unless the input is over, the digits are too many or a name is another word.
+use Rattle.std.proofs.Common.{◌≡◌, ◌≢◌, ◌⊎◌, inl, inr, ℕ, ◌+◌, ◌≤◌, Bool, true, false, List, [], ◌∷◌, ◌++◌, length}
+use Rattle.std.proofs.Common.{drop, refl, sym, ap, ◌∙◌, subst, arith, append-nil, append_assoc}
+use Rattle.std.specs.Prelude.{slice_get, slice_range, Option, Some, None, nat_le, codes}
 use Rattle.std.specs.List.{prefix_len}
-use Rattle.std.proofs.lemmas.Bool.Decides.{nat_tests}
-use Rattle.std.proofs.lemmas.Bool.{eqb-true, eqb-false, leb-true, or_cases}
+use Rattle.std.proofs.lemmas.Bool.{leb-true, leb-false, false≢true}
+use Rattle.std.proofs.lemmas.Option.{slice_get_within}
 use Rattle.jiter_scan.specs.Digits.{is_digit, digit_run_end}
-use Rattle.jiter_scan.specs.Number.{Number, number_value, AreDigits, IsDigits, IsMinus, IsWhole, IsFraction, IsSign}
-use Rattle.jiter_scan.specs.Number.{IsExponent, IsDecimal, IsNumberText, digit_limit}
-use Rattle.jiter_scan.specs.NumberReading.{digits_from, behind_zero, within_limit, whole_from, fraction_from}
-use Rattle.jiter_scan.specs.NumberReading.{power_from, exponent_from, decimal_at, behind_minus, name_at, extent_from}
-use Rattle.jiter_scan.specs.NumberReading.{number_extent, with_value, number_at}
-use Rattle.jiter_scan.specs.Scanned.{taken, failed}
+use Rattle.jiter_scan.specs.Kind.{Kind, is_end_kind, out_of_memory, eof_value, expected_ident, expected_value}
+use Rattle.jiter_scan.specs.Kind.{invalid_number, number_out_of_range}
+use Rattle.jiter_scan.specs.Number.{Number, number_value, AreDigits, IsDigits, IsFraction, IsExponent, IsNumberText}
+use Rattle.jiter_scan.specs.Number.{digit_limit}
+use Rattle.jiter_scan.specs.NumberReading.{extent_then, digits_from, behind_zero, within_limit, whole_at, fraction_at, power_from}
+use Rattle.jiter_scan.specs.NumberReading.{exponent_at, decimal_at, number_extent, with_value, number_at}
+use Rattle.jiter_scan.specs.Scanned.{taken, failed, FaultAt}
 use Rattle.jiter_scan.specs.Stands.{Stands}
-use Rattle.jiter_scan.specs.Word.{Extent}
-use Rattle.jiter_scan.proofs.Choices.{if_gives, failed-taken, same_taken, extent_then-taken}
+use Rattle.jiter_scan.specs.Word.{Extent, word_at}
+use Rattle.jiter_scan.proofs.Choices.{if_case, failed-taken, same_taken}
+use Rattle.jiter_scan.proofs.NumberRows.{Part, Joined, IsWord, WholePart, Power, Magnitude, Over, Ended, Refused, Rows}
+use Rattle.jiter_scan.proofs.NumberRows.{digits, zero, word, whole, fraction, power, exponent, decimal, number}
 use Rattle.jiter_scan.proofs.Runs.{run_end-more, run_end-sound}
-use Rattle.jiter_scan.proofs.Standing.{stands-length, stands-append, slice-stands}
-use Rattle.jiter_scan.proofs.WordLaws.{word_at-sound}
+use Rattle.jiter_scan.proofs.Runs.{run_end-within}
+use Rattle.jiter_scan.proofs.Standing.{get-none, stands-length, stands-within, stands-append, slice-stands}
 
--- behind a zero the integer part is over
-pub behind_zero-taken : (j e : ℕ) (u : Unit {0}) (o : Option ℕ) → behind_zero j o ≡ taken u e → j ≡ e
-behind_zero-taken j e u None h = (same_taken _ _ _ _ h).1
-behind_zero-taken j e u (Some c) h =
-    if_gives (is_digit c) _ _ _ h (λ d r. absurd (failed-taken _ _ _ _ r)) (λ d r. (same_taken _ _ _ _ r).1)
+-- a fault up to which a number's text can be ended
+abbrev pub can_end : Kind → Bool
+can_end eof_value = false
+can_end expected_ident = false
+can_end number_out_of_range = false
+can_end k = true
 
-within_limit-taken : (i n e : ℕ) (u : Unit {0}) → within_limit i n ≡ taken u e → (n ≤ i + digit_limit) × (n ≡ e)
-within_limit-taken i n e u h =
-    if_gives (nat_le n (i + digit_limit)) _ _ _ h (λ d r. (leb-true n (i + digit_limit) d, (same_taken _ _ _ _ r).1))
-    (λ d r. absurd (failed-taken _ _ _ _ r))
+-- the bytes from p to j are such a part, or are with a zero behind them
+pub record Unfinished (t : List ℕ) (Is : Part) (p j : ℕ) : Type 0 where
+  pub front : List ℕ
+  pub last : List ℕ
+  pub stands : Stands t p j front
+  pub zero : (last ≡ []) ⊎ (last ≡ codes "0")
+  pub is : Is (front ++ last)
+
+-- the bytes of a part from i, or a fault
+abbrev pub Spelled : List ℕ → Part → ℕ → Extent → Type 0
+Spelled t Is i (taken u e) = (w : List ℕ) × Stands t i e w × Is w
+Spelled t Is i (failed k j) =
+    (i ≤ length t → (i ≤ j) × FaultAt t k j) × (can_end k ≡ true → Unfinished t Is i j)
 
 module _ (t : List ℕ) where
-  run-sound : (i e c : ℕ) → slice_get t i ≡ Some c → is_digit c ≡ true → digit_run_end t i ≡ e
-      → (w : List ℕ) × Stands t i e (c ∷ w) × AreDigits (c ∷ w)
-  run-sound i e c s d h =
-      let more = run_end-more is_digit t i c s d in
+  abbrev Here : ℕ → ℕ → Type 0
+  Here i c = slice_get t i ≡ Some c
+
+  abbrev Reads : Part → ℕ → Extent → Extent → Type 0
+  Reads Is i x y = Spelled t Is i x
+
+  over : (Is : Part) (i : ℕ) (x : Extent) → Over Is i x → slice_get t i ≡ None → Spelled t Is i x
+  over Is i (taken u e) h none = ([], sym h.0, h.1)
+  over Is i (failed k j) h none =
+      let kind : k ≡ eof_value = h.0 in
+      let past = get-none t i none in (
+        λ le. (
+          omega (arith, h.1),
+          record { within = omega (arith, h.1); ends = λ e. omega (arith, h.1); bytes = λ m. cc },
+        ),
+        λ live. absurd (false≢true (sym (ap can_end kind) ∙ live)),
+      )
+
+  byte : (Is : Part) (F G : Option ℕ → Extent) (i : ℕ) → Over Is i (F None) → Over Is i (G None)
+      → ((c : ℕ) → Here i c → Spelled t Is i (F (Some c))) → Spelled t Is i (F (slice_get t i))
+  byte Is F G i last also some = by (slice_get t i) refl where
+    by : (o : Option ℕ) → slice_get t i ≡ o → Spelled t Is i (F o)
+    by None e = over Is i (F None) last e
+    by (Some c) e = some c e
+
+  ended : (Is : Part) (i : ℕ) → Ended Is → Unfinished t Is i i
+  ended Is i (inl is) = record { front = []; last = []; stands = refl; zero = inl refl; is = is }
+  ended Is i (inr is) = record { front = []; last = codes "0"; stands = refl; zero = inr refl; is = is }
+
+  fault-at : (Is : Part) (k : Kind) (i j : ℕ) → is_end_kind k ≡ false → k ≢ out_of_memory → i ≤ j
+      → (i ≤ length t → j ≤ length t) → (can_end k ≡ true → Unfinished t Is i j) → Spelled t Is i (failed k j)
+  fault-at Is k i j late m on within live =
+      (λ le. (on, record { within = within le; ends = λ h. absurd (false≢true (sym late ∙ h)); bytes = m }), live)
+
+  fault : (Is : Part) (k : Kind) (i c : ℕ) → Here i c → Refused Is k → Spelled t Is i (failed k i)
+  fault Is expected_ident i c h r =
+      fault-at Is expected_ident i i refl (λ e. cc) (omega arith) (λ le. le) (λ live. absurd (false≢true live))
+  fault Is expected_value i c h r =
+      fault-at Is expected_value i i refl (λ e. cc) (omega arith) (λ le. le) (λ live. ended Is i r)
+  fault Is invalid_number i c h r =
+      fault-at Is invalid_number i i refl (λ e. cc) (omega arith) (λ le. le) (λ live. ended Is i r)
+  fault Is k i c h r = absurd r
+
+  run : (i c : ℕ) → Here i c → is_digit c ≡ true
+      → (w : List ℕ) × Stands t i (digit_run_end t i) (c ∷ w) × AreDigits (c ∷ w)
+  run i c h d =
+      let more = run_end-more is_digit t i c h d in
       let r = run_end-sound is_digit t (prefix_len is_digit (drop (i + 1) t)) (i + 1) refl in
-      (r.0, (s, subst (λ k. Stands t (i + 1) k r.0) (omega arith) r.1), (d, r.2))
+      (r.0, (h, subst (λ k. Stands t (i + 1) k r.0) (omega arith) r.1), (d, r.2))
 
-  -- one digit or more
-  pub digits_from-sound : (i e : ℕ) (u : Unit {0}) (o : Option ℕ) → slice_get t i ≡ o → digits_from t i o ≡ taken u e
+  limit : (i c : ℕ) → Here i c → is_digit c ≡ true → c ≢ 48
+      → Spelled t WholePart i (within_limit i (digit_run_end t i))
+  limit i c h d other =
+      let r = run i c h d in
+      let long = stands-length t i (digit_run_end t i) (c ∷ r.0) r.1 in
+      if_case (Spelled t WholePart i) (nat_le (digit_run_end t i) (i + digit_limit)) _ _
+      (λ few.
+      let l = leb-true (digit_run_end t i) (i + digit_limit) few in
+      (c ∷ r.0, r.1, ((r.2, inr other), omega arith)))
+      (λ many.
+      let l = leb-false (digit_run_end t i) (i + digit_limit) many in
+      fault-at WholePart number_out_of_range i (i + (digit_limit + 1)) refl (λ e. cc) (omega arith)
+      (λ le. omega (arith, run_end-within is_digit t i le)) (λ live. absurd (false≢true live)))
+
+  behind : (Is Then : Part) (i c : ℕ) (x : Extent) → Here i c → ((v : List ℕ) → Is v → Then (c ∷ v))
+      → Spelled t Is (i + 1) x → Spelled t Then i x
+  behind Is Then i c (taken u e) h all s = (c ∷ s.0, (h, s.1), all s.0 s.2)
+  behind Is Then i c (failed k j) h all s = (
+    λ le. let r = s.0 (omega (arith, slice_get_within t i c h)) in (omega (arith, r.0), r.1),
+    λ live.
+        let f = s.1 live in
+        record {
+          front = c ∷ f.front;
+          last = f.last;
+          stands = (h, f.stands);
+          zero = f.zero;
+          is = all (f.front ++ f.last) f.is;
+        },
+  )
+
+  weaker : (Is Then : Part) (i : ℕ) (x : Extent) → ((v : List ℕ) → Is v → Then v) → Spelled t Is i x
+      → Spelled t Then i x
+  weaker Is Then i (taken u e) all s = (s.0, s.1, all s.0 s.2)
+  weaker Is Then i (failed k j) all s = (
+    s.0,
+    λ live. let f = s.1 live in record {
+      front = f.front;
+      last = f.last;
+      stands = f.stands;
+      zero = f.zero;
+      is = all (f.front ++ f.last) f.is;
+    },
+  )
+
+  joined : (A B : Part) (i : ℕ) (x : Extent) (f : ℕ → Extent) → B [] → Spelled t A i x
+      → ((j : ℕ) → Spelled t B j (f j)) → Spelled t (Joined A B) i (extent_then x f)
+  joined A B i (failed k j) f none a b =
+      weaker A (Joined A B) i (failed k j) (λ v is. (v, [], sym (append-nil v), is, none)) a
+  joined A B i (taken u m) f none a b = then (f m) (b m) where
+    then : (y : Extent) → Spelled t B m y → Spelled t (Joined A B) i y
+    then (taken v e) s =
+        (a.0 ++ s.0, stands-append t i m e a.0 s.0 a.1 s.1, (a.0, s.0, refl, a.2, s.2))
+    then (failed k j) s = (
+      λ le.
+          let on = stands-length t i m a.0 a.1 in
+          let r = s.0 (stands-within t i m a.0 le a.1) in
+          (omega (arith, r.0), r.1),
+      λ live.
+          let g = s.1 live in
+          record {
+            front = a.0 ++ g.front;
+            last = g.last;
+            stands = stands-append t i m j a.0 g.front a.1 g.stands;
+            zero = g.zero;
+            is = (a.0, g.front ++ g.last, append_assoc a.0 g.front g.last, a.2, g.is);
+          },
+    )
+
+  reads : Rows t t Here Reads
+  reads = record {
+    byte = byte;
+    none = λ Is i is. ([], refl, is);
+    fault = fault;
+    run = λ i c h d. let r = run i c h d in (c ∷ r.0, r.1, r.2);
+    limit = limit;
+    behind = λ Is Then i c x y. behind Is Then i c x;
+    weaker = λ Is Then i x y. weaker Is Then i x;
+    joined = λ A B i x y f g. joined A B i x f;
+  }
+
+  -- the parts and the whole, as they are spelled
+  pub whole-spelled : (i : ℕ) → Spelled t WholePart i (whole_at t i)
+  whole-spelled i = whole t t Here Reads reads i
+
+  pub word-spelled : (w : List ℕ) (i : ℕ) → Spelled t (IsWord w) i (word_at t w i)
+  word-spelled = word t t Here Reads reads
+
+  pub number-spelled : (names : Bool) (i : ℕ) → Spelled t (IsNumberText names) i (number_extent names t i)
+  number-spelled names i = number t t Here Reads reads names i
+
+  -- what is read stands there
+  pub digits-sound : (i e : ℕ) → digits_from t i (slice_get t i) ≡ taken tt e
       → (w : List ℕ) × Stands t i e w × IsDigits w
-  digits_from-sound i e u None s h = absurd (failed-taken _ _ _ _ h)
-  digits_from-sound i e u (Some c) s h =
-      if_gives (is_digit c) _ _ _ h
-      (λ d r. let x = run-sound i e c s d (same_taken _ _ _ _ r).1 in (c ∷ x.0, x.1, x.2))
-      (λ d r. absurd (failed-taken _ _ _ _ r))
+  digits-sound i e h = subst (Spelled t IsDigits i) h (digits t t Here Reads reads i)
 
-  -- the integer part
-  pub whole_from-sound : (i e : ℕ) (u : Unit {0}) (o : Option ℕ) → slice_get t i ≡ o → whole_from t i o ≡ taken u e
-      → (w : List ℕ) × Stands t i e w × IsWhole w × (length w ≤ digit_limit)
-  whole_from-sound i e u None s h = absurd (failed-taken _ _ _ _ h)
-  whole_from-sound i e u (Some c) s h =
-      if_gives (c == 48) _ _ _ h (λ z r. (
-        c ∷ [],
-        (s, behind_zero-taken (i + 1) e u (slice_get t (i + 1)) r),
-        ((ap is_digit (eqb-true c 48 z), tt), inl refl),
-        omega arith,
-      ))
-      (λ z r. if_gives (is_digit c) _ _ _ r (digits z) (λ d q. absurd (failed-taken _ _ _ _ q)))
-    where
-      digits : (c == 48) ≡ false → is_digit c ≡ true → within_limit i (digit_run_end t i) ≡ taken u e
-          → (w : List ℕ) × Stands t i e w × IsWhole w × (length w ≤ digit_limit)
-      digits z d q =
-          let l = within_limit-taken i (digit_run_end t i) e u q in
-          let x = run-sound i e c s d l.1 in
-          let n = stands-length t i e (c ∷ x.0) x.1 in
-          (c ∷ x.0, x.1, (x.2, inr (eqb-false c 48 z)), omega (arith, l.0, l.1))
+  pub behind_zero-sound : (i e : ℕ) → behind_zero i (slice_get t i) ≡ taken tt e → i ≡ e
+  behind_zero-sound i e h =
+      let r = subst (Spelled t (IsWord []) i) h (zero t t Here Reads reads i) in subst (Stands t i e) r.2 r.1
 
-  -- the fraction
-  pub fraction_from-sound : (i e : ℕ) (u : Unit {0}) (o : Option ℕ) → slice_get t i ≡ o
-      → fraction_from t i o ≡ taken u e → (w : List ℕ) × Stands t i e w × IsFraction w
-  fraction_from-sound i e u None s h = ([], (same_taken _ _ _ _ h).1, tt)
-  fraction_from-sound i e u (Some c) s h =
-      if_gives (c == 46) _ _ _ h (λ p r. let x = digits_from-sound (i + 1) e u (slice_get t (i + 1)) refl r in
-      (c ∷ x.0, (s, x.1), (eqb-true c 46 p, x.2)))
-      (λ p r. ([], (same_taken _ _ _ _ r).1, tt))
+  pub whole_at-sound : (i e : ℕ) → whole_at t i ≡ taken tt e → (w : List ℕ) × Stands t i e w × WholePart w
+  whole_at-sound i e h = subst (Spelled t WholePart i) h (whole-spelled i)
 
-  sign-sound : (c : ℕ) → ((c == 43) || (c == 45)) ≡ true → IsSign (c ∷ [])
-  sign-sound c h = by (or_cases (c == 43) (c == 45) h) where
-    by : ((c == 43) ≡ true) ⊎ ((c == 45) ≡ true) → IsSign (c ∷ [])
-    by (inl p) = inr (inl (ap (λ x. x ∷ []) (eqb-true c 43 p)))
-    by (inr p) = inr (inr (ap (λ x. x ∷ []) (eqb-true c 45 p)))
+  pub fraction_at-sound : (i e : ℕ) → fraction_at t i ≡ taken tt e → (w : List ℕ) × Stands t i e w × IsFraction w
+  fraction_at-sound i e h = subst (Spelled t IsFraction i) h (fraction t t Here Reads reads i)
 
-  -- the sign and the digits of an exponent
-  pub power_from-sound : (i e : ℕ) (u : Unit {0}) (o : Option ℕ) → slice_get t i ≡ o → power_from t i o ≡ taken u e
-      → (sign : List ℕ) × (digits : List ℕ) × IsSign sign × IsDigits digits × Stands t i e (sign ++ digits)
-  power_from-sound i e u None s h = absurd (failed-taken _ _ _ _ h)
-  power_from-sound i e u (Some c) s h =
-      if_gives ((c == 43) || (c == 45)) _ _ _ h
-      (λ p r. let x = digits_from-sound (i + 1) e u (slice_get t (i + 1)) refl r in
-      (c ∷ [], x.0, sign-sound c p, x.2, (s, x.1)))
-      (λ p r. let x = digits_from-sound i e u (Some c) s r in ([], x.0, inl refl, x.2, x.1))
+  pub power-sound : (i e : ℕ) → power_from t i (slice_get t i) ≡ taken tt e
+      → (w : List ℕ) × Stands t i e w × Power w
+  power-sound i e h = subst (Spelled t Power i) h (power t t Here Reads reads i)
 
-  letter-sound : (c : ℕ) → ((c == 101) || (c == 69)) ≡ true → (c ≡ 101) ⊎ (c ≡ 69)
-  letter-sound c h = grind (arith, nat_tests)
+  pub exponent_at-sound : (i e : ℕ) → exponent_at t i ≡ taken tt e → (w : List ℕ) × Stands t i e w × IsExponent w
+  exponent_at-sound i e h = subst (Spelled t IsExponent i) h (exponent t t Here Reads reads i)
 
-  -- the exponent
-  pub exponent_from-sound : (i e : ℕ) (u : Unit {0}) (o : Option ℕ) → slice_get t i ≡ o
-      → exponent_from t i o ≡ taken u e → (w : List ℕ) × Stands t i e w × IsExponent w
-  exponent_from-sound i e u None s h = ([], (same_taken _ _ _ _ h).1, inl refl)
-  exponent_from-sound i e u (Some c) s h =
-      if_gives ((c == 101) || (c == 69)) _ _ _ h
-      (λ p r. let x = power_from-sound (i + 1) e u (slice_get t (i + 1)) refl r in (
-        c ∷ (x.0 ++ x.1),
-        (s, x.4),
-        inr
-            (record {
-              letter = c;
-              sign = x.0;
-              digits = x.1;
-              is = refl;
-              is_letter = letter-sound c p;
-              is_sign = x.2;
-              are_digits = x.3;
-            }),
-      ))
-      (λ p r. ([], (same_taken _ _ _ _ r).1, inl refl))
+  pub decimal_at-sound : (i e : ℕ) → decimal_at t i ≡ taken tt e → (w : List ℕ) × Stands t i e w × Magnitude w
+  decimal_at-sound i e h = subst (Spelled t Magnitude i) h (decimal t t Here Reads reads i)
 
-  -- a decimal number, behind its minus
-  pub decimal_at-sound : (m i e : ℕ) (u : Unit {0}) (minus : List ℕ) → Stands t m i minus → IsMinus minus
-      → decimal_at t i ≡ taken u e → IsDecimal (slice_range t m e)
-  decimal_at-sound m i e u minus s is h =
-      let a = extent_then-taken _ _ _ _ h in
-      let b = extent_then-taken _ _ _ _ a.2 in
-      let w = whole_from-sound i a.0 tt (slice_get t i) refl a.1 in
-      let f = fraction_from-sound a.0 b.0 tt (slice_get t a.0) refl b.1 in
-      let x = exponent_from-sound b.0 e u (slice_get t b.0) refl b.2 in
-      let all =
-      stands-append t m i e minus (w.0 ++ (f.0 ++ x.0)) s
-      (stands-append t i a.0 e w.0 (f.0 ++ x.0) w.1 (stands-append t a.0 b.0 e f.0 x.0 f.1 x.1)) in
-      record {
-        minus = minus;
-        whole = w.0;
-        fraction = f.0;
-        exponent = x.0;
-        is = sym (slice-stands t m e (minus ++ (w.0 ++ (f.0 ++ x.0))) all);
-        is_minus = is;
-        is_whole = w.2;
-        limit = w.3;
-        is_fraction = f.2;
-        is_exponent = x.2;
-      }
-
-  name_at-sound : (names : Bool) (w : List ℕ) (i e : ℕ) (u : Unit {0}) → name_at names t w i ≡ taken u e
-      → (names ≡ true) × Stands t i e w
-  name_at-sound names w i e u h =
-      if_gives names _ _ _ h (λ n r. (n, word_at-sound t w i e u r)) (λ n r. absurd (failed-taken _ _ _ _ r))
-
-  behind_minus-sound : (names : Bool) (i e : ℕ) (u : Unit {0}) (o : Option ℕ) → slice_get t i ≡ Some 45
-      → slice_get t (i + 1) ≡ o → behind_minus names t (i + 1) o ≡ taken u e → IsNumberText names (slice_range t i e)
-  behind_minus-sound names i e u None m s h = absurd (failed-taken _ _ _ _ h)
-  behind_minus-sound names i e u (Some c) m s h =
-      if_gives (c == 73) _ _ _ h (λ p r. if_gives names _ _ _ r
-      (λ n q. let stands = slice-stands t i e (codes "-Infinity") (m, word_at-sound t (codes "Infinity") (i + 1) e u q)
-      in inr (n, inr (inr (sym stands))))
-      (λ n q. absurd (failed-taken _ _ _ _ q)))
-      (λ p r. inl (decimal_at-sound i (i + 1) e u (45 ∷ []) (m, refl) (inr refl) r))
-
-  -- all of a number
-  pub extent_from-sound : (names : Bool) (i e : ℕ) (u : Unit {0}) (o : Option ℕ) → slice_get t i ≡ o
-      → extent_from names t i o ≡ taken u e → IsNumberText names (slice_range t i e)
-  extent_from-sound names i e u None s h = absurd (failed-taken _ _ _ _ h)
-  extent_from-sound names i e u (Some c) s h =
-      if_gives (c == 45) _ _ _ h
-      (λ p r. behind_minus-sound names i e u (slice_get t (i + 1)) (s ∙ ap Some (eqb-true c 45 p)) refl r)
-      (λ p r. if_gives (c == 78) _ _ _ r (λ n q. let x = name_at-sound names (codes "NaN") i e u q in inr
-      (x.0, inl (sym (slice-stands t i e (codes "NaN") x.1))))
-      (λ n q. if_gives (c == 73) _ _ _ q (λ f g. let x = name_at-sound names (codes "Infinity") i e u g in inr
-      (x.0, inr (inl (sym (slice-stands t i e (codes "Infinity") x.1)))))
-      (λ f g. inl (decimal_at-sound i i e u [] refl (inl refl) g))))
+  pub number_extent-sound : (names : Bool) (i e : ℕ) → number_extent names t i ≡ taken tt e
+      → IsNumberText names (slice_range t i e)
+  number_extent-sound names i e h =
+      let r = subst (Spelled t (IsNumberText names) i) h (number-spelled names i) in
+      subst (IsNumberText names) (slice-stands t i e r.0 r.1) r.2
 
   with_value-sound : (names : Bool) (i : ℕ) (n : Number) (e : ℕ) (x : Extent) → number_extent names t i ≡ x
       → with_value t i x ≡ taken n e → IsNumberText names (slice_range t i e) × (n ≡ number_value (slice_range t i e))
@@ -177,7 +222,7 @@ module _ (t : List ℕ) where
       let same = same_taken _ _ _ _ h in
       let at : f ≡ e = same.1 in
       let value = sym same.0 ∙ ap (λ k. number_value (slice_range t i k)) at in
-      (extent_from-sound names i e u (slice_get t i) refl (s ∙ ap (taken u) at), value)
+      (number_extent-sound names i e (s ∙ ap (taken u) at), value)
   with_value-sound names i n e (failed k j) s h = absurd (failed-taken _ _ _ _ h)
 
 -- what is read is a number's text, and the value is that of the text

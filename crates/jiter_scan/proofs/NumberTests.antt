@@ -1,7 +1,7 @@
 -- The tests of the grammar of numbers hold exactly where its facts do; and so does reading to the last byte.
 use Rattle.std.proofs.Common.{◌≡◌, ◌⊎◌, ℕ, ◌-◌, ◌≤◌, ◌++◌, ◌∷◌, [], Bool, true, false, List, length, refl, sym, ap}
 use Rattle.std.proofs.Common.{◌∙◌, subst, arith, Decides, inl, inr}
-use Rattle.std.specs.Prelude.{slice_get, slice_range, IfSome, nat_le, ◌==◌, ◌&&◌, ◌||◌}
+use Rattle.std.specs.Prelude.{slice_range, IfSome, nat_le, ◌==◌, ◌&&◌, ◌||◌}
 use Rattle.std.specs.List.{list_all}
 use Rattle.std.proofs.lemmas.Bool.{eqb-true, eq-eqb, false≢true}
 use Rattle.std.proofs.lemmas.Bool.Decides.{Decides-and, Decides-or, Decides-like, Decides-eqb, Decides-not}
@@ -20,7 +20,7 @@ use Rattle.jiter_scan.specs.NumberTests.{is_magnitude, is_name, is_number_text}
 use Rattle.jiter_scan.specs.Scanned.{taken, failed}
 use Rattle.jiter_scan.specs.Word.{Extent}
 use Rattle.jiter_scan.proofs.NumberComplete.{continues_number, number_extent-complete}
-use Rattle.jiter_scan.proofs.NumberSound.{extent_from-sound}
+use Rattle.jiter_scan.proofs.NumberSound.{number_extent-sound}
 use Rattle.jiter_scan.proofs.Standing.{stands-slice}
 
 -- somewhere the bytes part into two of which these facts hold
@@ -196,7 +196,7 @@ module _ (names : Bool) (w : List ℕ) where
   read (taken u e) is h =
       let all : length w ≡ e = eqb-true (length w) e h in
       subst (IsNumberText names) (ap (slice_range w 0) (sym all) ∙ slice-whole)
-      (extent_from-sound w names 0 e u (slice_get w 0) refl is)
+      (number_extent-sound w names 0 e is)
   read (failed k j) is h = absurd (false≢true h)
 
   reading-decides : Decides (takes_all (length w) (number_extent names w 0)) (IsNumberText names w)

@@ -16,7 +16,7 @@ use Rattle.jiter_scan.specs.Scanned.{taken}
 use Rattle.jiter_scan.specs.Stands.{Stands}
 use Rattle.jiter_scan.specs.Word.{word_at}
 use Rattle.jiter_scan.proofs.Choices.{if-false, extent_then-taken}
-use Rattle.jiter_scan.proofs.NumberSound.{whole_from-sound, fraction_from-sound, exponent_from-sound}
+use Rattle.jiter_scan.proofs.NumberSound.{whole_at-sound, fraction_at-sound, exponent_at-sound}
 use Rattle.jiter_scan.proofs.Standing.{stands-append, stands-length, stands-slice, slice-stands}
 use Rattle.jiter_scan.proofs.WordLaws.{word_at-sound}
 
@@ -109,8 +109,8 @@ module _ (t : List ℕ) where
       → number_value (slice_range t i e) ≡ float (slice_range t i e)
   number_value-tail i j e low some high h =
       let b = extent_then-taken _ _ _ _ h in
-      let f = fraction_from-sound t j b.0 tt (slice_get t j) refl b.1 in
-      let x = exponent_from-sound t b.0 e tt (slice_get t b.0) refl b.2 in
+      let f = fraction_at-sound t j b.0 b.1 in
+      let x = exponent_at-sound t b.0 e b.2 in
       by (f.0 ++ x.0) (stands-append t j b.0 e f.0 x.0 f.1 x.1) (tail f.0 x.0 f.2 x.2) where
         by : (w : List ℕ) → Stands t j e w → Tail w → number_value (slice_range t i e) ≡ float (slice_range t i e)
         by w s (no_tail none) =
@@ -129,8 +129,8 @@ module _ (t : List ℕ) where
   pub integer_value-positive : (i j e m : ℕ) → i ≡ j → whole_at t j ≡ taken tt e → m ≡ magnitude_of (slice_range t j e)
       → positive_value (slice_range t i e) m ≡ number_value (slice_range t i e)
   integer_value-positive i j e m same h value =
-      let w = whole_from-sound t j e tt (slice_get t j) refl h in
-      let digits = subst IsWhole (slice-stands t j e w.0 w.1) w.2 in
+      let w = whole_at-sound t j e h in
+      let digits = subst IsWhole (slice-stands t j e w.0 w.1) w.2.0 in
       subst (λ k. positive_value (slice_range t k e) m ≡ number_value (slice_range t k e)) (sym same)
       (ap (positive_value (slice_range t j e)) value ∙ sym (number_value-digits (slice_range t j e) digits))
 
@@ -138,8 +138,8 @@ module _ (t : List ℕ) where
       → m ≡ magnitude_of (slice_range t j e) → negative_value (slice_range t i e) m ≡ number_value (slice_range t i e)
   integer_value-negative i j e m (inl none) other h value = absurd (other (sym none))
   integer_value-negative i j e m (inr (same, at)) other h value =
-      let w = whole_from-sound t j e tt (slice_get t j) refl h in
+      let w = whole_at-sound t j e h in
       let digits = slice-stands t j e w.0 w.1 in
       let all = slice-stands t i e (45 ∷ w.0) (at, subst (λ k. Stands t k e w.0) same w.1) in
       subst (λ v. negative_value v m ≡ number_value v) all
-      (ap (negative_value (45 ∷ w.0)) (value ∙ ap magnitude_of (sym digits)) ∙ sym (number_value-minus w.0 w.2))
+      (ap (negative_value (45 ∷ w.0)) (value ∙ ap magnitude_of (sym digits)) ∙ sym (number_value-minus w.0 w.2.0))

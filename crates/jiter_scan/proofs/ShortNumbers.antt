@@ -1,6 +1,6 @@
 -- Numbers whose digits end within a chunk.
 use Rattle.std.proofs.Common.{◌≡◌, ◌≢◌, ◌⊎◌, inl, inr, ℕ, ◌+◌, ◌-◌, ◌<◌, ◌≤◌, ◌==◌, ◌||◌, Bool, true, false, List, []}
-use Rattle.std.proofs.Common.{◌∷◌, length, take, drop, get_or, refl, sym, ap, ◌∙◌, subst, slice_range, arith}
+use Rattle.std.proofs.Common.{◌∷◌, ◌++◌, length, take, drop, get_or, refl, sym, ap, ◌∙◌, slice_range, arith}
 use Rattle.std.specs.Prelude.{slice_get, Option, Some, None}
 use Rattle.std.specs.List.{prefix_len}
 use Rattle.std.proofs.lemmas.Bool.{cases_lt}
@@ -13,15 +13,14 @@ use Rattle.jiter_scan.specs.NumberReading.{extent_then, whole_at, fraction_at, e
 use Rattle.jiter_scan.specs.NumberReading.{exponent_from, digits_from, power_from, is_float_sign}
 use Rattle.jiter_scan.specs.Scanned.{taken}
 use Rattle.jiter_scan.specs.Stands.{Stands}
-use Rattle.jiter_scan.proofs.Choices.{if-false, if-true}
+use Rattle.jiter_scan.proofs.Choices.{if-false, if-true, extent_then-taken}
 use Rattle.jiter_scan.proofs.Chunks.{prefix_len-front, prefix_len-pass, run_end-on}
 use Rattle.jiter_scan.proofs.Magnitudes.{slice_range-count}
-use Rattle.jiter_scan.proofs.NumberBounds.{Reaches, farther, extent_then-reaches, digits_from-reaches}
-use Rattle.jiter_scan.proofs.NumberBounds.{power_from-reaches, exponent_at-reaches}
 use Rattle.jiter_scan.proofs.NumberComplete.{whole_at-complete}
 use Rattle.jiter_scan.proofs.NumberExtents.{decimal_at-tail, tail-parts}
+use Rattle.jiter_scan.proofs.NumberSound.{digits-sound, power-sound, exponent_at-sound}
 use Rattle.jiter_scan.proofs.Runs.{run_end-passes, run_end-stops, NoDigit}
-use Rattle.jiter_scan.proofs.Standing.{stands-slice}
+use Rattle.jiter_scan.proofs.Standing.{stands-slice, stands-length, stands-within, stands-append}
 
 module _ (t : List ℕ) where
   -- digits that end within a chunk end in the text as in the chunk
@@ -143,23 +142,24 @@ module _ (t : List ℕ) where
   -- a point or an exponent takes a byte or more
   pub tail-place : (i e c : ℕ) → slice_get t i ≡ Some c → is_float_sign c ≡ true
       → extent_then (fraction_at t i) (exponent_at t) ≡ taken tt e → (i + 1 ≤ e) × (e ≤ length t)
-  tail-place i e c here sign tail = subst (Reaches t i 1) tail (by (c == 46) refl)
+  tail-place i e c here sign tail = by (c == 46) refl
     where
-      inside : i < length t
-      inside = slice_get_within t i c here
+      ends : (w : List ℕ) → Stands t (i + 1) e w → (i + 1 ≤ e) × (e ≤ length t)
+      ends w s =
+          let inside = slice_get_within t i c here in
+          let n = stands-length t (i + 1) e w s in
+          (omega arith, stands-within t (i + 1) e w (omega arith) s)
 
-      by : (b : Bool) → (c == 46) ≡ b → Reaches t i 1 (extent_then (fraction_at t i) (exponent_at t))
+      by : (b : Bool) → (c == 46) ≡ b → (i + 1 ≤ e) × (e ≤ length t)
       by true point =
+          let a = extent_then-taken _ _ _ _ tail in
           let digits = ap (fraction_from t i) here ∙ if-true (c == 46) _ _ point in
-          subst (λ x. Reaches t i 1 (extent_then x (exponent_at t))) (sym digits)
-          (extent_then-reaches t i 1 _ (exponent_at t)
-          (farther t i 1 (i + 1) 1 _ (omega arith) (omega arith)
-          (digits_from-reaches t (i + 1) (slice_get t (i + 1)) refl (omega (arith, inside))))
-          (exponent_at-reaches t))
+          let d = digits-sound t (i + 1) a.0 (sym digits ∙ a.1) in
+          let x = exponent_at-sound t a.0 e a.2 in
+          ends (d.0 ++ x.0) (stands-append t (i + 1) a.0 e d.0 x.0 d.1 x.1)
       by false no_point =
           let letter : ((c == 101) || (c == 69)) ≡ true = grind (arith, nat_tests) in
           let power = ap (exponent_from t i) here ∙ if-true ((c == 101) || (c == 69)) _ _ letter in
-          subst (Reaches t i 1)
-          (sym (ap (λ x. extent_then x (exponent_at t)) (fraction_at-none i c here no_point) ∙ power))
-          (farther t i 1 (i + 1) 0 _ (omega arith) (omega arith)
-          (power_from-reaches t (i + 1) (slice_get t (i + 1)) refl (omega (arith, inside))))
+          let none = ap (λ x. extent_then x (exponent_at t)) (fraction_at-none i c here no_point) in
+          let p = power-sound t (i + 1) e (sym (none ∙ power) ∙ tail) in
+          ends p.0 p.1

@@ -1,17 +1,18 @@
 -- A word is read just where its bytes stand.
 use Rattle.std.proofs.Common.{◌≡◌, ℕ, ◌+◌, ◌<◌, ◌≤◌, ◌≢◌, Bool, cond, List, [], ◌∷◌, length, drop, get_or, refl, ap}
-use Rattle.std.proofs.Common.{◌∙◌, arith}
-use Rattle.std.specs.Prelude.{slice_get, Option, Some, None, ◌==◌}
+use Rattle.std.proofs.Common.{◌∙◌, subst, arith}
+use Rattle.std.specs.Prelude.{slice_get, Some, None, ◌==◌}
 use Rattle.std.proofs.lemmas.List.{drop_more, drop_all}
-use Rattle.std.proofs.lemmas.Bool.{eqb-true, eq-eqb, ne_eqb, false≢true}
-use Rattle.std.proofs.lemmas.Option.{slice_get_within}
+use Rattle.std.proofs.lemmas.Bool.{eq-eqb, ne_eqb}
 use Rattle.jiter_scan.specs.Kind.{eof_value, expected_ident}
 use Rattle.jiter_scan.specs.Scanned.{taken, failed}
 use Rattle.jiter_scan.specs.Stands.{Stands}
 use Rattle.jiter_scan.specs.Word.{Extent, byte_then, word_at}
-use Rattle.jiter_scan.proofs.Choices.{if_case, if_gives, if-true, failed-taken, same_taken}
+use Rattle.jiter_scan.proofs.Choices.{if-true}
 use Rattle.jiter_scan.proofs.Scanning.{FaultAt}
-use Rattle.jiter_scan.proofs.Standing.{get-none}
+use Rattle.jiter_scan.proofs.NumberRows.{IsWord}
+use Rattle.jiter_scan.proofs.NumberSound.{Spelled, word-spelled}
+use Rattle.jiter_scan.proofs.Standing.{stands-length, stands-within}
 
 -- the whole word, or a fault on the way
 abbrev pub WordWithin : List ℕ → List ℕ → ℕ → Extent → Type 0
@@ -19,22 +20,15 @@ WordWithin t w i (taken u e) = (e ≡ i + length w) × (e ≤ length t)
 WordWithin t w i (failed k j) = (i ≤ j) × FaultAt t k j
 
 module _ (t : List ℕ) where
-  later : (w : List ℕ) (c i : ℕ) (x : Extent) → WordWithin t w (i + 1) x → WordWithin t (c ∷ w) i x
-  later w c i (taken u e) h = (omega (arith, h.0), h.1)
-  later w c i (failed k j) h = (omega (arith, h.0), h.1)
+  spelled-within : (w : List ℕ) (i : ℕ) (x : Extent) → i ≤ length t → Spelled t (IsWord w) i x → WordWithin t w i x
+  spelled-within w i (taken u e) le s =
+      let long = stands-length t i e s.0 s.1 in
+      let same = ap length s.2 in
+      (omega arith, stands-within t i e s.0 le s.1)
+  spelled-within w i (failed k j) le s = s.0 le
 
   pub word_at-within : (w : List ℕ) (i : ℕ) → i ≤ length t → WordWithin t w i (word_at t w i)
-  unfolding word_at
-  word_at-within [] i le = (omega arith, le)
-  word_at-within (c ∷ w) i le = by (slice_get t i) refl (λ lt. word_at-within w (i + 1) lt) where
-    by : (o : Option ℕ) → slice_get t i ≡ o → (i + 1 ≤ length t → WordWithin t w (i + 1) (word_at t w (i + 1)))
-        → WordWithin t (c ∷ w) i (byte_then (word_at t w (i + 1)) c i o)
-    by None e go =
-        let past = get-none t i e in (omega arith, record { within = le; ends = λ k. omega arith; bytes = λ k. cc })
-    by (Some b) e go =
-        let lt = slice_get_within t i b e in
-        if_case (WordWithin t (c ∷ w) i) (b == c) _ _ (λ s. later w c i (word_at t w (i + 1)) (go (omega arith)))
-        (λ s. (omega arith, record { within = le; ends = λ k. absurd (false≢true k); bytes = λ k. cc }))
+  word_at-within w i le = spelled-within w i (word_at t w i) le (word-spelled t w i)
 
   -- a word that stands is read
   pub word_at-complete : (w : List ℕ) (i e : ℕ) → Stands t i e w → word_at t w i ≡ taken tt e
@@ -47,15 +41,8 @@ module _ (t : List ℕ) where
 
   -- a word that is read stands
   pub word_at-sound : (w : List ℕ) (i e : ℕ) (u : Unit {0}) → word_at t w i ≡ taken u e → Stands t i e w
-  unfolding word_at
-  word_at-sound [] i e u h = (same_taken _ _ _ _ h).1
-  word_at-sound (c ∷ w) i e u h = by (slice_get t i) refl h (λ g. word_at-sound w (i + 1) e u g) where
-    by : (o : Option ℕ) → slice_get t i ≡ o → byte_then (word_at t w (i + 1)) c i o ≡ taken u e
-        → (word_at t w (i + 1) ≡ taken u e → Stands t (i + 1) e w) → Stands t i e (c ∷ w)
-    by None s h go = absurd (failed-taken _ _ _ _ h)
-    by (Some b) s h go =
-        if_gives (b == c) _ _ _ h
-        (λ q r. (s ∙ ap Some (eqb-true b c q), go r)) (λ q r. absurd (failed-taken _ _ _ _ r))
+  word_at-sound w i e u h =
+      let r = subst (Spelled t (IsWord w) i) h (word-spelled t w i) in subst (Stands t i e) r.2 r.1
 
   pub word_at-stands : (w : List ℕ) (i e : ℕ)
       → (Stands t i e w → word_at t w i ≡ taken tt e) × (word_at t w i ≡ taken tt e → Stands t i e w)

@@ -18,7 +18,7 @@ use Rattle.jiter_steps.specs.Tree.{Text, Tree, items_of}
 use Rattle.jiter_steps.specs.Tree as tree
 use Rattle.jiter_steps.proofs.Grammar.Blanks.{past_blanks-bound, blank-passed, blank-to_end, passed-blank, at_length}
 use Rattle.jiter_steps.proofs.Grammar.SpelledParts.{begins-value, ends-end, begin-within, node-within}
-use Rattle.jiter_steps.proofs.Reading.Fused.{mapped, scanned_as, pairs, Leads, whole_answer-mapped}
+use Rattle.jiter_steps.proofs.Reading.Fused.{mapped, scanned_as, pairs, AllTold, Leads, whole_answer-mapped}
 use Rattle.jiter_steps.proofs.Grammar.NodeRules.{nodes, nodes_of, node_members_of, key_of, pieces_from}
 use Rattle.jiter_steps.proofs.Grammar.ScalarLaws.{ScalarLaws, scalar-laws, EndsNumber}
 use Rattle.jiter_steps.proofs.Grammar.Sound.{Sound, value_at-sound}
@@ -76,18 +76,19 @@ module _ (names : Bool) (t : List ℕ) where
   key-leads i quote (taken s e) is = ap (λ m. taken m e) (sym (laws.string-sound i e s quote is).1)
   key-leads i quote (failed k j) is = refl
 
-  pub nodes-lead : Leads (nodes names) (whole_trees names) (key_text t) (value_of t) t
+  pub nodes-lead : Leads AllTold (nodes names) (whole_trees names) (key_text t) (value_of t) t
   nodes-lead = record {
     forgives = λ k. refl;
-    literal = λ l i h s.
+    told = λ k h. tt;
+    literal = λ l i h s told.
         scalar-leads (λ u e. grammar.literal l i e) (λ u e. literal_tree l) (literal_at t l i) (λ u e is. refl);
-    number = λ i h s.
+    number = λ i h s told.
         scalar-leads (λ n e. grammar.number i e) (λ n e. number_tree n) (number_at names t i)
         (λ n e is. ap number_tree (sym (laws.number-sound i e n is).1));
-    text = λ i quote.
+    text = λ i quote told.
         scalar-leads (λ s e. grammar.string (pieces_from t (i + 1) (chars s.bytes)) i e) (λ s e. tree.string s)
         (string_at whole t i) (λ s e is. ap tree.string (sym (laws.string-sound i e s quote is).1));
-    key = λ i quote. key-leads i quote (string_at whole t i) refl;
+    key = λ i quote told. key-leads i quote (string_at whole t i) refl;
     array = λ b e items. ap tree.array (values-of t items);
     object = λ b e members. ap tree.object (members-of t members);
   }

@@ -20,10 +20,6 @@ use Rattle.jiter_scan.proofs.Standing.{stands-append, stands-within, stands-leng
 
 -- Words and pieces that stand at a place.
 module _ (t : List ℕ) where
-  pub stands-more : (i k j c : ℕ) (w : List ℕ) → k ≡ i + 1 → slice_get t i ≡ Some c → Stands t k j w
-      → Stands t i j (c ∷ w)
-  stands-more i k j c w e h g = (h, subst (λ x. Stands t x j w) e g)
-
   pub got : (i : ℕ) → i < length t → slice_get t i ≡ Some (slice_index t i)
   got i h = slice_get-get_or t i 0 h
 

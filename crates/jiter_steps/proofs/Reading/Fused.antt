@@ -1,5 +1,6 @@
--- What is built of one reading of a text maps to what is built of another.
-use Rattle.std.proofs.Common.{◌≡◌, ℕ, zero, suc, ◌+◌, ◌<◌, cond, List, [], ◌∷◌, ◌++◌, length, map, refl, sym, ap, ◌∙◌}
+-- What is built of one reading of a text maps to what is built of another; where some faults of the one aren't told, with
+-- every other fault.
+use Rattle.std.proofs.Common.{◌≡◌, ℕ, zero, suc, ◌+◌, ◌<◌, Bool, true, false, cond, List, [], ◌∷◌, ◌++◌, length, map, refl, sym, ap, ◌∙◌}
 use Rattle.std.specs.Prelude.{slice_index, slice_get, Option, Some, None}
 use Rattle.std.proofs.lemmas.List.{map_push}
 use Rattle.jiter_scan.specs.Kind.{Kind}
@@ -35,139 +36,180 @@ pair g h m = (g m.0, h m.1)
 abbrev pub pairs : {K L A B : Type 0} → (K → L) → (A → B) → List (K × A) → List (L × B)
 pairs g h ms = map (pair g h) ms
 
--- g and h take what p gives in this text to what q gives, and both forgive the same
-pub record Leads {K L A B : Type 0} (p : Rules K A) (q : Rules L B) (g : K → L) (h : A → B) (t : List ℕ) : Type 0 where
-  pub forgives : (k : Kind) → p.forgives k ≡ q.forgives k
-  pub literal : (l : Literal) (i : ℕ) → i < length t → start_of (slice_index t i) ≡ start.Literal l
-      → scanned_as h (p.literal t l i) ≡ q.literal t l i
-  pub number : (i : ℕ) → i < length t → start_of (slice_index t i) ≡ start.Number
-      → scanned_as h (p.number t i) ≡ q.number t i
-  pub text : (i : ℕ) → slice_get t i ≡ Some 34 → scanned_as h (p.text t i) ≡ q.text t i
-  pub key : (i : ℕ) → slice_get t i ≡ Some 34 → scanned_as g (p.key t i) ≡ q.key t i
-  pub array : (b e : ℕ) (items : List A) → h (p.array b e items) ≡ q.array b e (map h items)
-  pub object : (b e : ℕ) (members : List (K × A)) → h (p.object b e members) ≡ q.object b e (pairs g h members)
+module _ (Told : Kind → Type 0) where
+  -- a value, or a fault that is told
+  abbrev pub Tells : {A : Type 0} → Reading A → Type 0
+  Tells (done a e) = Unit {0}
+  Tells (fault k i stop) = Told k
 
--- m takes the parts of c to those of d, and h what is built; both take the same steps, to where a part begins
-pub record Maps {P Q A B : Type 0} (c : Container P A) (d : Container Q B) (m : P → Q) (h : A → B) (t : List ℕ)
-    (Begins : ℕ → Type 0) : Type 0 where
-  pub first : (i : ℕ) → step t c.first i ≡ step t d.first i
-  pub next : (i : ℕ) → step t c.next i ≡ step t d.next i
-  pub first-begins : (i : ℕ) → GoesTo Begins (step t c.first i)
-  pub next-begins : (i : ℕ) → GoesTo Begins (step t c.next i)
-  pub part : (i : ℕ) → Begins i → mapped m (c.part i) ≡ d.part i
-  pub build : (e : ℕ) (parts : List P) → h (c.build e parts) ≡ d.build e (map m parts)
+  abbrev pub TellsScan : {A : Type 0} → Scanned A → Type 0
+  TellsScan (taken a e) = Unit {0}
+  TellsScan (failed k i) = Told k
+
+  -- what x tells, h takes to y
+  abbrev pub MapsTo : {A B : Type 0} → (A → B) → Reading A → Reading B → Type 0
+  MapsTo h x y = Tells x → mapped h x ≡ y
+
+  abbrev pub ScansTo : {A B : Type 0} → (A → B) → Scanned A → Scanned B → Type 0
+  ScansTo h x y = TellsScan x → scanned_as h x ≡ y
+
+  -- g and h take what p tells of this text to what q gives, and both forgive the same, which is told
+  pub record Leads {K L A B : Type 0} (p : Rules K A) (q : Rules L B) (g : K → L) (h : A → B) (t : List ℕ)
+      : Type 0 where
+    pub forgives : (k : Kind) → p.forgives k ≡ q.forgives k
+    pub told : (k : Kind) → p.forgives k ≡ true → Told k
+    pub literal : (l : Literal) (i : ℕ) → i < length t → start_of (slice_index t i) ≡ start.Literal l
+        → ScansTo h (p.literal t l i) (q.literal t l i)
+    pub number : (i : ℕ) → i < length t → start_of (slice_index t i) ≡ start.Number
+        → ScansTo h (p.number t i) (q.number t i)
+    pub text : (i : ℕ) → slice_get t i ≡ Some 34 → ScansTo h (p.text t i) (q.text t i)
+    pub key : (i : ℕ) → slice_get t i ≡ Some 34 → ScansTo g (p.key t i) (q.key t i)
+    pub array : (b e : ℕ) (items : List A) → h (p.array b e items) ≡ q.array b e (map h items)
+    pub object : (b e : ℕ) (members : List (K × A)) → h (p.object b e members) ≡ q.object b e (pairs g h members)
+
+  -- m takes the parts of c to those of d, and h what is built; both take the same steps, to where a part begins
+  pub record Maps {P Q A B : Type 0} (c : Container P A) (d : Container Q B) (m : P → Q) (h : A → B) (t : List ℕ)
+      (Begins : ℕ → Type 0) : Type 0 where
+    pub first : (i : ℕ) → step t c.first i ≡ step t d.first i
+    pub next : (i : ℕ) → step t c.next i ≡ step t d.next i
+    pub first-begins : (i : ℕ) → GoesTo Begins (step t c.first i)
+    pub next-begins : (i : ℕ) → GoesTo Begins (step t c.next i)
+    pub part : (i : ℕ) → Begins i → MapsTo m (c.part i) (d.part i)
+    pub build : (e : ℕ) (parts : List P) → h (c.build e parts) ≡ d.build e (map m parts)
+
+  module _ {K L A B : Type 0} (p : Rules K A) (q : Rules L B) (g : K → L) (h : A → B) (t : List ℕ)
+      (leads : Leads p q g h t) where
+    if_forgiven-mapped : (f : ℕ → A) (f' : ℕ → B) → ((e : ℕ) → h (f e) ≡ f' e) → (k : Kind) (i stop : ℕ)
+        → mapped h (if_forgiven p f k i stop) ≡ if_forgiven q f' k i stop
+    if_forgiven-mapped f f' same k i stop =
+        both (λ x y. mapped h x ≡ y) (p.forgives k) _ _ _ _ (ap (λ a. done a stop) (same stop)) refl
+        ∙ ap (λ y. cond y (done (f' stop) stop) (fault k i stop)) (leads.forgives k)
+
+    fault-told : (f : ℕ → A) (k : Kind) (i stop : ℕ) → Tells (if_forgiven p f k i stop) → Told k
+    fault-told f k i stop = by (p.forgives k) (leads.told k) where
+      by : (b : Bool) → (b ≡ true → Told k) → Tells (cond b (done (f stop) stop) (fault k i stop)) → Told k
+      by true all told = all refl
+      by false all told = told
+
+    scalar-mapped : (i : ℕ) (x : Scanned A) (y : Scanned B) → ScansTo h x y
+        → MapsTo h (scalar_at i x) (scalar_at i y)
+    scalar-mapped i (taken a e) y same told = ap (scalar_at i) (same told)
+    scalar-mapped i (failed k j) y same told = ap (scalar_at i) (same told)
+
+    -- containers
+    module _ {P Q : Type 0} (c : Container P A) (d : Container Q B) (m : P → Q) (Begins : ℕ → Type 0)
+        (maps : Maps c d m h t Begins) where
+      follow-mapped : (n : ℕ → Reading A) (n' : ℕ → Reading B) → ((j : ℕ) → Begins j → MapsTo h (n j) (n' j))
+          → (parts : List P) (s : Step) → GoesTo Begins s
+          → MapsTo h (follow p n (λ e. c.build e parts) s) (follow q n' (λ e. d.build e (map m parts)) s)
+      follow-mapped n n' goes parts (more j) b = goes j b
+      follow-mapped n n' goes parts (closed e) b = λ told. ap (λ a. done a e) (maps.build e parts)
+      follow-mapped n n' goes parts (stuck k j) b = λ told. if_forgiven-mapped _ _ (λ e. maps.build e parts) k j j
+
+      behind_part-mapped : (n : List P → ℕ → Reading A) (n' : List Q → ℕ → Reading B)
+          → ((parts : List P) (j : ℕ) → Begins j → MapsTo h (n parts j) (n' (map m parts) j))
+          → (parts : List P) (x : Reading P) (y : Reading Q) → MapsTo m x y
+          → MapsTo h (behind_part p c t n parts x) (behind_part q d t n' (map m parts) y)
+      behind_part-mapped n n' goes parts (done a e) y same = λ told.
+          let more_parts = parts ++ a ∷ [] in
+          follow-mapped (n more_parts) (n' (map m more_parts)) (goes more_parts) more_parts _ (maps.next-begins e) told
+          ∙ ap (follow q (n' (map m more_parts)) (λ e. d.build e (map m more_parts))) (maps.next e)
+          ∙ ap (λ l. follow q (n' l) (λ e. d.build e l) (step t d.next e)) (map_push m parts a)
+          ∙ ap (behind_part q d t n' (map m parts)) (same tt)
+      behind_part-mapped n n' goes parts (fault k i stop) y same = λ told.
+          if_forgiven-mapped _ _ (λ e. maps.build e parts) k i stop
+          ∙ ap (behind_part q d t n' (map m parts)) (same (fault-told (λ e. c.build e parts) k i stop told))
+
+      parts_at-mapped : (n : ℕ) (parts : List P) (i : ℕ) → Begins i
+          → MapsTo h (parts_at p c t n parts i) (parts_at q d t n (map m parts) i)
+      unfolding parts_at
+      parts_at-mapped zero parts i b = λ told. refl
+      parts_at-mapped (suc n) parts i b =
+          behind_part-mapped (parts_at p c t n) (parts_at q d t n) (parts_at-mapped n) parts (c.part i) (d.part i)
+          (maps.part i b)
+
+      container_at-mapped : (i : ℕ) → MapsTo h (container_at p c t i) (container_at q d t i)
+      container_at-mapped i told =
+          follow-mapped (parts_at p c t (length t) []) (parts_at q d t (length t) [])
+          (parts_at-mapped (length t) []) [] _ (maps.first-begins (i + 1)) told
+          ∙ ap (follow q (parts_at q d t (length t) []) (λ e. d.build e [])) (maps.first (i + 1))
+
+    module _ (f : ℕ → Reading A) (f' : ℕ → Reading B) (same : (i : ℕ) → MapsTo h (f i) (f' i)) where
+      -- a member
+      with_key-mapped : (k : K) (x : Reading A) (y : Reading B) → MapsTo h x y
+          → MapsTo (pair g h) (with_key k x) (with_key (g k) y)
+      with_key-mapped k (done a e) y all told = ap (with_key (g k)) (all told)
+      with_key-mapped k (fault kind i stop) y all told = ap (with_key (g k)) (all told)
+
+      behind_colon-mapped : (k : K) (x : Extent) → MapsTo (pair g h) (behind_colon k f x) (behind_colon (g k) f' x)
+      behind_colon-mapped k (taken u j) = with_key-mapped k (f j) (f' j) (same j)
+      behind_colon-mapped k (failed kind j) = λ told. refl
+
+      behind_key-mapped : (i : ℕ) (x : Scanned K) (y : Scanned L) → ScansTo g x y
+          → MapsTo (pair g h) (behind_key f t i x) (behind_key f' t i y)
+      behind_key-mapped i (taken k e) y all told =
+          behind_colon-mapped k (object_colon t e) told ∙ ap (behind_key f' t i) (all tt)
+      behind_key-mapped i (failed kind j) y all told = ap (behind_key f' t i) (all told)
+
+      array-maps : (i : ℕ) → Maps (array_of p f t i) (array_of q f' t i) h h t (BeginsAt shape.Array t)
+      array-maps i = record {
+        first = λ j. refl;
+        next = λ j. refl;
+        first-begins = container_first-begins shape.Array t;
+        next-begins = container_step-begins shape.Array t;
+        part = λ j b. same j;
+        build = leads.array i;
+      }
+
+      object-maps : (i : ℕ) → Maps (object_of p f t i) (object_of q f' t i) (pair g h) h t (BeginsAt shape.Object t)
+      object-maps i = record {
+        first = λ j. refl;
+        next = λ j. refl;
+        first-begins = container_first-begins shape.Object t;
+        next-begins = container_step-begins shape.Object t;
+        part = λ j b. behind_key-mapped j (p.key t j) (q.key t j) (leads.key j (key-quote t j b));
+        build = leads.object i;
+      }
+
+      starts : (i : ℕ) (s : Start) → start_of (slice_index t i) ≡ s → (start.Nothing ≡ s → ⊥) → i < length t
+      starts i s e other = begins-within t i (λ z. other (sym z ∙ e))
+
+      value_with-mapped : (i : ℕ) (s : Start) → start_of (slice_index t i) ≡ s
+          → MapsTo h (value_with p f t i s) (value_with q f' t i s)
+      value_with-mapped i start.Array e =
+          container_at-mapped (array_of p f t i) (array_of q f' t i) h _ (array-maps i) i
+      value_with-mapped i start.Object e =
+          container_at-mapped (object_of p f t i) (object_of q f' t i) (pair g h) _ (object-maps i) i
+      value_with-mapped i start.String e = scalar-mapped i _ _ (leads.text i (string-begins t i e))
+      value_with-mapped i start.Number e = scalar-mapped i _ _ (leads.number i (starts i start.Number e (λ z. cc)) e)
+      value_with-mapped i (start.Literal l) e =
+          scalar-mapped i _ _ (leads.literal l i (starts i (start.Literal l) e (λ z. cc)) e)
+      value_with-mapped i start.Nothing e = λ told. refl
+
+    inside_at-mapped : (room i : ℕ) → MapsTo h (inside_at p t room i) (inside_at q t room i)
+    unfolding inside_at
+    inside_at-mapped zero i = λ told. refl
+    inside_at-mapped (suc room) i =
+        value_with-mapped (inside_at p t room) (inside_at q t room) (inside_at-mapped room) i
+        (start_of (slice_index t i)) refl
+
+    pub value_at-told : (room i : ℕ) → MapsTo h (value_at p t room i) (value_at q t room i)
+    value_at-told room i =
+        value_with-mapped (inside_at p t room) (inside_at q t room) (inside_at-mapped room) i
+        (start_of (slice_index t i)) refl
+
+-- where every fault is told
+abbrev pub AllTold : Kind → Type 0
+AllTold k = Unit {0}
+
+all_told : {A : Type 0} (x : Reading A) → Tells AllTold x
+all_told (done a e) = tt
+all_told (fault k i stop) = tt
 
 module _ {K L A B : Type 0} (p : Rules K A) (q : Rules L B) (g : K → L) (h : A → B) (t : List ℕ)
-    (leads : Leads p q g h t) where
-  if_forgiven-mapped : (f : ℕ → A) (f' : ℕ → B) → ((e : ℕ) → h (f e) ≡ f' e) → (k : Kind) (i stop : ℕ)
-      → mapped h (if_forgiven p f k i stop) ≡ if_forgiven q f' k i stop
-  if_forgiven-mapped f f' same k i stop =
-      both (λ x y. mapped h x ≡ y) (p.forgives k) _ _ _ _ (ap (λ a. done a stop) (same stop)) refl
-      ∙ ap (λ y. cond y (done (f' stop) stop) (fault k i stop)) (leads.forgives k)
-
-  scalar-mapped : (i : ℕ) (x : Scanned A) → mapped h (scalar_at i x) ≡ scalar_at i (scanned_as h x)
-  scalar-mapped i (taken a e) = refl
-  scalar-mapped i (failed k j) = refl
-
-  -- containers
-  module _ {P Q : Type 0} (c : Container P A) (d : Container Q B) (m : P → Q) (Begins : ℕ → Type 0)
-      (maps : Maps c d m h t Begins) where
-    follow-mapped : (n : ℕ → Reading A) (n' : ℕ → Reading B) → ((j : ℕ) → Begins j → mapped h (n j) ≡ n' j)
-        → (parts : List P) (s : Step)
-        → GoesTo Begins s
-        → mapped h (follow p n (λ e. c.build e parts) s) ≡ follow q n' (λ e. d.build e (map m parts)) s
-    follow-mapped n n' goes parts (more j) b = goes j b
-    follow-mapped n n' goes parts (closed e) b = ap (λ a. done a e) (maps.build e parts)
-    follow-mapped n n' goes parts (stuck k j) b = if_forgiven-mapped _ _ (λ e. maps.build e parts) k j j
-
-    behind_part-mapped : (n : List P → ℕ → Reading A) (n' : List Q → ℕ → Reading B)
-        → ((parts : List P) (j : ℕ) → Begins j → mapped h (n parts j) ≡ n' (map m parts) j)
-        → (parts : List P) (x : Reading P)
-        → mapped h (behind_part p c t n parts x) ≡ behind_part q d t n' (map m parts) (mapped m x)
-    behind_part-mapped n n' goes parts (done a e) =
-        follow-mapped (n (parts ++ a ∷ [])) (n' (map m (parts ++ a ∷ []))) (goes (parts ++ a ∷ [])) (parts ++ a ∷ []) _
-        (maps.next-begins e)
-        ∙ ap (follow q (n' (map m (parts ++ a ∷ []))) (λ e. d.build e (map m (parts ++ a ∷ [])))) (maps.next e)
-        ∙ ap (λ l. follow q (n' l) (λ e. d.build e l) (step t d.next e)) (map_push m parts a)
-    behind_part-mapped n n' goes parts (fault k i stop) = if_forgiven-mapped _ _ (λ e. maps.build e parts) k i stop
-
-    parts_at-mapped : (n : ℕ) (parts : List P) (i : ℕ) → Begins i
-        → mapped h (parts_at p c t n parts i) ≡ parts_at q d t n (map m parts) i
-    unfolding parts_at
-    parts_at-mapped zero parts i b = refl
-    parts_at-mapped (suc n) parts i b =
-        behind_part-mapped (parts_at p c t n) (parts_at q d t n) (parts_at-mapped n) parts (c.part i)
-        ∙ ap (behind_part q d t (parts_at q d t n) (map m parts)) (maps.part i b)
-
-    container_at-mapped : (i : ℕ) → mapped h (container_at p c t i) ≡ container_at q d t i
-    container_at-mapped i =
-        follow-mapped (parts_at p c t (length t) []) (parts_at q d t (length t) [])
-        (parts_at-mapped (length t) []) [] _ (maps.first-begins (i + 1))
-        ∙ ap (follow q (parts_at q d t (length t) []) (λ e. d.build e [])) (maps.first (i + 1))
-
-  module _ (f : ℕ → Reading A) (f' : ℕ → Reading B) (same : (i : ℕ) → mapped h (f i) ≡ f' i) where
-    -- a member
-    with_key-mapped : (k : K) (x : Reading A) → mapped (pair g h) (with_key k x) ≡ with_key (g k) (mapped h x)
-    with_key-mapped k (done a e) = refl
-    with_key-mapped k (fault kind i stop) = refl
-
-    behind_colon-mapped : (k : K) (x : Extent) → mapped (pair g h) (behind_colon k f x) ≡ behind_colon (g k) f' x
-    behind_colon-mapped k (taken u j) = with_key-mapped k (f j) ∙ ap (with_key (g k)) (same j)
-    behind_colon-mapped k (failed kind j) = refl
-
-    behind_key-mapped : (i : ℕ) (x : Scanned K)
-        → mapped (pair g h) (behind_key f t i x) ≡ behind_key f' t i (scanned_as g x)
-    behind_key-mapped i (taken k e) = behind_colon-mapped k (object_colon t e)
-    behind_key-mapped i (failed kind j) = refl
-
-    array-maps : (i : ℕ) → Maps (array_of p f t i) (array_of q f' t i) h h t (BeginsAt shape.Array t)
-    array-maps i = record {
-      first = λ j. refl;
-      next = λ j. refl;
-      first-begins = container_first-begins shape.Array t;
-      next-begins = container_step-begins shape.Array t;
-      part = λ j b. same j;
-      build = leads.array i;
-    }
-
-    object-maps : (i : ℕ) → Maps (object_of p f t i) (object_of q f' t i) (pair g h) h t (BeginsAt shape.Object t)
-    object-maps i = record {
-      first = λ j. refl;
-      next = λ j. refl;
-      first-begins = container_first-begins shape.Object t;
-      next-begins = container_step-begins shape.Object t;
-      part = λ j h. behind_key-mapped j (p.key t j) ∙ ap (behind_key f' t j) (leads.key j (key-quote t j h));
-      build = leads.object i;
-    }
-
-    starts : (i : ℕ) (s : Start) → start_of (slice_index t i) ≡ s → (start.Nothing ≡ s → ⊥) → i < length t
-    starts i s e other = begins-within t i (λ z. other (sym z ∙ e))
-
-    value_with-mapped : (i : ℕ) (s : Start) → start_of (slice_index t i) ≡ s
-        → mapped h (value_with p f t i s) ≡ value_with q f' t i s
-    value_with-mapped i start.Array e = container_at-mapped (array_of p f t i) (array_of q f' t i) h _ (array-maps i) i
-    value_with-mapped i start.Object e =
-        container_at-mapped (object_of p f t i) (object_of q f' t i) (pair g h) _ (object-maps i) i
-    value_with-mapped i start.String e =
-        scalar-mapped i (p.text t i) ∙ ap (scalar_at i) (leads.text i (string-begins t i e))
-    value_with-mapped i start.Number e =
-        scalar-mapped i (p.number t i) ∙ ap (scalar_at i) (leads.number i (starts i start.Number e (λ z. cc)) e)
-    value_with-mapped i (start.Literal l) e =
-        scalar-mapped i (p.literal t l i)
-        ∙ ap (scalar_at i) (leads.literal l i (starts i (start.Literal l) e (λ z. cc)) e)
-    value_with-mapped i start.Nothing e = refl
-
-  inside_at-mapped : (room i : ℕ) → mapped h (inside_at p t room i) ≡ inside_at q t room i
-  unfolding inside_at
-  inside_at-mapped zero i = refl
-  inside_at-mapped (suc room) i =
-      value_with-mapped (inside_at p t room) (inside_at q t room) (inside_at-mapped room) i
-      (start_of (slice_index t i)) refl
-
+    (leads : Leads AllTold p q g h t) where
   pub value_at-mapped : (room i : ℕ) → mapped h (value_at p t room i) ≡ value_at q t room i
-  value_at-mapped room i =
-      value_with-mapped (inside_at p t room) (inside_at q t room) (inside_at-mapped room) i
-      (start_of (slice_index t i)) refl
+  value_at-mapped room i = value_at-told AllTold p q g h t leads room i (all_told (value_at p t room i))
 
   to_end-mapped : (x : Reading A) → mapped h (to_end t x) ≡ to_end t (mapped h x)
   to_end-mapped (done a e) = at (slice_get t (past_blanks t e)) where
