@@ -7,7 +7,6 @@
 -- does, or meets its fault, but for that of UTF-8 (SkipLaw). The machine: what its open containers, as frames, complete
 -- the reading of a value to (Resumed).
 pub mod DecodeSteps
-pub mod FrontSteps
 pub mod PlainRuns
 pub mod RawStrings
 pub mod Resumed
