@@ -269,7 +269,7 @@ fn next_place(bytes: &[u8], at: usize) -> AtStop
 
 // Decodes what stands from `from` on to the front of the tape, a run of plain bytes and an escape at a time,
 // and gives how many bytes that makes.
-#[tactic(auto, using(crate::proofs::Calls::PlainRuns::scan_stop_stops))]
+#[tactic(auto, using(crate::proofs::Calls::PlainRuns::plain_run_stops))]
 fn decode(tape: &mut Vec<u8>, bytes: &[u8], from: usize) -> Result<(usize, Ending), Refused>
     requires { from ≤ length bytes.now }
     ensures text { IfOk result (λ r. take r.0 tape.new.items ≡ (body_at bytes.now from).bytes) }
@@ -391,7 +391,7 @@ pub(crate) fn cut_short(bytes: &[u8]) -> Fault
 }
 
 // Where the text of a string ends that ends so: with the input, if it is kept.
-#[tactic(auto, using(crate::proofs::Calls::StringAnswers::closed_in_form))]
+#[tactic(auto, using(crate::proofs::Calls::StringAnswers::string_closed))]
 fn text_end(bytes: &[u8], ending: Ending, keep: bool) -> Result<usize, Fault>
     ensures { (i : ℕ) → (bs : List ℕ) → (owned : Bool) → MatchResult result
         (λ e. text_in_form (text_form keep) bytes.now i bs owned (stop_view ending) ≡ checked keep i owned bs e)

@@ -19,34 +19,34 @@ use Rattle.jiter_steps.specs.ReadError.{UnlessRefused}
 use Rattle.jiter_steps.specs.StringDecoder.{text_view}
 use Rattle.jiter_steps.specs.StringReading.{Place, part, over, place_by, place_at, Stop, closed, unclosed, cut, wrong}
 use Rattle.jiter_steps.specs.StringReading.{is_cut, Body, before, join, body_at, Form, text_form, checked}
-use Rattle.jiter_steps.specs.StringReading.{text_in_form, content_at, string_at, between}
+use Rattle.jiter_steps.specs.StringReading.{text_in_form, content_at, string_at}
 use Rattle.jiter_steps.specs.declared.read_error.ReadError.{ReadError}
 use Rattle.jiter_steps.specs.declared.read_error.ReadError.TheVariants as error
-use Rattle.jiter_steps.proofs.Calls.PlainRuns.{plain_run_to, scan_stop_stops}
+use Rattle.jiter_steps.proofs.Calls.PlainRuns.{plain_run_to, plain_run_stops}
 use Rattle.jiter_steps.proofs.Grammar.Places.{place_at-explains, Explains}
 use Rattle.jiter_steps.proofs.Grammar.StringComplete.{place_by-quote}
 use Rattle.jiter_steps.proofs.Grammar.StringLaws.{string_at-within}
 use Rattle.jiter_steps.proofs.Reading.Bodies.{body_at-is, body_at-place_by}
-use Rattle.jiter_steps.proofs.Reading.StringForms.{kept_whole}
+use Rattle.jiter_steps.proofs.Reading.StringForms.{kept-valid}
 
 -- Decoded bytes as a text, by whether they are UTF-8.
 module _ (i e : ℕ) (o : Bool) (bs : List ℕ) where
-  pub checked_text : (keep : Bool) → IsUtf8 bs → checked keep i o bs e ≡ taken (record { owned = o; bytes = bs }) e
-  checked_text true u = kept_whole i e o bs u
-  checked_text false u = rw (eq-eqb _ _ (utf8_valid_len-IsUtf8 bs u))
+  pub string-checked : (keep : Bool) → IsUtf8 bs → checked keep i o bs e ≡ taken (record { owned = o; bytes = bs }) e
+  string-checked true u = kept-valid i e o bs (utf8_valid_len-IsUtf8 bs u)
+  string-checked false u = rw (eq-eqb _ _ (utf8_valid_len-IsUtf8 bs u))
 
 -- what ends by a fault alone is given on as it is
-pub fault-told : {A : Type 0} (P : Result A Fault → Type 0) (r : Result A Fault) (told : Result A ReadError)
+pub string-fault : {A : Type 0} (P : Result A Fault → Type 0) (r : Result A Fault) (told : Result A ReadError)
     → MatchResult r (λ x. told ≡ Ok x) (λ f. IsErrAnd told (λ e. e ≡ error.Fault f)) → P r → UnlessRefused told P
-fault-told P (Ok x) told is p = rw is p
-fault-told P (Err f) (Ok x) is p = absurd is
-fault-told P (Err f) (Err e) is p = rw is p
+string-fault P (Ok x) told is p = rw is p
+string-fault P (Err f) (Ok x) is p = absurd is
+string-fault P (Err f) (Err e) is p = rw is p
 
 -- what ends a closed text
-pub closed_in_form : (keep : Bool) (t : List ℕ) (i : ℕ) (bs : List ℕ) (o : Bool) (e : ℕ)
+pub string_closed : (keep : Bool) (t : List ℕ) (i : ℕ) (bs : List ℕ) (o : Bool) (e : ℕ)
     → text_in_form (text_form keep) t i bs o (closed e) ≡ checked keep i o bs e
-closed_in_form true t i bs o e = refl
-closed_in_form false t i bs o e = refl
+string_closed true t i bs o e = refl
+string_closed false t i bs o e = refl
 
 -- Behind a backslash a text lies in memory of its own, so that nothing hangs on the mark.
 module _ (t : List ℕ) (i : ℕ) (backslash : slice_get t i ≡ Some 92) (form : Form) (from : ℕ) (bs : List ℕ) where
@@ -101,13 +101,13 @@ module _ (t : List ℕ) (at : ℕ) (inside : at < length t) where
         → string_at (text_form keep) t at ≡ checked keep (at + 1) false plain (to + 1)
     string-quote keep e =
         string-over (text_form keep) (closed (to + 1)) (place_by-quote t to e)
-        ∙ closed_in_form keep t (at + 1) plain false (to + 1)
+        ∙ string_closed keep t (at + 1) plain false (to + 1)
 
     pub string-control : (form : Form) (b : ℕ) → slice_get t to ≡ Some b → b ≢ 34 → b ≢ 92
         → string_at form t at ≡ failed control_character to
     unfolding place_at
     string-control form b e q s =
-        let stops = scan_stop_stops t (at + 1) b (subst (λ j. slice_get t j ≡ Some b) stop e) in
+        let stops = plain_run_stops t (at + 1) b (subst (λ j. slice_get t j ≡ Some b) stop e) in
         let low : b < 32 = grind (arith, nat_tests, stops, q, s) in
         string-over form (wrong control_character to)
         (ap (place_by t to) e ∙ if-false (b == 34) _ _ (ne_eqb b 34 q) ∙ if-false (b == 92) _ _ (ne_eqb b 92 s)
@@ -122,11 +122,3 @@ module _ (t : List ℕ) (at : ℕ) (inside : at < length t) where
         ap (λ (b : Body). text_in_form form t (at + 1) (body_at t (at + 1)).bytes b.owned b.stop) run
         ∙ marked t to e form (at + 1) (body_at t (at + 1)).bytes
         ∙ ap (λ (b : Body). text_in_form form t (at + 1) (body_at t (at + 1)).bytes true b.stop) (sym run)
-
--- A closed string with no backslash: the text between its quotes.
-module _ (t : List ℕ) (at to : ℕ) (begins : at < length t) (stop : to ≡ scan_stop t (at + 1))
-    (quote : slice_get t to ≡ Some 34) (utf8 : IsUtf8 (slice_range t (at + 1) to)) where
-  pub string-quoted : (keep : Bool) → string_at (text_form keep) t at ≡ taken (between t (at + 1) to) (to + 1)
-  string-quoted keep =
-      string-quote t at begins to stop keep quote
-      ∙ checked_text (at + 1) (to + 1) false (slice_range t (at + 1) to) keep utf8

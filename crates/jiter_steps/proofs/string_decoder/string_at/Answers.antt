@@ -1,6 +1,6 @@
 use Rattle.std.proofs.Common.{false}
 use Rattle.jiter_steps.specs.StringReading.{text_form}
-use Rattle.jiter_steps.proofs.Calls.StringAnswers.{fault-told, string-advances, string-none, string-quote}
+use Rattle.jiter_steps.proofs.Calls.StringAnswers.{string-fault, string-advances, string-none, string-quote}
 use Rattle.jiter_steps.proofs.Calls.StringAnswers.{string-control}
 use Rattle.jiter_steps.proofs.string_decoder.string_at.Goals as goal
 
@@ -8,7 +8,7 @@ pub returns-in-Some-eq34-clause-value : goal.returns-in-Some-eq34-clause-value
 returns-in-Some-eq34-clause-value c =
     let s = c.scan_string-to in
     let here = string-quote c.args.bytes.now c.args.at c.requires s.result.0 s.ensures.stop c.args.keep (cc) in
-    fault-told _ c.borrow_text.result c.map_err.result c.map_err.ensures.cases (rw here c.borrow_text.ensures)
+    string-fault _ c.borrow_text.result c.map_err.result c.map_err.ensures.cases (rw here c.borrow_text.ensures)
 
 pub returns-in-Some-eq92-clause-advances : goal.returns-in-Some-eq92-clause-advances
 returns-in-Some-eq92-clause-advances c =
@@ -27,7 +27,7 @@ returns-in-None-clause-value c =
     let s = c.scan_string-to in
     let here = string-none c.args.bytes.now c.args.at c.requires s.result.0 s.ensures.stop (text_form c.args.keep)
     (cc) in
-    fault-told _ c.borrow_text-in-None.result c.map_err-in-None.result c.map_err-in-None.ensures.cases
+    string-fault _ c.borrow_text-in-None.result c.map_err-in-None.result c.map_err-in-None.ensures.cases
     (rw (here, c.if-keep.true) (rw c.if-keep.true at c.borrow_text-in-None.ensures))
 
 pub returns-in-None-2-clause-value : goal.returns-in-None-2-clause-value
