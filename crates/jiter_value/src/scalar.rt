@@ -92,12 +92,7 @@ fn read_text<'j>(
     ensures one { IfOk result (λ v. size (view v) ≡ 1) }
     ensures memory { WhereRefused result (WantsMemory parser.old.bytes.now parser.old.index) }
 {
-    let read = if settings.mode.allow_trailing_str() {
-        parser.string_front(alloc, tape)
-    } else {
-        parser.string(alloc, tape)
-    };
-    match read {
+    match parser.string(alloc, tape, settings.mode.allow_trailing_str()) {
         Ok(text) => Ok(JsonValue::Str(text)),
         Err(error) => Err(error),
     }

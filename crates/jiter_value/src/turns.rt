@@ -765,7 +765,7 @@ fn any_key<'j>(
         (λ a. held stacks.new a ≤ key_size stacks.old + 1) }
 {
     let mut parser = Parser { bytes, index: at };
-    match parser.string(alloc, tape) {
+    match parser.string(alloc, tape, false) {
         Ok(key) => match parser.object_colon() {
             Ok(()) => {
                 if stacks.nest.len() > NESTING_LIMIT {

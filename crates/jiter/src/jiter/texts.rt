@@ -21,41 +21,6 @@ use jiter_steps::read_error::ReadError;
 use std::alloc::Global;
 use std::borrow::CowStr;
 
-// The string where the reader of the bytes stands; as far as it goes, if so asked.
-fn read_string<'j>(
-    alloc: Global,
-    tape: &mut Vec<u8>,
-    parser: &mut Parser<'j>,
-    partial: bool,
-) -> Result<CowStr<'j>, ReadError>
-    requires { parser.old.index < length parser.old.bytes.now }
-    ensures moves { Moves parser.old parser.new }
-    ensures value { Gives text_view result parser.new.index (scalar_at parser.old.index
-        (string_at (if partial then kept else whole) parser.old.bytes.now parser.old.index)) }
-    ensures place { OnErr result (parser.new.index ≡ parser.old.index) }
-    ensures memory { WhereRefused result (WantsMemory parser.old.bytes.now parser.old.index) }
-{
-    if partial {
-        parser.string_front(alloc, tape)
-    } else {
-        parser.string(alloc, tape)
-    }
-}
-
-// The same raw.
-fn read_raw_string<'j>(parser: &mut Parser<'j>, partial: bool) -> Result<&'j [u8], Fault>
-    requires { parser.old.index < length parser.old.bytes.now }
-    ensures moves { Moves parser.old parser.new }
-    ensures value { Reads raw_view result parser.new.index (scalar_at parser.old.index
-        (string_at (if partial then raw_kept else raw) parser.old.bytes.now parser.old.index)) }
-{
-    if partial {
-        parser.raw_string_front()
-    } else {
-        parser.raw_string()
-    }
-}
-
 impl<'j> Jiter<'j> {
     // The buffer for decoded texts, which is made where there is none.
     fn take_tape(&mut self, alloc: Global) -> Vec<u8>
@@ -80,7 +45,7 @@ impl<'j> Jiter<'j> {
             × (e.index ≡ self.old.position)) }
     {
         let mut tape = self.take_tape(alloc);
-        let read = read_string(alloc, &mut tape, &mut self.parser, partial);
+        let read = self.parser.string(alloc, &mut tape, partial);
         self.tape = Some(tape);
         match read {
             Ok(text) => Ok(text),
@@ -172,10 +137,7 @@ impl<'j> Jiter<'j> {
             (string_at (if partial then raw_kept else raw) self.old.text self.old.position)) }
         ensures refusal { RefusesBytes self.old.text result }
     {
-        match read_raw_string(&mut self.parser, partial) {
-            Ok(content) => Ok(content),
-            Err(fault) => Err(refusal(fault)),
-        }
+        self.parser.raw_string(partial).map_err(refusal)
     }
 
     // The bytes between the quotes, at a value that begins so.

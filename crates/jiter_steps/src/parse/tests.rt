@@ -393,7 +393,7 @@ fn a_number_or_a_string_is_passed_or_leaves_the_reading_there(rt: HostRuntime) {
     assert!(rt; parser.number(false).is_ok());
     assert_eq!(rt; parser.index, 2);
     parser.index = 4;
-    match parser.string(rt.alloc(), &mut tape) {
+    match parser.string(rt.alloc(), &mut tape, false) {
         Ok(CowStr::Borrowed(text)) => assert_eq!(rt; text, "a"),
         _ => assert!(rt; false),
     }
@@ -408,7 +408,7 @@ fn a_number_or_a_string_is_passed_or_leaves_the_reading_there(rt: HostRuntime) {
     }
     assert_eq!(rt; parser.index, 9);
     parser.index = 13;
-    match parser.string(rt.alloc(), &mut tape) {
+    match parser.string(rt.alloc(), &mut tape, false) {
         Err(ReadError::Fault(fault)) => {
             assert_eq!(rt; fault.kind, Kind::ControlCharacterWhileParsingString);
             assert_eq!(rt; fault.index, 14);

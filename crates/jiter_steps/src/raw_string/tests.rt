@@ -2,7 +2,7 @@
 ghost use Rattle.std.specs.Prelude.{◌≤◌};
 
 use crate::parse::Parser;
-use crate::raw_string::{raw_string_at, raw_string_front_at, string_end};
+use crate::raw_string::{raw_string_at, string_end};
 use jiter_scan::errors::{Fault, FaultKind as Kind};
 use std::test::*;
 
@@ -19,8 +19,8 @@ fn closes<'a>(bytes: &'a [u8], at: usize, content: &'a [u8], end: usize) -> bool
     if bytes.len() <= at {
         return false;
     }
-    took(raw_string_at(bytes, at), content, end)
-        && took(raw_string_front_at(bytes, at), content, end)
+    took(raw_string_at(bytes, at, false), content, end)
+        && took(raw_string_at(bytes, at, true), content, end)
         && string_end(bytes, at) == Ok(end)
 }
 
@@ -37,7 +37,7 @@ fn refuses_open(bytes: &[u8], at: usize, kind: Kind, index: usize) -> bool {
     if bytes.len() <= at {
         return false;
     }
-    is_refusal(raw_string_at(bytes, at), fault) && string_end(bytes, at) == Err(fault)
+    is_refusal(raw_string_at(bytes, at, false), fault) && string_end(bytes, at) == Err(fault)
 }
 
 // Whether each of the three readings refuses the string at the index so.
@@ -46,7 +46,7 @@ fn refuses(bytes: &[u8], at: usize, kind: Kind, index: usize) -> bool {
         return false;
     }
     refuses_open(bytes, at, kind, index)
-        && is_refusal(raw_string_front_at(bytes, at), Fault { kind, index })
+        && is_refusal(raw_string_at(bytes, at, true), Fault { kind, index })
 }
 
 // Whether the string at index 0 is open: kept raw to the end of input, and else refused there.
@@ -55,7 +55,7 @@ fn is_open(bytes: &[u8]) -> bool {
         return false;
     }
     refuses_open(bytes, 0, Kind::EofWhileParsingString, bytes.len())
-        && took(raw_string_front_at(bytes, 0), &bytes[1..], bytes.len())
+        && took(raw_string_at(bytes, 0, true), &bytes[1..], bytes.len())
 }
 
 #[test]
@@ -255,17 +255,17 @@ fn the_reader_passes_a_raw_string_and_stays_at_a_refused_one(rt: HostRuntime) {
         bytes: b"[\"a\\n\", \"\\q\"]",
         index: 1,
     };
-    assert!(rt; parser.raw_string() == Ok(b"a\\n".as_slice()));
+    assert!(rt; parser.raw_string(false) == Ok(b"a\\n".as_slice()));
     assert_eq!(rt; parser.index, 6);
     parser.index = 8;
     let fault = Fault {
         kind: Kind::InvalidEscape,
         index: 10,
     };
-    assert!(rt; parser.raw_string() == Err(fault));
-    assert!(rt; parser.raw_string_front() == Err(fault));
+    assert!(rt; parser.raw_string(false) == Err(fault));
+    assert!(rt; parser.raw_string(true) == Err(fault));
     assert_eq!(rt; parser.index, 8);
     parser.index = 11;
-    assert!(rt; parser.raw_string_front() == Ok(b"]".as_slice()));
+    assert!(rt; parser.raw_string(true) == Ok(b"]".as_slice()));
     assert_eq!(rt; parser.index, 13);
 }

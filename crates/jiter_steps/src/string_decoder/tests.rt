@@ -12,7 +12,7 @@ fn reads(alloc: Global, bytes: &[u8], owned: bool, text: &str) -> bool {
     if bytes.is_empty() {
         return false;
     }
-    let Ok((seen, end)) = string_at(alloc, &mut tape, bytes, 0) else {
+    let Ok((seen, end)) = string_at(alloc, &mut tape, bytes, 0, false) else {
         return false;
     };
     let same = match &seen {
@@ -28,7 +28,7 @@ fn refuses_at(alloc: Global, bytes: &[u8], at: usize, kind: FaultKind, index: us
     if bytes.len() <= at {
         return false;
     }
-    match string_at(alloc, &mut tape, bytes, at) {
+    match string_at(alloc, &mut tape, bytes, at, false) {
         Err(ReadError::Fault(fault)) => fault.kind == kind && fault.index == index,
         Err(ReadError::Memory(_)) => false,
         Ok(_) => false,
