@@ -5,6 +5,7 @@ ghost use Rattle.std.specs.declared.alloc.Global.{Global};
 ghost use Rattle.std.specs.declared.borrow.CowStr.{CowStr as CowStrView};
 ghost use Rattle.jiter_steps.specs.Read.{done};
 ghost use Rattle.jiter_steps.specs.Tree.{object, members_of};
+ghost use Rattle.jiter_steps.specs.declared.read_error.ReadError.TheVariants as error;
 ghost use Rattle.jiter_value.specs.Value.{view};
 ghost use Rattle.jiter_value.specs.Size.{size, value_size, inside_size, behind_size};
 ghost use Rattle.jiter_value.specs.Stacks.{Member, member_view, resume_with, behind, container_ends, Stands};
@@ -184,6 +185,43 @@ pub fn close<'j>(alloc: Global, stacks: &mut Stacks<'j>, shape: Shape) -> Result
             Ok(container.outer)
         }
     }
+}
+
+/// The reading is given up for a fault of the bytes, and stops at `at`.
+#[cold]
+#[inline(never)]
+pub fn give_up<'j>(stacks: &mut Stacks<'j>, fault: Fault, at: usize) -> (usize, Awaits)
+    ensures place { result ≡ (at, Awaits.Refused) }
+    ensures error { stacks.new.error ≡ error.Fault fault }
+{
+    stacks.error = ReadError::Fault(fault);
+    (at, Awaits::Refused)
+}
+
+/// The reading is given up at `at`, since memory was refused.
+#[cold]
+#[inline(never)]
+pub fn no_memory<'j>(stacks: &mut Stacks<'j>, refused: Refused, at: usize) -> (usize, Awaits)
+    ensures place { result ≡ (at, Awaits.Refused) }
+    ensures error { stacks.new.error ≡ error.Memory refused }
+{
+    stacks.error = ReadError::Memory(refused);
+    (at, Awaits::Refused)
+}
+
+/// Too many containers stand one inside another, where a value begins at `at`.
+#[cold]
+#[inline(never)]
+pub fn too_deep<'j>(stacks: &mut Stacks<'j>, at: usize) -> (usize, Awaits)
+    ensures place { result ≡ (at, Awaits.Refused) }
+    ensures error { stacks.new.error
+        ≡ error.Fault (record { kind = FaultKind.RecursionLimitExceeded; index = at }) }
+{
+    let fault = Fault {
+        kind: FaultKind::RecursionLimitExceeded,
+        index: at,
+    };
+    give_up(stacks, fault, at)
 }
 
 /// Takes out why the reading was given up.

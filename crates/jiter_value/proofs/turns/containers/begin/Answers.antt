@@ -3,7 +3,7 @@ use Rattle.std.proofs.lemmas.Result.{IfOk-weaker, on_ok_weaker}
 use Rattle.jiter_value.specs.Turns.{outcome}
 use Rattle.jiter_value.proofs.TurnOutcomes.{root-grows, refused-weaker, fault-grows}
 use Rattle.jiter_value.proofs.StackTurns.{begins-closed, begins-fails}
-use Rattle.jiter_value.proofs.turns.begin.Goals as goal
+use Rattle.jiter_value.proofs.turns.containers.begin.Goals as goal
 
 pub returns-then-not-ends_at_first : goal.returns-then-not-ends_at_first
 returns-then-not-ends_at_first c =

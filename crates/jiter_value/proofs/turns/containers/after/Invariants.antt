@@ -3,7 +3,7 @@ use Rattle.jiter_value.specs.Size.{behind_size}
 use Rattle.jiter_value.specs.Stacks.{behind, Stands}
 use Rattle.jiter_value.specs.Turns.{left}
 use Rattle.jiter_value.specs.declared.stacks.Awaits.TheVariants as awaits
-use Rattle.jiter_value.proofs.turns.after.Given as goal
+use Rattle.jiter_value.proofs.turns.containers.after.Given as goal
 
 abbrev pub invariant-closing : goal.invariant-closing
 invariant-closing l =

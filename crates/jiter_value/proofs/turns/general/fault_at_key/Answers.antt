@@ -2,7 +2,7 @@ use Rattle.std.proofs.Common.{◌≡◌, ◌∙◌, sym, false, reverse}
 use Rattle.jiter_scan.specs.Kind.{fault_kind}
 use Rattle.jiter_value.specs.Settings.{forgives}
 use Rattle.jiter_value.proofs.StackTurns.{key-kept}
-use Rattle.jiter_value.proofs.turns.fault_at_key.Goals as goal
+use Rattle.jiter_value.proofs.turns.general.fault_at_key.Goals as goal
 
 pub returns-then-not-forgives-clause-reaches : goal.returns-then-not-forgives-clause-reaches
 returns-then-not-forgives-clause-reaches c =

@@ -6,7 +6,7 @@ use Rattle.jiter_value.specs.declared.stacks.Awaits.TheVariants as awaits
 use Rattle.jiter_value.specs.declared.value.JsonValue.TheVariants.{Null}
 use Rattle.jiter_value.proofs.Placed.{key-at}
 use Rattle.jiter_value.proofs.StackTurns.{key-opens, limit-reached, key-fails, colon-fails, key-above}
-use Rattle.jiter_value.proofs.turns.any_key.Goals as goal
+use Rattle.jiter_value.proofs.turns.general.general_key.Goals as goal
 
 pub returns-then-len-gt-NESTING_LIMIT-clause-reaches : goal.returns-then-len-gt-NESTING_LIMIT-clause-reaches
 returns-then-len-gt-NESTING_LIMIT-clause-reaches c =

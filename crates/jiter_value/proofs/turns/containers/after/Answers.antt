@@ -2,7 +2,7 @@ use Rattle.std.proofs.Common.{◌∙◌, refl, sym, arith, reverse}
 use Rattle.jiter_value.proofs.Shapes.{reaches-part, inside-stands, not-root}
 use Rattle.jiter_value.proofs.Sizes.{behind-part-size}
 use Rattle.jiter_value.proofs.StackTurns.{behind-more, behind-closed, behind-fails}
-use Rattle.jiter_value.proofs.turns.after.Goals as goal
+use Rattle.jiter_value.proofs.turns.containers.after.Goals as goal
 
 pub returns-in-Part-clause-reaches : goal.returns-in-Part-clause-reaches
 returns-in-Part-clause-reaches c =

@@ -10,7 +10,7 @@ use Rattle.jiter_value.specs.Turns.{outcome}
 use Rattle.jiter_value.specs.declared.stacks.Awaits.TheVariants as awaits
 use Rattle.jiter_value.proofs.StackTurns.{fault-value, last-member}
 use Rattle.jiter_value.proofs.Sizes.{key-size}
-use Rattle.jiter_value.proofs.turns.fault_at_value.Goals as goal
+use Rattle.jiter_value.proofs.turns.general.fault_at_value.Goals as goal
 
 pub returns-then-not-forgives-clause-reaches : goal.returns-then-not-forgives-clause-reaches
 returns-then-not-forgives-clause-reaches c =

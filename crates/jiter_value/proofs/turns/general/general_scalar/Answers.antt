@@ -3,7 +3,7 @@ use Rattle.jiter_scan.specs.Kind.{fault_kind}
 use Rattle.jiter_steps.specs.Read.{done, fault}
 use Rattle.jiter_value.specs.Value.{view}
 use Rattle.jiter_value.proofs.StackTurns.{value-read}
-use Rattle.jiter_value.proofs.turns.scalar_turn.Goals as goal
+use Rattle.jiter_value.proofs.turns.general.general_scalar.Goals as goal
 
 pub returns-in-Ok-put-clause-reaches : goal.returns-in-Ok-put-clause-reaches
 returns-in-Ok-put-clause-reaches c =

@@ -1,6 +1,6 @@
 use Rattle.std.proofs.Common.{refl}
 use Rattle.jiter_value.proofs.Shapes.{shape-opens, array-too-deep}
-use Rattle.jiter_value.proofs.turns.open.Goals as goal
+use Rattle.jiter_value.proofs.turns.containers.open.Goals as goal
 
 pub returns-then-is_full-clause-reaches : goal.returns-then-is_full-clause-reaches
 returns-then-is_full-clause-reaches c =

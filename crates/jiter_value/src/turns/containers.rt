@@ -1,0 +1,386 @@
+//! Containers on the stacks: where one begins, where it ends, the steps behind a part, and what is forgiven there.
+ghost use Rattle.std.specs.Prelude.{◌≡◌, ◌≢◌, ℕ, ◌+◌, ◌≤◌, ◌<◌, List, IfOk, IfSome, None, OnOk, OnErr, length};
+ghost use Rattle.std.specs.Prelude.{slice_index, true, false};
+ghost use Rattle.jiter_steps.specs.Literal.{start_of};
+ghost use Rattle.jiter_steps.specs.Node.{nesting_limit};
+ghost use Rattle.jiter_steps.specs.Parse.{Steps};
+ghost use Rattle.jiter_steps.specs.Plain.{IsNext, IsStuckAt};
+ghost use Rattle.jiter_steps.specs.Read.{done};
+ghost use Rattle.jiter_steps.specs.ReadError.{WhereRefused};
+ghost use Rattle.jiter_steps.specs.Step.{Step, step, more, container_first, container_step, opening};
+ghost use Rattle.jiter_value.specs.Size.{value_size, inside_size, behind_size, held};
+ghost use Rattle.jiter_value.specs.Stacks.{resume_with, from_value, behind, container_ends, Stands, StandsInside};
+ghost use Rattle.jiter_value.specs.Stacks.{awaited_in, base_of, part_of, empty_tree};
+ghost use Rattle.jiter_value.specs.Turns.{IsResolved, Reaches, MayGrowFor, left, outcome};
+ghost use Rattle.jiter_value.specs.Value.{MayGrowAt};
+ghost use Rattle.jiter_value.specs.declared.settings.Settings.{Settings as SettingsView};
+
+use crate::settings::{Settings, forgives};
+use crate::stacks::{Awaits, Open, Stacks, close, no_memory, object_of, put, too_deep};
+use crate::value::JsonValue;
+use jiter_scan::errors::Fault;
+use jiter_scan::memory::{Refused, push_small};
+use jiter_steps::parse::{NESTING_LIMIT, Parser, Shape};
+use jiter_steps::plain::{Next, first_at, step_at};
+use jiter_steps::read_error::ReadError;
+use std::alloc::Global;
+
+// What is awaited where a part of a container begins.
+#[inline(always)]
+fn part_of(shape: Shape) -> Awaits
+    ensures { result ≡ part_of shape }
+{
+    match shape {
+        Shape::Array => Awaits::Item,
+        Shape::Object => Awaits::Key,
+    }
+}
+
+// The shape of the container that holds what was awaited, if one does.
+#[inline(always)]
+fn shape_of(awaits: Awaits) -> Option<Shape>
+    ensures some { IfSome result (λ shape. awaits ≡ awaited_in shape) }
+    ensures none { result ≡ None → (awaits ≢ Awaits.Item) × (awaits ≢ Awaits.Value) }
+{
+    match awaits {
+        Awaits::Item => Some(Shape::Array),
+        Awaits::Value => Some(Shape::Object),
+        _ => None,
+    }
+}
+
+// Whether a container's fault is forgiven; if not, the reading is given up for it.
+fn is_forgiven<'j>(stacks: &mut Stacks<'j>, step: Result<bool, Fault>, settings: Settings) -> bool
+    ensures resolved { (i j : ℕ) → (s : Step) → Steps step i s → IsStuckAt j s
+        → IsResolved settings result stacks.new.error j s }
+    ensures same { result ≡ true → stacks.new ≡ stacks.old }
+{
+    match step {
+        Ok(_) => true,
+        Err(fault) => {
+            if forgives(settings.mode, fault.kind) {
+                return true;
+            }
+            stacks.error = ReadError::Fault(fault);
+            false
+        }
+    }
+}
+
+// Whether the fault at `at`, behind a part that ends at `from`, is forgiven.
+#[cold]
+#[inline(never)]
+fn is_step_forgiven<'j>(
+    stacks: &mut Stacks<'j>,
+    bytes: &'j [u8],
+    from: usize,
+    at: usize,
+    settings: Settings,
+    shape: Shape,
+) -> bool
+    requires within { from ≤ length bytes.now }
+    requires stuck { IsStuckAt at (step bytes.now (container_step shape bytes.now) from) }
+    ensures resolved { IsResolved settings result stacks.new.error at
+        (step bytes.now (container_step shape bytes.now) from) }
+    ensures same { result ≡ true → stacks.new ≡ stacks.old }
+{
+    let mut parser = Parser { bytes, index: from };
+    is_forgiven(stacks, parser.step(shape), settings)
+}
+
+// Whether the fault at `at`, behind the bracket at `from`, is forgiven.
+#[cold]
+#[inline(never)]
+fn is_first_forgiven<'j>(
+    stacks: &mut Stacks<'j>,
+    bytes: &'j [u8],
+    from: usize,
+    at: usize,
+    settings: Settings,
+    shape: Shape,
+) -> bool
+    requires within { from < length bytes.now }
+    requires stuck { IsStuckAt at (step bytes.now (container_first shape) (from + 1)) }
+    ensures resolved { IsResolved settings result stacks.new.error at
+        (step bytes.now (container_first shape) (from + 1)) }
+    ensures same { result ≡ true → stacks.new ≡ stacks.old }
+{
+    let mut parser = Parser { bytes, index: from };
+    is_forgiven(stacks, parser.first(shape), settings)
+}
+
+// Whether a container that goes on with no part ends at `at`; if not, the reading is given up there.
+#[inline(always)]
+fn ends<'j>(
+    stacks: &mut Stacks<'j>,
+    bytes: &'j [u8],
+    from: usize,
+    at: usize,
+    what: Next,
+    settings: Settings,
+    shape: Shape,
+) -> bool
+    requires within { from ≤ length bytes.now }
+    requires step { IsNext at what (step bytes.now (container_step shape bytes.now) from) }
+    requires no_part { what ≢ Next.Part }
+    ensures resolved { IsResolved settings result stacks.new.error at
+        (step bytes.now (container_step shape bytes.now) from) }
+    ensures same { result ≡ true → stacks.new ≡ stacks.old }
+{
+    match what {
+        Next::End => true,
+        _ => is_step_forgiven(stacks, bytes, from, at, settings, shape),
+    }
+}
+
+// Whether a container without a part, whose bracket is at `from`, ends at `at`; if not, the reading is given up
+// there.
+#[inline(always)]
+fn ends_at_first<'j>(
+    stacks: &mut Stacks<'j>,
+    bytes: &'j [u8],
+    from: usize,
+    at: usize,
+    what: Next,
+    settings: Settings,
+    shape: Shape,
+) -> bool
+    requires within { from < length bytes.now }
+    requires step { IsNext at what (step bytes.now (container_first shape) (from + 1)) }
+    requires no_part { what ≢ Next.Part }
+    ensures resolved { IsResolved settings result stacks.new.error at
+        (step bytes.now (container_first shape) (from + 1)) }
+    ensures same { result ≡ true → stacks.new ≡ stacks.old }
+{
+    match what {
+        Next::End => true,
+        _ => is_first_forgiven(stacks, bytes, from, at, settings, shape),
+    }
+}
+
+/// Behind a value, up to the next value or key; containers that end are closed.
+#[inline(always)]
+pub fn after<'j>(
+    alloc: Global,
+    stacks: &mut Stacks<'j>,
+    bytes: &'j [u8],
+    from: usize,
+    settings: Settings,
+    awaits: Awaits,
+) -> (usize, Awaits)
+    requires stands { Stands stacks.old awaits }
+    requires room { length stacks.old.nest.items ≤ nesting_limit }
+    requires within { from ≤ length bytes.now }
+    ensures within { (from ≤ result.0) × (result.0 ≤ length bytes.now) }
+    ensures reaches { Reaches settings bytes.now stacks.new result.0 (outcome stacks.new result.1)
+        (behind settings bytes.now stacks.old awaits from) }
+    ensures left { OnOk (outcome stacks.new result.1) (left bytes.now stacks.new result.0
+        ≤ left bytes.now stacks.old from) }
+    ensures held { IfOk (outcome stacks.new result.1)
+        (λ a. held stacks.new a ≡ behind_size stacks.old awaits) }
+    ensures memory { WhereRefused (outcome stacks.new result.1) (awaits ≢ Awaits.Root) }
+    ensures root { awaits ≡ Awaits.Root
+        → IfOk (outcome stacks.new result.1) (λ a. a ≡ Awaits.Done) }
+{
+    let mut at = from;
+    let mut inside = awaits;
+    'closing: loop {
+        match shape_of(inside) {
+            None => return (at, Awaits::Done),
+            Some(shape) => {
+                let (next, what) = step_at(bytes, at, shape);
+                match what {
+                    Next::Part => return (next, part_of(shape)),
+                    _ => {}
+                }
+                if !ends(stacks, bytes, at, next, what, settings, shape) {
+                    return (next, Awaits::Refused);
+                }
+                match close(alloc, stacks, shape) {
+                    Ok(outer) => inside = outer,
+                    Err(refused) => return no_memory(stacks, refused, next),
+                }
+                at = next;
+            }
+        }
+    }
+}
+
+/// The innermost container ends at `at`, and the steps behind it.
+#[inline(never)]
+pub fn close_and_go_on<'j>(
+    alloc: Global,
+    stacks: &mut Stacks<'j>,
+    bytes: &'j [u8],
+    at: usize,
+    settings: Settings,
+    shape: Shape,
+) -> (usize, Awaits)
+    requires stands { StandsInside shape stacks.old }
+    requires room { length stacks.old.nest.items ≤ nesting_limit + 1 }
+    requires within { at ≤ length bytes.now }
+    ensures within { (at ≤ result.0) × (result.0 ≤ length bytes.now) }
+    ensures reaches { Reaches settings bytes.now stacks.new result.0 (outcome stacks.new result.1)
+        (container_ends settings bytes.now shape stacks.old at) }
+    ensures left { OnOk (outcome stacks.new result.1) (left bytes.now stacks.new result.0
+        < left bytes.now stacks.old at) }
+    ensures held { IfOk (outcome stacks.new result.1)
+        (λ a. held stacks.new a ≡ inside_size shape stacks.old) }
+{
+    match close(alloc, stacks, shape) {
+        Ok(outer) => after(alloc, stacks, bytes, at, settings, outer),
+        Err(refused) => no_memory(stacks, refused, at),
+    }
+}
+
+// An empty container goes where it belongs.
+#[inline(always)]
+fn put_empty<'j>(
+    alloc: Global,
+    stacks: &mut Stacks<'j>,
+    awaits: Awaits,
+    shape: Shape,
+) -> Result<(), Refused>
+    requires { Stands stacks.old awaits }
+    ensures value { OnOk result ((p : SettingsView) → (t : List ℕ) → (e : ℕ)
+        → resume_with p t stacks.old awaits (done (empty_tree shape) e) ≡ behind p t stacks.new awaits e) }
+    ensures stands { OnOk result (Stands stacks.new awaits) }
+    ensures nest { stacks.new.nest ≡ stacks.old.nest }
+    ensures held { OnOk result (behind_size stacks.new awaits ≡ value_size stacks.old awaits + 1) }
+    ensures refused { OnErr result (awaits ≢ Awaits.Root) }
+{
+    match shape {
+        Shape::Array => put(stacks, awaits, JsonValue::Array(Vec::new(alloc))),
+        Shape::Object => put(stacks, awaits, object_of(Vec::new(alloc))),
+    }
+}
+
+// An empty container ends before `end`, and the steps behind it.
+#[inline(always)]
+fn empty<'j>(
+    alloc: Global,
+    stacks: &mut Stacks<'j>,
+    bytes: &'j [u8],
+    end: usize,
+    settings: Settings,
+    awaits: Awaits,
+    shape: Shape,
+) -> (usize, Awaits)
+    requires stands { Stands stacks.old awaits }
+    requires room { length stacks.old.nest.items ≤ nesting_limit }
+    requires within { end ≤ length bytes.now }
+    ensures within { (end ≤ result.0) × (result.0 ≤ length bytes.now) }
+    ensures reaches { Reaches settings bytes.now stacks.new result.0 (outcome stacks.new result.1)
+        (resume_with settings bytes.now stacks.old awaits (done (empty_tree shape) end)) }
+    ensures left { OnOk (outcome stacks.new result.1) (left bytes.now stacks.new result.0
+        ≤ left bytes.now stacks.old end) }
+    ensures held { IfOk (outcome stacks.new result.1)
+        (λ a. held stacks.new a ≡ value_size stacks.old awaits + 1) }
+    ensures memory { WhereRefused (outcome stacks.new result.1) (awaits ≢ Awaits.Root) }
+    ensures root { awaits ≡ Awaits.Root
+        → IfOk (outcome stacks.new result.1) (λ a. a ≡ Awaits.Done) }
+{
+    match put_empty(alloc, stacks, awaits, shape) {
+        Ok(()) => after(alloc, stacks, bytes, end, settings, awaits),
+        Err(refused) => no_memory(stacks, refused, end),
+    }
+}
+
+// Whether no value may stand inside a further container of this shape; that of an object waits for its key.
+#[inline(always)]
+fn is_full<'j>(stacks: &Stacks<'j>, shape: Shape) -> bool
+    ensures full { result ≡ true
+        → (shape ≡ Shape.Array) × (length stacks.now.nest.items ≡ nesting_limit) }
+    ensures few { result ≡ false → shape ≡ Shape.Array
+        → length stacks.now.nest.items ≢ nesting_limit }
+{
+    match shape {
+        Shape::Array => stacks.nest.len() == NESTING_LIMIT,
+        Shape::Object => false,
+    }
+}
+
+// How many parts lie below those of a container that begins.
+#[inline(always)]
+fn base_of<'j>(stacks: &Stacks<'j>, shape: Shape) -> usize
+    ensures { result ≡ base_of shape stacks.now }
+{
+    match shape {
+        Shape::Array => stacks.items.len(),
+        Shape::Object => stacks.members.len(),
+    }
+}
+
+// The container whose bracket is at `at` and whose first part begins at `next` stands open.
+#[inline(always)]
+fn open<'j>(
+    stacks: &mut Stacks<'j>,
+    bytes: &'j [u8],
+    at: usize,
+    next: usize,
+    settings: Settings,
+    awaits: Awaits,
+    shape: Shape,
+) -> (usize, Awaits)
+    requires stands { Stands stacks.old awaits }
+    requires room { length stacks.old.nest.items ≤ nesting_limit }
+    requires within { (at < next) × (next < length bytes.now) }
+    requires bracket { start_of (slice_index bytes.now at) ≡ opening shape }
+    requires part { step bytes.now (container_first shape) (at + 1) ≡ more next }
+    ensures place { result.0 ≡ next }
+    ensures reaches { Reaches settings bytes.now stacks.new result.0 (outcome stacks.new result.1)
+        (from_value settings bytes.now stacks.old awaits at) }
+    ensures left { OnOk (outcome stacks.new result.1) (left bytes.now stacks.new result.0
+        < left bytes.now stacks.old at) }
+    ensures held { IfOk (outcome stacks.new result.1)
+        (λ a. held stacks.new a ≤ value_size stacks.old awaits + 1) }
+{
+    if is_full(stacks, shape) {
+        return too_deep(stacks, next);
+    }
+    let base = base_of(stacks, shape);
+    let container = Open {
+        outer: awaits,
+        base,
+    };
+    match push_small(&mut stacks.nest, container) {
+        Ok(()) => (next, part_of(shape)),
+        Err(refused) => no_memory(stacks, refused, next),
+    }
+}
+
+/// The container whose bracket is at `at`.
+#[inline(always)]
+pub fn begin<'j>(
+    alloc: Global,
+    stacks: &mut Stacks<'j>,
+    bytes: &'j [u8],
+    at: usize,
+    settings: Settings,
+    awaits: Awaits,
+    shape: Shape,
+) -> (usize, Awaits)
+    requires stands { Stands stacks.old awaits }
+    requires room { length stacks.old.nest.items ≤ nesting_limit }
+    requires within { at < length bytes.now }
+    requires bracket { start_of (slice_index bytes.now at) ≡ opening shape }
+    ensures within { (at ≤ result.0) × (result.0 ≤ length bytes.now) }
+    ensures reaches { Reaches settings bytes.now stacks.new result.0 (outcome stacks.new result.1)
+        (from_value settings bytes.now stacks.old awaits at) }
+    ensures left { OnOk (outcome stacks.new result.1) (left bytes.now stacks.new result.0
+        < left bytes.now stacks.old at) }
+    ensures held { IfOk (outcome stacks.new result.1)
+        (λ a. held stacks.new a ≤ value_size stacks.old awaits + 1) }
+    ensures memory { awaits ≡ Awaits.Root
+        → MayGrowFor (outcome stacks.new result.1) (MayGrowAt bytes.now at) }
+{
+    let (next, what) = first_at(bytes, at + 1, shape);
+    match what {
+        Next::Part => return open(stacks, bytes, at, next, settings, awaits, shape),
+        _ => {}
+    }
+    if !ends_at_first(stacks, bytes, at, next, what, settings, shape) {
+        return (next, Awaits::Refused);
+    }
+    empty(alloc, stacks, bytes, next, settings, awaits, shape)
+}
