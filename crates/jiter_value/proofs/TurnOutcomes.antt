@@ -6,8 +6,8 @@ use Rattle.jiter_steps.specs.declared.read_error.ReadError.{ReadError}
 use Rattle.jiter_steps.specs.declared.read_error.ReadError.TheVariants as error
 use Rattle.jiter_steps.specs.ReadError.{WhereRefused}
 use Rattle.jiter_value.specs.Turns.{MayGrowFor}
-use Rattle.jiter_value.specs.declared.stacks.Awaits.{Awaits}
-use Rattle.jiter_value.specs.declared.stacks.Awaits.TheVariants as awaits
+use Rattle.jiter_value.specs.declared.stacks.State.{State}
+use Rattle.jiter_value.specs.declared.stacks.State.TheVariants as state
 
 pub refused-weaker : {X : Type 0} (r : Result X ReadError) (P Q : Type 0) → (P → Q) → WhereRefused r P
     → WhereRefused r Q
@@ -16,7 +16,7 @@ refused-weaker (Err (error.Fault f)) P Q go h = tt
 refused-weaker (Err (error.Memory m)) P Q go h = go h
 
 -- the value is whole, unless it was refused
-pub root-grows : (r : Result Awaits ReadError) (P : Type 0) → IfOk r (λ a. a ≡ awaits.Done) → WhereRefused r P
+pub root-grows : (r : Result State ReadError) (P : Type 0) → IfOk r (λ a. a ≡ state.Done) → WhereRefused r P
     → MayGrowFor r P
 root-grows (Ok a) P d h = rw d tt
 root-grows (Err (error.Fault f)) P d h = tt

@@ -12,7 +12,7 @@ ghost use Rattle.jiter_value.specs.Turns.{IsWithin, Reaches, MayGrowFor, left, o
 ghost use Rattle.jiter_value.specs.Value.{view, MayGrowAt};
 
 use crate::settings::Settings;
-use crate::stacks::{Awaits, Stacks, take_error};
+use crate::stacks::{Slot, Stacks, State, take_error};
 use crate::turns::containers::{after, begin};
 use crate::turns::general::{general_key, general_scalar};
 use crate::turns::plain::{put_plain_key, put_plain_scalar};
@@ -36,27 +36,27 @@ fn value_turn<'j>(
     bytes: &'j [u8],
     at: usize,
     settings: Settings,
-    awaits: Awaits,
-) -> (usize, Awaits)
-    requires stands { Stands stacks.old awaits }
+    slot: Slot,
+) -> (usize, State)
+    requires stands { Stands stacks.old slot }
     requires room { length stacks.old.nest.items ≤ nesting_limit }
     requires within { at < length bytes.now }
     ensures within { (at ≤ result.0) × (result.0 ≤ length bytes.now) }
     ensures reaches { Reaches settings bytes.now stacks.new result.0 (outcome stacks.new result.1)
-        (from_value settings bytes.now stacks.old awaits at) }
+        (from_value settings bytes.now stacks.old slot at) }
     ensures left { OnOk (outcome stacks.new result.1) (left bytes.now stacks.new result.0
         < left bytes.now stacks.old at) }
     ensures held { IfOk (outcome stacks.new result.1)
-        (λ a. held stacks.new a ≤ value_size stacks.old awaits + 1) }
-    ensures memory { awaits ≡ Awaits.Root
+        (λ a. held stacks.new a ≤ value_size stacks.old slot + 1) }
+    ensures memory { slot ≡ Slot.Root
         → MayGrowFor (outcome stacks.new result.1) (MayGrowAt bytes.now at) }
 {
     match bytes[at] {
-        b'[' => begin(alloc, stacks, bytes, at, settings, awaits, Shape::Array),
-        b'{' => begin(alloc, stacks, bytes, at, settings, awaits, Shape::Object),
-        _ => match put_plain_scalar(stacks, bytes, at, awaits) {
-            Some(end) => after(alloc, stacks, bytes, end, settings, awaits),
-            None => general_scalar(alloc, tape, stacks, bytes, at, settings, awaits),
+        b'[' => begin(alloc, stacks, bytes, at, settings, slot, Shape::Array),
+        b'{' => begin(alloc, stacks, bytes, at, settings, slot, Shape::Object),
+        _ => match put_plain_scalar(stacks, bytes, at, slot) {
+            Some(end) => after(alloc, stacks, bytes, end, settings, slot),
+            None => general_scalar(alloc, tape, stacks, bytes, at, settings, slot),
         },
     }
 }
@@ -70,7 +70,7 @@ fn key_turn<'j>(
     bytes: &'j [u8],
     at: usize,
     settings: Settings,
-) -> (usize, Awaits)
+) -> (usize, State)
     requires stands { StandsAtKey stacks.old }
     requires room { length stacks.old.nest.items ≤ nesting_limit + 1 }
     requires within { at < length bytes.now }
@@ -85,7 +85,7 @@ fn key_turn<'j>(
     if stacks.members.len() < stacks.members.capacity() && stacks.nest.len() <= NESTING_LIMIT {
         match put_plain_key(stacks, bytes, at) {
             None => {}
-            Some(next) => return (next, Awaits::Value),
+            Some(next) => return (next, State::Member),
         }
     }
     general_key(alloc, tape, stacks, bytes, at, settings)
@@ -100,25 +100,27 @@ pub fn turn<'j>(
     bytes: &'j [u8],
     at: usize,
     settings: Settings,
-    awaits: Awaits,
-) -> (usize, Awaits)
-    requires within { IsWithin bytes.now stacks.old awaits at }
-    requires goes_on { awaits ≢ Awaits.Done }
+    state: State,
+) -> (usize, State)
+    requires within { IsWithin bytes.now stacks.old state at }
+    requires goes_on { state ≢ State.Done }
     ensures within { (at ≤ result.0) × (result.0 ≤ length bytes.now) }
     ensures reaches { Reaches settings bytes.now stacks.new result.0 (outcome stacks.new result.1)
-        (meaning settings bytes.now stacks.old awaits at) }
+        (meaning settings bytes.now stacks.old state at) }
     ensures left { OnOk (outcome stacks.new result.1) (left bytes.now stacks.new result.0
         < left bytes.now stacks.old at) }
     ensures held { IfOk (outcome stacks.new result.1)
-        (λ a. held stacks.new a ≤ held stacks.old awaits + 1) }
-    ensures memory { awaits ≡ Awaits.Root
+        (λ a. held stacks.new a ≤ held stacks.old state + 1) }
+    ensures memory { state ≡ State.Root
         → MayGrowFor (outcome stacks.new result.1) (MayGrowAt bytes.now at) }
 {
-    match awaits {
-        Awaits::Key => key_turn(alloc, tape, stacks, bytes, at, settings),
-        Awaits::Done => unreachable!(),
-        Awaits::Refused => unreachable!(),
-        _ => value_turn(alloc, tape, stacks, bytes, at, settings, awaits),
+    match state {
+        State::Root => value_turn(alloc, tape, stacks, bytes, at, settings, Slot::Root),
+        State::Item => value_turn(alloc, tape, stacks, bytes, at, settings, Slot::Item),
+        State::Member => value_turn(alloc, tape, stacks, bytes, at, settings, Slot::Member),
+        State::Key => key_turn(alloc, tape, stacks, bytes, at, settings),
+        State::Done => unreachable!(),
+        State::GivenUp => unreachable!(),
     }
 }
 
@@ -141,17 +143,17 @@ pub fn run<'j>(
 {
     let bytes = parser.bytes;
     let mut at = parser.index;
-    let mut awaits = Awaits::Root;
+    let mut state = State::Root;
     'turning: loop {
-        let (next, what) = turn(alloc, tape, stacks, bytes, at, settings, awaits);
+        let (next, what) = turn(alloc, tape, stacks, bytes, at, settings, state);
         at = next;
-        awaits = what;
-        match awaits {
-            Awaits::Done => {
+        state = what;
+        match state {
+            State::Done => {
                 parser.index = at;
                 return Ok(mem::replace(&mut stacks.root, JsonValue::Null));
             }
-            Awaits::Refused => {
+            State::GivenUp => {
                 parser.index = at;
                 return Err(take_error(stacks));
             }

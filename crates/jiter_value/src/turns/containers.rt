@@ -10,13 +10,13 @@ ghost use Rattle.jiter_steps.specs.ReadError.{WhereRefused};
 ghost use Rattle.jiter_steps.specs.Step.{Step, step, more, container_first, container_step, opening};
 ghost use Rattle.jiter_value.specs.Size.{value_size, inside_size, behind_size, held};
 ghost use Rattle.jiter_value.specs.Stacks.{resume_with, from_value, behind, container_ends, Stands, StandsInside};
-ghost use Rattle.jiter_value.specs.Stacks.{awaited_in, base_of, part_of, empty_tree};
+ghost use Rattle.jiter_value.specs.Stacks.{slot_in, base_of, part_of, empty_tree};
 ghost use Rattle.jiter_value.specs.Turns.{IsResolved, Reaches, MayGrowFor, left, outcome};
 ghost use Rattle.jiter_value.specs.Value.{MayGrowAt};
 ghost use Rattle.jiter_value.specs.declared.settings.Settings.{Settings as SettingsView};
 
 use crate::settings::{Settings, forgives};
-use crate::stacks::{Awaits, Open, Stacks, close, no_memory, object_of, put, too_deep};
+use crate::stacks::{Open, Slot, Stacks, State, close, no_memory, object_of, put, too_deep};
 use crate::value::JsonValue;
 use jiter_scan::errors::Fault;
 use jiter_scan::memory::{Refused, push_small};
@@ -27,25 +27,25 @@ use std::alloc::Global;
 
 // What is awaited where a part of a container begins.
 #[inline(always)]
-fn part_of(shape: Shape) -> Awaits
+fn part_of(shape: Shape) -> State
     ensures { result ≡ part_of shape }
 {
     match shape {
-        Shape::Array => Awaits::Item,
-        Shape::Object => Awaits::Key,
+        Shape::Array => State::Item,
+        Shape::Object => State::Key,
     }
 }
 
-// The shape of the container that holds what was awaited, if one does.
+// The shape of the container that a value goes into, if it goes into one.
 #[inline(always)]
-fn shape_of(awaits: Awaits) -> Option<Shape>
-    ensures some { IfSome result (λ shape. awaits ≡ awaited_in shape) }
-    ensures none { result ≡ None → (awaits ≢ Awaits.Item) × (awaits ≢ Awaits.Value) }
+fn shape_of(slot: Slot) -> Option<Shape>
+    ensures some { IfSome result (λ shape. slot ≡ slot_in shape) }
+    ensures none { result ≡ None → slot ≡ Slot.Root }
 {
-    match awaits {
-        Awaits::Item => Some(Shape::Array),
-        Awaits::Value => Some(Shape::Object),
-        _ => None,
+    match slot {
+        Slot::Root => None,
+        Slot::Item => Some(Shape::Array),
+        Slot::Member => Some(Shape::Object),
     }
 }
 
@@ -166,27 +166,27 @@ pub fn after<'j>(
     bytes: &'j [u8],
     from: usize,
     settings: Settings,
-    awaits: Awaits,
-) -> (usize, Awaits)
-    requires stands { Stands stacks.old awaits }
+    slot: Slot,
+) -> (usize, State)
+    requires stands { Stands stacks.old slot }
     requires room { length stacks.old.nest.items ≤ nesting_limit }
     requires within { from ≤ length bytes.now }
     ensures within { (from ≤ result.0) × (result.0 ≤ length bytes.now) }
     ensures reaches { Reaches settings bytes.now stacks.new result.0 (outcome stacks.new result.1)
-        (behind settings bytes.now stacks.old awaits from) }
+        (behind settings bytes.now stacks.old slot from) }
     ensures left { OnOk (outcome stacks.new result.1) (left bytes.now stacks.new result.0
         ≤ left bytes.now stacks.old from) }
     ensures held { IfOk (outcome stacks.new result.1)
-        (λ a. held stacks.new a ≡ behind_size stacks.old awaits) }
-    ensures memory { WhereRefused (outcome stacks.new result.1) (awaits ≢ Awaits.Root) }
-    ensures root { awaits ≡ Awaits.Root
-        → IfOk (outcome stacks.new result.1) (λ a. a ≡ Awaits.Done) }
+        (λ a. held stacks.new a ≡ behind_size stacks.old slot) }
+    ensures memory { WhereRefused (outcome stacks.new result.1) (slot ≢ Slot.Root) }
+    ensures root { slot ≡ Slot.Root
+        → IfOk (outcome stacks.new result.1) (λ a. a ≡ State.Done) }
 {
     let mut at = from;
-    let mut inside = awaits;
+    let mut inside = slot;
     'closing: loop {
         match shape_of(inside) {
-            None => return (at, Awaits::Done),
+            None => return (at, State::Done),
             Some(shape) => {
                 let (next, what) = step_at(bytes, at, shape);
                 match what {
@@ -194,7 +194,7 @@ pub fn after<'j>(
                     _ => {}
                 }
                 if !ends(stacks, bytes, at, next, what, settings, shape) {
-                    return (next, Awaits::Refused);
+                    return (next, State::GivenUp);
                 }
                 match close(alloc, stacks, shape) {
                     Ok(outer) => inside = outer,
@@ -215,7 +215,7 @@ pub fn close_and_go_on<'j>(
     at: usize,
     settings: Settings,
     shape: Shape,
-) -> (usize, Awaits)
+) -> (usize, State)
     requires stands { StandsInside shape stacks.old }
     requires room { length stacks.old.nest.items ≤ nesting_limit + 1 }
     requires within { at ≤ length bytes.now }
@@ -238,20 +238,20 @@ pub fn close_and_go_on<'j>(
 fn put_empty<'j>(
     alloc: Global,
     stacks: &mut Stacks<'j>,
-    awaits: Awaits,
+    slot: Slot,
     shape: Shape,
 ) -> Result<(), Refused>
-    requires { Stands stacks.old awaits }
+    requires { Stands stacks.old slot }
     ensures value { OnOk result ((p : SettingsView) → (t : List ℕ) → (e : ℕ)
-        → resume_with p t stacks.old awaits (done (empty_tree shape) e) ≡ behind p t stacks.new awaits e) }
-    ensures stands { OnOk result (Stands stacks.new awaits) }
+        → resume_with p t stacks.old slot (done (empty_tree shape) e) ≡ behind p t stacks.new slot e) }
+    ensures stands { OnOk result (Stands stacks.new slot) }
     ensures nest { stacks.new.nest ≡ stacks.old.nest }
-    ensures held { OnOk result (behind_size stacks.new awaits ≡ value_size stacks.old awaits + 1) }
-    ensures refused { OnErr result (awaits ≢ Awaits.Root) }
+    ensures held { OnOk result (behind_size stacks.new slot ≡ value_size stacks.old slot + 1) }
+    ensures refused { OnErr result (slot ≢ Slot.Root) }
 {
     match shape {
-        Shape::Array => put(stacks, awaits, JsonValue::Array(Vec::new(alloc))),
-        Shape::Object => put(stacks, awaits, object_of(Vec::new(alloc))),
+        Shape::Array => put(stacks, slot, JsonValue::Array(Vec::new(alloc))),
+        Shape::Object => put(stacks, slot, object_of(Vec::new(alloc))),
     }
 }
 
@@ -263,25 +263,25 @@ fn empty<'j>(
     bytes: &'j [u8],
     end: usize,
     settings: Settings,
-    awaits: Awaits,
+    slot: Slot,
     shape: Shape,
-) -> (usize, Awaits)
-    requires stands { Stands stacks.old awaits }
+) -> (usize, State)
+    requires stands { Stands stacks.old slot }
     requires room { length stacks.old.nest.items ≤ nesting_limit }
     requires within { end ≤ length bytes.now }
     ensures within { (end ≤ result.0) × (result.0 ≤ length bytes.now) }
     ensures reaches { Reaches settings bytes.now stacks.new result.0 (outcome stacks.new result.1)
-        (resume_with settings bytes.now stacks.old awaits (done (empty_tree shape) end)) }
+        (resume_with settings bytes.now stacks.old slot (done (empty_tree shape) end)) }
     ensures left { OnOk (outcome stacks.new result.1) (left bytes.now stacks.new result.0
         ≤ left bytes.now stacks.old end) }
     ensures held { IfOk (outcome stacks.new result.1)
-        (λ a. held stacks.new a ≡ value_size stacks.old awaits + 1) }
-    ensures memory { WhereRefused (outcome stacks.new result.1) (awaits ≢ Awaits.Root) }
-    ensures root { awaits ≡ Awaits.Root
-        → IfOk (outcome stacks.new result.1) (λ a. a ≡ Awaits.Done) }
+        (λ a. held stacks.new a ≡ value_size stacks.old slot + 1) }
+    ensures memory { WhereRefused (outcome stacks.new result.1) (slot ≢ Slot.Root) }
+    ensures root { slot ≡ Slot.Root
+        → IfOk (outcome stacks.new result.1) (λ a. a ≡ State.Done) }
 {
-    match put_empty(alloc, stacks, awaits, shape) {
-        Ok(()) => after(alloc, stacks, bytes, end, settings, awaits),
+    match put_empty(alloc, stacks, slot, shape) {
+        Ok(()) => after(alloc, stacks, bytes, end, settings, slot),
         Err(refused) => no_memory(stacks, refused, end),
     }
 }
@@ -319,30 +319,27 @@ fn open<'j>(
     at: usize,
     next: usize,
     settings: Settings,
-    awaits: Awaits,
+    slot: Slot,
     shape: Shape,
-) -> (usize, Awaits)
-    requires stands { Stands stacks.old awaits }
+) -> (usize, State)
+    requires stands { Stands stacks.old slot }
     requires room { length stacks.old.nest.items ≤ nesting_limit }
     requires within { (at < next) × (next < length bytes.now) }
     requires bracket { start_of (slice_index bytes.now at) ≡ opening shape }
     requires part { step bytes.now (container_first shape) (at + 1) ≡ more next }
     ensures place { result.0 ≡ next }
     ensures reaches { Reaches settings bytes.now stacks.new result.0 (outcome stacks.new result.1)
-        (from_value settings bytes.now stacks.old awaits at) }
+        (from_value settings bytes.now stacks.old slot at) }
     ensures left { OnOk (outcome stacks.new result.1) (left bytes.now stacks.new result.0
         < left bytes.now stacks.old at) }
     ensures held { IfOk (outcome stacks.new result.1)
-        (λ a. held stacks.new a ≤ value_size stacks.old awaits + 1) }
+        (λ a. held stacks.new a ≤ value_size stacks.old slot + 1) }
 {
     if is_full(stacks, shape) {
         return too_deep(stacks, next);
     }
     let base = base_of(stacks, shape);
-    let container = Open {
-        outer: awaits,
-        base,
-    };
+    let container = Open { outer: slot, base };
     match push_small(&mut stacks.nest, container) {
         Ok(()) => (next, part_of(shape)),
         Err(refused) => no_memory(stacks, refused, next),
@@ -357,30 +354,30 @@ pub fn begin<'j>(
     bytes: &'j [u8],
     at: usize,
     settings: Settings,
-    awaits: Awaits,
+    slot: Slot,
     shape: Shape,
-) -> (usize, Awaits)
-    requires stands { Stands stacks.old awaits }
+) -> (usize, State)
+    requires stands { Stands stacks.old slot }
     requires room { length stacks.old.nest.items ≤ nesting_limit }
     requires within { at < length bytes.now }
     requires bracket { start_of (slice_index bytes.now at) ≡ opening shape }
     ensures within { (at ≤ result.0) × (result.0 ≤ length bytes.now) }
     ensures reaches { Reaches settings bytes.now stacks.new result.0 (outcome stacks.new result.1)
-        (from_value settings bytes.now stacks.old awaits at) }
+        (from_value settings bytes.now stacks.old slot at) }
     ensures left { OnOk (outcome stacks.new result.1) (left bytes.now stacks.new result.0
         < left bytes.now stacks.old at) }
     ensures held { IfOk (outcome stacks.new result.1)
-        (λ a. held stacks.new a ≤ value_size stacks.old awaits + 1) }
-    ensures memory { awaits ≡ Awaits.Root
+        (λ a. held stacks.new a ≤ value_size stacks.old slot + 1) }
+    ensures memory { slot ≡ Slot.Root
         → MayGrowFor (outcome stacks.new result.1) (MayGrowAt bytes.now at) }
 {
     let (next, what) = first_at(bytes, at + 1, shape);
     match what {
-        Next::Part => return open(stacks, bytes, at, next, settings, awaits, shape),
+        Next::Part => return open(stacks, bytes, at, next, settings, slot, shape),
         _ => {}
     }
     if !ends_at_first(stacks, bytes, at, next, what, settings, shape) {
-        return (next, Awaits::Refused);
+        return (next, State::GivenUp);
     }
-    empty(alloc, stacks, bytes, next, settings, awaits, shape)
+    empty(alloc, stacks, bytes, next, settings, slot, shape)
 }

@@ -12,7 +12,7 @@ ghost use Rattle.jiter_value.specs.Turns.{Reaches, MayGrowFor, left, outcome};
 ghost use Rattle.jiter_value.specs.Value.{MayGrowAt};
 
 use crate::settings::{Settings, forgives};
-use crate::stacks::{Awaits, Stacks, give_up, no_memory, put, too_deep};
+use crate::stacks::{Slot, Stacks, State, give_up, no_memory, put, too_deep};
 use crate::turns::containers::{after, close_and_go_on};
 use crate::turns::scalar::scalar;
 use crate::value::JsonValue;
@@ -32,35 +32,32 @@ fn fault_at_value<'j>(
     at: usize,
     settings: Settings,
     problem: Fault,
-    awaits: Awaits,
-) -> (usize, Awaits)
-    requires stands { Stands stacks.old awaits }
+    slot: Slot,
+) -> (usize, State)
+    requires stands { Stands stacks.old slot }
     requires room { length stacks.old.nest.items ≤ nesting_limit }
     requires within { at ≤ length bytes.now }
     ensures within { (at ≤ result.0) × (result.0 ≤ length bytes.now) }
     ensures reaches { Reaches settings bytes.now stacks.new result.0 (outcome stacks.new result.1)
-        (resume_with settings bytes.now stacks.old awaits
+        (resume_with settings bytes.now stacks.old slot
         (fault (fault_kind problem.kind) problem.index at)) }
     ensures left { OnOk (outcome stacks.new result.1) (left bytes.now stacks.new result.0
         < left bytes.now stacks.old at) }
     ensures held { IfOk (outcome stacks.new result.1)
-        (λ a. held stacks.new a ≤ value_size stacks.old awaits) }
-    ensures memory { WhereRefused (outcome stacks.new result.1) (awaits ≢ Awaits.Root) }
-    ensures root { OnOk (outcome stacks.new result.1) (awaits ≢ Awaits.Root) }
+        (λ a. held stacks.new a ≤ value_size stacks.old slot) }
+    ensures memory { WhereRefused (outcome stacks.new result.1) (slot ≢ Slot.Root) }
+    ensures root { OnOk (outcome stacks.new result.1) (slot ≢ Slot.Root) }
 {
     if !forgives(settings.mode, problem.kind) {
         return give_up(stacks, problem, at);
     }
-    match awaits {
-        Awaits::Item => close_and_go_on(alloc, stacks, bytes, at, settings, Shape::Array),
-        Awaits::Value => {
+    match slot {
+        Slot::Item => close_and_go_on(alloc, stacks, bytes, at, settings, Shape::Array),
+        Slot::Member => {
             let _ = stacks.members.pop();
             close_and_go_on(alloc, stacks, bytes, at, settings, Shape::Object)
         }
-        Awaits::Root => give_up(stacks, problem, at),
-        Awaits::Key => unreachable!(),
-        Awaits::Done => unreachable!(),
-        Awaits::Refused => unreachable!(),
+        Slot::Root => give_up(stacks, problem, at),
     }
 }
 
@@ -74,7 +71,7 @@ fn fault_at_key<'j>(
     at: usize,
     settings: Settings,
     problem: Fault,
-) -> (usize, Awaits)
+) -> (usize, State)
     requires stands { StandsAtKey stacks.old }
     requires room { length stacks.old.nest.items ≤ nesting_limit + 1 }
     requires within { at ≤ length bytes.now }
@@ -101,31 +98,31 @@ pub fn general_scalar<'j>(
     bytes: &'j [u8],
     at: usize,
     settings: Settings,
-    awaits: Awaits,
-) -> (usize, Awaits)
-    requires stands { Stands stacks.old awaits }
+    slot: Slot,
+) -> (usize, State)
+    requires stands { Stands stacks.old slot }
     requires room { length stacks.old.nest.items ≤ nesting_limit }
     requires within { at < length bytes.now }
     requires array { start_of (slice_index bytes.now at) ≢ Start.Array }
     requires object { start_of (slice_index bytes.now at) ≢ Start.Object }
     ensures within { (at ≤ result.0) × (result.0 ≤ length bytes.now) }
     ensures reaches { Reaches settings bytes.now stacks.new result.0 (outcome stacks.new result.1)
-        (from_value settings bytes.now stacks.old awaits at) }
+        (from_value settings bytes.now stacks.old slot at) }
     ensures left { OnOk (outcome stacks.new result.1) (left bytes.now stacks.new result.0
         < left bytes.now stacks.old at) }
     ensures held { IfOk (outcome stacks.new result.1)
-        (λ a. held stacks.new a ≤ value_size stacks.old awaits + 1) }
-    ensures memory { awaits ≡ Awaits.Root
+        (λ a. held stacks.new a ≤ value_size stacks.old slot + 1) }
+    ensures memory { slot ≡ Slot.Root
         → MayGrowFor (outcome stacks.new result.1) (MayGrowAt bytes.now at) }
 {
     let mut parser = Parser { bytes, index: at };
     match scalar(alloc, tape, &mut parser, settings) {
-        Ok(value) => match put(stacks, awaits, value) {
-            Ok(()) => after(alloc, stacks, bytes, parser.index, settings, awaits),
+        Ok(value) => match put(stacks, slot, value) {
+            Ok(()) => after(alloc, stacks, bytes, parser.index, settings, slot),
             Err(refused) => no_memory(stacks, refused, parser.index),
         },
         Err(ReadError::Fault(fault)) => {
-            fault_at_value(alloc, stacks, bytes, parser.index, settings, fault, awaits)
+            fault_at_value(alloc, stacks, bytes, parser.index, settings, fault, slot)
         }
         Err(ReadError::Memory(refused)) => no_memory(stacks, refused, parser.index),
     }
@@ -140,7 +137,7 @@ pub fn general_key<'j>(
     bytes: &'j [u8],
     at: usize,
     settings: Settings,
-) -> (usize, Awaits)
+) -> (usize, State)
     requires stands { StandsAtKey stacks.old }
     requires room { length stacks.old.nest.items ≤ nesting_limit + 1 }
     requires within { at < length bytes.now }
@@ -162,7 +159,7 @@ pub fn general_key<'j>(
                 match make_room(&mut stacks.members) {
                     Ok(()) => {
                         stacks.members.push_reserved((key, JsonValue::Null));
-                        (parser.index, Awaits::Value)
+                        (parser.index, State::Member)
                     }
                     Err(refused) => no_memory(stacks, refused, parser.index),
                 }

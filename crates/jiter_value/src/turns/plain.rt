@@ -12,7 +12,7 @@ ghost use Rattle.jiter_value.specs.Stacks.{Stands, StandsAtKey, HasRoom};
 ghost use Rattle.jiter_value.specs.Turns.{IsPutAt, IsKeyAt};
 ghost use Rattle.jiter_value.specs.Value.{view};
 
-use crate::stacks::{Awaits, Stacks, has_room, put_reserved};
+use crate::stacks::{Slot, Stacks, has_room, put_reserved};
 use crate::value::JsonValue;
 use jiter_scan::number_extent::minus_end;
 use jiter_scan::short_number::{Short, short_at};
@@ -32,22 +32,22 @@ fn put_plain_utf8<'j>(
     bytes: &'j [u8],
     at: usize,
     to: usize,
-    awaits: Awaits,
+    slot: Slot,
 ) -> Option<usize>
-    requires stands { Stands stacks.old awaits }
+    requires stands { Stands stacks.old slot }
     requires few { length stacks.old.nest.items ≤ nesting_limit }
-    requires room { HasRoom stacks.old awaits }
+    requires room { HasRoom stacks.old slot }
     requires begins { start_of (slice_index bytes.now at) ≡ Start.String }
     requires within { (at < to) × (to < length bytes.now) }
     requires stop { to ≡ scan_stop bytes.now (at + 1) }
     requires quote { slice_get bytes.now to ≡ Some ascii.quote }
-    ensures put { IfSome result (λ e. IsPutAt bytes.now stacks.old at awaits stacks.new e) }
+    ensures put { IfSome result (λ e. IsPutAt bytes.now stacks.old at slot stacks.new e) }
     ensures same { result ≡ None → stacks.new ≡ stacks.old }
 {
     match text_between(bytes, at, to) {
         None => None,
         Some(text) => {
-            put_reserved(stacks, awaits, JsonValue::Str(CowStr::Borrowed(text)));
+            put_reserved(stacks, slot, JsonValue::Str(CowStr::Borrowed(text)));
             Some(to + 1)
         }
     }
@@ -59,14 +59,14 @@ fn put_plain_text<'j>(
     stacks: &mut Stacks<'j>,
     bytes: &'j [u8],
     at: usize,
-    awaits: Awaits,
+    slot: Slot,
 ) -> Option<usize>
-    requires stands { Stands stacks.old awaits }
+    requires stands { Stands stacks.old slot }
     requires few { length stacks.old.nest.items ≤ nesting_limit }
-    requires room { HasRoom stacks.old awaits }
+    requires room { HasRoom stacks.old slot }
     requires within { at < length bytes.now }
     requires begins { start_of (slice_index bytes.now at) ≡ Start.String }
-    ensures put { IfSome result (λ e. IsPutAt bytes.now stacks.old at awaits stacks.new e) }
+    ensures put { IfSome result (λ e. IsPutAt bytes.now stacks.old at slot stacks.new e) }
     ensures same { result ≡ None → stacks.new ≡ stacks.old }
 {
     let (to, low) = scan_string(bytes, at + 1);
@@ -74,10 +74,10 @@ fn put_plain_text<'j>(
         return None;
     }
     if !low {
-        return put_plain_utf8(stacks, bytes, at, to, awaits);
+        return put_plain_utf8(stacks, bytes, at, to, slot);
     }
     let text = ascii_between(bytes, at, to);
-    put_reserved(stacks, awaits, JsonValue::Str(CowStr::Borrowed(text)));
+    put_reserved(stacks, slot, JsonValue::Str(CowStr::Borrowed(text)));
     Some(to + 1)
 }
 
@@ -97,25 +97,25 @@ fn put_plain_number<'j>(
     stacks: &mut Stacks<'j>,
     bytes: &'j [u8],
     at: usize,
-    awaits: Awaits,
+    slot: Slot,
 ) -> Option<usize>
-    requires stands { Stands stacks.old awaits }
+    requires stands { Stands stacks.old slot }
     requires few { length stacks.old.nest.items ≤ nesting_limit }
-    requires room { HasRoom stacks.old awaits }
+    requires room { HasRoom stacks.old slot }
     requires within { at < length bytes.now }
     requires begins { start_of (slice_index bytes.now at) ≡ Start.Number }
-    ensures put { IfSome result (λ e. IsPutAt bytes.now stacks.old at awaits stacks.new e) }
+    ensures put { IfSome result (λ e. IsPutAt bytes.now stacks.old at slot stacks.new e) }
     ensures same { result ≡ None → stacks.new ≡ stacks.old }
 {
     let from = minus_end(bytes, at);
     match short_at(bytes, from) {
         Short::Int(magnitude, end) => {
-            put_reserved(stacks, awaits, signed(magnitude, from > at));
+            put_reserved(stacks, slot, signed(magnitude, from > at));
             Some(end)
         }
         Short::Float(end) => {
             let text = ascii_text(&bytes[at..end]);
-            put_reserved(stacks, awaits, JsonValue::Float(CowStr::Borrowed(text)));
+            put_reserved(stacks, slot, JsonValue::Float(CowStr::Borrowed(text)));
             Some(end)
         }
         Short::Other => None,
@@ -128,24 +128,24 @@ fn put_plain_literal<'j>(
     stacks: &mut Stacks<'j>,
     bytes: &'j [u8],
     at: usize,
-    awaits: Awaits,
+    slot: Slot,
     literal: Literal,
 ) -> Option<usize>
-    requires stands { Stands stacks.old awaits }
+    requires stands { Stands stacks.old slot }
     requires few { length stacks.old.nest.items ≤ nesting_limit }
-    requires room { HasRoom stacks.old awaits }
+    requires room { HasRoom stacks.old slot }
     requires within { at < length bytes.now }
     requires begins { start_of (slice_index bytes.now at) ≡ Start.Literal literal }
-    ensures put { IfSome result (λ e. IsPutAt bytes.now stacks.old at awaits stacks.new e) }
+    ensures put { IfSome result (λ e. IsPutAt bytes.now stacks.old at slot stacks.new e) }
     ensures same { result ≡ None → stacks.new ≡ stacks.old }
 {
     match plain_literal_end(bytes, at, literal) {
         None => None,
         Some(end) => {
             match literal {
-                Literal::Null => put_reserved(stacks, awaits, JsonValue::Null),
-                Literal::True => put_reserved(stacks, awaits, JsonValue::Bool(true)),
-                Literal::False => put_reserved(stacks, awaits, JsonValue::Bool(false)),
+                Literal::Null => put_reserved(stacks, slot, JsonValue::Null),
+                Literal::True => put_reserved(stacks, slot, JsonValue::Bool(true)),
+                Literal::False => put_reserved(stacks, slot, JsonValue::Bool(false)),
             }
             Some(end)
         }
@@ -158,23 +158,23 @@ pub fn put_plain_scalar<'j>(
     stacks: &mut Stacks<'j>,
     bytes: &'j [u8],
     at: usize,
-    awaits: Awaits,
+    slot: Slot,
 ) -> Option<usize>
-    requires stands { Stands stacks.old awaits }
+    requires stands { Stands stacks.old slot }
     requires few { length stacks.old.nest.items ≤ nesting_limit }
     requires within { at < length bytes.now }
-    ensures put { IfSome result (λ e. IsPutAt bytes.now stacks.old at awaits stacks.new e) }
+    ensures put { IfSome result (λ e. IsPutAt bytes.now stacks.old at slot stacks.new e) }
     ensures same { result ≡ None → stacks.new ≡ stacks.old }
 {
-    if !has_room(stacks, awaits) {
+    if !has_room(stacks, slot) {
         return None;
     }
     match bytes[at] {
-        b'"' => put_plain_text(stacks, bytes, at, awaits),
-        b'0'..=b'9' | b'-' => put_plain_number(stacks, bytes, at, awaits),
-        b'n' => put_plain_literal(stacks, bytes, at, awaits, Literal::Null),
-        b't' => put_plain_literal(stacks, bytes, at, awaits, Literal::True),
-        b'f' => put_plain_literal(stacks, bytes, at, awaits, Literal::False),
+        b'"' => put_plain_text(stacks, bytes, at, slot),
+        b'0'..=b'9' | b'-' => put_plain_number(stacks, bytes, at, slot),
+        b'n' => put_plain_literal(stacks, bytes, at, slot, Literal::Null),
+        b't' => put_plain_literal(stacks, bytes, at, slot, Literal::True),
+        b'f' => put_plain_literal(stacks, bytes, at, slot, Literal::False),
         _ => None,
     }
 }

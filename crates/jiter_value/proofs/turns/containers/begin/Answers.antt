@@ -11,7 +11,7 @@ returns-then-not-ends_at_first c =
     let r = c.if-not-ends_at_first.ensures.resolved in
     record {
       within = (omega (arith, c.first_at-next.ensures.within.0), c.first_at-next.ensures.within.1);
-      reaches = begins-fails a.settings a.bytes.now a.stacks.now a.awaits c.requires.stands c.requires.room a.at
+      reaches = begins-fails a.settings a.bytes.now a.stacks.now a.slot c.requires.stands c.requires.room a.at
           a.shape c.first_at-next.result.0 c.ends_at_first.new.stacks.error c.requires.bracket r;
       left = tt;
       held = tt;
@@ -29,7 +29,7 @@ returns c =
     record {
       within = (omega (arith, forward, empty.within.0), empty.within.1);
       reaches = rw
-          (begins-closed a.settings a.bytes.now s a.awaits c.requires.stands c.requires.room a.at a.shape
+          (begins-closed a.settings a.bytes.now s a.slot c.requires.stands c.requires.room a.at a.shape
           c.first_at-next.result.0 c.requires.bracket ends.resolved)
           (rw (ends.same refl) at empty.reaches);
       left = on_ok_weaker r (λ l. omega (arith, l, forward)) (rw (ends.same refl) at empty.left);

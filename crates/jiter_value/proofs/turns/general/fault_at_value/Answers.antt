@@ -7,7 +7,7 @@ use Rattle.jiter_value.specs.Settings.{forgives, rules}
 use Rattle.jiter_value.specs.Size.{frames_size, inside_size_in}
 use Rattle.jiter_value.specs.Stacks.{frames}
 use Rattle.jiter_value.specs.Turns.{outcome}
-use Rattle.jiter_value.specs.declared.stacks.Awaits.TheVariants as awaits
+use Rattle.jiter_value.specs.declared.stacks.Slot.TheVariants as slot
 use Rattle.jiter_value.proofs.StackTurns.{fault-value, last-member}
 use Rattle.jiter_value.proofs.Sizes.{key-size}
 use Rattle.jiter_value.proofs.turns.general.fault_at_value.Goals as goal
@@ -20,10 +20,10 @@ returns-then-not-forgives-clause-reaches c =
     let bad : forgives a.settings.mode k ≡ false = sym c.forgives.ensures ∙ c.if-not-forgives.true in
     rw (c.give_up.ensures.place, c.give_up.ensures.error)
     (resume-fault (rules a.settings) a.bytes.now
-    (frames a.awaits (reverse s.nest.items) s.items.items s.members.items) k a.problem.index a.at bad)
+    (frames a.slot (reverse s.nest.items) s.items.items s.members.items) k a.problem.index a.at bad)
 
-pub returns-in-Value-clause-reaches : goal.returns-in-Value-clause-reaches
-returns-in-Value-clause-reaches c =
+pub returns-in-Member-clause-reaches : goal.returns-in-Member-clause-reaches
+returns-in-Member-clause-reaches c =
     let a = c.args in
     let s = a.stacks.now in
     let p = a.settings in
@@ -32,28 +32,28 @@ returns-in-Value-clause-reaches c =
     let os = reverse s.nest.items in
     let es = s.items.items in
     let ms = s.members.items in
-    let last = last-member os (length es) ms (rw c.in-Value.is at c.requires.stands) in
+    let last = last-member os (length es) ms (rw c.in-Member.is at c.requires.stands) in
     let popped : c.pop.new.self.items ≡ take (length ms - 1) ms = c.pop.ensures.rest
     ∙ ap (λ n. take (n - 1) ms) (omega (arith, s.members.ok.0)) in
     let ok = sym c.forgives.ensures ∙ c.if-not-forgives.false in
     rw (
-      c.in-Value.is,
+      c.in-Member.is,
       last.1,
       fault-value p t os es (take (length ms - 1) ms) last.0 k a.problem.index a.at last.2 ok,
-    ) (rw popped at c.close_and_go_on-in-Value.ensures.reaches)
+    ) (rw popped at c.close_and_go_on-in-Member.ensures.reaches)
 
-pub returns-in-Value-clause-held : goal.returns-in-Value-clause-held
-returns-in-Value-clause-held c =
+pub returns-in-Member-clause-held : goal.returns-in-Member-clause-held
+returns-in-Member-clause-held c =
     let s = c.args.stacks.now in
     let os = reverse s.nest.items in
     let es = s.items.items in
     let ms = s.members.items in
-    let last = last-member os (length es) ms (rw c.in-Value.is at c.requires.stands) in
+    let last = last-member os (length es) ms (rw c.in-Member.is at c.requires.stands) in
     let popped : c.pop.new.self.items ≡ take (length ms - 1) ms = c.pop.ensures.rest
     ∙ ap (λ n. take (n - 1) ms) (omega (arith, s.members.ok.0)) in
-    let was = ap (λ ys. frames_size (frames awaits.Value os es ys)) last.1
+    let was = ap (λ ys. frames_size (frames slot.Member os es ys)) last.1
     ∙ key-size os es (take (length ms - 1) ms) last.0 last.2 in
     let outer = ap (inside_size_in shape.Object os es) popped in
-    let n = c.close_and_go_on-in-Value in
-    rw c.in-Value.is
+    let n = c.close_and_go_on-in-Member in
+    rw c.in-Member.is
     (IfOk-weaker (outcome n.new.stacks n.result.1) _ _ (λ x e. omega (arith, e, outer, was)) n.ensures.held)

@@ -2,7 +2,7 @@ use Rattle.std.proofs.Common.{◌≡◌, ◌++◌, ◌∷◌, [], ◌∙◌, ap,
 use Rattle.std.proofs.lemmas.List.{length-reverse}
 use Rattle.jiter_scan.specs.Kind.{fault_kind}
 use Rattle.jiter_steps.specs.StringDecoder.{text_view}
-use Rattle.jiter_value.specs.declared.stacks.Awaits.TheVariants as awaits
+use Rattle.jiter_value.specs.declared.stacks.Slot.TheVariants as slot
 use Rattle.jiter_value.specs.declared.value.JsonValue.TheVariants.{Null}
 use Rattle.jiter_value.proofs.Placed.{key-at}
 use Rattle.jiter_value.proofs.StackTurns.{key-opens, limit-reached, key-fails, colon-fails, key-above}
@@ -24,7 +24,7 @@ returns-then-len-gt-NESTING_LIMIT-clause-reaches c =
     rw (c.too_deep.ensures.place, c.too_deep.ensures.error)
     (key-opens p t os es ms c.args.at key c.string.new.self.index m c.requires.stands c.requires.within
     c.in-Ok.ensures.value colon
-    ∙ limit-reached p t awaits.Value os es (ms ++ (key, Null) ∷ []) m
+    ∙ limit-reached p t slot.Member os es (ms ++ (key, Null) ∷ []) m
     (key-above os (length es) ms (key, Null) c.requires.stands) full)
 
 pub returns-in-Ok-make_room-clause-reaches : goal.returns-in-Ok-make_room-clause-reaches

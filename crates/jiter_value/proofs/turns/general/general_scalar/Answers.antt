@@ -10,7 +10,7 @@ returns-in-Ok-put-clause-reaches c =
     let a = c.args in
     let e = c.scalar.new.parser.index in
     rw
-    (value-read a.settings a.bytes.now a.stacks.now a.awaits c.requires.stands c.requires.room a.at
+    (value-read a.settings a.bytes.now a.stacks.now a.slot c.requires.stands c.requires.room a.at
     (done (view c.in-Ok.value) e) c.in-Ok.ensures.value
     ∙ c.in-Ok-put.ensures.value a.settings a.bytes.now e) c.after.ensures.reaches
 
@@ -20,5 +20,5 @@ returns-in-Err-Fault-clause-reaches c =
     let f = c.in-Err-Fault.fault in
     let read = rw c.in-Err-Fault.field-0-is at c.in-Err-Fault.ensures.value in
     rw
-    (value-read a.settings a.bytes.now a.stacks.now a.awaits c.requires.stands c.requires.room a.at
+    (value-read a.settings a.bytes.now a.stacks.now a.slot c.requires.stands c.requires.room a.at
     (fault (fault_kind f.kind) f.index c.scalar.new.parser.index) read) c.fault_at_value.ensures.reaches
