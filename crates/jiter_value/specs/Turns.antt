@@ -1,16 +1,17 @@
 -- What a turn leads to, and how much is left behind it.
-use Rattle.std.specs.Prelude.{◌≡◌, ℕ, ◌+◌, ◌-◌, ◌*◌, ◌≤◌, ◌<◌, Result, Ok, Err, Bool, true, false, List, length}
+use Rattle.std.specs.Prelude.{◌≡◌, ℕ, ◌+◌, ◌-◌, ◌*◌, ◌≤◌, ◌<◌, Result, Ok, Err, OnOk, IfOk, Bool, true, false, List, length}
 use Rattle.jiter_scan.specs.Kind.{fault_kind}
 use Rattle.jiter_scan.specs.declared.errors.Fault.{Fault}
 use Rattle.jiter_steps.specs.Frames.{resolve_step}
 use Rattle.jiter_steps.specs.Node.{nesting_limit}
 use Rattle.jiter_steps.specs.Read.{Reading, fault}
-use Rattle.jiter_steps.specs.Step.{Step, closed, stuck}
+use Rattle.jiter_steps.specs.Step.{Step, closed, stuck, step, container_first, container_step}
 use Rattle.jiter_steps.specs.Tree.{Tree}
 use Rattle.jiter_value.specs.Settings.{forgives}
+use Rattle.jiter_steps.specs.declared.parse.Shape.{Shape}
 use Rattle.jiter_steps.specs.declared.read_error.ReadError.{ReadError}
 use Rattle.jiter_steps.specs.declared.read_error.ReadError.TheVariants as error
-use Rattle.jiter_value.specs.Size.{value_size, key_size, behind_size}
+use Rattle.jiter_value.specs.Size.{value_size, key_size, behind_size, held}
 use Rattle.jiter_value.specs.Stacks.{from_value, from_key, behind, meaning, Stands, StandsAtKey}
 use Rattle.jiter_value.specs.declared.settings.Settings.{Settings}
 use Rattle.jiter_value.specs.declared.stacks.Slot.{Slot}
@@ -18,6 +19,8 @@ use Rattle.jiter_value.specs.declared.stacks.Slot.TheVariants as slot
 use Rattle.jiter_value.specs.declared.stacks.Stacks.{Stacks}
 use Rattle.jiter_value.specs.declared.stacks.State.{State}
 use Rattle.jiter_value.specs.declared.stacks.State.TheVariants as state
+use Rattle.jiter_value.specs.declared.turns.containers.Behind.{Behind}
+use Rattle.jiter_value.specs.declared.turns.containers.Behind.TheVariants.{Bracket, Part}
 
 -- a value is awaited at j, within the limit
 abbrev pub IsAtValue : List ℕ → Stacks → Slot → ℕ → Type 0
@@ -62,6 +65,17 @@ MayGrowFor (Ok a) P = P
 MayGrowFor (Err (error.Fault f)) P = Unit {0}
 MayGrowFor (Err (error.Memory m)) P = P
 
+-- From the place i a turn leads on to these stacks, to this place and to this state.
+pub record LeadsOn (p : Settings) (t : List ℕ) (i l h : ℕ) (x : Reading Tree) (s : Stacks) (r : ℕ × State) : Type 0 where
+  -- The reader goes no step back, and stays within the text.
+  pub within : (i ≤ r.0) × (r.0 ≤ length t)
+  -- What is awaited then, or why the reading was given up, is the reading x.
+  pub reaches : Reaches p t s r.0 (outcome s r.1) x
+  -- Less than l is left to do.
+  pub left : OnOk (outcome s r.1) (left t s r.0 < l)
+  -- At most h scalars, containers and keys are held.
+  pub held : IfOk (outcome s r.1) (λ a. held s a ≤ h)
+
 -- The value that is awaited at i is put where it belongs, and ends at e: a scalar.
 pub record IsPutAt (t : List ℕ) (old : Stacks) (i : ℕ) (a : Slot) (new : Stacks) (e : ℕ) : Type 0 where
   pub value : (p : Settings) → from_value p t old a i ≡ behind p t new a e
@@ -79,6 +93,11 @@ pub record IsKeyAt (t : List ℕ) (old : Stacks) (i : ℕ) (new : Stacks) (j : �
   pub held : value_size new slot.Member ≡ key_size old + 1
   pub ahead : i < j
   pub within : j < length t
+
+-- the step of a container whose bracket is at j, and behind a part that ends at j
+abbrev pub container_goes : Behind → Shape → List ℕ → ℕ → Step
+container_goes Bracket h t j = step t (container_first h) (j + 1)
+container_goes Part h t j = step t (container_step h t) j
 
 -- A container's fault at j is forgiven and ends it, or is why the reading was given up.
 abbrev pub IsResolved : Settings → Bool → ReadError → ℕ → Step → Type 0

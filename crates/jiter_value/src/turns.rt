@@ -1,6 +1,6 @@
 //! The turns of a reading over the two stacks: one value, opening or key a turn, and the steps behind it. The
 //! place and what is awaited there go from call to call in registers, and so do all answers of the plain way.
-ghost use Rattle.std.specs.Prelude.{◌≡◌, ◌≢◌, ◌+◌, ◌≤◌, ◌<◌, [], IfOk, OnOk, length};
+ghost use Rattle.std.specs.Prelude.{◌≡◌, ◌≢◌, ◌+◌, ◌≤◌, ◌<◌, [], length};
 ghost use Rattle.jiter_steps.specs.Node.{nesting_limit};
 ghost use Rattle.jiter_steps.specs.Parse.{Moves, Gives};
 ghost use Rattle.jiter_steps.specs.Read.{value_at};
@@ -8,7 +8,7 @@ ghost use Rattle.jiter_steps.specs.ReadError.{WhereRefused};
 ghost use Rattle.jiter_value.specs.Settings.{rules};
 ghost use Rattle.jiter_value.specs.Size.{value_size, key_size, held};
 ghost use Rattle.jiter_value.specs.Stacks.{from_value, from_key, meaning, Stands, StandsAtKey};
-ghost use Rattle.jiter_value.specs.Turns.{IsWithin, Reaches, MayGrowFor, left, outcome};
+ghost use Rattle.jiter_value.specs.Turns.{LeadsOn, IsWithin, MayGrowFor, left, outcome};
 ghost use Rattle.jiter_value.specs.Value.{view, MayGrowAt};
 
 use crate::settings::Settings;
@@ -41,13 +41,9 @@ fn value_turn<'j>(
     requires stands { Stands stacks.old slot }
     requires room { length stacks.old.nest.items ≤ nesting_limit }
     requires within { at < length bytes.now }
-    ensures within { (at ≤ result.0) × (result.0 ≤ length bytes.now) }
-    ensures reaches { Reaches settings bytes.now stacks.new result.0 (outcome stacks.new result.1)
-        (from_value settings bytes.now stacks.old slot at) }
-    ensures left { OnOk (outcome stacks.new result.1) (left bytes.now stacks.new result.0
-        < left bytes.now stacks.old at) }
-    ensures held { IfOk (outcome stacks.new result.1)
-        (λ a. held stacks.new a ≤ value_size stacks.old slot + 1) }
+    ensures leads { LeadsOn settings bytes.now at (left bytes.now stacks.old at)
+        (value_size stacks.old slot + 1) (from_value settings bytes.now stacks.old slot at)
+        stacks.new result }
     ensures memory { slot ≡ Slot.Root
         → MayGrowFor (outcome stacks.new result.1) (MayGrowAt bytes.now at) }
 {
@@ -74,13 +70,9 @@ fn key_turn<'j>(
     requires stands { StandsAtKey stacks.old }
     requires room { length stacks.old.nest.items ≤ nesting_limit + 1 }
     requires within { at < length bytes.now }
-    ensures within { (at ≤ result.0) × (result.0 ≤ length bytes.now) }
-    ensures reaches { Reaches settings bytes.now stacks.new result.0 (outcome stacks.new result.1)
-        (from_key settings bytes.now stacks.old at) }
-    ensures left { OnOk (outcome stacks.new result.1) (left bytes.now stacks.new result.0
-        < left bytes.now stacks.old at) }
-    ensures held { IfOk (outcome stacks.new result.1)
-        (λ a. held stacks.new a ≤ key_size stacks.old + 1) }
+    ensures leads { LeadsOn settings bytes.now at (left bytes.now stacks.old at)
+        (key_size stacks.old + 1) (from_key settings bytes.now stacks.old at)
+        stacks.new result }
 {
     if stacks.members.len() < stacks.members.capacity() && stacks.nest.len() <= NESTING_LIMIT {
         match put_plain_key(stacks, bytes, at) {
@@ -104,13 +96,9 @@ pub fn turn<'j>(
 ) -> (usize, State)
     requires within { IsWithin bytes.now stacks.old state at }
     requires goes_on { state ≢ State.Done }
-    ensures within { (at ≤ result.0) × (result.0 ≤ length bytes.now) }
-    ensures reaches { Reaches settings bytes.now stacks.new result.0 (outcome stacks.new result.1)
-        (meaning settings bytes.now stacks.old state at) }
-    ensures left { OnOk (outcome stacks.new result.1) (left bytes.now stacks.new result.0
-        < left bytes.now stacks.old at) }
-    ensures held { IfOk (outcome stacks.new result.1)
-        (λ a. held stacks.new a ≤ held stacks.old state + 1) }
+    ensures leads { LeadsOn settings bytes.now at (left bytes.now stacks.old at)
+        (held stacks.old state + 1) (meaning settings bytes.now stacks.old state at)
+        stacks.new result }
     ensures memory { state ≡ State.Root
         → MayGrowFor (outcome stacks.new result.1) (MayGrowAt bytes.now at) }
 {

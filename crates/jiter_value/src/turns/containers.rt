@@ -7,11 +7,11 @@ ghost use Rattle.jiter_steps.specs.Parse.{Steps};
 ghost use Rattle.jiter_steps.specs.Plain.{IsNext, IsStuckAt};
 ghost use Rattle.jiter_steps.specs.Read.{done};
 ghost use Rattle.jiter_steps.specs.ReadError.{WhereRefused};
-ghost use Rattle.jiter_steps.specs.Step.{Step, step, more, container_first, container_step, opening};
-ghost use Rattle.jiter_value.specs.Size.{value_size, inside_size, behind_size, held};
+ghost use Rattle.jiter_steps.specs.Step.{Step, step, more, container_first, opening};
+ghost use Rattle.jiter_value.specs.Size.{value_size, inside_size, behind_size};
 ghost use Rattle.jiter_value.specs.Stacks.{resume_with, from_value, behind, container_ends, Stands, StandsInside};
 ghost use Rattle.jiter_value.specs.Stacks.{slot_in, base_of, part_of, empty_tree};
-ghost use Rattle.jiter_value.specs.Turns.{IsResolved, Reaches, MayGrowFor, left, outcome};
+ghost use Rattle.jiter_value.specs.Turns.{LeadsOn, container_goes, IsResolved, MayGrowFor, left, outcome};
 ghost use Rattle.jiter_value.specs.Value.{MayGrowAt};
 ghost use Rattle.jiter_value.specs.declared.settings.Settings.{Settings as SettingsView};
 
@@ -24,6 +24,15 @@ use jiter_steps::parse::{NESTING_LIMIT, Parser, Shape};
 use jiter_steps::plain::{Next, first_at, step_at};
 use jiter_steps::read_error::ReadError;
 use std::alloc::Global;
+
+/// Where a container goes on.
+#[derive(Clone, Copy, Debug)]
+pub enum Behind {
+    /// Behind its first bracket.
+    Bracket,
+    /// Behind a part of it.
+    Part,
+}
 
 // What is awaited where a part of a container begins.
 #[inline(always)]
@@ -67,46 +76,31 @@ fn is_forgiven<'j>(stacks: &mut Stacks<'j>, step: Result<bool, Fault>, settings:
     }
 }
 
-// Whether the fault at `at`, behind a part that ends at `from`, is forgiven.
+// Whether the fault at `at` is forgiven. The step is read once more here, where it costs nothing: the plain way
+// tells where it is stuck, and not why.
 #[cold]
 #[inline(never)]
-fn is_step_forgiven<'j>(
+fn is_stuck_forgiven<'j>(
     stacks: &mut Stacks<'j>,
     bytes: &'j [u8],
     from: usize,
     at: usize,
     settings: Settings,
+    behind: Behind,
     shape: Shape,
 ) -> bool
     requires within { from ≤ length bytes.now }
-    requires stuck { IsStuckAt at (step bytes.now (container_step shape bytes.now) from) }
+    requires bracket { behind ≡ Behind.Bracket → from < length bytes.now }
+    requires stuck { IsStuckAt at (container_goes behind shape bytes.now from) }
     ensures resolved { IsResolved settings result stacks.new.error at
-        (step bytes.now (container_step shape bytes.now) from) }
+        (container_goes behind shape bytes.now from) }
     ensures same { result ≡ true → stacks.new ≡ stacks.old }
 {
     let mut parser = Parser { bytes, index: from };
-    is_forgiven(stacks, parser.step(shape), settings)
-}
-
-// Whether the fault at `at`, behind the bracket at `from`, is forgiven.
-#[cold]
-#[inline(never)]
-fn is_first_forgiven<'j>(
-    stacks: &mut Stacks<'j>,
-    bytes: &'j [u8],
-    from: usize,
-    at: usize,
-    settings: Settings,
-    shape: Shape,
-) -> bool
-    requires within { from < length bytes.now }
-    requires stuck { IsStuckAt at (step bytes.now (container_first shape) (from + 1)) }
-    ensures resolved { IsResolved settings result stacks.new.error at
-        (step bytes.now (container_first shape) (from + 1)) }
-    ensures same { result ≡ true → stacks.new ≡ stacks.old }
-{
-    let mut parser = Parser { bytes, index: from };
-    is_forgiven(stacks, parser.first(shape), settings)
+    match behind {
+        Behind::Bracket => is_forgiven(stacks, parser.first(shape), settings),
+        Behind::Part => is_forgiven(stacks, parser.step(shape), settings),
+    }
 }
 
 // Whether a container that goes on with no part ends at `at`; if not, the reading is given up there.
@@ -118,47 +112,24 @@ fn ends<'j>(
     at: usize,
     what: Next,
     settings: Settings,
+    behind: Behind,
     shape: Shape,
 ) -> bool
     requires within { from ≤ length bytes.now }
-    requires step { IsNext at what (step bytes.now (container_step shape bytes.now) from) }
+    requires bracket { behind ≡ Behind.Bracket → from < length bytes.now }
+    requires step { IsNext at what (container_goes behind shape bytes.now from) }
     requires no_part { what ≢ Next.Part }
     ensures resolved { IsResolved settings result stacks.new.error at
-        (step bytes.now (container_step shape bytes.now) from) }
+        (container_goes behind shape bytes.now from) }
     ensures same { result ≡ true → stacks.new ≡ stacks.old }
 {
     match what {
         Next::End => true,
-        _ => is_step_forgiven(stacks, bytes, from, at, settings, shape),
+        _ => is_stuck_forgiven(stacks, bytes, from, at, settings, behind, shape),
     }
 }
 
-// Whether a container without a part, whose bracket is at `from`, ends at `at`; if not, the reading is given up
-// there.
-#[inline(always)]
-fn ends_at_first<'j>(
-    stacks: &mut Stacks<'j>,
-    bytes: &'j [u8],
-    from: usize,
-    at: usize,
-    what: Next,
-    settings: Settings,
-    shape: Shape,
-) -> bool
-    requires within { from < length bytes.now }
-    requires step { IsNext at what (step bytes.now (container_first shape) (from + 1)) }
-    requires no_part { what ≢ Next.Part }
-    ensures resolved { IsResolved settings result stacks.new.error at
-        (step bytes.now (container_first shape) (from + 1)) }
-    ensures same { result ≡ true → stacks.new ≡ stacks.old }
-{
-    match what {
-        Next::End => true,
-        _ => is_first_forgiven(stacks, bytes, from, at, settings, shape),
-    }
-}
-
-/// Behind a value, up to the next value or key; containers that end are closed.
+// Behind a value, up to the next value or key; containers that end are closed.
 #[inline(always)]
 pub fn after<'j>(
     alloc: Global,
@@ -171,13 +142,9 @@ pub fn after<'j>(
     requires stands { Stands stacks.old slot }
     requires room { length stacks.old.nest.items ≤ nesting_limit }
     requires within { from ≤ length bytes.now }
-    ensures within { (from ≤ result.0) × (result.0 ≤ length bytes.now) }
-    ensures reaches { Reaches settings bytes.now stacks.new result.0 (outcome stacks.new result.1)
-        (behind settings bytes.now stacks.old slot from) }
-    ensures left { OnOk (outcome stacks.new result.1) (left bytes.now stacks.new result.0
-        ≤ left bytes.now stacks.old from) }
-    ensures held { IfOk (outcome stacks.new result.1)
-        (λ a. held stacks.new a ≡ behind_size stacks.old slot) }
+    ensures leads { LeadsOn settings bytes.now from (left bytes.now stacks.old from + 1)
+        (behind_size stacks.old slot) (behind settings bytes.now stacks.old slot from)
+        stacks.new result }
     ensures memory { WhereRefused (outcome stacks.new result.1) (slot ≢ Slot.Root) }
     ensures root { slot ≡ Slot.Root
         → IfOk (outcome stacks.new result.1) (λ a. a ≡ State.Done) }
@@ -193,7 +160,7 @@ pub fn after<'j>(
                     Next::Part => return (next, part_of(shape)),
                     _ => {}
                 }
-                if !ends(stacks, bytes, at, next, what, settings, shape) {
+                if !ends(stacks, bytes, at, next, what, settings, Behind::Part, shape) {
                     return (next, State::GivenUp);
                 }
                 match close(alloc, stacks, shape) {
@@ -219,13 +186,9 @@ pub fn close_and_go_on<'j>(
     requires stands { StandsInside shape stacks.old }
     requires room { length stacks.old.nest.items ≤ nesting_limit + 1 }
     requires within { at ≤ length bytes.now }
-    ensures within { (at ≤ result.0) × (result.0 ≤ length bytes.now) }
-    ensures reaches { Reaches settings bytes.now stacks.new result.0 (outcome stacks.new result.1)
-        (container_ends settings bytes.now shape stacks.old at) }
-    ensures left { OnOk (outcome stacks.new result.1) (left bytes.now stacks.new result.0
-        < left bytes.now stacks.old at) }
-    ensures held { IfOk (outcome stacks.new result.1)
-        (λ a. held stacks.new a ≡ inside_size shape stacks.old) }
+    ensures leads { LeadsOn settings bytes.now at (left bytes.now stacks.old at)
+        (inside_size shape stacks.old) (container_ends settings bytes.now shape stacks.old at)
+        stacks.new result }
 {
     match close(alloc, stacks, shape) {
         Ok(outer) => after(alloc, stacks, bytes, at, settings, outer),
@@ -269,13 +232,10 @@ fn empty<'j>(
     requires stands { Stands stacks.old slot }
     requires room { length stacks.old.nest.items ≤ nesting_limit }
     requires within { end ≤ length bytes.now }
-    ensures within { (end ≤ result.0) × (result.0 ≤ length bytes.now) }
-    ensures reaches { Reaches settings bytes.now stacks.new result.0 (outcome stacks.new result.1)
-        (resume_with settings bytes.now stacks.old slot (done (empty_tree shape) end)) }
-    ensures left { OnOk (outcome stacks.new result.1) (left bytes.now stacks.new result.0
-        ≤ left bytes.now stacks.old end) }
-    ensures held { IfOk (outcome stacks.new result.1)
-        (λ a. held stacks.new a ≡ value_size stacks.old slot + 1) }
+    ensures leads { LeadsOn settings bytes.now end (left bytes.now stacks.old end + 1)
+        (value_size stacks.old slot + 1) (resume_with settings bytes.now stacks.old slot
+        (done (empty_tree shape) end))
+        stacks.new result }
     ensures memory { WhereRefused (outcome stacks.new result.1) (slot ≢ Slot.Root) }
     ensures root { slot ≡ Slot.Root
         → IfOk (outcome stacks.new result.1) (λ a. a ≡ State.Done) }
@@ -327,13 +287,9 @@ fn open<'j>(
     requires within { (at < next) × (next < length bytes.now) }
     requires bracket { start_of (slice_index bytes.now at) ≡ opening shape }
     requires part { step bytes.now (container_first shape) (at + 1) ≡ more next }
-    ensures place { result.0 ≡ next }
-    ensures reaches { Reaches settings bytes.now stacks.new result.0 (outcome stacks.new result.1)
-        (from_value settings bytes.now stacks.old slot at) }
-    ensures left { OnOk (outcome stacks.new result.1) (left bytes.now stacks.new result.0
-        < left bytes.now stacks.old at) }
-    ensures held { IfOk (outcome stacks.new result.1)
-        (λ a. held stacks.new a ≤ value_size stacks.old slot + 1) }
+    ensures leads { LeadsOn settings bytes.now at (left bytes.now stacks.old at)
+        (value_size stacks.old slot + 1) (from_value settings bytes.now stacks.old slot at)
+        stacks.new result }
 {
     if is_full(stacks, shape) {
         return too_deep(stacks, next);
@@ -361,13 +317,9 @@ pub fn begin<'j>(
     requires room { length stacks.old.nest.items ≤ nesting_limit }
     requires within { at < length bytes.now }
     requires bracket { start_of (slice_index bytes.now at) ≡ opening shape }
-    ensures within { (at ≤ result.0) × (result.0 ≤ length bytes.now) }
-    ensures reaches { Reaches settings bytes.now stacks.new result.0 (outcome stacks.new result.1)
-        (from_value settings bytes.now stacks.old slot at) }
-    ensures left { OnOk (outcome stacks.new result.1) (left bytes.now stacks.new result.0
-        < left bytes.now stacks.old at) }
-    ensures held { IfOk (outcome stacks.new result.1)
-        (λ a. held stacks.new a ≤ value_size stacks.old slot + 1) }
+    ensures leads { LeadsOn settings bytes.now at (left bytes.now stacks.old at)
+        (value_size stacks.old slot + 1) (from_value settings bytes.now stacks.old slot at)
+        stacks.new result }
     ensures memory { slot ≡ Slot.Root
         → MayGrowFor (outcome stacks.new result.1) (MayGrowAt bytes.now at) }
 {
@@ -376,7 +328,16 @@ pub fn begin<'j>(
         Next::Part => return open(stacks, bytes, at, next, settings, slot, shape),
         _ => {}
     }
-    if !ends_at_first(stacks, bytes, at, next, what, settings, shape) {
+    if !ends(
+        stacks,
+        bytes,
+        at,
+        next,
+        what,
+        settings,
+        Behind::Bracket,
+        shape,
+    ) {
         return (next, State::GivenUp);
     }
     empty(alloc, stacks, bytes, next, settings, slot, shape)

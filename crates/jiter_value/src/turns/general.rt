@@ -1,14 +1,14 @@
 //! The general way: any scalar and any key, and their faults.
-ghost use Rattle.std.specs.Prelude.{◌≡◌, ◌≢◌, ◌+◌, ◌≤◌, ◌<◌, IfOk, OnOk, length, slice_index};
+ghost use Rattle.std.specs.Prelude.{◌≡◌, ◌≢◌, ◌+◌, ◌≤◌, ◌<◌, OnOk, length, slice_index};
 ghost use Rattle.jiter_scan.specs.Kind.{fault_kind};
 ghost use Rattle.jiter_steps.specs.Literal.{start_of};
 ghost use Rattle.jiter_steps.specs.Node.{nesting_limit};
 ghost use Rattle.jiter_steps.specs.Read.{fault};
 ghost use Rattle.jiter_steps.specs.ReadError.{WhereRefused};
 ghost use Rattle.jiter_steps.specs.declared.parse.Start.{Start};
-ghost use Rattle.jiter_value.specs.Size.{value_size, key_size, held};
+ghost use Rattle.jiter_value.specs.Size.{value_size, key_size};
 ghost use Rattle.jiter_value.specs.Stacks.{resume_with, from_value, from_key, key_fault, Stands, StandsAtKey};
-ghost use Rattle.jiter_value.specs.Turns.{Reaches, MayGrowFor, left, outcome};
+ghost use Rattle.jiter_value.specs.Turns.{LeadsOn, MayGrowFor, left, outcome};
 ghost use Rattle.jiter_value.specs.Value.{MayGrowAt};
 
 use crate::settings::{Settings, forgives};
@@ -37,14 +37,10 @@ fn fault_at_value<'j>(
     requires stands { Stands stacks.old slot }
     requires room { length stacks.old.nest.items ≤ nesting_limit }
     requires within { at ≤ length bytes.now }
-    ensures within { (at ≤ result.0) × (result.0 ≤ length bytes.now) }
-    ensures reaches { Reaches settings bytes.now stacks.new result.0 (outcome stacks.new result.1)
-        (resume_with settings bytes.now stacks.old slot
-        (fault (fault_kind problem.kind) problem.index at)) }
-    ensures left { OnOk (outcome stacks.new result.1) (left bytes.now stacks.new result.0
-        < left bytes.now stacks.old at) }
-    ensures held { IfOk (outcome stacks.new result.1)
-        (λ a. held stacks.new a ≤ value_size stacks.old slot) }
+    ensures leads { LeadsOn settings bytes.now at (left bytes.now stacks.old at)
+        (value_size stacks.old slot) (resume_with settings bytes.now stacks.old slot
+        (fault (fault_kind problem.kind) problem.index at))
+        stacks.new result }
     ensures memory { WhereRefused (outcome stacks.new result.1) (slot ≢ Slot.Root) }
     ensures root { OnOk (outcome stacks.new result.1) (slot ≢ Slot.Root) }
 {
@@ -75,13 +71,10 @@ fn fault_at_key<'j>(
     requires stands { StandsAtKey stacks.old }
     requires room { length stacks.old.nest.items ≤ nesting_limit + 1 }
     requires within { at ≤ length bytes.now }
-    ensures within { (at ≤ result.0) × (result.0 ≤ length bytes.now) }
-    ensures reaches { Reaches settings bytes.now stacks.new result.0 (outcome stacks.new result.1)
-        (key_fault settings bytes.now stacks.old (fault_kind problem.kind) problem.index at) }
-    ensures left { OnOk (outcome stacks.new result.1) (left bytes.now stacks.new result.0
-        < left bytes.now stacks.old at) }
-    ensures held { IfOk (outcome stacks.new result.1)
-        (λ a. held stacks.new a ≤ key_size stacks.old) }
+    ensures leads { LeadsOn settings bytes.now at (left bytes.now stacks.old at)
+        (key_size stacks.old) (key_fault settings bytes.now stacks.old
+        (fault_kind problem.kind) problem.index at)
+        stacks.new result }
 {
     if !forgives(settings.mode, problem.kind) {
         return give_up(stacks, problem, at);
@@ -105,13 +98,9 @@ pub fn general_scalar<'j>(
     requires within { at < length bytes.now }
     requires array { start_of (slice_index bytes.now at) ≢ Start.Array }
     requires object { start_of (slice_index bytes.now at) ≢ Start.Object }
-    ensures within { (at ≤ result.0) × (result.0 ≤ length bytes.now) }
-    ensures reaches { Reaches settings bytes.now stacks.new result.0 (outcome stacks.new result.1)
-        (from_value settings bytes.now stacks.old slot at) }
-    ensures left { OnOk (outcome stacks.new result.1) (left bytes.now stacks.new result.0
-        < left bytes.now stacks.old at) }
-    ensures held { IfOk (outcome stacks.new result.1)
-        (λ a. held stacks.new a ≤ value_size stacks.old slot + 1) }
+    ensures leads { LeadsOn settings bytes.now at (left bytes.now stacks.old at)
+        (value_size stacks.old slot + 1) (from_value settings bytes.now stacks.old slot at)
+        stacks.new result }
     ensures memory { slot ≡ Slot.Root
         → MayGrowFor (outcome stacks.new result.1) (MayGrowAt bytes.now at) }
 {
@@ -141,13 +130,9 @@ pub fn general_key<'j>(
     requires stands { StandsAtKey stacks.old }
     requires room { length stacks.old.nest.items ≤ nesting_limit + 1 }
     requires within { at < length bytes.now }
-    ensures within { (at ≤ result.0) × (result.0 ≤ length bytes.now) }
-    ensures reaches { Reaches settings bytes.now stacks.new result.0 (outcome stacks.new result.1)
-        (from_key settings bytes.now stacks.old at) }
-    ensures left { OnOk (outcome stacks.new result.1) (left bytes.now stacks.new result.0
-        < left bytes.now stacks.old at) }
-    ensures held { IfOk (outcome stacks.new result.1)
-        (λ a. held stacks.new a ≤ key_size stacks.old + 1) }
+    ensures leads { LeadsOn settings bytes.now at (left bytes.now stacks.old at)
+        (key_size stacks.old + 1) (from_key settings bytes.now stacks.old at)
+        stacks.new result }
 {
     let mut parser = Parser { bytes, index: at };
     match parser.string(alloc, tape) {
