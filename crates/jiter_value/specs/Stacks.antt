@@ -168,6 +168,12 @@ abbrev pub part_of : Shape → State
 part_of shape.Array = state.Item
 part_of shape.Object = state.Key
 
+-- where the value goes that a state awaits
+abbrev pub slot_of : State → Slot
+slot_of state.Item = slot.Item
+slot_of state.Member = slot.Member
+slot_of _ = slot.Root
+
 -- how many parts lie below those of a container that begins
 abbrev pub base_of : Shape → Stacks → ℕ
 base_of shape.Array s = length s.items.items

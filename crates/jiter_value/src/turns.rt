@@ -7,7 +7,7 @@ ghost use Rattle.jiter_steps.specs.Read.{value_at};
 ghost use Rattle.jiter_steps.specs.ReadError.{WhereRefused};
 ghost use Rattle.jiter_value.specs.Settings.{rules};
 ghost use Rattle.jiter_value.specs.Size.{value_size, key_size, held};
-ghost use Rattle.jiter_value.specs.Stacks.{from_value, from_key, meaning, Stands, StandsAtKey};
+ghost use Rattle.jiter_value.specs.Stacks.{slot_of, from_value, from_key, meaning, Stands, StandsAtKey};
 ghost use Rattle.jiter_value.specs.Turns.{LeadsOn, IsWithin, MayGrowFor, left, outcome};
 ghost use Rattle.jiter_value.specs.Value.{view, MayGrowAt};
 
@@ -83,6 +83,18 @@ fn key_turn<'j>(
     general_key(alloc, tape, stacks, bytes, at, settings)
 }
 
+// Where the value goes that a state awaits.
+#[inline(always)]
+fn slot_of(state: State) -> Slot
+    ensures { result ≡ slot_of state }
+{
+    match state {
+        State::Item => Slot::Item,
+        State::Member => Slot::Member,
+        _ => Slot::Root,
+    }
+}
+
 /// One turn: one scalar, opening or key, and the steps behind it.
 #[inline(always)]
 pub fn turn<'j>(
@@ -103,12 +115,10 @@ pub fn turn<'j>(
         → MayGrowFor (outcome stacks.new result.1) (MayGrowAt bytes.now at) }
 {
     match state {
-        State::Root => value_turn(alloc, tape, stacks, bytes, at, settings, Slot::Root),
-        State::Item => value_turn(alloc, tape, stacks, bytes, at, settings, Slot::Item),
-        State::Member => value_turn(alloc, tape, stacks, bytes, at, settings, Slot::Member),
         State::Key => key_turn(alloc, tape, stacks, bytes, at, settings),
         State::Done => unreachable!(),
         State::GivenUp => unreachable!(),
+        _ => value_turn(alloc, tape, stacks, bytes, at, settings, slot_of(state)),
     }
 }
 

@@ -11,11 +11,13 @@ returns-then-not-forgives c =
     let k = fault_kind a.problem.kind in
     let bad : forgives a.settings.mode k ≡ false = sym c.forgives.ensures ∙ c.if-not-forgives.true in
     rw c.give_up.ensures.place
-    (record { leads = record {
-      within = (omega arith, c.requires.within);
-      reaches = rw c.give_up.ensures.error
-          (key-kept a.settings a.bytes.now (reverse s.nest.items) s.items.items s.members.items k a.problem.index a.at
-          bad);
-      left = tt;
-      held = tt;
-    } })
+    (record {
+      leads = record {
+        within = (omega arith, c.requires.within);
+        reaches = rw c.give_up.ensures.error
+            (key-kept a.settings a.bytes.now (reverse s.nest.items) s.items.items s.members.items k a.problem.index a.at
+            bad);
+        left = tt;
+        held = tt;
+      };
+    })
