@@ -26,7 +26,7 @@ use Rattle.jiter_value.specs.Stacks.{Member, resume_with, behind, Stands, Stands
 use Rattle.jiter_value.specs.Turns.{IsPutAt, IsKeyAt}
 use Rattle.jiter_value.specs.Value.{view}
 use Rattle.jiter_value.specs.declared.settings.Settings.{Settings}
-use Rattle.jiter_value.specs.declared.stacks.Awaits.{Awaits}
+use Rattle.jiter_value.specs.declared.stacks.Slot.{Slot}
 use Rattle.jiter_value.specs.declared.stacks.Stacks.{Stacks}
 use Rattle.jiter_value.specs.declared.value.JsonValue.{JsonValue}
 use Rattle.jiter_value.specs.declared.value.JsonValue.TheVariants.{Null}
@@ -62,7 +62,7 @@ module _ (p : Settings) (t : List ℕ) (i e room : ℕ) where
   literal-read l h is = begins (start.Literal l) h ∙ ap (λ x. scalar_at i (seen_as (λ u e. literal_tree l) x)) is
 
 -- a scalar that was read so, and put so
-module _ {t : List ℕ} {old new : Stacks} {a : Awaits} {i e : ℕ} (v : JsonValue) (x : Tree) where
+module _ {t : List ℕ} {old new : Stacks} {a : Slot} {i e : ℕ} (v : JsonValue) (x : Tree) where
   pub put-at : view v ≡ x → Stands old a → length old.nest.items ≤ 200
       → ((p : Settings) (u : List ℕ) (j : ℕ) → resume_with p u old a (done (view v) j) ≡ behind p u new a j)
       → Stands new a → new.nest ≡ old.nest → behind_size new a ≡ value_size old a + size (view v) → size x ≡ 1

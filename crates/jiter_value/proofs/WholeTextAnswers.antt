@@ -27,8 +27,9 @@ use Rattle.jiter_value.specs.Machine.{IsUnderWay}
 use Rattle.jiter_value.specs.Stacks.{Stands}
 use Rattle.jiter_value.specs.Turns.{Fails}
 use Rattle.jiter_value.specs.declared.settings.Settings.{Settings}
-use Rattle.jiter_value.specs.declared.stacks.Awaits.TheVariants as awaits
+use Rattle.jiter_value.specs.declared.stacks.Slot.TheVariants as slot
 use Rattle.jiter_value.specs.declared.stacks.Stacks.{Stacks}
+use Rattle.jiter_value.specs.declared.stacks.State.TheVariants as state
 use Rattle.jiter_value.proofs.StackTurns.{root-from, root-alone}
 
 -- where a value begins, a byte stands behind blanks
@@ -129,8 +130,8 @@ fails-gives (error.Fault f) j x y q h = q ∙ h
 fails-gives (error.Memory m) j x y q h = tt
 
 -- a machine begins where the text's value does
-pub begins-under-way : (p : Settings) (t : List ℕ) (s : Stacks) (i : ℕ) → Stands s awaits.Root
-    → step t value_first 0 ≡ taken tt i → i < length t → IsUnderWay true t p i awaits.Root s
+pub begins-under-way : (p : Settings) (t : List ℕ) (s : Stacks) (i : ℕ) → Stands s slot.Root
+    → step t value_first 0 ≡ taken tt i → i < length t → IsUnderWay true t p i state.Root s
 begins-under-way p t s i b h lt =
     let os = reverse s.nest.items in
     let at = value-begins-at t i h in

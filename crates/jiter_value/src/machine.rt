@@ -4,7 +4,7 @@ ghost use Rattle.jiter_value.specs.Machine.{Progress, progress, IsUnderWay};
 
 use crate::reading::{error_at, finish_whole};
 use crate::settings::Settings;
-use crate::stacks::{Awaits, Stacks, take_error};
+use crate::stacks::{Stacks, State, take_error};
 use crate::turns::turn;
 use crate::value::JsonValue;
 use jiter_scan::{JsonError, PartialMode};
@@ -22,7 +22,7 @@ pub struct Machine<'j> {
     settings: Settings,
     tape: Vec<u8>,
     stacks: Stacks<'j>,
-    awaits: Awaits,
+    awaits: State,
     begun: bool,
 }
 
@@ -70,7 +70,7 @@ impl<'j> Machine<'j> {
             },
             tape: Vec::new(alloc),
             stacks: Stacks::new(alloc),
-            awaits: Awaits::Root,
+            awaits: State::Root,
             begun: false,
         }
     }
@@ -94,7 +94,7 @@ impl<'j> Machine<'j> {
         }
         let mut reader = parser;
         match reader.value_first() {
-            Ok(()) => Machine::go(alloc, reader, settings, tape, stacks, Awaits::Root),
+            Ok(()) => Machine::go(alloc, reader, settings, tape, stacks, State::Root),
             Err(fault) => {
                 let error = error_at(ReadError::Fault(fault), reader.index);
                 Turn::Done(Err(error))
@@ -109,7 +109,7 @@ impl<'j> Machine<'j> {
         settings: Settings,
         old_tape: Vec<u8>,
         old_stacks: Stacks<'j>,
-        awaits: Awaits,
+        awaits: State,
     ) -> Turn<'j>
         requires { IsUnderWay true old_parser.bytes.now settings old_parser.index awaits old_stacks }
         ensures { TurnsTo (progress old_parser.entry.bytes.now settings old_parser.entry.index awaits
@@ -129,14 +129,14 @@ impl<'j> Machine<'j> {
         );
         parser.index = at;
         match what {
-            Awaits::Done => {
+            State::Done => {
                 let value = mem::replace(&mut stacks.root, JsonValue::Null);
                 match finish_whole(&mut parser, settings, value) {
                     Ok(whole) => Turn::Done(Ok(whole)),
                     Err(error) => Turn::Done(Err(error_at(error, parser.index))),
                 }
             }
-            Awaits::Refused => {
+            State::GivenUp => {
                 let error = take_error(&mut stacks);
                 Turn::Done(Err(error_at(error, parser.index)))
             }

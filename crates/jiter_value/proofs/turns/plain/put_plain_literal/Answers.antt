@@ -3,7 +3,7 @@ use Rattle.jiter_steps.specs.Literal.{literal_tree}
 use Rattle.jiter_value.specs.Size.{size}
 use Rattle.jiter_value.proofs.Placed.{put-at, literal-read}
 use Rattle.jiter_value.proofs.Views.{view_null, view_bool}
-use Rattle.jiter_value.proofs.turns.put_literal.Goals as goal
+use Rattle.jiter_value.proofs.turns.plain.put_plain_literal.Goals as goal
 
 pub returns-in-Null-clause-put : goal.returns-in-Null-clause-put
 returns-in-Null-clause-put c =

@@ -1,7 +1,7 @@
 use Rattle.std.proofs.Common.{◌+◌, ◌∙◌, false, sym, ap, arith}
 use Rattle.jiter_steps.specs.Read.{done, scalar_at}
 use Rattle.jiter_value.proofs.Placed.{key-at}
-use Rattle.jiter_value.proofs.turns.put_plain_key.Goals as goal
+use Rattle.jiter_value.proofs.turns.plain.put_plain_key.Goals as goal
 
 pub returns-in-Some-colon_at-clause-put : goal.returns-in-Some-colon_at-clause-put
 returns-in-Some-colon_at-clause-put c =

@@ -3,7 +3,7 @@ use Rattle.jiter_steps.specs.StringReading.{between}
 use Rattle.jiter_steps.specs.Tree.{string}
 use Rattle.jiter_value.proofs.Placed.{put-at, text-read}
 use Rattle.jiter_value.proofs.Views.{view_str}
-use Rattle.jiter_value.proofs.turns.put_tested_text.Goals as goal
+use Rattle.jiter_value.proofs.turns.plain.put_plain_utf8.Goals as goal
 
 pub returns-in-Some-clause-put : goal.returns-in-Some-clause-put
 returns-in-Some-clause-put c =

@@ -6,7 +6,7 @@ use Rattle.jiter_scan.proofs.NumberBytes.{IsAscii-decimal, IsMinusTo-le}
 use Rattle.jiter_steps.specs.Tree.{int, float}
 use Rattle.jiter_value.proofs.Placed.{put-at, number-read, short-signed, short-signed_float}
 use Rattle.jiter_value.proofs.Views.{view_float}
-use Rattle.jiter_value.proofs.turns.put_short_number.Goals as goal
+use Rattle.jiter_value.proofs.turns.plain.put_plain_number.Goals as goal
 
 pub ascii_text-text-requires : goal.ascii_text-text-requires
 ascii_text-text-requires c =

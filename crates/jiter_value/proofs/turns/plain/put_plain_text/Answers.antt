@@ -3,7 +3,7 @@ use Rattle.jiter_steps.specs.StringReading.{between}
 use Rattle.jiter_steps.specs.Tree.{string}
 use Rattle.jiter_value.proofs.Placed.{put-at, text-read}
 use Rattle.jiter_value.proofs.Views.{view_str}
-use Rattle.jiter_value.proofs.turns.put_plain_text.Goals as goal
+use Rattle.jiter_value.proofs.turns.plain.put_plain_text.Goals as goal
 
 pub returns-clause-put : goal.returns-clause-put
 returns-clause-put c =
