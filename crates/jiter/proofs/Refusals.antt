@@ -10,7 +10,8 @@ use Rattle.jiter.specs.Reader.{ReaderState, Refusal}
 use Rattle.jiter.specs.Jiter.{IsRefusalOf, IsErrorAt, refusal_view}
 use Rattle.jiter_steps.specs.Parse.{Moves, Gives}
 use Rattle.jiter_steps.specs.Tree.{Tree}
-use Rattle.jiter_value.specs.Owned.{owned_reading}
+use Rattle.jiter_value.specs.Owned.{owned_tree}
+use Rattle.jiter_value.specs.Parses.{reading_as}
 use Rattle.jiter_steps.specs.declared.parse.Parser.{Parser}
 use Rattle.jiter_steps.specs.declared.read_error.ReadError.{ReadError}
 use Rattle.jiter_steps.specs.declared.read_error.ReadError.TheVariants as error
@@ -50,7 +51,7 @@ module _ (t : List ℕ) (k : Kind) (j : ℕ) (e : JiterError)
   refusal-failed x w h = refusal-fault (subst (Within t) h w)
 
 -- the bounds of a reading whose value is owned then
-pub owned-within : (t : List ℕ) (i : ℕ) (r : Reading Tree) → reading.Within t i r → reading.Within t i (owned_reading r)
+pub owned-within : (t : List ℕ) (i : ℕ) (r : Reading Tree) → reading.Within t i r → reading.Within t i (reading_as owned_tree r)
 owned-within t i (done v e) w = w
 owned-within t i (fault k j stop) w = w
 

@@ -1,7 +1,7 @@
 use Rattle.std.proofs.Common.{◌∙◌, ap}
 use Rattle.jiter_scan.specs.Kind.{fault_kind}
 use Rattle.jiter_value.proofs.WholeTextAnswers.{value-begins-at, answer_by-none, answer_by-refused}
-use Rattle.jiter_value.proofs.reading.read_whole_on.Goals as goal
+use Rattle.jiter_value.proofs.reading.read_whole.Goals as goal
 
 pub returns-in-Err-clause-value : goal.returns-in-Err-clause-value
 returns-in-Err-clause-value c =
