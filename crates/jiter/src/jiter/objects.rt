@@ -1,6 +1,6 @@
 //! The pull reader's steps through objects.
 ghost use Rattle.std.specs.Borrow.{sem};
-ghost use Rattle.std.specs.Prelude.{◌≡◌, ◌+◌, ◌<◌, ◌≤◌, ℕ, IfErr, IfOk, Some, length, option_map, true};
+ghost use Rattle.std.specs.Prelude.{◌≡◌, ◌+◌, ◌<◌, ◌≤◌, ℕ, IfErr, IfOk, OnOk, Some, length, option_map, true};
 ghost use Rattle.jiter_scan.specs.Ascii as ascii;
 ghost use Rattle.jiter_steps.specs.Parse.{Steps};
 ghost use Rattle.jiter_steps.specs.RawString.{raw_view};
@@ -9,9 +9,9 @@ ghost use Rattle.jiter_steps.specs.StringDecoder.{text_view, WantsMemory};
 ghost use Rattle.jiter_steps.specs.StringReading.{string_at, whole, raw};
 ghost use Rattle.jiter_steps.specs.Tree.{Text};
 ghost use Rattle.jiter.specs.Reader.{value_place, next, known, gave, key_reply, colon_reply, member_reply, object_read};
-ghost use Rattle.jiter.specs.Reader.{key_step};
+ghost use Rattle.jiter.specs.Reader.{key_step, position_after};
 ghost use Rattle.jiter.specs.Jiter.{MovesOn, Replies, RefusesBytes, UnlessMemory, WhereMemory, IndexWithin, reply_seen};
-ghost use Rattle.jiter.specs.Jiter.{key_bytes, BeginsAs, StandsAt};
+ghost use Rattle.jiter.specs.Jiter.{key_bytes, BeginsAs, BeginsAt, StandsAt, StandsBefore, EndsWithColon};
 ghost use Rattle.jiter.specs.Lending.{LeavesReader};
 
 use crate::errors::{JiterResult, JsonType};
@@ -27,6 +27,7 @@ impl<'j> Jiter<'j> {
         ensures moves { MovesOn self.old self.new }
         ensures value { (key : Text) → Replies (λ _. Some key) result self.new
             (colon_reply key (step self.old.text colon self.old.position)) }
+        ensures colon { OnOk result (StandsBefore self.old.text self.new.position ascii.colon) }
         ensures refusal { RefusesBytes self.old.text result }
     {
         match self.parser.colon() {
@@ -42,6 +43,7 @@ impl<'j> Jiter<'j> {
         ensures value { UnlessMemory result (Replies (option_map text_view) result self.new
             (key_reply self.old.text self.old.position
             (string_at whole self.old.text self.old.position))) }
+        ensures colon { EndsWithColon result self.old.text self.new.position }
         ensures index { IndexWithin self.old.text result }
         ensures memory { WhereMemory result (λ _. WantsMemory self.old.text self.old.position) }
         ensures place { WhereMemory result (λ e. (self.new.position ≡ e.index)
@@ -69,6 +71,7 @@ impl<'j> Jiter<'j> {
         ensures value { (s : Step) → Steps led self.old.position s
             → UnlessMemory result (Replies (option_map text_view) result self.new
             (member_reply whole self.old.text s)) }
+        ensures colon { EndsWithColon result self.old.text self.new.position }
         ensures index { IndexWithin self.old.text result }
         ensures memory { (s : Step) → Steps led self.old.position s
             → WhereMemory result (λ e. WantsMemory self.old.text e.index × (s ≡ more e.index)) }
@@ -87,8 +90,10 @@ impl<'j> Jiter<'j> {
         ensures moves { MovesOn self.old self.new }
         ensures value { UnlessMemory result (Replies (option_map text_view) result self.new
             (object_read whole self.old self.old.position start)) }
+        ensures colon { EndsWithColon result self.old.text self.new.position }
         ensures index { IndexWithin self.old.text result }
-        ensures memory { WhereMemory result (λ e. WantsMemory self.old.text e.index
+        ensures memory { WhereMemory result (λ e. (start ≡ Start.Object)
+            × WantsMemory self.old.text e.index
             × (step self.old.text object_first (self.old.position + 1) ≡ more e.index)) }
         ensures place { WhereMemory result (λ e. self.new.position ≡ e.index) }
     {
@@ -106,8 +111,11 @@ impl<'j> Jiter<'j> {
         ensures moves { MovesOn self.old self.new }
         ensures value { UnlessMemory result (Replies (option_map text_view) result self.new
             (next self.old (object_read whole self.old))) }
+        ensures colon { EndsWithColon result self.old.text self.new.position }
         ensures index { IndexWithin self.old.text result }
-        ensures memory { WhereMemory result (λ e. WantsMemory self.old.text e.index
+        ensures memory { WhereMemory result (λ e.
+            BeginsAt self.old.text (value_place self.old) Start.Object
+            × WantsMemory self.old.text e.index
             × (step self.old.text object_first (value_place self.old + 1) ≡ more e.index)) }
         ensures place { WhereMemory result (λ e. self.new.position ≡ e.index) }
     {
@@ -122,6 +130,7 @@ impl<'j> Jiter<'j> {
         ensures moves { MovesOn self.old self.new }
         ensures value { UnlessMemory result (Replies (option_map text_view) result self.new
             (key_step whole self.old)) }
+        ensures colon { EndsWithColon result self.old.text self.new.position }
         ensures index { IndexWithin self.old.text result }
         ensures memory { WhereMemory result (λ e. WantsMemory self.old.text e.index
             × (step self.old.text (object_step self.old.text) self.old.position ≡ more e.index)) }
@@ -137,6 +146,7 @@ impl<'j> Jiter<'j> {
         ensures moves { MovesOn self.old self.new }
         ensures value { Replies (option_map raw_view) result self.new (key_reply self.old.text
             self.old.position (string_at raw self.old.text self.old.position)) }
+        ensures colon { EndsWithColon result self.old.text self.new.position }
         ensures refusal { RefusesBytes self.old.text result }
     {
         match self.raw_string(false) {
@@ -156,6 +166,7 @@ impl<'j> Jiter<'j> {
         ensures moves { MovesOn self.old self.new }
         ensures value { (s : Step) → Steps led self.old.position s
             → Replies (option_map raw_view) result self.new (member_reply raw self.old.text s) }
+        ensures colon { EndsWithColon result self.old.text self.new.position }
         ensures refusal { RefusesBytes self.old.text result }
     {
         match led {
@@ -171,6 +182,7 @@ impl<'j> Jiter<'j> {
         ensures moves { MovesOn self.old self.new }
         ensures value { Replies (option_map raw_view) result self.new
             (object_read raw self.old self.old.position start) }
+        ensures colon { EndsWithColon result self.old.text self.new.position }
         ensures refusal { RefusesBytes self.old.text result }
     {
         match start {
@@ -189,6 +201,7 @@ impl<'j> Jiter<'j> {
         ensures moves { MovesOn self.old self.new }
         ensures value { Replies (option_map raw_view) result self.new
             (next self.old (object_read raw self.old)) }
+        ensures colon { EndsWithColon result self.old.text self.new.position }
         ensures refusal { RefusesBytes self.old.text result }
     {
         match self.peek() {
@@ -202,6 +215,7 @@ impl<'j> Jiter<'j> {
     pub fn next_key_bytes(&mut self) -> JiterResult<Option<&'j [u8]>>
         ensures moves { MovesOn self.old self.new }
         ensures value { Replies (option_map raw_view) result self.new (key_step raw self.old) }
+        ensures colon { EndsWithColon result self.old.text self.new.position }
         ensures refusal { RefusesBytes self.old.text result }
     {
         let led = self.parser.step(Shape::Object);
@@ -215,8 +229,12 @@ impl<'j> Jiter<'j> {
         ensures key { IfOk result (λ key. (e : ℕ)
             × (reply_seen key_bytes (next self.old (object_read whole self.old))
             ≡ gave (option_map (λ x. x.now) key) e)) }
+        ensures colon { EndsWithColon result self.old.text
+            (position_after (next self.old (object_read whole self.old))) }
         ensures index { IndexWithin self.old.text result }
-        ensures memory { WhereMemory result (λ e. WantsMemory self.old.text e.index
+        ensures memory { WhereMemory result (λ e.
+            BeginsAt self.old.text (value_place self.old) Start.Object
+            × WantsMemory self.old.text e.index
             × (step self.old.text object_first (value_place self.old + 1) ≡ more e.index)) }
         ensures* after { sem 𝓛 (LeavesReader (option_map (λ x. x.now)) result self.entry
             (reply_seen key_bytes (next self.old (object_read whole self.old)))) }
@@ -237,6 +255,8 @@ impl<'j> Jiter<'j> {
         ensures key { IfOk result (λ key. (e : ℕ)
             × (reply_seen key_bytes (known self.old (object_read whole self.old))
             ≡ gave (option_map (λ x. x.now) key) e)) }
+        ensures colon { EndsWithColon result self.old.text
+            (position_after (known self.old (object_read whole self.old))) }
         ensures index { IndexWithin self.old.text result }
         ensures memory { WhereMemory result (λ e. WantsMemory self.old.text e.index
             × (step self.old.text object_first (self.old.position + 1) ≡ more e.index)) }
@@ -259,6 +279,8 @@ impl<'j> Jiter<'j> {
         ensures key { IfOk result (λ key. (e : ℕ)
             × (reply_seen key_bytes (key_step whole self.old)
             ≡ gave (option_map (λ x. x.now) key) e)) }
+        ensures colon { EndsWithColon result self.old.text
+            (position_after (key_step whole self.old)) }
         ensures index { IndexWithin self.old.text result }
         ensures memory { WhereMemory result (λ e. WantsMemory self.old.text e.index
             × (step self.old.text (object_step self.old.text) self.old.position ≡ more e.index)) }

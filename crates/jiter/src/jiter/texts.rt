@@ -10,7 +10,7 @@ ghost use Rattle.jiter_steps.specs.ReadError.{WhereRefused};
 ghost use Rattle.jiter_steps.specs.StringReading.{string_at, whole, kept, raw, raw_kept};
 ghost use Rattle.jiter.specs.Reader.{value_place, next, known, gave, scalar_reply, str_read, bytes_read};
 ghost use Rattle.jiter.specs.Jiter.{MovesOn, Replies, RefusesBytes, UnlessMemory, WhereMemory, IndexWithin, reply_seen};
-ghost use Rattle.jiter.specs.Jiter.{text_bytes, BeginsAs, StandsAt};
+ghost use Rattle.jiter.specs.Jiter.{text_bytes, BeginsAs, BeginsAt, StandsAt};
 ghost use Rattle.jiter.specs.Lending.{LeavesReader};
 
 use crate::errors::{JiterResult, JsonType};
@@ -95,7 +95,8 @@ impl<'j> Jiter<'j> {
         ensures value { UnlessMemory result (Replies text_view result self.new
             (str_read self.old self.old.position start)) }
         ensures index { IndexWithin self.old.text result }
-        ensures memory { WhereMemory result (λ _. WantsMemory self.old.text self.old.position) }
+        ensures memory { WhereMemory result (λ _. (start ≡ Start.String)
+            × WantsMemory self.old.text self.old.position) }
         ensures place { WhereMemory result (λ e. (self.new.position ≡ e.index)
             × (e.index ≡ self.old.position)) }
     {
@@ -111,8 +112,9 @@ impl<'j> Jiter<'j> {
         ensures value { UnlessMemory result (Replies text_view result self.new
             (next self.old (str_read self.old))) }
         ensures index { IndexWithin self.old.text result }
-        ensures memory { WhereMemory result (λ _. WantsMemory self.old.text
-            (value_place self.old)) }
+        ensures memory { WhereMemory result (λ _.
+            BeginsAt self.old.text (value_place self.old) Start.String
+            × WantsMemory self.old.text (value_place self.old)) }
         ensures place { WhereMemory result (λ e. (self.new.position ≡ e.index)
             × (e.index ≡ value_place self.old)) }
     {
@@ -128,8 +130,9 @@ impl<'j> Jiter<'j> {
         ensures text { IfOk result (λ x. (e : ℕ)
             × (reply_seen text_bytes (next self.old (str_read self.old)) ≡ gave x.now e)) }
         ensures index { IndexWithin self.old.text result }
-        ensures memory { WhereMemory result (λ _. WantsMemory self.old.text
-            (value_place self.old)) }
+        ensures memory { WhereMemory result (λ _.
+            BeginsAt self.old.text (value_place self.old) Start.String
+            × WantsMemory self.old.text (value_place self.old)) }
         ensures place { WhereMemory result (λ e. e.index ≡ value_place self.old) }
         ensures* after { sem 𝓛 (LeavesReader (λ x. x.now) result self.entry
             (reply_seen text_bytes (next self.old (str_read self.old)))) }
