@@ -5,9 +5,9 @@ ghost use Rattle.jiter_scan.specs.Kind.{fault_kind, out_of_memory};
 ghost use Rattle.jiter_scan.specs.NumberReading.{number_at};
 ghost use Rattle.jiter.specs.Cause.{json_error, wrong_type};
 ghost use Rattle.jiter.specs.Errors.{cause_of, type_of};
-ghost use Rattle.jiter.specs.Reader.{value_place, peek, finish, number_refusal, type_refusal};
+ghost use Rattle.jiter.specs.Reader.{value_place, peek, next, gave, finish, number_refusal, type_refusal};
 ghost use Rattle.jiter.specs.Jiter.{at_start, MovesOn, Replies, RefusesBytes, IsRefusalOf, refusal_view, IsErrorAt};
-ghost use Rattle.jiter.specs.Jiter.{StandsAt, byte_of};
+ghost use Rattle.jiter.specs.Jiter.{StandsAt, BeginsAs, byte_of};
 
 use crate::errors::{JiterError, JiterErrorType, JiterResult, JsonType};
 use crate::peek::Peek;
@@ -16,7 +16,7 @@ use jiter_scan::number_decoder::number_at;
 use jiter_scan::word::byte_at;
 use jiter_scan::{JsonError, NumberAny};
 use jiter_steps::blank::past_blanks;
-use jiter_steps::parse::{Literal, Parser, Start};
+use jiter_steps::parse::{Literal, Parser, Start, start_of};
 use jiter_steps::read_error::ReadError;
 use jiter_value::reading::error_at;
 use std::alloc::{AllocError, Global};
@@ -226,6 +226,22 @@ impl<'j> Jiter<'j> {
                 Err(refusal(fault))
             }
             Some(byte) => Ok(Peek::new(byte)),
+        }
+    }
+
+    // What begins at the next byte, to which the reader moves.
+    #[inline(always)]
+    fn next_start(&mut self) -> JiterResult<Start>
+        ensures moves { MovesOn self.old self.new }
+        ensures value { Replies (λ b. b) result self.new (next self.old (λ i b. gave b i)) }
+        ensures refusal { RefusesBytes self.old.text result }
+        ensures place { self.new.position ≡ value_place self.old }
+        ensures here { MatchResult result (BeginsAs self.new)
+            (λ _. slice_get self.new.text self.new.position ≡ None) }
+    {
+        match self.peek() {
+            Ok(peek) => Ok(start_of(peek.into_inner())),
+            Err(error) => Err(error),
         }
     }
 

@@ -10,7 +10,7 @@ use crate::errors::{JiterResult, JsonType};
 use crate::jiter::{Jiter, refusal};
 use crate::peek::Peek;
 use jiter_scan::errors::Fault;
-use jiter_steps::parse::{Shape, Start, start_of};
+use jiter_steps::parse::{Shape, Start};
 
 impl<'j> Jiter<'j> {
     // Where a step led: an item's first byte, or None behind the closer.
@@ -57,10 +57,8 @@ impl<'j> Jiter<'j> {
         ensures here { TellsHere result self.new }
         ensures refusal { RefusesBytes self.old.text result }
     {
-        match self.peek() {
-            Ok(peek) => self.read_array(start_of(peek.into_inner())),
-            Err(error) => Err(error),
-        }
+        let start = self.next_start()?;
+        self.read_array(start)
     }
 
     /// The same where its bracket stands.

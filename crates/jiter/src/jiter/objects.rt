@@ -17,7 +17,7 @@ ghost use Rattle.jiter.specs.Lending.{LeavesReader};
 use crate::errors::{JiterResult, JsonType};
 use crate::jiter::{Jiter, refusal};
 use jiter_scan::errors::Fault;
-use jiter_steps::parse::{Shape, Start, start_of};
+use jiter_steps::parse::{Shape, Start};
 use std::alloc::Global;
 use std::borrow::CowStr;
 
@@ -30,10 +30,7 @@ impl<'j> Jiter<'j> {
         ensures colon { OnOk result (StandsBefore self.old.text self.new.position ascii.colon) }
         ensures refusal { RefusesBytes self.old.text result }
     {
-        match self.parser.colon() {
-            Ok(()) => Ok(()),
-            Err(fault) => Err(refusal(fault)),
-        }
+        self.parser.colon().map_err(refusal)
     }
 
     // The key where the reader stands, with its colon.
@@ -49,13 +46,9 @@ impl<'j> Jiter<'j> {
         ensures place { WhereMemory result (λ e. (self.new.position ≡ e.index)
             × (e.index ≡ self.old.position)) }
     {
-        match self.string(alloc, false) {
-            Ok(text) => match self.colon() {
-                Ok(()) => Ok(Some(text)),
-                Err(error) => Err(error),
-            },
-            Err(error) => Err(error),
-        }
+        let text = self.string(alloc, false)?;
+        self.colon()?;
+        Ok(Some(text))
     }
 
     // Where a step led: the key there, with its colon, or None behind the closer.
@@ -119,10 +112,8 @@ impl<'j> Jiter<'j> {
             × (step self.old.text object_first (value_place self.old + 1) ≡ more e.index)) }
         ensures place { WhereMemory result (λ e. self.new.position ≡ e.index) }
     {
-        match self.peek() {
-            Ok(peek) => self.first_key(alloc, start_of(peek.into_inner())),
-            Err(error) => Err(error),
-        }
+        let start = self.next_start()?;
+        self.first_key(alloc, start)
     }
 
     // Behind a member: the next key.
@@ -149,13 +140,9 @@ impl<'j> Jiter<'j> {
         ensures colon { EndsWithColon result self.old.text self.new.position }
         ensures refusal { RefusesBytes self.old.text result }
     {
-        match self.raw_string(false) {
-            Ok(content) => match self.colon() {
-                Ok(()) => Ok(Some(content)),
-                Err(error) => Err(error),
-            },
-            Err(error) => Err(error),
-        }
+        let content = self.raw_string(false)?;
+        self.colon()?;
+        Ok(Some(content))
     }
 
     // Where a step led: the raw key there, with its colon, or None behind the closer.
@@ -204,10 +191,8 @@ impl<'j> Jiter<'j> {
         ensures colon { EndsWithColon result self.old.text self.new.position }
         ensures refusal { RefusesBytes self.old.text result }
     {
-        match self.peek() {
-            Ok(peek) => self.first_key_bytes(start_of(peek.into_inner())),
-            Err(error) => Err(error),
-        }
+        let start = self.next_start()?;
+        self.first_key_bytes(start)
     }
 
     /// Behind a member: the bytes of the next key, as they stand between its quotes, with its colon consumed;

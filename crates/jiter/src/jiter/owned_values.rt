@@ -49,10 +49,8 @@ impl<'j> Jiter<'j> {
         ensures place { WhereMemory result (λ e. (self.new.position ≡ e.index)
             × (value_place self.old ≤ e.index)) }
     {
-        match self.peek() {
-            Ok(_) => self.owned_value(alloc),
-            Err(error) => Err(error),
-        }
+        self.peek()?;
+        self.owned_value(alloc)
     }
 
     /// The same where the caller has peeked.

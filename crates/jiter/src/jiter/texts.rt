@@ -16,7 +16,7 @@ ghost use Rattle.jiter.specs.Lending.{LeavesReader};
 use crate::errors::{JiterResult, JsonType};
 use crate::jiter::{Jiter, refusal, refusal_at};
 use jiter_scan::errors::Fault;
-use jiter_steps::parse::{Parser, Start, start_of};
+use jiter_steps::parse::{Parser, Start};
 use jiter_steps::read_error::ReadError;
 use std::alloc::Global;
 use std::borrow::CowStr;
@@ -118,10 +118,8 @@ impl<'j> Jiter<'j> {
         ensures place { WhereMemory result (λ e. (self.new.position ≡ e.index)
             × (e.index ≡ value_place self.old)) }
     {
-        match self.peek() {
-            Ok(peek) => self.read_str(alloc, start_of(peek.into_inner())),
-            Err(error) => Err(error),
-        }
+        let start = self.next_start()?;
+        self.read_str(alloc, start)
     }
 
     /// Reads a string, and lends its text, decoded (RFC 8259, 7). The text lies in the reader's bytes where
@@ -175,10 +173,7 @@ impl<'j> Jiter<'j> {
             (string_at (if partial then raw_kept else raw) self.old.text self.old.position)) }
         ensures refusal { RefusesBytes self.old.text result }
     {
-        match read_raw_string(&mut self.parser, partial) {
-            Ok(content) => Ok(content),
-            Err(fault) => Err(refusal(fault)),
-        }
+        read_raw_string(&mut self.parser, partial).map_err(refusal)
     }
 
     // The bytes between the quotes, at a value that begins so.
@@ -202,10 +197,8 @@ impl<'j> Jiter<'j> {
         ensures value { Replies raw_view result self.new (next self.old (bytes_read self.old)) }
         ensures refusal { RefusesBytes self.old.text result }
     {
-        match self.peek() {
-            Ok(peek) => self.read_bytes(start_of(peek.into_inner())),
-            Err(error) => Err(error),
-        }
+        let start = self.next_start()?;
+        self.read_bytes(start)
     }
 
     /// The same where its opening quote stands.

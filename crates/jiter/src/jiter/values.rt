@@ -45,10 +45,8 @@ impl<'j> Jiter<'j> {
         ensures place { WhereMemory result (λ e. (self.new.position ≡ e.index)
             × (value_place self.old ≤ e.index)) }
     {
-        match self.peek() {
-            Ok(_) => self.value(alloc),
-            Err(error) => Err(error),
-        }
+        self.peek()?;
+        self.value(alloc)
     }
 
     /// The same where the caller has peeked.
