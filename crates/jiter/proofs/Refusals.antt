@@ -9,7 +9,7 @@ use Rattle.jiter_steps.proofs.Reading.Bounds as reading
 use Rattle.jiter_steps.specs.Read.{Reading, done, fault, scalar_at}
 use Rattle.jiter.specs.Cause.{json_error}
 use Rattle.jiter.specs.Reader.{ReaderState, Refusal}
-use Rattle.jiter.specs.Jiter.{IsRefusalOf, IsErrorAt, RefusesBytes, refusal_view}
+use Rattle.jiter.specs.Jiter.{IsRefusalOf, IsErrorAt, RefusesBytes, IndexWithin, refusal_view}
 use Rattle.jiter_steps.specs.Parse.{Moves, Gives, Reads}
 use Rattle.jiter_steps.specs.Tree.{Tree}
 use Rattle.jiter_value.specs.Owned.{owned_reading}
@@ -86,3 +86,13 @@ index-error t i view (error.Fault f) stop e is r w le h =
     omega (arith, at.2.within, index)
 index-error t i view (error.Memory m) stop e is r w le h =
     let index = ap (λ (r : Refusal). r.index) is in omega (arith, le, index)
+
+-- what the error of a reading becomes
+pub index-refused : {X A : Type 0} {Q : ReadError → JiterError → Type 0} (t : List ℕ) (i : ℕ) (view : X → A)
+    (x : Result X ReadError) (y : Result X JiterError) (stop : ℕ) (r : Reading A)
+    → MatchResult x (λ a. y ≡ Ok a) (λ f. IsErrAnd y (Q f))
+    → ((f : ReadError) (e : JiterError) → Q f e → IsErrorAt f stop e)
+    → reading.Within t i r → stop ≤ length t → Gives view x stop r → IndexWithin t y
+index-refused t i view x (Ok b) stop r m is w le h = tt
+index-refused t i view (Ok a) (Err e) stop r m is w le h = absurd (cc)
+index-refused t i view (Err f) (Err e) stop r m is w le h = index-error t i view f stop e (is f e m) r w le h

@@ -160,20 +160,9 @@ impl<'j> Jiter<'j> {
     pub fn with_allow_inf_nan(self) -> Jiter<'j>
         ensures { result ≡ record self.entry { names = true } }
     {
-        let Jiter {
-            parser,
-            allow_inf_nan: _,
-            allow_partial_strings,
-            tape,
-            text,
-        } = self;
-        Jiter {
-            parser,
-            allow_inf_nan: true,
-            allow_partial_strings,
-            tape,
-            text,
-        }
+        let mut jiter = self;
+        jiter.allow_inf_nan = true;
+        jiter
     }
 
     /// The same reader, to which a string that the end of input cuts is a text as far as its whole characters
@@ -182,20 +171,9 @@ impl<'j> Jiter<'j> {
     pub fn with_allow_partial_strings(self) -> Jiter<'j>
         ensures { result ≡ record self.entry { partial_strings = true } }
     {
-        let Jiter {
-            parser,
-            allow_inf_nan,
-            allow_partial_strings: _,
-            tape,
-            text,
-        } = self;
-        Jiter {
-            parser,
-            allow_inf_nan,
-            allow_partial_strings: true,
-            tape,
-            text,
-        }
+        let mut jiter = self;
+        jiter.allow_partial_strings = true;
+        jiter
     }
 
     // The byte behind the blanks, which the reader passes.
@@ -239,10 +217,8 @@ impl<'j> Jiter<'j> {
         ensures here { MatchResult result (BeginsAs self.new)
             (λ _. slice_get self.new.text self.new.position ≡ None) }
     {
-        match self.peek() {
-            Ok(peek) => Ok(start_of(peek.into_inner())),
-            Err(error) => Err(error),
-        }
+        let peek = self.peek()?;
+        Ok(start_of(peek.into_inner()))
     }
 
     /// Moves over blanks to the end of input. A byte that is left is `TrailingCharacters` at it.

@@ -224,13 +224,13 @@ impl<'j> Jiter<'j> {
         ensures* after { sem 𝓛 (LeavesReader (option_map (λ x. x.now)) result self.entry
             (reply_seen key_bytes (next self.old (object_read whole self.old)))) }
     {
-        match self.take_first_key(alloc) {
-            Ok(Some(text)) => {
+        let key = self.take_first_key(alloc)?;
+        match key {
+            Some(text) => {
                 self.text = text;
                 Ok(Some(self.text.as_str()))
             }
-            Ok(None) => Ok(None),
-            Err(error) => Err(error),
+            None => Ok(None),
         }
     }
 
@@ -248,13 +248,13 @@ impl<'j> Jiter<'j> {
         ensures* after { sem 𝓛 (LeavesReader (option_map (λ x. x.now)) result self.entry
             (reply_seen key_bytes (known self.old (object_read whole self.old)))) }
     {
-        match self.first_key(alloc, Start::Object) {
-            Ok(Some(text)) => {
+        let key = self.first_key(alloc, Start::Object)?;
+        match key {
+            Some(text) => {
                 self.text = text;
                 Ok(Some(self.text.as_str()))
             }
-            Ok(None) => Ok(None),
-            Err(error) => Err(error),
+            None => Ok(None),
         }
     }
 
@@ -272,13 +272,13 @@ impl<'j> Jiter<'j> {
         ensures* after { sem 𝓛 (LeavesReader (option_map (λ x. x.now)) result self.entry
             (reply_seen key_bytes (key_step whole self.old))) }
     {
-        match self.take_key(alloc) {
-            Ok(Some(text)) => {
+        let key = self.take_key(alloc)?;
+        match key {
+            Some(text) => {
                 self.text = text;
                 Ok(Some(self.text.as_str()))
             }
-            Ok(None) => Ok(None),
-            Err(error) => Err(error),
+            None => Ok(None),
         }
     }
 }

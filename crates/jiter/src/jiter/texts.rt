@@ -82,10 +82,7 @@ impl<'j> Jiter<'j> {
         let mut tape = self.take_tape(alloc);
         let read = read_string(alloc, &mut tape, &mut self.parser, partial);
         self.tape = Some(tape);
-        match read {
-            Ok(text) => Ok(text),
-            Err(error) => Err(refusal_at(error, self.parser.index)),
-        }
+        read.map_err(|error| refusal_at(error, self.parser.index))
     }
 
     // A text, at a value that begins so.
@@ -135,13 +132,8 @@ impl<'j> Jiter<'j> {
         ensures* after { sem 𝓛 (LeavesReader (λ x. x.now) result self.entry
             (reply_seen text_bytes (next self.old (str_read self.old)))) }
     {
-        match self.take_str(alloc) {
-            Ok(text) => {
-                self.text = text;
-                Ok(self.text.as_str())
-            }
-            Err(error) => Err(error),
-        }
+        self.text = self.take_str(alloc)?;
+        Ok(self.text.as_str())
     }
 
     /// The same where its opening quote stands.
@@ -155,13 +147,8 @@ impl<'j> Jiter<'j> {
         ensures* after { sem 𝓛 (LeavesReader (λ x. x.now) result self.entry
             (reply_seen text_bytes (known self.old (str_read self.old)))) }
     {
-        match self.read_str(alloc, Start::String) {
-            Ok(text) => {
-                self.text = text;
-                Ok(self.text.as_str())
-            }
-            Err(error) => Err(error),
-        }
+        self.text = self.read_str(alloc, Start::String)?;
+        Ok(self.text.as_str())
     }
 
     // The bytes between the quotes of the string where the reader stands; of one that the end of input may
