@@ -2,9 +2,9 @@
 #![tactic(auto)]
 
 pub mod client;
-pub mod errors;
-pub mod jiter;
-pub mod peek;
+mod errors;
+mod jiter;
+mod peek;
 
 pub use errors::{JiterError, JiterErrorType, JiterResult, JsonType};
 pub use jiter::Jiter;

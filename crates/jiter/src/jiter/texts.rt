@@ -10,13 +10,13 @@ ghost use Rattle.jiter_steps.specs.ReadError.{WhereRefused};
 ghost use Rattle.jiter_steps.specs.StringReading.{string_at, whole, kept, raw, raw_kept};
 ghost use Rattle.jiter.specs.Reader.{value_place, next, known, gave, scalar_reply, str_read, bytes_read};
 ghost use Rattle.jiter.specs.Jiter.{MovesOn, Replies, RefusesBytes, UnlessMemory, WhereMemory, IndexWithin, reply_seen};
-ghost use Rattle.jiter.specs.Jiter.{text_bytes, BeginsAs, StandsAt};
+ghost use Rattle.jiter.specs.Jiter.{text_bytes, BeginsAs, BeginsAt, StandsAt};
 ghost use Rattle.jiter.specs.Lending.{LeavesReader};
 
 use crate::errors::{JiterResult, JsonType};
 use crate::jiter::{Jiter, refusal, refusal_at};
 use jiter_scan::errors::Fault;
-use jiter_steps::parse::{Parser, Start, start_of};
+use jiter_steps::parse::{Parser, Start};
 use jiter_steps::read_error::ReadError;
 use std::alloc::Global;
 use std::borrow::CowStr;
@@ -47,10 +47,7 @@ impl<'j> Jiter<'j> {
         let mut tape = self.take_tape(alloc);
         let read = self.parser.string(alloc, &mut tape, partial);
         self.tape = Some(tape);
-        match read {
-            Ok(text) => Ok(text),
-            Err(error) => Err(refusal_at(error, self.parser.index)),
-        }
+        read.map_err(|error| refusal_at(error, self.parser.index))
     }
 
     // A text, at a value that begins so.
@@ -60,7 +57,8 @@ impl<'j> Jiter<'j> {
         ensures value { UnlessMemory result (Replies text_view result self.new
             (str_read self.old self.old.position start)) }
         ensures index { IndexWithin self.old.text result }
-        ensures memory { WhereMemory result (λ _. WantsMemory self.old.text self.old.position) }
+        ensures memory { WhereMemory result (λ _. (start ≡ Start.String)
+            × WantsMemory self.old.text self.old.position) }
         ensures place { WhereMemory result (λ e. (self.new.position ≡ e.index)
             × (e.index ≡ self.old.position)) }
     {
@@ -76,15 +74,14 @@ impl<'j> Jiter<'j> {
         ensures value { UnlessMemory result (Replies text_view result self.new
             (next self.old (str_read self.old))) }
         ensures index { IndexWithin self.old.text result }
-        ensures memory { WhereMemory result (λ _. WantsMemory self.old.text
-            (value_place self.old)) }
+        ensures memory { WhereMemory result (λ _.
+            BeginsAt self.old.text (value_place self.old) Start.String
+            × WantsMemory self.old.text (value_place self.old)) }
         ensures place { WhereMemory result (λ e. (self.new.position ≡ e.index)
             × (e.index ≡ value_place self.old)) }
     {
-        match self.peek() {
-            Ok(peek) => self.read_str(alloc, start_of(peek.into_inner())),
-            Err(error) => Err(error),
-        }
+        let start = self.next_start()?;
+        self.read_str(alloc, start)
     }
 
     /// Reads a string, and lends its text, decoded (RFC 8259, 7). The text lies in the reader's bytes where
@@ -93,19 +90,15 @@ impl<'j> Jiter<'j> {
         ensures text { IfOk result (λ x. (e : ℕ)
             × (reply_seen text_bytes (next self.old (str_read self.old)) ≡ gave x.now e)) }
         ensures index { IndexWithin self.old.text result }
-        ensures memory { WhereMemory result (λ _. WantsMemory self.old.text
-            (value_place self.old)) }
+        ensures memory { WhereMemory result (λ _.
+            BeginsAt self.old.text (value_place self.old) Start.String
+            × WantsMemory self.old.text (value_place self.old)) }
         ensures place { WhereMemory result (λ e. e.index ≡ value_place self.old) }
         ensures* after { sem 𝓛 (LeavesReader (λ x. x.now) result self.entry
             (reply_seen text_bytes (next self.old (str_read self.old)))) }
     {
-        match self.take_str(alloc) {
-            Ok(text) => {
-                self.text = text;
-                Ok(self.text.as_str())
-            }
-            Err(error) => Err(error),
-        }
+        self.text = self.take_str(alloc)?;
+        Ok(self.text.as_str())
     }
 
     /// The same where its opening quote stands.
@@ -119,13 +112,8 @@ impl<'j> Jiter<'j> {
         ensures* after { sem 𝓛 (LeavesReader (λ x. x.now) result self.entry
             (reply_seen text_bytes (known self.old (str_read self.old)))) }
     {
-        match self.read_str(alloc, Start::String) {
-            Ok(text) => {
-                self.text = text;
-                Ok(self.text.as_str())
-            }
-            Err(error) => Err(error),
-        }
+        self.text = self.read_str(alloc, Start::String)?;
+        Ok(self.text.as_str())
     }
 
     // The bytes between the quotes of the string where the reader stands; of one that the end of input may
@@ -161,10 +149,8 @@ impl<'j> Jiter<'j> {
         ensures value { Replies raw_view result self.new (next self.old (bytes_read self.old)) }
         ensures refusal { RefusesBytes self.old.text result }
     {
-        match self.peek() {
-            Ok(peek) => self.read_bytes(start_of(peek.into_inner())),
-            Err(error) => Err(error),
-        }
+        let start = self.next_start()?;
+        self.read_bytes(start)
     }
 
     /// The same where its opening quote stands.
