@@ -44,13 +44,9 @@ fn put_plain_utf8<'j>(
     ensures put { IfSome result (λ e. IsPutAt bytes.now stacks.old at slot stacks.new e) }
     ensures same { result ≡ None → stacks.new ≡ stacks.old }
 {
-    match text_between(bytes, at, to) {
-        None => None,
-        Some(text) => {
-            put_reserved(stacks, slot, JsonValue::Str(CowStr::Borrowed(text)));
-            Some(to + 1)
-        }
-    }
+    let text = text_between(bytes, at, to)?;
+    put_reserved(stacks, slot, JsonValue::Str(CowStr::Borrowed(text)));
+    Some(to + 1)
 }
 
 // A string with no backslash goes where it belongs, if it is UTF-8: the place behind it.
@@ -139,17 +135,13 @@ fn put_plain_literal<'j>(
     ensures put { IfSome result (λ e. IsPutAt bytes.now stacks.old at slot stacks.new e) }
     ensures same { result ≡ None → stacks.new ≡ stacks.old }
 {
-    match plain_literal_end(bytes, at, literal) {
-        None => None,
-        Some(end) => {
-            match literal {
-                Literal::Null => put_reserved(stacks, slot, JsonValue::Null),
-                Literal::True => put_reserved(stacks, slot, JsonValue::Bool(true)),
-                Literal::False => put_reserved(stacks, slot, JsonValue::Bool(false)),
-            }
-            Some(end)
-        }
+    let end = plain_literal_end(bytes, at, literal)?;
+    match literal {
+        Literal::Null => put_reserved(stacks, slot, JsonValue::Null),
+        Literal::True => put_reserved(stacks, slot, JsonValue::Bool(true)),
+        Literal::False => put_reserved(stacks, slot, JsonValue::Bool(false)),
     }
+    Some(end)
 }
 
 /// A plain scalar goes where it belongs, if there is room for it: the place behind it.
@@ -189,16 +181,10 @@ pub fn put_plain_key<'j>(stacks: &mut Stacks<'j>, bytes: &'j [u8], at: usize) ->
     ensures put { IfSome result (λ next. IsKeyAt bytes.now stacks.old at stacks.new next) }
     ensures same { result ≡ None → stacks.new ≡ stacks.old }
 {
-    match plain_text_end(bytes, at) {
-        None => None,
-        Some(to) => match colon_at(bytes, to + 1) {
-            None => None,
-            Some(next) => {
-                let text = ascii_text(&bytes[at + 1..to]);
-                let key = CowStr::Borrowed(text);
-                stacks.members.push_reserved((key, JsonValue::Null));
-                Some(next)
-            }
-        },
-    }
+    let to = plain_text_end(bytes, at)?;
+    let next = colon_at(bytes, to + 1)?;
+    let text = ascii_text(&bytes[at + 1..to]);
+    let key = CowStr::Borrowed(text);
+    stacks.members.push_reserved((key, JsonValue::Null));
+    Some(next)
 }
