@@ -9,7 +9,7 @@ ghost use Rattle.jiter_steps.specs.Node.{nesting_limit};
 ghost use Rattle.jiter_steps.specs.Tree.{int};
 ghost use Rattle.jiter_steps.specs.declared.parse.Start.{Start};
 ghost use Rattle.jiter_value.specs.Stacks.{Stands, StandsAtKey, HasRoom};
-ghost use Rattle.jiter_value.specs.Turns.{IsPutAt, IsKeyAt};
+ghost use Rattle.jiter_value.specs.Turns.{IsAtValue, IsPutAt, IsKeyAt};
 ghost use Rattle.jiter_value.specs.Value.{view};
 
 use crate::stacks::{Slot, Stacks, has_room, put_reserved};
@@ -57,10 +57,8 @@ fn put_plain_text<'j>(
     at: usize,
     slot: Slot,
 ) -> Option<usize>
-    requires stands { Stands stacks.old slot }
-    requires few { length stacks.old.nest.items ≤ nesting_limit }
+    requires at_value { IsAtValue bytes.now stacks.old slot at }
     requires room { HasRoom stacks.old slot }
-    requires within { at < length bytes.now }
     requires begins { start_of (slice_index bytes.now at) ≡ Start.String }
     ensures put { IfSome result (λ e. IsPutAt bytes.now stacks.old at slot stacks.new e) }
     ensures same { result ≡ None → stacks.new ≡ stacks.old }
@@ -95,10 +93,8 @@ fn put_plain_number<'j>(
     at: usize,
     slot: Slot,
 ) -> Option<usize>
-    requires stands { Stands stacks.old slot }
-    requires few { length stacks.old.nest.items ≤ nesting_limit }
+    requires at_value { IsAtValue bytes.now stacks.old slot at }
     requires room { HasRoom stacks.old slot }
-    requires within { at < length bytes.now }
     requires begins { start_of (slice_index bytes.now at) ≡ Start.Number }
     ensures put { IfSome result (λ e. IsPutAt bytes.now stacks.old at slot stacks.new e) }
     ensures same { result ≡ None → stacks.new ≡ stacks.old }
@@ -127,10 +123,8 @@ fn put_plain_literal<'j>(
     slot: Slot,
     literal: Literal,
 ) -> Option<usize>
-    requires stands { Stands stacks.old slot }
-    requires few { length stacks.old.nest.items ≤ nesting_limit }
+    requires at_value { IsAtValue bytes.now stacks.old slot at }
     requires room { HasRoom stacks.old slot }
-    requires within { at < length bytes.now }
     requires begins { start_of (slice_index bytes.now at) ≡ Start.Literal literal }
     ensures put { IfSome result (λ e. IsPutAt bytes.now stacks.old at slot stacks.new e) }
     ensures same { result ≡ None → stacks.new ≡ stacks.old }
@@ -152,9 +146,7 @@ pub fn put_plain_scalar<'j>(
     at: usize,
     slot: Slot,
 ) -> Option<usize>
-    requires stands { Stands stacks.old slot }
-    requires few { length stacks.old.nest.items ≤ nesting_limit }
-    requires within { at < length bytes.now }
+    requires at_value { IsAtValue bytes.now stacks.old slot at }
     ensures put { IfSome result (λ e. IsPutAt bytes.now stacks.old at slot stacks.new e) }
     ensures same { result ≡ None → stacks.new ≡ stacks.old }
 {
