@@ -7,8 +7,8 @@ ghost use Rattle.jiter_steps.specs.Read.{value_at};
 ghost use Rattle.jiter_steps.specs.ReadError.{WhereRefused};
 ghost use Rattle.jiter_value.specs.Settings.{rules};
 ghost use Rattle.jiter_value.specs.Size.{value_size, key_size, held};
-ghost use Rattle.jiter_value.specs.Stacks.{slot_of, from_value, from_key, meaning, Stands, StandsAtKey};
-ghost use Rattle.jiter_value.specs.Turns.{LeadsOn, IsWithin, MayGrowFor, left, outcome};
+ghost use Rattle.jiter_value.specs.Stacks.{slot_of, from_value, from_key, meaning, StandsAtKey};
+ghost use Rattle.jiter_value.specs.Turns.{IsAtValue, LeadsOn, IsWithin, MayGrowFor, left, outcome};
 ghost use Rattle.jiter_value.specs.Value.{view, MayGrowAt};
 
 use crate::settings::Settings;
@@ -38,9 +38,7 @@ fn value_turn<'j>(
     settings: Settings,
     slot: Slot,
 ) -> (usize, State)
-    requires stands { Stands stacks.old slot }
-    requires room { length stacks.old.nest.items ≤ nesting_limit }
-    requires within { at < length bytes.now }
+    requires at_value { IsAtValue bytes.now stacks.old slot at }
     ensures leads { LeadsOn settings bytes.now at (left bytes.now stacks.old at)
         (value_size stacks.old slot + 1) (from_value settings bytes.now stacks.old slot at)
         stacks.new result }

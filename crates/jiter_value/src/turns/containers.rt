@@ -11,7 +11,7 @@ ghost use Rattle.jiter_steps.specs.Step.{Step, step, more, container_first, open
 ghost use Rattle.jiter_value.specs.Size.{value_size, inside_size, behind_size};
 ghost use Rattle.jiter_value.specs.Stacks.{resume_with, from_value, behind, container_ends, Stands, StandsInside};
 ghost use Rattle.jiter_value.specs.Stacks.{slot_in, base_of, part_of, empty_tree};
-ghost use Rattle.jiter_value.specs.Turns.{LeadsOn, container_goes, IsResolved, MayGrowFor, left, outcome};
+ghost use Rattle.jiter_value.specs.Turns.{IsAtValue, LeadsOn, container_goes, IsResolved, MayGrowFor, left, outcome};
 ghost use Rattle.jiter_value.specs.Value.{MayGrowAt};
 ghost use Rattle.jiter_value.specs.declared.settings.Settings.{Settings as SettingsView};
 
@@ -313,9 +313,7 @@ pub fn begin<'j>(
     slot: Slot,
     shape: Shape,
 ) -> (usize, State)
-    requires stands { Stands stacks.old slot }
-    requires room { length stacks.old.nest.items ≤ nesting_limit }
-    requires within { at < length bytes.now }
+    requires at_value { IsAtValue bytes.now stacks.old slot at }
     requires bracket { start_of (slice_index bytes.now at) ≡ opening shape }
     ensures leads { LeadsOn settings bytes.now at (left bytes.now stacks.old at)
         (value_size stacks.old slot + 1) (from_value settings bytes.now stacks.old slot at)

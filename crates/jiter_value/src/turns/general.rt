@@ -8,7 +8,7 @@ ghost use Rattle.jiter_steps.specs.ReadError.{WhereRefused};
 ghost use Rattle.jiter_steps.specs.declared.parse.Start.{Start};
 ghost use Rattle.jiter_value.specs.Size.{value_size, key_size};
 ghost use Rattle.jiter_value.specs.Stacks.{resume_with, from_value, from_key, key_fault, Stands, StandsAtKey};
-ghost use Rattle.jiter_value.specs.Turns.{LeadsOn, MayGrowFor, left, outcome};
+ghost use Rattle.jiter_value.specs.Turns.{IsAtValue, LeadsOn, MayGrowFor, left, outcome};
 ghost use Rattle.jiter_value.specs.Value.{MayGrowAt};
 
 use crate::settings::{Settings, forgives};
@@ -93,9 +93,7 @@ pub fn general_scalar<'j>(
     settings: Settings,
     slot: Slot,
 ) -> (usize, State)
-    requires stands { Stands stacks.old slot }
-    requires room { length stacks.old.nest.items ≤ nesting_limit }
-    requires within { at < length bytes.now }
+    requires at_value { IsAtValue bytes.now stacks.old slot at }
     requires array { start_of (slice_index bytes.now at) ≢ Start.Array }
     requires object { start_of (slice_index bytes.now at) ≢ Start.Object }
     ensures leads { LeadsOn settings bytes.now at (left bytes.now stacks.old at)

@@ -9,7 +9,7 @@ ghost use Rattle.jiter_steps.specs.Node.{nesting_limit};
 ghost use Rattle.jiter_steps.specs.Tree.{int};
 ghost use Rattle.jiter_steps.specs.declared.parse.Start.{Start};
 ghost use Rattle.jiter_value.specs.Stacks.{Stands, StandsAtKey, HasRoom};
-ghost use Rattle.jiter_value.specs.Turns.{IsPutAt, IsKeyAt};
+ghost use Rattle.jiter_value.specs.Turns.{IsAtValue, IsPutAt, IsKeyAt};
 ghost use Rattle.jiter_value.specs.Value.{view};
 
 use crate::stacks::{Slot, Stacks, has_room, put_reserved};
@@ -44,13 +44,9 @@ fn put_plain_utf8<'j>(
     ensures put { IfSome result (λ e. IsPutAt bytes.now stacks.old at slot stacks.new e) }
     ensures same { result ≡ None → stacks.new ≡ stacks.old }
 {
-    match text_between(bytes, at, to) {
-        None => None,
-        Some(text) => {
-            put_reserved(stacks, slot, JsonValue::Str(CowStr::Borrowed(text)));
-            Some(to + 1)
-        }
-    }
+    let text = text_between(bytes, at, to)?;
+    put_reserved(stacks, slot, JsonValue::Str(CowStr::Borrowed(text)));
+    Some(to + 1)
 }
 
 // A string with no backslash goes where it belongs, if it is UTF-8: the place behind it.
@@ -61,10 +57,8 @@ fn put_plain_text<'j>(
     at: usize,
     slot: Slot,
 ) -> Option<usize>
-    requires stands { Stands stacks.old slot }
-    requires few { length stacks.old.nest.items ≤ nesting_limit }
+    requires at_value { IsAtValue bytes.now stacks.old slot at }
     requires room { HasRoom stacks.old slot }
-    requires within { at < length bytes.now }
     requires begins { start_of (slice_index bytes.now at) ≡ Start.String }
     ensures put { IfSome result (λ e. IsPutAt bytes.now stacks.old at slot stacks.new e) }
     ensures same { result ≡ None → stacks.new ≡ stacks.old }
@@ -99,10 +93,8 @@ fn put_plain_number<'j>(
     at: usize,
     slot: Slot,
 ) -> Option<usize>
-    requires stands { Stands stacks.old slot }
-    requires few { length stacks.old.nest.items ≤ nesting_limit }
+    requires at_value { IsAtValue bytes.now stacks.old slot at }
     requires room { HasRoom stacks.old slot }
-    requires within { at < length bytes.now }
     requires begins { start_of (slice_index bytes.now at) ≡ Start.Number }
     ensures put { IfSome result (λ e. IsPutAt bytes.now stacks.old at slot stacks.new e) }
     ensures same { result ≡ None → stacks.new ≡ stacks.old }
@@ -131,25 +123,19 @@ fn put_plain_literal<'j>(
     slot: Slot,
     literal: Literal,
 ) -> Option<usize>
-    requires stands { Stands stacks.old slot }
-    requires few { length stacks.old.nest.items ≤ nesting_limit }
+    requires at_value { IsAtValue bytes.now stacks.old slot at }
     requires room { HasRoom stacks.old slot }
-    requires within { at < length bytes.now }
     requires begins { start_of (slice_index bytes.now at) ≡ Start.Literal literal }
     ensures put { IfSome result (λ e. IsPutAt bytes.now stacks.old at slot stacks.new e) }
     ensures same { result ≡ None → stacks.new ≡ stacks.old }
 {
-    match plain_literal_end(bytes, at, literal) {
-        None => None,
-        Some(end) => {
-            match literal {
-                Literal::Null => put_reserved(stacks, slot, JsonValue::Null),
-                Literal::True => put_reserved(stacks, slot, JsonValue::Bool(true)),
-                Literal::False => put_reserved(stacks, slot, JsonValue::Bool(false)),
-            }
-            Some(end)
-        }
+    let end = plain_literal_end(bytes, at, literal)?;
+    match literal {
+        Literal::Null => put_reserved(stacks, slot, JsonValue::Null),
+        Literal::True => put_reserved(stacks, slot, JsonValue::Bool(true)),
+        Literal::False => put_reserved(stacks, slot, JsonValue::Bool(false)),
     }
+    Some(end)
 }
 
 /// A plain scalar goes where it belongs, if there is room for it: the place behind it.
@@ -160,9 +146,7 @@ pub fn put_plain_scalar<'j>(
     at: usize,
     slot: Slot,
 ) -> Option<usize>
-    requires stands { Stands stacks.old slot }
-    requires few { length stacks.old.nest.items ≤ nesting_limit }
-    requires within { at < length bytes.now }
+    requires at_value { IsAtValue bytes.now stacks.old slot at }
     ensures put { IfSome result (λ e. IsPutAt bytes.now stacks.old at slot stacks.new e) }
     ensures same { result ≡ None → stacks.new ≡ stacks.old }
 {
@@ -189,16 +173,10 @@ pub fn put_plain_key<'j>(stacks: &mut Stacks<'j>, bytes: &'j [u8], at: usize) ->
     ensures put { IfSome result (λ next. IsKeyAt bytes.now stacks.old at stacks.new next) }
     ensures same { result ≡ None → stacks.new ≡ stacks.old }
 {
-    match plain_text_end(bytes, at) {
-        None => None,
-        Some(to) => match colon_at(bytes, to + 1) {
-            None => None,
-            Some(next) => {
-                let text = ascii_text(&bytes[at + 1..to]);
-                let key = CowStr::Borrowed(text);
-                stacks.members.push_reserved((key, JsonValue::Null));
-                Some(next)
-            }
-        },
-    }
+    let to = plain_text_end(bytes, at)?;
+    let next = colon_at(bytes, to + 1)?;
+    let text = ascii_text(&bytes[at + 1..to]);
+    let key = CowStr::Borrowed(text);
+    stacks.members.push_reserved((key, JsonValue::Null));
+    Some(next)
 }

@@ -56,10 +56,8 @@ fn read_literal<'j>(
     ensures ahead { OnOk result (parser.old.index < parser.new.index) }
     ensures one { IfOk result (λ v. size (view v) ≡ 1) }
 {
-    match parser.literal(literal) {
-        Ok(()) => Ok(literal_value(literal)),
-        Err(fault) => Err(fault),
-    }
+    parser.literal(literal)?;
+    Ok(literal_value(literal))
 }
 
 #[inline(always)]
@@ -71,10 +69,8 @@ fn read_number<'j>(parser: &mut Parser<'j>, settings: Settings) -> Result<JsonVa
     ensures ahead { OnOk result (parser.old.index < parser.new.index) }
     ensures one { IfOk result (λ v. size (view v) ≡ 1) }
 {
-    match parser.number(settings.allow_inf_nan) {
-        Ok(number) => Ok(number_value(number)),
-        Err(fault) => Err(fault),
-    }
+    let number = parser.number(settings.allow_inf_nan)?;
+    Ok(number_value(number))
 }
 
 #[inline(always)]
@@ -92,10 +88,8 @@ fn read_text<'j>(
     ensures one { IfOk result (λ v. size (view v) ≡ 1) }
     ensures memory { WhereRefused result (WantsMemory parser.old.bytes.now parser.old.index) }
 {
-    match parser.string(alloc, tape, settings.mode.allow_trailing_str()) {
-        Ok(text) => Ok(JsonValue::Str(text)),
-        Err(error) => Err(error),
-    }
+    let text = parser.string(alloc, tape, settings.mode.allow_trailing_str())?;
+    Ok(JsonValue::Str(text))
 }
 
 /// The scalar where the reader stands; a fault leaves it there.

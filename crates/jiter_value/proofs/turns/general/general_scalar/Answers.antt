@@ -16,7 +16,7 @@ returns-in-Ok-put-clause-leads c =
     let nest = c.put.ensures.nest in
     leads-weaker c.after.ensures.leads (omega (arith, ahead)) (omega (arith, ahead, ap length (ap (λ n. n.items) nest)))
     (omega (arith, put.held, one))
-    (value-read a.settings a.bytes.now a.stacks.now a.slot c.requires.stands c.requires.room a.at
+    (value-read a.settings a.bytes.now a.stacks.now a.slot c.requires.at_value.0 c.requires.at_value.1 a.at
     (done (view c.in-Ok.value) e) c.in-Ok.ensures.value
     ∙ put.value a.settings a.bytes.now e)
 
@@ -27,5 +27,5 @@ returns-in-Err-Fault-clause-leads c =
     let read = rw c.in-Err-Fault.field-0-is at c.in-Err-Fault.ensures.value in
     let forward = c.in-Err-Fault.ensures.moves.forward in
     leads-weaker c.fault_at_value.ensures.leads (omega (arith, forward)) (omega (arith, forward)) (omega arith)
-    (value-read a.settings a.bytes.now a.stacks.now a.slot c.requires.stands c.requires.room a.at
+    (value-read a.settings a.bytes.now a.stacks.now a.slot c.requires.at_value.0 c.requires.at_value.1 a.at
     (fault (fault_kind f.kind) f.index c.scalar.new.parser.index) read)

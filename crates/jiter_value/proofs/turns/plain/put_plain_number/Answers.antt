@@ -23,7 +23,7 @@ returns-in-Int-clause-put c =
     let found = c.in-Int.ensures in
     let n = c.put_reserved.ensures in
     let z = if nat_lt a.at from then minus_of c.in-Int.magnitude else pos c.in-Int.magnitude in
-    put-at _ (int z) c.signed.ensures c.requires.stands c.requires.few n.value n.stands n.nest n.held refl
+    put-at _ (int z) c.signed.ensures c.requires.at_value.0 c.requires.at_value.1 n.value n.stands n.nest n.held refl
     (omega (arith, found.some, IsMinusTo-le t a.at from minus)) found.within
     (λ p room. number-read p t a.at c.in-Int.end room (integer z) c.requires.begins
     (short-signed t p.allow_inf_nan a.at c.in-Int.end from c.in-Int.magnitude minus found))
@@ -39,7 +39,7 @@ returns-in-Float-clause-put c =
     let n = c.put_reserved-in-Float.ensures in
     put-at _ (float (record { owned = false; bytes = slice_range t a.at e }))
     (view_float _ ∙ ap (λ w. float (record { owned = false; bytes = w })) c.ascii_text-text.ensures)
-    c.requires.stands c.requires.few n.value n.stands n.nest n.held refl
+    c.requires.at_value.0 c.requires.at_value.1 n.value n.stands n.nest n.held refl
     (omega (arith, found.some, IsMinusTo-le t a.at from minus)) found.within
     (λ p room. number-read p t a.at e room (number.float (slice_range t a.at e)) c.requires.begins
     (short-signed_float t p.allow_inf_nan a.at e from minus found))

@@ -5,11 +5,11 @@ use Rattle.jiter_value.proofs.Placed.{put-at, text-read}
 use Rattle.jiter_value.proofs.Views.{view_str}
 use Rattle.jiter_value.proofs.turns.plain.put_plain_utf8.Goals as goal
 
-pub returns-in-Some-clause-put : goal.returns-in-Some-clause-put
-returns-in-Some-clause-put c =
+pub returns-clause-put : goal.returns-clause-put
+returns-clause-put c =
     let a = c.args in
     let t = a.bytes.now in
-    let found = c.in-Some.ensures in
+    let found = c.in_ok-text.ensures in
     let n = c.put_reserved.ensures in
     put-at _ (string (between t (a.at + 1) a.to))
     (view_str _ ∙ ap (λ w. string (record { owned = false; bytes = w })) found.text)
