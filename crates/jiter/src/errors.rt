@@ -95,17 +95,11 @@ impl JiterErrorType {
 impl fmt::Display for JiterErrorType {
     ghost output = { λ cause. Some (cause_text (cause_of cause)) };
 
-    // a width changes nothing
-    ghost styled_output = { λ cause _. Some (cause_text (cause_of cause)) };
-
     fn fmt<W: fmt::Write>(&self, f: &mut fmt::Formatter<W>) -> fmt::Result {
         match self {
             Self::JsonError(kind) => f.write_str(kind_text(kind)),
             Self::WrongType { expected, actual } => {
-                f.write_str("expected ")?;
-                f.write_str(expected.text())?;
-                f.write_str(" but found ")?;
-                f.write_str(actual.text())
+                write!(f, "expected {expected} but found {actual}")
             }
         }
     }
