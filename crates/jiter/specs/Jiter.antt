@@ -10,7 +10,7 @@ use Rattle.jiter_steps.specs.declared.read_error.ReadError.{ReadError}
 use Rattle.jiter_steps.specs.declared.read_error.ReadError.TheVariants as error
 use Rattle.jiter.specs.Cause.{json_error}
 use Rattle.jiter.specs.Errors.{cause_of}
-use Rattle.jiter.specs.Reader.{ReaderState, Reply, gave, refused, Refusal, with_position}
+use Rattle.jiter.specs.Reader.{ReaderState, Reply, gave, refused, Refusal, with_position, position_after}
 use Rattle.jiter.specs.declared.errors.JiterError.{JiterError}
 use Rattle.jiter.specs.declared.peek.Peek.{Peek}
 
@@ -83,6 +83,12 @@ text_bytes x = x.bytes
 -- the bytes of a key, if there is one
 abbrev pub key_bytes : Option Text → Option (List ℕ)
 key_bytes = option_map text_bytes
+
+-- What a call that lends a text was refused for, but for want of memory: this reply's cause, at its index, and the
+-- reader stands where the reply says.
+abbrev pub RefusesAs : {X A : Type 0} → Result X JiterError → Reply A → Type 0
+RefusesAs (Ok x) r = Unit {0}
+RefusesAs (Err e) r = (IsMemory e → ⊥) → r ≡ refused (cause_of e.error_type) e.index (position_after r)
 
 -- the byte c stands where the reader stands
 abbrev pub StandsAt : ReaderState → ℕ → Type 0

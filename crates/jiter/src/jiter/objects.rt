@@ -12,6 +12,7 @@ ghost use Rattle.jiter.specs.Reader.{value_place, next, known, gave, key_reply, 
 ghost use Rattle.jiter.specs.Reader.{key_step, position_after};
 ghost use Rattle.jiter.specs.Jiter.{MovesOn, Replies, RefusesBytes, UnlessMemory, WhereMemory, IndexWithin, reply_seen};
 ghost use Rattle.jiter.specs.Jiter.{key_bytes, BeginsAs, BeginsAt, StandsAt, StandsBefore, EndsWithColon};
+ghost use Rattle.jiter.specs.Jiter.{RefusesAs};
 ghost use Rattle.jiter.specs.Lending.{LeavesReader};
 
 use crate::errors::{JiterResult, JsonType};
@@ -216,6 +217,7 @@ impl<'j> Jiter<'j> {
             ≡ gave (option_map (λ x. x.now) key) e)) }
         ensures colon { EndsWithColon result self.old.text
             (position_after (next self.old (object_read whole self.old))) }
+        ensures refusal { RefusesAs result (next self.old (object_read whole self.old)) }
         ensures index { IndexWithin self.old.text result }
         ensures memory { WhereMemory result (λ e.
             BeginsAt self.old.text (value_place self.old) Start.Object
@@ -242,6 +244,7 @@ impl<'j> Jiter<'j> {
             ≡ gave (option_map (λ x. x.now) key) e)) }
         ensures colon { EndsWithColon result self.old.text
             (position_after (known self.old (object_read whole self.old))) }
+        ensures refusal { RefusesAs result (known self.old (object_read whole self.old)) }
         ensures index { IndexWithin self.old.text result }
         ensures memory { WhereMemory result (λ e. WantsMemory self.old.text e.index
             × (step self.old.text object_first (self.old.position + 1) ≡ more e.index)) }
@@ -266,6 +269,7 @@ impl<'j> Jiter<'j> {
             ≡ gave (option_map (λ x. x.now) key) e)) }
         ensures colon { EndsWithColon result self.old.text
             (position_after (key_step whole self.old)) }
+        ensures refusal { RefusesAs result (key_step whole self.old) }
         ensures index { IndexWithin self.old.text result }
         ensures memory { WhereMemory result (λ e. WantsMemory self.old.text e.index
             × (step self.old.text (object_step self.old.text) self.old.position ≡ more e.index)) }

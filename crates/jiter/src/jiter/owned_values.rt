@@ -32,8 +32,10 @@ impl<'j> Jiter<'j> {
             allow_inf_nan: self.allow_inf_nan,
             mode: PartialMode::Off,
         };
-        read_owned(alloc, &mut self.parser, settings)
-            .map_err(|error| refusal_at(error, self.parser.index))
+        read_owned(alloc, &mut self.parser, settings).map_err(|error| refusal_at(
+            error,
+            self.parser.index,
+        ))
     }
 
     /// What [`Jiter::next_value`] reads, each text owned.

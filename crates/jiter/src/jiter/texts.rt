@@ -10,7 +10,7 @@ ghost use Rattle.jiter_steps.specs.ReadError.{WhereRefused};
 ghost use Rattle.jiter_steps.specs.StringReading.{string_at, whole, kept, raw, raw_kept};
 ghost use Rattle.jiter.specs.Reader.{value_place, next, known, gave, scalar_reply, str_read, bytes_read};
 ghost use Rattle.jiter.specs.Jiter.{MovesOn, Replies, RefusesBytes, UnlessMemory, WhereMemory, IndexWithin, reply_seen};
-ghost use Rattle.jiter.specs.Jiter.{text_bytes, BeginsAs, BeginsAt, StandsAt};
+ghost use Rattle.jiter.specs.Jiter.{text_bytes, BeginsAs, BeginsAt, RefusesAs, StandsAt};
 ghost use Rattle.jiter.specs.Lending.{LeavesReader};
 
 use crate::errors::{JiterResult, JsonType};
@@ -89,6 +89,7 @@ impl<'j> Jiter<'j> {
     pub fn next_str(&mut self, alloc: Global) -> JiterResult<&str>
         ensures text { IfOk result (λ x. (e : ℕ)
             × (reply_seen text_bytes (next self.old (str_read self.old)) ≡ gave x.now e)) }
+        ensures refusal { RefusesAs result (next self.old (str_read self.old)) }
         ensures index { IndexWithin self.old.text result }
         ensures memory { WhereMemory result (λ _.
             BeginsAt self.old.text (value_place self.old) Start.String
@@ -106,6 +107,7 @@ impl<'j> Jiter<'j> {
         requires { StandsAt self.old ascii.quote }
         ensures text { IfOk result (λ x. (e : ℕ)
             × (reply_seen text_bytes (known self.old (str_read self.old)) ≡ gave x.now e)) }
+        ensures refusal { RefusesAs result (known self.old (str_read self.old)) }
         ensures index { IndexWithin self.old.text result }
         ensures memory { WhereMemory result (λ _. WantsMemory self.old.text self.old.position) }
         ensures place { WhereMemory result (λ e. e.index ≡ self.old.position) }

@@ -29,8 +29,10 @@ impl<'j> Jiter<'j> {
             allow_inf_nan: self.allow_inf_nan,
             mode: PartialMode::Off,
         };
-        read_value(alloc, &mut self.parser, settings)
-            .map_err(|error| refusal_at(error, self.parser.index))
+        read_value(alloc, &mut self.parser, settings).map_err(|error| refusal_at(
+            error,
+            self.parser.index,
+        ))
     }
 
     /// Reads a value whole, whatever its type, with partial reading off (RFC 8259, 3).
