@@ -400,6 +400,3 @@ impl<'j> Parser<'j> {
         }
     }
 }
-
-#[cfg(test)]
-mod tests;

@@ -164,6 +164,3 @@ impl<'j> Parser<'j> {
         }
     }
 }
-
-#[cfg(test)]
-mod tests;

@@ -552,6 +552,3 @@ pub fn string_front_at<'j>(
         ))),
     }
 }
-
-#[cfg(test)]
-mod tests;
