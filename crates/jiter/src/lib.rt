@@ -13,6 +13,3 @@ pub use jiter_scan::{
 };
 pub use jiter_value::{JsonArray, JsonObject, JsonValue, JsonValueScratch, Machine, Turn};
 pub use peek::Peek;
-
-#[cfg(test)]
-mod tests;

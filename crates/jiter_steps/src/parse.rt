@@ -367,6 +367,3 @@ impl<'j> Parser<'j> {
         Ok(text)
     }
 }
-
-#[cfg(test)]
-mod tests;

@@ -228,6 +228,3 @@ pub fn plain_literal_end(bytes: &[u8], at: usize, literal: Literal) -> Option<us
         _ => None,
     }
 }
-
-#[cfg(test)]
-mod tests;

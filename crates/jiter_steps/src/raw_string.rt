@@ -129,6 +129,3 @@ impl<'j> Parser<'j> {
         Ok(content)
     }
 }
-
-#[cfg(test)]
-mod tests;

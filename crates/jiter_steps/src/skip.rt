@@ -275,6 +275,3 @@ pub fn skip(parser: &mut Parser<'_>, allow_inf_nan: bool) -> Result<(), Fault>
         _ => skip_scalar(parser, allow_inf_nan),
     }
 }
-
-#[cfg(test)]
-mod tests;

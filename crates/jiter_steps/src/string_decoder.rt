@@ -464,6 +464,3 @@ pub fn string_at<'j>(
         None => Err(ReadError::Fault(cut_short(bytes))),
     }
 }
-
-#[cfg(test)]
-mod tests;

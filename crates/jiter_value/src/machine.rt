@@ -152,6 +152,3 @@ impl<'j> Machine<'j> {
         }
     }
 }
-
-#[cfg(test)]
-mod tests;

@@ -116,6 +116,3 @@ fn clear<'j>(stacks: &mut Stacks<'j>)
     stacks.members.clear();
     stacks.nest.clear();
 }
-
-#[cfg(test)]
-mod tests;
