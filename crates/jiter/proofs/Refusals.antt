@@ -51,7 +51,8 @@ module _ (t : List ℕ) (k : Kind) (j : ℕ) (e : JiterError)
   refusal-failed x w h = refusal-fault (subst (Within t) h w)
 
 -- the bounds of a reading whose value is owned then
-pub owned-within : (t : List ℕ) (i : ℕ) (r : Reading Tree) → reading.Within t i r → reading.Within t i (reading_as owned_tree r)
+pub owned-within : (t : List ℕ) (i : ℕ) (r : Reading Tree) → reading.Within t i r
+    → reading.Within t i (reading_as owned_tree r)
 owned-within t i (done v e) w = w
 owned-within t i (fault k j stop) w = w
 
