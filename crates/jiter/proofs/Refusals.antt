@@ -69,7 +69,8 @@ refuses t (Ok a) (Err e) m is at = absurd (cc)
 refuses t (Err f) (Err e) m is at = refusal-fault t (fault_kind f.kind) f.index e (is f e m) at
 
 -- the bounds of a reading whose value is owned then
-pub owned-within : (t : List ℕ) (i : ℕ) (r : Reading Tree) → reading.Within t i r → reading.Within t i (reading_as owned_tree r)
+pub owned-within : (t : List ℕ) (i : ℕ) (r : Reading Tree) → reading.Within t i r
+    → reading.Within t i (reading_as owned_tree r)
 owned-within t i (done v e) w = w
 owned-within t i (fault k j stop) w = w
 

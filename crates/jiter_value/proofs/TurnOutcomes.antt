@@ -32,6 +32,10 @@ refused-weaker (Ok x) P Q go h = tt
 refused-weaker (Err (error.Fault f)) P Q go h = tt
 refused-weaker (Err (error.Memory m)) P Q go h = go h
 
+pub refused-any : (X : Type 0) (e : ReadError) (P : Type 0) → P → WhereRefused {A = X} (Err e) P
+refused-any X (error.Fault f) P h = tt
+refused-any X (error.Memory m) P h = h
+
 -- the value is whole, unless it was refused
 pub root-grows : (r : Result State ReadError) (P : Type 0) → IfOk r (λ a. a ≡ state.Done) → WhereRefused r P
     → MayGrowFor r P

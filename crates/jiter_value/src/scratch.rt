@@ -2,7 +2,7 @@
 ghost use Rattle.std.specs.Prelude.{◌≡◌, []};
 ghost use Rattle.jiter_value.specs.Owned.{owned_tree, OwnedMayGrow};
 ghost use Rattle.jiter_value.specs.Parses.{Parses, as_read};
-ghost use Rattle.jiter_value.specs.Scratch.{HoldsNothing};
+ghost use Rattle.jiter_value.specs.Scratch.{IsCleared};
 ghost use Rattle.jiter_value.specs.Value.{MayGrow};
 
 use crate::parse_owned::own_answer;
@@ -25,7 +25,7 @@ pub struct JsonValueScratch<'j> {
 }
 
 impl<'j> Model for JsonValueScratch<'j> {
-    ghost use Rattle.jiter_value.specs.Scratch.{Lists, lists, HoldsNothing};
+    ghost use Rattle.jiter_value.specs.Scratch.{Lists, lists, IsCleared};
     ghost use Rattle.std.specs.Prelude.{[]};
     ghost use Rattle.jiter_value.specs.contracts.value.JsonValue as value;
     ghost use Rattle.std.specs.Coded.{codes};
@@ -37,7 +37,7 @@ impl<'j> Model for JsonValueScratch<'j> {
 
     ghost view = { λ s. lists s.stacks };
 
-    ghost invariant = { λ s. HoldsNothing s.stacks };
+    ghost invariant = { λ s. IsCleared s.stacks };
 }
 
 impl<'j> JsonValueScratch<'j> {
@@ -46,10 +46,12 @@ impl<'j> JsonValueScratch<'j> {
         ensures elements { result.elements ≡ [] }
         ensures members { result.members ≡ [] }
     {
+        let mut stacks = Stacks::kept(alloc);
+        clear(&mut stacks);
         JsonValueScratch {
             alloc,
             tape: Vec::new(alloc),
-            stacks: Stacks::kept(alloc),
+            stacks,
         }
     }
 
@@ -110,9 +112,10 @@ impl JsonValueScratch<'static> {
 
 // Drops what the stacks hold; their buffers stay.
 fn clear<'j>(stacks: &mut Stacks<'j>)
-    ensures { HoldsNothing stacks.new }
+    ensures { IsCleared stacks.new }
 {
     stacks.items.clear();
     stacks.members.clear();
     stacks.nest.clear();
+    stacks.root = JsonValue::Null;
 }
