@@ -5,7 +5,7 @@ use Rattle.jiter.proofs.jiter.Jiter.raw_string.Goals.{in-Ok, in-Err}
 use Rattle.jiter.proofs.jiter.Jiter.raw_string.Goals as goal
 
 pub returns-clause-refusal : goal.returns-clause-refusal
-returns-clause-refusal c = elim c.match-read_raw_string.branch [
+returns-clause-refusal c = elim c.match-raw_string.branch [
   | in-Ok w ↦ rw w.result-is tt
   | in-Err w ↦ rw w.result-is (let p = c.self.inside.parser in
       rw (← c.self.view_is) (refusal-read p.bytes.now _ _ _ w.refusal.ensures.value p.index _ _

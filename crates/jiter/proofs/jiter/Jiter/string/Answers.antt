@@ -12,7 +12,7 @@ returns-clause-index c = elim c.match-read.branch [
       let p = c.self.inside.parser in
       let is = c.self.view_is ∙ c.take_tape-tape.ensures in
       let inside = subst IsInside (sym is) c.requires in
-      let stop = index-parser p c.read_string-read.new.parser c.read_string-read.ensures.moves in
+      let stop = index-parser p c.string-read.new.self c.string-read.ensures.moves in
       rw (← is) (index-error p.bytes.now p.index text_view w.in-Err.error _ w.refusal_at.result w.refusal_at.ensures
       _ (reading-within p.bytes.now p.index _ p.within (string_at-within _ p.bytes.now p.index inside)) stop
       w.in-Err.ensures.value))
