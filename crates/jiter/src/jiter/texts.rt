@@ -1,12 +1,9 @@
 //! The pull reader's texts.
 ghost use Rattle.std.specs.Borrow.{sem};
-ghost use Rattle.std.specs.Prelude.{◌≡◌, ◌<◌, ◌≤◌, ℕ, IfOk, OnErr, if◌then◌else◌, length};
+ghost use Rattle.std.specs.Prelude.{◌≡◌, ◌<◌, ℕ, IfOk, if◌then◌else◌, length};
 ghost use Rattle.jiter_scan.specs.Ascii as ascii;
 ghost use Rattle.jiter_steps.specs.RawString.{raw_view};
 ghost use Rattle.jiter_steps.specs.StringDecoder.{text_view, WantsMemory};
-ghost use Rattle.jiter_steps.specs.Parse.{Moves, Reads, Gives};
-ghost use Rattle.jiter_steps.specs.Read.{scalar_at};
-ghost use Rattle.jiter_steps.specs.ReadError.{WhereRefused};
 ghost use Rattle.jiter_steps.specs.StringReading.{string_at, whole, kept, raw, raw_kept};
 ghost use Rattle.jiter.specs.Reader.{value_place, next, known, gave, scalar_reply, str_read, bytes_read};
 ghost use Rattle.jiter.specs.Jiter.{MovesOn, Replies, RefusesBytes, UnlessMemory, WhereMemory, IndexWithin, reply_seen};
@@ -15,9 +12,7 @@ ghost use Rattle.jiter.specs.Lending.{LeavesReader};
 
 use crate::errors::{JiterResult, JsonType};
 use crate::jiter::{Jiter, refusal, refusal_at};
-use jiter_scan::errors::Fault;
-use jiter_steps::parse::{Parser, Start};
-use jiter_steps::read_error::ReadError;
+use jiter_steps::parse::Start;
 use std::alloc::Global;
 use std::borrow::CowStr;
 
@@ -127,7 +122,10 @@ impl<'j> Jiter<'j> {
             (string_at (if partial then raw_kept else raw) self.old.text self.old.position)) }
         ensures refusal { RefusesBytes self.old.text result }
     {
-        self.parser.raw_string(partial).map_err(refusal)
+        match self.parser.raw_string(partial) {
+            Ok(content) => Ok(content),
+            Err(fault) => Err(refusal(fault)),
+        }
     }
 
     // The bytes between the quotes, at a value that begins so.

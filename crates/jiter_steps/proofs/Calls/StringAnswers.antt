@@ -35,14 +35,14 @@ module _ (i e : ℕ) (o : Bool) (bs : List ℕ) where
   string-checked true u = kept-valid i e o bs (utf8_valid_len-IsUtf8 bs u)
   string-checked false u = rw (eq-eqb _ _ (utf8_valid_len-IsUtf8 bs u))
 
--- what ends by a fault alone is given on as it is
+-- a reading that fails by a fault alone, given on as one that may want memory
 pub string-fault : {A : Type 0} (P : Result A Fault → Type 0) (r : Result A Fault) (told : Result A ReadError)
     → MatchResult r (λ x. told ≡ Ok x) (λ f. IsErrAnd told (λ e. e ≡ error.Fault f)) → P r → UnlessRefused told P
 string-fault P (Ok x) told is p = rw is p
 string-fault P (Err f) (Ok x) is p = absurd is
 string-fault P (Err f) (Err e) is p = rw is p
 
--- what ends a closed text
+-- a closed text, kept or not
 pub string_closed : (keep : Bool) (t : List ℕ) (i : ℕ) (bs : List ℕ) (o : Bool) (e : ℕ)
     → text_in_form (text_form keep) t i bs o (closed e) ≡ checked keep i o bs e
 string_closed true t i bs o e = refl

@@ -9,6 +9,6 @@ returns-clause-refusal c =
     let p = c.self.inside.parser in
     let at = reading-within p.bytes.now p.index _ p.within
     (string_at-within _ p.bytes.now p.index (subst IsInside (sym c.self.view_is) c.requires)) in
-    rw (← c.self.view_is) (refuses p.bytes.now c.read_raw_string.result c.map_err.result c.map_err.ensures.cases
+    rw (← c.self.view_is) (refuses p.bytes.now c.raw_string.result c.map_err.result c.map_err.ensures.cases
     (λ f e h. h.0)
-    (reads-fault raw_view p.bytes.now p.index c.read_raw_string.result _ _ at c.read_raw_string.ensures.value))
+    (reads-fault raw_view p.bytes.now p.index c.raw_string.result _ _ at c.raw_string.ensures.value))

@@ -9,8 +9,8 @@ returns-clause-index c =
     let p = c.self.inside.parser in
     let is = c.self.view_is ∙ c.take_tape-tape.ensures in
     let inside = subst IsInside (sym is) c.requires in
-    let stop = index-parser p c.read_string-read.new.parser c.read_string-read.ensures.moves in
-    rw (← is) (index-refused p.bytes.now p.index text_view c.read_string-read.result c.map_err.result _ _
+    let stop = index-parser p c.string-read.new.self c.string-read.ensures.moves in
+    rw (← is) (index-refused p.bytes.now p.index text_view c.string-read.result c.map_err.result _ _
     c.map_err.ensures.cases (λ f e h. search rules)
     (reading-within p.bytes.now p.index _ p.within (string_at-within _ p.bytes.now p.index inside)) stop
-    c.read_string-read.ensures.value)
+    c.string-read.ensures.value)

@@ -13,6 +13,6 @@ returns-clause-put c =
     let colon = c.in_ok-next.ensures in
     key-at t a.stacks.now c.push_reserved.new.self i (to + 1) c.in_ok-next.next _ c.requires.stands
     c.requires.within
-    (ap (scalar_at i) found.whole
+    (ap (scalar_at i) (found.value false)
     ∙ ap (λ w. done (record { owned = false; bytes = w }) (to + 1)) (sym c.ascii_text-text.ensures))
     colon.value c.push_reserved.ensures.items (omega (arith, found.within.0, colon.within.0)) colon.within.1
