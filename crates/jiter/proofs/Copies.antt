@@ -44,14 +44,14 @@ module _ (t : List ℕ) (at : ℕ) (inside : at < length t) (s : Text) (e : ℕ)
   ended-by : (b : ℕ) → slice_get t to ≡ Some b → (c d : Bool) → (b == 34) ≡ c → (b == 92) ≡ d
       → (s.owned ≡ false) ⊎ WantsMemory t at
   ended-by b h true d q r =
-      let quote = string-quote t at inside to refl (h ∙ ap Some (eqb-true b 34 q)) in
+      let quote = string-quote t at inside to refl false (h ∙ ap Some (eqb-true b 34 q)) in
       inl (checked-mark (at + 1) (to + 1) e false (slice_range t (at + 1) to) s (sym quote ∙ read))
   ended-by b h false true q r = inr (h ∙ ap Some (eqb-true b 92 r))
   ended-by b h false false q r =
-      let control = string-control t at inside to refl b h (eqb-false b 34 q) (eqb-false b 92 r) in absurd (cc)
+      let control = string-control t at inside to refl whole b h (eqb-false b 34 q) (eqb-false b 92 r) in absurd (cc)
 
   by-stop : (o : Option ℕ) → slice_get t to ≡ o → (s.owned ≡ false) ⊎ WantsMemory t at
-  by-stop None h = let end = string-none t at inside to refl h in absurd (cc)
+  by-stop None h = let end = string-none t at inside to refl whole h in absurd (cc)
   by-stop (Some b) h = ended-by b h (b == 34) (b == 92) refl refl
 
   -- a string was borrowed, or has a backslash

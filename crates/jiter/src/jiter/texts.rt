@@ -122,10 +122,7 @@ impl<'j> Jiter<'j> {
             (string_at (if partial then raw_kept else raw) self.old.text self.old.position)) }
         ensures refusal { RefusesBytes self.old.text result }
     {
-        match self.parser.raw_string(partial) {
-            Ok(content) => Ok(content),
-            Err(fault) => Err(refusal(fault)),
-        }
+        self.parser.raw_string(partial).map_err(refusal)
     }
 
     // The bytes between the quotes, at a value that begins so.
