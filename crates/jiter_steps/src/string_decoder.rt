@@ -435,6 +435,7 @@ fn decode_text<'j>(
 /// The index of a fault is the byte that is wrong, or the length where the input ends too early; for a text
 /// that is not UTF-8 it counts on from the opening quote by the decoded bytes before the broken one (RFC
 /// 8259, 7 and 8.1).
+#[inline(always)]
 pub fn string_at<'j>(
     alloc: Global,
     tape: &mut Vec<u8>,
