@@ -3,11 +3,12 @@ use Rattle.std.proofs.Common.{◌≡◌, ◌∙◌, sym, ap, subst, ℕ, ◌+◌
 use Rattle.std.proofs.Common.{arith}
 use Rattle.std.proofs.lemmas.List.{map_push}
 use Rattle.std.proofs.lemmas.Option.{slice_get_within}
-use Rattle.std.specs.Prelude.{Option, Some, None, option_map, Result, Ok, Err, IsErrAnd}
+use Rattle.std.specs.Prelude.{Option, Some, None, option_map, Result, Ok, Err, IsErrAnd, IfSome}
 use Rattle.jiter_steps.specs.StringReading.{whole, string_at}
 use Rattle.jiter_steps.specs.Tree.{Tree}
-use Rattle.jiter_steps.specs.Step.{Step, step, object_first}
+use Rattle.jiter_steps.specs.Step.{Step, more, closed, stuck, step, object_first}
 use Rattle.jiter_value.specs.Owned.{owned_text}
+use Rattle.jiter_value.specs.Value.{LeadsOn}
 use Rattle.jiter.specs.Cause.{Cause}
 use Rattle.jiter.specs.Errors.{cause_of}
 use Rattle.jiter.specs.Jiter.{MovesOn, LeavesAt, Replies, RefusesBytes, StandsAt, reply_seen}
@@ -61,7 +62,16 @@ refused-seen {e = e} {s = s} f g r h = record {
 pub record In {K P : Type 0} (s0 s : ReaderState) (w : Walk K P) (next : Option K) (parts : List P) : Type 0 where
   pub moves : MovesOn s0 s
   pub here : ToldAt s0 w next s.position
+  pub opens : IfSome next (λ k. LeadsOn (step s0.text w.container.first (s0.position + 1)))
   pub left : all s0 w ≡ left s0 w next parts s.position
+
+-- a step that tells of a part leads on
+pub told-leads : {K : Type 0} (told : ℕ → Reply (Option K)) (s : Step) (o : Option K) (e : ℕ)
+    → part_reply told s ≡ gave o e → IfSome o (λ k. LeadsOn s)
+told-leads told s None e h = tt
+told-leads told (more i) (Some k) e h = tt
+told-leads told (closed i) (Some k) e h = absurd (cc)
+told-leads told (stuck c i) (Some k) e h = absurd (cc)
 
 -- what was pushed, seen so
 pub map-pushed : {X P : Type 0} (f : X → P) (xs ys : List X) (x : X) → ys ≡ xs ++ x ∷ []
@@ -80,9 +90,14 @@ module _ {K P : Type 0} {s0 : ReaderState} {w : Walk K P} (laws : WalkLaws s0 w)
 
   pub begins : {Y : Type 0} {keys : Y → Option K} {y : Y} {s : ReaderState} (c : ℕ) → StandsAt s0 c
       → LeavesAt keys (Ok y) s0 s (part_reply w.told first) → In s0 s w (keys y) []
-  begins c at h =
+  begins {keys = keys} {y = y} {s = s} c at h =
       let led = subst (LeadsTo s0 w [] (all s0 w)) h.value (opened c at) in
-      record { moves = h.moves; here = led.1; left = led.0 }
+      record {
+        moves = h.moves;
+        here = led.1;
+        opens = told-leads w.told first (keys y) s.position h.value;
+        left = led.0;
+      }
 
   pub first-refused : {X Y : Type 0} {view : X → Tree} {keys : Y → Option K} {e : JiterError} {s : ReaderState}
       (c : ℕ) → StandsAt s0 c → LeavesAt keys (Err e) s0 s (part_reply w.told first)
@@ -108,6 +123,10 @@ module _ {K P : Type 0} {s0 : ReaderState} {w : Walk K P} (laws : WalkLaws s0 w)
 
     behind-here : (r : Reply Tree) → w.asked s ≡ r → all s0 w ≡ behind s0 w parts (reply_seen (w.part k) r)
     behind-here r h = inv.left ∙ ap (λ x. behind s0 w parts (reply_seen (w.part k) x)) (asked-here r h)
+
+    still : (o : Option K) → IfSome o (λ k. LeadsOn first)
+    still None = tt
+    still (Some k) = inv.opens
 
     -- a part whose value was refused
     pub part-refused : {X : Type 0} {view : X → Tree} {e : JiterError} {s1 : ReaderState}
@@ -139,10 +158,15 @@ module _ {K P : Type 0} {s0 : ReaderState} {w : Walk K P} (laws : WalkLaws s0 w)
       -- it leads on, or ends the container
       pub goes-on : {Y : Type 0} {keys : Y → Option K} {y : Y} {s2 : ReaderState} {more : List P}
           → LeavesAt keys (Ok y) s1 s2 (w.stepped s1) → with_part ≡ more → In s0 s2 w (keys y) more
-      goes-on {keys = keys} {y = y} {s2 = s2} stepped more =
+      goes-on {keys = keys} {y = y} {s2 = s2} stepped grown =
           let led = subst (LeadsTo s0 w with_part (all s0 w)) stepped.value behind-leads in
-          subst (λ ps. In s0 s2 w (keys y) ps) more
-          (record { moves = moves-on s0 s1 s2 behind-moves stepped.moves; here = led.1; left = led.0 })
+          subst (λ ps. In s0 s2 w (keys y) ps) grown
+          (record {
+            moves = moves-on s0 s1 s2 behind-moves stepped.moves;
+            here = led.1;
+            opens = still (keys y);
+            left = led.0;
+          })
 
       -- each turn goes ahead
       pub turn-ahead : {s2 : ReaderState} → MovesOn s1 s2 → length s0.text - s2.position < length s0.text - s.position

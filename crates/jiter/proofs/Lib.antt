@@ -1,5 +1,6 @@
 pub mod Building
 pub mod Containers
+pub mod Copies
 pub mod OwnedTrees
 pub mod Peeking
 pub mod Refusals

@@ -1,16 +1,19 @@
 -- A refused scalar is a fault of the bytes, whose index lies within the text.
-use Rattle.std.proofs.Common.{◌≡◌, ap, subst, ℕ, ◌<◌, ◌≤◌, List, length, Err, arith}
+use Rattle.std.proofs.Common.{◌≡◌, ap, subst, ℕ, ◌<◌, ◌≤◌, List, length, Ok, Err, Result, arith}
+use Rattle.std.specs.Prelude.{MatchResult, IsErrAnd, IfErr}
+use Rattle.jiter_scan.specs.declared.errors.Fault.{Fault}
 use Rattle.jiter_scan.specs.Scanned.{Scanned, taken, failed, FaultAt}
-use Rattle.jiter_scan.specs.Kind.{Kind}
+use Rattle.jiter_scan.specs.Kind.{Kind, fault_kind}
 use Rattle.jiter_scan.proofs.Scanning.{ScalarWithin, Within}
 use Rattle.jiter_steps.proofs.Reading.Bounds as reading
 use Rattle.jiter_steps.specs.Read.{Reading, done, fault, scalar_at}
 use Rattle.jiter.specs.Cause.{json_error}
 use Rattle.jiter.specs.Reader.{ReaderState, Refusal}
-use Rattle.jiter.specs.Jiter.{IsRefusalOf, IsErrorAt, refusal_view}
-use Rattle.jiter_steps.specs.Parse.{Moves, Gives}
+use Rattle.jiter.specs.Jiter.{IsRefusalOf, IsErrorAt, RefusesBytes, IndexWithin, refusal_view}
+use Rattle.jiter_steps.specs.Parse.{Moves, Gives, Reads}
 use Rattle.jiter_steps.specs.Tree.{Tree}
-use Rattle.jiter_value.specs.Owned.{owned_reading}
+use Rattle.jiter_value.specs.Owned.{owned_tree}
+use Rattle.jiter_value.specs.Parses.{reading_as}
 use Rattle.jiter_steps.specs.declared.parse.Parser.{Parser}
 use Rattle.jiter_steps.specs.declared.read_error.ReadError.{ReadError}
 use Rattle.jiter_steps.specs.declared.read_error.ReadError.TheVariants as error
@@ -49,8 +52,25 @@ module _ (t : List ℕ) (k : Kind) (j : ℕ) (e : JiterError)
   pub refusal-failed : {A : Type 0} (x : Scanned A) → Within t x → x ≡ failed k j → IsRefusalOf t e
   refusal-failed x w h = refusal-fault (subst (Within t) h w)
 
+-- a reader's fault is one of the bytes
+pub reads-fault : {X A : Type 0} (view : X → A) (t : List ℕ) (i : ℕ) (x : Result X Fault) (stop : ℕ) (r : Reading A)
+    → reading.Within t i r → Reads view x stop r → IfErr x (λ f. FaultAt t (fault_kind f.kind) f.index)
+reads-fault view t i (Ok a) stop r w h = tt
+reads-fault view t i (Err f) stop r w h = let at = subst (reading.Within t i) h w in at.2
+
+-- what a fault of the bytes becomes
+pub refuses : {X : Type 0} {Q : Fault → JiterError → Type 0} (t : List ℕ) (x : Result X Fault) (y : Result X JiterError)
+    → MatchResult x (λ a. y ≡ Ok a) (λ f. IsErrAnd y (Q f))
+    → ((f : Fault) (e : JiterError) → Q f e
+    → refusal_view e ≡ record { cause = json_error (fault_kind f.kind); index = f.index })
+    → IfErr x (λ f. FaultAt t (fault_kind f.kind) f.index) → RefusesBytes t y
+refuses t x (Ok b) m is at = tt
+refuses t (Ok a) (Err e) m is at = absurd (cc)
+refuses t (Err f) (Err e) m is at = refusal-fault t (fault_kind f.kind) f.index e (is f e m) at
+
 -- the bounds of a reading whose value is owned then
-pub owned-within : (t : List ℕ) (i : ℕ) (r : Reading Tree) → reading.Within t i r → reading.Within t i (owned_reading r)
+pub owned-within : (t : List ℕ) (i : ℕ) (r : Reading Tree) → reading.Within t i r
+    → reading.Within t i (reading_as owned_tree r)
 owned-within t i (done v e) w = w
 owned-within t i (fault k j stop) w = w
 
@@ -68,3 +88,13 @@ index-error t i view (error.Fault f) stop e is r w le h =
     omega (arith, at.2.within, index)
 index-error t i view (error.Memory m) stop e is r w le h =
     let index = ap (λ (r : Refusal). r.index) is in omega (arith, le, index)
+
+-- what the error of a reading becomes
+pub index-refused : {X A : Type 0} {Q : ReadError → JiterError → Type 0} (t : List ℕ) (i : ℕ) (view : X → A)
+    (x : Result X ReadError) (y : Result X JiterError) (stop : ℕ) (r : Reading A)
+    → MatchResult x (λ a. y ≡ Ok a) (λ f. IsErrAnd y (Q f))
+    → ((f : ReadError) (e : JiterError) → Q f e → IsErrorAt f stop e)
+    → reading.Within t i r → stop ≤ length t → Gives view x stop r → IndexWithin t y
+index-refused t i view x (Ok b) stop r m is w le h = tt
+index-refused t i view (Ok a) (Err e) stop r m is w le h = absurd (cc)
+index-refused t i view (Err f) (Err e) stop r m is w le h = index-error t i view f stop e (is f e m) r w le h

@@ -1,5 +1,5 @@
 -- What the client builds of a text: the value that is read, each of its texts owned.
-use Rattle.std.specs.Prelude.{ℕ, Bool, true, List}
+use Rattle.std.specs.Prelude.{ℕ, Bool, true, List, ◌⊎◌}
 use Rattle.jiter_scan.specs.NumberReading.{number_at}
 use Rattle.jiter_steps.specs.Literal.{literal_at, literal_tree}
 use Rattle.jiter_steps.specs.StringReading.{whole, string_at}
@@ -7,11 +7,12 @@ use Rattle.jiter_steps.specs.Tree.{Text, Tree, items_of, members_of}
 use Rattle.jiter_steps.specs.Tree as tree
 use Rattle.jiter_steps.specs.Node.{number_tree}
 use Rattle.jiter_steps.specs.Read.{Rules, inside_at, value_with}
-use Rattle.jiter_steps.specs.Answer.{seen_as, nothing_forgiven}
+use Rattle.jiter_steps.specs.Answer.{seen_as, nothing_forgiven, read_at}
 use Rattle.jiter_steps.specs.declared.parse.Literal.TheVariants as literal
 use Rattle.jiter_steps.specs.declared.parse.Start.{Start}
 use Rattle.jiter_steps.specs.declared.parse.Start.TheVariants as start
-use Rattle.jiter_value.specs.Owned.{owned_text, owned_tree}
+use Rattle.jiter_value.specs.Owned.{owned_text, owned_tree, ReadHolds}
+use Rattle.jiter_value.specs.Value.{MayGrowAt}
 use Rattle.jiter.specs.Reader.{ReaderState, Reply, value_reply}
 
 -- values as trees that own their texts
@@ -38,6 +39,11 @@ built s room b =
 -- The value at i inside a container with this room.
 abbrev pub built_inside : ReaderState → ℕ → ℕ → Reply Tree
 built_inside s room i = value_reply (inside_at (owned_trees s.names) s.text room i)
+
+-- The value where the reader stands, each text owned, may want memory: reading it does, or it is read with a borrowed
+-- text or a part.
+abbrev pub OwnedMayGrowAt : ReaderState → Type 0
+OwnedMayGrowAt s = MayGrowAt s.text s.position ⊎ ReadHolds (read_at s.names s.text s.position)
 
 -- `true` or `false` begins so, or nothing does
 abbrev pub IsTruthOrNothing : Start → Type 0

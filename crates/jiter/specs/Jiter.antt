@@ -1,6 +1,7 @@
 -- What the calls of the pull reader return, and where they leave it.
-use Rattle.std.specs.Prelude.{◌≡◌, ◌≢◌, ◌<◌, ◌≤◌, ℕ, false, List, length, Result, Ok, Err, IfErr}
+use Rattle.std.specs.Prelude.{◌≡◌, ◌≢◌, ◌<◌, ◌≤◌, ◌+◌, ℕ, false, List, length, Result, Ok, Err, IfOk, IfErr, IfSome}
 use Rattle.std.specs.Prelude.{slice_get, slice_index, Option, Some, option_map}
+use Rattle.jiter_scan.specs.Ascii as ascii
 use Rattle.jiter_scan.specs.Kind.{fault_kind, out_of_memory}
 use Rattle.jiter_steps.specs.Literal.{start_of}
 use Rattle.jiter_steps.specs.Tree.{Text}
@@ -9,7 +10,7 @@ use Rattle.jiter_steps.specs.declared.read_error.ReadError.{ReadError}
 use Rattle.jiter_steps.specs.declared.read_error.ReadError.TheVariants as error
 use Rattle.jiter.specs.Cause.{json_error}
 use Rattle.jiter.specs.Errors.{cause_of}
-use Rattle.jiter.specs.Reader.{ReaderState, Reply, gave, refused, Refusal, with_position}
+use Rattle.jiter.specs.Reader.{ReaderState, Reply, gave, refused, Refusal, with_position, position_after}
 use Rattle.jiter.specs.declared.errors.JiterError.{JiterError}
 use Rattle.jiter.specs.declared.peek.Peek.{Peek}
 
@@ -83,13 +84,35 @@ text_bytes x = x.bytes
 abbrev pub key_bytes : Option Text → Option (List ℕ)
 key_bytes = option_map text_bytes
 
+-- What a call that lends a text was refused for, but for want of memory: this reply's cause, at its index, and the
+-- reader stands where the reply says.
+abbrev pub RefusesAs : {X A : Type 0} → Result X JiterError → Reply A → Type 0
+RefusesAs (Ok x) r = Unit {0}
+RefusesAs (Err e) r = (IsMemory e → ⊥) → r ≡ refused (cause_of e.error_type) e.index (position_after r)
+
 -- the byte c stands where the reader stands
 abbrev pub StandsAt : ReaderState → ℕ → Type 0
 StandsAt s c = slice_get s.text s.position ≡ Some c
 
+-- the byte c stands right before i
+abbrev pub StandsBefore : List ℕ → ℕ → ℕ → Type 0
+StandsBefore t i c = (j : ℕ) × (i ≡ j + 1) × (slice_get t j ≡ Some c)
+
 -- the byte of a peek
 abbrev pub byte_of : Peek → ℕ
 byte_of p = p.0
+
+-- the byte that was told, if there is one, stands where the reader stands
+abbrev pub TellsHere : Result (Option Peek) JiterError → ReaderState → Type 0
+TellsHere result s = IfOk result (λ told. IfSome told (λ p. StandsAt s (byte_of p)))
+
+-- where a key was given, a colon stands right before i
+abbrev pub EndsWithColon : {K : Type 0} → Result (Option K) JiterError → List ℕ → ℕ → Type 0
+EndsWithColon result t i = IfOk result (λ key. IfSome key (λ _. StandsBefore t i ascii.colon))
+
+-- at i a value begins so
+abbrev pub BeginsAt : List ℕ → ℕ → Start → Type 0
+BeginsAt t i b = start_of (slice_index t i) ≡ b
 
 -- where the reader stands a value begins so
 pub record BeginsAs (s : ReaderState) (b : Start) : Type 0 where

@@ -1,5 +1,5 @@
 //! A client of the pull reader: it builds a value by peeks, steps and scalar reads alone.
-ghost use Rattle.std.specs.Prelude.{◌≡◌, ◌≤◌, IfOk, false, option_map};
+ghost use Rattle.std.specs.Prelude.{◌≡◌, ◌≤◌, ◌+◌, IfOk, OnErr, IsSome, false, option_map};
 ghost use Rattle.jiter_scan.specs.Ascii as ascii;
 ghost use Rattle.jiter_scan.specs.Kind.{out_of_memory};
 ghost use Rattle.jiter_scan.specs.NumberDecoder.{number_view};
@@ -7,13 +7,14 @@ ghost use Rattle.jiter_steps.specs.Literal.{start_of};
 ghost use Rattle.jiter_steps.specs.Node.{number_tree};
 ghost use Rattle.jiter_steps.specs.StringDecoder.{text_view};
 ghost use Rattle.jiter_steps.specs.StringReading.{whole};
-ghost use Rattle.jiter_value.specs.Owned.{owned_text, owned_tree};
-ghost use Rattle.jiter_value.specs.Value.{view};
+ghost use Rattle.jiter_steps.specs.Step.{step, array_first, object_first};
+ghost use Rattle.jiter_value.specs.Owned.{owned_text, owned_tree, HoldsBorrowedTextOrPart};
+ghost use Rattle.jiter_value.specs.Value.{view, LeadsOn};
 ghost use Rattle.jiter.specs.Cause.{json_error};
-ghost use Rattle.jiter.specs.Client.{built, built_inside, own_text, IsTruthOrNothing};
-ghost use Rattle.jiter.specs.Jiter.{MovesOn, Replies, UnlessMemory, WhereMemory, LeavesAt, IndexWithin};
+ghost use Rattle.jiter.specs.Client.{built, built_inside, own_text, IsTruthOrNothing, OwnedMayGrowAt};
+ghost use Rattle.jiter.specs.Jiter.{MovesOn, Replies, RefusesBytes, UnlessMemory, WhereMemory, LeavesAt, IndexWithin};
 ghost use Rattle.jiter.specs.Jiter.{reply_seen, StandsAt, byte_of, refusal_view};
-ghost use Rattle.jiter.specs.Reader.{value_place, next, known, value_read, object_read, key_step};
+ghost use Rattle.jiter.specs.Reader.{value_place, with_position, next, known, value_read, object_read, key_step};
 
 use crate::errors::{JiterError, JiterErrorType, JiterResult};
 use crate::jiter::Jiter;
@@ -40,7 +41,8 @@ fn out_of_memory(refused: Refused, jiter: &Jiter<'_>) -> JiterError
 
 // The value of a number, its text copied.
 fn number_value(alloc: Global, number: NumberAny<'_>) -> Result<JsonValue<'static>, Refused>
-    ensures { IfOk result (λ v. view v ≡ owned_tree (number_tree (number_view number.entry))) }
+    ensures value { IfOk result (λ v. view v ≡ owned_tree (number_tree (number_view number.entry))) }
+    ensures memory { OnErr result (HoldsBorrowedTextOrPart (number_tree (number_view number.entry))) }
 {
     match number {
         NumberAny::Int(NumberInt::Int(integer)) => Ok(JsonValue::Int(integer)),
@@ -61,6 +63,7 @@ fn build_number(alloc: Global, jiter: &mut Jiter<'_>, peek: Peek) -> JiterResult
     requires begins { start_of (byte_of peek) ≡ Start.Number }
     ensures value { LeavesAt view result jiter.old jiter.new (built jiter.old 0 Start.Number) }
     ensures index { IndexWithin jiter.old.text result }
+    ensures memory { WhereMemory result (λ _. OwnedMayGrowAt jiter.old) }
 {
     let number = jiter.known_number(peek)?;
     match number_value(alloc, number) {
@@ -75,6 +78,7 @@ fn build_string(alloc: Global, jiter: &mut Jiter<'_>) -> JiterResult<JsonValue<'
     requires here { StandsAt jiter.old ascii.quote }
     ensures value { LeavesAt view result jiter.old jiter.new (built jiter.old 0 Start.String) }
     ensures index { IndexWithin jiter.old.text result }
+    ensures memory { WhereMemory result (λ _. OwnedMayGrowAt jiter.old) }
 {
     let text = jiter.known_str(alloc)?;
     match copy_text(alloc, text) {
@@ -88,7 +92,7 @@ fn build_null(jiter: &mut Jiter<'_>) -> JiterResult<JsonValue<'static>>
     requires { StandsAt jiter.old ascii.small_n }
     ensures value { LeavesAt view result jiter.old jiter.new
         (built jiter.old 0 (Start.Literal Literal.Null)) }
-    ensures index { IndexWithin jiter.old.text result }
+    ensures refusal { RefusesBytes jiter.old.text result }
 {
     jiter.known_null()?;
     Ok(JsonValue::Null)
@@ -100,7 +104,7 @@ fn build_bool(jiter: &mut Jiter<'_>, peek: Peek) -> JiterResult<JsonValue<'stati
     requires begins { IsTruthOrNothing (start_of (byte_of peek)) }
     ensures value { LeavesAt view result jiter.old jiter.new
         (built jiter.old 0 (start_of (byte_of peek))) }
-    ensures index { IndexWithin jiter.old.text result }
+    ensures refusal { RefusesBytes jiter.old.text result }
 {
     let truth = jiter.known_bool(peek)?;
     Ok(JsonValue::Bool(truth))
@@ -113,6 +117,8 @@ fn build_array(alloc: Global, jiter: &mut Jiter<'_>, room: usize) -> JiterResult
     requires here { StandsAt jiter.old ascii.left_bracket }
     ensures value { LeavesAt view result jiter.old jiter.new (built jiter.old room Start.Array) }
     ensures index { IndexWithin jiter.old.text result }
+    ensures memory { WhereMemory result (λ _.
+        LeadsOn (step jiter.old.text array_first (jiter.old.position + 1))) }
 {
     let mut next = jiter.known_array()?;
     let mut items = Vec::new(alloc);
@@ -128,8 +134,9 @@ fn build_array(alloc: Global, jiter: &mut Jiter<'_>, room: usize) -> JiterResult
 
 // A key's copy, where there is a key.
 fn copy_key(alloc: Global, key: Option<&str>) -> Result<Option<CowStr<'static>>, Refused>
-    ensures { IfOk result (λ copy. option_map text_view copy
+    ensures value { IfOk result (λ copy. option_map text_view copy
         ≡ option_map (λ x. own_text x.now) key.entry) }
+    ensures memory { OnErr result (IsSome key.entry) }
 {
     match key {
         Some(text) => {
@@ -146,6 +153,8 @@ fn first_key(alloc: Global, jiter: &mut Jiter<'_>) -> JiterResult<Option<CowStr<
     ensures value { LeavesAt (option_map text_view) result jiter.old jiter.new
         (reply_seen (option_map owned_text) (known jiter.old (object_read whole jiter.old))) }
     ensures index { IndexWithin jiter.old.text result }
+    ensures memory { WhereMemory result (λ _.
+        LeadsOn (step jiter.old.text object_first (jiter.old.position + 1))) }
 {
     let key = jiter.known_object(alloc)?;
     match copy_key(alloc, key) {
@@ -178,6 +187,8 @@ fn build_object(
     requires here { StandsAt jiter.old ascii.left_brace }
     ensures value { LeavesAt view result jiter.old jiter.new (built jiter.old room Start.Object) }
     ensures index { IndexWithin jiter.old.text result }
+    ensures memory { WhereMemory result (λ _.
+        LeadsOn (step jiter.old.text object_first (jiter.old.position + 1))) }
 {
     let mut next = first_key(alloc, jiter)?;
     let mut members = Vec::new(alloc);
@@ -243,6 +254,7 @@ fn build_value(
     ensures value { LeavesAt view result jiter.old jiter.new
         (built jiter.old room (start_of (byte_of peek))) }
     ensures index { IndexWithin jiter.old.text result }
+    ensures memory { WhereMemory result (λ _. OwnedMayGrowAt jiter.old) }
 {
     match start_of(peek.into_inner()) {
         Start::Array => build_array(alloc, jiter, room),
@@ -265,6 +277,9 @@ pub fn value_by_steps(alloc: Global, jiter: &mut Jiter<'_>) -> JiterResult<JsonV
     ensures value { UnlessMemory result (Replies view result jiter.new
         (reply_seen owned_tree (next jiter.old (value_read jiter.old)))) }
     ensures index { IndexWithin jiter.old.text result }
+    // Memory is wanted only where a whole value, each text owned, may want it.
+    ensures memory { WhereMemory result (λ _.
+        OwnedMayGrowAt (with_position jiter.old (value_place jiter.old))) }
     // Where memory is refused the reader stands within the value.
     ensures place { WhereMemory result (λ e. (jiter.new.position ≡ e.index)
         × (value_place jiter.old ≤ e.index)) }

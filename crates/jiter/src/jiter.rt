@@ -5,9 +5,9 @@ ghost use Rattle.jiter_scan.specs.Kind.{fault_kind, out_of_memory};
 ghost use Rattle.jiter_scan.specs.NumberReading.{number_at};
 ghost use Rattle.jiter.specs.Cause.{json_error, wrong_type};
 ghost use Rattle.jiter.specs.Errors.{cause_of, type_of};
-ghost use Rattle.jiter.specs.Reader.{value_place, peek, finish, number_refusal, type_refusal};
+ghost use Rattle.jiter.specs.Reader.{value_place, peek, next, gave, finish, number_refusal, type_refusal};
 ghost use Rattle.jiter.specs.Jiter.{at_start, MovesOn, Replies, RefusesBytes, IsRefusalOf, refusal_view, IsErrorAt};
-ghost use Rattle.jiter.specs.Jiter.{StandsAt, byte_of};
+ghost use Rattle.jiter.specs.Jiter.{StandsAt, BeginsAs, byte_of};
 
 use crate::errors::{JiterError, JiterErrorType, JiterResult, JsonType};
 use crate::peek::Peek;
@@ -16,7 +16,7 @@ use jiter_scan::number_decoder::number_at;
 use jiter_scan::word::byte_at;
 use jiter_scan::{JsonError, NumberAny};
 use jiter_steps::blank::past_blanks;
-use jiter_steps::parse::{Literal, Parser, Start};
+use jiter_steps::parse::{Literal, Parser, Start, start_of};
 use jiter_steps::read_error::ReadError;
 use jiter_value::reading::error_at;
 use std::alloc::{AllocError, Global};
@@ -160,20 +160,9 @@ impl<'j> Jiter<'j> {
     pub fn with_allow_inf_nan(self) -> Jiter<'j>
         ensures { result ≡ record self.entry { names = true } }
     {
-        let Jiter {
-            parser,
-            allow_inf_nan: _,
-            allow_partial_strings,
-            tape,
-            text,
-        } = self;
-        Jiter {
-            parser,
-            allow_inf_nan: true,
-            allow_partial_strings,
-            tape,
-            text,
-        }
+        let mut jiter = self;
+        jiter.allow_inf_nan = true;
+        jiter
     }
 
     /// The same reader, to which a string that the end of input cuts is a text as far as its whole characters
@@ -182,20 +171,9 @@ impl<'j> Jiter<'j> {
     pub fn with_allow_partial_strings(self) -> Jiter<'j>
         ensures { result ≡ record self.entry { partial_strings = true } }
     {
-        let Jiter {
-            parser,
-            allow_inf_nan,
-            allow_partial_strings: _,
-            tape,
-            text,
-        } = self;
-        Jiter {
-            parser,
-            allow_inf_nan,
-            allow_partial_strings: true,
-            tape,
-            text,
-        }
+        let mut jiter = self;
+        jiter.allow_partial_strings = true;
+        jiter
     }
 
     // The byte behind the blanks, which the reader passes.
@@ -227,6 +205,20 @@ impl<'j> Jiter<'j> {
             }
             Some(byte) => Ok(Peek::new(byte)),
         }
+    }
+
+    // What begins at the next byte, to which the reader moves.
+    #[inline(always)]
+    fn next_start(&mut self) -> JiterResult<Start>
+        ensures moves { MovesOn self.old self.new }
+        ensures value { Replies (λ b. b) result self.new (next self.old (λ i b. gave b i)) }
+        ensures refusal { RefusesBytes self.old.text result }
+        ensures place { self.new.position ≡ value_place self.old }
+        ensures here { MatchResult result (BeginsAs self.new)
+            (λ _. slice_get self.new.text self.new.position ≡ None) }
+    {
+        let peek = self.peek()?;
+        Ok(start_of(peek.into_inner()))
     }
 
     /// Moves over blanks to the end of input. A byte that is left is `TrailingCharacters` at it.

@@ -2,9 +2,9 @@
 #![tactic(auto)]
 
 pub mod client;
-pub mod errors;
-pub mod jiter;
-pub mod peek;
+mod errors;
+mod jiter;
+mod peek;
 
 pub use errors::{JiterError, JiterErrorType, JiterResult, JsonType};
 pub use jiter::Jiter;
@@ -13,6 +13,3 @@ pub use jiter_scan::{
 };
 pub use jiter_value::{JsonArray, JsonObject, JsonValue, JsonValueScratch, Machine, Turn};
 pub use peek::Peek;
-
-#[cfg(test)]
-mod tests;

@@ -11,3 +11,4 @@ mod LongNumbers
 mod Scans
 mod Digits
 mod Kernels
+mod NumberValues

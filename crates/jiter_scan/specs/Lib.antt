@@ -8,6 +8,7 @@ pub mod Word
 pub mod Scan
 pub mod Digits
 pub mod Number
+pub mod NumberTests
 pub mod NumberReading
 pub mod NumberDecoder
 pub mod Simd

@@ -101,15 +101,6 @@ with_value t i (failed k j) = failed k j
 unfoldable pub number_at : Bool → List ℕ → ℕ → Scanned Number
 number_at names t i = with_value t i (number_extent names t i)
 
--- this much is read, to the last byte
-abbrev pub takes_all : ℕ → Extent → Bool
-takes_all n (taken u e) = n == e
-takes_all n (failed k j) = false
-
--- Whether these bytes are a number's text: whether they are read as a number to the last byte.
-unfoldable pub is_number_text : Bool → List ℕ → Bool
-is_number_text names w = takes_all (length w) (number_extent names w 0)
-
 -- an integer's value, or that a float shows
 pub data Integer : Type 0 where
   whole : Number → Integer

@@ -17,6 +17,3 @@ pub use errors::{Fault, FaultKind, JsonError, JsonErrorType, JsonResult, LinePos
 pub use memory::Refused;
 pub use number_decoder::{NumberAny, NumberInt};
 pub use partial_mode::PartialMode;
-
-#[cfg(test)]
-mod tests;

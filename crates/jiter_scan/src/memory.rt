@@ -3,6 +3,7 @@
 ghost use Rattle.std.specs.Prelude.{◌≡◌, ◌+◌, ◌^◌, ◌<◌, ◌≤◌, ◌∷◌, ◌++◌, [], take, drop, IfOk, OnOk, OnErr, decimal};
 ghost use Rattle.std.specs.Prelude.{length, replicate, string_bytes, string_capacity, string_len, vec_capacity};
 ghost use Rattle.std.specs.Prelude.{vec_len};
+ghost use Rattle.smallvec.specs.SmallVec.{HasRoomFor};
 
 use smallvec::SmallVec;
 use std::alloc::{AllocError, Global};
@@ -57,13 +58,14 @@ pub fn make_room<T: Drop>(items: &mut Vec<T>) -> Result<(), Refused>
     }
 }
 
-/// Appends an item to a vector that keeps its first ones in place.
+/// Appends an item to a vector that keeps its first ones in place, where they need no memory.
 pub fn push_small<T: Drop + Default, const N: usize>(
     items: &mut SmallVec<T, N>,
     item: T,
 ) -> Result<(), Refused>
     ensures ok { OnOk result (items.new.items ≡ items.old.items ++ item ∷ []) }
     ensures err { OnErr result (items.new.items ≡ items.old.items) }
+    ensures full { OnErr result (¬ HasRoomFor items.old 1) }
 {
     match items.push(item) {
         Ok(()) => Ok(()),
@@ -71,11 +73,12 @@ pub fn push_small<T: Drop + Default, const N: usize>(
     }
 }
 
-/// Takes the items from the index `at` on.
+/// Takes the items from the index `at` on. To take none needs no memory.
 pub fn split_off<T: Drop>(items: &mut Vec<T>, at: usize) -> Result<Vec<T>, Refused>
     requires { at ≤ vec_len items.old }
     ensures rest { OnOk result (items.new.items ≡ take at items.old.items) }
     ensures part { IfOk result (λ part. part.items ≡ drop at items.old.items) }
+    ensures some { OnErr result (at < vec_len items.old) }
 {
     match items.split_off(at) {
         Ok(part) => Ok(part),

@@ -452,6 +452,3 @@ fn begins_number(byte: u8) -> bool
 {
     byte.is_ascii_digit() || matches!(byte, b'-' | b'N' | b'I')
 }
-
-#[cfg(test)]
-mod tests;

@@ -255,6 +255,3 @@ pub fn number_end(bytes: &[u8], at: usize, allow_inf_nan: bool) -> Result<usize,
         None => long_end(bytes, at, allow_inf_nan),
     }
 }
-
-#[cfg(test)]
-mod tests;

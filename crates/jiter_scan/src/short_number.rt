@@ -177,6 +177,3 @@ pub fn short_at(bytes: &[u8], at: usize) -> Short
         None => Short::Other,
     }
 }
-
-#[cfg(test)]
-mod tests;

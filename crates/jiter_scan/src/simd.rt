@@ -379,6 +379,3 @@ pub fn digit_word(chunk: [u8; 16], count: usize) -> u64
         joined(eight_digits(low), first_digits(high, count - 8), count - 8)
     }
 }
-
-#[cfg(test)]
-mod tests;

@@ -130,6 +130,3 @@ pub fn put_char(tape: &mut Vec<u8>, count: usize, c: char) -> usize
     tape[count + 3] = (0x80 + code % 64) as u8;
     count + 4
 }
-
-#[cfg(test)]
-mod tests;

@@ -11,3 +11,4 @@ mod PartialAnswers
 mod Cuts
 mod Skips
 mod Growing
+mod Escapes

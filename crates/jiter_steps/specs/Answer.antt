@@ -6,7 +6,7 @@ use Rattle.jiter_scan.specs.NumberReading.{number_at}
 use Rattle.jiter_scan.specs.PartialMode.{allows_trailing_strings, is_active}
 use Rattle.jiter_scan.specs.declared.partial_mode.PartialMode.{PartialMode}
 use Rattle.jiter_steps.specs.Literal.{literal_at, literal_tree}
-use Rattle.jiter_steps.specs.StringReading.{Form, whole, kept, raw, string_at}
+use Rattle.jiter_steps.specs.StringReading.{Form, whole, raw, text_form, string_at}
 use Rattle.jiter_steps.specs.Tree.{Text, Tree, items_of, members_of}
 use Rattle.jiter_steps.specs.Tree as tree
 use Rattle.jiter_steps.specs.Node.{nesting_limit, number_tree}
@@ -52,7 +52,7 @@ abbrev pub answer : Bool → List ℕ → Reading Tree
 answer names t = whole_answer (whole_trees names) t
 
 abbrev pub value_form : PartialMode → Form
-value_form mode = if allows_trailing_strings mode then kept else whole
+value_form mode = text_form (allows_trailing_strings mode)
 
 -- In a partial mode six kinds are forgiven inside a container, and what follows the value is not looked at.
 abbrev pub partial_trees : Bool → PartialMode → Rules Text Tree

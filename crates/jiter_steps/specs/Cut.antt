@@ -3,7 +3,7 @@
 use Rattle.std.specs.Prelude.{◌≡◌, ◌<◌, ◌≤◌, length, take, ℕ, Bool, Option, Some, None, List, nat_le, min}
 use Rattle.std.specs.Prelude.{if◌then◌else◌, slice_range}
 use Rattle.jiter_scan.specs.Number.{number_value}
-use Rattle.jiter_scan.specs.NumberReading.{is_number_text}
+use Rattle.jiter_scan.specs.NumberTests.{is_number_text}
 use Rattle.jiter_scan.specs.PartialMode.{allows_trailing_strings}
 use Rattle.jiter_scan.specs.declared.partial_mode.PartialMode.{PartialMode}
 use Rattle.jiter_steps.specs.Literal.{literal_tree}

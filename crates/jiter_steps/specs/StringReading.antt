@@ -153,6 +153,13 @@ pub data Form : Type 0 where
   raw : Form
   raw_kept : Form
 
+-- of a text, and of the bytes between the quotes: whether what the input's end cuts off is kept
+abbrev pub text_form : Bool → Form
+text_form keep = if keep then kept else whole
+
+abbrev pub raw_form : Bool → Form
+raw_form keep = if keep then raw_kept else raw
+
 -- the decoded bytes, which begin at i, have to be UTF-8
 abbrev pub if_utf8 : ℕ → Bool → List ℕ → ℕ → Scanned Text
 if_utf8 i owned bytes e =
@@ -167,6 +174,10 @@ valid_front_by i owned bytes e (Some n) = failed invalid_code_point (i + utf8_va
 -- the bytes as far as they are UTF-8, where no more than an unfinished character follows
 abbrev pub valid_front : ℕ → Bool → List ℕ → ℕ → Scanned Text
 valid_front i owned bytes e = valid_front_by i owned bytes e (utf8_error_len (drop (utf8_valid_len bytes) bytes))
+
+-- the decoded bytes as a text: all of them, or kept as far as they are UTF-8
+abbrev pub checked : Bool → ℕ → Bool → List ℕ → ℕ → Scanned Text
+checked keep i owned bytes e = if keep then valid_front i owned bytes e else if_utf8 i owned bytes e
 
 -- the source bytes from i to before j
 abbrev pub between : List ℕ → ℕ → ℕ → Text

@@ -76,6 +76,3 @@ pub fn past_blanks(bytes: &[u8], from: usize) -> usize
     }
     blanks_end(bytes, from)
 }
-
-#[cfg(test)]
-mod tests;

@@ -12,12 +12,12 @@ ghost use Rattle.jiter_steps.specs.Step.{container_first, container_comma, conta
 ghost use Rattle.jiter_steps.specs.Step.{colon, value_first, object_colon, document_end};
 ghost use Rattle.jiter_steps.specs.Read.{scalar_at};
 ghost use Rattle.jiter_steps.specs.ReadError.{WhereRefused};
-ghost use Rattle.jiter_steps.specs.StringReading.{string_at, whole, kept};
+ghost use Rattle.jiter_steps.specs.StringReading.{string_at, text_form};
 ghost use Rattle.jiter_steps.specs.StringDecoder.{text_view, WantsMemory};
 
 use crate::blank::past_blanks;
 use crate::read_error::ReadError;
-use crate::string_decoder::{string_at, string_front_at};
+use crate::string_decoder::string_at;
 use jiter_scan::NumberAny;
 use jiter_scan::errors::{Fault, FaultKind};
 use jiter_scan::number_decoder::number_at;
@@ -268,10 +268,8 @@ impl<'j> Parser<'j> {
             (object_colon self.old.bytes.now self.old.index) }
         ensures inside { OnOk result (self.new.index < length self.old.bytes.now) }
     {
-        match self.colon() {
-            Ok(()) => self.value_first(),
-            Err(fault) => Err(fault),
-        }
+        self.colon()?;
+        self.value_first()
     }
 
     /// From behind a key to behind its colon (RFC 8259, 4).
@@ -328,13 +326,8 @@ impl<'j> Parser<'j> {
             (scalar_at self.old.index (literal_at self.old.bytes.now literal self.old.index)) }
         ensures ahead { OnOk result (self.old.index < self.new.index) }
     {
-        match literal_end(self.bytes, self.index, literal) {
-            Ok(end) => {
-                self.index = end;
-                Ok(())
-            }
-            Err(fault) => Err(fault),
-        }
+        self.index = literal_end(self.bytes, self.index, literal)?;
+        Ok(())
     }
 
     /// The number where the reader stands; a fault leaves it there (RFC 8259, 6).
@@ -346,60 +339,31 @@ impl<'j> Parser<'j> {
             (scalar_at self.old.index (number_at allow_inf_nan self.old.bytes.now self.old.index)) }
         ensures ahead { OnOk result (self.old.index < self.new.index) }
     {
-        match number_at(self.bytes, self.index, allow_inf_nan) {
-            Ok((number, end)) => {
-                self.index = end;
-                Ok(number)
-            }
-            Err(fault) => Err(fault),
-        }
+        let (number, end) = number_at(self.bytes, self.index, allow_inf_nan)?;
+        self.index = end;
+        Ok(number)
     }
 
-    /// The text of the string whose opening quote is where the reader stands; a refusal leaves it there
-    /// (RFC 8259, 7 and 8.1).
+    /// The text of the string whose opening quote is where the reader stands; a refusal leaves it there. With
+    /// `keep` the end of the input may cut the string, and its text goes as far as whole characters do (RFC
+    /// 8259, 7 and 8.1).
     #[inline(always)]
-    pub fn string(&mut self, alloc: Global, tape: &mut Vec<u8>) -> Result<CowStr<'j>, ReadError>
-        requires { self.old.index < length self.old.bytes.now }
-        ensures moves { Moves self.old self.new }
-        ensures value { Gives text_view result self.new.index
-            (scalar_at self.old.index (string_at whole self.old.bytes.now self.old.index)) }
-        ensures ahead { OnOk result (self.old.index < self.new.index) }
-        ensures place { OnErr result (self.new.index ≡ self.old.index) }
-        ensures memory { WhereRefused result (WantsMemory self.old.bytes.now self.old.index) }
-    {
-        match string_at(alloc, tape, self.bytes, self.index) {
-            Ok((text, end)) => {
-                self.index = end;
-                Ok(text)
-            }
-            Err(error) => Err(error),
-        }
-    }
-
-    /// The same of a string that the end of the input may cut: as far as its whole characters go.
-    #[inline(always)]
-    pub fn string_front(
+    pub fn string(
         &mut self,
         alloc: Global,
         tape: &mut Vec<u8>,
+        keep: bool,
     ) -> Result<CowStr<'j>, ReadError>
         requires { self.old.index < length self.old.bytes.now }
         ensures moves { Moves self.old self.new }
-        ensures value { Gives text_view result self.new.index
-            (scalar_at self.old.index (string_at kept self.old.bytes.now self.old.index)) }
+        ensures value { Gives text_view result self.new.index (scalar_at self.old.index
+            (string_at (text_form keep) self.old.bytes.now self.old.index)) }
         ensures ahead { OnOk result (self.old.index < self.new.index) }
         ensures place { OnErr result (self.new.index ≡ self.old.index) }
         ensures memory { WhereRefused result (WantsMemory self.old.bytes.now self.old.index) }
     {
-        match string_front_at(alloc, tape, self.bytes, self.index) {
-            Ok((text, end)) => {
-                self.index = end;
-                Ok(text)
-            }
-            Err(error) => Err(error),
-        }
+        let (text, end) = string_at(alloc, tape, self.bytes, self.index, keep)?;
+        self.index = end;
+        Ok(text)
     }
 }
-
-#[cfg(test)]
-mod tests;

@@ -1,6 +1,6 @@
 //! The plain way between the parts of a document, by the bytes and a place, with answers that come back in
 //! registers. What is not plain is told and no more: the reader's own calls say what is wrong there.
-ghost use Rattle.std.specs.Prelude.{◌≡◌, ◌≢◌, ◌+◌, ◌≤◌, ◌<◌, IfSome, IsTrue, length, slice_get, slice_range, Some};
+ghost use Rattle.std.specs.Prelude.{◌≡◌, ◌≢◌, ◌+◌, ◌≤◌, ◌<◌, Bool, IfSome, IsTrue, length, slice_get, slice_range, Some};
 ghost use Rattle.std.specs.Str.{IsAscii};
 ghost use Rattle.jiter_scan.specs.Ascii as ascii;
 ghost use Rattle.jiter_scan.specs.Scan.{scan_stop, IsAsciiTo};
@@ -9,7 +9,7 @@ ghost use Rattle.jiter_steps.specs.Blank.{past_blanks};
 ghost use Rattle.jiter_steps.specs.Literal.{literal_at};
 ghost use Rattle.jiter_steps.specs.Plain.{IsNext};
 ghost use Rattle.jiter_steps.specs.Step.{step, container_first, container_comma, container_step, object_colon};
-ghost use Rattle.jiter_steps.specs.StringReading.{Form, string_at, between, whole, kept};
+ghost use Rattle.jiter_steps.specs.StringReading.{string_at, text_form, between};
 
 use crate::blank::past_blanks;
 use crate::parse::{Literal, Shape};
@@ -150,10 +150,8 @@ pub fn colon_at(bytes: &[u8], from: usize) -> Option<usize>
 #[inline(always)]
 pub fn plain_text_end(bytes: &[u8], at: usize) -> Option<usize>
     requires { at < length bytes.now }
-    ensures whole { IfSome result
-        (λ to. string_at whole bytes.now at ≡ taken (between bytes.now (at + 1) to) (to + 1)) }
-    ensures kept { IfSome result
-        (λ to. string_at kept bytes.now at ≡ taken (between bytes.now (at + 1) to) (to + 1)) }
+    ensures value { IfSome result (λ to. (keep : Bool)
+        → string_at (text_form keep) bytes.now at ≡ taken (between bytes.now (at + 1) to) (to + 1)) }
     ensures ascii { IfSome result (λ to. IsAscii (slice_range bytes.now (at + 1) to)) }
     ensures within { IfSome result (λ to. (at < to) × (to < length bytes.now)) }
 {
@@ -173,8 +171,8 @@ pub fn ascii_between(bytes: &[u8], at: usize, to: usize) -> &str
     requires quote { slice_get bytes.now to ≡ Some ascii.quote }
     requires ascii { IsAsciiTo bytes.now (at + 1) to }
     ensures text { result.now ≡ slice_range bytes.now (at + 1) to }
-    ensures whole { string_at whole bytes.now at ≡ taken (between bytes.now (at + 1) to) (to + 1) }
-    ensures kept { string_at kept bytes.now at ≡ taken (between bytes.now (at + 1) to) (to + 1) }
+    ensures value { (keep : Bool)
+        → string_at (text_form keep) bytes.now at ≡ taken (between bytes.now (at + 1) to) (to + 1) }
 {
     ascii_text(&bytes[at + 1..to])
 }
@@ -186,10 +184,8 @@ pub fn text_between(bytes: &[u8], at: usize, to: usize) -> Option<&str>
     requires stop { to ≡ scan_stop bytes.now (at + 1) }
     requires quote { slice_get bytes.now to ≡ Some ascii.quote }
     ensures text { IfSome result (λ text. text.now ≡ slice_range bytes.now (at + 1) to) }
-    ensures whole { IfSome result
-        (λ _. string_at whole bytes.now at ≡ taken (between bytes.now (at + 1) to) (to + 1)) }
-    ensures kept { IfSome result
-        (λ _. string_at kept bytes.now at ≡ taken (between bytes.now (at + 1) to) (to + 1)) }
+    ensures value { IfSome result (λ _. (keep : Bool)
+        → string_at (text_form keep) bytes.now at ≡ taken (between bytes.now (at + 1) to) (to + 1)) }
 {
     match simdutf8::compat::from_utf8(&bytes[at + 1..to]) {
         Ok(text) => Some(text),
@@ -228,6 +224,3 @@ pub fn plain_literal_end(bytes: &[u8], at: usize, literal: Literal) -> Option<us
         _ => None,
     }
 }
-
-#[cfg(test)]
-mod tests;

@@ -1,7 +1,7 @@
 //! Strings as they stand in the source (RFC 8259, 7): the bytes between the quotes, their escapes checked but not
 //! decoded and their UTF-8 not tested; and where a string ends. Nothing here takes memory.
 ghost use Rattle.std.specs.Prelude.{◌≡◌, ◌≢◌, ◌+◌, ◌<◌, ◌≤◌, ℕ, length, slice_get, IfOk, IfSome, OnOk, OnErr, Some};
-ghost use Rattle.std.specs.Prelude.{true};
+ghost use Rattle.std.specs.Prelude.{true, Bool, IsTrue};
 ghost use Rattle.jiter_scan.specs.Ascii as ascii;
 ghost use Rattle.jiter_scan.specs.Kind.{fault_kind};
 ghost use Rattle.jiter_scan.specs.Scan.{is_stop};
@@ -9,7 +9,7 @@ ghost use Rattle.jiter_scan.specs.Scanned.{Scans, taken, failed, with_end};
 ghost use Rattle.jiter_steps.specs.Answer.{seen_as};
 ghost use Rattle.jiter_steps.specs.RawString.{EndsAt, raw_view};
 ghost use Rattle.jiter_steps.specs.Read.{scalar_at};
-ghost use Rattle.jiter_steps.specs.StringReading.{content_at, string_at, raw, raw_kept};
+ghost use Rattle.jiter_steps.specs.StringReading.{content_at, string_at, raw, raw_form};
 
 use crate::parse::Parser;
 use crate::string_decoder::{AtStop, Ending, cut_short, place_at};
@@ -61,10 +61,9 @@ fn fault_of(bytes: &[u8], at: usize) -> Fault
     requires stop { IfSome (slice_get bytes.now at) (λ b. is_stop b ≡ true) }
     requires over { (i : ℕ) × EndsAt bytes.now i at }
     requires no_quote { slice_get bytes.now at ≢ Some ascii.quote }
-    ensures raw { (i : ℕ) → EndsAt bytes.now i at
-        → content_at raw bytes.now i ≡ failed (fault_kind result.kind) result.index }
-    ensures front { (i : ℕ) → EndsAt bytes.now i at → at < length bytes.now
-        → content_at raw_kept bytes.now i ≡ failed (fault_kind result.kind) result.index }
+    ensures { (i : ℕ) → (keep : Bool) → EndsAt bytes.now i at
+        → (IsTrue keep → at < length bytes.now)
+        → content_at (raw_form keep) bytes.now i ≡ failed (fault_kind result.kind) result.index }
 {
     match place_at(bytes, at) {
         AtStop::End(Ending::Wrong(fault)) => fault,
@@ -92,32 +91,21 @@ pub fn string_end(bytes: &[u8], at: usize) -> Result<usize, Fault>
 }
 
 /// The bytes between the quotes of the string whose opening quote is at the byte index `at`, with the index
-/// behind its closing quote. Escapes stand in them undecoded, but checked; UTF-8 is not tested (RFC 8259, 7).
+/// behind its closing quote. Escapes stand in them undecoded, but checked; UTF-8 is not tested. With `keep` the
+/// end of the input may cut the string, though not inside an escape: its bytes then go to the length, and so
+/// does its end (RFC 8259, 7).
 #[inline(always)]
-pub fn raw_string_at<'j>(bytes: &'j [u8], at: usize) -> Result<(&'j [u8], usize), Fault>
+pub fn raw_string_at<'j>(bytes: &'j [u8], at: usize, keep: bool) -> Result<(&'j [u8], usize), Fault>
     requires { at < length bytes.now }
-    ensures value { Scans (with_end raw_view) result (string_at raw bytes.now at) }
-    ensures advances { IfOk result (λ x. (at < x.1) × (x.1 ≤ length bytes.now)) }
-{
-    match string_end(bytes, at) {
-        Ok(end) => Ok((&bytes[at + 1..end - 1], end)),
-        Err(fault) => Err(fault),
-    }
-}
-
-/// The same of a string that the end of the input may cut, though not inside an escape: its bytes then go to
-/// the length, and so does its end.
-#[inline(always)]
-pub fn raw_string_front_at<'j>(bytes: &'j [u8], at: usize) -> Result<(&'j [u8], usize), Fault>
-    requires { at < length bytes.now }
-    ensures value { Scans (with_end raw_view) result (string_at raw_kept bytes.now at) }
+    ensures value { Scans (with_end raw_view) result (string_at (raw_form keep) bytes.now at) }
     ensures advances { IfOk result (λ x. (at < x.1) × (x.1 ≤ length bytes.now)) }
 {
     let end = content_end(bytes, at + 1);
     match byte_at(bytes, end) {
-        None => Ok((&bytes[at + 1..], end)),
         Some(b'"') => Ok((&bytes[at + 1..end], end + 1)),
         Some(_) => Err(fault_of(bytes, end)),
+        None if keep => Ok((&bytes[at + 1..], bytes.len())),
+        None => Err(fault_of(bytes, end)),
     }
 }
 
@@ -125,45 +113,19 @@ impl<'j> Parser<'j> {
     ghost use Rattle.jiter_steps.specs.Parse.{Moves, Reads};
 
     /// The bytes between the quotes of the string whose opening quote is where the reader stands, escapes
-    /// checked but not decoded and UTF-8 not tested; a fault leaves it there (RFC 8259, 7).
+    /// checked but not decoded and UTF-8 not tested; a fault leaves it there. With `keep` the end of the input
+    /// may cut the string, though not inside an escape (RFC 8259, 7).
     #[inline(always)]
-    pub fn raw_string(&mut self) -> Result<&'j [u8], Fault>
+    pub fn raw_string(&mut self, keep: bool) -> Result<&'j [u8], Fault>
         requires { self.old.index < length self.old.bytes.now }
         ensures moves { Moves self.old self.new }
-        ensures value { Reads raw_view result self.new.index
-            (scalar_at self.old.index (string_at raw self.old.bytes.now self.old.index)) }
+        ensures value { Reads raw_view result self.new.index (scalar_at self.old.index
+            (string_at (raw_form keep) self.old.bytes.now self.old.index)) }
         ensures ahead { OnOk result (self.old.index < self.new.index) }
         ensures place { OnErr result (self.new.index ≡ self.old.index) }
     {
-        match raw_string_at(self.bytes, self.index) {
-            Ok((content, end)) => {
-                self.index = end;
-                Ok(content)
-            }
-            Err(fault) => Err(fault),
-        }
-    }
-
-    /// The same of a string that the end of the input may cut, though not inside an escape.
-    #[inline(always)]
-    pub fn raw_string_front(&mut self) -> Result<&'j [u8], Fault>
-        requires { self.old.index < length self.old.bytes.now }
-        ensures moves { Moves self.old self.new }
-        ensures value { Reads raw_view result self.new.index
-            (scalar_at self.old.index
-            (string_at raw_kept self.old.bytes.now self.old.index)) }
-        ensures ahead { OnOk result (self.old.index < self.new.index) }
-        ensures place { OnErr result (self.new.index ≡ self.old.index) }
-    {
-        match raw_string_front_at(self.bytes, self.index) {
-            Ok((content, end)) => {
-                self.index = end;
-                Ok(content)
-            }
-            Err(fault) => Err(fault),
-        }
+        let (content, end) = raw_string_at(self.bytes, self.index, keep)?;
+        self.index = end;
+        Ok(content)
     }
 }
-
-#[cfg(test)]
-mod tests;

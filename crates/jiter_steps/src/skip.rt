@@ -79,13 +79,8 @@ fn number(parser: &mut Parser<'_>, allow_inf_nan: bool) -> Result<(), Fault>
         ((ends allow_inf_nan).number parser.old.bytes.now parser.old.index)) }
     ensures ahead { OnOk result (parser.old.index < parser.new.index) }
 {
-    match number_end(parser.bytes, parser.index, allow_inf_nan) {
-        Ok(end) => {
-            parser.index = end;
-            Ok(())
-        }
-        Err(fault) => Err(fault),
-    }
+    parser.index = number_end(parser.bytes, parser.index, allow_inf_nan)?;
+    Ok(())
 }
 
 // The key where the reader stands, and its colon: to where its value begins.
@@ -97,13 +92,8 @@ fn key(parser: &mut Parser<'_>) -> Result<(), Fault>
         (key_end parser.old.bytes.now parser.old.index) }
     ensures inside { OnOk result (parser.new.index < length parser.old.bytes.now) }
 {
-    match string_end(parser.bytes, parser.index) {
-        Ok(end) => {
-            parser.index = end;
-            parser.object_colon()
-        }
-        Err(fault) => Err(fault),
-    }
+    parser.index = string_end(parser.bytes, parser.index)?;
+    parser.object_colon()
 }
 
 // Where a part begins: to its value, which stands behind a key and its colon in an object.
@@ -118,10 +108,10 @@ fn value_inside(parser: &mut Parser<'_>, shape: Shape) -> Result<bool, Fault>
 {
     match shape {
         Shape::Array => Ok(true),
-        Shape::Object => match key(parser) {
-            Ok(()) => Ok(true),
-            Err(fault) => Err(fault),
-        },
+        Shape::Object => {
+            key(parser)?;
+            Ok(true)
+        }
     }
 }
 
@@ -136,10 +126,10 @@ fn first_inside(parser: &mut Parser<'_>, shape: Shape) -> Result<bool, Fault>
     ensures inside { IfOk result (λ more. more ≡ true
         → parser.new.index < length parser.old.bytes.now) }
 {
-    match parser.first(shape) {
-        Ok(true) => value_inside(parser, shape),
-        Ok(false) => Ok(false),
-        Err(fault) => Err(fault),
+    if parser.first(shape)? {
+        value_inside(parser, shape)
+    } else {
+        Ok(false)
     }
 }
 
@@ -152,10 +142,10 @@ fn next_inside(parser: &mut Parser<'_>, shape: Shape) -> Result<bool, Fault>
     ensures inside { IfOk result (λ more. more ≡ true
         → parser.new.index < length parser.old.bytes.now) }
 {
-    match parser.step(shape) {
-        Ok(true) => value_inside(parser, shape),
-        Ok(false) => Ok(false),
-        Err(fault) => Err(fault),
+    if parser.step(shape)? {
+        value_inside(parser, shape)
+    } else {
+        Ok(false)
     }
 }
 
@@ -172,10 +162,10 @@ fn begin(parser: &mut Parser<'_>, nest: &mut Nest, shape: Shape) -> Result<bool,
         (open_frames nest.old.objects nest.old.depth) parser.old.index) }
     ensures ahead { OnOk result (parser.old.index < parser.new.index) }
 {
-    match first_inside(parser, shape) {
-        Ok(true) => open(parser, nest, shape),
-        Ok(false) => Ok(false),
-        Err(fault) => Err(fault),
+    if first_inside(parser, shape)? {
+        open(parser, nest, shape)
+    } else {
+        Ok(false)
     }
 }
 
@@ -193,13 +183,10 @@ fn skip_scalar(parser: &mut Parser<'_>, allow_inf_nan: bool) -> Result<(), Fault
     match start_of(parser.bytes[parser.index]) {
         Start::Literal(literal) => parser.literal(literal),
         Start::Number => number(parser, allow_inf_nan),
-        Start::String => match string_end(parser.bytes, parser.index) {
-            Ok(end) => {
-                parser.index = end;
-                Ok(())
-            }
-            Err(fault) => Err(fault),
-        },
+        Start::String => {
+            parser.index = string_end(parser.bytes, parser.index)?;
+            Ok(())
+        }
         Start::Nothing => Err(Fault {
             kind: FaultKind::ExpectedSomeValue,
             index: parser.index,
@@ -223,10 +210,10 @@ fn begin_value(parser: &mut Parser<'_>, nest: &mut Nest, allow_inf_nan: bool) ->
     match start_of(parser.bytes[parser.index]) {
         Start::Array => begin(parser, nest, Shape::Array),
         Start::Object => begin(parser, nest, Shape::Object),
-        _ => match skip_scalar(parser, allow_inf_nan) {
-            Ok(()) => Ok(false),
-            Err(fault) => Err(fault),
-        },
+        _ => {
+            skip_scalar(parser, allow_inf_nan)?;
+            Ok(false)
+        }
     }
 }
 
@@ -244,11 +231,10 @@ fn end_value(parser: &mut Parser<'_>, nest: &mut Nest) -> Result<bool, Fault>
         if nest.depth == 0 {
             return Ok(false);
         }
-        match next_inside(parser, shape_of(nest.objects[nest.depth - 1])) {
-            Ok(true) => return Ok(true),
-            Ok(false) => nest.depth -= 1,
-            Err(fault) => return Err(fault),
+        if next_inside(parser, shape_of(nest.objects[nest.depth - 1]))? {
+            return Ok(true);
         }
+        nest.depth -= 1;
     }
 }
 
@@ -289,6 +275,3 @@ pub fn skip(parser: &mut Parser<'_>, allow_inf_nan: bool) -> Result<(), Fault>
         _ => skip_scalar(parser, allow_inf_nan),
     }
 }
-
-#[cfg(test)]
-mod tests;

@@ -1,6 +1,6 @@
 //! Reading a string (RFC 8259, 7 and 8.1): its own bytes where it has no backslash, or else its text decoded.
 ghost use Rattle.std.specs.Prelude.{◌≡◌, ℕ, Bool, ◌+◌, ◌^◌, ◌<◌, ◌≤◌, ◌++◌, length, true, false, slice_get};
-ghost use Rattle.std.specs.Prelude.{slice_range, IfOk, IfErr, IfSome, IsTrue, MatchResult, Some, None, take, drop};
+ghost use Rattle.std.specs.Prelude.{List, slice_range, IfOk, IfErr, IfSome, IsTrue, MatchResult, Some, None, take, drop};
 ghost use Rattle.std.specs.Prelude.{vec_len};
 ghost use Rattle.std.specs.Char.{digit_value, encode_utf8};
 ghost use Rattle.std.specs.List.{AllPass};
@@ -8,13 +8,13 @@ ghost use Rattle.std.specs.Str.{IsUtf8, IsValidUpTo};
 ghost use Rattle.std.specs.Str.Lossy.{utf8_valid_len, utf8_error_len};
 ghost use Rattle.simdutf8.specs.Error.{valid_up_to, error_len};
 ghost use Rattle.jiter_scan.specs.Scan.{is_stop, is_ascii, scan_stop, IsAsciiTo};
-ghost use Rattle.jiter_scan.specs.Kind.{invalid_code_point};
+ghost use Rattle.jiter_scan.specs.Kind.{fault_kind, invalid_code_point};
 ghost use Rattle.jiter_scan.specs.Scanned.{Scans, with_end, taken, failed};
 ghost use Rattle.jiter_steps.specs.Escape.{short_escape, is_hex, is_high, is_low};
 ghost use Rattle.jiter_steps.specs.ReadError.{UnlessRefused, WhereRefused};
 ghost use Rattle.jiter_steps.specs.StringReading.{number, part, hex_digits_at, place_at, unit_then, behind_backslash};
 ghost use Rattle.jiter_steps.specs.StringReading.{unicode_escape, behind_high, behind_high_backslash, surrogate_pair};
-ghost use Rattle.jiter_steps.specs.StringReading.{body_at, if_utf8, valid_front, whole, kept, string_at};
+ghost use Rattle.jiter_steps.specs.StringReading.{body_at, text_form, text_in_form, checked, string_at};
 ghost use Rattle.jiter_steps.specs.StringDecoder.{text_view, digits_view, IfNumber, place_view, stop_view, WantsMemory};
 ghost use Rattle.jiter_steps.specs.declared.string_decoder.AtStop.TheVariants as at_stop;
 ghost use Rattle.jiter_steps.specs.declared.string_decoder.Ending.TheVariants as ending;
@@ -269,7 +269,7 @@ fn next_place(bytes: &[u8], at: usize) -> AtStop
 
 // Decodes what stands from `from` on to the front of the tape, a run of plain bytes and an escape at a time,
 // and gives how many bytes that makes.
-#[tactic(auto, using(crate::proofs::Calls::PlainRuns::scan_stop_stops))]
+#[tactic(auto, using(crate::proofs::Calls::PlainRuns::plain_run_stops))]
 fn decode(tape: &mut Vec<u8>, bytes: &[u8], from: usize) -> Result<(usize, Ending), Refused>
     requires { from ≤ length bytes.now }
     ensures text { IfOk result (λ r. take r.0 tape.new.items ≡ (body_at bytes.now from).bytes) }
@@ -308,49 +308,71 @@ fn text_of(bytes: &[u8], ascii: bool) -> Result<&str, Utf8Error>
     }
 }
 
-// The text of a string with no backslash, whose closing quote is at `to`.
-#[tactic(auto, using(crate::proofs::Calls::DecodeSteps::checked_text))]
+// The bytes as a text; of one that is kept, without an unfinished character at their end. Or how many are right
+// before one that is wrong.
+fn checked_text(content: &[u8], ascii: bool, keep: bool) -> Result<&str, usize>
+    requires { IsTrue ascii → AllPass is_ascii content.now }
+    ensures value { (i e : ℕ) → (owned : Bool) → MatchResult result
+        (λ text. checked keep i owned content.now e
+        ≡ taken (record { owned = owned; bytes = text.now }) e)
+        (λ n. checked keep i owned content.now e ≡ failed invalid_code_point (i + n)) }
+    ensures within { IfErr result (λ n. n ≤ length content.now) }
+{
+    match text_of(content, ascii) {
+        Ok(text) => Ok(text),
+        Err(e) => match e.error_len() {
+            Some(_) => Err(e.valid_up_to()),
+            None if !keep => Err(e.valid_up_to()),
+            None => match simdutf8::compat::from_utf8(&content[..e.valid_up_to()]) {
+                Ok(text) => Ok(text),
+                Err(_) => unreachable!(),
+            },
+        },
+    }
+}
+
+// The text of the bytes between, of a string with no backslash.
+#[inline(always)]
 fn borrow_text<'j>(
     bytes: &'j [u8],
     from: usize,
     to: usize,
+    end: usize,
     ascii: bool,
+    keep: bool,
 ) -> Result<(CowStr<'j>, usize), Fault>
-    requires within { (from ≤ to) × (to < length bytes.now) }
+    requires within { (from ≤ to) × (to ≤ length bytes.now) }
     requires ascii { IsTrue ascii → IsAsciiTo bytes.now from to }
     ensures { Scans (with_end text_view) result
-        (if_utf8 from false (slice_range bytes.now from to) (to + 1)) }
+        (checked keep from false (slice_range bytes.now from to) end) }
 {
-    match text_of(&bytes[from..to], ascii) {
-        Ok(text) => Ok((CowStr::Borrowed(text), to + 1)),
-        Err(e) => Err(Fault {
-            kind: FaultKind::InvalidUnicodeCodePoint,
-            index: from + e.valid_up_to(),
-        }),
+    match checked_text(&bytes[from..to], ascii, keep) {
+        Ok(text) => Ok((CowStr::Borrowed(text), end)),
+        Err(right) => Err(fault_at(FaultKind::InvalidUnicodeCodePoint, from + right)),
     }
 }
 
 // The decoded bytes, of a content that begins at `from`, as a text of their own.
-#[tactic(auto, using(crate::proofs::Calls::DecodeSteps::checked_text))]
 fn own_text<'j>(
     alloc: Global,
     bytes: &[u8],
     from: usize,
     end: usize,
+    keep: bool,
 ) -> Result<(CowStr<'j>, usize), ReadError>
     requires { from + length bytes.now < 2 ^ 64 }
     ensures { UnlessRefused result (λ r. Scans (with_end text_view) r
-        (if_utf8 from true bytes.now end)) }
+        (checked keep from true bytes.now end)) }
 {
-    match simdutf8::compat::from_utf8(bytes) {
-        Ok(text) => match copy_text(alloc, text) {
-            Ok(own) => Ok((CowStr::Owned(own), end)),
-            Err(refused) => Err(ReadError::Memory(refused)),
-        },
-        Err(e) => Err(ReadError::Fault(Fault {
-            kind: FaultKind::InvalidUnicodeCodePoint,
-            index: from + e.valid_up_to(),
-        })),
+    match checked_text(bytes, false, keep) {
+        Ok(text) => {
+            let own = copy_text(alloc, text)?;
+            Ok((CowStr::Owned(own), end))
+        }
+        Err(right) => {
+            let fault = fault_at(FaultKind::InvalidUnicodeCodePoint, from + right);
+            Err(ReadError::Fault(fault))
+        }
     }
 }
 
@@ -368,6 +390,24 @@ pub(crate) fn cut_short(bytes: &[u8]) -> Fault
     }
 }
 
+// Where the text of a string ends that ends so: with the input, if it is kept.
+#[tactic(auto, using(crate::proofs::Calls::StringAnswers::string_closed))]
+fn text_end(bytes: &[u8], ending: Ending, keep: bool) -> Result<usize, Fault>
+    ensures { (i : ℕ) → (bs : List ℕ) → (owned : Bool) → MatchResult result
+        (λ e. text_in_form (text_form keep) bytes.now i bs owned (stop_view ending) ≡ checked keep i owned bs e)
+        (λ f. text_in_form (text_form keep) bytes.now i bs owned (stop_view ending)
+        ≡ failed (fault_kind f.kind) f.index) }
+{
+    match ending {
+        Ending::Closed(end) => Ok(end),
+        Ending::Wrong(fault) => Err(fault),
+        Ending::Unclosed if keep => Ok(bytes.len()),
+        Ending::Unclosed => Err(cut_short(bytes)),
+        Ending::Cut if keep => Ok(bytes.len()),
+        Ending::Cut => Err(cut_short(bytes)),
+    }
+}
+
 // The text of a string with a backslash.
 #[inline(never)]
 fn decode_text<'j>(
@@ -375,26 +415,22 @@ fn decode_text<'j>(
     tape: &mut Vec<u8>,
     bytes: &'j [u8],
     at: usize,
+    keep: bool,
 ) -> Result<(CowStr<'j>, usize), ReadError>
     requires within { at < length bytes.now }
     requires backslash { WantsMemory bytes.now at }
     ensures { UnlessRefused result (λ r. Scans (with_end text_view) r
-        (string_at whole bytes.now at)) }
+        (string_at (text_form keep) bytes.now at)) }
 {
-    match decode(tape, bytes, at + 1) {
-        Ok((count, Ending::Closed(end))) => {
-            own_text(alloc, &tape.as_slice()[..count], at + 1, end)
-        }
-        Ok((_, Ending::Wrong(fault))) => Err(ReadError::Fault(fault)),
-        Ok((_, Ending::Unclosed)) => Err(ReadError::Fault(cut_short(bytes))),
-        Ok((_, Ending::Cut)) => Err(ReadError::Fault(cut_short(bytes))),
-        Err(refused) => Err(ReadError::Memory(refused)),
-    }
+    let (count, ending) = decode(tape, bytes, at + 1)?;
+    let end = text_end(bytes, ending, keep)?;
+    own_text(alloc, &tape.as_slice()[..count], at + 1, end, keep)
 }
 
 /// Reads the string whose opening quote is at the byte index `at`, and gives its text with the index behind
 /// its closing quote. A text without a backslash is the input's own bytes; any other is decoded on the tape,
-/// and only that asks for memory.
+/// and only that asks for memory. With `keep` the end of the input may cut the string: its text then goes as
+/// far as whole characters do, and its end is the length.
 ///
 /// The index of a fault is the byte that is wrong, or the length where the input ends too early; for a text
 /// that is not UTF-8 it counts on from the opening quote by the decoded bytes before the broken one (RFC
@@ -404,154 +440,27 @@ pub fn string_at<'j>(
     tape: &mut Vec<u8>,
     bytes: &'j [u8],
     at: usize,
+    keep: bool,
 ) -> Result<(CowStr<'j>, usize), ReadError>
     requires { at < length bytes.now }
     ensures value { UnlessRefused result (λ r. Scans (with_end text_view) r
-        (string_at whole bytes.now at)) }
+        (string_at (text_form keep) bytes.now at)) }
     ensures advances { IfOk result (λ x. (at < x.1) × (x.1 ≤ length bytes.now)) }
     ensures memory { WhereRefused result (WantsMemory bytes.now at) }
 {
     let (to, ascii) = scan_string(bytes, at + 1);
     match byte_at(bytes, to) {
-        None => Err(ReadError::Fault(cut_short(bytes))),
-        Some(b'"') => match borrow_text(bytes, at + 1, to, ascii) {
-            Ok(text) => Ok(text),
-            Err(fault) => Err(ReadError::Fault(fault)),
-        },
-        Some(b'\\') => decode_text(alloc, tape, bytes, at),
-        Some(_) => Err(ReadError::Fault(Fault {
-            kind: FaultKind::ControlCharacterWhileParsingString,
-            index: to,
-        })),
-    }
-}
-
-// The bytes as a text, without an unfinished character at their end; or how many are right before one that is
-// wrong.
-#[tactic(auto, using(crate::proofs::Reading::StringForms::kept_whole, crate::proofs::Reading::StringForms::kept_front, crate::proofs::Reading::StringForms::kept_wrong))]
-fn front_text(content: &[u8], ascii: bool) -> Result<&str, usize>
-    requires { IsTrue ascii → AllPass is_ascii content.now }
-    ensures value { (i e : ℕ) → (owned : Bool) → MatchResult result
-        (λ text. valid_front i owned content.now e ≡ taken (record { owned = owned; bytes = text.now }) e)
-        (λ n. valid_front i owned content.now e ≡ failed invalid_code_point (i + n)) }
-    ensures within { IfErr result (λ n. n ≤ length content.now) }
-{
-    match text_of(content, ascii) {
-        Ok(text) => Ok(text),
-        Err(e) => match e.error_len() {
-            None => match simdutf8::compat::from_utf8(&content[..e.valid_up_to()]) {
-                Ok(text) => Ok(text),
-                Err(_) => unreachable!(),
-            },
-            Some(_) => Err(e.valid_up_to()),
-        },
-    }
-}
-
-// The text of the bytes between, of a string that may be cut.
-fn borrow_front<'j>(
-    bytes: &'j [u8],
-    from: usize,
-    to: usize,
-    end: usize,
-    ascii: bool,
-) -> Result<(CowStr<'j>, usize), Fault>
-    requires within { (from ≤ to) × (to ≤ length bytes.now) }
-    requires ascii { IsTrue ascii → IsAsciiTo bytes.now from to }
-    ensures { Scans (with_end text_view) result
-        (valid_front from false (slice_range bytes.now from to) end) }
-{
-    match front_text(&bytes[from..to], ascii) {
-        Ok(text) => Ok((CowStr::Borrowed(text), end)),
-        Err(right) => Err(Fault {
-            kind: FaultKind::InvalidUnicodeCodePoint,
-            index: from + right,
-        }),
-    }
-}
-
-// The decoded bytes, of a content that begins at `from` and may be cut, as a text of their own.
-fn own_front<'j>(
-    alloc: Global,
-    bytes: &[u8],
-    from: usize,
-    end: usize,
-) -> Result<(CowStr<'j>, usize), ReadError>
-    requires { from + length bytes.now < 2 ^ 64 }
-    ensures { UnlessRefused result (λ r. Scans (with_end text_view) r
-        (valid_front from true bytes.now end)) }
-{
-    match front_text(bytes, false) {
-        Ok(text) => match copy_text(alloc, text) {
-            Ok(own) => Ok((CowStr::Owned(own), end)),
-            Err(refused) => Err(ReadError::Memory(refused)),
-        },
-        Err(right) => Err(ReadError::Fault(Fault {
-            kind: FaultKind::InvalidUnicodeCodePoint,
-            index: from + right,
-        })),
-    }
-}
-
-// The text of a string with a backslash, that may be cut.
-#[inline(never)]
-fn decode_front<'j>(
-    alloc: Global,
-    tape: &mut Vec<u8>,
-    bytes: &'j [u8],
-    at: usize,
-) -> Result<(CowStr<'j>, usize), ReadError>
-    requires within { at < length bytes.now }
-    requires backslash { WantsMemory bytes.now at }
-    ensures { UnlessRefused result (λ r. Scans (with_end text_view) r
-        (string_at kept bytes.now at)) }
-{
-    match decode(tape, bytes, at + 1) {
-        Ok((count, Ending::Closed(end))) => {
-            own_front(alloc, &tape.as_slice()[..count], at + 1, end)
+        Some(b'"') => {
+            borrow_text(bytes, at + 1, to, to + 1, ascii, keep).map_err(ReadError::Fault)
         }
-        Ok((_, Ending::Wrong(fault))) => Err(ReadError::Fault(fault)),
-        Ok((count, Ending::Unclosed)) => {
-            own_front(alloc, &tape.as_slice()[..count], at + 1, bytes.len())
-        }
-        Ok((count, Ending::Cut)) => {
-            own_front(alloc, &tape.as_slice()[..count], at + 1, bytes.len())
-        }
-        Err(refused) => Err(ReadError::Memory(refused)),
-    }
-}
-
-/// The same of a string that the end of the input may cut: its text goes as far as whole characters do, and
-/// its end is then the length.
-pub fn string_front_at<'j>(
-    alloc: Global,
-    tape: &mut Vec<u8>,
-    bytes: &'j [u8],
-    at: usize,
-) -> Result<(CowStr<'j>, usize), ReadError>
-    requires { at < length bytes.now }
-    ensures value { UnlessRefused result (λ r. Scans (with_end text_view) r
-        (string_at kept bytes.now at)) }
-    ensures advances { IfOk result (λ x. (at < x.1) × (x.1 ≤ length bytes.now)) }
-    ensures memory { WhereRefused result (WantsMemory bytes.now at) }
-{
-    let (to, ascii) = scan_string(bytes, at + 1);
-    match byte_at(bytes, to) {
-        None => match borrow_front(bytes, at + 1, to, to, ascii) {
-            Ok(text) => Ok(text),
-            Err(fault) => Err(ReadError::Fault(fault)),
-        },
-        Some(b'"') => match borrow_front(bytes, at + 1, to, to + 1, ascii) {
-            Ok(text) => Ok(text),
-            Err(fault) => Err(ReadError::Fault(fault)),
-        },
-        Some(b'\\') => decode_front(alloc, tape, bytes, at),
+        Some(b'\\') => decode_text(alloc, tape, bytes, at, keep),
         Some(_) => Err(ReadError::Fault(fault_at(
             FaultKind::ControlCharacterWhileParsingString,
             to,
         ))),
+        None if keep => {
+            borrow_text(bytes, at + 1, to, bytes.len(), ascii, keep).map_err(ReadError::Fault)
+        }
+        None => Err(ReadError::Fault(cut_short(bytes))),
     }
 }
-
-#[cfg(test)]
-mod tests;

@@ -9,13 +9,12 @@ use Rattle.jiter_scan.specs.ShortNumber.{IsShortInteger, IsShortFloat}
 use Rattle.jiter_scan.proofs.ShortValues.{short-integer, short-negative, short-float, short-negative_float}
 use Rattle.jiter_scan.specs.NumberReading.{number_at}
 use Rattle.jiter_scan.specs.Scanned.{taken}
-use Rattle.jiter_scan.specs.declared.partial_mode.PartialMode.{PartialMode}
-use Rattle.jiter_scan.specs.declared.partial_mode.PartialMode.TheVariants.{Off, On, TrailingStrings}
-use Rattle.jiter_steps.specs.Answer.{seen_as, value_form}
+use Rattle.jiter_scan.specs.PartialMode.{allows_trailing_strings}
+use Rattle.jiter_steps.specs.Answer.{seen_as}
 use Rattle.jiter_steps.specs.Literal.{start_of, literal_at, literal_tree}
 use Rattle.jiter_steps.specs.Node.{number_tree}
 use Rattle.jiter_steps.specs.Read.{done, scalar_at, value_with, inside_at, value_at}
-use Rattle.jiter_steps.specs.StringReading.{string_at, whole, kept}
+use Rattle.jiter_steps.specs.StringReading.{string_at, whole, text_form}
 use Rattle.jiter_steps.specs.Tree.{Text, Tree, string}
 use Rattle.jiter_steps.specs.declared.parse.Literal.{Literal}
 use Rattle.jiter_steps.specs.declared.parse.Start.{Start}
@@ -26,7 +25,7 @@ use Rattle.jiter_value.specs.Stacks.{Member, resume_with, behind, Stands, Stands
 use Rattle.jiter_value.specs.Turns.{IsPutAt, IsKeyAt}
 use Rattle.jiter_value.specs.Value.{view}
 use Rattle.jiter_value.specs.declared.settings.Settings.{Settings}
-use Rattle.jiter_value.specs.declared.stacks.Awaits.{Awaits}
+use Rattle.jiter_value.specs.declared.stacks.Slot.{Slot}
 use Rattle.jiter_value.specs.declared.stacks.Stacks.{Stacks}
 use Rattle.jiter_value.specs.declared.value.JsonValue.{JsonValue}
 use Rattle.jiter_value.specs.declared.value.JsonValue.TheVariants.{Null}
@@ -42,16 +41,11 @@ module _ (p : Settings) (t : List ℕ) (i e room : ℕ) where
       → value_at (rules p) t room i ≡ value_with (rules p) (inside_at (rules p) t room) t i s
   begins s h = ap (value_with (rules p) (inside_at (rules p) t room) t i) h
 
-  in-form : (mode : PartialMode) (s : Text) → string_at whole t i ≡ taken s e → string_at kept t i ≡ taken s e
-      → string_at (value_form mode) t i ≡ taken s e
-  in-form Off s w k = w
-  in-form On s w k = w
-  in-form TrailingStrings s w k = k
-
-  pub text-read : (s : Text) → start_of (slice_index t i) ≡ start.String → string_at whole t i ≡ taken s e
-      → string_at kept t i ≡ taken s e → value_at (rules p) t room i ≡ done (string s) e
-  text-read s h w k =
-      begins start.String h ∙ ap (λ x. scalar_at i (seen_as (λ s e. string s) x)) (in-form p.mode s w k)
+  pub text-read : (s : Text) → start_of (slice_index t i) ≡ start.String
+      → ((keep : Bool) → string_at (text_form keep) t i ≡ taken s e) → value_at (rules p) t room i ≡ done (string s) e
+  text-read s h is =
+      begins start.String h
+      ∙ ap (λ x. scalar_at i (seen_as (λ s e. string s) x)) (is (allows_trailing_strings p.mode))
 
   pub number-read : (n : Number) → start_of (slice_index t i) ≡ start.Number
       → number_at p.allow_inf_nan t i ≡ taken n e → value_at (rules p) t room i ≡ done (number_tree n) e
@@ -62,7 +56,7 @@ module _ (p : Settings) (t : List ℕ) (i e room : ℕ) where
   literal-read l h is = begins (start.Literal l) h ∙ ap (λ x. scalar_at i (seen_as (λ u e. literal_tree l) x)) is
 
 -- a scalar that was read so, and put so
-module _ {t : List ℕ} {old new : Stacks} {a : Awaits} {i e : ℕ} (v : JsonValue) (x : Tree) where
+module _ {t : List ℕ} {old new : Stacks} {a : Slot} {i e : ℕ} (v : JsonValue) (x : Tree) where
   pub put-at : view v ≡ x → Stands old a → length old.nest.items ≤ 200
       → ((p : Settings) (u : List ℕ) (j : ℕ) → resume_with p u old a (done (view v) j) ≡ behind p u new a j)
       → Stands new a → new.nest ≡ old.nest → behind_size new a ≡ value_size old a + size (view v) → size x ≡ 1

@@ -17,13 +17,13 @@ use Rattle.jiter_steps.specs.declared.parse.Shape.TheVariants as shape
 use Rattle.jiter_value.specs.Settings.{forgives, rules}
 use Rattle.jiter_value.specs.Stacks.{from_value, Stands}
 use Rattle.jiter_value.specs.Stacks.{StandsInside, HavePartBase, frames, parts_above, frames_below, member_view}
-use Rattle.jiter_value.specs.Stacks.{awaited_in, base_of, part_of}
+use Rattle.jiter_value.specs.Stacks.{slot_in, base_of, part_of}
 use Rattle.jiter_value.specs.Turns.{Reaches, outcome}
 use Rattle.jiter_value.specs.Value.{view}
 use Rattle.jiter_value.specs.declared.settings.Settings.{Settings}
 use Rattle.jiter_value.specs.declared.stacks.Open.{Open}
-use Rattle.jiter_value.specs.declared.stacks.Awaits.{Awaits}
-use Rattle.jiter_value.specs.declared.stacks.Awaits.TheVariants as awaits
+use Rattle.jiter_value.specs.declared.stacks.Slot.{Slot}
+use Rattle.jiter_value.specs.declared.stacks.Slot.TheVariants as slot
 use Rattle.jiter_value.specs.declared.stacks.Stacks.{Stacks}
 use Rattle.jiter_value.proofs.StackTurns.{begins, next-part, part_in, container_of, key-base, limit-reached}
 
@@ -35,7 +35,7 @@ pub reaches-part : (p : Settings) (t : List ℕ) (s : Stacks) (h : Shape) (j : �
 reaches-part p t s shape.Array j x is b few low lt = (is, (b, few refl, lt))
 reaches-part p t s shape.Object j x is b few low lt = (is, (b, low, lt))
 
-pub inside-stands : (s : Stacks) (h : Shape) → Stands s (awaited_in h) → StandsInside h s
+pub inside-stands : (s : Stacks) (h : Shape) → Stands s (slot_in h) → StandsInside h s
 inside-stands s shape.Array b = b
 inside-stands s shape.Object b = key-base (reverse s.nest.items) (length s.items.items) (length s.members.items) b
 
@@ -48,25 +48,25 @@ no-parts : (s : Stacks) (h : Shape) → parts_above h (base_of h s) s.items.item
 no-parts s shape.Array = ap (map view) (drop_all (length s.items.items) s.items.items (omega arith))
 no-parts s shape.Object = ap (map member_view) (drop_all (length s.members.items) s.members.items (omega arith))
 
-abbrev opened : Stacks → Awaits → Shape → Open
+abbrev opened : Stacks → Slot → Shape → Open
 opened s a h = record { outer = a; base = base_of h s }
 
-same-below : (s : Stacks) (a : Awaits) (h : Shape)
+same-below : (s : Stacks) (a : Slot) (h : Shape)
     → frames_below h (opened s a h) (reverse s.nest.items) s.items.items s.members.items
     ≡ frames a (reverse s.nest.items) s.items.items s.members.items
 same-below s a shape.Array = rw (take_all (length s.items.items) s.items.items (omega arith)) refl
 same-below s a shape.Object = rw (take_all (length s.members.items) s.members.items (omega arith)) refl
 
-base-above : (s : Stacks) (a : Awaits) (h : Shape) → Stands s a
+base-above : (s : Stacks) (a : Slot) (h : Shape) → Stands s a
     → HavePartBase h (opened s a h ∷ reverse s.nest.items) (length s.items.items) (length s.members.items)
 base-above s a shape.Array b = (omega arith, b)
 base-above s a shape.Object b = (omega arith, b)
 
-turned : (s : Stacks) (a : Awaits) (h : Shape) (n : SmallVec Open) → n.items ≡ s.nest.items ++ opened s a h ∷ []
+turned : (s : Stacks) (a : Slot) (h : Shape) (n : SmallVec Open) → n.items ≡ s.nest.items ++ opened s a h ∷ []
     → reverse n.items ≡ opened s a h ∷ reverse s.nest.items
 turned s a h n pushed = ap reverse pushed ∙ reverse-append s.nest.items (opened s a h ∷ [])
 
-module _ (p : Settings) (t : List ℕ) (s : Stacks) (a : Awaits) (b : Stands s a) (few : length s.nest.items ≤ 200)
+module _ (p : Settings) (t : List ℕ) (s : Stacks) (a : Slot) (b : Stands s a) (few : length s.nest.items ≤ 200)
     (i : ℕ) where
   -- a container begins with a part
   opens : (h : Shape) (j : ℕ) → j < length t → start_of (slice_index t i) ≡ opening h
@@ -101,9 +101,9 @@ module _ (p : Settings) (t : List ℕ) (s : Stacks) (a : Awaits) (b : Stands s a
       → from_value p t s a i ≡ fault recursion_limit j j
   array-too-deep j full lt starts is =
       opens shape.Array j lt starts is
-      ∙ limit-reached p t awaits.Item (opened s a shape.Array ∷ reverse s.nest.items) s.items.items s.members.items j
+      ∙ limit-reached p t slot.Item (opened s a shape.Array ∷ reverse s.nest.items) s.items.items s.members.items j
       (base-above s a shape.Array b) (omega (arith, full, length-reverse s.nest.items))
 
-pub not-root : (h : Shape) → awaited_in h ≡ awaits.Root → ⊥
+pub not-root : (h : Shape) → slot_in h ≡ slot.Root → ⊥
 not-root shape.Array h = cc
 not-root shape.Object h = cc

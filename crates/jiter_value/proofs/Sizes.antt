@@ -10,9 +10,9 @@ use Rattle.jiter_steps.specs.declared.parse.Shape.TheVariants as shape
 use Rattle.jiter_value.specs.Value.{view}
 use Rattle.jiter_value.specs.declared.value.JsonValue.{JsonValue}
 use Rattle.jiter_value.specs.declared.stacks.Open.{Open}
-use Rattle.jiter_value.specs.declared.stacks.Awaits.TheVariants as awaits
+use Rattle.jiter_value.specs.declared.stacks.Slot.TheVariants as slot
 use Rattle.jiter_value.specs.Stacks.{Member, member_view, frames, PartTree, built, parts_above, frames_below, HaveBases}
-use Rattle.jiter_value.specs.Stacks.{HaveKeyBase, awaited_in}
+use Rattle.jiter_value.specs.Stacks.{HaveKeyBase, slot_in}
 use Rattle.jiter_value.specs.Size.{size, items_size, members_size, parts_size, frames_size, inside_size_in}
 use Rattle.jiter_value.specs.Size.{behind_size_in}
 use Rattle.jiter_value.proofs.StackTurns.{value-frames, above-more}
@@ -27,8 +27,8 @@ members_size-push [] m = omega arith
 members_size-push (y ∷ ys) m = let rest = members_size-push ys m in omega arith
 
 pub put-item-size : (os : List Open) (es : List JsonValue) (ms : List Member) (root v : JsonValue)
-    → HaveBases awaits.Item os (length es) (length ms)
-    → behind_size_in awaits.Item os (es ++ v ∷ []) ms root ≡ frames_size (frames awaits.Item os es ms) + size (view v)
+    → HaveBases slot.Item os (length es) (length ms)
+    → behind_size_in slot.Item os (es ++ v ∷ []) ms root ≡ frames_size (frames slot.Item os es ms) + size (view v)
 put-item-size [] es ms root v h = absurd h
 put-item-size (o ∷ os) es ms root v h =
     let grown = items_size-push (map view (drop o.base es)) (view v) in
@@ -36,8 +36,8 @@ put-item-size (o ∷ os) es ms root v h =
 
 pub put-value-size : (os : List Open) (es : List JsonValue) (before : List Member) (m : Member) (root v : JsonValue)
     → HaveKeyBase os (length es) (length before)
-    → behind_size_in awaits.Value os es (before ++ (m.0, v) ∷ []) root ≡ frames_size
-    (frames awaits.Value os es (before ++ m ∷ [])) + size (view v)
+    → behind_size_in slot.Member os es (before ++ (m.0, v) ∷ []) root ≡ frames_size
+    (frames slot.Member os es (before ++ m ∷ [])) + size (view v)
 put-value-size [] es before m root v h = absurd h
 put-value-size (o ∷ os) es before m root v h =
     let grown = members_size-push (map member_view (drop o.base before)) (text_view m.0, view v) in
@@ -60,8 +60,8 @@ container-size h nest init o es ms fs x is below made =
 
 -- a container behind a value holds what it holds where it awaits none
 pub behind-part-size : (h : Shape) (os : List Open) (es : List JsonValue) (ms : List Member) (root : JsonValue)
-    → HaveBases (awaited_in h) os (length es) (length ms)
-    → behind_size_in (awaited_in h) os es ms root ≡ inside_size_in h os es ms
+    → HaveBases (slot_in h) os (length es) (length ms)
+    → behind_size_in (slot_in h) os es ms root ≡ inside_size_in h os es ms
 behind-part-size shape.Array [] es ms root b = absurd b
 behind-part-size shape.Array (o ∷ os) es ms root b = refl
 behind-part-size shape.Object [] es ms root b = absurd b
@@ -70,7 +70,7 @@ behind-part-size shape.Object (o ∷ os) es ms root b = refl
 -- a key that awaits its value counts one
 pub key-size : (os : List Open) (es : List JsonValue) (before : List Member) (m : Member)
     → HaveKeyBase os (length es) (length before)
-    → frames_size (frames awaits.Value os es (before ++ m ∷ [])) ≡ inside_size_in shape.Object os es before + 1
+    → frames_size (frames slot.Member os es (before ++ m ∷ [])) ≡ inside_size_in shape.Object os es before + 1
 key-size [] es before m h = absurd h
 key-size (o ∷ os) es before m h =
     let was = ap frames_size (value-frames o os es before m h.0) in omega (arith, was)

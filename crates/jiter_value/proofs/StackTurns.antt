@@ -32,12 +32,12 @@ use Rattle.jiter_steps.proofs.Calls.Resumed.{colon-failed, container-begins}
 use Rattle.jiter_value.specs.Settings.{forgives, rules}
 use Rattle.jiter_value.specs.Stacks.{Member, member_view, last_key_of, last_key, front, frames, PartTree, built}
 use Rattle.jiter_value.specs.Stacks.{parts_above, frames_below, HaveBases, HaveKeyBase, key_in, key_fault_in}
-use Rattle.jiter_value.specs.Stacks.{behind_in, container_in, awaited_in, empty_tree, Stands}
+use Rattle.jiter_value.specs.Stacks.{behind_in, container_in, slot_in, empty_tree, Stands}
 use Rattle.jiter_value.specs.Turns.{Fails, IsResolved}
 use Rattle.jiter_value.specs.Value.{view}
 use Rattle.jiter_value.specs.declared.settings.Settings.{Settings}
-use Rattle.jiter_value.specs.declared.stacks.Awaits.{Awaits}
-use Rattle.jiter_value.specs.declared.stacks.Awaits.TheVariants as awaits
+use Rattle.jiter_value.specs.declared.stacks.Slot.{Slot}
+use Rattle.jiter_value.specs.declared.stacks.Slot.TheVariants as slot
 use Rattle.jiter_value.specs.declared.stacks.Open.{Open}
 use Rattle.jiter_value.specs.declared.stacks.Stacks.{Stacks}
 use Rattle.jiter_value.specs.declared.value.JsonValue.{JsonValue}
@@ -79,7 +79,7 @@ front-append xs m =
 -- an object that awaits the value of this key
 pub value-frames : (o : Open) (os : List Open) (es : List JsonValue) (before : List Member) (m : Member)
     → o.base ≤ length before
-    → frames awaits.Value (o ∷ os) es (before ++ m ∷ []) ≡ members_frame (map member_view (drop o.base before))
+    → frames slot.Member (o ∷ os) es (before ++ m ∷ []) ≡ members_frame (map member_view (drop o.base before))
     (text_view m.0) ∷ frames o.outer os es (take o.base before)
 value-frames o os es before m h =
     rw (
@@ -89,15 +89,15 @@ value-frames o os es before m h =
       last_key-append (drop o.base before) m,
     ) refl
 
-length-frames : (a : Awaits) (os : List Open) (n m : ℕ) (es : List JsonValue) (ms : List Member)
+length-frames : (a : Slot) (os : List Open) (n m : ℕ) (es : List JsonValue) (ms : List Member)
     → HaveBases a os n m → length (frames a os es ms) ≡ length os
 length-frames a [] n m es ms h = refl
-length-frames awaits.Item (o ∷ os) n m es ms h = ap suc (length-frames o.outer os o.base m (take o.base es) ms h.1)
-length-frames awaits.Value (o ∷ os) n m es ms h = ap suc (length-frames o.outer os n o.base es (take o.base ms) h.1)
+length-frames slot.Item (o ∷ os) n m es ms h = ap suc (length-frames o.outer os o.base m (take o.base es) ms h.1)
+length-frames slot.Member (o ∷ os) n m es ms h = ap suc (length-frames o.outer os n o.base es (take o.base ms) h.1)
 length-frames _ (o ∷ os) n m es ms h = absurd h
 
 -- A value that is awaited stands behind the last key.
-pub last-member : (os : List Open) (n : ℕ) (ms : List Member) → HaveBases awaits.Value os n (length ms)
+pub last-member : (os : List Open) (n : ℕ) (ms : List Member) → HaveBases slot.Member os n (length ms)
     → (m : Member) × (ms ≡ take (length ms - 1) ms ++ m ∷ []) × HaveKeyBase os n (length (take (length ms - 1) ms))
 last-member [] n ms h = absurd h
 last-member (o ∷ os) n ms h =
@@ -129,16 +129,16 @@ module _ (p : Settings) (t : List ℕ) where
 
   -- A value goes where it belongs.
   pub put-item : (os : List Open) (es : List JsonValue) (ms : List Member) (root v : JsonValue) (e : ℕ)
-      → HaveBases awaits.Item os (length es) (length ms)
-      → resume (rules p) t (frames awaits.Item os es ms) (done (view v) e) ≡ behind_in p t awaits.Item os (es ++ v ∷ [])
+      → HaveBases slot.Item os (length es) (length ms)
+      → resume (rules p) t (frames slot.Item os es ms) (done (view v) e) ≡ behind_in p t slot.Item os (es ++ v ∷ [])
       ms root e
   put-item [] es ms root v e h = absurd h
   put-item (o ∷ os) es ms root v e h = rw (above-more view o.base es v h.0, take-append-le o.base es (v ∷ []) h.0) refl
 
   pub put-value : (os : List Open) (es : List JsonValue) (before : List Member) (m : Member) (root v : JsonValue)
       (e : ℕ) → HaveKeyBase os (length es) (length before)
-      → resume (rules p) t (frames awaits.Value os es (before ++ m ∷ [])) (done (view v) e) ≡ behind_in p t
-      awaits.Value os es (before ++ (m.0, v) ∷ []) root e
+      → resume (rules p) t (frames slot.Member os es (before ++ m ∷ [])) (done (view v) e) ≡ behind_in p t
+      slot.Member os es (before ++ (m.0, v) ∷ []) root e
   put-value [] es before m root v e h = absurd h
   put-value (o ∷ os) es before m root v e h =
       rw (
@@ -163,7 +163,7 @@ module _ (p : Settings) (t : List ℕ) where
   -- where a step behind a part of it leads
   behind-to : (h : Shape) (o : Open) (os : List Open) (es : List JsonValue) (ms : List Member) (root : JsonValue)
       (e : ℕ) (u : Step) → resolve_step (forgives p.mode) (step t (container_step h t) e) ≡ u
-      → behind_in p t (awaited_in h) (o ∷ os) es ms root e ≡ resume (rules p) t (frames_below h o os es ms)
+      → behind_in p t (slot_in h) (o ∷ os) es ms root e ≡ resume (rules p) t (frames_below h o os es ms)
       (parts_step (rules p) t (container_of h (length (frames_below h o os es ms))) (parts_above h o.base es ms) u)
   behind-to shape.Array o os es ms root e u is =
       let fs = frames o.outer os (take o.base es) ms in
@@ -187,13 +187,13 @@ module _ (p : Settings) (t : List ℕ) where
       step-stuck (rules p) t (container_of h (length fs)) fs xs (stuck k j) k j
       (ap (λ y. cond y (closed j) (stuck k j)) bad) bad
 
-  outermost : (h : Shape) (n m : ℕ) → HaveBases (awaited_in h) [] n m → ⊥
+  outermost : (h : Shape) (n m : ℕ) → HaveBases (slot_in h) [] n m → ⊥
   outermost shape.Array n m b = b
   outermost shape.Object n m b = b
 
   -- a part of the innermost container is awaited at j
   abbrev pub part_in : Shape → List Open → List JsonValue → List Member → ℕ → Reading Tree
-  part_in shape.Array os es ms j = value_from (rules p) t (frames awaits.Item os es ms) j
+  part_in shape.Array os es ms j = value_from (rules p) t (frames slot.Item os es ms) j
   part_in shape.Object os es ms j = key_in p t os es ms j
 
   pub next-part : (h : Shape) (o : Open) (os : List Open) (es : List JsonValue) (ms : List Member) (j : ℕ)
@@ -206,16 +206,16 @@ module _ (p : Settings) (t : List ℕ) where
   next-part shape.Object o os es ms j h = refl
 
   module _ (h : Shape) (es : List JsonValue) (ms : List Member) (root : JsonValue) (e : ℕ) where
-    pub behind-more : (os : List Open) (j : ℕ) → HaveBases (awaited_in h) os (length es) (length ms)
+    pub behind-more : (os : List Open) (j : ℕ) → HaveBases (slot_in h) os (length es) (length ms)
         → step t (container_step h t) e ≡ more j → j < length t
-        → behind_in p t (awaited_in h) os es ms root e ≡ part_in h os es ms j
+        → behind_in p t (slot_in h) os es ms root e ≡ part_in h os es ms j
     behind-more [] j b s lt = absurd (outermost h (length es) (length ms) b)
     behind-more (o ∷ os) j b s lt =
         behind-to h o os es ms root e (more j) (ap (resolve_step (forgives p.mode)) s) ∙ next-part h o os es ms j lt
 
-    pub behind-closed : (os : List Open) (c : ℕ) → HaveBases (awaited_in h) os (length es) (length ms)
+    pub behind-closed : (os : List Open) (c : ℕ) → HaveBases (slot_in h) os (length es) (length ms)
         → resolve_step (forgives p.mode) (step t (container_step h t) e) ≡ closed c
-        → behind_in p t (awaited_in h) os es ms root e ≡ container_in p t h os es ms c
+        → behind_in p t (slot_in h) os es ms root e ≡ container_in p t h os es ms c
     behind-closed [] c b s = absurd (outermost h (length es) (length ms) b)
     behind-closed (o ∷ os) c b s =
         behind-to h o os es ms root e (closed c) s
@@ -223,9 +223,9 @@ module _ (p : Settings) (t : List ℕ) where
 
     -- a fault that is not forgiven
     pub behind-fails : (os : List Open) (j : ℕ) (error : ReadError)
-        → HaveBases (awaited_in h) os (length es) (length ms)
+        → HaveBases (slot_in h) os (length es) (length ms)
         → IsResolved p false error j (step t (container_step h t) e)
-        → Fails error j (behind_in p t (awaited_in h) os es ms root e)
+        → Fails error j (behind_in p t (slot_in h) os es ms root e)
     behind-fails [] j error b r = absurd (outermost h (length es) (length ms) b)
     behind-fails (o ∷ os) j error b r =
         rw (r.1, r.2)
@@ -235,7 +235,7 @@ module _ (p : Settings) (t : List ℕ) where
   -- A fault where a value is awaited.
   pub fault-value : (os : List Open) (es : List JsonValue) (before : List Member) (m : Member) (k : Kind)
       (x stop : ℕ) → HaveKeyBase os (length es) (length before) → forgives p.mode k ≡ true
-      → resume (rules p) t (frames awaits.Value os es (before ++ m ∷ [])) (fault k x stop) ≡ container_in p t
+      → resume (rules p) t (frames slot.Member os es (before ++ m ∷ [])) (fault k x stop) ≡ container_in p t
       shape.Object os es before stop
   fault-value [] es before m k x stop b ok = absurd b
   fault-value (o ∷ os) es before m k x stop b ok =
@@ -244,7 +244,7 @@ module _ (p : Settings) (t : List ℕ) where
       (frames o.outer os es (take o.base before)) k x stop ok)
 
   -- A value begins.
-  module _ (s : Stacks) (a : Awaits) (bases : Stands s a) (few : length s.nest.items ≤ 200) (i : ℕ) where
+  module _ (s : Stacks) (a : Slot) (bases : Stands s a) (few : length s.nest.items ≤ 200) (i : ℕ) where
     abbrev fs : List (Frame Text Tree)
     fs = frames a (reverse s.nest.items) s.items.items s.members.items
 
@@ -281,7 +281,7 @@ module _ (p : Settings) (t : List ℕ) where
         (begins h (stuck (fault_kind r.0.kind) j) is r.3 ∙ stuck-to h fs [] (fault_kind r.0.kind) j r.4)
 
   -- A value stands inside too many containers.
-  pub limit-reached : (a : Awaits) (os : List Open) (es : List JsonValue) (ms : List Member) (j : ℕ)
+  pub limit-reached : (a : Slot) (os : List Open) (es : List JsonValue) (ms : List Member) (j : ℕ)
       → HaveBases a os (length es) (length ms) → length os ≡ 201
       → value_from (rules p) t (frames a os es ms) j ≡ fault recursion_limit j j
   limit-reached a os es ms j b full =
@@ -295,7 +295,7 @@ module _ (p : Settings) (t : List ℕ) where
   pub key-opens : (os : List Open) (es : List JsonValue) (ms : List Member) (j : ℕ) (k : CowStr Global) (e m : ℕ)
       → HaveKeyBase os (length es) (length ms) → j < length t
       → scalar_at j (string_at whole t j) ≡ done (text_view k) e → object_colon t e ≡ taken tt m
-      → key_in p t os es ms j ≡ value_from (rules p) t (frames awaits.Value os es (ms ++ (k, Null) ∷ [])) m
+      → key_in p t os es ms j ≡ value_from (rules p) t (frames slot.Member os es (ms ++ (k, Null) ∷ [])) m
   key-opens [] es ms j k e m b h v s = absurd b
   key-opens (o ∷ os) es ms j k e m b h v s =
       key-value (rules p) t good (frames o.outer os es (take o.base ms)) (map member_view (drop o.base ms)) j e m
@@ -332,28 +332,28 @@ module _ (p : Settings) (t : List ℕ) where
       ∙ resume-fault (rules p) t fs k x stop bad
 
 -- a value that is there needs no key any more
-pub key-base : (os : List Open) (n m : ℕ) → HaveBases awaits.Value os n m → HaveKeyBase os n m
+pub key-base : (os : List Open) (n m : ℕ) → HaveBases slot.Member os n m → HaveKeyBase os n m
 key-base [] n m h = absurd h
 key-base (o ∷ os) n m h = (omega (arith, h.0), h.1)
 
 -- and behind a key one is awaited
 pub key-above : (os : List Open) (n : ℕ) (ms : List Member) (m : Member) → HaveKeyBase os n (length ms)
-    → HaveBases awaits.Value os n (length (ms ++ m ∷ []))
+    → HaveBases slot.Member os n (length (ms ++ m ∷ []))
 key-above [] n ms m h = absurd h
 key-above (o ∷ os) n ms m h = (omega (arith, h.0, length-append ms (m ∷ [])), h.1)
 
 -- Nothing is held before the first value.
 pub root-stands : (nest : List Open) (es : List JsonValue) (ms : List Member) → nest ≡ [] → es ≡ [] → ms ≡ []
-    → HaveBases awaits.Root (reverse nest) (length es) (length ms)
+    → HaveBases slot.Root (reverse nest) (length es) (length ms)
 root-stands nest es ms a b c =
     rw (a, b, c) (refl, refl)
 
 pub root-from : (p : Settings) (t : List ℕ) (os : List Open) (es : List JsonValue) (ms : List Member) (n m i : ℕ)
-    → HaveBases awaits.Root os n m
-    → value_at (rules p) t 200 i ≡ value_from (rules p) t (frames awaits.Root os es ms) i
+    → HaveBases slot.Root os n m
+    → value_at (rules p) t 200 i ≡ value_from (rules p) t (frames slot.Root os es ms) i
 root-from p t [] es ms n m i h = sym (value_in-room (rules p) t 0 i (omega arith))
 root-from p t (o ∷ os) es ms n m i h = absurd h
 
-pub root-alone : (os : List Open) (n m : ℕ) → HaveBases awaits.Root os n m → length os ≡ 0
+pub root-alone : (os : List Open) (n m : ℕ) → HaveBases slot.Root os n m → length os ≡ 0
 root-alone [] n m h = refl
 root-alone (o ∷ os) n m h = absurd h

@@ -4,6 +4,7 @@ pub mod Stacks
 pub mod Size
 pub mod Turns
 pub mod Reading
+pub mod Parses
 pub mod Machine
 pub mod TurnsTo
 pub mod Owned

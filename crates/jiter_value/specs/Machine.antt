@@ -1,31 +1,76 @@
 -- The machine as contracts see it.
-use Rattle.std.specs.Prelude.{◌≡◌, ◌≢◌, ℕ, ◌<◌, Bool, true, false, List, length}
+use Rattle.std.specs.Prelude.{◌≡◌, ◌≢◌, ◌⊎◌, ℕ, ◌+◌, ◌*◌, ◌-◌, ◌≤◌, ◌<◌, Bool, true, false, List, length, reverse}
 use Rattle.jiter_steps.specs.Blank.{past_blanks}
 use Rattle.jiter_steps.specs.Node.{nesting_limit}
 use Rattle.jiter_steps.specs.Read.{value_at}
+use Rattle.jiter_steps.specs.declared.parse.Parser.{Parser}
+use Rattle.jiter_steps.specs.declared.parse.Shape.TheVariants as shape
 use Rattle.jiter_value.specs.Settings.{rules}
-use Rattle.jiter_value.specs.Size.{held}
-use Rattle.jiter_value.specs.Stacks.{meaning, Stands}
-use Rattle.jiter_value.specs.Turns.{IsWithin, left}
+use Rattle.jiter_value.specs.Size.{frames_size, inside_size_in}
+use Rattle.jiter_value.specs.Stacks.{Member, frames, meaning, Stands}
+use Rattle.jiter_value.specs.Turns.{IsWithin}
+use Rattle.jiter_value.specs.Value.{MayGrow}
 use Rattle.jiter_value.specs.declared.settings.Settings.{Settings}
-use Rattle.jiter_value.specs.declared.stacks.Awaits.{Awaits}
-use Rattle.jiter_value.specs.declared.stacks.Awaits.TheVariants as awaits
+use Rattle.jiter_value.specs.declared.stacks.Open.{Open}
+use Rattle.jiter_value.specs.declared.stacks.Slot.TheVariants as slot
 use Rattle.jiter_value.specs.declared.stacks.Stacks.{Stacks}
+use Rattle.jiter_value.specs.declared.stacks.State.{State}
+use Rattle.jiter_value.specs.declared.stacks.State.TheVariants as state
+use Rattle.jiter_value.specs.declared.value.JsonValue.{JsonValue}
+use Rattle.jiter_value.specs.declared.value.JsonValue.TheVariants.{Null}
 
--- What is read and how, how far the reading came, how much is left to do, and how many scalars, containers and keys
--- are held.
+-- All that a machine holds: what is read and how, how far the reading came, the elements of all open arrays, the
+-- members of all open objects, the open containers with where each begins in these, and what is awaited. In an object
+-- that awaits a value the last member is the key, with null.
 pub record Progress : Type 0 where
   pub text : List ℕ
   pub settings : Settings
   pub position : ℕ
-  pub left : ℕ
-  pub holds : ℕ
+  pub elements : List JsonValue
+  pub members : List Member
+  pub nest : List Open
+  pub state : State
+  pub within : position ≤ length text
 
-abbrev pub progress : List ℕ → Settings → ℕ → Awaits → Stacks → Progress
-progress t p i a s = record { text = t; settings = p; position = i; left = left t s i; holds = held s a }
+abbrev pub progress : Parser → Settings → State → Stacks → Progress
+progress r p a s = record {
+  text = r.bytes.now;
+  settings = p;
+  position = r.index;
+  elements = s.items.items;
+  members = s.members.items;
+  nest = s.nest.items;
+  state = a;
+  within = r.within;
+}
 
--- The reading has not begun yet, or what is held and what is left are the text's value.
-abbrev pub IsUnderWay : Bool → List ℕ → Settings → ℕ → Awaits → Stacks → Type 0
-IsUnderWay false t p i a s = Stands s awaits.Root × (i ≡ 0) × (a ≡ awaits.Root)
-IsUnderWay true t p i a s = (value_at (rules p) t nesting_limit (past_blanks t 0) ≡ meaning p t s a i)
-    × IsWithin t s a i × (a ≢ awaits.Done) × (past_blanks t 0 < length t)
+-- how much is left to do: at least one turn
+abbrev pub left : Progress → ℕ
+left m = 3 * (length m.text - m.position) + length m.nest + 1
+
+abbrev pub held_in : State → List Open → List JsonValue → List Member → ℕ
+held_in state.Root os elements members = frames_size (frames slot.Root os elements members)
+held_in state.Item os elements members = frames_size (frames slot.Item os elements members)
+held_in state.Member os elements members = frames_size (frames slot.Member os elements members)
+held_in state.Key os elements members = inside_size_in shape.Object os elements members
+held_in state.Done os elements members = 0
+held_in state.GivenUp os elements members = 0
+
+-- how many scalars, containers and keys are held, open containers and awaiting keys among them
+abbrev pub held : Progress → ℕ
+held m = held_in m.state (reverse m.nest) m.elements m.members
+
+-- The reading has begun: what is held and what is left of the text are its value, which is not whole yet. Unless it is
+-- still to be read from its first byte, it may want memory.
+pub record HasBegun (t : List ℕ) (p : Settings) (i : ℕ) (a : State) (s : Stacks) : Type 0 where
+  pub value : value_at (rules p) t nesting_limit (past_blanks t 0) ≡ meaning p t s a i
+  pub within : IsWithin t s a i
+  pub goes_on : a ≢ state.Done
+  pub begins : past_blanks t 0 < length t
+  pub behind : past_blanks t 0 ≤ i
+  pub grows : ((a ≡ state.Root) × (i ≡ past_blanks t 0)) ⊎ MayGrow t
+
+-- Nothing is read yet, or the reading has begun; no value stands beside the stacks.
+abbrev pub IsUnderWay : Bool → List ℕ → Settings → ℕ → State → Stacks → Type 0
+IsUnderWay false t p i a s = Stands s slot.Root × (i ≡ 0) × (a ≡ state.Root) × (s.root ≡ Null)
+IsUnderWay true t p i a s = HasBegun t p i a s × (s.root ≡ Null)

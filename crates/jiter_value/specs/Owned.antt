@@ -1,6 +1,5 @@
 -- Trees whose texts are all owned, and trees that are the same wherever their texts lie.
 use Rattle.std.specs.Prelude.{◌≡◌, ◌⊎◌, ℕ, Bool, true, false, List, Result, Ok, Err}
-use Rattle.jiter_scan.specs.Kind.{kind_of}
 use Rattle.jiter_scan.specs.declared.errors.JsonError.{JsonError}
 use Rattle.jiter_scan.specs.declared.errors.JsonErrorType.TheVariants.{OutOfMemory}
 use Rattle.jiter_scan.specs.declared.partial_mode.PartialMode.{PartialMode}
@@ -67,12 +66,6 @@ HoldsOwnedTextOrPart v = HoldsSuchOrPart (λ s. s.owned ≡ true) v
 abbrev pub HoldsBorrowedTextOrPart : Tree → Type 0
 HoldsBorrowedTextOrPart v = HoldsSuchOrPart (λ s. s.owned ≡ false) v
 
--- What a parse returns whose value owns its texts: the value that was read, each text owned, or the fault's kind and
--- index, unless memory was refused.
-abbrev pub AnswersOwned : Result JsonValue JsonError → Reading Tree → Type 0
-AnswersOwned (Ok v) r = (read : Tree) × (e : ℕ) × (r ≡ done read e) × (view v ≡ owned_tree read)
-AnswersOwned (Err e) r = (e.error_type ≡ OutOfMemory) ⊎ ((stop : ℕ) × (r ≡ fault (kind_of e.error_type) e.index stop))
-
 -- the owned value that a text answers may want memory: reading it does, or it is read with a borrowed text or a part
 abbrev pub ReadHolds : Reading Tree → Type 0
 ReadHolds (done v e) = HoldsBorrowedTextOrPart v
@@ -88,8 +81,3 @@ IsOwnedAnswer (Ok v) i (Ok w) = view w ≡ owned_tree (view v)
 IsOwnedAnswer (Ok v) i (Err e) = (e ≡ record { error_type = OutOfMemory; index = i }) × HoldsBorrowedTextOrPart (view v)
 IsOwnedAnswer (Err f) i (Ok w) = ⊥
 IsOwnedAnswer (Err f) i (Err e) = e ≡ f
-
--- a reading, its value with each text owned
-abbrev pub owned_reading : Reading Tree → Reading Tree
-owned_reading (done v e) = done (owned_tree v) e
-owned_reading (fault k i stop) = fault k i stop

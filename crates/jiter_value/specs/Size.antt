@@ -7,8 +7,10 @@ use Rattle.jiter_steps.specs.declared.parse.Shape.TheVariants as shape
 use Rattle.jiter_value.specs.Value.{view}
 use Rattle.jiter_value.specs.declared.value.JsonValue.{JsonValue}
 use Rattle.jiter_value.specs.declared.stacks.Open.{Open}
-use Rattle.jiter_value.specs.declared.stacks.Awaits.{Awaits}
-use Rattle.jiter_value.specs.declared.stacks.Awaits.TheVariants as awaits
+use Rattle.jiter_value.specs.declared.stacks.Slot.{Slot}
+use Rattle.jiter_value.specs.declared.stacks.Slot.TheVariants as slot
+use Rattle.jiter_value.specs.declared.stacks.State.{State}
+use Rattle.jiter_value.specs.declared.stacks.State.TheVariants as state
 use Rattle.jiter_value.specs.declared.stacks.Stacks.{Stacks}
 use Rattle.jiter_steps.specs.Frames.{Frame, items_frame, members_frame}
 use Rattle.jiter_value.specs.Stacks.{Member, member_view, frames, PartTree, parts_above, frames_below}
@@ -54,26 +56,23 @@ inside_size_in h [] items members = 0
 inside_size_in h (o ∷ os) items members =
     suc (parts_size h (parts_above h o.base items members)) + frames_size (frames_below h o os items members)
 
-abbrev pub behind_size_in : Awaits → List Open → List JsonValue → List Member → JsonValue → ℕ
+abbrev pub behind_size_in : Slot → List Open → List JsonValue → List Member → JsonValue → ℕ
 behind_size_in a [] items members root = size (view root)
-behind_size_in awaits.Item (o ∷ os) items members root =
+behind_size_in slot.Item (o ∷ os) items members root =
     suc (items_size (map view (drop o.base items))) + frames_size (frames o.outer os (take o.base items) members)
-behind_size_in awaits.Value (o ∷ os) items members root =
+behind_size_in slot.Member (o ∷ os) items members root =
     suc (members_size (map member_view (drop o.base members))) + frames_size
     (frames o.outer os items (take o.base members))
-behind_size_in awaits.Root (o ∷ os) items members root = size (view root)
-behind_size_in awaits.Key (o ∷ os) items members root = size (view root)
-behind_size_in awaits.Done (o ∷ os) items members root = size (view root)
-behind_size_in awaits.Refused (o ∷ os) items members root = size (view root)
+behind_size_in slot.Root (o ∷ os) items members root = size (view root)
 
 -- the same of all that is held: where a value is awaited, a key, and behind a value
-abbrev pub value_size : Stacks → Awaits → ℕ
+abbrev pub value_size : Stacks → Slot → ℕ
 value_size s a = frames_size (frames a (reverse s.nest.items) s.items.items s.members.items)
 
 abbrev pub key_size : Stacks → ℕ
 key_size s = inside_size_in shape.Object (reverse s.nest.items) s.items.items s.members.items
 
-abbrev pub behind_size : Stacks → Awaits → ℕ
+abbrev pub behind_size : Stacks → Slot → ℕ
 behind_size s a = behind_size_in a (reverse s.nest.items) s.items.items s.members.items s.root
 
 -- the same where the innermost container is of this shape, and awaits no value
@@ -81,10 +80,10 @@ abbrev pub inside_size : Shape → Stacks → ℕ
 inside_size h s = inside_size_in h (reverse s.nest.items) s.items.items s.members.items
 
 -- How many scalars, containers and keys the machine holds; at its end, how many the value has.
-abbrev pub held : Stacks → Awaits → ℕ
-held s awaits.Root = value_size s awaits.Root
-held s awaits.Item = value_size s awaits.Item
-held s awaits.Value = value_size s awaits.Value
-held s awaits.Key = key_size s
-held s awaits.Done = size (view s.root)
-held s awaits.Refused = size (view s.root)
+abbrev pub held : Stacks → State → ℕ
+held s state.Root = value_size s slot.Root
+held s state.Item = value_size s slot.Item
+held s state.Member = value_size s slot.Member
+held s state.Key = key_size s
+held s state.Done = size (view s.root)
+held s state.GivenUp = size (view s.root)

@@ -15,10 +15,12 @@ use Rattle.jiter_steps.specs.Frames.{members_from}
 use Rattle.jiter_value.specs.Settings.{rules}
 use Rattle.jiter_value.specs.Value.{view}
 use Rattle.jiter_value.specs.declared.settings.Settings.{Settings}
-use Rattle.jiter_value.specs.declared.stacks.Awaits.{Awaits}
-use Rattle.jiter_value.specs.declared.stacks.Awaits.TheVariants as awaits
 use Rattle.jiter_value.specs.declared.stacks.Open.{Open}
+use Rattle.jiter_value.specs.declared.stacks.Slot.{Slot}
+use Rattle.jiter_value.specs.declared.stacks.Slot.TheVariants as slot
 use Rattle.jiter_value.specs.declared.stacks.Stacks.{Stacks}
+use Rattle.jiter_value.specs.declared.stacks.State.{State}
+use Rattle.jiter_value.specs.declared.stacks.State.TheVariants as state
 use Rattle.jiter_value.specs.declared.value.JsonValue.{JsonValue}
 
 abbrev pub Member : Type 0
@@ -43,17 +45,14 @@ front ms = take (length ms - 1) ms
 
 -- Each open container has what stands from its base up, the innermost first. In an object that awaits a value the last
 -- member has its key alone.
-abbrev pub frames : Awaits → List Open → List JsonValue → List Member → List (Frame Text Tree)
+abbrev pub frames : Slot → List Open → List JsonValue → List Member → List (Frame Text Tree)
 frames a [] items members = []
-frames awaits.Item (o ∷ os) items members =
+frames slot.Item (o ∷ os) items members =
     items_frame (map view (drop o.base items)) ∷ frames o.outer os (take o.base items) members
-frames awaits.Value (o ∷ os) items members =
+frames slot.Member (o ∷ os) items members =
     members_frame (map member_view (front (drop o.base members)))
     (last_key (drop o.base members)) ∷ frames o.outer os items (take o.base members)
-frames awaits.Root (o ∷ os) items members = []
-frames awaits.Key (o ∷ os) items members = []
-frames awaits.Done (o ∷ os) items members = []
-frames awaits.Refused (o ∷ os) items members = []
+frames slot.Root (o ∷ os) items members = []
 
 -- What arrays and objects have in common: the tree of a part, and that of a container of these parts,
 abbrev pub PartTree : Shape → Type 0
@@ -75,16 +74,13 @@ frames_below shape.Array o os items members = frames o.outer os (take o.base ite
 frames_below shape.Object o os items members = frames o.outer os items (take o.base members)
 
 -- the bases lie within the stacks, and below the outermost there is nothing
-abbrev pub HaveBases : Awaits → List Open → ℕ → ℕ → Type 0
-HaveBases awaits.Root [] n m = (n ≡ 0) × (m ≡ 0)
-HaveBases awaits.Root (o ∷ os) n m = ⊥
-HaveBases awaits.Item [] n m = ⊥
-HaveBases awaits.Item (o ∷ os) n m = (o.base ≤ n) × HaveBases o.outer os o.base m
-HaveBases awaits.Value [] n m = ⊥
-HaveBases awaits.Value (o ∷ os) n m = (o.base < m) × HaveBases o.outer os n o.base
-HaveBases awaits.Key os n m = ⊥
-HaveBases awaits.Done os n m = ⊥
-HaveBases awaits.Refused os n m = ⊥
+abbrev pub HaveBases : Slot → List Open → ℕ → ℕ → Type 0
+HaveBases slot.Root [] n m = (n ≡ 0) × (m ≡ 0)
+HaveBases slot.Root (o ∷ os) n m = ⊥
+HaveBases slot.Item [] n m = ⊥
+HaveBases slot.Item (o ∷ os) n m = (o.base ≤ n) × HaveBases o.outer os o.base m
+HaveBases slot.Member [] n m = ⊥
+HaveBases slot.Member (o ∷ os) n m = (o.base < m) × HaveBases o.outer os n o.base
 
 -- the same where the innermost is an object that awaits a key
 abbrev pub HaveKeyBase : List Open → ℕ → ℕ → Type 0
@@ -93,7 +89,7 @@ HaveKeyBase (o ∷ os) n m = (o.base ≤ m) × HaveBases o.outer os n o.base
 
 -- the same where the innermost is of this shape, and awaits no value
 abbrev pub HavePartBase : Shape → List Open → ℕ → ℕ → Type 0
-HavePartBase shape.Array os n m = HaveBases awaits.Item os n m
+HavePartBase shape.Array os n m = HaveBases slot.Item os n m
 HavePartBase shape.Object os n m = HaveKeyBase os n m
 
 module _ (p : Settings) (t : List ℕ) where
@@ -111,16 +107,13 @@ module _ (p : Settings) (t : List ℕ) where
       (if_forgiven (rules p) (λ e. (rules p).object 0 e (map member_view (drop o.base members))) k x stop)
 
   -- where the innermost container has a value that ends at e
-  abbrev pub behind_in : Awaits → List Open → List JsonValue → List Member → JsonValue → ℕ → Reading Tree
+  abbrev pub behind_in : Slot → List Open → List JsonValue → List Member → JsonValue → ℕ → Reading Tree
   behind_in a [] items members root e = done (view root) e
-  behind_in awaits.Item (o ∷ os) items members root e =
+  behind_in slot.Item (o ∷ os) items members root e =
       items_from (rules p) t (frames o.outer os (take o.base items) members) (map view (drop o.base items)) e
-  behind_in awaits.Value (o ∷ os) items members root e =
+  behind_in slot.Member (o ∷ os) items members root e =
       members_from (rules p) t (frames o.outer os items (take o.base members)) (map member_view (drop o.base members)) e
-  behind_in awaits.Root (o ∷ os) items members root e = done (view root) e
-  behind_in awaits.Key (o ∷ os) items members root e = done (view root) e
-  behind_in awaits.Done (o ∷ os) items members root e = done (view root) e
-  behind_in awaits.Refused (o ∷ os) items members root e = done (view root) e
+  behind_in slot.Root (o ∷ os) items members root e = done (view root) e
 
   -- where the innermost container ends at e
   abbrev pub container_in : Shape → List Open → List JsonValue → List Member → ℕ → Reading Tree
@@ -129,10 +122,10 @@ module _ (p : Settings) (t : List ℕ) where
       resume (rules p) t (frames_below h o os items members) (done (built h (parts_above h o.base items members)) e)
 
   -- The same of all that is held.
-  abbrev pub resume_with : Stacks → Awaits → Reading Tree → Reading Tree
+  abbrev pub resume_with : Stacks → Slot → Reading Tree → Reading Tree
   resume_with s a x = resume (rules p) t (frames a (reverse s.nest.items) s.items.items s.members.items) x
 
-  abbrev pub from_value : Stacks → Awaits → ℕ → Reading Tree
+  abbrev pub from_value : Stacks → Slot → ℕ → Reading Tree
   from_value s a j = value_from (rules p) t (frames a (reverse s.nest.items) s.items.items s.members.items) j
 
   abbrev pub from_key : Stacks → ℕ → Reading Tree
@@ -141,22 +134,22 @@ module _ (p : Settings) (t : List ℕ) where
   abbrev pub key_fault : Stacks → Kind → ℕ → ℕ → Reading Tree
   key_fault s k x stop = key_fault_in (reverse s.nest.items) s.items.items s.members.items k x stop
 
-  abbrev pub behind : Stacks → Awaits → ℕ → Reading Tree
+  abbrev pub behind : Stacks → Slot → ℕ → Reading Tree
   behind s a e = behind_in a (reverse s.nest.items) s.items.items s.members.items s.root e
 
   abbrev pub container_ends : Shape → Stacks → ℕ → Reading Tree
   container_ends h s e = container_in h (reverse s.nest.items) s.items.items s.members.items e
 
   -- What the rest of the text completes the machine to.
-  abbrev pub meaning : Stacks → Awaits → ℕ → Reading Tree
-  meaning s awaits.Root j = from_value s awaits.Root j
-  meaning s awaits.Item j = from_value s awaits.Item j
-  meaning s awaits.Value j = from_value s awaits.Value j
-  meaning s awaits.Key j = from_key s j
-  meaning s awaits.Done j = done (view s.root) j
-  meaning s awaits.Refused j = done (view s.root) j
+  abbrev pub meaning : Stacks → State → ℕ → Reading Tree
+  meaning s state.Root j = from_value s slot.Root j
+  meaning s state.Item j = from_value s slot.Item j
+  meaning s state.Member j = from_value s slot.Member j
+  meaning s state.Key j = from_key s j
+  meaning s state.Done j = done (view s.root) j
+  meaning s state.GivenUp j = done (view s.root) j
 
-abbrev pub Stands : Stacks → Awaits → Type 0
+abbrev pub Stands : Stacks → Slot → Type 0
 Stands s a = HaveBases a (reverse s.nest.items) (length s.items.items) (length s.members.items)
 
 abbrev pub StandsAtKey : Stacks → Type 0
@@ -166,14 +159,20 @@ StandsAtKey s = HaveKeyBase (reverse s.nest.items) (length s.items.items) (lengt
 abbrev pub StandsInside : Shape → Stacks → Type 0
 StandsInside h s = HavePartBase h (reverse s.nest.items) (length s.items.items) (length s.members.items)
 
--- what is awaited where a value of a container begins, and where a part of it does
-abbrev pub awaited_in : Shape → Awaits
-awaited_in shape.Array = awaits.Item
-awaited_in shape.Object = awaits.Value
+-- where a value of a container goes, and what is awaited where a part of it begins
+abbrev pub slot_in : Shape → Slot
+slot_in shape.Array = slot.Item
+slot_in shape.Object = slot.Member
 
-abbrev pub part_of : Shape → Awaits
-part_of shape.Array = awaits.Item
-part_of shape.Object = awaits.Key
+abbrev pub part_of : Shape → State
+part_of shape.Array = state.Item
+part_of shape.Object = state.Key
+
+-- where the value goes that a state awaits
+abbrev pub slot_of : State → Slot
+slot_of state.Item = slot.Item
+slot_of state.Member = slot.Member
+slot_of _ = slot.Root
 
 -- how many parts lie below those of a container that begins
 abbrev pub base_of : Shape → Stacks → ℕ
@@ -186,5 +185,5 @@ empty_tree shape.Array = array (items_of [])
 empty_tree shape.Object = object (members_of [])
 
 -- a value that is awaited can go where it belongs without a request for memory
-abbrev pub HasRoom : Stacks → Awaits → Type 0
-HasRoom s a = a ≡ awaits.Item → vec_len s.items < vec_capacity s.items
+abbrev pub HasRoom : Stacks → Slot → Type 0
+HasRoom s a = a ≡ slot.Item → vec_len s.items < vec_capacity s.items

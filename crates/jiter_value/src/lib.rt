@@ -8,7 +8,6 @@ pub mod moved;
 pub mod owned;
 pub mod parse_owned;
 pub mod reading;
-pub(crate) mod scalar;
 pub mod scratch;
 pub mod settings;
 pub mod stacks;

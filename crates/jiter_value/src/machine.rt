@@ -1,10 +1,10 @@
 //! Reading a value turn by turn.
 ghost use Rattle.std.specs.Prelude.{◌≡◌, ◌≤◌, ◌+◌, ◌*◌, length, true};
-ghost use Rattle.jiter_value.specs.Machine.{Progress, progress, IsUnderWay};
+ghost use Rattle.jiter_value.specs.Machine.{progress, left, held, IsUnderWay};
 
 use crate::reading::{error_at, finish_whole};
 use crate::settings::Settings;
-use crate::stacks::{Awaits, Stacks, take_error};
+use crate::stacks::{Stacks, State, take_error};
 use crate::turns::turn;
 use crate::value::JsonValue;
 use jiter_scan::{JsonError, PartialMode};
@@ -22,17 +22,25 @@ pub struct Machine<'j> {
     settings: Settings,
     tape: Vec<u8>,
     stacks: Stacks<'j>,
-    awaits: Awaits,
+    state: State,
     begun: bool,
 }
 
 impl<'j> Model for Machine<'j> {
+    ghost use Rattle.jiter_value.specs.Machine.{Progress, progress, IsUnderWay};
+    ghost use Rattle.std.specs.Prelude.{[]};
+    ghost use Rattle.jiter_value.specs.contracts.value.JsonValue as value;
+    ghost use Rattle.std.specs.Coded.{codes};
+    ghost use mir.Syntax.{named};
+
     ghost Value = { Progress };
 
-    ghost view = { λ m. progress m.parser.bytes.now m.settings m.parser.index m.awaits m.stacks };
+    ghost coded = { Prim.hlevel (codes, (value.the_row (record { mir = named 1; lft = [] })).coded) };
+
+    ghost view = { λ m. progress m.parser m.settings m.state m.stacks };
 
     ghost invariant = { λ m.
-        IsUnderWay m.begun m.parser.bytes.now m.settings m.parser.index m.awaits m.stacks };
+        IsUnderWay m.begun m.parser.bytes.now m.settings m.parser.index m.state m.stacks };
 }
 
 /// Where a turn leads: to a machine that goes on, or to the answer.
@@ -58,9 +66,11 @@ impl<'j> Machine<'j> {
         ensures names { result.settings.allow_inf_nan ≡ allow_inf_nan }
         ensures mode { result.settings.mode ≡ allow_partial }
         ensures position { result.position ≡ 0 }
-        ensures left { result.left ≤ 3 * length bytes.now + 3 }
-        ensures held { result.holds ≡ 0 }
+        ensures left { left result ≤ 3 * length bytes.now + 3 }
+        ensures held { held result ≡ 0 }
     {
+        let mut stacks = Stacks::new(alloc);
+        stacks.root = JsonValue::Null;
         Machine {
             alloc,
             parser: Parser::new(bytes),
@@ -69,8 +79,8 @@ impl<'j> Machine<'j> {
                 mode: allow_partial,
             },
             tape: Vec::new(alloc),
-            stacks: Stacks::new(alloc),
-            awaits: Awaits::Root,
+            stacks,
+            state: State::Root,
             begun: false,
         }
     }
@@ -86,15 +96,15 @@ impl<'j> Machine<'j> {
             settings,
             tape,
             stacks,
-            awaits,
+            state,
             begun,
         } = self;
         if begun {
-            return Machine::go(alloc, parser, settings, tape, stacks, awaits);
+            return Machine::go(alloc, parser, settings, tape, stacks, state);
         }
         let mut reader = parser;
         match reader.value_first() {
-            Ok(()) => Machine::go(alloc, reader, settings, tape, stacks, Awaits::Root),
+            Ok(()) => Machine::go(alloc, reader, settings, tape, stacks, State::Root),
             Err(fault) => {
                 let error = error_at(ReadError::Fault(fault), reader.index);
                 Turn::Done(Err(error))
@@ -109,11 +119,10 @@ impl<'j> Machine<'j> {
         settings: Settings,
         old_tape: Vec<u8>,
         old_stacks: Stacks<'j>,
-        awaits: Awaits,
+        state: State,
     ) -> Turn<'j>
-        requires { IsUnderWay true old_parser.bytes.now settings old_parser.index awaits old_stacks }
-        ensures { TurnsTo (progress old_parser.entry.bytes.now settings old_parser.entry.index awaits
-            old_stacks.entry) result }
+        requires { IsUnderWay true old_parser.bytes.now settings old_parser.index state old_stacks }
+        ensures { TurnsTo (progress old_parser.entry settings state old_stacks.entry) result }
     {
         let mut parser = old_parser;
         let mut tape = old_tape;
@@ -125,33 +134,34 @@ impl<'j> Machine<'j> {
             parser.bytes,
             parser.index,
             settings,
-            awaits,
+            state,
         );
         parser.index = at;
         match what {
-            Awaits::Done => {
+            State::Done => {
                 let value = mem::replace(&mut stacks.root, JsonValue::Null);
                 match finish_whole(&mut parser, settings, value) {
                     Ok(whole) => Turn::Done(Ok(whole)),
                     Err(error) => Turn::Done(Err(error_at(error, parser.index))),
                 }
             }
-            Awaits::Refused => {
+            State::GivenUp => {
                 let error = take_error(&mut stacks);
-                Turn::Done(Err(error_at(error, parser.index)))
+                Turn::Done(Err(error_at(error, at)))
             }
-            next => Turn::More(Machine {
-                alloc,
-                parser,
-                settings,
-                tape,
-                stacks,
-                awaits: next,
-                begun: true,
-            }),
+            next => {
+                // Nothing is held but on the stacks.
+                stacks.root = JsonValue::Null;
+                Turn::More(Machine {
+                    alloc,
+                    parser,
+                    settings,
+                    tape,
+                    stacks,
+                    state: next,
+                    begun: true,
+                })
+            }
         }
     }
 }
-
-#[cfg(test)]
-mod tests;

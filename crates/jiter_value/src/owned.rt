@@ -80,6 +80,3 @@ fn own_text(alloc: Global, text: &CowStr<'_>) -> Result<CowStr<'static>, Refused
 {
     Ok(CowStr::Owned(copy_text(alloc, text.as_str())?))
 }
-
-#[cfg(test)]
-mod tests;

@@ -5,6 +5,7 @@ ghost use Rattle.jiter_steps.specs.Node.{nesting_limit};
 ghost use Rattle.jiter_steps.specs.Parse.{Moves, Gives};
 ghost use Rattle.jiter_steps.specs.Read.{done, value_at};
 ghost use Rattle.jiter_steps.specs.ReadError.{WhereRefused};
+ghost use Rattle.jiter_value.specs.Parses.{Parses, as_read};
 ghost use Rattle.jiter_value.specs.Reading.{GivesWhole, IsErrorOf};
 ghost use Rattle.jiter_value.specs.Scratch.{HoldsNothing};
 ghost use Rattle.jiter_value.specs.Settings.{answer_by, rules};
@@ -73,26 +74,9 @@ pub fn read_value<'j>(
     run(alloc, &mut tape, &mut stacks, parser, settings)
 }
 
-/// The value of a text, where the reader stands before its first byte. With partial reading off nothing but
-/// blanks may stand round it.
-pub(crate) fn read_whole<'j>(
-    alloc: Global,
-    parser: &mut Parser<'j>,
-    settings: Settings,
-) -> Result<JsonValue<'j>, ReadError>
-    requires { parser.old.index ≡ 0 }
-    ensures moves { Moves parser.old parser.new }
-    ensures value { GivesWhole result parser.new.index (answer_by settings parser.old.bytes.now) }
-    ensures memory { WhereRefused result (MayGrow parser.old.bytes.now) }
-    ensures place { WhereRefused result (past_blanks parser.old.bytes.now 0 ≤ parser.new.index) }
-{
-    let mut tape = Vec::new(alloc);
-    let mut stacks = Stacks::new(alloc);
-    read_whole_on(alloc, &mut tape, &mut stacks, parser, settings)
-}
-
-/// The same, read by way of this tape and these stacks.
-pub(crate) fn read_whole_on<'j>(
+/// The value of a text, where the reader stands before its first byte, by way of this tape and these stacks. With
+/// partial reading off nothing but blanks may stand round it.
+fn read_whole<'j>(
     alloc: Global,
     tape: &mut Vec<u8>,
     stacks: &mut Stacks<'j>,
@@ -113,5 +97,23 @@ pub(crate) fn read_whole_on<'j>(
     match run(alloc, tape, stacks, parser, settings) {
         Ok(value) => finish_whole(parser, settings, value),
         Err(error) => Err(error),
+    }
+}
+
+/// What a text answers, read as the settings say, by way of this tape and these stacks.
+pub(crate) fn read_text<'j>(
+    alloc: Global,
+    tape: &mut Vec<u8>,
+    stacks: &mut Stacks<'j>,
+    bytes: &'j [u8],
+    settings: Settings,
+) -> Result<JsonValue<'j>, JsonError>
+    requires { HoldsNothing stacks.old }
+    ensures { Parses as_read (MayGrow bytes.now) settings.allow_inf_nan settings.mode bytes.now result }
+{
+    let mut parser = Parser::new(bytes);
+    match read_whole(alloc, tape, stacks, &mut parser, settings) {
+        Ok(value) => Ok(value),
+        Err(error) => Err(error_at(error, parser.index)),
     }
 }

@@ -5,6 +5,7 @@ ghost use Rattle.std.specs.declared.alloc.Global.{Global};
 ghost use Rattle.std.specs.declared.borrow.CowStr.{CowStr as CowStrView};
 ghost use Rattle.jiter_steps.specs.Read.{done};
 ghost use Rattle.jiter_steps.specs.Tree.{object, members_of};
+ghost use Rattle.jiter_steps.specs.declared.read_error.ReadError.TheVariants as error;
 ghost use Rattle.jiter_value.specs.Value.{view};
 ghost use Rattle.jiter_value.specs.Size.{size, value_size, inside_size, behind_size};
 ghost use Rattle.jiter_value.specs.Stacks.{Member, member_view, resume_with, behind, container_ends, Stands};
@@ -22,29 +23,42 @@ use std::alloc::Global;
 use std::borrow::CowStr;
 use std::mem;
 
-/// What stands at the reader's place: the whole value, an item, the value of a key, a key, or nothing more.
+/// Where a value goes once it is read.
 #[derive(Clone, Copy, Debug, Default)]
-pub enum Awaits {
+pub enum Slot {
+    /// It is the document's.
+    #[default]
+    Root,
+    /// It is an item of the innermost array.
+    Item,
+    /// It is the last member's of the innermost object.
+    Member,
+}
+
+/// What is awaited at the reader's place: a value of a slot, a key, or nothing more. No variant has a field, so
+/// that it goes from call to call in a register.
+#[derive(Clone, Copy, Debug, Default)]
+pub enum State {
     /// The value of the document.
     #[default]
     Root,
     /// An item of an array.
     Item,
-    /// The value of a key.
-    Value,
+    /// The value of a member, whose key is read.
+    Member,
     /// A key of an object.
     Key,
     /// Nothing: the value is whole.
     Done,
     /// Nothing: the reading was given up.
-    Refused,
+    GivenUp,
 }
 
-/// An open container: what stood where it began, and its base in its stack.
+/// An open container: where its value goes, and its base in its stack.
 #[derive(Clone, Copy, Debug, Default)]
 pub struct Open {
-    /// What the container is the awaited part of.
-    pub outer: Awaits,
+    /// Where it goes once it ends.
+    pub outer: Slot,
     /// How many items or members lie below its own.
     pub base: usize,
 }
@@ -90,7 +104,7 @@ fn take_parts<T: Drop>(
     ensures rest { OnOk result (parts.new.items ≡ take container.base parts.old.items) }
     ensures value { IfOk result (λ v. v.items ≡ drop container.base parts.old.items) }
 {
-    if !kept && container.base == 0 && matches!(container.outer, Awaits::Root) {
+    if !kept && container.base == 0 && matches!(container.outer, Slot::Root) {
         let empty = Vec::new(alloc);
         return Ok(mem::replace(parts, empty));
     }
@@ -99,54 +113,51 @@ fn take_parts<T: Drop>(
 
 /// Whether a value that is awaited can go where it belongs without a request for memory.
 #[inline(always)]
-pub fn has_room<'j>(stacks: &Stacks<'j>, awaits: Awaits) -> bool
-    ensures room { IsTrue result → HasRoom stacks.now awaits }
-    ensures full { result ≡ false → awaits ≡ Awaits.Item }
+pub fn has_room<'j>(stacks: &Stacks<'j>, slot: Slot) -> bool
+    ensures room { IsTrue result → HasRoom stacks.now slot }
+    ensures full { result ≡ false → slot ≡ Slot.Item }
 {
-    match awaits {
-        Awaits::Item => stacks.items.len() < stacks.items.capacity(),
+    match slot {
+        Slot::Item => stacks.items.len() < stacks.items.capacity(),
         _ => true,
     }
 }
 
 /// The value that was awaited goes where it belongs, where there is room for it.
 #[inline(always)]
-pub fn put_reserved<'j>(stacks: &mut Stacks<'j>, awaits: Awaits, value: JsonValue<'j>)
-    requires stands { Stands stacks.old awaits }
-    requires room { HasRoom stacks.old awaits }
+pub fn put_reserved<'j>(stacks: &mut Stacks<'j>, slot: Slot, value: JsonValue<'j>)
+    requires stands { Stands stacks.old slot }
+    requires room { HasRoom stacks.old slot }
     ensures value { (p : SettingsView) → (t : List ℕ) → (e : ℕ)
-        → resume_with p t stacks.old awaits (done (view value.entry) e) ≡ behind p t stacks.new awaits e }
-    ensures stands { Stands stacks.new awaits }
+        → resume_with p t stacks.old slot (done (view value.entry) e) ≡ behind p t stacks.new slot e }
+    ensures stands { Stands stacks.new slot }
     ensures nest { stacks.new.nest ≡ stacks.old.nest }
-    ensures held { behind_size stacks.new awaits
-        ≡ value_size stacks.old awaits + size (view value.entry) }
+    ensures held { behind_size stacks.new slot
+        ≡ value_size stacks.old slot + size (view value.entry) }
 {
-    match awaits {
-        Awaits::Item => stacks.items.push_reserved(value),
-        Awaits::Value => set_last(&mut stacks.members, value),
-        Awaits::Root => stacks.root = value,
-        Awaits::Key => unreachable!(),
-        Awaits::Done => unreachable!(),
-        Awaits::Refused => unreachable!(),
+    match slot {
+        Slot::Item => stacks.items.push_reserved(value),
+        Slot::Member => set_last(&mut stacks.members, value),
+        Slot::Root => stacks.root = value,
     }
 }
 
 /// The value that was awaited goes where it belongs.
 #[inline(always)]
-pub fn put<'j>(stacks: &mut Stacks<'j>, awaits: Awaits, value: JsonValue<'j>) -> Result<(), Refused>
-    requires { Stands stacks.old awaits }
+pub fn put<'j>(stacks: &mut Stacks<'j>, slot: Slot, value: JsonValue<'j>) -> Result<(), Refused>
+    requires { Stands stacks.old slot }
     ensures value { OnOk result ((p : SettingsView) → (t : List ℕ) → (e : ℕ)
-        → resume_with p t stacks.old awaits (done (view value.entry) e) ≡ behind p t stacks.new awaits e) }
-    ensures stands { OnOk result (Stands stacks.new awaits) }
+        → resume_with p t stacks.old slot (done (view value.entry) e) ≡ behind p t stacks.new slot e) }
+    ensures stands { OnOk result (Stands stacks.new slot) }
     ensures nest { stacks.new.nest ≡ stacks.old.nest }
-    ensures held { OnOk result (behind_size stacks.new awaits
-        ≡ value_size stacks.old awaits + size (view value.entry)) }
-    ensures refused { OnErr result (awaits ≢ Awaits.Root) }
+    ensures held { OnOk result (behind_size stacks.new slot
+        ≡ value_size stacks.old slot + size (view value.entry)) }
+    ensures refused { OnErr result (slot ≢ Slot.Root) }
 {
-    if !has_room(stacks, awaits) {
+    if !has_room(stacks, slot) {
         make_room(&mut stacks.items)?;
     }
-    put_reserved(stacks, awaits, value);
+    put_reserved(stacks, slot, value);
     Ok(())
 }
 
@@ -160,7 +171,7 @@ pub fn object_of<'j>(members: JsonObject<'j>) -> JsonValue<'j>
 
 /// The innermost container ends and goes where it belongs.
 #[inline(never)]
-pub fn close<'j>(alloc: Global, stacks: &mut Stacks<'j>, shape: Shape) -> Result<Awaits, Refused>
+pub fn close<'j>(alloc: Global, stacks: &mut Stacks<'j>, shape: Shape) -> Result<Slot, Refused>
     requires { StandsInside shape stacks.old }
     ensures value { IfOk result (λ a. (p : SettingsView) → (t : List ℕ) → (e : ℕ)
         → container_ends p t shape stacks.old e ≡ behind p t stacks.new a e) }
@@ -184,6 +195,43 @@ pub fn close<'j>(alloc: Global, stacks: &mut Stacks<'j>, shape: Shape) -> Result
             Ok(container.outer)
         }
     }
+}
+
+/// The reading is given up for a fault of the bytes, and stops at `at`.
+#[cold]
+#[inline(never)]
+pub fn give_up<'j>(stacks: &mut Stacks<'j>, fault: Fault, at: usize) -> (usize, State)
+    ensures place { result ≡ (at, State.GivenUp) }
+    ensures error { stacks.new.error ≡ error.Fault fault }
+{
+    stacks.error = ReadError::Fault(fault);
+    (at, State::GivenUp)
+}
+
+/// The reading is given up at `at`, since memory was refused.
+#[cold]
+#[inline(never)]
+pub fn no_memory<'j>(stacks: &mut Stacks<'j>, refused: Refused, at: usize) -> (usize, State)
+    ensures place { result ≡ (at, State.GivenUp) }
+    ensures error { stacks.new.error ≡ error.Memory refused }
+{
+    stacks.error = ReadError::Memory(refused);
+    (at, State::GivenUp)
+}
+
+/// Too many containers stand one inside another, where a value begins at `at`.
+#[cold]
+#[inline(never)]
+pub fn too_deep<'j>(stacks: &mut Stacks<'j>, at: usize) -> (usize, State)
+    ensures place { result ≡ (at, State.GivenUp) }
+    ensures error { stacks.new.error
+        ≡ error.Fault (record { kind = FaultKind.RecursionLimitExceeded; index = at }) }
+{
+    let fault = Fault {
+        kind: FaultKind::RecursionLimitExceeded,
+        index: at,
+    };
+    give_up(stacks, fault, at)
 }
 
 /// Takes out why the reading was given up.

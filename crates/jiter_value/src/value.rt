@@ -1,18 +1,16 @@
 //! The tree of a document, and reading it.
-ghost use Rattle.std.specs.Prelude.{◌≡◌, ◌+◌, ◌≤◌, ◌⊎◌, IfOk, IfErr, MatchResult, Some, true, length, take};
-ghost use Rattle.jiter_scan.specs.Kind.{kind_of, is_end_kind};
-ghost use Rattle.jiter_steps.specs.Blank.{past_blanks};
-ghost use Rattle.jiter_steps.specs.Node.{Node, IsDocument, IsCutContainer, value_of};
+ghost use Rattle.std.specs.Prelude.{◌≡◌, IfOk, MatchResult, Some, Bool, ℕ, List, true};
 ghost use Rattle.jiter_scan.specs.PartialMode.{is_active};
 ghost use Rattle.jiter_steps.specs.Answer.{answer, answer_in};
 ghost use Rattle.jiter_steps.specs.Cut.{cut, IsBegunContainer};
-ghost use Rattle.jiter_steps.specs.FirstFault.{IsDeadEnd, BeginsNoDocument, can_go_on, CanBeCompleted};
+ghost use Rattle.jiter_steps.specs.Node.{Node, IsDocument, value_of};
+ghost use Rattle.jiter_value.specs.Parses.{Parses, as_read};
 ghost use Rattle.jiter_value.specs.Value.{view, Answers, MayGrow};
 
-use crate::reading::{error_at, read_whole};
+use crate::reading::read_text;
 use crate::settings::Settings;
+use crate::stacks::Stacks;
 use jiter_scan::{JsonError, JsonErrorType, PartialMode};
-use jiter_steps::parse::Parser;
 use std::alloc::Global;
 use std::borrow::CowStr;
 
@@ -102,34 +100,11 @@ impl<'j> JsonValue<'j> {
         // A document is answered with its value, unless memory is refused.
         ensures only { (n : Node) → IsDocument allow_inf_nan bytes.now n → MatchResult result
             (λ v. view v ≡ value_of bytes.now n) (λ e. e.error_type ≡ JsonErrorType.OutOfMemory) }
-        // At most one node is spelled.
-        ensures one { (n m : Node) → IsDocument allow_inf_nan bytes.now n
-            → IsDocument allow_inf_nan bytes.now m → n ≡ m }
         // Which fault it is: the first one of a reading from the left.
         ensures first { Answers result (answer allow_inf_nan bytes.now) }
-
-        // No document begins with the bytes up to the fault.
-        ensures dead { IfErr result (λ e. IsDeadEnd (kind_of e.error_type)
-            → BeginsNoDocument allow_inf_nan (take (e.index + 1) bytes.now)) }
-        // The bytes before it, little more and closers are a document.
-        ensures alive { IfErr result (λ e. can_go_on (kind_of e.error_type) ≡ true
-            → CanBeCompleted allow_inf_nan (take e.index bytes.now)) }
-
-        // Where faults stand.
-        ensures index { IfErr result (λ e. e.index ≤ length bytes.now) }
-        ensures ends { IfErr result (λ e. is_end_kind (kind_of e.error_type) ≡ true
-            → e.index ≡ length bytes.now) }
-
-        // An array or an object without its last bracket is refused, since the input ends too early.
-        ensures early { IsCutContainer allow_inf_nan bytes.now → MatchResult result (λ _. ⊥)
-            (λ e. (e.error_type ≡ JsonErrorType.OutOfMemory)
-            ⊎ (is_end_kind (kind_of e.error_type) ≡ true)) }
-
-        // Memory may be the answer only where the value's first bytes ask for some, and from its first byte on.
-        ensures memory { IfErr result (λ e. e.error_type ≡ JsonErrorType.OutOfMemory
-            → MayGrow bytes.now) }
-        ensures place { IfErr result (λ e. e.error_type ≡ JsonErrorType.OutOfMemory
-            → past_blanks bytes.now 0 ≤ e.index) }
+        // What every parse promises, the places of its faults and its memory among it.
+        ensures parses { Parses as_read (MayGrow bytes.now) allow_inf_nan PartialMode.Off bytes.now
+            result }
     {
         JsonValue::parse_with_config(alloc, bytes, allow_inf_nan, PartialMode::Off)
     }
@@ -163,58 +138,22 @@ impl<'j> JsonValue<'j> {
         // With partial reading off: which fault it is, the first one of that reading.
         ensures first { allow_partial ≡ PartialMode.Off
             → Answers result (answer allow_inf_nan bytes.now) }
-        // With partial reading off: no document begins with the bytes up to the fault.
-        ensures dead { allow_partial ≡ PartialMode.Off → IfErr result (λ e.
-            IsDeadEnd (kind_of e.error_type)
-            → BeginsNoDocument allow_inf_nan (take (e.index + 1) bytes.now)) }
-        // With partial reading off: the bytes before it, little more and closers are a document.
-        ensures alive { allow_partial ≡ PartialMode.Off → IfErr result (λ e.
-            can_go_on (kind_of e.error_type) ≡ true
-            → CanBeCompleted allow_inf_nan (take e.index bytes.now)) }
-
-        // Where faults stand.
-        ensures index { IfErr result (λ e. e.index ≤ length bytes.now) }
-        ensures ends { IfErr result (λ e. is_end_kind (kind_of e.error_type) ≡ true
-            → e.index ≡ length bytes.now) }
-
-        // With partial reading off: an array or an object without its last bracket is refused, since the input
-        // ends too early.
-        ensures early { allow_partial ≡ PartialMode.Off → IsCutContainer allow_inf_nan bytes.now
-            → MatchResult result (λ _. ⊥) (λ e. (e.error_type ≡ JsonErrorType.OutOfMemory)
-            ⊎ (is_end_kind (kind_of e.error_type) ≡ true)) }
-
-        // Memory may be the answer only where the value's first bytes ask for some, and from its first byte on.
-        ensures memory { IfErr result (λ e. e.error_type ≡ JsonErrorType.OutOfMemory
-            → MayGrow bytes.now) }
-        ensures place { IfErr result (λ e. e.error_type ≡ JsonErrorType.OutOfMemory
-            → past_blanks bytes.now 0 ≤ e.index) }
+        // What every parse promises, the places of its faults and its memory among it.
+        ensures parses { Parses as_read (MayGrow bytes.now) allow_inf_nan allow_partial bytes.now
+            result }
     {
         let settings = Settings {
             allow_inf_nan,
             mode: allow_partial,
         };
-        read_text(alloc, bytes, settings)
+        let mut tape = Vec::new(alloc);
+        let mut stacks = Stacks::new(alloc);
+        read_text(alloc, &mut tape, &mut stacks, bytes, settings)
     }
 }
 
-// What a text answers, read as the settings say.
-fn read_text<'j>(
-    alloc: Global,
-    bytes: &'j [u8],
-    settings: Settings,
-) -> Result<JsonValue<'j>, JsonError>
-    ensures answer { Answers result (answer_in settings.allow_inf_nan settings.mode bytes.now) }
-    ensures index { IfErr result (λ e. e.index ≤ length bytes.now) }
-    ensures ends { IfErr result (λ e. is_end_kind (kind_of e.error_type) ≡ true
-        → e.index ≡ length bytes.now) }
-    ensures memory { IfErr result (λ e. e.error_type ≡ JsonErrorType.OutOfMemory
-        → MayGrow bytes.now) }
-    ensures place { IfErr result (λ e. e.error_type ≡ JsonErrorType.OutOfMemory
-        → past_blanks bytes.now 0 ≤ e.index) }
-{
-    let mut parser = Parser::new(bytes);
-    match read_whole(alloc, &mut parser, settings) {
-        Ok(value) => Ok(value),
-        Err(error) => Err(error_at(error, parser.index)),
-    }
-}
+/// What the grammar has of documents, for a caller to cite: at most one node is spelled.
+pub fn a_document_has_one_node()
+    ensures { (names : Bool) → (t : List ℕ) → (n m : Node) → IsDocument names t n
+        → IsDocument names t m → n ≡ m }
+{}

@@ -4,13 +4,13 @@ ghost use Rattle.jiter_scan.specs.Ascii as ascii;
 ghost use Rattle.jiter_steps.specs.Parse.{Steps};
 ghost use Rattle.jiter_steps.specs.Step.{Step};
 ghost use Rattle.jiter.specs.Reader.{next, known, array_read, item_reply, item_step};
-ghost use Rattle.jiter.specs.Jiter.{MovesOn, Replies, RefusesBytes, BeginsAs, StandsAt, byte_of};
+ghost use Rattle.jiter.specs.Jiter.{MovesOn, Replies, RefusesBytes, BeginsAs, StandsAt, TellsHere, byte_of};
 
 use crate::errors::{JiterResult, JsonType};
 use crate::jiter::{Jiter, refusal};
 use crate::peek::Peek;
 use jiter_scan::errors::Fault;
-use jiter_steps::parse::{Shape, Start, start_of};
+use jiter_steps::parse::{Shape, Start};
 
 impl<'j> Jiter<'j> {
     // Where a step led: an item's first byte, or None behind the closer.
@@ -20,6 +20,7 @@ impl<'j> Jiter<'j> {
         requires stuck { IfErr led (λ f. f.index ≡ self.now.position) }
         ensures value { (s : Step) → Steps led self.now.position s
             → Replies (option_map byte_of) result self.now (item_reply self.now.text s) }
+        ensures here { TellsHere result self.now }
         ensures refusal { RefusesBytes self.now.text result }
     {
         match led {
@@ -35,6 +36,7 @@ impl<'j> Jiter<'j> {
         ensures moves { MovesOn self.old self.new }
         ensures value { Replies (option_map byte_of) result self.new
             (array_read self.old self.old.position start) }
+        ensures here { TellsHere result self.new }
         ensures refusal { RefusesBytes self.old.text result }
     {
         match start {
@@ -52,12 +54,11 @@ impl<'j> Jiter<'j> {
         ensures moves { MovesOn self.old self.new }
         ensures value { Replies (option_map byte_of) result self.new
             (next self.old (array_read self.old)) }
+        ensures here { TellsHere result self.new }
         ensures refusal { RefusesBytes self.old.text result }
     {
-        match self.peek() {
-            Ok(peek) => self.read_array(start_of(peek.into_inner())),
-            Err(error) => Err(error),
-        }
+        let start = self.next_start()?;
+        self.read_array(start)
     }
 
     /// The same where its bracket stands.
@@ -66,6 +67,7 @@ impl<'j> Jiter<'j> {
         ensures moves { MovesOn self.old self.new }
         ensures value { Replies (option_map byte_of) result self.new
             (known self.old (array_read self.old)) }
+        ensures here { TellsHere result self.new }
         ensures refusal { RefusesBytes self.old.text result }
     {
         self.read_array(Start::Array)
@@ -76,6 +78,7 @@ impl<'j> Jiter<'j> {
     pub fn array_step(&mut self) -> JiterResult<Option<Peek>>
         ensures moves { MovesOn self.old self.new }
         ensures value { Replies (option_map byte_of) result self.new (item_step self.old) }
+        ensures here { TellsHere result self.new }
         ensures refusal { RefusesBytes self.old.text result }
     {
         let led = self.parser.step(Shape::Array);

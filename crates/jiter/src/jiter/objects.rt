@@ -1,6 +1,6 @@
 //! The pull reader's steps through objects.
 ghost use Rattle.std.specs.Borrow.{sem};
-ghost use Rattle.std.specs.Prelude.{◌≡◌, ◌+◌, ◌<◌, ◌≤◌, ℕ, IfErr, IfOk, Some, length, option_map, true};
+ghost use Rattle.std.specs.Prelude.{◌≡◌, ◌+◌, ◌<◌, ◌≤◌, ℕ, IfErr, IfOk, OnOk, Some, length, option_map, true};
 ghost use Rattle.jiter_scan.specs.Ascii as ascii;
 ghost use Rattle.jiter_steps.specs.Parse.{Steps};
 ghost use Rattle.jiter_steps.specs.RawString.{raw_view};
@@ -9,15 +9,16 @@ ghost use Rattle.jiter_steps.specs.StringDecoder.{text_view, WantsMemory};
 ghost use Rattle.jiter_steps.specs.StringReading.{string_at, whole, raw};
 ghost use Rattle.jiter_steps.specs.Tree.{Text};
 ghost use Rattle.jiter.specs.Reader.{value_place, next, known, gave, key_reply, colon_reply, member_reply, object_read};
-ghost use Rattle.jiter.specs.Reader.{key_step};
+ghost use Rattle.jiter.specs.Reader.{key_step, position_after};
 ghost use Rattle.jiter.specs.Jiter.{MovesOn, Replies, RefusesBytes, UnlessMemory, WhereMemory, IndexWithin, reply_seen};
-ghost use Rattle.jiter.specs.Jiter.{key_bytes, BeginsAs, StandsAt};
+ghost use Rattle.jiter.specs.Jiter.{key_bytes, BeginsAs, BeginsAt, StandsAt, StandsBefore, EndsWithColon};
+ghost use Rattle.jiter.specs.Jiter.{RefusesAs};
 ghost use Rattle.jiter.specs.Lending.{LeavesReader};
 
 use crate::errors::{JiterResult, JsonType};
 use crate::jiter::{Jiter, refusal};
 use jiter_scan::errors::Fault;
-use jiter_steps::parse::{Shape, Start, start_of};
+use jiter_steps::parse::{Shape, Start};
 use std::alloc::Global;
 use std::borrow::CowStr;
 
@@ -27,12 +28,10 @@ impl<'j> Jiter<'j> {
         ensures moves { MovesOn self.old self.new }
         ensures value { (key : Text) → Replies (λ _. Some key) result self.new
             (colon_reply key (step self.old.text colon self.old.position)) }
+        ensures colon { OnOk result (StandsBefore self.old.text self.new.position ascii.colon) }
         ensures refusal { RefusesBytes self.old.text result }
     {
-        match self.parser.colon() {
-            Ok(()) => Ok(()),
-            Err(fault) => Err(refusal(fault)),
-        }
+        self.parser.colon().map_err(refusal)
     }
 
     // The key where the reader stands, with its colon.
@@ -42,18 +41,15 @@ impl<'j> Jiter<'j> {
         ensures value { UnlessMemory result (Replies (option_map text_view) result self.new
             (key_reply self.old.text self.old.position
             (string_at whole self.old.text self.old.position))) }
+        ensures colon { EndsWithColon result self.old.text self.new.position }
         ensures index { IndexWithin self.old.text result }
         ensures memory { WhereMemory result (λ _. WantsMemory self.old.text self.old.position) }
         ensures place { WhereMemory result (λ e. (self.new.position ≡ e.index)
             × (e.index ≡ self.old.position)) }
     {
-        match self.string(alloc, false) {
-            Ok(text) => match self.colon() {
-                Ok(()) => Ok(Some(text)),
-                Err(error) => Err(error),
-            },
-            Err(error) => Err(error),
-        }
+        let text = self.string(alloc, false)?;
+        self.colon()?;
+        Ok(Some(text))
     }
 
     // Where a step led: the key there, with its colon, or None behind the closer.
@@ -69,6 +65,7 @@ impl<'j> Jiter<'j> {
         ensures value { (s : Step) → Steps led self.old.position s
             → UnlessMemory result (Replies (option_map text_view) result self.new
             (member_reply whole self.old.text s)) }
+        ensures colon { EndsWithColon result self.old.text self.new.position }
         ensures index { IndexWithin self.old.text result }
         ensures memory { (s : Step) → Steps led self.old.position s
             → WhereMemory result (λ e. WantsMemory self.old.text e.index × (s ≡ more e.index)) }
@@ -87,8 +84,10 @@ impl<'j> Jiter<'j> {
         ensures moves { MovesOn self.old self.new }
         ensures value { UnlessMemory result (Replies (option_map text_view) result self.new
             (object_read whole self.old self.old.position start)) }
+        ensures colon { EndsWithColon result self.old.text self.new.position }
         ensures index { IndexWithin self.old.text result }
-        ensures memory { WhereMemory result (λ e. WantsMemory self.old.text e.index
+        ensures memory { WhereMemory result (λ e. (start ≡ Start.Object)
+            × WantsMemory self.old.text e.index
             × (step self.old.text object_first (self.old.position + 1) ≡ more e.index)) }
         ensures place { WhereMemory result (λ e. self.new.position ≡ e.index) }
     {
@@ -106,15 +105,16 @@ impl<'j> Jiter<'j> {
         ensures moves { MovesOn self.old self.new }
         ensures value { UnlessMemory result (Replies (option_map text_view) result self.new
             (next self.old (object_read whole self.old))) }
+        ensures colon { EndsWithColon result self.old.text self.new.position }
         ensures index { IndexWithin self.old.text result }
-        ensures memory { WhereMemory result (λ e. WantsMemory self.old.text e.index
+        ensures memory { WhereMemory result (λ e.
+            BeginsAt self.old.text (value_place self.old) Start.Object
+            × WantsMemory self.old.text e.index
             × (step self.old.text object_first (value_place self.old + 1) ≡ more e.index)) }
         ensures place { WhereMemory result (λ e. self.new.position ≡ e.index) }
     {
-        match self.peek() {
-            Ok(peek) => self.first_key(alloc, start_of(peek.into_inner())),
-            Err(error) => Err(error),
-        }
+        let start = self.next_start()?;
+        self.first_key(alloc, start)
     }
 
     // Behind a member: the next key.
@@ -122,6 +122,7 @@ impl<'j> Jiter<'j> {
         ensures moves { MovesOn self.old self.new }
         ensures value { UnlessMemory result (Replies (option_map text_view) result self.new
             (key_step whole self.old)) }
+        ensures colon { EndsWithColon result self.old.text self.new.position }
         ensures index { IndexWithin self.old.text result }
         ensures memory { WhereMemory result (λ e. WantsMemory self.old.text e.index
             × (step self.old.text (object_step self.old.text) self.old.position ≡ more e.index)) }
@@ -137,15 +138,12 @@ impl<'j> Jiter<'j> {
         ensures moves { MovesOn self.old self.new }
         ensures value { Replies (option_map raw_view) result self.new (key_reply self.old.text
             self.old.position (string_at raw self.old.text self.old.position)) }
+        ensures colon { EndsWithColon result self.old.text self.new.position }
         ensures refusal { RefusesBytes self.old.text result }
     {
-        match self.raw_string(false) {
-            Ok(content) => match self.colon() {
-                Ok(()) => Ok(Some(content)),
-                Err(error) => Err(error),
-            },
-            Err(error) => Err(error),
-        }
+        let content = self.raw_string(false)?;
+        self.colon()?;
+        Ok(Some(content))
     }
 
     // Where a step led: the raw key there, with its colon, or None behind the closer.
@@ -156,6 +154,7 @@ impl<'j> Jiter<'j> {
         ensures moves { MovesOn self.old self.new }
         ensures value { (s : Step) → Steps led self.old.position s
             → Replies (option_map raw_view) result self.new (member_reply raw self.old.text s) }
+        ensures colon { EndsWithColon result self.old.text self.new.position }
         ensures refusal { RefusesBytes self.old.text result }
     {
         match led {
@@ -171,6 +170,7 @@ impl<'j> Jiter<'j> {
         ensures moves { MovesOn self.old self.new }
         ensures value { Replies (option_map raw_view) result self.new
             (object_read raw self.old self.old.position start) }
+        ensures colon { EndsWithColon result self.old.text self.new.position }
         ensures refusal { RefusesBytes self.old.text result }
     {
         match start {
@@ -189,12 +189,11 @@ impl<'j> Jiter<'j> {
         ensures moves { MovesOn self.old self.new }
         ensures value { Replies (option_map raw_view) result self.new
             (next self.old (object_read raw self.old)) }
+        ensures colon { EndsWithColon result self.old.text self.new.position }
         ensures refusal { RefusesBytes self.old.text result }
     {
-        match self.peek() {
-            Ok(peek) => self.first_key_bytes(start_of(peek.into_inner())),
-            Err(error) => Err(error),
-        }
+        let start = self.next_start()?;
+        self.first_key_bytes(start)
     }
 
     /// Behind a member: the bytes of the next key, as they stand between its quotes, with its colon consumed;
@@ -202,6 +201,7 @@ impl<'j> Jiter<'j> {
     pub fn next_key_bytes(&mut self) -> JiterResult<Option<&'j [u8]>>
         ensures moves { MovesOn self.old self.new }
         ensures value { Replies (option_map raw_view) result self.new (key_step raw self.old) }
+        ensures colon { EndsWithColon result self.old.text self.new.position }
         ensures refusal { RefusesBytes self.old.text result }
     {
         let led = self.parser.step(Shape::Object);
@@ -215,19 +215,24 @@ impl<'j> Jiter<'j> {
         ensures key { IfOk result (λ key. (e : ℕ)
             × (reply_seen key_bytes (next self.old (object_read whole self.old))
             ≡ gave (option_map (λ x. x.now) key) e)) }
+        ensures colon { EndsWithColon result self.old.text
+            (position_after (next self.old (object_read whole self.old))) }
+        ensures refusal { RefusesAs result (next self.old (object_read whole self.old)) }
         ensures index { IndexWithin self.old.text result }
-        ensures memory { WhereMemory result (λ e. WantsMemory self.old.text e.index
+        ensures memory { WhereMemory result (λ e.
+            BeginsAt self.old.text (value_place self.old) Start.Object
+            × WantsMemory self.old.text e.index
             × (step self.old.text object_first (value_place self.old + 1) ≡ more e.index)) }
         ensures* after { sem 𝓛 (LeavesReader (option_map (λ x. x.now)) result self.entry
             (reply_seen key_bytes (next self.old (object_read whole self.old)))) }
     {
-        match self.take_first_key(alloc) {
-            Ok(Some(text)) => {
+        let key = self.take_first_key(alloc)?;
+        match key {
+            Some(text) => {
                 self.text = text;
                 Ok(Some(self.text.as_str()))
             }
-            Ok(None) => Ok(None),
-            Err(error) => Err(error),
+            None => Ok(None),
         }
     }
 
@@ -237,19 +242,22 @@ impl<'j> Jiter<'j> {
         ensures key { IfOk result (λ key. (e : ℕ)
             × (reply_seen key_bytes (known self.old (object_read whole self.old))
             ≡ gave (option_map (λ x. x.now) key) e)) }
+        ensures colon { EndsWithColon result self.old.text
+            (position_after (known self.old (object_read whole self.old))) }
+        ensures refusal { RefusesAs result (known self.old (object_read whole self.old)) }
         ensures index { IndexWithin self.old.text result }
         ensures memory { WhereMemory result (λ e. WantsMemory self.old.text e.index
             × (step self.old.text object_first (self.old.position + 1) ≡ more e.index)) }
         ensures* after { sem 𝓛 (LeavesReader (option_map (λ x. x.now)) result self.entry
             (reply_seen key_bytes (known self.old (object_read whole self.old)))) }
     {
-        match self.first_key(alloc, Start::Object) {
-            Ok(Some(text)) => {
+        let key = self.first_key(alloc, Start::Object)?;
+        match key {
+            Some(text) => {
                 self.text = text;
                 Ok(Some(self.text.as_str()))
             }
-            Ok(None) => Ok(None),
-            Err(error) => Err(error),
+            None => Ok(None),
         }
     }
 
@@ -259,19 +267,22 @@ impl<'j> Jiter<'j> {
         ensures key { IfOk result (λ key. (e : ℕ)
             × (reply_seen key_bytes (key_step whole self.old)
             ≡ gave (option_map (λ x. x.now) key) e)) }
+        ensures colon { EndsWithColon result self.old.text
+            (position_after (key_step whole self.old)) }
+        ensures refusal { RefusesAs result (key_step whole self.old) }
         ensures index { IndexWithin self.old.text result }
         ensures memory { WhereMemory result (λ e. WantsMemory self.old.text e.index
             × (step self.old.text (object_step self.old.text) self.old.position ≡ more e.index)) }
         ensures* after { sem 𝓛 (LeavesReader (option_map (λ x. x.now)) result self.entry
             (reply_seen key_bytes (key_step whole self.old))) }
     {
-        match self.take_key(alloc) {
-            Ok(Some(text)) => {
+        let key = self.take_key(alloc)?;
+        match key {
+            Some(text) => {
                 self.text = text;
                 Ok(Some(self.text.as_str()))
             }
-            Ok(None) => Ok(None),
-            Err(error) => Err(error),
+            None => Ok(None),
         }
     }
 }

@@ -32,10 +32,10 @@ impl<'j> Jiter<'j> {
             allow_inf_nan: self.allow_inf_nan,
             mode: PartialMode::Off,
         };
-        match read_owned(alloc, &mut self.parser, settings) {
-            Ok(value) => Ok(value),
-            Err(error) => Err(refusal_at(error, self.parser.index)),
-        }
+        read_owned(alloc, &mut self.parser, settings).map_err(|error| refusal_at(
+            error,
+            self.parser.index,
+        ))
     }
 
     /// What [`Jiter::next_value`] reads, each text owned.
@@ -49,10 +49,8 @@ impl<'j> Jiter<'j> {
         ensures place { WhereMemory result (λ e. (self.new.position ≡ e.index)
             × (value_place self.old ≤ e.index)) }
     {
-        match self.peek() {
-            Ok(_) => self.owned_value(alloc),
-            Err(error) => Err(error),
-        }
+        self.peek()?;
+        self.owned_value(alloc)
     }
 
     /// The same where the caller has peeked.

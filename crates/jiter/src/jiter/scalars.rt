@@ -23,10 +23,7 @@ impl<'j> Jiter<'j> {
             (scalar_reply self.old.position (literal_at self.old.text literal self.old.position)) }
         ensures refusal { RefusesBytes self.old.text result }
     {
-        match self.parser.literal(literal) {
-            Ok(()) => Ok(()),
-            Err(fault) => Err(refusal(fault)),
-        }
+        self.parser.literal(literal).map_err(refusal)
     }
 
     // The number where the reader stands.
@@ -37,10 +34,7 @@ impl<'j> Jiter<'j> {
             (number_at self.old.names self.old.text self.old.position)) }
         ensures refusal { RefusesBytes self.old.text result }
     {
-        match self.parser.number(self.allow_inf_nan) {
-            Ok(number) => Ok(number),
-            Err(fault) => Err(refusal(fault)),
-        }
+        self.parser.number(self.allow_inf_nan).map_err(refusal)
     }
 
     // `null`, at a value that begins so.
@@ -63,10 +57,8 @@ impl<'j> Jiter<'j> {
         ensures value { Replies (λ u. u) result self.new (next self.old (null_read self.old)) }
         ensures refusal { RefusesBytes self.old.text result }
     {
-        match self.peek() {
-            Ok(peek) => self.read_null(start_of(peek.into_inner())),
-            Err(error) => Err(error),
-        }
+        let start = self.next_start()?;
+        self.read_null(start)
     }
 
     /// Reads `null` where its first byte stands.
@@ -88,14 +80,8 @@ impl<'j> Jiter<'j> {
         ensures refusal { RefusesBytes self.old.text result }
     {
         match start {
-            Start::Literal(Literal::True) => match self.literal(Literal::True) {
-                Ok(()) => Ok(true),
-                Err(error) => Err(error),
-            },
-            Start::Literal(Literal::False) => match self.literal(Literal::False) {
-                Ok(()) => Ok(false),
-                Err(error) => Err(error),
-            },
+            Start::Literal(Literal::True) => self.literal(Literal::True).and(Ok(true)),
+            Start::Literal(Literal::False) => self.literal(Literal::False).and(Ok(false)),
             _ => Err(self.refused_as(JsonType::Bool, start)),
         }
     }
@@ -106,10 +92,8 @@ impl<'j> Jiter<'j> {
         ensures value { Replies (λ b. b) result self.new (next self.old (bool_read self.old)) }
         ensures refusal { RefusesBytes self.old.text result }
     {
-        match self.peek() {
-            Ok(peek) => self.read_bool(start_of(peek.into_inner())),
-            Err(error) => Err(error),
-        }
+        let start = self.next_start()?;
+        self.read_bool(start)
     }
 
     /// The same where the caller has peeked.
@@ -119,8 +103,7 @@ impl<'j> Jiter<'j> {
         ensures value { Replies (λ b. b) result self.new (known self.old (bool_read self.old)) }
         ensures refusal { RefusesBytes self.old.text result }
     {
-        let start = start_of(peek.into_inner());
-        self.read_bool(start)
+        self.read_bool(start_of(peek.into_inner()))
     }
 
     // A number, at a value that begins so.
@@ -143,10 +126,8 @@ impl<'j> Jiter<'j> {
         ensures value { Replies number_view result self.new (next self.old (number_read self.old)) }
         ensures refusal { RefusesBytes self.old.text result }
     {
-        match self.peek() {
-            Ok(peek) => self.read_number(start_of(peek.into_inner())),
-            Err(error) => Err(error),
-        }
+        let start = self.next_start()?;
+        self.read_number(start)
     }
 
     /// The same where the caller has peeked.
@@ -157,8 +138,7 @@ impl<'j> Jiter<'j> {
             (known self.old (number_read self.old)) }
         ensures refusal { RefusesBytes self.old.text result }
     {
-        let start = start_of(peek.into_inner());
-        self.read_number(start)
+        self.read_number(start_of(peek.into_inner()))
     }
 
     // The integer where the reader stands.
@@ -203,10 +183,8 @@ impl<'j> Jiter<'j> {
         ensures value { Replies int_view result self.new (next self.old (int_read self.old)) }
         ensures refusal { RefusesBytes self.old.text result }
     {
-        match self.peek() {
-            Ok(peek) => self.read_int(start_of(peek.into_inner())),
-            Err(error) => Err(error),
-        }
+        let start = self.next_start()?;
+        self.read_int(start)
     }
 
     /// The same where the caller has peeked.
@@ -216,8 +194,7 @@ impl<'j> Jiter<'j> {
         ensures value { Replies int_view result self.new (known self.old (int_read self.old)) }
         ensures refusal { RefusesBytes self.old.text result }
     {
-        let start = start_of(peek.into_inner());
-        self.read_int(start)
+        self.read_int(start_of(peek.into_inner()))
     }
 
     // The bytes of a number, at a value that begins so.
@@ -230,10 +207,10 @@ impl<'j> Jiter<'j> {
     {
         let index = self.parser.index;
         match start {
-            Start::Number => match self.number() {
-                Ok(_) => Ok(self.slice_to_current(index)),
-                Err(error) => Err(error),
-            },
+            Start::Number => {
+                self.number()?;
+                Ok(self.slice_to_current(index))
+            }
             _ => Err(self.refused_as(JsonType::Float, start)),
         }
     }
@@ -245,10 +222,8 @@ impl<'j> Jiter<'j> {
             (next self.old (number_bytes_read self.old)) }
         ensures refusal { RefusesBytes self.old.text result }
     {
-        match self.peek() {
-            Ok(peek) => self.read_number_bytes(start_of(peek.into_inner())),
-            Err(error) => Err(error),
-        }
+        let start = self.next_start()?;
+        self.read_number_bytes(start)
     }
 
     /// The same where the caller has peeked.
@@ -259,7 +234,6 @@ impl<'j> Jiter<'j> {
             (known self.old (number_bytes_read self.old)) }
         ensures refusal { RefusesBytes self.old.text result }
     {
-        let start = start_of(peek.into_inner());
-        self.read_number_bytes(start)
+        self.read_number_bytes(start_of(peek.into_inner()))
     }
 }

@@ -19,10 +19,7 @@ impl<'j> Jiter<'j> {
             (value_reply (skip_at self.old.names self.old.text self.old.position)) }
         ensures refusal { RefusesBytes self.old.text result }
     {
-        match skip(&mut self.parser, self.allow_inf_nan) {
-            Ok(()) => Ok(()),
-            Err(fault) => Err(refusal(fault)),
-        }
+        skip(&mut self.parser, self.allow_inf_nan).map_err(refusal)
     }
 
     // Past the next value.
@@ -31,10 +28,8 @@ impl<'j> Jiter<'j> {
         ensures value { Replies (λ u. u) result self.new (next self.old (skip_read self.old)) }
         ensures refusal { RefusesBytes self.old.text result }
     {
-        match self.peek() {
-            Ok(_) => self.pass(),
-            Err(error) => Err(error),
-        }
+        self.peek()?;
+        self.pass()
     }
 
     /// Moves behind a value, whatever its type (RFC 8259, 3). No value is made, no escape is decoded, UTF-8 is

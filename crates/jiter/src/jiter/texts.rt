@@ -1,60 +1,20 @@
 //! The pull reader's texts.
 ghost use Rattle.std.specs.Borrow.{sem};
-ghost use Rattle.std.specs.Prelude.{◌≡◌, ◌<◌, ◌≤◌, ℕ, IfOk, OnErr, if◌then◌else◌, length};
+ghost use Rattle.std.specs.Prelude.{◌≡◌, ◌<◌, ℕ, IfOk, if◌then◌else◌, length};
 ghost use Rattle.jiter_scan.specs.Ascii as ascii;
 ghost use Rattle.jiter_steps.specs.RawString.{raw_view};
 ghost use Rattle.jiter_steps.specs.StringDecoder.{text_view, WantsMemory};
-ghost use Rattle.jiter_steps.specs.Parse.{Moves, Reads, Gives};
-ghost use Rattle.jiter_steps.specs.Read.{scalar_at};
-ghost use Rattle.jiter_steps.specs.ReadError.{WhereRefused};
 ghost use Rattle.jiter_steps.specs.StringReading.{string_at, whole, kept, raw, raw_kept};
 ghost use Rattle.jiter.specs.Reader.{value_place, next, known, gave, scalar_reply, str_read, bytes_read};
 ghost use Rattle.jiter.specs.Jiter.{MovesOn, Replies, RefusesBytes, UnlessMemory, WhereMemory, IndexWithin, reply_seen};
-ghost use Rattle.jiter.specs.Jiter.{text_bytes, BeginsAs, StandsAt};
+ghost use Rattle.jiter.specs.Jiter.{text_bytes, BeginsAs, BeginsAt, RefusesAs, StandsAt};
 ghost use Rattle.jiter.specs.Lending.{LeavesReader};
 
 use crate::errors::{JiterResult, JsonType};
 use crate::jiter::{Jiter, refusal, refusal_at};
-use jiter_scan::errors::Fault;
-use jiter_steps::parse::{Parser, Start, start_of};
-use jiter_steps::read_error::ReadError;
+use jiter_steps::parse::Start;
 use std::alloc::Global;
 use std::borrow::CowStr;
-
-// The string where the reader of the bytes stands; as far as it goes, if so asked.
-fn read_string<'j>(
-    alloc: Global,
-    tape: &mut Vec<u8>,
-    parser: &mut Parser<'j>,
-    partial: bool,
-) -> Result<CowStr<'j>, ReadError>
-    requires { parser.old.index < length parser.old.bytes.now }
-    ensures moves { Moves parser.old parser.new }
-    ensures value { Gives text_view result parser.new.index (scalar_at parser.old.index
-        (string_at (if partial then kept else whole) parser.old.bytes.now parser.old.index)) }
-    ensures place { OnErr result (parser.new.index ≡ parser.old.index) }
-    ensures memory { WhereRefused result (WantsMemory parser.old.bytes.now parser.old.index) }
-{
-    if partial {
-        parser.string_front(alloc, tape)
-    } else {
-        parser.string(alloc, tape)
-    }
-}
-
-// The same raw.
-fn read_raw_string<'j>(parser: &mut Parser<'j>, partial: bool) -> Result<&'j [u8], Fault>
-    requires { parser.old.index < length parser.old.bytes.now }
-    ensures moves { Moves parser.old parser.new }
-    ensures value { Reads raw_view result parser.new.index (scalar_at parser.old.index
-        (string_at (if partial then raw_kept else raw) parser.old.bytes.now parser.old.index)) }
-{
-    if partial {
-        parser.raw_string_front()
-    } else {
-        parser.raw_string()
-    }
-}
 
 impl<'j> Jiter<'j> {
     // The buffer for decoded texts, which is made where there is none.
@@ -80,12 +40,9 @@ impl<'j> Jiter<'j> {
             × (e.index ≡ self.old.position)) }
     {
         let mut tape = self.take_tape(alloc);
-        let read = read_string(alloc, &mut tape, &mut self.parser, partial);
+        let read = self.parser.string(alloc, &mut tape, partial);
         self.tape = Some(tape);
-        match read {
-            Ok(text) => Ok(text),
-            Err(error) => Err(refusal_at(error, self.parser.index)),
-        }
+        read.map_err(|error| refusal_at(error, self.parser.index))
     }
 
     // A text, at a value that begins so.
@@ -95,7 +52,8 @@ impl<'j> Jiter<'j> {
         ensures value { UnlessMemory result (Replies text_view result self.new
             (str_read self.old self.old.position start)) }
         ensures index { IndexWithin self.old.text result }
-        ensures memory { WhereMemory result (λ _. WantsMemory self.old.text self.old.position) }
+        ensures memory { WhereMemory result (λ _. (start ≡ Start.String)
+            × WantsMemory self.old.text self.old.position) }
         ensures place { WhereMemory result (λ e. (self.new.position ≡ e.index)
             × (e.index ≡ self.old.position)) }
     {
@@ -111,15 +69,14 @@ impl<'j> Jiter<'j> {
         ensures value { UnlessMemory result (Replies text_view result self.new
             (next self.old (str_read self.old))) }
         ensures index { IndexWithin self.old.text result }
-        ensures memory { WhereMemory result (λ _. WantsMemory self.old.text
-            (value_place self.old)) }
+        ensures memory { WhereMemory result (λ _.
+            BeginsAt self.old.text (value_place self.old) Start.String
+            × WantsMemory self.old.text (value_place self.old)) }
         ensures place { WhereMemory result (λ e. (self.new.position ≡ e.index)
             × (e.index ≡ value_place self.old)) }
     {
-        match self.peek() {
-            Ok(peek) => self.read_str(alloc, start_of(peek.into_inner())),
-            Err(error) => Err(error),
-        }
+        let start = self.next_start()?;
+        self.read_str(alloc, start)
     }
 
     /// Reads a string, and lends its text, decoded (RFC 8259, 7). The text lies in the reader's bytes where
@@ -127,20 +84,17 @@ impl<'j> Jiter<'j> {
     pub fn next_str(&mut self, alloc: Global) -> JiterResult<&str>
         ensures text { IfOk result (λ x. (e : ℕ)
             × (reply_seen text_bytes (next self.old (str_read self.old)) ≡ gave x.now e)) }
+        ensures refusal { RefusesAs result (next self.old (str_read self.old)) }
         ensures index { IndexWithin self.old.text result }
-        ensures memory { WhereMemory result (λ _. WantsMemory self.old.text
-            (value_place self.old)) }
+        ensures memory { WhereMemory result (λ _.
+            BeginsAt self.old.text (value_place self.old) Start.String
+            × WantsMemory self.old.text (value_place self.old)) }
         ensures place { WhereMemory result (λ e. e.index ≡ value_place self.old) }
         ensures* after { sem 𝓛 (LeavesReader (λ x. x.now) result self.entry
             (reply_seen text_bytes (next self.old (str_read self.old)))) }
     {
-        match self.take_str(alloc) {
-            Ok(text) => {
-                self.text = text;
-                Ok(self.text.as_str())
-            }
-            Err(error) => Err(error),
-        }
+        self.text = self.take_str(alloc)?;
+        Ok(self.text.as_str())
     }
 
     /// The same where its opening quote stands.
@@ -148,19 +102,15 @@ impl<'j> Jiter<'j> {
         requires { StandsAt self.old ascii.quote }
         ensures text { IfOk result (λ x. (e : ℕ)
             × (reply_seen text_bytes (known self.old (str_read self.old)) ≡ gave x.now e)) }
+        ensures refusal { RefusesAs result (known self.old (str_read self.old)) }
         ensures index { IndexWithin self.old.text result }
         ensures memory { WhereMemory result (λ _. WantsMemory self.old.text self.old.position) }
         ensures place { WhereMemory result (λ e. e.index ≡ self.old.position) }
         ensures* after { sem 𝓛 (LeavesReader (λ x. x.now) result self.entry
             (reply_seen text_bytes (known self.old (str_read self.old)))) }
     {
-        match self.read_str(alloc, Start::String) {
-            Ok(text) => {
-                self.text = text;
-                Ok(self.text.as_str())
-            }
-            Err(error) => Err(error),
-        }
+        self.text = self.read_str(alloc, Start::String)?;
+        Ok(self.text.as_str())
     }
 
     // The bytes between the quotes of the string where the reader stands; of one that the end of input may
@@ -172,10 +122,7 @@ impl<'j> Jiter<'j> {
             (string_at (if partial then raw_kept else raw) self.old.text self.old.position)) }
         ensures refusal { RefusesBytes self.old.text result }
     {
-        match read_raw_string(&mut self.parser, partial) {
-            Ok(content) => Ok(content),
-            Err(fault) => Err(refusal(fault)),
-        }
+        self.parser.raw_string(partial).map_err(refusal)
     }
 
     // The bytes between the quotes, at a value that begins so.
@@ -199,10 +146,8 @@ impl<'j> Jiter<'j> {
         ensures value { Replies raw_view result self.new (next self.old (bytes_read self.old)) }
         ensures refusal { RefusesBytes self.old.text result }
     {
-        match self.peek() {
-            Ok(peek) => self.read_bytes(start_of(peek.into_inner())),
-            Err(error) => Err(error),
-        }
+        let start = self.next_start()?;
+        self.read_bytes(start)
     }
 
     /// The same where its opening quote stands.

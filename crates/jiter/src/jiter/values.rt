@@ -29,10 +29,10 @@ impl<'j> Jiter<'j> {
             allow_inf_nan: self.allow_inf_nan,
             mode: PartialMode::Off,
         };
-        match read_value(alloc, &mut self.parser, settings) {
-            Ok(value) => Ok(value),
-            Err(error) => Err(refusal_at(error, self.parser.index)),
-        }
+        read_value(alloc, &mut self.parser, settings).map_err(|error| refusal_at(
+            error,
+            self.parser.index,
+        ))
     }
 
     /// Reads a value whole, whatever its type, with partial reading off (RFC 8259, 3).
@@ -45,10 +45,8 @@ impl<'j> Jiter<'j> {
         ensures place { WhereMemory result (λ e. (self.new.position ≡ e.index)
             × (value_place self.old ≤ e.index)) }
     {
-        match self.peek() {
-            Ok(_) => self.value(alloc),
-            Err(error) => Err(error),
-        }
+        self.peek()?;
+        self.value(alloc)
     }
 
     /// The same where the caller has peeked.

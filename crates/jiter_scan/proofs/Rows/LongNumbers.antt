@@ -1,11 +1,13 @@
 -- Numbers about as long as an integer part may be, by computation.
-use Rattle.std.proofs.Common.{◌≡◌, ℕ, true, false, Bool, List, [], ◌∷◌, ◌++◌, refl, codes, map}
+use Rattle.std.proofs.Common.{◌≡◌, ℕ, true, false, Bool, List, [], ◌∷◌, ◌++◌, length, refl, codes, map}
 use Rattle.std.specs.Prelude.{replicate}
 use Rattle.jiter_scan.specs.Kind.{number_out_of_range}
 use Rattle.jiter_scan.specs.Scanned.{Scanned, taken, failed}
 use Rattle.jiter_scan.specs.Number.{Number, float}
-use Rattle.jiter_scan.specs.NumberReading.{number_at, int_alone, is_number_text}
+use Rattle.jiter_scan.specs.NumberReading.{number_at, number_extent, int_alone}
+use Rattle.jiter_scan.specs.NumberTests.{is_number_text}
 use Rattle.jiter_scan.proofs.Computed.{computed_numbers}
+use Rattle.jiter_scan.proofs.NumberTests.{takes_all, number_text-read}
 
 abbrev numbers : List (List ℕ × Scanned Number)
 numbers =
@@ -31,6 +33,9 @@ texts =
     (codes "1." ++ replicate 4301 49, true) ∷
     []
 
-texts_tested : map (λ r. is_number_text false r.0) texts ≡ map (λ r. r.1) texts
+texts_read : map (λ r. takes_all (length r.0) (number_extent false r.0 0)) texts ≡ map (λ r. r.1) texts
 unfolding computed_numbers
-texts_tested = refl
+texts_read = refl
+
+texts_tested : map (λ r. is_number_text false r.0) texts ≡ map (λ r. r.1) texts
+texts_tested = simp number_text-read texts_read

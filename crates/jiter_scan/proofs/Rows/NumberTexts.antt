@@ -1,6 +1,6 @@
 -- Bytes that are a number's text, and bytes that are none, by computation.
 use Rattle.std.proofs.Common.{◌≡◌, ℕ, true, false, Bool, List, [], ◌∷◌, refl, codes, map}
-use Rattle.jiter_scan.specs.NumberReading.{is_number_text}
+use Rattle.jiter_scan.specs.NumberTests.{is_number_text}
 use Rattle.jiter_scan.proofs.Computed.{computed_numbers}
 
 abbrev without_names : List (List ℕ × Bool)

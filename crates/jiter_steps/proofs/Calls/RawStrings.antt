@@ -1,30 +1,22 @@
 -- What the readers of raw strings answer, from where a content is over.
 use Rattle.std.proofs.Common.{◌≡◌, ◌≢◌, ℕ, ◌+◌, ◌-◌, ◌<◌, ◌≤◌, Bool, true, false, List, length, refl, sym, ap, ◌∙◌}
 use Rattle.std.proofs.Common.{subst, arith}
-use Rattle.std.specs.Prelude.{slice_get, Option, Some, None, IfSome}
+use Rattle.std.specs.Prelude.{slice_get, Option, Some, None, IfSome, IsTrue}
 use Rattle.std.proofs.lemmas.Bool.Decides.{nat_tests}
 use Rattle.std.proofs.lemmas.Option.{none-some}
 use Rattle.jiter_scan.specs.Scan.{is_stop, scan_stop}
-use Rattle.jiter_scan.specs.Kind.{Kind}
-use Rattle.jiter_scan.specs.Scanned.{Scanned, taken, failed}
-use Rattle.jiter_scan.proofs.Choices.{failed-taken, same_taken}
-use Rattle.jiter_steps.specs.Answer.{seen_as}
-use Rattle.jiter_steps.specs.StringReading.{Place, part, over, Stop, closed, unclosed, place_by, place_at, Body}
-use Rattle.jiter_steps.specs.StringReading.{body_at, Form, raw, raw_kept, between, text_in_form, content_at}
+use Rattle.jiter_scan.specs.Kind.{eof_string}
+use Rattle.jiter_scan.specs.Scanned.{taken, failed}
+use Rattle.jiter_steps.specs.StringReading.{Place, part, over, Stop, closed, unclosed, cut, place_by, place_at, Body}
+use Rattle.jiter_steps.specs.StringReading.{body_at, Form, raw, raw_kept, raw_form, between, text_in_form, content_at}
 use Rattle.jiter_steps.specs.RawString.{EndsAt}
 use Rattle.jiter_steps.proofs.Reading.Bodies.{body_at-place_by, part-ahead}
 use Rattle.jiter_steps.proofs.Grammar.Places.{Explains, place_at-explains, got}
-use Rattle.jiter_steps.proofs.Calls.PlainRuns.{scan_stop_within, scan_stop_stops, plain_run_to}
+use Rattle.jiter_steps.proofs.Calls.PlainRuns.{plain_run-within, plain_run_stops, plain_run_to}
 use Rattle.jiter_steps.proofs.Grammar.StringComplete.{place_by-quote}
 
 same-over : (s x : Stop) → over s ≡ over x → s ≡ x
 same-over s x h = cc
-
--- a fault is seen as it is
-pub seen-fault : {A B : Type 0} (f : A → ℕ → B) (x : Scanned A) (k : Kind) (j : ℕ) → seen_as f x ≡ failed k j
-    → x ≡ failed k j
-seen-fault f (taken a e) k j h = absurd (failed-taken k j (f a e) e (sym h))
-seen-fault f (failed l i) k j h = (cc)
 
 if-some : (o : Option ℕ) (P : ℕ → Type 0) → ((b : ℕ) → o ≡ Some b → P b) → IfSome o P
 if-some None P h = tt
@@ -35,42 +27,42 @@ plain-no_stop b p q s h = grind (arith, nat_tests, h)
 
 module _ (t : List ℕ) where
   -- behind a run of plain bytes the content goes on as it does from there, and a stop stands there or nothing
-  pub run-goes_on : (i to : ℕ) → i ≤ length t → to ≡ scan_stop t i
+  pub raw-run : (i to : ℕ) → i ≤ length t → to ≡ scan_stop t i
       → ((body_at t i).stop ≡ (body_at t to).stop) × (i ≤ to) × (to ≤ length t)
       × IfSome (slice_get t to) (λ b. is_stop b ≡ true)
-  run-goes_on i to h e =
-      let w = scan_stop_within t i h in (
+  raw-run i to h e =
+      let w = plain_run-within t i h in (
         ap (λ (b : Body). b.stop) (plain_run_to t i to h e),
         omega (arith, w.0, e),
         omega (arith, w.1, e),
         if-some (slice_get t to) (λ b. is_stop b ≡ true)
-            (λ b q. scan_stop_stops t i b (subst (λ j. slice_get t j ≡ Some b) e q)),
+            (λ b q. plain_run_stops t i b (subst (λ j. slice_get t j ≡ Some b) e q)),
       )
 
   -- an escape ends behind its begin
-  pub escape-ahead : (i j : ℕ) (bs : List ℕ) → part bs true j ≡ place_at t i → (i < j) × (j ≤ length t)
-  escape-ahead i j bs p = part-ahead t i j bs true (subst (Explains t i) (sym p) (place_at-explains t i))
+  pub raw-escape_ahead : (i j : ℕ) (bs : List ℕ) → part bs true j ≡ place_at t i → (i < j) × (j ≤ length t)
+  raw-escape_ahead i j bs p = part-ahead t i j bs true (subst (Explains t i) (sym p) (place_at-explains t i))
 
   -- and behind an escape and the run that follows it
-  pub escape-goes_on : (i to j : ℕ) (bs : List ℕ) → part bs true j ≡ place_at t i → to ≡ scan_stop t j
+  pub raw-escape : (i to j : ℕ) (bs : List ℕ) → part bs true j ≡ place_at t i → to ≡ scan_stop t j
       → ((body_at t i).stop ≡ (body_at t to).stop) × (i < to) × (to ≤ length t)
       × IfSome (slice_get t to) (λ b. is_stop b ≡ true)
-  escape-goes_on i to j bs p e =
+  raw-escape i to j bs p e =
       let here : place_at t i ≡ part bs true j = sym p in
-      let ahead = escape-ahead i j bs p in
-      let run = run-goes_on j to ahead.1 e in (
+      let ahead = raw-escape_ahead i j bs p in
+      let run = raw-run j to ahead.1 e in (
         ap (λ (b : Body). b.stop) (body_at-place_by t i (part bs true j) here) ∙ run.0,
         omega (arith, ahead.0, run.1),
         run.2,
         run.3,
       )
 
-  pub over-again : (i j k : ℕ) → (body_at t i).stop ≡ (body_at t j).stop → EndsAt t j k → EndsAt t i k
-  over-again i j k h o = o ∙ ap over (sym h)
+  pub raw-over_again : (i j k : ℕ) → (body_at t i).stop ≡ (body_at t j).stop → EndsAt t j k → EndsAt t i k
+  raw-over_again i j k h o = o ∙ ap over (sym h)
 
   -- what stands where it is over
-  pub over-here : (i j : ℕ) (s : Stop) → (body_at t i).stop ≡ (body_at t j).stop → over s ≡ place_at t j → EndsAt t i j
-  over-here i j s h p =
+  pub raw-over_here : (i j : ℕ) (s : Stop) → (body_at t i).stop ≡ (body_at t j).stop → over s ≡ place_at t j → EndsAt t i j
+  raw-over_here i j s h p =
       let stop : (body_at t j).stop ≡ s = ap (λ (b : Body). b.stop) (body_at-place_by t j (over s) (sym p)) in
       sym p ∙ ap over (sym (h ∙ stop))
 
@@ -85,54 +77,51 @@ module _ (t : List ℕ) where
         absurd (plain-no_stop x.byte x.printed x.no_quote x.no_backslash stops)
     by (over s) x e = (s, e)
 
-  pub run-over : (i to : ℕ) → i ≤ length t → to ≡ scan_stop t i → slice_get t to ≢ Some 92 → EndsAt t i to
-  run-over i to h e ne =
-      let run = run-goes_on i to h e in
+  pub raw-over_run : (i to : ℕ) → i ≤ length t → to ≡ scan_stop t i → slice_get t to ≢ Some 92 → EndsAt t i to
+  raw-over_run i to h e ne =
+      let run = raw-run i to h e in
       let o = over-unless to run.3 ne in
-      over-here i to o.0 run.0 (sym o.1)
+      raw-over_here i to o.0 run.0 (sym o.1)
 
   -- what a form makes of a content that is over at j, by what stands there
-  pub form-by : (form : Form) (i j : ℕ) (s : Stop) → EndsAt t i j → over s ≡ place_at t j
+  pub raw-by : (form : Form) (i j : ℕ) (s : Stop) → EndsAt t i j → over s ≡ place_at t j
       → content_at form t i ≡ text_in_form form t i (body_at t i).bytes (body_at t i).owned s
   unfolding content_at
-  form-by form i j s o p =
+  raw-by form i j s o p =
       ap (text_in_form form t i (body_at t i).bytes (body_at t i).owned) (sym (same-over _ _ (p ∙ o)))
 
-  pub raw-closed : (i j : ℕ) → EndsAt t i j → slice_get t j ≡ Some 34
-      → content_at raw t i ≡ taken (between t i j) (j + 1)
-  raw-closed i j o q =
-      let last : j + 1 - 1 ≡ j = omega arith in
-      rw (form-by raw i j (closed (j + 1)) o (sym (place_by-quote t j q)), last)
+  pub raw-closed : (keep : Bool) (i j : ℕ) → EndsAt t i j → slice_get t j ≡ Some 34
+      → content_at (raw_form keep) t i ≡ taken (between t i j) (j + 1)
+  raw-closed keep i j o q =
+      raw-by (raw_form keep) i j (closed (j + 1)) o (sym (place_by-quote t j q)) ∙ by keep where
+        by : (keep : Bool) → text_in_form (raw_form keep) t i (body_at t i).bytes (body_at t i).owned (closed (j + 1))
+            ≡ taken (between t i j) (j + 1)
+        by true = let last : j + 1 - 1 ≡ j = omega arith in rw last
+        by false = let last : j + 1 - 1 ≡ j = omega arith in rw last
 
-  -- where it ends says what it is
-  raw-text_in_form : (i e : ℕ) (bs : List ℕ) (o : Bool) (s : Stop)
-      → seen_as (λ x k. tt {0}) (text_in_form raw t i bs o s) ≡ taken tt e
-      → text_in_form raw t i bs o s ≡ taken (between t i (e - 1)) e
-  raw-text_in_form i e bs o (closed f) h = ap (λ k. taken (between t i (k - 1)) k) (same_taken tt tt f e h).1
-  raw-text_in_form i e bs o s h = absurd (cc)
-
-  pub raw-text : (i e : ℕ) → seen_as (λ x k. tt {0}) (content_at raw t i) ≡ taken tt e
-      → content_at raw t i ≡ taken (between t i (e - 1)) e
-  unfolding content_at
-  raw-text i e h = raw-text_in_form i e (body_at t i).bytes (body_at t i).owned (body_at t i).stop h
-
-  pub front-closed : (i j : ℕ) → EndsAt t i j → slice_get t j ≡ Some 34
-      → content_at raw_kept t i ≡ taken (between t i j) (j + 1)
-  front-closed i j o q =
-      let last : j + 1 - 1 ≡ j = omega arith in
-      rw (form-by raw_kept i j (closed (j + 1)) o (sym (place_by-quote t j q)), last)
-
-  pub front-unclosed : (i j : ℕ) → EndsAt t i j → slice_get t j ≡ None
+  pub raw-unclosed : (i j : ℕ) → EndsAt t i j → slice_get t j ≡ None
       → content_at raw_kept t i ≡ taken (between t i (length t)) (length t)
   unfolding place_at
-  front-unclosed i j o q = form-by raw_kept i j unclosed o (sym (ap (place_by t j) q))
+  raw-unclosed i j o q = raw-by raw_kept i j unclosed o (sym (ap (place_by t j) q))
 
   -- a byte stands there where it is not the end of input
-  pub not-unclosed : (j : ℕ) → over unclosed ≡ place_at t j → j < length t → ⊥
+  not-unclosed : (j : ℕ) → over unclosed ≡ place_at t j → j < length t → ⊥
   not-unclosed j p h =
       let none : slice_get t j ≡ None = subst (Explains t j) (sym p) (place_at-explains t j) in
       none-some _ (sym none ∙ got t j h)
 
-  pub closed-quote : (j e : ℕ) → over (closed e) ≡ place_at t j → slice_get t j ≡ Some 34
-  closed-quote j e p =
+  -- without its quote it is refused, unless it is kept and the input ends there
+  pub raw-no_quote : (keep : Bool) (i j : ℕ) → EndsAt t i j → over unclosed ≡ place_at t j → (IsTrue keep → j < length t)
+      → content_at (raw_form keep) t i ≡ failed eof_string (length t)
+  raw-no_quote true i j o p h = absurd (not-unclosed j p (h refl))
+  raw-no_quote false i j o p h = raw-by raw i j unclosed o p
+
+  -- and cut within an escape it is refused
+  pub raw-cut : (keep : Bool) (i j : ℕ) → EndsAt t i j → over cut ≡ place_at t j
+      → content_at (raw_form keep) t i ≡ failed eof_string (length t)
+  raw-cut true i j o p = raw-by raw_kept i j cut o p
+  raw-cut false i j o p = raw-by raw i j cut o p
+
+  pub raw-quote : (j e : ℕ) → over (closed e) ≡ place_at t j → slice_get t j ≡ Some 34
+  raw-quote j e p =
       let x : Explains t j (over (closed e)) = subst (Explains t j) (sym p) (place_at-explains t j) in x.0

@@ -1,61 +1,124 @@
 -- What the reader of strings answers, from what it has found.
-use Rattle.std.proofs.Common.{◌≡◌, ◌≢◌, ℕ, ◌+◌, ◌<◌, ◌≤◌, true, false, List, length, subst, arith, ◌∙◌, slice_range}
-use Rattle.std.specs.Prelude.{slice_get, slice_range, Some, None, Result, Ok, Err, IfOk}
+use Rattle.std.proofs.Common.{◌≡◌, ◌≢◌, ℕ, ◌+◌, ◌<◌, ◌≤◌, Bool, true, false, List, length, refl, sym, ap, ◌∙◌}
+use Rattle.std.proofs.Common.{subst, arith, append-nil}
+use Rattle.std.specs.Prelude.{slice_get, slice_range, Some, None, Result, Ok, Err, IfOk, MatchResult, IsErrAnd, ◌==◌, nat_lt}
+use Rattle.std.specs.Str.{IsUtf8}
 use Rattle.std.specs.declared.alloc.Global.{Global}
 use Rattle.std.specs.declared.borrow.CowStr.{CowStr}
+use Rattle.std.proofs.lemmas.Bool.{ne_eqb, lt-ltb, eq-eqb}
 use Rattle.std.proofs.lemmas.Bool.Decides.{nat_tests}
-use Rattle.jiter_scan.specs.Kind.{eof_string, control_character}
+use Rattle.std.proofs.lemmas.Option.{none-some, same_Some}
+use Rattle.std.proofs.lemmas.Str.{utf8_valid_len-IsUtf8}
+use Rattle.jiter_scan.specs.Kind.{control_character}
 use Rattle.jiter_scan.specs.Scan.{scan_stop}
+use Rattle.jiter_scan.specs.declared.errors.Fault.{Fault}
 use Rattle.jiter_scan.specs.Scanned.{failed, Scans, with_end, taken}
+use Rattle.jiter_scan.proofs.Choices.{if-true, if-false}
 use Rattle.jiter_scan.proofs.Scanning.{ScalarWithin}
 use Rattle.jiter_steps.specs.ReadError.{UnlessRefused}
 use Rattle.jiter_steps.specs.StringDecoder.{text_view}
-use Rattle.jiter_steps.specs.StringReading.{closed, before, body_at, if_utf8, whole, string_at, between, kept}
+use Rattle.jiter_steps.specs.StringReading.{Place, part, over, place_by, place_at, Stop, closed, unclosed, cut, wrong}
+use Rattle.jiter_steps.specs.StringReading.{is_cut, Body, before, join, body_at, Form, text_form, checked}
+use Rattle.jiter_steps.specs.StringReading.{text_in_form, content_at, string_at}
 use Rattle.jiter_steps.specs.declared.read_error.ReadError.{ReadError}
-use Rattle.jiter_steps.proofs.Calls.DecodeSteps.{at_none, at_quote, at_control, at_backslash, checked_text}
-use Rattle.jiter_steps.proofs.Calls.PlainRuns.{plain_run_to, scan_stop_stops}
+use Rattle.jiter_steps.specs.declared.read_error.ReadError.TheVariants as error
+use Rattle.jiter_steps.proofs.Calls.PlainRuns.{plain_run_to, plain_run_stops}
+use Rattle.jiter_steps.proofs.Grammar.Places.{place_at-explains, Explains}
+use Rattle.jiter_steps.proofs.Grammar.StringComplete.{place_by-quote}
 use Rattle.jiter_steps.proofs.Grammar.StringLaws.{string_at-within}
-use Rattle.std.specs.Str.{IsUtf8}
-use Rattle.jiter_steps.proofs.Reading.StringForms.{content-kept}
+use Rattle.jiter_steps.proofs.Reading.Bodies.{body_at-is, body_at-place_by}
+use Rattle.jiter_steps.proofs.Reading.StringForms.{kept-valid}
+
+-- Decoded bytes as a text, by whether they are UTF-8.
+module _ (i e : ℕ) (o : Bool) (bs : List ℕ) where
+  pub string-checked : (keep : Bool) → IsUtf8 bs → checked keep i o bs e ≡ taken (record { owned = o; bytes = bs }) e
+  string-checked true u = kept-valid i e o bs (utf8_valid_len-IsUtf8 bs u)
+  string-checked false u = rw (eq-eqb _ _ (utf8_valid_len-IsUtf8 bs u))
+
+-- a reading that fails by a fault alone, given on as one that may want memory
+pub string-fault : {A : Type 0} (P : Result A Fault → Type 0) (r : Result A Fault) (told : Result A ReadError)
+    → MatchResult r (λ x. told ≡ Ok x) (λ f. IsErrAnd told (λ e. e ≡ error.Fault f)) → P r → UnlessRefused told P
+string-fault P (Ok x) told is p = rw is p
+string-fault P (Err f) (Ok x) is p = absurd is
+string-fault P (Err f) (Err e) is p = rw is p
+
+-- a closed text, kept or not
+pub string_closed : (keep : Bool) (t : List ℕ) (i : ℕ) (bs : List ℕ) (o : Bool) (e : ℕ)
+    → text_in_form (text_form keep) t i bs o (closed e) ≡ checked keep i o bs e
+string_closed true t i bs o e = refl
+string_closed false t i bs o e = refl
+
+-- Behind a backslash a text lies in memory of its own, so that nothing hangs on the mark.
+module _ (t : List ℕ) (i : ℕ) (backslash : slice_get t i ≡ Some 92) (form : Form) (from : ℕ) (bs : List ℕ) where
+  abbrev Marked : Bool → Stop → Type 0
+  Marked o s = text_in_form form t from bs o s ≡ text_in_form form t from bs true s
+
+  marked-by : (x : Place) → Explains t i x → Marked (join (body_at t) x).owned (join (body_at t) x).stop
+  marked-by (part bs true j) x = refl
+  marked-by (part bs false j) x = absurd (x.no_backslash (same_Some _ _ (sym x.here ∙ backslash)))
+  marked-by (over (closed f)) x = let no = same_Some _ _ (sym x.0 ∙ backslash) in absurd (omega arith)
+  marked-by (over unclosed) x = absurd (none-some _ (sym x ∙ backslash))
+  marked-by (over cut) x = refl
+  marked-by (over (wrong k j)) x = refl
+
+  marked : Marked (body_at t i).owned (body_at t i).stop
+  marked =
+      subst (λ (b : Body). Marked b.owned b.stop) (sym (body_at-is t i))
+      (marked-by (place_at t i) (place_at-explains t i))
 
 module _ (t : List ℕ) (at : ℕ) (inside : at < length t) where
   -- a text ends behind its begin and within the bytes
-  pub string-advances : (r : Result (CowStr Global × ℕ) ReadError)
-      → UnlessRefused r (λ x. Scans (with_end text_view) x (string_at whole t at))
+  pub string-advances : (form : Form) (r : Result (CowStr Global × ℕ) ReadError)
+      → UnlessRefused r (λ x. Scans (with_end text_view) x (string_at form t at))
       → IfOk r (λ x. (at < x.1) × (x.1 ≤ length t))
-  string-advances (Ok x) g = subst (ScalarWithin t at) g (string_at-within whole t at inside)
-  string-advances (Err e) g = tt
+  string-advances form (Ok x) g = subst (ScalarWithin t at) g (string_at-within form t at inside)
+  string-advances form (Err (error.Fault f)) g = tt
+  string-advances form (Err (error.Memory m)) g = tt
 
   -- how the string goes on where its plain bytes end
   module _ (to : ℕ) (stop : to ≡ scan_stop t (at + 1)) where
-    front : body_at t (at + 1) ≡ before (slice_range t (at + 1) to) false (body_at t to)
-    front = plain_run_to t (at + 1) to (omega arith) stop
+    abbrev plain : List ℕ
+    plain = slice_range t (at + 1) to
 
-    pub string-none : slice_get t to ≡ None → string_at whole t at ≡ failed eof_string (length t)
-    string-none e = at_none t (at + 1) to front e
+    run : body_at t (at + 1) ≡ before plain false (body_at t to)
+    run = plain_run_to t (at + 1) to (omega arith) stop
 
-    pub string-quote : slice_get t to ≡ Some 34
-        → string_at whole t at ≡ if_utf8 (at + 1) false (slice_range t (at + 1) to) (to + 1)
-    string-quote e = at_quote t (at + 1) to front e
+    -- it is over there
+    string-over : (form : Form) (s : Stop) → place_at t to ≡ over s
+        → string_at form t at ≡ text_in_form form t (at + 1) plain (is_cut s) s
+    unfolding content_at
+    string-over form s e =
+        ap (λ (b : Body). text_in_form form t (at + 1) b.bytes b.owned b.stop)
+        (run ∙ ap (before plain false) (body_at-place_by t to (over s) e))
+        ∙ ap (λ l. text_in_form form t (at + 1) l (is_cut s) s) (append-nil plain)
 
-    pub string-control : (b : ℕ) → slice_get t to ≡ Some b → b ≢ 34 → b ≢ 92
-        → string_at whole t at ≡ failed control_character to
-    string-control b e q s =
-        let stops = scan_stop_stops t (at + 1) b (subst (λ j. slice_get t j ≡ Some b) stop e) in
-        at_control t (at + 1) to b front e q s (grind (arith, nat_tests, stops, q, s))
+    pub string-none : (form : Form) → slice_get t to ≡ None
+        → string_at form t at ≡ text_in_form form t (at + 1) plain false unclosed
+    unfolding place_at
+    string-none form e = string-over form unclosed (ap (place_by t to) e)
 
-    -- with a backslash
-    pub string-closed : (e : ℕ) → slice_get t to ≡ Some 92 → (body_at t (at + 1)).stop ≡ closed e
-        → string_at whole t at ≡ if_utf8 (at + 1) true (body_at t (at + 1)).bytes e
-    string-closed e b s = at_backslash t (at + 1) to e front b s
+    pub string-quote : (keep : Bool) → slice_get t to ≡ Some 34
+        → string_at (text_form keep) t at ≡ checked keep (at + 1) false plain (to + 1)
+    string-quote keep e =
+        string-over (text_form keep) (closed (to + 1)) (place_by-quote t to e)
+        ∙ string_closed keep t (at + 1) plain false (to + 1)
 
--- A closed string with no backslash: the text between its quotes.
-module _ (t : List ℕ) (at to : ℕ) (begins : at < length t) (stop : to ≡ scan_stop t (at + 1))
-    (quote : slice_get t to ≡ Some 34) (utf8 : IsUtf8 (slice_range t (at + 1) to)) where
-  pub quoted-whole : string_at whole t at ≡ taken (between t (at + 1) to) (to + 1)
-  quoted-whole =
-      string-quote t at begins to stop quote
-      ∙ checked_text (at + 1) (to + 1) false (slice_range t (at + 1) to) utf8
+    pub string-control : (form : Form) (b : ℕ) → slice_get t to ≡ Some b → b ≢ 34 → b ≢ 92
+        → string_at form t at ≡ failed control_character to
+    unfolding place_at
+    string-control form b e q s =
+        let stops = plain_run_stops t (at + 1) b (subst (λ j. slice_get t j ≡ Some b) stop e) in
+        let low : b < 32 = grind (arith, nat_tests, stops, q, s) in
+        string-over form (wrong control_character to)
+        (ap (place_by t to) e ∙ if-false (b == 34) _ _ (ne_eqb b 34 q) ∙ if-false (b == 92) _ _ (ne_eqb b 92 s)
+        ∙ if-true (nat_lt b 32) _ _ (lt-ltb b 32 low))
 
-  pub quoted-kept : string_at kept t at ≡ taken (between t (at + 1) to) (to + 1)
-  quoted-kept = (content-kept t (at + 1) (between t (at + 1) to) (to + 1) quoted-whole).0
+    -- it goes on with a backslash
+    pub string-escaped : (form : Form) → slice_get t to ≡ Some 92
+        → string_at form t at
+        ≡ text_in_form form t (at + 1) (body_at t (at + 1)).bytes true (body_at t (at + 1)).stop
+    unfolding content_at
+    string-escaped form e =
+        ap (λ (b : Body). text_in_form form t (at + 1) (body_at t (at + 1)).bytes b.owned b.stop) run
+        ∙ marked t to e form (at + 1) (body_at t (at + 1)).bytes
+        ∙ ap (λ (b : Body). text_in_form form t (at + 1) (body_at t (at + 1)).bytes true b.stop) (sym run)

@@ -12,7 +12,8 @@ use Rattle.std.proofs.lemmas.Bool.{cases_lt}
 use Rattle.std.proofs.lemmas.List.{take_all}
 use Rattle.jiter_scan.specs.Kind.{Kind, is_forgiven}
 use Rattle.jiter_scan.specs.Number.{Number}
-use Rattle.jiter_scan.specs.NumberReading.{number_at, is_number_text}
+use Rattle.jiter_scan.specs.NumberReading.{number_at}
+use Rattle.jiter_scan.specs.NumberTests.{is_number_text}
 use Rattle.jiter_scan.specs.PartialMode.{is_active, allows_trailing_strings}
 use Rattle.jiter_scan.specs.Scanned.{Scanned, taken, failed}
 use Rattle.jiter_scan.specs.Stands.{Stands}

@@ -8,7 +8,7 @@ use Rattle.std.specs.Str.{encode_utf8_all}
 use Rattle.std.proofs.lemmas.Bool.{cases_lt, le-leb, leb-true}
 use Rattle.std.proofs.lemmas.List.{map-append}
 use Rattle.std.proofs.lemmas.Str.{encodes-append}
-use Rattle.jiter_scan.specs.NumberReading.{is_number_text}
+use Rattle.jiter_scan.specs.NumberTests.{is_number_text}
 use Rattle.jiter_scan.specs.PartialMode.{allows_trailing_strings}
 use Rattle.jiter_scan.specs.declared.partial_mode.PartialMode.{PartialMode}
 use Rattle.jiter_scan.proofs.Choices.{if_case, if-true}

@@ -4,7 +4,8 @@ use Rattle.std.proofs.Common.{refl, IfSome}
 use Rattle.std.specs.Prelude.{slice_range}
 use Rattle.jiter_scan.specs.Kind.{is_end_kind}
 use Rattle.jiter_scan.specs.Number.{Number, IsNumberText, number_value}
-use Rattle.jiter_scan.specs.NumberReading.{number_at, is_number_text}
+use Rattle.jiter_scan.specs.NumberReading.{number_at}
+use Rattle.jiter_scan.specs.NumberTests.{is_number_text}
 use Rattle.jiter_scan.specs.Scanned.{Scanned, taken, failed}
 use Rattle.jiter_scan.proofs.Choices.{failed-taken}
 use Rattle.jiter_scan.proofs.NumberLaws.{continues_number}

@@ -1,6 +1,6 @@
 -- A text is owned exactly where a backslash was read.
 use Rattle.std.proofs.Common.{◌≡◌, ℕ, ◌+◌, ◌-◌, ◌<◌, ◌≤◌, ◌==◌, ◌||◌, Bool, true, false, List, ◌++◌, length, take}
-use Rattle.std.proofs.Common.{drop, refl, sym, ap, ◌∙◌, subst, arith}
+use Rattle.std.proofs.Common.{drop, sym, ap, ◌∙◌, subst, arith}
 use Rattle.std.specs.Prelude.{slice_get, slice_range, Some}
 use Rattle.std.specs.List.{list_any}
 use Rattle.std.proofs.lemmas.Bool.{ne_eqb}
@@ -9,7 +9,7 @@ use Rattle.jiter_scan.proofs.Standing.{slice_range-split, slice-one, get-none}
 use Rattle.jiter_steps.specs.Node.{has_backslash}
 use Rattle.jiter_steps.specs.StringReading.{Stop, closed, unclosed, cut, wrong, part, over, Body, before, join, body_at}
 use Rattle.jiter_steps.proofs.Grammar.Places.{Explains}
-use Rattle.jiter_steps.proofs.Reading.Bodies.{part-ahead, each-body, StopWithin, body_at-within}
+use Rattle.jiter_steps.proofs.Reading.Bodies.{part-ahead, each-body}
 
 -- where a string ends: behind its quote or with the input
 abbrev pub EndOf : List ℕ → Stop → ℕ → Type 0
@@ -61,15 +61,6 @@ module _ (t : List ℕ) where
   body-marked : (i e : ℕ) → i ≤ length t → EndOf t (body_at t i).stop e
       → ((body_at t i).owned ≡ has_backslash t i e) × (i ≤ e)
   body-marked i e = each-body t (Marked e) (part-marked e) (over-marked e) i
-
-  -- and of one that begins with a backslash
-  pub backslash-owned : (i e : ℕ) → slice_get t i ≡ Some 92 → (body_at t i).stop ≡ closed e
-      → (body_at t i).owned ≡ true
-  backslash-owned i e h s =
-      let inside = slice_get_within t i 92 h in
-      let within = subst (StopWithin t i) s (body_at-within t i) in
-      let marked = body-marked i e (omega arith) (subst (λ s. EndOf t s e) (sym s) refl) in
-      marked.0 ∙ has_backslash-next i 92 e within.0 h
 
 -- the mark of a string that begins at i and ends at e
 pub mark-is : (t : List ℕ) (i e : ℕ) → slice_get t i ≡ Some 34 → e ≤ length t → EndOf t (body_at t (i + 1)).stop e

@@ -1,6 +1,6 @@
 -- How the four forms stand to one another.
-use Rattle.std.proofs.Common.{◌≡◌, ◌≢◌, ℕ, ◌-◌, Bool, List, length, sym, ap, ◌∙◌, arith, ◌+◌, take, drop}
-use Rattle.std.specs.Prelude.{◌==◌, Some, None, IsUtf8}
+use Rattle.std.proofs.Common.{◌≡◌, ◌≢◌, ℕ, ◌-◌, Bool, List, length, sym, ap, ◌∙◌, arith}
+use Rattle.std.specs.Prelude.{◌==◌}
 use Rattle.std.specs.Str.Lossy.{utf8_valid_len, utf8_error_len}
 use Rattle.std.proofs.lemmas.Bool.{eqb-true}
 use Rattle.std.proofs.lemmas.List.{take_all, drop_all}
@@ -9,8 +9,7 @@ use Rattle.jiter_scan.specs.Scanned.{taken, failed}
 use Rattle.jiter_scan.proofs.Choices.{if_gives, failed-taken, same_taken}
 use Rattle.jiter_steps.specs.Tree.{Text}
 use Rattle.jiter_steps.specs.StringReading.{Stop, closed, body_at, whole, kept, raw, valid_front, between}
-use Rattle.jiter_steps.specs.StringReading.{text_in_form, content_at, valid_front_by}
-use Rattle.std.proofs.lemmas.Str.{utf8_valid_len-IsUtf8}
+use Rattle.jiter_steps.specs.StringReading.{text_in_form, content_at}
 
 pub kept-valid : (i e : ℕ) (o : Bool) (bs : List ℕ) → utf8_valid_len bs ≡ length bs
     → valid_front i o bs e ≡ taken (record { owned = o; bytes = bs }) e
@@ -47,16 +46,3 @@ module _ (t : List ℕ) (i : ℕ) where
       → content_at raw t i ≡ failed k j
   unfolding content_at
   content-raw k j ne h = whole-raw (body_at t i).bytes (body_at t i).owned (body_at t i).stop k j ne h
-
--- The texts of strings that may be cut: as far as whole characters go.
-module _ (i e : ℕ) (o : Bool) (bs : List ℕ) where
-  pub kept_front : utf8_error_len (drop (utf8_valid_len bs) bs) ≡ None
-      → valid_front i o bs e ≡ taken (record { owned = o; bytes = take (utf8_valid_len bs) bs }) e
-  kept_front h = ap (valid_front_by i o bs e) h
-
-  pub kept_wrong : (n : ℕ) → utf8_error_len (drop (utf8_valid_len bs) bs) ≡ Some n
-      → valid_front i o bs e ≡ failed invalid_code_point (i + utf8_valid_len bs)
-  kept_wrong n h = ap (valid_front_by i o bs e) h
-
-  pub kept_whole : IsUtf8 bs → valid_front i o bs e ≡ taken (record { owned = o; bytes = bs }) e
-  kept_whole u = kept-valid i e o bs (utf8_valid_len-IsUtf8 bs u)

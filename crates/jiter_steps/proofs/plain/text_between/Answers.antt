@@ -1,13 +1,8 @@
 use Rattle.std.proofs.Common.{arith}
-use Rattle.jiter_steps.proofs.Calls.StringAnswers.{quoted-whole, quoted-kept}
+use Rattle.jiter_steps.proofs.Calls.PlainAnswers.{plain-quoted}
 use Rattle.jiter_steps.proofs.plain.text_between.Goals as goal
 
-pub returns-in-Ok-clause-whole : goal.returns-in-Ok-clause-whole
-returns-in-Ok-clause-whole c =
+pub returns-in-Ok-clause-value : goal.returns-in-Ok-clause-value
+returns-in-Ok-clause-value c =
     let r = c.requires in
-    quoted-whole c.args.bytes.now c.args.at c.args.to (omega arith) r.stop r.quote c.in-Ok.ensures.cases.1
-
-pub returns-in-Ok-clause-kept : goal.returns-in-Ok-clause-kept
-returns-in-Ok-clause-kept c =
-    let r = c.requires in
-    quoted-kept c.args.bytes.now c.args.at c.args.to (omega arith) r.stop r.quote c.in-Ok.ensures.cases.1
+    plain-quoted c.args.bytes.now c.args.at c.args.to (omega arith) r.stop r.quote c.in-Ok.ensures.cases.1

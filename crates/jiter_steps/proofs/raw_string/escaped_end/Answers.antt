@@ -1,22 +1,22 @@
 use Rattle.std.proofs.Common.{◌∙◌, arith}
 use Rattle.jiter_steps.specs.StringDecoder.{stop_view}
-use Rattle.jiter_steps.proofs.Calls.RawStrings.{escape-ahead, escape-goes_on, over-here}
+use Rattle.jiter_steps.proofs.Calls.RawStrings.{raw-escape_ahead, raw-escape, raw-over_here}
 use Rattle.jiter_steps.proofs.raw_string.escaped_end.Goals as goal
 
 pub scan_string-to-requires : goal.scan_string-to-requires
 scan_string-to-requires c =
-    let ahead = escape-ahead c.args.bytes.now c.loop-end.at c.in-Escape.end _ c.in-Escape.ensures in ahead.1
+    let ahead = raw-escape_ahead c.args.bytes.now c.loop-end.at c.in-Escape.end _ c.in-Escape.ensures in ahead.1
 
 pub loop-end-smaller : goal.loop-end-smaller
 loop-end-smaller c =
-    let go = escape-goes_on c.args.bytes.now c.loop-end.at c.scan_string-to.result.0 c.in-Escape.end _
+    let go = raw-escape c.args.bytes.now c.loop-end.at c.scan_string-to.result.0 c.in-Escape.end _
     c.in-Escape.ensures c.scan_string-to.ensures.stop in
     omega (arith, go.1, go.2)
 
 pub loop-end-preserved : goal.loop-end-preserved
 loop-end-preserved c =
     let l = c.loop-end in
-    let go = escape-goes_on c.args.bytes.now l.at c.scan_string-to.result.0 c.in-Escape.end _
+    let go = raw-escape c.args.bytes.now l.at c.scan_string-to.result.0 c.in-Escape.end _
     c.in-Escape.ensures c.scan_string-to.ensures.stop in
     record {
       rest = l.invariant.rest ∙ go.0;
@@ -26,5 +26,5 @@ loop-end-preserved c =
 
 pub returns-in-End-clause-over : goal.returns-in-End-clause-over
 returns-in-End-clause-over c =
-    over-here c.args.bytes.now c.args.from c.loop-end.at (stop_view c.in-End.field-0) c.loop-end.invariant.rest
+    raw-over_here c.args.bytes.now c.args.from c.loop-end.at (stop_view c.in-End.field-0) c.loop-end.invariant.rest
     c.in-End.ensures

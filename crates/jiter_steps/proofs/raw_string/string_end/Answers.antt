@@ -1,4 +1,4 @@
-use Rattle.std.proofs.Common.{◌+◌, ap}
+use Rattle.std.proofs.Common.{◌+◌, false, ap}
 use Rattle.jiter_steps.specs.Answer.{seen_as}
 use Rattle.jiter_steps.proofs.Calls.RawStrings.{raw-closed}
 use Rattle.jiter_steps.proofs.raw_string.string_end.Goals as goal
@@ -6,4 +6,9 @@ use Rattle.jiter_steps.proofs.raw_string.string_end.Goals as goal
 pub returns-in-Some-eq34-clause-value : goal.returns-in-Some-eq34-clause-value
 returns-in-Some-eq34-clause-value c =
     let e = c.content_end-end in
-    ap (seen_as (λ s e. tt {0})) (raw-closed c.args.bytes.now (c.args.at + 1) e.result e.ensures.over (cc))
+    ap (seen_as (λ s e. tt {0})) (raw-closed c.args.bytes.now false (c.args.at + 1) e.result e.ensures.over (cc))
+
+pub returns-in_default-clause-value : goal.returns-in_default-clause-value
+returns-in_default-clause-value c =
+    let e = c.content_end-end in
+    ap (seen_as (λ s e. tt {0})) (c.fault_of.ensures (c.args.at + 1) false e.ensures.over (λ no. absurd (cc)))

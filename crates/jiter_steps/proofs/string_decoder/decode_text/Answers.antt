@@ -1,28 +1,24 @@
-use Rattle.std.proofs.Common.{◌+◌, ◌∙◌, refl, sym, ap, take}
-use Rattle.jiter_steps.proofs.Calls.DecodeSteps.{at_stop}
-use Rattle.jiter_steps.proofs.Calls.StringAnswers.{string-closed}
+use Rattle.std.proofs.Common.{◌+◌, ◌∙◌, true, refl, ap, take}
+use Rattle.std.proofs.lemmas.Result.{err_from_is_err_and}
+use Rattle.jiter_steps.specs.StringReading.{text_form, body_at}
+use Rattle.jiter_steps.proofs.Calls.StringAnswers.{string-escaped}
 use Rattle.jiter_steps.proofs.string_decoder.decode_text.Goals as goal
 
-pub returns-in-Ok-default-Closed : goal.returns-in-Ok-default-Closed
-returns-in-Ok-default-Closed c =
-    let i = c.in-Ok-default-Closed in
+pub returns-in_err-end : goal.returns-in_err-end
+returns-in_err-end c =
+    let t = c.args.bytes.now in
     let r = c.requires in
-    let d = rw i.field-0-1-is at i.ensures in
-    let text = ap (take i.count) c.as_slice.ensures.value ∙ d.text in
-    rw (string-closed c.args.bytes.now c.args.at r.within _ refl i.end r.backslash (sym d.stop), ← text)
-    c.own_text.ensures
+    let d = c.in_ok-count.ensures in
+    let p = err_from_is_err_and c.from_residual-in_err-end.result c.from_residual-in_err-end.ensures.1 in
+    let here = string-escaped t c.args.at r.within _ refl (text_form c.args.keep) r.backslash in
+    rw (p.1, p.2) (rw (here, ← d.stop) (c.in_err-end.ensures (c.args.at + 1) _ _))
 
-pub returns-in-Ok-default-Wrong : goal.returns-in-Ok-default-Wrong
-returns-in-Ok-default-Wrong c =
-    let d = rw c.in-Ok-default-Wrong.field-0-1-is at c.in-Ok-default-Wrong.ensures in
-    at_stop c.args.bytes.now (c.args.at + 1) _ (sym d.stop)
-
-pub returns-in-Ok-default-Unclosed : goal.returns-in-Ok-default-Unclosed
-returns-in-Ok-default-Unclosed c =
-    let d = rw c.in-Ok-default-Unclosed.field-0-1-is at c.in-Ok-default-Unclosed.ensures in
-    rw c.cut_short.ensures (at_stop c.args.bytes.now (c.args.at + 1) _ (sym d.stop))
-
-pub returns-in-Ok-default-Cut : goal.returns-in-Ok-default-Cut
-returns-in-Ok-default-Cut c =
-    let d = rw c.in-Ok-default-Cut.field-0-1-is at c.in-Ok-default-Cut.ensures in
-    rw c.cut_short-in-Ok-default-Cut.ensures (at_stop c.args.bytes.now (c.args.at + 1) _ (sym d.stop))
+pub returns : goal.returns
+returns c =
+    let t = c.args.bytes.now in
+    let r = c.requires in
+    let d = c.in_ok-count.ensures in
+    let text = ap (take c.in_ok-count.count) c.as_slice.ensures.value ∙ d.text in
+    let here = string-escaped t c.args.at r.within _ refl (text_form c.args.keep) r.backslash in
+    let over = c.in_ok-end.ensures (c.args.at + 1) (body_at t (c.args.at + 1)).bytes true in
+    rw (here, ← d.stop, over, ← text) c.own_text.ensures

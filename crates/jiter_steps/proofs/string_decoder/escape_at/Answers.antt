@@ -3,7 +3,7 @@ use Rattle.std.specs.Prelude.{Some}
 use Rattle.std.proofs.lemmas.Option.{slice_get-get_or}
 use Rattle.std.specs.Char.{encode_utf8}
 use Rattle.jiter_steps.specs.StringReading.{part}
-use Rattle.jiter_steps.proofs.Calls.DecodeSteps.{place_at-unit, place_at-letter}
+use Rattle.jiter_steps.proofs.Calls.DecodeSteps.{decode-unit, decode-letter}
 use Rattle.jiter_steps.proofs.string_decoder.escape_at.Goals as goal
 
 pub returns-then-letter-eq117 : goal.returns-then-letter-eq117
@@ -13,7 +13,7 @@ returns-then-letter-eq117 c =
     let backslash = slice_get-get_or t i 0 (omega arith) ∙ ap Some c.if-bytes-at-ne92.false in
     let letter = slice_get-get_or t (i + 1) 0 (omega arith) ∙ ap Some c.if-letter-eq117.true in
     let scalar = c.in_ok-c.ensures.value in
-    sym (place_at-unit t i backslash c.in_ok-unit.unit letter c.in_ok-unit.ensures.value scalar.0
+    sym (decode-unit t i backslash c.in_ok-unit.unit letter c.in_ok-unit.ensures.value scalar.0
     ∙ ap (λ u. part (encode_utf8 u) true (i + 6)) (sym scalar.1))
 
 pub returns : goal.returns
@@ -22,4 +22,4 @@ returns c =
     let i = c.args.at in
     let backslash = slice_get-get_or t i 0 (omega arith) ∙ ap Some c.if-bytes-at-ne92.false in
     let letter = slice_get-get_or t (i + 1) 0 (omega arith) in
-    sym (place_at-letter t i backslash _ c.in_ok-c-2.c letter c.if-letter-eq117.false (sym c.in_ok-c-2.ensures.value))
+    sym (decode-letter t i backslash _ c.in_ok-c-2.c letter c.if-letter-eq117.false (sym c.in_ok-c-2.ensures.value))

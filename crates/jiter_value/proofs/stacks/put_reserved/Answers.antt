@@ -17,17 +17,17 @@ returns-in-Item-clause-held c =
     (put-item-size (reverse s.nest.items) s.items.items s.members.items s.root c.args.value
     (rw c.in-Item.is at c.requires.stands))
 
-pub returns-in-Value : goal.returns-in-Value
-returns-in-Value c =
+pub returns-in-Member : goal.returns-in-Member
+returns-in-Member c =
     let s = c.args.stacks.now in
     let os = reverse s.nest.items in
     let es = s.items.items in
     let ms = s.members.items in
     let v = c.args.value in
-    let last = last-member os (length es) ms (rw c.in-Value.is at c.requires.stands) in
+    let last = last-member os (length es) ms (rw c.in-Member.is at c.requires.stands) in
     let before = take (length ms - 1) ms in
     let set = c.set_last.ensures before last.0.0 last.0.1 last.1 in
-    rw c.in-Value.is (record {
+    rw c.in-Member.is (record {
       value = rw (last.1, set) (λ p t e. put-value p t os es before last.0 s.root v e last.2);
       stands = rw set (key-above os (length es) before (last.0.0, v) last.2);
       nest = search library_rules;

@@ -1,15 +1,13 @@
 use Rattle.std.proofs.Common.{sym, subst}
 use Rattle.jiter_scan.proofs.NumberLaws.{number_at-within}
-use Rattle.jiter.proofs.Refusals.{IsInside, reading-within, refusal-read}
-use Rattle.jiter.proofs.jiter.Jiter.number.Goals.{in-Ok, in-Err}
+use Rattle.jiter_scan.specs.NumberDecoder.{number_view}
+use Rattle.jiter.proofs.Refusals.{IsInside, reading-within, reads-fault, refuses}
 use Rattle.jiter.proofs.jiter.Jiter.number.Goals as goal
 
 pub returns-clause-refusal : goal.returns-clause-refusal
-returns-clause-refusal c = elim c.match-number.branch [
-  | in-Ok w ↦ rw w.result-is tt
-  | in-Err w ↦ rw w.result-is (let p = c.self.inside.parser in let n = c.self.inside.allow_inf_nan in
-      rw (← c.self.view_is) (refusal-read p.bytes.now _ _ _ w.refusal.ensures.value p.index _ _
-      (reading-within p.bytes.now p.index _ p.within
-      (number_at-within n p.bytes.now p.index (subst IsInside (sym c.self.view_is) c.requires.within)))
-      w.in-Err.ensures.value))
-]
+returns-clause-refusal c =
+    let p = c.self.inside.parser in
+    let at = reading-within p.bytes.now p.index _ p.within (number_at-within c.self.inside.allow_inf_nan p.bytes.now
+    p.index (subst IsInside (sym c.self.view_is) c.requires.within)) in
+    rw (← c.self.view_is) (refuses p.bytes.now c.number.result c.map_err.result c.map_err.ensures.cases
+    (λ f e h. h.0) (reads-fault number_view p.bytes.now p.index c.number.result _ _ at c.number.ensures.value))

@@ -1,14 +1,12 @@
 use Rattle.std.proofs.Common.{sym, subst}
 use Rattle.jiter_steps.proofs.Reading.Instances.{skip_at-within}
-use Rattle.jiter.proofs.Refusals.{IsInside, refusal-read}
-use Rattle.jiter.proofs.jiter.Jiter.pass.Goals.{in-Ok, in-Err}
+use Rattle.jiter.proofs.Refusals.{IsInside, reads-fault, refuses}
 use Rattle.jiter.proofs.jiter.Jiter.pass.Goals as goal
 
 pub returns-clause-refusal : goal.returns-clause-refusal
-returns-clause-refusal c = elim c.match-skip.branch [
-  | in-Ok w ↦ rw w.result-is tt
-  | in-Err w ↦ rw w.result-is (let p = c.self.inside.parser in let n = c.self.inside.allow_inf_nan in
-      let at = skip_at-within p.bytes.now n p.index (subst IsInside (sym c.self.view_is) c.requires) in
-      rw (← c.self.view_is) (refusal-read p.bytes.now _ _ _ w.refusal.ensures.value p.index _ _
-      at w.in-Err.ensures.value))
-]
+returns-clause-refusal c =
+    let p = c.self.inside.parser in
+    let at = skip_at-within p.bytes.now c.self.inside.allow_inf_nan p.index
+    (subst IsInside (sym c.self.view_is) c.requires) in
+    rw (← c.self.view_is) (refuses p.bytes.now c.skip.result c.map_err.result c.map_err.ensures.cases
+    (λ f e h. h.0) (reads-fault (λ u. u) p.bytes.now p.index c.skip.result _ _ at c.skip.ensures.value))

@@ -1,18 +1,58 @@
-use Rattle.jiter_value.specs.Settings.{answer_by}
+use Rattle.std.proofs.Common.{◌∙◌, ◌≤◌, ap, arith, length, Err}
+use Rattle.jiter_steps.specs.Blank.{past_blanks}
+use Rattle.jiter_value.specs.Size.{size}
 use Rattle.jiter_value.specs.Stacks.{meaning}
-use Rattle.jiter_value.proofs.WholeTextAnswers.{answer_by-refused, error-answers, fails-gives}
+use Rattle.jiter_value.specs.Value.{view, MayGrow}
+use Rattle.jiter_value.specs.declared.value.JsonValue.{JsonValue}
+use Rattle.jiter_value.proofs.ParsedDocuments.{value-parses, error-parses}
+use Rattle.jiter_value.proofs.TurnOutcomes.{refused-weaker, refused-any}
+use Rattle.jiter_value.proofs.WholeTextAnswers.{answer_by-refused, fails-gives, held-begun, turn-grows}
 use Rattle.jiter_value.proofs.machine.Machine.go.Goals as goal
 
-pub returns-in-Refused : goal.returns-in-Refused
-returns-in-Refused c =
+pub returns-in-Ok : goal.returns-in-Ok
+returns-in-Ok c =
     let p = c.args.settings in
     let t = c.args.old_parser.bytes.now in
+    let s = c.args.old_stacks in
+    let same = c.in-Ok.ensures.same ∙ c.replace-value.ensures.value in
+    let holds = rw c.in-Done.is at c.turn-at.ensures.leads.held in
+    let was = held-begun t p c.args.old_parser.index c.args.state s c.requires.0 in (
+      value-parses p t c.finish_whole.new.parser.index c.in-Ok.whole c.in-Ok.ensures.value,
+      omega (arith, holds, was, ap (λ v. size (view v)) same),
+    )
+
+pub returns-in-Done : goal.returns-in-Done
+returns-in-Done c =
+    let p = c.args.settings in
+    let t = c.args.old_parser.bytes.now in
+    let e = c.in-Err.error in
+    let i = c.finish_whole.new.parser.index in
+    let read = c.in-Err.ensures in
+    let within : i ≤ length t = omega (arith, c.finish_whole.new.parser.within, ap (λ b. length b.now) read.moves.same)
+    in (
+      error-parses p t i e c.error_at.result c.error_at.ensures read.value within
+          (refused-weaker {X = JsonValue} (Err e) ⊥ (MayGrow t) (λ no. absurd no) read.memory)
+          (refused-weaker {X = JsonValue} (Err e) ⊥ (past_blanks t 0 ≤ i) (λ no. absurd no) read.memory),
+      tt,
+    )
+
+pub returns-in-GivenUp : goal.returns-in-GivenUp
+returns-in-GivenUp c =
+    let p = c.args.settings in
+    let t = c.args.old_parser.bytes.now in
+    let s = c.args.old_stacks in
+    let a = c.args.state in
+    let at = c.args.old_parser.index in
     let e = c.take_error-error.result in
     let j = c.turn-at.result.0 in
-    let x = meaning p t c.args.old_stacks c.args.awaits c.args.old_parser.index in
-    let fails = rw c.in-Refused.is at c.turn-at.ensures.reaches in (
-      error-answers e j c.error_at-in-Refused.result (answer_by p t) c.error_at-in-Refused.ensures
-          (answer_by-refused p t c.requires.3 e j
-          (fails-gives e j _ x c.requires.0 (rw c.take_error-error.ensures fails))),
+    let begun = c.requires.0 in
+    let fails = rw c.in-GivenUp.is at c.turn-at.ensures.leads.reaches in
+    let grows = rw c.in-GivenUp.is at c.turn-at.ensures.memory in (
+      error-parses p t j e c.error_at-in-GivenUp.result c.error_at-in-GivenUp.ensures
+          (answer_by-refused p t begun.begins e j
+          (fails-gives e j _ (meaning p t s a at) begun.value (rw c.take_error-error.ensures fails)))
+          c.turn-at.ensures.leads.within.1
+          (turn-grows t p at a s e begun (rw c.take_error-error.ensures grows))
+          (refused-any JsonValue e (past_blanks t 0 ≤ j) (omega (arith, begun.behind, c.turn-at.ensures.leads.within.0))),
       tt,
     )

@@ -1,6 +1,8 @@
+use Rattle.std.proofs.Common.{subst}
+use Rattle.jiter_steps.specs.Answer.{answer, answer_in}
 use Rattle.jiter_steps.proofs.Grammar.Documents.{one_node}
-use Rattle.jiter_value.proofs.ParsedDocuments.{answer-off, parse-found, parse-accepts, parse-cut, parse-dead}
-use Rattle.jiter_value.proofs.ParsedDocuments.{parse-alive, parse-early}
+use Rattle.jiter_value.specs.Value.{Answers}
+use Rattle.jiter_value.proofs.ParsedDocuments.{as_read-is, as_read-cut}
 use Rattle.jiter_value.proofs.value.JsonValue.parse_with_config.Goals as goal
 
 pub returns : goal.returns
@@ -10,19 +12,12 @@ returns c =
     let t = c.args.bytes.now in
     let r = c.read_text.result in
     let read = c.read_text.ensures in
-    let whole = answer-off names t mode r read.answer in
     record {
-      found = λ off. parse-found names t r (whole off);
-      accepts = parse-accepts names t mode r read.answer;
+      found = read.found;
+      accepts = read.accepts;
       one = one_node names t;
-      cut = parse-cut names t mode r read.answer;
-      answer = read.answer;
-      first = whole;
-      dead = λ off. parse-dead names t r (whole off);
-      alive = λ off. parse-alive names t r (whole off);
-      index = read.index;
-      ends = read.ends;
-      early = λ off. parse-early names t r (whole off);
-      memory = read.memory;
-      place = read.place;
+      cut = λ on f. as_read-cut names t mode f r (read.cut on f);
+      answer = subst (Answers r) (as_read-is (answer_in names mode t)) read.answer;
+      first = λ off. subst (Answers r) (as_read-is (answer names t)) (read.first off);
+      parses = read;
     }

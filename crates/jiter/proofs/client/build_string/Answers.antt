@@ -1,0 +1,7 @@
+use Rattle.jiter.proofs.Copies.{copied}
+use Rattle.jiter.proofs.client.build_string.Goals as goal
+
+pub returns-in-Err-clause-memory : goal.returns-in-Err-clause-memory
+returns-in-Err-clause-memory c =
+    let read = c.in_ok-text.ensures.text in
+    λ m. copied c.args.jiter.now c.requires.here c.requires.whole _ read.0 read.1

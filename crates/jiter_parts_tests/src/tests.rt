@@ -1,0 +1,13 @@
+//! Rows of each part: positions and texts, numbers, kernels, blanks, strings, steps and skips.
+mod blanks;
+mod kernels;
+mod number_ends;
+mod numbers;
+mod plain;
+mod raw_strings;
+mod short_numbers;
+mod skips;
+mod steps;
+mod strings;
+mod tapes;
+mod texts;

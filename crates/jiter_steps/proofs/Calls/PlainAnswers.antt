@@ -1,0 +1,52 @@
+-- What the plain way answers of literals and of strings that need no decoding.
+use Rattle.std.proofs.Common.{◌≡◌, ℕ, ◌+◌, ◌<◌, true, false, List, [], length, ◌∙◌, arith, ◌∷◌, refl, Bool}
+use Rattle.std.specs.Prelude.{slice_get, slice_range, Some}
+use Rattle.std.specs.List.{AllPass}
+use Rattle.std.proofs.lemmas.Bool.Decides.{nat_tests}
+use Rattle.jiter_scan.specs.Scan.{scan_stop, is_ascii}
+use Rattle.std.specs.Str.{IsAscii, IsUtf8}
+use Rattle.std.proofs.lemmas.Str.{IsUtf8-from_ascii}
+use Rattle.std.proofs.lemmas.Str.Ascii.{IsAscii-from_all}
+use Rattle.std.proofs.lemmas.Bool.{eq-eqb}
+use Rattle.jiter_scan.specs.Scanned.{taken}
+use Rattle.jiter_scan.specs.Word.{word_at}
+use Rattle.jiter_steps.specs.StringReading.{text_form, string_at, between}
+use Rattle.jiter_steps.proofs.Calls.StringAnswers.{string-quote, string-checked}
+
+-- Words whose bytes are known to stand.
+module _ (t : List ℕ) where
+  pub plain-letter : (c : ℕ) (w : List ℕ) (i j : ℕ) → slice_get t i ≡ Some c → j ≡ i + 1
+      → word_at t (c ∷ w) i ≡ word_at t w j
+  unfolding word_at
+  plain-letter c w i j here next = rw (here, eq-eqb c c refl, next)
+
+  plain-no_letter : (i : ℕ) → word_at t [] i ≡ taken tt i
+  unfolding word_at
+  plain-no_letter i = refl
+
+  pub plain-four : (a b c d i e : ℕ) → slice_get t i ≡ Some a → slice_get t (i + 1) ≡ Some b
+      → slice_get t (i + 2) ≡ Some c → slice_get t (i + 3) ≡ Some d → e ≡ i + 4
+      → word_at t (a ∷ b ∷ c ∷ d ∷ []) i ≡ taken tt e
+  plain-four a b c d i e first second third fourth end =
+      plain-letter a (b ∷ c ∷ d ∷ []) i (i + 1) first refl
+      ∙ plain-letter b (c ∷ d ∷ []) (i + 1) (i + 2) second (omega arith)
+      ∙ plain-letter c (d ∷ []) (i + 2) (i + 3) third (omega arith)
+      ∙ plain-letter d [] (i + 3) e fourth (omega arith) ∙ plain-no_letter e
+
+-- Texts of bytes below 80 hex.
+ascii-low : (b : ℕ) → is_ascii b ≡ true → b < 128
+ascii-low b e = grind (arith, nat_tests, e)
+
+pub plain-ascii : (bs : List ℕ) → AllPass is_ascii bs → IsAscii bs
+plain-ascii bs h = IsAscii-from_all bs (λ k d lt. ascii-low _ (h k d lt))
+
+pub plain-utf8 : (bs : List ℕ) → AllPass is_ascii bs → IsUtf8 bs
+plain-utf8 bs h = IsUtf8-from_ascii bs (plain-ascii bs h)
+
+-- A closed string with no backslash: the text between its quotes.
+module _ (t : List ℕ) (at to : ℕ) (begins : at < length t) (stop : to ≡ scan_stop t (at + 1))
+    (quote : slice_get t to ≡ Some 34) (utf8 : IsUtf8 (slice_range t (at + 1) to)) where
+  pub plain-quoted : (keep : Bool) → string_at (text_form keep) t at ≡ taken (between t (at + 1) to) (to + 1)
+  plain-quoted keep =
+      string-quote t at begins to stop keep quote
+      ∙ string-checked (at + 1) (to + 1) false (slice_range t (at + 1) to) keep utf8

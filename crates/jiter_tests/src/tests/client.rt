@@ -1,0 +1,135 @@
+//! A value built by steps, beside the same value read whole.
+use super::text_of;
+use jiter::client::value_by_steps;
+use jiter::{Jiter, JiterResult, JsonValue};
+use std::alloc::{AllocError, Global};
+use std::test::*;
+
+// The value on one line, or the error's text.
+fn told(alloc: Global, reply: &JiterResult<JsonValue<'_>>) -> Result<String, AllocError> {
+    match reply {
+        Ok(value) => text_of(alloc, value),
+        Err(error) => error.to_string(alloc),
+    }
+}
+
+// What is built by steps, and the byte index where the reader stands then.
+fn built(alloc: Global, bytes: &[u8]) -> Result<(String, usize), AllocError> {
+    let mut jiter = Jiter::new(bytes).with_allow_inf_nan();
+    let reply = value_by_steps(alloc, &mut jiter);
+    Ok((told(alloc, &reply)?, jiter.current_index()))
+}
+
+// The same of what is read whole.
+fn read(alloc: Global, bytes: &[u8]) -> Result<(String, usize), AllocError> {
+    let mut jiter = Jiter::new(bytes).with_allow_inf_nan();
+    let reply = jiter.next_value(alloc);
+    Ok((told(alloc, &reply)?, jiter.current_index()))
+}
+
+#[test]
+fn values_are_built_with_texts_of_their_own(rt: HostRuntime) -> Result<(), Fail> {
+    let alloc = rt.alloc();
+    for (text, wanted, place) in [
+        (" null x", "null", 5),
+        ("true", "true", 4),
+        ("false,", "false", 5),
+        ("-12 ", "-12", 3),
+        ("9223372036854775808", "big owned '9223372036854775808'", 19),
+        ("1.50]", "float owned '1.50'", 4),
+        ("-Infinity", "float owned '-Infinity'", 9),
+        (r#""a b""#, "owned 'a b'", 5),
+        (r#""\u0061""#, "owned 'a'", 8),
+        ("[ ] ]", "[]", 3),
+        ("{ } }", "{}", 3),
+        (r#"{"a":1,"\u0061":2}"#, "{owned 'a':1,owned 'a':2}", 18),
+        (
+            r#"[1, [true, {"k" : ["x", {}]}, []], null] x"#,
+            "[1,[true,{owned 'k':[owned 'x',{}]},[]],null]",
+            40,
+        ),
+    ] {
+        let (line, index) = built(alloc, text.as_bytes())?;
+        assert_eq!(rt; line.as_str(), wanted);
+        assert_eq!(rt; index, place, "{text}");
+    }
+    Ok(())
+}
+
+#[test]
+fn refusals_are_those_of_the_value_read_whole(rt: HostRuntime) -> Result<(), Fail> {
+    let alloc = rt.alloc();
+    for (text, wanted, place) in [
+        ("  ", "EOF while parsing a value at index 2", 2),
+        ("x", "expected value at index 0", 0),
+        ("[x", "expected value at index 1", 1),
+        ("tru", "EOF while parsing a value at index 3", 0),
+        ("[1, fals]", "expected ident at index 8", 4),
+        ("[-x]", "invalid number at index 2", 1),
+        ("[1,]", "trailing comma at index 3", 3),
+        ("[1 2]", "expected `,` or `]` at index 3", 3),
+        ("[1", "EOF while parsing a list at index 2", 2),
+        ("[1,", "EOF while parsing a value at index 3", 3),
+        (r#"{"a" 1}"#, "expected `:` at index 5", 5),
+        (r#"{"a":"#, "EOF while parsing a value at index 5", 5),
+        (r#"{"a":1,}"#, "trailing comma at index 7", 7),
+        (r#"{"a":1 "b"}"#, "expected `,` or `}` at index 7", 7),
+        (r#"{"a":1"#, "EOF while parsing an object at index 6", 6),
+        ("{1:2}", "key must be a string at index 1", 1),
+        (r#"{"a\x":1}"#, "invalid escape at index 4", 1),
+        (r#"["ab"#, "EOF while parsing a string at index 4", 1),
+    ] {
+        let (line, index) = built(alloc, text.as_bytes())?;
+        assert_eq!(rt; line.as_str(), wanted);
+        assert_eq!(rt; index, place, "{text}");
+        let (whole, behind) = read(alloc, text.as_bytes())?;
+        assert_eq!(rt; line.as_str(), whole.as_str());
+        assert_eq!(rt; index, behind, "{text}");
+    }
+    Ok(())
+}
+
+// So many times this text.
+fn repeated(alloc: Global, text: &str, count: usize) -> Result<String, AllocError> {
+    let mut all = String::new(alloc);
+    for _ in 0..count {
+        all.push_str(text)?;
+    }
+    Ok(all)
+}
+
+#[test]
+fn the_limit_of_nesting_is_kept(rt: HostRuntime) -> Result<(), Fail> {
+    let alloc = rt.alloc();
+    let mut deepest = repeated(alloc, "[", 201)?;
+    deepest.push_str(repeated(alloc, "]", 201)?.as_str())?;
+    let (line, index) = built(alloc, deepest.as_str().as_bytes())?;
+    assert_eq!(rt; line.as_str(), deepest.as_str());
+    assert_eq!(rt; index, 402);
+    for (text, wanted, place) in [
+        ("[", "recursion limit exceeded at index 201", 201),
+        ("{\"a\":", "recursion limit exceeded at index 1005", 1005),
+    ] {
+        let mut deep = repeated(alloc, text, 201)?;
+        deep.push_str("1")?;
+        let (line, index) = built(alloc, deep.as_str().as_bytes())?;
+        assert_eq!(rt; line.as_str(), wanted);
+        assert_eq!(rt; index, place);
+    }
+    Ok(())
+}
+
+#[test]
+fn values_are_built_one_behind_another(rt: HostRuntime) -> Result<(), Fail> {
+    let alloc = rt.alloc();
+    let mut jiter = Jiter::new(b"[1, {\"a\": [2]}, 3]");
+    assert!(rt; jiter.next_array()?.is_some());
+    let first = value_by_steps(alloc, &mut jiter)?;
+    assert_eq!(rt; text_of(alloc, &first)?.as_str(), "1");
+    assert!(rt; jiter.array_step()?.is_some());
+    let second = value_by_steps(alloc, &mut jiter)?;
+    assert_eq!(rt; text_of(alloc, &second)?.as_str(), "{owned 'a':[2]}");
+    assert!(rt; jiter.array_step()?.is_some());
+    assert_eq!(rt; jiter.current_index(), 16);
+    Ok(())
+}

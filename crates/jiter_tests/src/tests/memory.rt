@@ -1,0 +1,214 @@
+//! What calls answer where memory is refused.
+use super::text_of;
+use jiter::{JsonErrorType as Kind, JsonValue, JsonValueScratch, PartialMode};
+use std::alloc::{AllocError, Global};
+use std::borrow::CowStr;
+use std::test::*;
+
+// The bytes that are kept back while all other memory is taken, and of these the bytes that are kept back again.
+const RESERVE: usize = 120_000;
+
+const INNER_RESERVE: usize = 4_096;
+
+// All memory, but what was left of the reserve. Under `rt try` the allocator keeps some to itself, and the tests
+// that refuse requests fail there.
+#[derive(Drop)]
+pub(super) struct Held {
+    blocks: Vec<Vec<u8>>,
+    reserve: Vec<u8>,
+}
+
+// Takes blocks of this size until one is refused. Nothing is written to them.
+fn take_blocks(alloc: Global, size: usize, blocks: &mut Vec<Vec<u8>>) {
+    for _ in blocks.len()..blocks.capacity() {
+        match Vec::with_capacity(alloc, size) {
+            Ok(block) => {
+                let _ = blocks.push(block);
+            }
+            Err(_) => return,
+        }
+    }
+}
+
+impl Held {
+    pub(super) fn all(alloc: Global) -> Result<Self, AllocError> {
+        let mut blocks = Vec::with_capacity(alloc, 100_000)?;
+        let reserve = Vec::with_capacity(alloc, RESERVE)?;
+        let mut size = 1usize << 46;
+        for _ in 0..44 {
+            take_blocks(alloc, size, &mut blocks);
+            size = size / 2;
+        }
+        // Small blocks that were freed are kept apart by their size.
+        for step in 0..64 {
+            take_blocks(alloc, 24 + 16 * step, &mut blocks);
+        }
+        Ok(Self { blocks, reserve })
+    }
+
+    // Takes the small blocks too that were let go before: they serve requests of their own size alone.
+    fn take_small(&mut self, alloc: Global) {
+        for taken in 0..64usize {
+            take_blocks(alloc, 1024 - 16 * taken, &mut self.blocks);
+        }
+    }
+
+    // Leaves so many bytes of the reserve to others.
+    pub(super) fn leave(&mut self, alloc: Global, bytes: usize) -> Result<(), AllocError> {
+        self.give_back(alloc);
+        self.reserve = Vec::with_capacity(alloc, RESERVE.saturating_sub(bytes))?;
+        Ok(())
+    }
+
+    pub(super) fn give_back(&mut self, alloc: Global) {
+        self.reserve = Vec::new(alloc);
+    }
+}
+
+// Whether a parse of these bytes is asked with more and more memory until it answers, and answers this value; and
+// whether one request was refused behind the item that begins at `last`.
+fn refusals_are_told(
+    alloc: Global,
+    bytes: &[u8],
+    mode: PartialMode,
+    wanted: &str,
+    last: usize,
+) -> Result<bool, Fail> {
+    let mut held = Held::all(alloc)?;
+    let mut refused_in_last = false;
+    for steps in 0..128usize {
+        held.leave(alloc, 16 * steps)?;
+        let answer = JsonValue::parse_with_config(alloc, bytes, false, mode);
+        held.give_back(alloc);
+        match &answer {
+            Ok(value) => {
+                return Ok(refused_in_last && text_of(alloc, value)?.as_str() == wanted);
+            }
+            Err(error) if error.error_type == Kind::OutOfMemory => {
+                refused_in_last = refused_in_last || error.index >= last;
+            }
+            Err(_) => return Ok(false),
+        }
+    }
+    Ok(false)
+}
+
+#[test]
+fn each_refused_request_is_told(rt: HostRuntime) -> Result<(), Fail> {
+    let alloc = rt.alloc();
+    let whole = br#"[1,["a\nb"],{"k":"\u0061"}]"#.as_slice();
+    let front = br#"[1,["a\nb"],{"k":"\u0061","l":["\n"#.as_slice();
+    for (bytes, mode, wanted) in [
+        (
+            whole,
+            PartialMode::Off,
+            "[1,[owned 'a\nb'],{'k':owned 'a'}]",
+        ),
+        (whole, PartialMode::On, "[1,[owned 'a\nb'],{'k':owned 'a'}]"),
+        (
+            whole,
+            PartialMode::TrailingStrings,
+            "[1,[owned 'a\nb'],{'k':owned 'a'}]",
+        ),
+        (
+            front,
+            PartialMode::On,
+            "[1,[owned 'a\nb'],{'k':owned 'a','l':[]}]",
+        ),
+        (
+            front,
+            PartialMode::TrailingStrings,
+            "[1,[owned 'a\nb'],{'k':owned 'a','l':[owned '\n']}]",
+        ),
+    ] {
+        // The third item begins at index 12.
+        let told = refusals_are_told(alloc, bytes, mode, wanted, 12)?;
+        assert!(rt; told, "{bytes:?}");
+    }
+    Ok(())
+}
+
+// Asks for one vector for each container of a document that has a part, and one text for each decoded string.
+fn ask_for_value(alloc: Global) -> Result<(), AllocError> {
+    let _text = String::from_str(alloc, "a\nb")?;
+    let _inner: Vec<JsonValue<'static>> = Vec::with_capacity(alloc, 2)?;
+    let _letter = String::from_str(alloc, "l\n")?;
+    let _object: Vec<(CowStr<'static>, JsonValue<'static>)> = Vec::with_capacity(alloc, 2)?;
+    let _root: Vec<JsonValue<'static>> = Vec::with_capacity(alloc, 5)?;
+    Ok(())
+}
+
+// How much memory has to be left, in steps of 16 bytes, so that these requests are met.
+fn steps_for_value(alloc: Global) -> Result<usize, Fail> {
+    let mut held = Held::all(alloc)?;
+    held.take_small(alloc);
+    for steps in 0..128usize {
+        held.leave(alloc, 16 * steps)?;
+        let answer = ask_for_value(alloc);
+        held.give_back(alloc);
+        if answer.is_ok() {
+            return Ok(steps);
+        }
+    }
+    Ok(128)
+}
+
+// The same so that a scratch that has read these bytes reads them again.
+fn steps_for_scratch(alloc: Global, bytes: &[u8]) -> Result<usize, Fail> {
+    let mut scratch = JsonValueScratch::new(alloc);
+    let first = scratch.parse(bytes, false, PartialMode::Off)?;
+    let mut held = Held::all(alloc)?;
+    held.take_small(alloc);
+    for steps in 0..128usize {
+        held.leave(alloc, 16 * steps)?;
+        let answer = scratch.parse(bytes, false, PartialMode::Off);
+        held.give_back(alloc);
+        if let Ok(value) = answer {
+            return Ok(if value == first { steps } else { 128 });
+        }
+    }
+    Ok(128)
+}
+
+#[test]
+fn a_scratch_asks_again_for_its_value_alone(rt: HostRuntime) -> Result<(), Fail> {
+    let alloc = rt.alloc();
+    let bytes = br#"[1,["a\nb",[]],{},{"k":3,"l\n":"m"},"n"]"#.as_slice();
+    let alone = steps_for_value(alloc)?;
+    assert!(rt; 0 < alone && alone < 128);
+    assert_eq!(rt; steps_for_scratch(alloc, bytes)?, alone);
+    Ok(())
+}
+
+#[test]
+fn some_values_want_no_memory(rt: HostRuntime) -> Result<(), Fail> {
+    let alloc = rt.alloc();
+    let held = Held::all(alloc)?;
+    let letter = String::from_str(alloc, "a");
+    let answers = [
+        (JsonValue::parse(alloc, b"true", false), "true"),
+        (JsonValue::parse(alloc, b"12", false), "12"),
+        (JsonValue::parse(alloc, b"\"abc\"", false), "'abc'"),
+        (JsonValue::parse(alloc, b"[ ]", false), "[]"),
+        (JsonValue::parse(alloc, b"{ }", false), "{}"),
+    ];
+    drop(held);
+    assert!(rt; letter.is_err());
+    for (answer, wanted) in answers {
+        assert_eq!(rt; text_of(alloc, &answer?)?.as_str(), wanted);
+    }
+    Ok(())
+}
+
+#[test]
+fn a_description_tells_of_want_of_memory(rt: HostRuntime) -> Result<(), Fail> {
+    let alloc = rt.alloc();
+    let error = JsonValue::parse(alloc, b"[1,]", false)
+        .err()
+        .ok_or("a value")?;
+    let held = Held::all(alloc)?;
+    let described = error.description(alloc, b"[1,]");
+    drop(held);
+    assert!(rt; described.is_err());
+    Ok(())
+}

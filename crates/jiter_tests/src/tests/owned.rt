@@ -1,0 +1,113 @@
+//! Values that own their texts, their equality, and a scratch that serves many documents.
+use super::{outcome_text, text_of};
+use jiter::{JsonErrorType as Kind, JsonValue, JsonValueScratch, PartialMode};
+use std::alloc::{AllocError, Global};
+use std::test::*;
+
+#[test]
+fn an_owned_value_owns_each_text(rt: HostRuntime) -> Result<(), Fail> {
+    let alloc = rt.alloc();
+    for (bytes, mode, wanted) in [
+        (b"[\"ab".as_slice(), PartialMode::On, "[]"),
+        (
+            b"[\"ab".as_slice(),
+            PartialMode::TrailingStrings,
+            "[owned 'ab']",
+        ),
+        (b"[1] x".as_slice(), PartialMode::On, "[1]"),
+        (
+            b"{\"k\":[\"a\",2.50,\"\"],\"\\u0061\":null}".as_slice(),
+            PartialMode::Off,
+            "{owned 'k':[owned 'a',float owned '2.50',owned ''],owned 'a':null}",
+        ),
+    ] {
+        let answer = JsonValue::parse_owned(alloc, bytes, false, mode);
+        assert_eq!(rt; outcome_text(alloc, &answer)?.as_str(), wanted);
+    }
+    let refused = JsonValue::parse_owned(alloc, b"[1] x", false, PartialMode::Off)
+        .err()
+        .ok_or("a value")?;
+    assert_eq!(rt; refused.error_type, Kind::TrailingCharacters);
+    assert_eq!(rt; refused.index, 4);
+    Ok(())
+}
+
+#[test]
+fn copies_keep_or_own_each_text(rt: HostRuntime) -> Result<(), Fail> {
+    let alloc = rt.alloc();
+    let bytes = b"{\"k\":[\"a\",\"\\n\",12]}";
+    let value = JsonValue::parse(alloc, bytes, false)?;
+    let kept = "{'k':['a',owned '\n',12]}";
+    let owned = "{owned 'k':[owned 'a',owned '\n',12]}";
+    assert_eq!(rt; text_of(alloc, &value.clone(alloc)?)?.as_str(), kept);
+    assert_eq!(rt; text_of(alloc, &value.to_static(alloc)?)?.as_str(), owned);
+    assert_eq!(rt; text_of(alloc, &value)?.as_str(), kept);
+    assert_eq!(rt; text_of(alloc, &value.into_static(alloc)?)?.as_str(), owned);
+    Ok(())
+}
+
+// Whether the values of two documents are equal.
+fn are_equal(alloc: Global, one: &'static [u8], other: &'static [u8]) -> Result<bool, Fail> {
+    let left = JsonValue::parse(alloc, one, true)?;
+    let right = JsonValue::parse(alloc, other, true)?;
+    Ok(left == right)
+}
+
+#[test]
+fn values_are_equal_where_they_hold_the_same(rt: HostRuntime) -> Result<(), Fail> {
+    let alloc = rt.alloc();
+    for (one, other, wanted) in [
+        (b"1.0".as_slice(), b"1.00".as_slice(), false),
+        (b"[NaN]".as_slice(), b"[NaN]".as_slice(), true),
+        (b"\"a\"".as_slice(), b"\"\\u0061\"".as_slice(), true),
+        (b"1".as_slice(), b"9223372036854775808".as_slice(), false),
+        (b"{\"a\":1}".as_slice(), b"{\"\\u0061\":1}".as_slice(), true),
+        (b"{\"a\":1}".as_slice(), b"{\"b\":1}".as_slice(), false),
+        (b"[1,2]".as_slice(), b"[1]".as_slice(), false),
+        (b"[]".as_slice(), b"{}".as_slice(), false),
+    ] {
+        assert_eq!(rt; are_equal(alloc, one, other)?, wanted);
+    }
+    Ok(())
+}
+
+// A document of each kind, or a text that is refused.
+const TEXTS: [&[u8]; 11] = [
+    b"{\"a\": \"escaped\\nvalue\", \"b\": [1, 2, {\"c\": [3, ",
+    b"[\"ok\\n\", {\"d\": 4}]",
+    b"[1] x",
+    b"12",
+    b"[[],{},[[1.50]]]",
+    b"{\"k\":{\"k\":[\"a\",nul]}}",
+    b"{\"a\":{\"b\":[1,2,{\"c\":x",
+    b"\"text\"",
+    b"{\"k\":{\"k\":[\"a\",null]}}",
+    b"",
+    b"[9223372036854775808,true,{\"a\":1,\"a\":2}]",
+];
+
+#[test]
+fn a_scratch_answers_each_document_as_a_fresh_parse(rt: HostRuntime) -> Result<(), Fail> {
+    let alloc = rt.alloc();
+    let mut scratch = JsonValueScratch::new(alloc);
+    let mut owning = JsonValueScratch::new(alloc);
+    for document in 0..121usize {
+        // The texts in turn, from another one on in each round.
+        let bytes = TEXTS[(document + document / 11) % 11];
+        let mode = match document % 3 {
+            0 => PartialMode::Off,
+            1 => PartialMode::On,
+            _ => PartialMode::TrailingStrings,
+        };
+        let fresh = outcome_text(
+            alloc,
+            &JsonValue::parse_with_config(alloc, bytes, false, mode),
+        )?;
+        let answer = outcome_text(alloc, &scratch.parse(bytes, false, mode))?;
+        assert_eq!(rt; answer.as_str(), fresh.as_str());
+        let owned = outcome_text(alloc, &JsonValue::parse_owned(alloc, bytes, false, mode))?;
+        let owned_answer = outcome_text(alloc, &owning.parse_owned(bytes, false, mode))?;
+        assert_eq!(rt; owned_answer.as_str(), owned.as_str());
+    }
+    Ok(())
+}

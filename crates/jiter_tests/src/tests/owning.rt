@@ -1,0 +1,437 @@
+//! What the calls that answer values of their own tell where memory is refused, and how much of it they take.
+use super::memory::Held;
+use super::{outcome_text, text_of};
+use jiter::client::value_by_steps;
+use jiter::{
+    Jiter, JiterError, JiterErrorType, JiterResult, JsonError, JsonErrorType as Kind, JsonValue,
+    JsonValueScratch, PartialMode,
+};
+use std::alloc::{AllocError, Global};
+use std::borrow::CowStr;
+use std::mem::size_of;
+use std::test::*;
+
+// How many units of memory a call is given at most, one more each time.
+const MOST: usize = 512;
+
+// All memory is held, but for so many units of 16 bytes.
+fn all_but(alloc: Global, units: usize) -> Result<Held, AllocError> {
+    let mut held = Held::all(alloc)?;
+    held.leave(alloc, units.saturating_mul(16))?;
+    Ok(held)
+}
+
+// A call that reads a value which owns its texts.
+#[derive(Debug, Clone, Copy)]
+enum Reading {
+    Parsed,
+    Next,
+    Known,
+    BySteps,
+}
+
+// What such a call of the pull reader replies, and where it stands then.
+fn reply(
+    alloc: Global,
+    bytes: &[u8],
+    reading: Reading,
+) -> (JiterResult<JsonValue<'static>>, usize) {
+    let mut jiter = Jiter::new(bytes);
+    let answer = match reading {
+        Reading::Parsed | Reading::Next => jiter.next_value_owned(alloc),
+        Reading::Known => match jiter.peek() {
+            Ok(peek) => jiter.known_value_owned(alloc, peek),
+            Err(error) => Err(error),
+        },
+        Reading::BySteps => value_by_steps(alloc, &mut jiter),
+    };
+    (answer, jiter.current_index())
+}
+
+// What a call replies, and where it stands then: behind all bytes, where it keeps no place.
+fn read(alloc: Global, bytes: &[u8], reading: Reading) -> (JiterResult<JsonValue<'static>>, usize) {
+    match reading {
+        Reading::Parsed => {
+            let answer = JsonValue::parse_owned(alloc, bytes, false, PartialMode::Off);
+            match answer {
+                Ok(value) => (Ok(value), bytes.len()),
+                Err(error) => {
+                    let index = error.index;
+                    (Err(JiterError::from(error)), index)
+                }
+            }
+        }
+        _ => reply(alloc, bytes, reading),
+    }
+}
+
+// Whether a reading tells want of memory where it stands, with more and more left, and then answers this value.
+fn refusals_are_told(
+    alloc: Global,
+    bytes: &[u8],
+    reading: Reading,
+    wanted: &str,
+) -> Result<bool, Fail> {
+    let mut held = Held::all(alloc)?;
+    for units in 0..MOST {
+        held.leave(alloc, 16 * units)?;
+        let (answer, place) = read(alloc, bytes, reading);
+        held.give_back(alloc);
+        match &answer {
+            Ok(value) => {
+                return Ok(units > 0 && text_of(alloc, value)?.as_str() == wanted);
+            }
+            Err(error) => {
+                let memory = error.error_type == JiterErrorType::JsonError(Kind::OutOfMemory);
+                if !memory || error.index != place {
+                    return Ok(false);
+                }
+            }
+        }
+    }
+    Ok(false)
+}
+
+// A document whose keys and texts have escapes, and its value.
+const NESTED: &[u8] = br#"[1,{"k\n":["a\nb"]},2.50,[],"\u0061c"]"#;
+
+const NESTED_VALUE: &str = "[1,{owned 'k\n':[owned 'a\nb']},float owned '2.50',[],owned 'ac']";
+
+#[test]
+fn each_refused_request_of_an_owned_reading_is_told(rt: HostRuntime) -> Result<(), Fail> {
+    let alloc = rt.alloc();
+    for reading in [
+        Reading::Parsed,
+        Reading::Next,
+        Reading::Known,
+        Reading::BySteps,
+    ] {
+        let told = refusals_are_told(alloc, NESTED, reading, NESTED_VALUE)?;
+        assert!(rt; told, "{reading:?}");
+    }
+    Ok(())
+}
+
+// A document that makes each buffer grow, in few units of memory.
+const SMALL: &[u8] = br#"["\n"]"#;
+
+// What a scratch answers.
+fn parse_on(
+    scratch: &mut JsonValueScratch<'static>,
+    bytes: &'static [u8],
+    is_owned: bool,
+) -> Result<JsonValue<'static>, JsonError> {
+    if is_owned {
+        scratch.parse_owned(bytes, false, PartialMode::Off)
+    } else {
+        scratch.parse(bytes, false, PartialMode::Off)
+    }
+}
+
+// Whether a scratch tells want of memory, with more and more left, and then answers this value; and whether it
+// answers it behind each refused call too.
+fn a_scratch_goes_on(
+    alloc: Global,
+    bytes: &'static [u8],
+    is_owned: bool,
+    wanted: &str,
+) -> Result<bool, Fail> {
+    for units in 0..MOST {
+        let mut scratch = JsonValueScratch::new(alloc);
+        let held = all_but(alloc, units)?;
+        let answer = parse_on(&mut scratch, bytes, is_owned);
+        drop(held);
+        let later = outcome_text(alloc, &parse_on(&mut scratch, bytes, is_owned))?;
+        if later.as_str() != wanted {
+            return Ok(false);
+        }
+        match &answer {
+            Ok(value) => return Ok(units > 0 && text_of(alloc, value)?.as_str() == wanted),
+            Err(error) if error.error_type == Kind::OutOfMemory => {}
+            Err(_) => return Ok(false),
+        }
+    }
+    Ok(false)
+}
+
+#[test]
+fn a_scratch_goes_on_behind_each_refused_request(rt: HostRuntime) -> Result<(), Fail> {
+    let alloc = rt.alloc();
+    assert!(rt; a_scratch_goes_on(alloc, SMALL, false, "[owned '\n']")?);
+    assert!(rt; a_scratch_goes_on(alloc, SMALL, true, "[owned '\n']")?);
+    Ok(())
+}
+
+// A call that copies a value and leaves it.
+#[derive(Debug, Clone, Copy)]
+enum Copying {
+    ToStatic,
+    Clone,
+}
+
+// The copy that a call makes.
+fn copied(
+    alloc: Global,
+    value: &JsonValue<'static>,
+    copying: Copying,
+) -> Result<JsonValue<'static>, AllocError> {
+    match copying {
+        Copying::ToStatic => value.to_static(alloc),
+        Copying::Clone => value.clone(alloc),
+    }
+}
+
+// With how many units of memory a copy is made that is this value. No copy, made or refused, changes what is copied.
+fn units_of_copy(
+    alloc: Global,
+    bytes: &'static [u8],
+    copying: Copying,
+    wanted: &str,
+) -> Result<Option<usize>, Fail> {
+    let value = JsonValue::parse(alloc, bytes, false)?;
+    let fresh = JsonValue::parse(alloc, bytes, false)?;
+    let mut held = Held::all(alloc)?;
+    for units in 0..MOST {
+        held.leave(alloc, 16 * units)?;
+        let copy = copied(alloc, &value, copying);
+        held.give_back(alloc);
+        if value != fresh {
+            return Ok(None);
+        }
+        if let Ok(made) = &copy {
+            return Ok((text_of(alloc, made)?.as_str() == wanted).then_some(units));
+        }
+    }
+    Ok(None)
+}
+
+// With how many units of memory a value is made its own that is this value then.
+fn units_of_moving(
+    alloc: Global,
+    bytes: &'static [u8],
+    wanted: &str,
+) -> Result<Option<usize>, Fail> {
+    for units in 0..MOST {
+        let value = JsonValue::parse(alloc, bytes, false)?;
+        let held = all_but(alloc, units)?;
+        let answer = value.into_static(alloc);
+        drop(held);
+        if let Ok(own) = &answer {
+            return Ok((text_of(alloc, own)?.as_str() == wanted).then_some(units));
+        }
+    }
+    Ok(None)
+}
+
+#[test]
+fn a_value_is_made_its_own_unless_memory_is_refused(rt: HostRuntime) -> Result<(), Fail> {
+    let taken = units_of_moving(rt.alloc(), SMALL, "[owned '\n']")?;
+    assert!(rt; taken.is_some() && taken != Some(0));
+    Ok(())
+}
+
+// A request for memory: a vector of so many items or members, or a text of so many bytes.
+#[derive(Debug, Clone, Copy)]
+enum Request {
+    Items(usize),
+    Members(usize),
+    Text(usize),
+}
+
+// How many bytes are requested.
+fn bytes_of(request: Request) -> usize {
+    match request {
+        Request::Items(count) => count.saturating_mul(size_of::<JsonValue<'static>>()),
+        Request::Members(count) => {
+            count.saturating_mul(size_of::<(CowStr<'static>, JsonValue<'static>)>())
+        }
+        Request::Text(count) => count,
+    }
+}
+
+// Makes these requests one behind another, and keeps what each gives.
+fn request_all(
+    alloc: Global,
+    requests: &[Request],
+    kept: &mut Vec<Vec<u8>>,
+) -> Result<(), AllocError> {
+    for request in requests {
+        kept.push(Vec::with_capacity(alloc, bytes_of(*request))?)?;
+    }
+    Ok(())
+}
+
+// With how many units of memory these requests are granted.
+fn units_of_requests(alloc: Global, requests: &[Request]) -> Result<Option<usize>, Fail> {
+    let mut kept = Vec::with_capacity(alloc, requests.len())?;
+    let mut held = Held::all(alloc)?;
+    for units in 0..MOST {
+        held.leave(alloc, 16 * units)?;
+        let granted = request_all(alloc, requests, &mut kept);
+        kept.clear();
+        held.give_back(alloc);
+        if granted.is_ok() {
+            return Ok(Some(units));
+        }
+    }
+    Ok(None)
+}
+
+// A document of each kind of value, and the lengths of its containers and texts that are not empty.
+const MANY: &[u8] =
+    br#"[1,2.50,"abc","a\nb","",[],{},["",[null]],{"k":1,"l\n":[true]},9223372036854775808]"#;
+
+const MANY_LENGTHS: [Request; 11] = [
+    Request::Items(10),
+    Request::Text(4),
+    Request::Text(3),
+    Request::Text(3),
+    Request::Items(2),
+    Request::Items(1),
+    Request::Members(2),
+    Request::Text(1),
+    Request::Text(2),
+    Request::Items(1),
+    Request::Text(19),
+];
+
+// The same of its borrowed texts alone, since those that are owned are moved.
+const MANY_BORROWED_LENGTHS: [Request; 9] = [
+    Request::Items(10),
+    Request::Text(4),
+    Request::Text(3),
+    Request::Items(2),
+    Request::Items(1),
+    Request::Members(2),
+    Request::Text(1),
+    Request::Items(1),
+    Request::Text(19),
+];
+
+// The same of its owned texts alone.
+const MANY_OWNED_LENGTHS: [Request; 7] = [
+    Request::Items(10),
+    Request::Text(3),
+    Request::Items(2),
+    Request::Items(1),
+    Request::Members(2),
+    Request::Text(2),
+    Request::Items(1),
+];
+
+#[test]
+fn copies_take_one_request_for_each_container_and_text(rt: HostRuntime) -> Result<(), Fail> {
+    let alloc = rt.alloc();
+    let owned = "[1,float owned '2.50',owned 'abc',owned 'a\nb',owned '',[],{},[owned '',[null]],\
+        {owned 'k':1,owned 'l\n':[true]},big owned '9223372036854775808']";
+    let same = "[1,float '2.50','abc',owned 'a\nb','',[],{},['',[null]],\
+        {'k':1,owned 'l\n':[true]},big '9223372036854775808']";
+    for (copying, wanted, requests) in [
+        (Copying::ToStatic, owned, MANY_LENGTHS.as_slice()),
+        (Copying::Clone, same, MANY_OWNED_LENGTHS.as_slice()),
+    ] {
+        let taken = units_of_copy(alloc, MANY, copying, wanted)?;
+        assert!(rt; taken.is_some(), "{copying:?}");
+        assert_eq!(rt; taken, units_of_requests(alloc, requests)?, "{copying:?}");
+    }
+    Ok(())
+}
+
+#[test]
+fn a_value_is_made_its_own_by_one_request_for_each_container_and_borrowed_text(
+    rt: HostRuntime,
+) -> Result<(), Fail> {
+    let alloc = rt.alloc();
+    let owned = "[1,float owned '2.50',owned 'abc',owned 'a\nb',owned '',[],{},[owned '',[null]],\
+        {owned 'k':1,owned 'l\n':[true]},big owned '9223372036854775808']";
+    let taken = units_of_moving(alloc, MANY, owned)?;
+    assert!(rt; taken.is_some());
+    assert_eq!(rt;
+        taken,
+        units_of_requests(alloc, MANY_BORROWED_LENGTHS.as_slice())?
+    );
+    Ok(())
+}
+
+#[test]
+fn copies_of_what_is_empty_take_no_memory(rt: HostRuntime) -> Result<(), Fail> {
+    let alloc = rt.alloc();
+    for (bytes, wanted) in [
+        (b"null".as_slice(), "null"),
+        (b"false", "false"),
+        (b"12", "12"),
+        (b"\"\"", "owned ''"),
+        (b"[ ]", "[]"),
+        (b"{ }", "{}"),
+    ] {
+        let taken = units_of_copy(alloc, bytes, Copying::ToStatic, wanted)?;
+        assert_eq!(rt; taken, Some(0), "an owned copy of {wanted}");
+    }
+    for (bytes, wanted) in [
+        (b"\"\"".as_slice(), "''"),
+        (b"\"abc\"", "'abc'"),
+        (b"2.50", "float '2.50'"),
+        (b"[ ]", "[]"),
+        (b"{ }", "{}"),
+    ] {
+        let taken = units_of_copy(alloc, bytes, Copying::Clone, wanted)?;
+        assert_eq!(rt; taken, Some(0), "a clone of {wanted}");
+    }
+    for (bytes, wanted) in [(b"\"a\\nb\"".as_slice(), "owned 'a\nb'"), (b"[ ]", "[]")] {
+        let taken = units_of_moving(alloc, bytes, wanted)?;
+        assert_eq!(rt; taken, Some(0), "{wanted} made its own");
+    }
+    Ok(())
+}
+
+// Whether a call answers this value.
+fn is_read(alloc: Global, bytes: &[u8], reading: Reading, wanted: &JsonValue<'static>) -> bool {
+    match read(alloc, bytes, reading).0 {
+        Ok(value) => value == *wanted,
+        Err(_) => false,
+    }
+}
+
+// Whether a scratch that is new answers this value.
+fn is_parsed(alloc: Global, bytes: &'static [u8], wanted: &JsonValue<'static>) -> bool {
+    let mut scratch: JsonValueScratch<'static> = JsonValueScratch::new(alloc);
+    let answer: Result<JsonValue<'static>, JsonError> = parse_on(&mut scratch, bytes, true);
+    match &answer {
+        Ok(value) => *value == *wanted,
+        Err(_) => false,
+    }
+}
+
+// Whether each owned reading answers this value.
+fn are_read(alloc: Global, bytes: &'static [u8], wanted: &JsonValue<'static>) -> bool {
+    is_parsed(alloc, bytes, wanted)
+        && is_read(alloc, bytes, Reading::Parsed, wanted)
+        && is_read(alloc, bytes, Reading::Next, wanted)
+        && is_read(alloc, bytes, Reading::Known, wanted)
+        && is_read(alloc, bytes, Reading::BySteps, wanted)
+}
+
+#[test]
+fn some_owned_readings_and_all_skips_take_no_memory(rt: HostRuntime) -> Result<(), Fail> {
+    let alloc = rt.alloc();
+    let held = Held::all(alloc)?;
+    let letter = String::from_str(alloc, "a");
+    let mut answered = 0;
+    for (bytes, wanted) in [
+        (b" null".as_slice(), JsonValue::Null),
+        (b"true", JsonValue::Bool(true)),
+        (b"-12", JsonValue::Int(-12)),
+        (b"[ ]", JsonValue::Array(Vec::new(alloc))),
+        (b"{ }", JsonValue::Object(Vec::new(alloc))),
+    ] {
+        if are_read(alloc, bytes, &wanted) {
+            answered = answered.min(4) + 1;
+        }
+    }
+    let skipped = Jiter::new(NESTED).next_skip();
+    drop(held);
+    assert!(rt; letter.is_err());
+    assert_eq!(rt; answered, 5);
+    assert!(rt; skipped.is_ok());
+    Ok(())
+}

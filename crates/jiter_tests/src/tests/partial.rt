@@ -1,0 +1,207 @@
+//! Rows of bytes, each with what a parse answers in the two partial modes.
+use super::answer_text;
+use jiter::PartialMode;
+use std::alloc::Global;
+use std::test::*;
+
+// Asks both partial modes about these bytes.
+fn in_both_modes(
+    alloc: Global,
+    bytes: &[u8],
+    allow_inf_nan: bool,
+) -> Result<(String, String), Fail> {
+    let on = answer_text(alloc, bytes, allow_inf_nan, PartialMode::On)?;
+    let with_strings = answer_text(alloc, bytes, allow_inf_nan, PartialMode::TrailingStrings)?;
+    Ok((on, with_strings))
+}
+
+#[test]
+fn partial_modes_agree_where_no_string_is_cut(rt: HostRuntime) -> Result<(), Fail> {
+    for (text, wanted) in [
+        ("[1, 2] extra", "[1,2]"),
+        ("[[1,2],[3,", "[[1,2],[3]]"),
+        ("[12", "[12]"),
+        ("[12.", "[]"),
+        ("[12.5", "[float '12.5']"),
+        ("[1e", "[]"),
+        ("[1e5", "[float '1e5']"),
+        ("[-", "[]"),
+        ("[tru", "[]"),
+        ("[1,", "[1]"),
+        ("[{\"a", "[{}]"),
+        ("{\"a\"", "{}"),
+        ("{\"a\":", "{}"),
+        ("{\"a\":nul", "{}"),
+        ("{\"a\":1,\"b\":", "{'a':1}"),
+        ("{\"a\":1 \"b\"}", "{'a':1}"),
+        ("{\"a\":\"x\",\"b", "{'a':'x'}"),
+        ("[{\"a\":[1}, 2]", "[{'a':[1]},2]"),
+        ("[{\"a\":[1},{\"b\":2}]", "[{'a':[1]},{'b':2}]"),
+        ("{\"a\":{\"b\":[1},\"c\":2}", "{'a':{'b':[1]},'c':2}"),
+        ("[{\"a\":1],2]", "[{'a':1}]"),
+        (
+            "[[1,[2,3]],{\"a\":[4,{\"b\":5}],\"c\":[]},6]",
+            "[[1,[2,3]],{'a':[4,{'b':5}],'c':[]},6]",
+        ),
+    ] {
+        let (on, with_strings) = in_both_modes(rt.alloc(), text.as_bytes(), false)?;
+        assert_eq!(rt; on.as_str(), wanted, "{text}");
+        assert_eq!(rt; with_strings.as_str(), wanted, "{text}");
+    }
+    Ok(())
+}
+
+#[test]
+fn some_faults_are_forgiven_in_no_mode(rt: HostRuntime) -> Result<(), Fail> {
+    for (bytes, wanted) in [
+        (b"".as_slice(), "EOF while parsing a value at 0"),
+        (b"  ", "EOF while parsing a value at 2"),
+        (b"tru", "EOF while parsing a value at 3"),
+        (b"[1,]", "trailing comma at 3"),
+        (b"{\"a\" 1}", "expected `:` at 5"),
+        (b"{1:2}", "key must be a string at 1"),
+        (b"{\"a\":1,}", "trailing comma at 7"),
+        (b"[x", "expected value at 1"),
+        (b"[nulx", "expected ident at 4"),
+        (br#"["a\ud83dx"#, "unexpected end of hex escape at 9"),
+        (br#"["ab\u00"]"#, "invalid escape at 8"),
+        (br#"["\uz"] "#, "invalid escape at 4"),
+        (b"[\"\xff\"]", "invalid unicode code point at 2"),
+        (b"{\"a\xe2\":1", "invalid unicode code point at 3"),
+    ] {
+        let (on, with_strings) = in_both_modes(rt.alloc(), bytes, false)?;
+        assert_eq!(rt; on.as_str(), wanted, "{bytes:?}");
+        assert_eq!(rt; with_strings.as_str(), wanted, "{bytes:?}");
+    }
+    Ok(())
+}
+
+#[test]
+fn cut_strings_are_kept_in_one_mode(rt: HostRuntime) -> Result<(), Fail> {
+    let end_of_string = "EOF while parsing a string at 2";
+    for (bytes, wanted_on, wanted_with_strings) in [
+        (b"\"a".as_slice(), end_of_string, "'a'"),
+        (
+            b"{\"a\": [1, {\"b\": \"x",
+            "{'a':[1,{}]}",
+            "{'a':[1,{'b':'x'}]}",
+        ),
+        (b"{\"k\":[\"x\",\"y", "{'k':['x']}", "{'k':['x','y']}"),
+        (b"[\"a\", \"b", "['a']", "['a','b']"),
+        (br#"["a", "b\u00"#, "['a']", "['a',owned 'b']"),
+        (b"[\"", "[]", "['']"),
+        (br#"["a\"#, "[]", "[owned 'a']"),
+        (br#"["ab\u00"#, "[]", "[owned 'ab']"),
+        (br#"["ab\u0"]"#, "[]", "[owned 'ab']"),
+        (br#"["\uz"]"#, "[]", "[owned '']"),
+        (br#"["a\ud83d\ud"#, "[]", "[owned 'a']"),
+        (b"[\"a\xe2\x82", "[]", "['a']"),
+        (
+            b"[\"a\xe2\x82\"]",
+            "invalid unicode code point at 3",
+            "['a']",
+        ),
+        (b"[\"\xff", "[]", "invalid unicode code point at 2"),
+        (b"{\"\xff", "{}", "{}"),
+    ] {
+        let (on, with_strings) = in_both_modes(rt.alloc(), bytes, false)?;
+        assert_eq!(rt; on.as_str(), wanted_on, "{bytes:?}");
+        assert_eq!(rt; with_strings.as_str(), wanted_with_strings, "{bytes:?}");
+    }
+    Ok(())
+}
+
+#[test]
+fn cut_names_are_dropped(rt: HostRuntime) -> Result<(), Fail> {
+    for (text, wanted) in [("[-Inf", "[]"), ("[Na", "[]"), ("[NaN", "[float 'NaN']")] {
+        let (on, with_strings) = in_both_modes(rt.alloc(), text.as_bytes(), true)?;
+        assert_eq!(rt; on.as_str(), wanted, "{text}");
+        assert_eq!(rt; with_strings.as_str(), wanted, "{text}");
+    }
+    Ok(())
+}
+
+#[test]
+fn nesting_is_limited_in_partial_modes(rt: HostRuntime) -> Result<(), Fail> {
+    let alloc = rt.alloc();
+    for (front, times, middle, back, wanted) in [
+        ("[", 300, "", "]", "recursion limit exceeded at 201"),
+        ("{\"a\":", 201, "1", "}", "recursion limit exceeded at 1005"),
+    ] {
+        let opened = front.repeat(alloc, times)?;
+        let closed = back.repeat(alloc, times)?;
+        let text = format!(in alloc; "{opened}{middle}{closed}")?;
+        let (on, with_strings) = in_both_modes(alloc, text.as_bytes(), false)?;
+        assert_eq!(rt; on.as_str(), wanted, "{front} {times} times");
+        assert_eq!(rt; with_strings.as_str(), wanted, "{front} {times} times");
+    }
+    Ok(())
+}
+
+#[test]
+fn two_hundred_containers_around_a_cut_one_are_read(rt: HostRuntime) -> Result<(), Fail> {
+    let alloc = rt.alloc();
+    for (front, shown, back) in [("[", "[", "]"), ("{\"\":", "{'':", "}")] {
+        let bytes = front.repeat(alloc, 201)?;
+        let opened = shown.repeat(alloc, 200)?;
+        let closed = back.repeat(alloc, 201)?;
+        let last = &shown[..1];
+        let wanted = format!(in alloc; "{opened}{last}{closed}")?;
+        let (on, with_strings) = in_both_modes(alloc, bytes.as_bytes(), false)?;
+        assert_eq!(rt; on.as_str(), wanted.as_str());
+        assert_eq!(rt; with_strings.as_str(), wanted.as_str());
+    }
+    Ok(())
+}
+
+#[test]
+fn refusals_leave_nothing_behind(rt: HostRuntime) -> Result<(), Fail> {
+    for (text, wanted) in [
+        (
+            "{\"a\": \"escaped\\nvalue\", \"b\": [1, 2, {\"c\": [3, ",
+            "EOF while parsing a value at 46",
+        ),
+        ("[1] x", "trailing characters at 4"),
+        ("[\"ok\\n\", {\"d\": 4}]", "[owned 'ok\n',{'d':4}]"),
+    ] {
+        let seen = answer_text(rt.alloc(), text.as_bytes(), false, PartialMode::Off)?;
+        assert_eq!(rt; seen.as_str(), wanted, "{text}");
+    }
+    Ok(())
+}
+
+#[test]
+fn one_document_is_cut_at_each_byte(rt: HostRuntime) -> Result<(), Fail> {
+    let bytes = r#"[12,"aé",{"k":true}]"#.as_bytes();
+    let none = "EOF while parsing a value at 0";
+    for (length, wanted_on, wanted_with_strings) in [
+        (0, none, none),
+        (1, "[]", "[]"),
+        (2, "[1]", "[1]"),
+        (3, "[12]", "[12]"),
+        (4, "[12]", "[12]"),
+        (5, "[12]", "[12,'']"),
+        (6, "[12]", "[12,'a']"),
+        (7, "[12]", "[12,'a']"),
+        (8, "[12]", "[12,'aé']"),
+        (9, "[12,'aé']", "[12,'aé']"),
+        (10, "[12,'aé']", "[12,'aé']"),
+        (11, "[12,'aé',{}]", "[12,'aé',{}]"),
+        (12, "[12,'aé',{}]", "[12,'aé',{}]"),
+        (13, "[12,'aé',{}]", "[12,'aé',{}]"),
+        (14, "[12,'aé',{}]", "[12,'aé',{}]"),
+        (15, "[12,'aé',{}]", "[12,'aé',{}]"),
+        (16, "[12,'aé',{}]", "[12,'aé',{}]"),
+        (17, "[12,'aé',{}]", "[12,'aé',{}]"),
+        (18, "[12,'aé',{}]", "[12,'aé',{}]"),
+        (19, "[12,'aé',{'k':true}]", "[12,'aé',{'k':true}]"),
+        (20, "[12,'aé',{'k':true}]", "[12,'aé',{'k':true}]"),
+        (21, "[12,'aé',{'k':true}]", "[12,'aé',{'k':true}]"),
+    ] {
+        let front = bytes.get(..length).ok_or("longer than the whole")?;
+        let (on, with_strings) = in_both_modes(rt.alloc(), front, false)?;
+        assert_eq!(rt; on.as_str(), wanted_on, "{length}");
+        assert_eq!(rt; with_strings.as_str(), wanted_with_strings, "{length}");
+    }
+    Ok(())
+}

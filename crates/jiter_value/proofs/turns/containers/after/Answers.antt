@@ -1,0 +1,70 @@
+use Rattle.std.proofs.Common.{◌∙◌, refl, sym, arith, reverse, rules as library_rules}
+use Rattle.jiter_value.proofs.Shapes.{reaches-part, inside-stands, not-root}
+use Rattle.jiter_value.proofs.Sizes.{behind-part-size}
+use Rattle.jiter_value.proofs.StackTurns.{behind-more, behind-closed, behind-fails}
+use Rattle.jiter_value.proofs.turns.containers.after.Goals as goal
+
+pub returns-in-Part-clause-leads : goal.returns-in-Part-clause-leads
+returns-in-Part-clause-leads c =
+    let p = c.args.settings in
+    let t = c.args.bytes.now in
+    let l = c.closing in
+    let s = l.stacks in
+    let h = c.in-Some.shape in
+    let j = c.step_at-next.result.0 in
+    let so_far = rw c.in-Some.ensures.some at l.invariant in
+    let next = rw c.in-Part.is at c.step_at-next.ensures.next in
+    let lt = c.step_at-next.ensures.part c.in-Part.is in
+    let forward = c.step_at-next.ensures.within.0 in
+    record {
+      within = (omega (arith, so_far.0, forward), omega (arith, lt));
+      reaches = rw c.part_of.ensures
+          (reaches-part p t s h j _
+          (so_far.2
+          ∙ behind-more p t h s.items.items s.members.items s.root l.at (reverse s.nest.items) j so_far.3 next lt)
+          (inside-stands s h so_far.3) (λ array. so_far.4) (omega (arith, so_far.4)) lt);
+      left = search library_rules;
+      held = search library_rules;
+    }
+
+pub returns-then-not-ends-clause-leads : goal.returns-then-not-ends-clause-leads
+returns-then-not-ends-clause-leads c =
+    let l = c.closing in
+    let s = l.stacks in
+    let j = c.step_at-next.result.0 in
+    let so_far = rw c.in-Some.ensures.some at l.invariant in
+    record {
+      within = (omega (arith, so_far.0, c.step_at-next.ensures.within.0), c.step_at-next.ensures.within.1);
+      reaches = rw so_far.2
+          (behind-fails c.args.settings c.args.bytes.now c.in-Some.shape s.items.items s.members.items s.root l.at
+          (reverse s.nest.items) j c.ends.new.stacks.error so_far.3 c.if-not-ends.ensures.resolved);
+      left = tt;
+      held = tt;
+    }
+
+pub closing-preserved : goal.closing-preserved
+closing-preserved c =
+    let p = c.args.settings in
+    let t = c.args.bytes.now in
+    let l = c.closing in
+    let s = l.stacks in
+    let h = c.in-Some.shape in
+    let j = c.step_at-next.result.0 in
+    let so_far = rw c.in-Some.ensures.some at l.invariant in
+    let same = c.if-not-ends.ensures.same refl in
+    let forward = c.step_at-next.ensures.within.0 in
+    let fewer = rw same at c.in-Ok.ensures.nest in (
+      omega (arith, so_far.0, forward),
+      c.step_at-next.ensures.within.1,
+      so_far.2
+          ∙ behind-closed p t h s.items.items s.members.items s.root l.at (reverse s.nest.items) j so_far.3
+          c.if-not-ends.ensures.resolved
+          ∙ (rw same at c.in-Ok.ensures.value p t j),
+      c.in-Ok.ensures.stands,
+      omega (arith, so_far.4, fewer),
+      omega (arith, so_far.5, forward, fewer),
+      (rw same at c.in-Ok.ensures.held)
+          ∙ sym (behind-part-size h (reverse s.nest.items) s.items.items s.members.items s.root so_far.3)
+          ∙ so_far.6,
+      λ r. absurd (not-root h (so_far.7 r)),
+    )

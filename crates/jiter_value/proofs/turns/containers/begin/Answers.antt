@@ -1,0 +1,35 @@
+use Rattle.std.proofs.Common.{refl, arith}
+use Rattle.jiter_value.specs.Turns.{outcome}
+use Rattle.jiter_value.proofs.TurnOutcomes.{leads-weaker, root-grows, refused-weaker, fault-grows}
+use Rattle.jiter_value.proofs.StackTurns.{begins-closed, begins-fails}
+use Rattle.jiter_value.proofs.turns.containers.begin.Goals as goal
+
+pub returns-then-not-ends : goal.returns-then-not-ends
+returns-then-not-ends c =
+    let a = c.args in
+    let r = c.if-not-ends.ensures.resolved in
+    record {
+      leads = record {
+        within = (omega (arith, c.first_at-next.ensures.within.0), c.first_at-next.ensures.within.1);
+        reaches = begins-fails a.settings a.bytes.now a.stacks.now a.slot c.requires.at_value.0 c.requires.at_value.1 a.at
+            a.shape c.first_at-next.result.0 c.ends.new.stacks.error c.requires.bracket r;
+        left = tt;
+        held = tt;
+      };
+      memory = λ e. fault-grows c.ends.new.stacks.error r.0 _ r.1;
+    }
+
+pub returns : goal.returns
+returns c =
+    let a = c.args in
+    let r = outcome c.empty.new.stacks c.empty.result.1 in
+    let ends = c.if-not-ends.ensures in
+    let empty = c.empty.ensures in
+    let same = ends.same refl in
+    let forward = c.first_at-next.ensures.within.0 in
+    record {
+      leads = leads-weaker (rw same at empty.leads) (omega (arith, forward)) (omega (arith, forward)) (omega arith)
+          (begins-closed a.settings a.bytes.now a.stacks.now a.slot c.requires.at_value.0 c.requires.at_value.1 a.at a.shape
+          c.first_at-next.result.0 c.requires.bracket ends.resolved);
+      memory = λ e. root-grows r _ (empty.root e) (refused-weaker r _ _ (λ other. absurd (other e)) empty.memory);
+    }

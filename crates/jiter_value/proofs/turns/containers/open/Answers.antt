@@ -1,0 +1,35 @@
+use Rattle.std.proofs.Common.{refl, arith}
+use Rattle.std.proofs.lemmas.Grind.{common_steps}
+use Rattle.jiter_value.proofs.Shapes.{shape-opens, array-too-deep}
+use Rattle.jiter_value.proofs.turns.containers.open.Goals as goal
+
+pub returns-then-is_full : goal.returns-then-is_full
+returns-then-is_full c =
+    let a = c.args in
+    let full = c.if-is_full.ensures.full refl in
+    rw c.too_deep.ensures.place
+    (record {
+      leads = record {
+        within = (omega (arith, c.requires.within.0), omega (arith, c.requires.within.1));
+        reaches = rw c.too_deep.ensures.error
+            (array-too-deep a.settings a.bytes.now a.stacks.now a.slot c.requires.stands c.requires.room a.at a.next
+            full.1 c.requires.within.1 (rw full.0 at c.requires.bracket) (rw full.0 at c.requires.part));
+        left = tt;
+        held = tt;
+      };
+    })
+
+pub returns-in-Ok : goal.returns-in-Ok
+returns-in-Ok c =
+    let a = c.args in
+    record {
+      leads = record {
+        within = (omega (arith, c.requires.within.0), omega (arith, c.requires.within.1));
+        reaches = rw c.part_of.ensures
+            (shape-opens a.settings a.bytes.now a.stacks.now a.slot c.requires.stands c.requires.room a.at a.shape a.next
+            c.push_small.new.items (rw c.base_of-base.ensures at c.in-Ok.ensures.ok) c.requires.within.1
+            c.requires.bracket c.requires.part (c.if-is_full.ensures.few refl));
+        left = grind (arith, common_steps);
+        held = grind (arith, common_steps);
+      };
+    }

@@ -1,0 +1,20 @@
+use Rattle.std.proofs.Common.{◌+◌, ◌∙◌, false, refl, ap, arith}
+use Rattle.jiter_steps.specs.StringReading.{between}
+use Rattle.jiter_steps.specs.Tree.{string}
+use Rattle.jiter_value.proofs.Placed.{put-at, text-read}
+use Rattle.jiter_value.proofs.Views.{view_str}
+use Rattle.jiter_value.proofs.turns.plain.put_plain_text.Goals as goal
+
+pub returns-clause-put : goal.returns-clause-put
+returns-clause-put c =
+    let a = c.args in
+    let t = a.bytes.now in
+    let scanned = c.scan_string-to in
+    let to = scanned.result.0 in
+    let text = c.ascii_between-text.ensures in
+    let n = c.put_reserved.ensures in
+    put-at _ (string (between t (a.at + 1) to))
+    (view_str _ ∙ ap (λ w. string (record { owned = false; bytes = w })) text.text)
+    c.requires.at_value.0 c.requires.at_value.1 n.value n.stands n.nest n.held
+    refl (omega (arith, scanned.ensures.within.0)) (omega (arith, c.if-to-bytes.false))
+    (λ p room. text-read p t a.at (to + 1) room (between t (a.at + 1) to) c.requires.begins text.value)

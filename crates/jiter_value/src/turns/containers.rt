@@ -1,0 +1,342 @@
+//! Containers on the stacks: where one begins, where it ends, the steps behind a part, and what is forgiven there.
+ghost use Rattle.std.specs.Prelude.{◌≡◌, ◌≢◌, ℕ, ◌+◌, ◌≤◌, ◌<◌, List, IfOk, IfSome, None, OnOk, OnErr, length};
+ghost use Rattle.std.specs.Prelude.{slice_index, true, false};
+ghost use Rattle.jiter_steps.specs.Literal.{start_of};
+ghost use Rattle.jiter_steps.specs.Node.{nesting_limit};
+ghost use Rattle.jiter_steps.specs.Parse.{Steps};
+ghost use Rattle.jiter_steps.specs.Plain.{IsNext, IsStuckAt};
+ghost use Rattle.jiter_steps.specs.Read.{done};
+ghost use Rattle.jiter_steps.specs.ReadError.{WhereRefused};
+ghost use Rattle.jiter_steps.specs.Step.{Step, step, more, container_first, opening};
+ghost use Rattle.jiter_value.specs.Size.{value_size, inside_size, behind_size};
+ghost use Rattle.jiter_value.specs.Stacks.{resume_with, from_value, behind, container_ends, Stands, StandsInside};
+ghost use Rattle.jiter_value.specs.Stacks.{slot_in, base_of, part_of, empty_tree};
+ghost use Rattle.jiter_value.specs.Turns.{IsAtValue, LeadsOn, container_goes, IsResolved, MayGrowFor, left, outcome};
+ghost use Rattle.jiter_value.specs.Value.{MayGrowAt};
+ghost use Rattle.jiter_value.specs.declared.settings.Settings.{Settings as SettingsView};
+
+use crate::settings::{Settings, forgives};
+use crate::stacks::{Open, Slot, Stacks, State, close, no_memory, object_of, put, too_deep};
+use crate::value::JsonValue;
+use jiter_scan::errors::Fault;
+use jiter_scan::memory::{Refused, push_small};
+use jiter_steps::parse::{NESTING_LIMIT, Parser, Shape};
+use jiter_steps::plain::{Next, first_at, step_at};
+use jiter_steps::read_error::ReadError;
+use std::alloc::Global;
+
+/// Where a container goes on.
+#[derive(Clone, Copy, Debug)]
+pub enum Behind {
+    /// Behind its first bracket.
+    Bracket,
+    /// Behind a part of it.
+    Part,
+}
+
+// What is awaited where a part of a container begins.
+#[inline(always)]
+fn part_of(shape: Shape) -> State
+    ensures { result ≡ part_of shape }
+{
+    match shape {
+        Shape::Array => State::Item,
+        Shape::Object => State::Key,
+    }
+}
+
+// The shape of the container that a value goes into, if it goes into one.
+#[inline(always)]
+fn shape_of(slot: Slot) -> Option<Shape>
+    ensures some { IfSome result (λ shape. slot ≡ slot_in shape) }
+    ensures none { result ≡ None → slot ≡ Slot.Root }
+{
+    match slot {
+        Slot::Root => None,
+        Slot::Item => Some(Shape::Array),
+        Slot::Member => Some(Shape::Object),
+    }
+}
+
+// Whether a container's fault is forgiven; if not, the reading is given up for it.
+fn is_forgiven<'j>(stacks: &mut Stacks<'j>, step: Result<bool, Fault>, settings: Settings) -> bool
+    ensures resolved { (i j : ℕ) → (s : Step) → Steps step i s → IsStuckAt j s
+        → IsResolved settings result stacks.new.error j s }
+    ensures same { result ≡ true → stacks.new ≡ stacks.old }
+{
+    match step {
+        Ok(_) => true,
+        Err(fault) => {
+            if forgives(settings.mode, fault.kind) {
+                return true;
+            }
+            stacks.error = ReadError::Fault(fault);
+            false
+        }
+    }
+}
+
+// Whether the fault at `at` is forgiven. The step is read once more here, where it costs nothing: the plain way
+// tells where it is stuck, and not why.
+#[cold]
+#[inline(never)]
+fn is_stuck_forgiven<'j>(
+    stacks: &mut Stacks<'j>,
+    bytes: &'j [u8],
+    from: usize,
+    at: usize,
+    settings: Settings,
+    behind: Behind,
+    shape: Shape,
+) -> bool
+    requires within { from ≤ length bytes.now }
+    requires bracket { behind ≡ Behind.Bracket → from < length bytes.now }
+    requires stuck { IsStuckAt at (container_goes behind shape bytes.now from) }
+    ensures resolved { IsResolved settings result stacks.new.error at
+        (container_goes behind shape bytes.now from) }
+    ensures same { result ≡ true → stacks.new ≡ stacks.old }
+{
+    let mut parser = Parser { bytes, index: from };
+    match behind {
+        Behind::Bracket => is_forgiven(stacks, parser.first(shape), settings),
+        Behind::Part => is_forgiven(stacks, parser.step(shape), settings),
+    }
+}
+
+// Whether a container that goes on with no part ends at `at`; if not, the reading is given up there.
+#[inline(always)]
+fn ends<'j>(
+    stacks: &mut Stacks<'j>,
+    bytes: &'j [u8],
+    from: usize,
+    at: usize,
+    what: Next,
+    settings: Settings,
+    behind: Behind,
+    shape: Shape,
+) -> bool
+    requires within { from ≤ length bytes.now }
+    requires bracket { behind ≡ Behind.Bracket → from < length bytes.now }
+    requires step { IsNext at what (container_goes behind shape bytes.now from) }
+    requires no_part { what ≢ Next.Part }
+    ensures resolved { IsResolved settings result stacks.new.error at
+        (container_goes behind shape bytes.now from) }
+    ensures same { result ≡ true → stacks.new ≡ stacks.old }
+{
+    match what {
+        Next::End => true,
+        _ => is_stuck_forgiven(stacks, bytes, from, at, settings, behind, shape),
+    }
+}
+
+// Behind a value, up to the next value or key; containers that end are closed.
+#[inline(always)]
+pub fn after<'j>(
+    alloc: Global,
+    stacks: &mut Stacks<'j>,
+    bytes: &'j [u8],
+    from: usize,
+    settings: Settings,
+    slot: Slot,
+) -> (usize, State)
+    requires stands { Stands stacks.old slot }
+    requires room { length stacks.old.nest.items ≤ nesting_limit }
+    requires within { from ≤ length bytes.now }
+    ensures leads { LeadsOn settings bytes.now from (left bytes.now stacks.old from + 1)
+        (behind_size stacks.old slot) (behind settings bytes.now stacks.old slot from)
+        stacks.new result }
+    ensures memory { WhereRefused (outcome stacks.new result.1) (slot ≢ Slot.Root) }
+    ensures root { slot ≡ Slot.Root
+        → IfOk (outcome stacks.new result.1) (λ a. a ≡ State.Done) }
+{
+    let mut at = from;
+    let mut inside = slot;
+    'closing: loop {
+        match shape_of(inside) {
+            None => return (at, State::Done),
+            Some(shape) => {
+                let (next, what) = step_at(bytes, at, shape);
+                match what {
+                    Next::Part => return (next, part_of(shape)),
+                    _ => {}
+                }
+                if !ends(stacks, bytes, at, next, what, settings, Behind::Part, shape) {
+                    return (next, State::GivenUp);
+                }
+                match close(alloc, stacks, shape) {
+                    Ok(outer) => inside = outer,
+                    Err(refused) => return no_memory(stacks, refused, next),
+                }
+                at = next;
+            }
+        }
+    }
+}
+
+/// The innermost container ends at `at`, and the steps behind it.
+#[inline(never)]
+pub fn close_and_go_on<'j>(
+    alloc: Global,
+    stacks: &mut Stacks<'j>,
+    bytes: &'j [u8],
+    at: usize,
+    settings: Settings,
+    shape: Shape,
+) -> (usize, State)
+    requires stands { StandsInside shape stacks.old }
+    requires room { length stacks.old.nest.items ≤ nesting_limit + 1 }
+    requires within { at ≤ length bytes.now }
+    ensures leads { LeadsOn settings bytes.now at (left bytes.now stacks.old at)
+        (inside_size shape stacks.old) (container_ends settings bytes.now shape stacks.old at)
+        stacks.new result }
+{
+    match close(alloc, stacks, shape) {
+        Ok(outer) => after(alloc, stacks, bytes, at, settings, outer),
+        Err(refused) => no_memory(stacks, refused, at),
+    }
+}
+
+// An empty container goes where it belongs.
+#[inline(always)]
+fn put_empty<'j>(
+    alloc: Global,
+    stacks: &mut Stacks<'j>,
+    slot: Slot,
+    shape: Shape,
+) -> Result<(), Refused>
+    requires { Stands stacks.old slot }
+    ensures value { OnOk result ((p : SettingsView) → (t : List ℕ) → (e : ℕ)
+        → resume_with p t stacks.old slot (done (empty_tree shape) e) ≡ behind p t stacks.new slot e) }
+    ensures stands { OnOk result (Stands stacks.new slot) }
+    ensures nest { stacks.new.nest ≡ stacks.old.nest }
+    ensures held { OnOk result (behind_size stacks.new slot ≡ value_size stacks.old slot + 1) }
+    ensures refused { OnErr result (slot ≢ Slot.Root) }
+{
+    match shape {
+        Shape::Array => put(stacks, slot, JsonValue::Array(Vec::new(alloc))),
+        Shape::Object => put(stacks, slot, object_of(Vec::new(alloc))),
+    }
+}
+
+// An empty container ends before `end`, and the steps behind it.
+#[inline(always)]
+fn empty<'j>(
+    alloc: Global,
+    stacks: &mut Stacks<'j>,
+    bytes: &'j [u8],
+    end: usize,
+    settings: Settings,
+    slot: Slot,
+    shape: Shape,
+) -> (usize, State)
+    requires stands { Stands stacks.old slot }
+    requires room { length stacks.old.nest.items ≤ nesting_limit }
+    requires within { end ≤ length bytes.now }
+    ensures leads { LeadsOn settings bytes.now end (left bytes.now stacks.old end + 1)
+        (value_size stacks.old slot + 1) (resume_with settings bytes.now stacks.old slot
+        (done (empty_tree shape) end))
+        stacks.new result }
+    ensures memory { WhereRefused (outcome stacks.new result.1) (slot ≢ Slot.Root) }
+    ensures root { slot ≡ Slot.Root
+        → IfOk (outcome stacks.new result.1) (λ a. a ≡ State.Done) }
+{
+    match put_empty(alloc, stacks, slot, shape) {
+        Ok(()) => after(alloc, stacks, bytes, end, settings, slot),
+        Err(refused) => no_memory(stacks, refused, end),
+    }
+}
+
+// Whether no value may stand inside a further container of this shape; that of an object waits for its key.
+#[inline(always)]
+fn is_full<'j>(stacks: &Stacks<'j>, shape: Shape) -> bool
+    ensures full { result ≡ true
+        → (shape ≡ Shape.Array) × (length stacks.now.nest.items ≡ nesting_limit) }
+    ensures few { result ≡ false → shape ≡ Shape.Array
+        → length stacks.now.nest.items ≢ nesting_limit }
+{
+    match shape {
+        Shape::Array => stacks.nest.len() == NESTING_LIMIT,
+        Shape::Object => false,
+    }
+}
+
+// How many parts lie below those of a container that begins.
+#[inline(always)]
+fn base_of<'j>(stacks: &Stacks<'j>, shape: Shape) -> usize
+    ensures { result ≡ base_of shape stacks.now }
+{
+    match shape {
+        Shape::Array => stacks.items.len(),
+        Shape::Object => stacks.members.len(),
+    }
+}
+
+// The container whose bracket is at `at` and whose first part begins at `next` stands open.
+#[inline(always)]
+fn open<'j>(
+    stacks: &mut Stacks<'j>,
+    bytes: &'j [u8],
+    at: usize,
+    next: usize,
+    settings: Settings,
+    slot: Slot,
+    shape: Shape,
+) -> (usize, State)
+    requires stands { Stands stacks.old slot }
+    requires room { length stacks.old.nest.items ≤ nesting_limit }
+    requires within { (at < next) × (next < length bytes.now) }
+    requires bracket { start_of (slice_index bytes.now at) ≡ opening shape }
+    requires part { step bytes.now (container_first shape) (at + 1) ≡ more next }
+    ensures leads { LeadsOn settings bytes.now at (left bytes.now stacks.old at)
+        (value_size stacks.old slot + 1) (from_value settings bytes.now stacks.old slot at)
+        stacks.new result }
+{
+    if is_full(stacks, shape) {
+        return too_deep(stacks, next);
+    }
+    let base = base_of(stacks, shape);
+    let container = Open { outer: slot, base };
+    match push_small(&mut stacks.nest, container) {
+        Ok(()) => (next, part_of(shape)),
+        Err(refused) => no_memory(stacks, refused, next),
+    }
+}
+
+/// The container whose bracket is at `at`.
+#[inline(always)]
+pub fn begin<'j>(
+    alloc: Global,
+    stacks: &mut Stacks<'j>,
+    bytes: &'j [u8],
+    at: usize,
+    settings: Settings,
+    slot: Slot,
+    shape: Shape,
+) -> (usize, State)
+    requires at_value { IsAtValue bytes.now stacks.old slot at }
+    requires bracket { start_of (slice_index bytes.now at) ≡ opening shape }
+    ensures leads { LeadsOn settings bytes.now at (left bytes.now stacks.old at)
+        (value_size stacks.old slot + 1) (from_value settings bytes.now stacks.old slot at)
+        stacks.new result }
+    ensures memory { slot ≡ Slot.Root
+        → MayGrowFor (outcome stacks.new result.1) (MayGrowAt bytes.now at) }
+{
+    let (next, what) = first_at(bytes, at + 1, shape);
+    match what {
+        Next::Part => return open(stacks, bytes, at, next, settings, slot, shape),
+        _ => {}
+    }
+    if !ends(
+        stacks,
+        bytes,
+        at,
+        next,
+        what,
+        settings,
+        Behind::Bracket,
+        shape,
+    ) {
+        return (next, State::GivenUp);
+    }
+    empty(alloc, stacks, bytes, next, settings, slot, shape)
+}
