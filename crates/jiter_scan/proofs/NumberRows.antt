@@ -3,7 +3,7 @@
 -- A relation says of a part what its bytes are, where it begins, and how it is read: in one text, or in two. It holds of
 -- whole numbers where it is kept by what the rows do: choose by a byte, take nothing or a run of digits, fail at a byte,
 -- go on behind one, and read one part behind another. Its instances: what is read is spelled, and what is refused can
--- be ended (NumberSound); and of two texts, one a front of the other, or with the same bytes before a place.
+-- be ended (NumberSound); and two texts with the same bytes before a place are read the same (jiter_steps, SameNumbers).
 use Rattle.std.proofs.Common.{◌≡◌, ◌≢◌, ◌⊎◌, inl, inr, ℕ, ◌+◌, ◌≤◌, Bool, true, ◌||◌, List, [], ◌∷◌, ◌++◌, length}
 use Rattle.std.proofs.Common.{refl, sym, ap, ◌∙◌, subst, arith}
 use Rattle.std.specs.Prelude.{slice_get, Option, Some, None, ◌==◌, if◌then◌else◌, codes}
@@ -113,14 +113,17 @@ Refused Is k = ⊥
 
 -- R is kept by what the rows do, in t and in u, where Here says of a byte that it stands at a place.
 pub record Rows (t u : List ℕ) (Here : ℕ → ℕ → Type 0) (R : Part → ℕ → Extent → Extent → Type 0) : Type 1 where
+  -- a byte chooses, or there is none
   pub byte : (Is : Part) (F G : Option ℕ → Extent) (i : ℕ) → Over Is i (F None) → Over Is i (G None)
       → ((c : ℕ) → Here i c → R Is i (F (Some c)) (G (Some c))) → R Is i (F (slice_get t i)) (G (slice_get u i))
+  -- nothing is taken; a byte is refused; digits are taken, and those of an integer part if they are few
   pub none : (Is : Part) (i : ℕ) → Is [] → R Is i (taken tt i) (taken tt i)
   pub fault : (Is : Part) (k : Kind) (i c : ℕ) → Here i c → Refused Is k → R Is i (failed k i) (failed k i)
   pub run : (i c : ℕ) → Here i c → is_digit c ≡ true
       → R IsDigits i (taken tt (digit_run_end t i)) (taken tt (digit_run_end u i))
   pub limit : (i c : ℕ) → Here i c → is_digit c ≡ true → c ≢ 48
       → R WholePart i (within_limit i (digit_run_end t i)) (within_limit i (digit_run_end u i))
+  -- a part behind a byte; a part of one kind as one of another; a part behind a part, where the second may be nothing
   pub behind : (Is Then : Part) (i c : ℕ) (x y : Extent) → Here i c → ((v : List ℕ) → Is v → Then (c ∷ v))
       → R Is (i + 1) x y → R Then i x y
   pub weaker : (Is Then : Part) (i : ℕ) (x y : Extent) → ((v : List ℕ) → Is v → Then v) → R Is i x y → R Then i x y

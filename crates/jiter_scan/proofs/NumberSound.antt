@@ -19,8 +19,7 @@ use Rattle.jiter_scan.specs.Word.{Extent, word_at}
 use Rattle.jiter_scan.proofs.Choices.{if_case, failed-taken, same_taken}
 use Rattle.jiter_scan.proofs.NumberRows.{Part, Joined, IsWord, WholePart, Power, Magnitude, Over, Ended, Refused, Rows}
 use Rattle.jiter_scan.proofs.NumberRows.{digits, zero, word, whole, fraction, power, exponent, decimal, number}
-use Rattle.jiter_scan.proofs.Runs.{run_end-more, run_end-sound}
-use Rattle.jiter_scan.proofs.Runs.{run_end-within}
+use Rattle.jiter_scan.proofs.Runs.{run_end-more, run_end-sound, run_end-within}
 use Rattle.jiter_scan.proofs.Standing.{get-none, stands-length, stands-within, stands-append, slice-stands}
 
 -- a fault up to which a number's text can be ended

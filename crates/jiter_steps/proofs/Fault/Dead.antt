@@ -13,7 +13,8 @@ use Rattle.jiter_steps.specs.Read.{fault}
 use Rattle.jiter_steps.specs.StringReading.{whole, string_at}
 use Rattle.jiter_steps.proofs.Fault.Completions.{longer-same}
 use Rattle.jiter_steps.proofs.Fault.SameSpelling.{SameBefore}
-use Rattle.jiter_steps.proofs.Fault.SameNumbers.{Same, word-same, number-same}
+use Rattle.jiter_steps.proofs.Fault.SameRuns.{IsOfByte}
+use Rattle.jiter_steps.proofs.Fault.SameNumbers.{late-byte, Same, word-same, number-same}
 use Rattle.jiter_steps.proofs.Fault.SameReadings.{IsFault, KeepsScalars, ShownFault, whole_answer-stays}
 use Rattle.jiter_steps.proofs.Fault.SameStrings.{IsRefused, SameScalar, string-same}
 use Rattle.jiter_steps.proofs.Grammar.Documents.{answer-of}
@@ -27,16 +28,16 @@ module _ (t u : List ℕ) (m : ℕ) (same : SameBefore t u m) where
   seen-same f i (failed k j) (taken b e) h = λ shown. absurd (h shown).1
   seen-same f i (failed k j) (failed l x) h = h
 
-  kept : {A : Type 0} (i : ℕ) (x y : Scanned A) → Same t u m same i x y → SameScalar t m i x y
+  kept : {A : Type 0} (i : ℕ) (x y : Scanned A) → Same IsOfByte late-byte t u m same i x y → SameScalar t m i x y
   kept i (taken a e) y h shown = let at = h shown in (at.0, at.2)
   kept i (failed k j) y h shown = let at = h shown in (at.0, subst IsRefused (sym at.2) tt)
 
   trees-keep : (names : Bool) → KeepsScalars (whole_trees names) t u m
   trees-keep names = record {
     literal = λ l i lt. seen-same _ i _ _ (kept i (literal_at t l i) (literal_at u l i)
-        (word-same t u m same (word_of l) i));
+        (word-same IsOfByte late-byte t u m same (word_of l) i));
     number = λ i lt. seen-same _ i _ _ (kept i (number_at names t i) (number_at names u i)
-        (number-same t u m same names i lt));
+        (number-same IsOfByte late-byte t u m same names i lt));
     text = λ i lt. seen-same _ i (string_at whole t i) (string_at whole u i) (string-same t u m same i);
     key = λ i lt. string-same t u m same i;
   }

@@ -1,11 +1,11 @@
 -- Words and numbers in two texts with the same bytes before a place.
-use Rattle.std.proofs.Common.{◌≡◌, ℕ, ◌+◌, ◌<◌, ◌≤◌, Bool, List, length, refl, sym, ap, ◌∙◌, arith}
+use Rattle.std.proofs.Common.{◌≡◌, ℕ, ◌+◌, ◌<◌, ◌≤◌, Bool, false, List, length, refl, sym, ap, ◌∙◌, arith}
 use Rattle.std.specs.Prelude.{slice_get, Option, Some, None, nat_le}
 use Rattle.std.proofs.lemmas.Bool.{true≢false, leb-false}
 use Rattle.std.proofs.lemmas.Option.{slice_get_within}
 use Rattle.std.proofs.lemmas.Bool.Decides.{nat_tests}
 use Rattle.jiter_scan.specs.Digits.{is_digit, digit_run_end}
-use Rattle.jiter_scan.specs.Kind.{is_end_kind}
+use Rattle.jiter_scan.specs.Kind.{Kind, is_end_kind}
 use Rattle.jiter_scan.specs.Number.{digit_limit, number_value}
 use Rattle.jiter_scan.specs.NumberReading.{extent_then, within_limit, number_extent, with_value, number_at}
 use Rattle.jiter_scan.specs.Scanned.{Scanned, taken, failed}
@@ -19,23 +19,31 @@ use Rattle.jiter_scan.proofs.Standing.{get-none}
 use Rattle.jiter_steps.proofs.Fault.SameSpelling.{SameBefore, range-same}
 use Rattle.jiter_steps.proofs.Fault.SameRuns.{IsOfByte, run-long, run-same}
 
--- an end before m, where the text goes on; or a fault of a byte there
-abbrev pub Shown : {A : Type 0} → List ℕ → ℕ → Scanned A → Type 0
-Shown t m (taken a e) = (e < m) × (e < length t)
-Shown t m (failed k j) = (j < m) × IsOfByte k
+-- an end before m, where the text goes on; or a fault there, of a byte by its kind
+abbrev pub ShownBy : {A : Type 0} → (Kind → Type 0) → List ℕ → ℕ → Scanned A → Type 0
+ShownBy OfByte t m (taken a e) = (e < m) × (e < length t)
+ShownBy OfByte t m (failed k j) = (j < m) × OfByte k
 
-module _ (t u : List ℕ) (m : ℕ) (same : SameBefore t u m) where
+abbrev pub Shown : {A : Type 0} → List ℕ → ℕ → Scanned A → Type 0
+Shown t m x = ShownBy IsOfByte t m x
+
+pub late-byte : (k : Kind) → IsOfByte k → is_end_kind k ≡ false
+late-byte k h = h.0
+
+-- In two texts, where such a kind is none of the input's end.
+module _ (OfByte : Kind → Type 0) (late : (k : Kind) → OfByte k → is_end_kind k ≡ false) (t u : List ℕ) (m : ℕ)
+    (same : SameBefore t u m) where
   -- What is shown of the reading x, which begins at i, is what the reading y of the other text gives.
   abbrev pub Same : {A : Type 0} → ℕ → Scanned A → Scanned A → Type 0
-  Same i x y = Shown t m x → (i < m) × (i < length t) × (y ≡ x)
+  Same i x y = ShownBy OfByte t m x → (i < m) × (i < length t) × (y ≡ x)
 
   later : (i : ℕ) (x y : Extent) → Same (i + 1) x y → Same i x y
   later i x y h s = let r = h s in (omega (arith, r.0), omega (arith, r.1), r.2)
 
   -- where t is over, nothing of it is shown
-  hidden : (Is : Part) (i : ℕ) (x : Extent) → Over Is i x → length t ≤ i → Shown t m x → ⊥
+  hidden : (Is : Part) (i : ℕ) (x : Extent) → Over Is i x → length t ≤ i → ShownBy OfByte t m x → ⊥
   hidden Is i (taken v e) h past s = omega (arith, h.0, s.1)
-  hidden Is i (failed k j) h past s = true≢false (sym (ap is_end_kind h.0) ∙ s.1.0)
+  hidden Is i (failed k j) h past s = true≢false (sym (ap is_end_kind h.0) ∙ late k s.1)
 
   byte-same : (Is : Part) (f g : Option ℕ → Extent) (i : ℕ) → Over Is i (f None) → Over Is i (g None)
       → ((c : ℕ) → i < length t → Same i (f (Some c)) (g (Some c))) → Same i (f (slice_get t i)) (g (slice_get u i))

@@ -10,7 +10,7 @@ use Rattle.jiter_steps.specs.Step.{container_first, container_comma, container_s
 use Rattle.jiter_steps.specs.declared.parse.Shape.{Shape}
 use Rattle.jiter_steps.proofs.Fault.SameSpelling.{SameBefore}
 use Rattle.jiter_steps.proofs.Fault.SameRuns.{IsOfByte, past_blanks-same}
-use Rattle.jiter_steps.proofs.Fault.SameNumbers.{Shown, then-same}
+use Rattle.jiter_steps.proofs.Fault.SameNumbers.{Shown, late-byte, then-same}
 use Rattle.jiter_steps.proofs.Reading.BothShapes.{end_kind-early}
 use Rattle.jiter_steps.proofs.Grammar.Blanks.{past_blanks-after}
 use Rattle.jiter_steps.proofs.Reading.Bounds.{either, both}
@@ -96,5 +96,5 @@ module _ (t u : List ℕ) (m : ℕ) (same : SameBefore t u m) where
 
   pub object_colon-same : (i : ℕ) → SameStep (Shown t m) i (object_colon t i) (object_colon u i)
   object_colon-same i =
-      then-same t u m same i (step t colon i) (step u colon i) (step t value_first) (step u value_first) (colon-same i)
-      value_first-same
+      then-same IsOfByte late-byte t u m same i (step t colon i) (step u colon i) (step t value_first)
+      (step u value_first) (colon-same i) value_first-same
