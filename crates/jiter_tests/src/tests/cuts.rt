@@ -1,7 +1,7 @@
 //! Documents cut at each byte, beside what a plain cutter leaves of them.
 //!
 //! A document is a list of parts here. The cutter reads nothing: it knows where each part begins and ends.
-use super::answer_text;
+use crate::told::answer_text;
 use jiter::PartialMode;
 use std::alloc::{AllocError, Global};
 use std::test::*;

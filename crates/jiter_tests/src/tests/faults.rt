@@ -1,5 +1,6 @@
 //! Rows of bytes, each with the kind and the index of the first fault that a parse of the whole answers.
-use super::{fault_of, value_text};
+use super::value_text;
+use crate::told::fault_of;
 use jiter::{JsonError, JsonErrorType as Kind, JsonValue};
 use std::alloc::{AllocError, Global};
 use std::test::*;

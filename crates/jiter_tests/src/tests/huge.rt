@@ -1,6 +1,7 @@
 //! Ten million bytes through each loop, with ample memory: what a body that calls itself for each byte has no
 //! stack for. Under `rt try`, which builds without optimizing, some take longer than its limit of time.
-use super::{fault_of, value_text};
+use super::value_text;
+use crate::told::fault_of;
 use jiter::{JsonErrorType as Kind, JsonValue, LinePosition, NumberAny, NumberInt};
 use std::borrow::CowStr;
 use std::test::*;

@@ -1,4 +1,4 @@
-//! The kernels, by this crate's name.
+//! The kernels, by the name that `jiter` gives them.
 use jiter::simd::{digit_count, digit_word, digits_end, scan_string};
 
 #[test]

@@ -1,5 +1,6 @@
 //! Large documents with ample memory: many items and members, long texts, faults and positions far in.
-use super::{fault_of, value_text};
+use super::value_text;
+use crate::told::fault_of;
 use jiter::{JsonErrorType as Kind, JsonValue, LinePosition};
 use std::alloc::{AllocError, Global};
 use std::test::*;

@@ -1,5 +1,5 @@
 //! Values that own their texts, their equality, and a scratch that serves many documents.
-use super::{outcome_text, text_of};
+use crate::told::{outcome_text, text_of};
 use jiter::{JsonErrorType as Kind, JsonValue, JsonValueScratch, PartialMode};
 use std::alloc::{AllocError, Global};
 use std::test::*;

@@ -1,6 +1,6 @@
 //! What the calls that answer values of their own tell where memory is refused, and how much of it they take.
-use super::memory::Held;
-use super::{outcome_text, text_of};
+use crate::held::Held;
+use crate::told::{outcome_text, text_of};
 use jiter::client::value_by_steps;
 use jiter::{
     Jiter, JiterError, JiterErrorType, JiterResult, JsonError, JsonErrorType as Kind, JsonValue,

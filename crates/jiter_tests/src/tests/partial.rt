@@ -1,5 +1,5 @@
 //! Rows of bytes, each with what a parse answers in the two partial modes.
-use super::answer_text;
+use crate::told::answer_text;
 use jiter::PartialMode;
 use std::alloc::Global;
 use std::test::*;

@@ -1,5 +1,5 @@
 //! What a machine answers, turn by turn.
-use super::{answer_text, outcome_text};
+use crate::told::{answer_text, outcome_text};
 use jiter::{Machine, PartialMode, Turn};
 use std::alloc::Global;
 use std::test::*;

@@ -1,6 +1,6 @@
 //! The pull reader: what each call replies, and where it leaves the reader.
-use super::text_of;
 use jiter::{Jiter, JiterError, JiterErrorType, JiterResult, NumberAny, NumberInt, Peek};
+use jiter_tests::told::text_of;
 use std::alloc::{AllocError, Global};
 use std::test::*;
 

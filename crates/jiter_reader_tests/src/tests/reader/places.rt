@@ -1,6 +1,7 @@
 //! The making of a reader, its settings, where it stands, and the calls of a caller that has looked.
 use super::{Call, last_text, number_text, peek_text, reply_text, str_text};
 use jiter::{Jiter, JiterResult, LinePosition, Peek};
+use jiter_tests::told::text_of;
 use std::alloc::{AllocError, Global};
 use std::test::*;
 
@@ -122,7 +123,7 @@ fn other_known_text(alloc: Global, jiter: &mut Jiter<'_>) -> Result<String, Allo
         Ok(peek) => match peek.into_inner() {
             b'"' => super::bytes_text(alloc, jiter.known_bytes()),
             b'[' => match jiter.known_value(alloc, peek) {
-                Ok(value) => crate::tests::text_of(alloc, &value),
+                Ok(value) => text_of(alloc, &value),
                 Err(error) => super::error_text(alloc, &error),
             },
             b'-' => super::int_text(alloc, jiter.known_int(peek)),

@@ -1,8 +1,9 @@
-//! The examples of README.md, with what each prints, and each name that this crate exports.
+//! The examples of README.md, with what each prints, and each name that `jiter` exports.
 use jiter::{
     Jiter, JiterResult, JsonArray, JsonError, JsonErrorType, JsonObject, JsonResult, JsonValue,
     JsonValueScratch, LinePosition, Machine, NumberAny, NumberInt, PartialMode, Peek, Turn,
 };
+use jiter_tests::told::text_of;
 use std::alloc::{AllocError, Global};
 use std::borrow::CowStr;
 use std::test::*;
@@ -207,6 +208,6 @@ fn each_name_stands_for_its_own_type(rt: HostRuntime) -> Result<(), Fail> {
     let items: JsonArray<'_> = vec![in alloc; JsonValue::Null]?;
     let members: JsonObject<'_> = vec![in alloc; (CowStr::Borrowed("a"), JsonValue::Array(items))]?;
     let value: JsonValue<'_> = JsonValue::Object(members);
-    assert_eq!(rt; super::text_of(alloc, &value)?.as_str(), "{'a':[null]}");
+    assert_eq!(rt; text_of(alloc, &value)?.as_str(), "{'a':[null]}");
     Ok(())
 }

@@ -1,7 +1,7 @@
 //! A value built by steps, beside the same value read whole.
-use super::text_of;
 use jiter::client::value_by_steps;
 use jiter::{Jiter, JiterResult, JsonValue};
+use jiter_tests::told::text_of;
 use std::alloc::{AllocError, Global};
 use std::test::*;
 

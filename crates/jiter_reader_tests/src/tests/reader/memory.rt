@@ -1,7 +1,7 @@
 //! What the reader replies where memory is refused, and what it reads with none left.
 use super::Call;
-use crate::tests::memory::Held;
 use jiter::{Jiter, JiterErrorType, JiterResult, JsonErrorType};
+use jiter_tests::held::Held;
 use std::alloc::Global;
 use std::test::*;
 

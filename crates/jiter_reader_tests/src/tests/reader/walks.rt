@@ -1,7 +1,7 @@
 //! Documents that are walked through by steps, beside their trees.
 use super::{Call, bool_text, number_text, reply_text};
-use crate::tests::value_text;
-use jiter::{Jiter, Peek};
+use jiter::{Jiter, JsonValue, Peek};
+use jiter_tests::told::text_of;
 use std::alloc::{AllocError, Global};
 use std::test::*;
 
@@ -163,8 +163,9 @@ fn walked_text(alloc: Global, bytes: &[u8]) -> Result<String, Fail> {
 
 // What the document is by its tree, with no mark of the texts.
 fn tree_text(alloc: Global, bytes: &[u8]) -> Result<String, Fail> {
+    let value = JsonValue::parse(alloc, bytes, true)?;
     let mut out = String::new(alloc);
-    for part in value_text(alloc, bytes, true)?.as_str().split("owned ") {
+    for part in text_of(alloc, &value)?.as_str().split("owned ") {
         out.push_str(part)?;
     }
     Ok(out)

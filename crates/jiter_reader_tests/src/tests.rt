@@ -1,0 +1,6 @@
+//! Calls of the pull reader, its client, its texts and skips, and the examples of README.md.
+mod client;
+mod reader;
+mod readme;
+mod skips;
+mod texts;
