@@ -126,10 +126,10 @@ fn first_inside(parser: &mut Parser<'_>, shape: Shape) -> Result<bool, Fault>
     ensures inside { IfOk result (λ more. more ≡ true
         → parser.new.index < length parser.old.bytes.now) }
 {
-    if parser.first(shape)? {
-        value_inside(parser, shape)
-    } else {
-        Ok(false)
+    match parser.first(shape) {
+        Ok(true) => value_inside(parser, shape),
+        Ok(false) => Ok(false),
+        Err(fault) => Err(fault),
     }
 }
 
@@ -142,10 +142,10 @@ fn next_inside(parser: &mut Parser<'_>, shape: Shape) -> Result<bool, Fault>
     ensures inside { IfOk result (λ more. more ≡ true
         → parser.new.index < length parser.old.bytes.now) }
 {
-    if parser.step(shape)? {
-        value_inside(parser, shape)
-    } else {
-        Ok(false)
+    match parser.step(shape) {
+        Ok(true) => value_inside(parser, shape),
+        Ok(false) => Ok(false),
+        Err(fault) => Err(fault),
     }
 }
 
@@ -162,10 +162,10 @@ fn begin(parser: &mut Parser<'_>, nest: &mut Nest, shape: Shape) -> Result<bool,
         (open_frames nest.old.objects nest.old.depth) parser.old.index) }
     ensures ahead { OnOk result (parser.old.index < parser.new.index) }
 {
-    if first_inside(parser, shape)? {
-        open(parser, nest, shape)
-    } else {
-        Ok(false)
+    match first_inside(parser, shape) {
+        Ok(true) => open(parser, nest, shape),
+        Ok(false) => Ok(false),
+        Err(fault) => Err(fault),
     }
 }
 
@@ -231,10 +231,11 @@ fn end_value(parser: &mut Parser<'_>, nest: &mut Nest) -> Result<bool, Fault>
         if nest.depth == 0 {
             return Ok(false);
         }
-        if next_inside(parser, shape_of(nest.objects[nest.depth - 1]))? {
-            return Ok(true);
+        match next_inside(parser, shape_of(nest.objects[nest.depth - 1])) {
+            Ok(true) => return Ok(true),
+            Ok(false) => nest.depth -= 1,
+            Err(fault) => return Err(fault),
         }
-        nest.depth -= 1;
     }
 }
 

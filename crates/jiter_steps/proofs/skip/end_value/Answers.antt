@@ -1,45 +1,43 @@
 use Rattle.std.proofs.Common.{◌<◌, ◌∙◌, sym, ap, subst, arith, length}
-use Rattle.std.proofs.lemmas.Result.{err_from_is_err_and}
 use Rattle.jiter_steps.specs.Answer.{ends}
 use Rattle.jiter_steps.specs.Frames.{value_from}
 use Rattle.jiter_steps.specs.Read.{done}
 use Rattle.jiter_steps.proofs.Calls.Skipping.{innermost-led, open_frames-innermost}
 use Rattle.jiter_steps.proofs.skip.end_value.Goals as goal
 
-pub returns-then-branch-clause-value : goal.returns-then-branch-clause-value
-returns-then-branch-clause-value c = λ names.
+pub returns-in-Ok-true-clause-value : goal.returns-in-Ok-true-clause-value
+returns-in-Ok-true-clause-value c = λ names.
     let t = c.args.parser.now.bytes.now in
     let l = c.closing in
     let p = l.parser in
-    let i = c.in_ok-next_inside in
+    let i = c.in-Ok-true in
     let m = c.next_inside.new.parser.index in
     let same = ap (λ bytes. bytes.now) l.invariant.moves.same in
     let inner = open_frames-innermost l.nest.objects l.nest.depth _ (omega arith) c.shape_of.ensures in (
       l.invariant.same names ∙ innermost-led names t p.bytes.now _ _ _ p.index _ inner same p.within
-          (i.ensures.value ∙ ap (λ more. done more m) c.if-branch.true)
+          (i.ensures.value ∙ ap (λ more. done more m) i.field-0-test)
           ∙ ap (λ fs. value_from (ends names) t fs m) (sym inner),
-      subst (λ u. m < length u) same (i.ensures.inside c.if-branch.true),
+      subst (λ u. m < length u) same (i.ensures.inside i.field-0-test),
     )
 
 pub closing-preserved : goal.closing-preserved
 closing-preserved c =
     let l = c.closing in
     let p = l.parser in
-    let i = c.in_ok-next_inside in
+    let i = c.in-Ok-false in
     let inner = open_frames-innermost l.nest.objects l.nest.depth _ (omega arith) c.shape_of.ensures in
     record {
       moves = record { same = i.ensures.moves.same ∙ l.invariant.moves.same; forward = omega arith };
       same = λ names. l.invariant.same names
           ∙ innermost-led names c.args.parser.now.bytes.now p.bytes.now _ _ _ p.index _ inner
           (ap (λ bytes. bytes.now) l.invariant.moves.same) p.within
-          (i.ensures.value ∙ ap (λ more. done more c.next_inside.new.parser.index) c.if-branch.false);
+          (i.ensures.value ∙ ap (λ more. done more c.next_inside.new.parser.index) i.field-0-test);
     }
 
-pub returns-in_err-next_inside-clause-value : goal.returns-in_err-next_inside-clause-value
-returns-in_err-next_inside-clause-value c = λ names.
+pub returns-in-Err-clause-value : goal.returns-in-Err-clause-value
+returns-in-Err-clause-value c = λ names.
     let l = c.closing in
     let p = l.parser in
     let inner = open_frames-innermost l.nest.objects l.nest.depth _ (omega arith) c.shape_of.ensures in
-    let e = err_from_is_err_and c.from_residual.result c.from_residual.ensures.1 in
-    rw (e.1, e.2) (l.invariant.same names ∙ innermost-led names c.args.parser.now.bytes.now p.bytes.now _ _ _ p.index _ inner
-    (ap (λ bytes. bytes.now) l.invariant.moves.same) p.within c.in_err-next_inside.ensures.value)
+    l.invariant.same names ∙ innermost-led names c.args.parser.now.bytes.now p.bytes.now _ _ _ p.index _ inner
+    (ap (λ bytes. bytes.now) l.invariant.moves.same) p.within c.in-Err.ensures.value
