@@ -1,7 +1,7 @@
 -- A second peek replies as the first, a known_ call as the next_ call, and a refused read of a scalar leaves the reader
 -- where the value begins.
-use Rattle.std.proofs.Common.{◌≡◌, ℕ, true, false, refl, ap, Option, Some, None, List, slice_get, slice_index}
-use Rattle.std.proofs.Common.{slice_range}
+use Rattle.std.proofs.Common.{◌≡◌, ℕ, true, false, refl, ap, sym, subst, Option, Some, None, List, slice_get}
+use Rattle.std.proofs.Common.{slice_index, slice_range}
 use Rattle.std.proofs.lemmas.Option.{get_or_from_slice_get}
 use Rattle.jiter_scan.proofs.Runs.{run_end-here}
 use Rattle.jiter_steps.proofs.Grammar.Blanks.{no_blank-behind}
@@ -112,6 +112,6 @@ pub known-next : {A : Type 0} (s : ReaderState) (read : ℕ → Start → Reply 
     → StandsAt s c → is_blank c ≡ false → known s read ≡ next s read
 unfolding past_blanks
 known-next s read c e other =
-    let b : slice_index s.text s.position ≡ c = get_or_from_slice_get s.text s.position c 0 e in
     let here : value_place s ≡ s.position = run_end-here is_blank s.text s.position (Some c) e other in
-    rw (here, e, b) refl
+    let peeked = known-peeked s read c (subst (λ i. slice_get s.text i ≡ Some c) (sym here) e) in
+    subst (λ i. known (with_position s i) read ≡ next s read) here peeked

@@ -43,11 +43,6 @@ module _ (t : List ℕ) (k : Kind) (j : ℕ) (e : JiterError)
       let index = ap (λ (r : Refusal). r.index) is in
       record { bytes = λ m. at.bytes (let same : k ≡ _ = cc in same); within = omega (arith, at.within, index) }
 
-  -- of what a value's reading reads
-  pub refusal-read : {A : Type 0} (i : ℕ) (r : Reading A) (stop : ℕ) → reading.Within t i r → r ≡ fault k j stop
-      → IsRefusalOf t e
-  refusal-read i r stop w h = let at = subst (reading.Within t i) h w in refusal-fault at.2
-
   -- of what a function of the bytes reads
   pub refusal-failed : {A : Type 0} (x : Scanned A) → Within t x → x ≡ failed k j → IsRefusalOf t e
   refusal-failed x w h = refusal-fault (subst (Within t) h w)

@@ -4,7 +4,7 @@ use Rattle.std.specs.Io.KnownBytes.{Keeps, Appends}
 use Rattle.look.specs.Print.{with_line_feed}
 use Rattle.look.specs.Run.{AppendsFront, Wrote, line_of, status_of}
 use Rattle.look.specs.declared.running.End.{End}
-use Rattle.look.specs.declared.settings.Words.{Words}
+use Rattle.look.specs.declared.words.Words.{Words}
 
 -- what words that ask for nothing are answered with
 abbrev pub usage_line : List ℕ

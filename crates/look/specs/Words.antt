@@ -3,7 +3,7 @@ use Rattle.std.specs.Prelude.{ℕ, Bool, true, false, List, [], ◌∷◌, codes
 use Rattle.std.specs.Prelude.{option_map}
 use Rattle.jiter_scan.specs.declared.partial_mode.PartialMode.{PartialMode}
 use Rattle.jiter_scan.specs.declared.partial_mode.PartialMode.TheVariants.{Off, On, TrailingStrings}
-use Rattle.look.specs.declared.settings.Words.{Words}
+use Rattle.look.specs.declared.words.Words.{Words}
 
 -- the mode that a word names
 abbrev pub mode_of : List ℕ → Option PartialMode

@@ -2,7 +2,7 @@
 ghost use Rattle.std.specs.Prelude.{◌≡◌, map, string_bytes};
 ghost use Rattle.look.specs.Words.{mode_of, words_of};
 
-use crate::settings::Words;
+use crate::words::Words;
 use jiter::PartialMode;
 
 /// What the words ask for: a mode, and perhaps `inf-nan`. Any other list asks for nothing.

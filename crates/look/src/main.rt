@@ -5,9 +5,9 @@ mod asking;
 mod looking;
 mod print;
 mod running;
-mod settings;
 #[cfg(test)]
 mod tests;
+mod words;
 
 use looking::look;
 use std::process::ExitCode;

@@ -6,7 +6,7 @@ use crate::asking::words;
 use crate::looking::look;
 use crate::print::print;
 use crate::running::{End, run};
-use crate::settings::Words;
+use crate::words::Words;
 use jiter::{JsonValue, PartialMode};
 use std::alloc::{AllocError, Global};
 use std::borrow::CowStr;
