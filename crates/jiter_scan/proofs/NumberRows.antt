@@ -1,9 +1,10 @@
 -- The rows of the grammar of numbers, walked once.
 --
--- A relation says of a part what its bytes are, where it begins, and how it is read: in one text, or in two. It holds of
--- whole numbers where it is kept by what the rows do: choose by a byte, take nothing or a run of digits, fail at a byte,
--- go on behind one, and read one part behind another. Its instances: what is read is spelled, and what is refused can
--- be ended (NumberSound); and two texts with the same bytes before a place are read the same (jiter_steps, SameNumbers).
+-- A relation says of a part what its bytes are, where it begins, and how it is read: in one text, or in two. It holds
+-- of whole numbers where it is kept by what the rows do: choose by a byte, take nothing or a run of digits, fail at a
+-- byte, go on behind one, and read one part behind another. Its instances: what is read is spelled, and what is
+-- refused can be ended (NumberSound); and two texts with the same bytes before a place are read the same
+-- (jiter_steps, SameNumbers).
 use Rattle.std.proofs.Common.{◌≡◌, ◌≢◌, ◌⊎◌, inl, inr, ℕ, ◌+◌, ◌≤◌, Bool, true, ◌||◌, List, [], ◌∷◌, ◌++◌, length}
 use Rattle.std.proofs.Common.{refl, sym, ap, ◌∙◌, subst, arith}
 use Rattle.std.specs.Prelude.{slice_get, Option, Some, None, ◌==◌, if◌then◌else◌, codes}
@@ -180,7 +181,8 @@ module _ (t u : List ℕ) (Here : ℕ → ℕ → Type 0) (R : Part → ℕ → 
       (λ l. rows.none IsExponent i (inl refl)))
 
   -- the parts of a decimal number, one behind another
-  pub tail : (i : ℕ) → R Tail i (extent_then (fraction_at t i) (exponent_at t)) (extent_then (fraction_at u i) (exponent_at u))
+  pub tail : (i : ℕ) → R Tail i (extent_then (fraction_at t i) (exponent_at t))
+      (extent_then (fraction_at u i) (exponent_at u))
   tail i = rows.joined IsFraction IsExponent i _ _ (exponent_at t) (exponent_at u) (inl refl) (fraction i) exponent
 
   pub decimal : (i : ℕ) → R Magnitude i (decimal_at t i) (decimal_at u i)

@@ -1,5 +1,5 @@
--- What is read as a number is a number's text; a fault stands within the text, and a zero or nothing ends what is before
--- it, unless the input is over, the digits are too many or a name is another word.
+-- What is read as a number is a number's text; a fault stands within the text, and a zero or nothing ends what is
+-- before it, unless the input is over, the digits are too many or a name is another word.
 use Rattle.std.proofs.Common.{◌≡◌, ◌≢◌, ◌⊎◌, inl, inr, ℕ, ◌+◌, ◌≤◌, Bool, true, false, List, [], ◌∷◌, ◌++◌, length}
 use Rattle.std.proofs.Common.{drop, refl, sym, ap, ◌∙◌, subst, arith, append-nil, append_assoc}
 use Rattle.std.specs.Prelude.{slice_get, slice_range, Option, Some, None, nat_le, codes}
@@ -11,7 +11,8 @@ use Rattle.jiter_scan.specs.Kind.{Kind, is_end_kind, out_of_memory, eof_value, e
 use Rattle.jiter_scan.specs.Kind.{invalid_number, number_out_of_range}
 use Rattle.jiter_scan.specs.Number.{Number, number_value, AreDigits, IsDigits, IsFraction, IsExponent, IsNumberText}
 use Rattle.jiter_scan.specs.Number.{digit_limit}
-use Rattle.jiter_scan.specs.NumberReading.{extent_then, digits_from, behind_zero, within_limit, whole_at, fraction_at, power_from}
+use Rattle.jiter_scan.specs.NumberReading.{extent_then, digits_from, behind_zero, within_limit, whole_at, fraction_at}
+use Rattle.jiter_scan.specs.NumberReading.{power_from}
 use Rattle.jiter_scan.specs.NumberReading.{exponent_at, decimal_at, number_extent, with_value, number_at}
 use Rattle.jiter_scan.specs.Scanned.{taken, failed, FaultAt}
 use Rattle.jiter_scan.specs.Stands.{Stands}

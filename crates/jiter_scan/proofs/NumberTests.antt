@@ -15,7 +15,8 @@ use Rattle.jiter_scan.specs.Stands.{Stands}
 use Rattle.jiter_scan.specs.Number.{AreDigits, IsDigits, IsMinus, IsWhole, IsFraction, IsSign, IsPower, IsExponent}
 use Rattle.jiter_scan.specs.Number.{digit_limit, IsDecimal, IsName, IsNumberText}
 use Rattle.jiter_scan.specs.NumberReading.{number_extent}
-use Rattle.jiter_scan.specs.NumberTests.{is_parted, are_some_digits, is_minus, is_whole, is_fraction, is_sign, is_exponent}
+use Rattle.jiter_scan.specs.NumberTests.{is_parted, are_some_digits, is_minus, is_whole, is_fraction, is_sign}
+use Rattle.jiter_scan.specs.NumberTests.{is_exponent}
 use Rattle.jiter_scan.specs.NumberTests.{is_magnitude, is_name, is_number_text}
 use Rattle.jiter_scan.specs.Scanned.{taken, failed}
 use Rattle.jiter_scan.specs.Word.{Extent}
@@ -42,7 +43,8 @@ parted-decides [] p q P Q hp hq =
     parts [] v e a b = (a, subst Q (sym e) b)
     parts (c ∷ u) v e a b = cc
 parted-decides (c ∷ cs) p q P Q hp hq =
-    Decides-like ((p [] && q (c ∷ cs)) || is_parted cs (λ u. p (c ∷ u)) q) to (λ h. from h.front h.back h.is h.is_front h.is_back)
+    Decides-like ((p [] && q (c ∷ cs)) || is_parted cs (λ u. p (c ∷ u)) q) to
+        (λ h. from h.front h.back h.is h.is_front h.is_back)
     (Decides-or (p [] && q (c ∷ cs)) (is_parted cs (λ u. p (c ∷ u)) q)
     (Decides-and (p []) (q (c ∷ cs)) (hp []) (hq (c ∷ cs)))
     (parted-decides cs (λ u. p (c ∷ u)) q (λ u. P (c ∷ u)) Q (λ u. hp (c ∷ u)) hq))
@@ -50,7 +52,8 @@ parted-decides (c ∷ cs) p q P Q hp hq =
     to : (P [] × Q (c ∷ cs)) ⊎ IsParted (λ u. P (c ∷ u)) Q cs → IsParted P Q (c ∷ cs)
     to (inl h) = record { front = []; back = c ∷ cs; is = refl; is_front = h.0; is_back = h.1 }
     to (inr h) =
-        record { front = c ∷ h.front; back = h.back; is = ap (λ x. c ∷ x) h.is; is_front = h.is_front; is_back = h.is_back }
+        record { front = c ∷ h.front; back = h.back; is = ap (λ x. c ∷ x) h.is; is_front = h.is_front;
+            is_back = h.is_back }
 
     from : (u v : List ℕ) → c ∷ cs ≡ u ++ v → P u → Q v → (P [] × Q (c ∷ cs)) ⊎ IsParted (λ u. P (c ∷ u)) Q cs
     from [] v e a b = inl (a, subst Q (sym e) b)
@@ -94,7 +97,8 @@ PowerParts c cs = ((c ≡ ascii.small_e) ⊎ (c ≡ ascii.capital_e)) × IsParte
 exponent-decides : (w : List ℕ) → Decides (is_exponent w) (IsExponent w)
 exponent-decides [] = (λ h. inl refl, λ h. refl)
 exponent-decides (c ∷ cs) =
-    Decides-like _ to from (Decides-and _ _ (Decides-or _ _ (Decides-eqb c ascii.small_e) (Decides-eqb c ascii.capital_e))
+    Decides-like _ to from
+        (Decides-and _ _ (Decides-or _ _ (Decides-eqb c ascii.small_e) (Decides-eqb c ascii.capital_e))
     (parted-decides cs is_sign are_some_digits IsSign IsDigits sign-decides some_digits-decide))
   where
     to : PowerParts c cs → IsExponent (c ∷ cs)

@@ -1,14 +1,14 @@
 -- The cut law: of a document that is an array or an object, a partial reading of a front gives what `cut` leaves there.
 --
--- A front of a text has its bytes, blanks and steps before the place k (Fronts). The node that the whole text spells is
--- followed while the front is read, by any rules: what ends before the cut is read as before, and the value that the cut
--- falls into meets the end of input (ReadFronts, FrontNodes; CutParts for a container; NumberCut for a number, as the
--- whole text has the front's bytes before the cut: Fault.SameNumbers). So a front without its last bracket is refused
--- (Prefixes). In a partial mode a number is read up to the cut where its bytes up to there are a number's text
--- (NumberCutLaws), a string is kept as its pieces before the cut (CutCharacters, StringCut, StringCutLaws), a container
--- keeps the parts that end by the cut and what is left of the next (CutNodes). Where the reading halts no container round
--- it takes a byte (Halting), so that the law goes up the nesting (CutLaw). A later cut goes on where an earlier one
--- stopped (Growth).
+-- A front of a text has its bytes, blanks and steps before the place k (Fronts). The node that the whole text spells
+-- is followed while the front is read, by any rules: what ends before the cut is read as before, and the value that
+-- the cut falls into meets the end of input (ReadFronts, FrontNodes; CutParts for a container; NumberCut for a
+-- number, as the whole text has the front's bytes before the cut: Fault.SameNumbers). So a front without its last
+-- bracket is refused (Prefixes). In a partial mode a number is read up to the cut where its bytes up to there are a
+-- number's text (NumberCutLaws), a string is kept as its pieces before the cut (CutCharacters, StringCut,
+-- StringCutLaws), a container keeps the parts that end by the cut and what is left of the next (CutNodes). Where the
+-- reading halts no container round it takes a byte (Halting), so that the law goes up the nesting (CutLaw). A later
+-- cut goes on where an earlier one stopped (Growth).
 pub mod CutCharacters
 pub mod CutLaw
 pub mod CutNodes

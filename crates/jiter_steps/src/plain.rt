@@ -1,6 +1,7 @@
 //! The plain way between the parts of a document, by the bytes and a place, with answers that come back in
 //! registers. What is not plain is told and no more: the reader's own calls say what is wrong there.
-ghost use Rattle.std.specs.Prelude.{◌≡◌, ◌≢◌, ◌+◌, ◌≤◌, ◌<◌, Bool, IfSome, IsTrue, length, slice_get, slice_range, Some};
+ghost use Rattle.std.specs.Prelude.{◌≡◌, ◌≢◌, ◌+◌, ◌≤◌, ◌<◌, Bool, IfSome, IsTrue, length, slice_get, slice_range};
+ghost use Rattle.std.specs.Prelude.{Some};
 ghost use Rattle.std.specs.Str.{IsAscii};
 ghost use Rattle.jiter_scan.specs.Ascii as ascii;
 ghost use Rattle.jiter_scan.specs.Scan.{scan_stop, IsAsciiTo};

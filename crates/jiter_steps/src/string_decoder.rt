@@ -1,6 +1,7 @@
 //! Reading a string (RFC 8259, 7 and 8.1): its own bytes where it has no backslash, or else its text decoded.
 ghost use Rattle.std.specs.Prelude.{◌≡◌, ℕ, Bool, ◌+◌, ◌^◌, ◌<◌, ◌≤◌, ◌++◌, length, true, false, slice_get};
-ghost use Rattle.std.specs.Prelude.{List, slice_range, IfOk, IfErr, IfSome, IsTrue, MatchResult, Some, None, take, drop};
+ghost use Rattle.std.specs.Prelude.{List, slice_range, IfOk, IfErr, IfSome, IsTrue, MatchResult, Some, None, take};
+ghost use Rattle.std.specs.Prelude.{drop};
 ghost use Rattle.std.specs.Prelude.{vec_len};
 ghost use Rattle.std.specs.Char.{digit_value, encode_utf8};
 ghost use Rattle.std.specs.List.{AllPass};

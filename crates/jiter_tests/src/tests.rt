@@ -15,7 +15,7 @@ mod kernels;
 mod large;
 mod memory;
 mod owned;
-mod owning;
+mod owned_memory;
 mod partial;
 mod turns;
 mod values;

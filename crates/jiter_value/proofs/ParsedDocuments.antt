@@ -125,11 +125,13 @@ module _ (names : Bool) (t : List ℕ) (mode : PartialMode) where
 
     stands : (e : JsonError) → Answers (Err e) (reading_as made (answer_in names mode t)) → IsWanted e
         → (e.index ≤ length t) × (is_end_kind (kind_of e.error_type) ≡ true → e.index ≡ length t)
-    stands e (inl m) want = ((want m).2, λ ends. let no = sym (ap (λ k. is_end_kind (kind_of k)) m) ∙ ends in absurd (cc))
+    stands e (inl m) want =
+        ((want m).2, λ ends. let no = sym (ap (λ k. is_end_kind (kind_of k)) m) ∙ ends in absurd (cc))
     stands e (inr h) want = let at = fault-at made e h.0 h.1 in (at.within, at.ends)
 
     -- All that a parse promises, from its answer and where it may want memory.
-    pub parses : (r : Result JsonValue JsonError) → Answers r (reading_as made (answer_in names mode t)) → IfErr r IsWanted
+    pub parses : (r : Result JsonValue JsonError) → Answers r (reading_as made (answer_in names mode t))
+        → IfErr r IsWanted
         → Parses made Grows names mode t r
     parses r h want =
         let whole : mode ≡ Off → Answers r (reading_as made (answer names t)) =
@@ -169,7 +171,8 @@ module _ (p : Settings) (t : List ℕ) (i : ℕ) where
   wanted (error.Fault f) e is h le grows from = λ same.
       let read : answer_by p t ≡ fault (kind_of e.error_type) e.index i =
       h ∙ ap₂ (λ k x. fault k x i) (sym is.0) (sym is.1) in
-      absurd ((fault-at p.allow_inf_nan t p.mode as_read e i (as_read-is (answer_by p t) ∙ read)).bytes (ap kind_of same))
+      absurd ((fault-at p.allow_inf_nan t p.mode as_read e i (as_read-is (answer_by p t) ∙ read)).bytes
+          (ap kind_of same))
 
   pub error-parses : (x : ReadError) (e : JsonError) → IsErrorOf x i e → GivesWhole (Err x) i (answer_by p t)
       → i ≤ length t → WhereRefused {A = JsonValue} (Err x) (MayGrow t)

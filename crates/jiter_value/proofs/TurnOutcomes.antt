@@ -8,7 +8,7 @@ use Rattle.jiter_steps.specs.declared.read_error.ReadError.TheVariants as error
 use Rattle.jiter_steps.specs.ReadError.{WhereRefused}
 use Rattle.jiter_steps.specs.Read.{Reading}
 use Rattle.jiter_steps.specs.Tree.{Tree}
-use Rattle.jiter_value.specs.Turns.{LeadsOn, MayGrowFor, outcome}
+use Rattle.jiter_value.specs.Turns.{Proceeds, MayGrowFor, outcome}
 use Rattle.jiter_value.specs.declared.settings.Settings.{Settings}
 use Rattle.jiter_value.specs.declared.stacks.Stacks.{Stacks}
 use Rattle.jiter_value.specs.declared.stacks.State.{State}
@@ -16,7 +16,7 @@ use Rattle.jiter_value.specs.declared.stacks.State.TheVariants as state
 
 -- from a place before it, with more that is left and more that may be held
 pub leads-weaker : {p : Settings} {t : List ℕ} {i j l m h n : ℕ} {x y : Reading Tree} {s : Stacks} {r : ℕ × State}
-    → LeadsOn p t j m n y s r → i ≤ j → m ≤ l → n ≤ h → x ≡ y → LeadsOn p t i l h x s r
+    → Proceeds p t j m n y s r → i ≤ j → m ≤ l → n ≤ h → x ≡ y → Proceeds p t i l h x s r
 leads-weaker {s = s} {r = r} a forward more room is =
     let forth = a.within.0 in
     record {

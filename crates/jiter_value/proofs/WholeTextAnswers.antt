@@ -1,5 +1,6 @@
 -- What a whole text answers, by how its reading goes.
-use Rattle.std.proofs.Common.{◌≡◌, ◌⊎◌, inl, inr, ℕ, ◌<◌, Bool, true, false, List, length, refl, sym, ap, ap₂, ◌∙◌, arith}
+use Rattle.std.proofs.Common.{◌≡◌, ◌⊎◌, inl, inr, ℕ, ◌<◌, Bool, true, false, List, length, refl, sym, ap, ap₂, ◌∙◌}
+use Rattle.std.proofs.Common.{arith}
 use Rattle.std.proofs.lemmas.List.{length-reverse}
 use Rattle.std.specs.Prelude.{reverse, slice_get, Option, Some, None, Err, if◌then◌else◌}
 use Rattle.jiter_scan.specs.Kind.{Kind, fault_kind}
@@ -142,7 +143,8 @@ begins-at-value p t s i b h lt =
     let none : length s.nest.items ≡ 0 = sym (length-reverse s.nest.items)
     ∙ root-alone os (length s.items.items) (length s.members.items) b in
     record {
-      value = rw at (root-from p t os s.items.items s.members.items (length s.items.items) (length s.members.items) i b);
+      value = rw at (root-from p t os s.items.items s.members.items (length s.items.items)
+          (length s.members.items) i b);
       within = (b, omega (arith, none), lt);
       goes_on = λ e. cc;
       begins = rw at lt;

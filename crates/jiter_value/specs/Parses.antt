@@ -1,5 +1,6 @@
 -- What a parse promises.
-use Rattle.std.specs.Prelude.{◌≡◌, ◌⊎◌, ℕ, ◌+◌, ◌≤◌, Bool, true, List, length, take, Result, IfOk, IfErr, MatchResult, Some}
+use Rattle.std.specs.Prelude.{◌≡◌, ◌⊎◌, ℕ, ◌+◌, ◌≤◌, Bool, true, List, length, take, Result, IfOk, IfErr, MatchResult}
+use Rattle.std.specs.Prelude.{Some}
 use Rattle.std.specs.Option.{option_map}
 use Rattle.jiter_scan.specs.Kind.{kind_of, is_end_kind}
 use Rattle.jiter_scan.specs.PartialMode.{is_active}

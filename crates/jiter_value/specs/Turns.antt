@@ -1,5 +1,6 @@
 -- What a turn leads to, and how much is left behind it.
-use Rattle.std.specs.Prelude.{◌≡◌, ℕ, ◌+◌, ◌-◌, ◌*◌, ◌≤◌, ◌<◌, Result, Ok, Err, OnOk, IfOk, Bool, true, false, List, length}
+use Rattle.std.specs.Prelude.{◌≡◌, ℕ, ◌+◌, ◌-◌, ◌*◌, ◌≤◌, ◌<◌, Result, Ok, Err, OnOk, IfOk, Bool, true, false, List}
+use Rattle.std.specs.Prelude.{length}
 use Rattle.jiter_scan.specs.Kind.{fault_kind}
 use Rattle.jiter_scan.specs.declared.errors.Fault.{Fault}
 use Rattle.jiter_steps.specs.Frames.{resolve_step}
@@ -65,8 +66,9 @@ MayGrowFor (Ok a) P = P
 MayGrowFor (Err (error.Fault f)) P = Unit {0}
 MayGrowFor (Err (error.Memory m)) P = P
 
--- From the place i a turn leads on to these stacks, to this place and to this state.
-pub record LeadsOn (p : Settings) (t : List ℕ) (i l h : ℕ) (x : Reading Tree) (s : Stacks) (r : ℕ × State) : Type 0 where
+-- From the place i a turn proceeds to these stacks, to this place and to this state.
+pub record Proceeds (p : Settings) (t : List ℕ) (i l h : ℕ) (x : Reading Tree) (s : Stacks) (r : ℕ × State)
+    : Type 0 where
   -- The reader goes no step back, and stays within the text.
   pub within : (i ≤ r.0) × (r.0 ≤ length t)
   -- What is awaited then, or why the reading was given up, is the reading x.

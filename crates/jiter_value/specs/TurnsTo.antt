@@ -7,7 +7,8 @@ use Rattle.jiter_value.specs.Value.{view, MayGrow}
 use Rattle.jiter_value.specs.declared.machine.Turn.{Turn}
 use Rattle.jiter_value.specs.declared.machine.Turn.TheVariants.{More, Done}
 
--- A reading that goes on, of the same text and settings and no further back: less is left, and one more is held at most.
+-- A reading that goes on, of the same text and settings and no further back: less is left, and one more is held at
+-- most.
 pub record GoesOn (m n : Progress) : Type 0 where
   pub text : n.text ≡ m.text
   pub settings : n.settings ≡ m.settings

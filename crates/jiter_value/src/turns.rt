@@ -8,7 +8,7 @@ ghost use Rattle.jiter_steps.specs.ReadError.{WhereRefused};
 ghost use Rattle.jiter_value.specs.Settings.{rules};
 ghost use Rattle.jiter_value.specs.Size.{value_size, key_size, held};
 ghost use Rattle.jiter_value.specs.Stacks.{slot_of, from_value, from_key, meaning, StandsAtKey};
-ghost use Rattle.jiter_value.specs.Turns.{IsAtValue, LeadsOn, IsWithin, MayGrowFor, left, outcome};
+ghost use Rattle.jiter_value.specs.Turns.{IsAtValue, Proceeds, IsWithin, MayGrowFor, left, outcome};
 ghost use Rattle.jiter_value.specs.Value.{view, MayGrowAt};
 
 use crate::settings::Settings;
@@ -39,7 +39,7 @@ fn value_turn<'j>(
     slot: Slot,
 ) -> (usize, State)
     requires at_value { IsAtValue bytes.now stacks.old slot at }
-    ensures leads { LeadsOn settings bytes.now at (left bytes.now stacks.old at)
+    ensures leads { Proceeds settings bytes.now at (left bytes.now stacks.old at)
         (value_size stacks.old slot + 1) (from_value settings bytes.now stacks.old slot at)
         stacks.new result }
     ensures memory { slot ≡ Slot.Root
@@ -68,7 +68,7 @@ fn key_turn<'j>(
     requires stands { StandsAtKey stacks.old }
     requires room { length stacks.old.nest.items ≤ nesting_limit + 1 }
     requires within { at < length bytes.now }
-    ensures leads { LeadsOn settings bytes.now at (left bytes.now stacks.old at)
+    ensures leads { Proceeds settings bytes.now at (left bytes.now stacks.old at)
         (key_size stacks.old + 1) (from_key settings bytes.now stacks.old at)
         stacks.new result }
 {
@@ -106,7 +106,7 @@ pub fn turn<'j>(
 ) -> (usize, State)
     requires within { IsWithin bytes.now stacks.old state at }
     requires goes_on { state ≢ State.Done }
-    ensures leads { LeadsOn settings bytes.now at (left bytes.now stacks.old at)
+    ensures leads { Proceeds settings bytes.now at (left bytes.now stacks.old at)
         (held stacks.old state + 1) (meaning settings bytes.now stacks.old state at)
         stacks.new result }
     ensures memory { state ≡ State.Root

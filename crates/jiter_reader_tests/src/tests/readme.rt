@@ -1,4 +1,4 @@
-//! The examples of README.md, with what each prints, and each name that `jiter` exports.
+//! The examples of README.md and docs/CALLING.md, with what each prints, and each name that `jiter` exports.
 use jiter::{
     Jiter, JiterResult, JsonArray, JsonError, JsonErrorType, JsonObject, JsonResult, JsonValue,
     JsonValueScratch, LinePosition, Machine, NumberAny, NumberInt, PartialMode, Peek, Turn,

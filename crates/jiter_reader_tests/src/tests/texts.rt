@@ -56,6 +56,7 @@ fn causes_print_their_texts(rt: HostRuntime) -> Result<(), Fail> {
         ),
     ] {
         assert_eq!(rt; cause.to_string(alloc)?.as_str(), text);
+        assert_eq!(rt; format!(in alloc; "{cause:>40}")?.as_str(), text);
         assert_eq!(rt; format!(in alloc; "{cause:?}")?.as_str(), shown);
         assert_eq!(rt; cause.clone()?, cause);
     }
@@ -89,6 +90,25 @@ fn errors_print_cause_and_index(rt: HostRuntime) -> Result<(), Fail> {
     );
     assert!(rt; wrong != error);
     assert_eq!(rt; wrong.clone()?, wrong);
+    Ok(())
+}
+
+#[test]
+fn a_width_changes_no_text(rt: HostRuntime) -> Result<(), Fail> {
+    let alloc = rt.alloc();
+    let comma = JsonError {
+        error_type: JsonErrorType::TrailingComma,
+        index: 3,
+    };
+    assert_eq!(rt;
+        format!(in alloc; "{comma:>40}")?.as_str(),
+        "trailing comma at index 3"
+    );
+    let error = JiterError::from(comma);
+    assert_eq!(rt;
+        format!(in alloc; "{error:>40}")?.as_str(),
+        "trailing comma at index 3"
+    );
     Ok(())
 }
 

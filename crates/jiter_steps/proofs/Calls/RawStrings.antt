@@ -61,7 +61,8 @@ module _ (t : List ℕ) where
   raw-over_again i j k h o = o ∙ ap over (sym h)
 
   -- what stands where it is over
-  pub raw-over_here : (i j : ℕ) (s : Stop) → (body_at t i).stop ≡ (body_at t j).stop → over s ≡ place_at t j → EndsAt t i j
+  pub raw-over_here : (i j : ℕ) (s : Stop) → (body_at t i).stop ≡ (body_at t j).stop → over s ≡ place_at t j
+      → EndsAt t i j
   raw-over_here i j s h p =
       let stop : (body_at t j).stop ≡ s = ap (λ (b : Body). b.stop) (body_at-place_by t j (over s) (sym p)) in
       sym p ∙ ap over (sym (h ∙ stop))
@@ -111,7 +112,8 @@ module _ (t : List ℕ) where
       none-some _ (sym none ∙ got t j h)
 
   -- without its quote it is refused, unless it is kept and the input ends there
-  pub raw-no_quote : (keep : Bool) (i j : ℕ) → EndsAt t i j → over unclosed ≡ place_at t j → (IsTrue keep → j < length t)
+  pub raw-no_quote : (keep : Bool) (i j : ℕ) → EndsAt t i j → over unclosed ≡ place_at t j
+      → (IsTrue keep → j < length t)
       → content_at (raw_form keep) t i ≡ failed eof_string (length t)
   raw-no_quote true i j o p h = absurd (not-unclosed j p (h refl))
   raw-no_quote false i j o p h = raw-by raw i j unclosed o p

@@ -1,7 +1,8 @@
 -- What the reader of strings answers, from what it has found.
 use Rattle.std.proofs.Common.{◌≡◌, ◌≢◌, ℕ, ◌+◌, ◌<◌, ◌≤◌, Bool, true, false, List, length, refl, sym, ap, ◌∙◌}
 use Rattle.std.proofs.Common.{subst, arith, append-nil}
-use Rattle.std.specs.Prelude.{slice_get, slice_range, Some, None, Result, Ok, Err, IfOk, MatchResult, IsErrAnd, ◌==◌, nat_lt}
+use Rattle.std.specs.Prelude.{slice_get, slice_range, Some, None, Result, Ok, Err, IfOk, MatchResult, IsErrAnd, ◌==◌}
+use Rattle.std.specs.Prelude.{nat_lt}
 use Rattle.std.specs.Str.{IsUtf8}
 use Rattle.std.specs.declared.alloc.Global.{Global}
 use Rattle.std.specs.declared.borrow.CowStr.{CowStr}

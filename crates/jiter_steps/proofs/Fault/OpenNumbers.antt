@@ -67,7 +67,8 @@ module _ (t : List ℕ) where
   abbrev pub CanEndNumber : Bool → ℕ → ℕ → Type 0
   CanEndNumber names i x = (i ≤ x) × CanClose t x (λ u. SpellsNumber names u i (length u))
 
-  zero-stands : (x : ℕ) → x ≤ length t → (f : List ℕ) → (f ≡ []) ⊎ (f ≡ codes "0") → Stands (take x t ++ (f ++ [])) x (x + length f) f
+  zero-stands : (x : ℕ) → x ≤ length t → (f : List ℕ) → (f ≡ []) ⊎ (f ≡ codes "0")
+      → Stands (take x t ++ (f ++ [])) x (x + length f) f
   zero-stands x within f (inl e) =
       subst (λ f. Stands (take x t ++ (f ++ [])) x (x + length f) f) (sym e) (omega arith)
   zero-stands x within f (inr e) =

@@ -1,6 +1,7 @@
--- What is built of one reading of a text maps to what is built of another; where some faults of the one aren't told, with
--- every other fault.
-use Rattle.std.proofs.Common.{◌≡◌, ℕ, zero, suc, ◌+◌, ◌<◌, Bool, true, false, cond, List, [], ◌∷◌, ◌++◌, length, map, refl, sym, ap, ◌∙◌}
+-- What is built of one reading of a text maps to what is built of another; where some faults of the one aren't told,
+-- with every other fault.
+use Rattle.std.proofs.Common.{◌≡◌, ℕ, zero, suc, ◌+◌, ◌<◌, Bool, true, false, cond, List, [], ◌∷◌, ◌++◌, length, map}
+use Rattle.std.proofs.Common.{refl, sym, ap, ◌∙◌}
 use Rattle.std.specs.Prelude.{slice_index, slice_get, Option, Some, None}
 use Rattle.std.proofs.lemmas.List.{map_push}
 use Rattle.jiter_scan.specs.Kind.{Kind}

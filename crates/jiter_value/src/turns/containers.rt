@@ -11,7 +11,7 @@ ghost use Rattle.jiter_steps.specs.Step.{Step, step, more, container_first, open
 ghost use Rattle.jiter_value.specs.Size.{value_size, inside_size, behind_size};
 ghost use Rattle.jiter_value.specs.Stacks.{resume_with, from_value, behind, container_ends, Stands, StandsInside};
 ghost use Rattle.jiter_value.specs.Stacks.{slot_in, base_of, part_of, empty_tree};
-ghost use Rattle.jiter_value.specs.Turns.{IsAtValue, LeadsOn, container_goes, IsResolved, MayGrowFor, left, outcome};
+ghost use Rattle.jiter_value.specs.Turns.{IsAtValue, Proceeds, container_goes, IsResolved, MayGrowFor, left, outcome};
 ghost use Rattle.jiter_value.specs.Value.{MayGrowAt};
 ghost use Rattle.jiter_value.specs.declared.settings.Settings.{Settings as SettingsView};
 
@@ -142,7 +142,7 @@ pub fn after<'j>(
     requires stands { Stands stacks.old slot }
     requires room { length stacks.old.nest.items ≤ nesting_limit }
     requires within { from ≤ length bytes.now }
-    ensures leads { LeadsOn settings bytes.now from (left bytes.now stacks.old from + 1)
+    ensures leads { Proceeds settings bytes.now from (left bytes.now stacks.old from + 1)
         (behind_size stacks.old slot) (behind settings bytes.now stacks.old slot from)
         stacks.new result }
     ensures memory { WhereRefused (outcome stacks.new result.1) (slot ≢ Slot.Root) }
@@ -186,7 +186,7 @@ pub fn close_and_go_on<'j>(
     requires stands { StandsInside shape stacks.old }
     requires room { length stacks.old.nest.items ≤ nesting_limit + 1 }
     requires within { at ≤ length bytes.now }
-    ensures leads { LeadsOn settings bytes.now at (left bytes.now stacks.old at)
+    ensures leads { Proceeds settings bytes.now at (left bytes.now stacks.old at)
         (inside_size shape stacks.old) (container_ends settings bytes.now shape stacks.old at)
         stacks.new result }
 {
@@ -232,7 +232,7 @@ fn empty<'j>(
     requires stands { Stands stacks.old slot }
     requires room { length stacks.old.nest.items ≤ nesting_limit }
     requires within { end ≤ length bytes.now }
-    ensures leads { LeadsOn settings bytes.now end (left bytes.now stacks.old end + 1)
+    ensures leads { Proceeds settings bytes.now end (left bytes.now stacks.old end + 1)
         (value_size stacks.old slot + 1) (resume_with settings bytes.now stacks.old slot
         (done (empty_tree shape) end))
         stacks.new result }
@@ -287,7 +287,7 @@ fn open<'j>(
     requires within { (at < next) × (next < length bytes.now) }
     requires bracket { start_of (slice_index bytes.now at) ≡ opening shape }
     requires part { step bytes.now (container_first shape) (at + 1) ≡ more next }
-    ensures leads { LeadsOn settings bytes.now at (left bytes.now stacks.old at)
+    ensures leads { Proceeds settings bytes.now at (left bytes.now stacks.old at)
         (value_size stacks.old slot + 1) (from_value settings bytes.now stacks.old slot at)
         stacks.new result }
 {
@@ -315,7 +315,7 @@ pub fn begin<'j>(
 ) -> (usize, State)
     requires at_value { IsAtValue bytes.now stacks.old slot at }
     requires bracket { start_of (slice_index bytes.now at) ≡ opening shape }
-    ensures leads { LeadsOn settings bytes.now at (left bytes.now stacks.old at)
+    ensures leads { Proceeds settings bytes.now at (left bytes.now stacks.old at)
         (value_size stacks.old slot + 1) (from_value settings bytes.now stacks.old slot at)
         stacks.new result }
     ensures memory { slot ≡ Slot.Root

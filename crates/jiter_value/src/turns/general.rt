@@ -8,7 +8,7 @@ ghost use Rattle.jiter_steps.specs.ReadError.{WhereRefused};
 ghost use Rattle.jiter_steps.specs.declared.parse.Start.{Start};
 ghost use Rattle.jiter_value.specs.Size.{value_size, key_size};
 ghost use Rattle.jiter_value.specs.Stacks.{resume_with, from_value, from_key, key_fault, Stands, StandsAtKey};
-ghost use Rattle.jiter_value.specs.Turns.{IsAtValue, LeadsOn, MayGrowFor, left, outcome};
+ghost use Rattle.jiter_value.specs.Turns.{IsAtValue, Proceeds, MayGrowFor, left, outcome};
 ghost use Rattle.jiter_value.specs.Value.{MayGrowAt};
 
 use crate::settings::{Settings, forgives};
@@ -37,7 +37,7 @@ fn fault_at_value<'j>(
     requires stands { Stands stacks.old slot }
     requires room { length stacks.old.nest.items ≤ nesting_limit }
     requires within { at ≤ length bytes.now }
-    ensures leads { LeadsOn settings bytes.now at (left bytes.now stacks.old at)
+    ensures leads { Proceeds settings bytes.now at (left bytes.now stacks.old at)
         (value_size stacks.old slot) (resume_with settings bytes.now stacks.old slot
         (fault (fault_kind problem.kind) problem.index at))
         stacks.new result }
@@ -71,7 +71,7 @@ fn fault_at_key<'j>(
     requires stands { StandsAtKey stacks.old }
     requires room { length stacks.old.nest.items ≤ nesting_limit + 1 }
     requires within { at ≤ length bytes.now }
-    ensures leads { LeadsOn settings bytes.now at (left bytes.now stacks.old at)
+    ensures leads { Proceeds settings bytes.now at (left bytes.now stacks.old at)
         (key_size stacks.old) (key_fault settings bytes.now stacks.old
         (fault_kind problem.kind) problem.index at)
         stacks.new result }
@@ -96,7 +96,7 @@ pub fn general_scalar<'j>(
     requires at_value { IsAtValue bytes.now stacks.old slot at }
     requires array { start_of (slice_index bytes.now at) ≢ Start.Array }
     requires object { start_of (slice_index bytes.now at) ≢ Start.Object }
-    ensures leads { LeadsOn settings bytes.now at (left bytes.now stacks.old at)
+    ensures leads { Proceeds settings bytes.now at (left bytes.now stacks.old at)
         (value_size stacks.old slot + 1) (from_value settings bytes.now stacks.old slot at)
         stacks.new result }
     ensures memory { slot ≡ Slot.Root
@@ -128,7 +128,7 @@ pub fn general_key<'j>(
     requires stands { StandsAtKey stacks.old }
     requires room { length stacks.old.nest.items ≤ nesting_limit + 1 }
     requires within { at < length bytes.now }
-    ensures leads { LeadsOn settings bytes.now at (left bytes.now stacks.old at)
+    ensures leads { Proceeds settings bytes.now at (left bytes.now stacks.old at)
         (key_size stacks.old + 1) (from_key settings bytes.now stacks.old at)
         stacks.new result }
 {

@@ -40,6 +40,9 @@ fn scalars_are_read_or_refused(rt: HostRuntime) -> Result<(), Fail> {
         (Call::Str, "12.", "EofWhileParsingValue at 3 | 0"),
         (Call::Str, "\"ab", "EofWhileParsingString at 3 | 0"),
         (Call::Str, "{", "WrongType String, Object at 0 | 0"),
+        // a backslash behind a number wants no memory
+        (Call::Str, "1\\", "WrongType String, Int at 0 | 0"),
+        (Call::Object, "1\"\\", "WrongType Object, Int at 0 | 0"),
         (Call::Bytes, r#""a\n""#, r"<a\n> | 5"),
         (Call::Bytes, "\"ab", "EofWhileParsingString at 3 | 0"),
         (Call::Bytes, "true", "WrongType String, Bool at 0 | 0"),

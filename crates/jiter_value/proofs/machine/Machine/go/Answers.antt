@@ -53,6 +53,7 @@ returns-in-GivenUp c =
           (fails-gives e j _ (meaning p t s a at) begun.value (rw c.take_error-error.ensures fails)))
           c.turn-at.ensures.leads.within.1
           (turn-grows t p at a s e begun (rw c.take_error-error.ensures grows))
-          (refused-any JsonValue e (past_blanks t 0 ≤ j) (omega (arith, begun.behind, c.turn-at.ensures.leads.within.0))),
+          (refused-any JsonValue e (past_blanks t 0 ≤ j)
+              (omega (arith, begun.behind, c.turn-at.ensures.leads.within.0))),
       tt,
     )

@@ -11,7 +11,8 @@ returns-then-not-ends c =
     record {
       leads = record {
         within = (omega (arith, c.first_at-next.ensures.within.0), c.first_at-next.ensures.within.1);
-        reaches = begins-fails a.settings a.bytes.now a.stacks.now a.slot c.requires.at_value.0 c.requires.at_value.1 a.at
+        reaches = begins-fails a.settings a.bytes.now a.stacks.now a.slot c.requires.at_value.0 c.requires.at_value.1
+            a.at
             a.shape c.first_at-next.result.0 c.ends.new.stacks.error c.requires.bracket r;
         left = tt;
         held = tt;
@@ -29,7 +30,8 @@ returns c =
     let forward = c.first_at-next.ensures.within.0 in
     record {
       leads = leads-weaker (rw same at empty.leads) (omega (arith, forward)) (omega (arith, forward)) (omega arith)
-          (begins-closed a.settings a.bytes.now a.stacks.now a.slot c.requires.at_value.0 c.requires.at_value.1 a.at a.shape
+          (begins-closed a.settings a.bytes.now a.stacks.now a.slot c.requires.at_value.0 c.requires.at_value.1 a.at
+              a.shape
           c.first_at-next.result.0 c.requires.bracket ends.resolved);
       memory = λ e. root-grows r _ (empty.root e) (refused-weaker r _ _ (λ other. absurd (other e)) empty.memory);
     }
