@@ -44,7 +44,7 @@ parted-decides [] p q P Q hp hq =
     parts (c ∷ u) v e a b = cc
 parted-decides (c ∷ cs) p q P Q hp hq =
     Decides-like ((p [] && q (c ∷ cs)) || is_parted cs (λ u. p (c ∷ u)) q) to
-        (λ h. from h.front h.back h.is h.is_front h.is_back)
+    (λ h. from h.front h.back h.is h.is_front h.is_back)
     (Decides-or (p [] && q (c ∷ cs)) (is_parted cs (λ u. p (c ∷ u)) q)
     (Decides-and (p []) (q (c ∷ cs)) (hp []) (hq (c ∷ cs)))
     (parted-decides cs (λ u. p (c ∷ u)) q (λ u. P (c ∷ u)) Q (λ u. hp (c ∷ u)) hq))
@@ -52,8 +52,13 @@ parted-decides (c ∷ cs) p q P Q hp hq =
     to : (P [] × Q (c ∷ cs)) ⊎ IsParted (λ u. P (c ∷ u)) Q cs → IsParted P Q (c ∷ cs)
     to (inl h) = record { front = []; back = c ∷ cs; is = refl; is_front = h.0; is_back = h.1 }
     to (inr h) =
-        record { front = c ∷ h.front; back = h.back; is = ap (λ x. c ∷ x) h.is; is_front = h.is_front;
-            is_back = h.is_back }
+        record {
+          front = c ∷ h.front;
+          back = h.back;
+          is = ap (λ x. c ∷ x) h.is;
+          is_front = h.is_front;
+          is_back = h.is_back;
+        }
 
     from : (u v : List ℕ) → c ∷ cs ≡ u ++ v → P u → Q v → (P [] × Q (c ∷ cs)) ⊎ IsParted (λ u. P (c ∷ u)) Q cs
     from [] v e a b = inl (a, subst Q (sym e) b)
@@ -98,7 +103,7 @@ exponent-decides : (w : List ℕ) → Decides (is_exponent w) (IsExponent w)
 exponent-decides [] = (λ h. inl refl, λ h. refl)
 exponent-decides (c ∷ cs) =
     Decides-like _ to from
-        (Decides-and _ _ (Decides-or _ _ (Decides-eqb c ascii.small_e) (Decides-eqb c ascii.capital_e))
+    (Decides-and _ _ (Decides-or _ _ (Decides-eqb c ascii.small_e) (Decides-eqb c ascii.capital_e))
     (parted-decides cs is_sign are_some_digits IsSign IsDigits sign-decides some_digits-decide))
   where
     to : PowerParts c cs → IsExponent (c ∷ cs)

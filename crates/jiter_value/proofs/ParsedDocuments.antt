@@ -172,7 +172,7 @@ module _ (p : Settings) (t : List ℕ) (i : ℕ) where
       let read : answer_by p t ≡ fault (kind_of e.error_type) e.index i =
       h ∙ ap₂ (λ k x. fault k x i) (sym is.0) (sym is.1) in
       absurd ((fault-at p.allow_inf_nan t p.mode as_read e i (as_read-is (answer_by p t) ∙ read)).bytes
-          (ap kind_of same))
+      (ap kind_of same))
 
   pub error-parses : (x : ReadError) (e : JsonError) → IsErrorOf x i e → GivesWhole (Err x) i (answer_by p t)
       → i ≤ length t → WhereRefused {A = JsonValue} (Err x) (MayGrow t)

@@ -54,6 +54,6 @@ returns-in-GivenUp c =
           c.turn-at.ensures.leads.within.1
           (turn-grows t p at a s e begun (rw c.take_error-error.ensures grows))
           (refused-any JsonValue e (past_blanks t 0 ≤ j)
-              (omega (arith, begun.behind, c.turn-at.ensures.leads.within.0))),
+          (omega (arith, begun.behind, c.turn-at.ensures.leads.within.0))),
       tt,
     )

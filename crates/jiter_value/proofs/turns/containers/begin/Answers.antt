@@ -31,7 +31,7 @@ returns c =
     record {
       leads = leads-weaker (rw same at empty.leads) (omega (arith, forward)) (omega (arith, forward)) (omega arith)
           (begins-closed a.settings a.bytes.now a.stacks.now a.slot c.requires.at_value.0 c.requires.at_value.1 a.at
-              a.shape
+          a.shape
           c.first_at-next.result.0 c.requires.bracket ends.resolved);
       memory = λ e. root-grows r _ (empty.root e) (refused-weaker r _ _ (λ other. absurd (other e)) empty.memory);
     }

@@ -27,7 +27,7 @@ returns-in-Ok c =
         within = (omega (arith, c.requires.within.0), omega (arith, c.requires.within.1));
         reaches = rw c.part_of.ensures
             (shape-opens a.settings a.bytes.now a.stacks.now a.slot c.requires.stands c.requires.room a.at a.shape
-                a.next
+            a.next
             c.push_small.new.items (rw c.base_of-base.ensures at c.in-Ok.ensures.ok) c.requires.within.1
             c.requires.bracket c.requires.part (c.if-is_full.ensures.few refl));
         left = grind (arith, common_steps);

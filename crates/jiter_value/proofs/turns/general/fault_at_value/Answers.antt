@@ -47,6 +47,6 @@ returns-in-Member-clause-leads c =
     rw c.in-Member.is
     (leads-weaker c.close_and_go_on-in-Member.ensures.leads (omega arith) (omega arith) (omega (arith, outer, was))
     (ap (λ ys. resume (rules a.settings) a.bytes.now (frames slot.Member os es ys) (fault k a.problem.index a.at))
-        last.1
+    last.1
     ∙ fault-value a.settings a.bytes.now os es before last.0 k a.problem.index a.at last.2 ok
     ∙ ap (λ ys. container_in a.settings a.bytes.now shape.Object os es ys a.at) (sym popped)))
