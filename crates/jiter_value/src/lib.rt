@@ -1,11 +1,9 @@
 //! JSON as a tree whose unescaped texts borrow from the input.
 #![tactic(auto)]
 
-pub mod copy;
+pub mod copies;
 pub mod equality;
 pub mod machine;
-pub mod moved;
-pub mod owned;
 pub mod parse_owned;
 pub mod reading;
 pub mod scratch;

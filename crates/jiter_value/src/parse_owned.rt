@@ -9,7 +9,7 @@ ghost use Rattle.jiter_value.specs.Parses.{Parses, reading_as};
 ghost use Rattle.jiter_value.specs.Settings.{rules};
 ghost use Rattle.jiter_value.specs.Value.{view, MayGrowAt};
 
-use crate::moved::move_value;
+use crate::copies::move_value;
 use crate::reading::{error_at, read_value};
 use crate::settings::Settings;
 use crate::value::JsonValue;

@@ -4,7 +4,7 @@ use Rattle.jiter_value.specs.Owned.{owned_member}
 use Rattle.jiter_value.specs.Stacks.{member_view}
 use Rattle.jiter_value.specs.Value.{view}
 use Rattle.jiter_value.proofs.Owning.{moved-more}
-use Rattle.jiter_value.proofs.moved.+move_out.Goals as goal
+use Rattle.jiter_value.proofs.copies.+move_out.Goals as goal
 
 pub move_members-loop-i-preserved : goal.move_members-loop-i-preserved
 move_members-loop-i-preserved t c =

@@ -1,7 +1,7 @@
 use Rattle.std.proofs.Common.{◌≡◌, map, take}
 use Rattle.jiter_value.specs.Stacks.{member_view}
 use Rattle.jiter_value.specs.Value.{view}
-use Rattle.jiter_value.proofs.copy.+copy.Given as goal
+use Rattle.jiter_value.proofs.copies.+copy.Given as goal
 
 abbrev pub invariant-copy_items-loop-i : goal.invariant-copy_items-loop-i
 invariant-copy_items-loop-i l = map view l.copies.items ≡ map view (take l.i l.items.items)

@@ -1,0 +1,234 @@
+//! Copies of a value: each text borrowed or owned as it was, or each text owned.
+ghost use Rattle.std.specs.Prelude.{◌≡◌, ◌<◌, IfOk, OnErr, false, length, map, true};
+ghost use Rattle.jiter_steps.specs.StringDecoder.{text_view};
+ghost use Rattle.jiter_value.specs.Owned.{owned_text, owned_tree, owned_member, HoldsTextOrPart};
+ghost use Rattle.jiter_value.specs.Owned.{HoldsOwnedTextOrPart, HoldsBorrowedTextOrPart};
+ghost use Rattle.jiter_value.specs.Stacks.{member_view};
+ghost use Rattle.jiter_value.specs.Value.{view};
+
+use crate::value::{JsonArray, JsonObject, JsonValue};
+use jiter_scan::memory::{Refused, copy_text, push, with_capacity};
+use std::alloc::{AllocError, Global};
+use std::borrow::CowStr;
+use std::mem;
+
+impl<'s> JsonValue<'s> {
+    /// A copy, in which each text is borrowed or owned as it is here. It takes one vector for each container
+    /// that is not empty, of the exact length, and one text for each owned text.
+    ///
+    /// It fails only where memory is refused.
+    pub fn clone(&self, alloc: Global) -> Result<JsonValue<'s>, AllocError>
+        ensures value { IfOk result (λ v. view v ≡ view self.now) }
+        ensures memory { OnErr result (HoldsOwnedTextOrPart (view self.now)) }
+    {
+        Ok(copy_value(alloc, self)?)
+    }
+
+    /// A copy that owns all its texts. It takes one vector for each container that is not empty, of the exact
+    /// length, and one text for each text that is not empty.
+    ///
+    /// It fails only where memory is refused.
+    pub fn to_static(&self, alloc: Global) -> Result<JsonValue<'static>, AllocError>
+        ensures value { IfOk result (λ v. view v ≡ owned_tree (view self.now)) }
+        ensures memory { OnErr result (HoldsTextOrPart (view self.now)) }
+    {
+        Ok(own_value(alloc, self)?)
+    }
+
+    /// [`JsonValue::to_static`] of a value that is not wanted any more. A text that is owned is moved, so one is
+    /// taken for each borrowed text alone. Where memory is refused the value is gone.
+    pub fn into_static(self, alloc: Global) -> Result<JsonValue<'static>, AllocError>
+        ensures value { IfOk result (λ v. view v ≡ owned_tree (view self.entry)) }
+        ensures memory { OnErr result (HoldsBorrowedTextOrPart (view self.entry)) }
+    {
+        let mut value = self;
+        Ok(move_value(alloc, &mut value)?)
+    }
+}
+
+// ---- Each text borrowed or owned as it is.
+
+#[cycle(copy)]
+#[tactic(auto, using(crate::proofs::Owning::copied_array, crate::proofs::Owning::copied_object))]
+fn copy_value<'s>(alloc: Global, value: &JsonValue<'s>) -> Result<JsonValue<'s>, Refused>
+    ensures value { IfOk result (λ v. view v ≡ view value.now) }
+    ensures memory { OnErr result (HoldsOwnedTextOrPart (view value.now)) }
+{
+    match value {
+        JsonValue::Null => Ok(JsonValue::Null),
+        JsonValue::Bool(truth) => Ok(JsonValue::Bool(*truth)),
+        JsonValue::Int(integer) => Ok(JsonValue::Int(*integer)),
+        JsonValue::BigInt(text) => Ok(JsonValue::BigInt(copy_cow(alloc, text)?)),
+        JsonValue::Float(text) => Ok(JsonValue::Float(copy_cow(alloc, text)?)),
+        JsonValue::Str(text) => Ok(JsonValue::Str(copy_cow(alloc, text)?)),
+        JsonValue::Array(items) => Ok(JsonValue::Array(copy_items(alloc, items)?)),
+        JsonValue::Object(members) => Ok(JsonValue::Object(copy_members(alloc, members)?)),
+    }
+}
+
+#[cycle(copy)]
+#[tactic(auto, using(crate::proofs::Owning::refused_array))]
+fn copy_items<'s>(alloc: Global, items: &JsonArray<'s>) -> Result<JsonArray<'s>, Refused>
+    ensures value { IfOk result (λ v. map view v.items ≡ map view items.now.items) }
+    ensures memory { OnErr result (HoldsOwnedTextOrPart (view (JsonValue.Array items.now))) }
+{
+    let mut copies = with_capacity(alloc, items.len())?;
+    for i in 0..items.len() {
+        let item = copy_value(alloc, &items[i])?;
+        push(&mut copies, item)?;
+    }
+    Ok(copies)
+}
+
+#[cycle(copy)]
+#[tactic(auto, using(crate::proofs::Owning::refused_object))]
+fn copy_members<'s>(alloc: Global, members: &JsonObject<'s>) -> Result<JsonObject<'s>, Refused>
+    ensures value { IfOk result (λ v. map member_view v.items ≡ map member_view members.now.items) }
+    ensures memory { OnErr result (HoldsOwnedTextOrPart (view (JsonValue.Object members.now))) }
+{
+    let mut copies = with_capacity(alloc, members.len())?;
+    for i in 0..members.len() {
+        let member = &members[i];
+        let key = copy_cow(alloc, &member.0)?;
+        let value = copy_value(alloc, &member.1)?;
+        push(&mut copies, (key, value))?;
+    }
+    Ok(copies)
+}
+
+// The text, borrowed or owned as it is.
+fn copy_cow<'s>(alloc: Global, text: &CowStr<'s>) -> Result<CowStr<'s>, Refused>
+    ensures value { IfOk result (λ copy. text_view copy ≡ text_view text.now) }
+    ensures memory { OnErr result ((text_view text.now).owned ≡ true) }
+{
+    match text {
+        CowStr::Borrowed(bytes) => Ok(CowStr::Borrowed(*bytes)),
+        CowStr::Owned(owned) => Ok(CowStr::Owned(copy_text(alloc, owned.as_str())?)),
+    }
+}
+
+// ---- Each text owned.
+
+#[cycle(own)]
+#[tactic(auto, using(crate::proofs::Owning::owned_array, crate::proofs::Owning::owned_object))]
+fn own_value(alloc: Global, value: &JsonValue<'_>) -> Result<JsonValue<'static>, Refused>
+    ensures value { IfOk result (λ v. view v ≡ owned_tree (view value.now)) }
+    ensures memory { OnErr result (HoldsTextOrPart (view value.now)) }
+{
+    match value {
+        JsonValue::Null => Ok(JsonValue::Null),
+        JsonValue::Bool(truth) => Ok(JsonValue::Bool(*truth)),
+        JsonValue::Int(integer) => Ok(JsonValue::Int(*integer)),
+        JsonValue::BigInt(text) => Ok(JsonValue::BigInt(own_text(alloc, text)?)),
+        JsonValue::Float(text) => Ok(JsonValue::Float(own_text(alloc, text)?)),
+        JsonValue::Str(text) => Ok(JsonValue::Str(own_text(alloc, text)?)),
+        JsonValue::Array(items) => Ok(JsonValue::Array(own_items(alloc, items)?)),
+        JsonValue::Object(members) => Ok(JsonValue::Object(own_members(alloc, members)?)),
+    }
+}
+
+#[cycle(own)]
+#[tactic(auto, using(crate::proofs::Owning::refused_array))]
+fn own_items(alloc: Global, items: &JsonArray<'_>) -> Result<JsonArray<'static>, Refused>
+    ensures value { IfOk result (λ v. map view v.items
+        ≡ map owned_tree (map view items.now.items)) }
+    ensures memory { OnErr result (HoldsTextOrPart (view (JsonValue.Array items.now))) }
+{
+    let mut copies = with_capacity(alloc, items.len())?;
+    for i in 0..items.len() {
+        let item = own_value(alloc, &items[i])?;
+        push(&mut copies, item)?;
+    }
+    Ok(copies)
+}
+
+#[cycle(own)]
+#[tactic(auto, using(crate::proofs::Owning::refused_object))]
+fn own_members(alloc: Global, members: &JsonObject<'_>) -> Result<JsonObject<'static>, Refused>
+    ensures value { IfOk result (λ v. map member_view v.items
+        ≡ map owned_member (map member_view members.now.items)) }
+    ensures memory { OnErr result (HoldsTextOrPart (view (JsonValue.Object members.now))) }
+{
+    let mut copies = with_capacity(alloc, members.len())?;
+    for i in 0..members.len() {
+        let member = &members[i];
+        let key = own_text(alloc, &member.0)?;
+        let value = own_value(alloc, &member.1)?;
+        push(&mut copies, (key, value))?;
+    }
+    Ok(copies)
+}
+
+// A copy of the text.
+fn own_text(alloc: Global, text: &CowStr<'_>) -> Result<CowStr<'static>, Refused>
+    ensures { IfOk result (λ copy. text_view copy ≡ owned_text (text_view text.now)) }
+{
+    Ok(CowStr::Owned(copy_text(alloc, text.as_str())?))
+}
+
+// ---- Each text owned, those moved that are owned already.
+
+/// A value that owns all its texts, those moved that were owned.
+#[cycle(move_out)]
+#[tactic(auto, using(crate::proofs::Owning::owned_array, crate::proofs::Owning::owned_object))]
+pub(crate) fn move_value(
+    alloc: Global,
+    value: &mut JsonValue<'_>,
+) -> Result<JsonValue<'static>, Refused>
+    ensures value { IfOk result (λ v. view v ≡ owned_tree (view value.old)) }
+    ensures memory { OnErr result (HoldsBorrowedTextOrPart (view value.old)) }
+{
+    match value {
+        JsonValue::Null => Ok(JsonValue::Null),
+        JsonValue::Bool(truth) => Ok(JsonValue::Bool(*truth)),
+        JsonValue::Int(integer) => Ok(JsonValue::Int(*integer)),
+        JsonValue::BigInt(text) => Ok(JsonValue::BigInt(move_text(alloc, text)?)),
+        JsonValue::Float(text) => Ok(JsonValue::Float(move_text(alloc, text)?)),
+        JsonValue::Str(text) => Ok(JsonValue::Str(move_text(alloc, text)?)),
+        JsonValue::Array(items) => Ok(JsonValue::Array(move_items(alloc, items)?)),
+        JsonValue::Object(members) => Ok(JsonValue::Object(move_members(alloc, members)?)),
+    }
+}
+
+#[cycle(move_out)]
+#[tactic(auto, using(crate::proofs::Owning::refused_array))]
+fn move_items(alloc: Global, items: &mut JsonArray<'_>) -> Result<JsonArray<'static>, Refused>
+    ensures value { IfOk result (λ v. map view v.items
+        ≡ map owned_tree (map view items.old.items)) }
+    ensures memory { OnErr result (HoldsBorrowedTextOrPart (view (JsonValue.Array items.old))) }
+{
+    let mut moved = with_capacity(alloc, items.len())?;
+    for i in 0..items.len() {
+        let item = move_value(alloc, &mut items[i])?;
+        push(&mut moved, item)?;
+    }
+    Ok(moved)
+}
+
+#[cycle(move_out)]
+#[tactic(auto, using(crate::proofs::Owning::refused_object))]
+fn move_members(alloc: Global, members: &mut JsonObject<'_>) -> Result<JsonObject<'static>, Refused>
+    ensures value { IfOk result (λ v. map member_view v.items
+        ≡ map owned_member (map member_view members.old.items)) }
+    ensures memory { OnErr result (HoldsBorrowedTextOrPart (view (JsonValue.Object members.old))) }
+{
+    let mut moved = with_capacity(alloc, members.len())?;
+    for i in 0..members.len() {
+        let member = &mut members[i];
+        let key = move_text(alloc, &mut member.0)?;
+        let value = move_value(alloc, &mut member.1)?;
+        push(&mut moved, (key, value))?;
+    }
+    Ok(moved)
+}
+
+// The text where it is owned, else a copy of it.
+fn move_text(alloc: Global, text: &mut CowStr<'_>) -> Result<CowStr<'static>, Refused>
+    ensures value { IfOk result (λ moved. text_view moved ≡ owned_text (text_view text.old)) }
+    ensures memory { OnErr result ((text_view text.old).owned ≡ false) }
+{
+    match mem::replace(text, CowStr::Borrowed("")) {
+        CowStr::Borrowed(borrowed) => Ok(CowStr::Owned(copy_text(alloc, borrowed)?)),
+        CowStr::Owned(owned) => Ok(CowStr::Owned(owned)),
+    }
+}
