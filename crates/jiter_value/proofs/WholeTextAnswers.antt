@@ -25,8 +25,8 @@ use Rattle.jiter_steps.proofs.Reading.Instances.{answer-within, partial_answer-w
 use Rattle.jiter_value.specs.Reading.{GivesWhole, IsErrorOf}
 use Rattle.jiter_value.specs.Settings.{forgives, rules, answer_by}
 use Rattle.jiter_value.specs.Value.{view, Answers, MayGrowAt, MayGrow}
-use Rattle.jiter_value.specs.Machine.{HasBegun, held_in}
-use Rattle.jiter_value.specs.Size.{held}
+use Rattle.jiter_value.specs.Machine.{HasBegun}
+use Rattle.jiter_value.specs.Size.{held, held_in}
 use Rattle.jiter_value.specs.Stacks.{Stands}
 use Rattle.jiter_value.specs.Turns.{Fails, MayGrowFor}
 use Rattle.jiter_value.specs.declared.settings.Settings.{Settings}
@@ -165,7 +165,7 @@ turn-grows t p i a s (error.Memory m) b h = begun-grows t i a b.grows h
 
 -- what is held then, as the machine shows it
 pub held-begun : (t : List ℕ) (p : Settings) (i : ℕ) (a : State) (s : Stacks) → HasBegun t p i a s
-    → held s a ≡ held_in a (reverse s.nest.items) s.items.items s.members.items
+    → held s a ≡ held_in a (reverse s.nest.items) s.items.items s.members.items 0
 held-begun t p i state.Root s b = refl
 held-begun t p i state.Item s b = refl
 held-begun t p i state.Member s b = refl

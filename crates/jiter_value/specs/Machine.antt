@@ -1,13 +1,12 @@
 -- The machine as contracts see it.
-use Rattle.std.specs.Prelude.{◌≡◌, ◌≢◌, ◌⊎◌, ℕ, ◌+◌, ◌*◌, ◌-◌, ◌≤◌, ◌<◌, Bool, true, false, List, length, reverse}
+use Rattle.std.specs.Prelude.{◌≡◌, ◌≢◌, ◌⊎◌, ℕ, ◌≤◌, ◌<◌, Bool, true, false, List, length, reverse}
 use Rattle.jiter_steps.specs.Blank.{past_blanks}
 use Rattle.jiter_steps.specs.Node.{nesting_limit}
 use Rattle.jiter_steps.specs.Read.{value_at}
 use Rattle.jiter_steps.specs.declared.parse.Parser.{Parser}
-use Rattle.jiter_steps.specs.declared.parse.Shape.TheVariants as shape
 use Rattle.jiter_value.specs.Settings.{rules}
-use Rattle.jiter_value.specs.Size.{frames_size, inside_size_in}
-use Rattle.jiter_value.specs.Stacks.{Member, frames, meaning, Stands}
+use Rattle.jiter_value.specs.Size.{held_in, left_at}
+use Rattle.jiter_value.specs.Stacks.{Member, meaning, Stands}
 use Rattle.jiter_value.specs.Turns.{IsWithin}
 use Rattle.jiter_value.specs.Value.{MayGrow}
 use Rattle.jiter_value.specs.declared.settings.Settings.{Settings}
@@ -44,21 +43,13 @@ progress r p a s = record {
   within = r.within;
 }
 
--- how much is left to do: at least one turn
+-- how much is left to do
 abbrev pub left : Progress → ℕ
-left m = 3 * (length m.text - m.position) + length m.nest + 1
+left m = left_at m.text m.nest m.position
 
-abbrev pub held_in : State → List Open → List JsonValue → List Member → ℕ
-held_in state.Root os elements members = frames_size (frames slot.Root os elements members)
-held_in state.Item os elements members = frames_size (frames slot.Item os elements members)
-held_in state.Member os elements members = frames_size (frames slot.Member os elements members)
-held_in state.Key os elements members = inside_size_in shape.Object os elements members
-held_in state.Done os elements members = 0
-held_in state.GivenUp os elements members = 0
-
--- how many scalars, containers and keys are held, open containers and awaiting keys among them
+-- how many scalars, containers and keys are held, open containers and awaiting keys among them: at the end none
 abbrev pub held : Progress → ℕ
-held m = held_in m.state (reverse m.nest) m.elements m.members
+held m = held_in m.state (reverse m.nest) m.elements m.members 0
 
 -- The reading has begun: what is held and what is left of the text are its value, which is not whole yet. Unless it is
 -- still to be read from its first byte, it may want memory.

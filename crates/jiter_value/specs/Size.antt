@@ -1,5 +1,5 @@
--- How many scalars, containers and keys there are.
-use Rattle.std.specs.Prelude.{ℕ, suc, ◌+◌, List, [], ◌∷◌, take, drop, reverse, map}
+-- How many scalars, containers and keys there are, and how much is left to do.
+use Rattle.std.specs.Prelude.{ℕ, suc, ◌+◌, ◌*◌, ◌-◌, List, [], ◌∷◌, length, take, drop, reverse, map}
 use Rattle.jiter_steps.specs.Tree.{Text, Tree, null, boolean, int, big, float, string, array, object, Items, no_items}
 use Rattle.jiter_steps.specs.Tree.{item, Members, no_members, member, items_of, members_of}
 use Rattle.jiter_steps.specs.declared.parse.Shape.{Shape}
@@ -65,6 +65,15 @@ behind_size_in slot.Member (o ∷ os) items members root =
     (frames o.outer os items (take o.base members))
 behind_size_in slot.Root (o ∷ os) items members root = size (view root)
 
+-- How many scalars, containers and keys are held, open containers and awaiting keys among them; at the end n.
+abbrev pub held_in : State → List Open → List JsonValue → List Member → ℕ → ℕ
+held_in state.Root os items members n = frames_size (frames slot.Root os items members)
+held_in state.Item os items members n = frames_size (frames slot.Item os items members)
+held_in state.Member os items members n = frames_size (frames slot.Member os items members)
+held_in state.Key os items members n = inside_size_in shape.Object os items members
+held_in state.Done os items members n = n
+held_in state.GivenUp os items members n = n
+
 -- the same of all that is held: where a value is awaited, a key, and behind a value
 abbrev pub value_size : Stacks → Slot → ℕ
 value_size s a = frames_size (frames a (reverse s.nest.items) s.items.items s.members.items)
@@ -79,11 +88,10 @@ behind_size s a = behind_size_in a (reverse s.nest.items) s.items.items s.member
 abbrev pub inside_size : Shape → Stacks → ℕ
 inside_size h s = inside_size_in h (reverse s.nest.items) s.items.items s.members.items
 
--- How many scalars, containers and keys the machine holds; at its end, how many the value has.
+-- the same of the stacks; at the end how many the value has
 abbrev pub held : Stacks → State → ℕ
-held s state.Root = value_size s slot.Root
-held s state.Item = value_size s slot.Item
-held s state.Member = value_size s slot.Member
-held s state.Key = key_size s
-held s state.Done = size (view s.root)
-held s state.GivenUp = size (view s.root)
+held s a = held_in a (reverse s.nest.items) s.items.items s.members.items (size (view s.root))
+
+-- How much is left to do at j: three for each byte that is left, one for each open container, and one.
+abbrev pub left_at : List ℕ → List Open → ℕ → ℕ
+left_at t os j = 3 * (length t - j) + length os + 1

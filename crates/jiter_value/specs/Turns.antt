@@ -1,5 +1,5 @@
 -- What a turn leads to, and how much is left behind it.
-use Rattle.std.specs.Prelude.{◌≡◌, ℕ, ◌+◌, ◌-◌, ◌*◌, ◌≤◌, ◌<◌, Result, Ok, Err, OnOk, IfOk, Bool, true, false, List}
+use Rattle.std.specs.Prelude.{◌≡◌, ℕ, ◌+◌, ◌≤◌, ◌<◌, Result, Ok, Err, OnOk, IfOk, Bool, true, false, List}
 use Rattle.std.specs.Prelude.{length}
 use Rattle.jiter_scan.specs.Kind.{fault_kind}
 use Rattle.jiter_scan.specs.declared.errors.Fault.{Fault}
@@ -12,7 +12,7 @@ use Rattle.jiter_value.specs.Settings.{forgives}
 use Rattle.jiter_steps.specs.declared.parse.Shape.{Shape}
 use Rattle.jiter_steps.specs.declared.read_error.ReadError.{ReadError}
 use Rattle.jiter_steps.specs.declared.read_error.ReadError.TheVariants as error
-use Rattle.jiter_value.specs.Size.{value_size, key_size, behind_size, held}
+use Rattle.jiter_value.specs.Size.{value_size, key_size, behind_size, held, left_at}
 use Rattle.jiter_value.specs.Stacks.{from_value, from_key, behind, meaning, Stands, StandsAtKey}
 use Rattle.jiter_value.specs.declared.settings.Settings.{Settings}
 use Rattle.jiter_value.specs.declared.stacks.Slot.{Slot}
@@ -57,7 +57,7 @@ Reaches p t s j (Err e) x = Fails e j x
 
 -- how much is left to do
 abbrev pub left : List ℕ → Stacks → ℕ → ℕ
-left t s j = 3 * (length t - j) + length s.nest.items + 1
+left t s j = left_at t s.nest.items j
 
 -- P, where the reading goes on or memory was refused
 abbrev pub MayGrowFor : Result State ReadError → Type 0 → Type 0
