@@ -10,3 +10,4 @@ pub mod TurnsTo
 pub mod Owned
 pub mod Scratch
 pub mod Equality
+pub mod ValueCode

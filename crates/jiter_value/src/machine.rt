@@ -28,14 +28,11 @@ pub struct Machine<'j> {
 
 impl<'j> Model for Machine<'j> {
     ghost use Rattle.jiter_value.specs.Machine.{Progress, progress, IsUnderWay};
-    ghost use Rattle.std.specs.Prelude.{[]};
-    ghost use Rattle.jiter_value.specs.contracts.value.JsonValue as value;
-    ghost use Rattle.std.specs.Coded.{codes};
-    ghost use mir.Syntax.{named};
+    ghost use Rattle.jiter_value.specs.ValueCode.{codes};
 
     ghost Value = { Progress };
 
-    ghost coded = { Prim.hlevel (codes, (value.the_row (record { mir = named 1; lft = [] })).coded) };
+    ghost coded = { Prim.hlevel codes };
 
     ghost view = { λ m. progress m.parser m.settings m.state m.stacks };
 

@@ -26,14 +26,11 @@ pub struct JsonValueScratch<'j> {
 
 impl<'j> Model for JsonValueScratch<'j> {
     ghost use Rattle.jiter_value.specs.Scratch.{Lists, lists, IsCleared};
-    ghost use Rattle.std.specs.Prelude.{[]};
-    ghost use Rattle.jiter_value.specs.contracts.value.JsonValue as value;
-    ghost use Rattle.std.specs.Coded.{codes};
-    ghost use mir.Syntax.{named};
-
-    ghost coded = { Prim.hlevel (codes, (value.the_row (record { mir = named 1; lft = [] })).coded) };
+    ghost use Rattle.jiter_value.specs.ValueCode.{codes};
 
     ghost Value = { Lists };
+
+    ghost coded = { Prim.hlevel codes };
 
     ghost view = { λ s. lists s.stacks };
 
