@@ -47,10 +47,7 @@ pub(crate) fn own_answer(
     ensures { IsOwnedAnswer answer.entry index result }
 {
     let mut value = answer?;
-    match move_value(alloc, &mut value) {
-        Ok(owned) => Ok(owned),
-        Err(refused) => Err(error_at(ReadError::Memory(refused), index)),
-    }
+    move_value(alloc, &mut value).map_err(|refused| error_at(ReadError::Memory(refused), index))
 }
 
 /// The value that begins where the reader stands, each of its texts owned.
@@ -67,8 +64,5 @@ pub fn read_owned(
         ⊎ ReadHolds (value_at (rules settings) parser.old.bytes.now nesting_limit parser.old.index)) }
 {
     let mut value = read_value(alloc, parser, settings)?;
-    match move_value(alloc, &mut value) {
-        Ok(owned) => Ok(owned),
-        Err(refused) => Err(ReadError::Memory(refused)),
-    }
+    Ok(move_value(alloc, &mut value)?)
 }

@@ -111,14 +111,8 @@ pub fn scalar<'j>(
     ensures memory { WhereRefused result (MayGrowAt parser.old.bytes.now parser.old.index) }
 {
     match start_of(parser.bytes[parser.index]) {
-        Start::Literal(literal) => match read_literal(parser, literal, settings) {
-            Ok(value) => Ok(value),
-            Err(fault) => Err(ReadError::Fault(fault)),
-        },
-        Start::Number => match read_number(parser, settings) {
-            Ok(value) => Ok(value),
-            Err(fault) => Err(ReadError::Fault(fault)),
-        },
+        Start::Literal(literal) => Ok(read_literal(parser, literal, settings)?),
+        Start::Number => Ok(read_number(parser, settings)?),
         Start::String => read_text(alloc, tape, parser, settings),
         Start::Nothing => Err(ReadError::Fault(Fault {
             kind: FaultKind::ExpectedSomeValue,
