@@ -51,10 +51,8 @@ pub(crate) fn finish_whole<'j>(
     if settings.mode.is_active() {
         return Ok(value);
     }
-    match parser.finish() {
-        Ok(()) => Ok(value),
-        Err(fault) => Err(ReadError::Fault(fault)),
-    }
+    parser.finish()?;
+    Ok(value)
 }
 
 /// The value that begins where the reader stands.
@@ -90,14 +88,9 @@ fn read_whole<'j>(
     ensures memory { WhereRefused result (MayGrow parser.old.bytes.now) }
     ensures place { WhereRefused result (past_blanks parser.old.bytes.now 0 ≤ parser.new.index) }
 {
-    match parser.value_first() {
-        Ok(()) => {}
-        Err(fault) => return Err(ReadError::Fault(fault)),
-    }
-    match run(alloc, tape, stacks, parser, settings) {
-        Ok(value) => finish_whole(parser, settings, value),
-        Err(error) => Err(error),
-    }
+    parser.value_first()?;
+    let value = run(alloc, tape, stacks, parser, settings)?;
+    finish_whole(parser, settings, value)
 }
 
 /// What a text answers, read as the settings say, by way of this tape and these stacks.

@@ -1,27 +1,32 @@
 use Rattle.std.proofs.Common.{◌∙◌, ap}
-use Rattle.jiter_scan.specs.Kind.{fault_kind}
+use Rattle.std.proofs.lemmas.Result.{err_from_is_err_and}
 use Rattle.jiter_value.proofs.WholeTextAnswers.{value-begins-at, answer_by-none, answer_by-refused}
 use Rattle.jiter_value.proofs.reading.read_whole.Goals as goal
 
-pub returns-in-Err-clause-value : goal.returns-in-Err-clause-value
-returns-in-Err-clause-value c =
+pub returns-in_err-value_first-clause-value : goal.returns-in_err-value_first-clause-value
+returns-in_err-value_first-clause-value c =
     let a = c.args in
-    let f = c.in-Err.fault in
-    answer_by-none a.settings a.parser.now.bytes.now (fault_kind f.kind) f.index c.value_first.new.self.index
-    (rw c.requires.begins at c.in-Err.ensures.value)
+    let e = err_from_is_err_and c.from_residual.result c.from_residual.ensures.1 in
+    rw (e.1, e.2)
+    (answer_by-none a.settings a.parser.now.bytes.now _ _ c.value_first.new.self.index
+    (rw c.requires.begins at c.in_err-value_first.ensures.value))
 
 pub finish_whole-requires-clause-value : goal.finish_whole-requires-clause-value
 finish_whole-requires-clause-value c =
     let t = c.args.parser.now.bytes.now in
-    let first = ap (λ b. b.now) c.in-Ok.ensures.moves.same in
-    let second = ap (λ b. b.now) c.in-Ok-run.ensures.moves.same in
-    let at = value-begins-at t c.value_first.new.self.index (rw c.requires.begins at c.in-Ok.ensures.value) in
-    rw (second ∙ first, at) (rw first at c.in-Ok-run.ensures.value)
+    let begun = c.in_ok-value_first.ensures in
+    let first = ap (λ b. b.now) begun.moves.same in
+    let second = ap (λ b. b.now) c.in_ok-value.ensures.moves.same in
+    let at = value-begins-at t c.value_first.new.self.index (rw c.requires.begins at begun.value) in
+    rw (second ∙ first, at) (rw first at c.in_ok-value.ensures.value)
 
-pub returns-in-Err-run-clause-value : goal.returns-in-Err-run-clause-value
-returns-in-Err-run-clause-value c =
+pub returns-in_err-value-clause-value : goal.returns-in_err-value-clause-value
+returns-in_err-value-clause-value c =
     let t = c.args.parser.now.bytes.now in
-    let first = ap (λ b. b.now) c.in-Ok.ensures.moves.same in
-    let at = value-begins-at t c.value_first.new.self.index (rw c.requires.begins at c.in-Ok.ensures.value) in
-    answer_by-refused c.args.settings t (rw at c.in-Ok.ensures.inside) c.in-Err-run.error c.run.new.parser.index
-    (rw at (rw first at c.in-Err-run.ensures.value))
+    let begun = c.in_ok-value_first.ensures in
+    let first = ap (λ b. b.now) begun.moves.same in
+    let at = value-begins-at t c.value_first.new.self.index (rw c.requires.begins at begun.value) in
+    let e = err_from_is_err_and c.from_residual-in_err-value.result c.from_residual-in_err-value.ensures.1 in
+    rw (e.1, e.2)
+    (answer_by-refused c.args.settings t (rw at begun.inside) _ c.run.new.parser.index
+    (rw at (rw first at c.in_err-value.ensures.value)))
