@@ -39,7 +39,7 @@ module _ (error : ReadError) where
   }
 
   module _ (es : Vec JsonValue Global) (ms : Vec Member Global) where
-    -- A scratch shows an element that stays, and a member, and neither open containers nor what stands beside the lists.
+    -- A scratch shows an element that stays, and a member; neither open containers nor what stands beside the lists.
     an_element_shows : (v w : JsonValue) → es.items ≡ v ∷ [] → ms.items ≡ []
         → lists (stacks es ms (outermost ∷ []) w) ≡ record { elements = v ∷ []; members = [] }
     an_element_shows v w had none = rw (had, none) refl

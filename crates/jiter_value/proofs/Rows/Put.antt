@@ -67,14 +67,14 @@ module _ (error : ReadError) where
       within = omega arith;
     }
 
-  module _ (es : Vec JsonValue Global) (ms more : Vec Member Global) (no_items : es.items ≡ []) (k : CowStr Global) where
+  module _ (es : Vec JsonValue Global) (ms more : Vec Member Global) (k : CowStr Global) (none : es.items ≡ []) where
     -- `{"a":true}`: the value of the last member, which had its key alone
     a_member : ms.items ≡ (k, Null) ∷ [] → more.items ≡ (k, value.Bool true) ∷ []
         → IsPutAt (codes "{\"a\":true}") (stacks error es ms (outermost ∷ []) Null) 5 slot.Member
         (stacks error es more (outermost ∷ []) Null) 9
     a_member had has = record {
       value = λ p. unfold computed_readings in rw (had, has, view_bool true) refl;
-      stands = rw (has, no_items) (omega arith, (refl, refl));
+      stands = rw (has, none) (omega arith, (refl, refl));
       nest = refl;
       held = rw (had, has, view_bool true) refl;
       ahead = omega arith;
@@ -87,7 +87,7 @@ module _ (error : ReadError) where
         (stacks error es more (outermost ∷ []) Null) 5
     a_key had has is = record {
       value = λ p. unfold computed_readings in rw (had, has, is) refl;
-      stands = rw (has, no_items) (omega arith, (refl, refl));
+      stands = rw (has, none) (omega arith, (refl, refl));
       nest = refl;
       held = rw (had, has) refl;
       ahead = omega arith;
@@ -101,7 +101,7 @@ module _ (error : ReadError) where
         (stacks error es more (outermost ∷ []) Null) 11
     a_second_key l v had has is = record {
       value = λ p. unfold computed_readings in rw (had, has, is) refl;
-      stands = rw (has, no_items) (omega arith, (refl, refl));
+      stands = rw (has, none) (omega arith, (refl, refl));
       nest = refl;
       held = rw (had, has) (omega arith);
       ahead = omega arith;
