@@ -6,3 +6,4 @@ mod Containers
 mod WholeValues
 mod APerson
 mod Texts
+mod Lending

@@ -12,3 +12,4 @@ mod Cuts
 mod Skips
 mod Growing
 mod Escapes
+mod Edges

@@ -18,7 +18,7 @@ use Rattle.jiter_steps.specs.Node as grammar
 abbrev pub cut_number : Bool → List ℕ → Option Tree
 cut_number names w = if is_number_text names w then Some (number_tree (number_value w)) else None
 
--- the pieces that end at or before k
+-- the pieces before the first that ends behind k
 abbrev pub cut_string : List ℕ → List Piece → ℕ → ℕ → Tree
 cut_string t ps b k = tree.string (text_at t (pieces_to k ps) b k)
 
@@ -31,10 +31,11 @@ with_member key None members = members
 with_member key (Some v) members = tree.member key v members
 
 -- A value that is not reached is none. A container keeps the cuts of its items that there are, and the members whose
--- value has one.
+-- value has one. Of the mode it is asked alone whether cut strings are kept, so `Off` gives what `On` gives.
 abbrev mutual
   pub cut : Bool → List ℕ → Node → ℕ → PartialMode → Option Tree
-  cut names t (grammar.literal l b e) k mode = if nat_le e k then Some (literal_tree l) else None
+  cut names t (grammar.literal l b e) k mode =
+      if nat_le k b then None else (if nat_le e k then Some (literal_tree l) else None)
   cut names t (grammar.number b e) k mode = if nat_le k b then None else cut_number names (slice_range t b (min k e))
   cut names t (grammar.string ps b e) k mode =
       if nat_le k b then None

@@ -84,7 +84,7 @@ pub record SpellsString (t : List ℕ) (i : ℕ) (ps : List Piece) (e : ℕ) : T
 abbrev pub text_of : List Piece → List ℕ
 text_of ps = encode_utf8_all (characters ps)
 
--- the pieces that end at or before k
+-- the pieces before the first that ends behind k
 abbrev pub pieces_to : ℕ → List Piece → List Piece
 pieces_to k [] = []
 pieces_to k (p ∷ ps) = if nat_le p.end k then p ∷ pieces_to k ps else []

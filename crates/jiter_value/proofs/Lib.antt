@@ -11,3 +11,4 @@ pub mod Codes
 pub mod Equal
 pub mod Shapes
 pub mod Placed
+mod Rows

@@ -258,7 +258,7 @@ module _ (names : Bool) (t : List ℕ) (k : ℕ) (within : k ≤ length t) (mode
   member-leaves : (m : Key × Node) (x : Reading (Text × Tree)) → Spells names t m.1 → CutsMember m x
       → Leaves front (part_left names t k mode (λ m. m.1) (member_seen t) m) x
   member-leaves m x h (inl before) =
-      subst (λ o. Leaves front (option_map (member_seen t m) o) x) (sym (node-late names t k mode m.1 h before.unread))
+      subst (λ o. Leaves front (option_map (member_seen t m) o) x) (sym (node-late names t k mode m.1 before.unread))
       (subst (Leaves front None) (sym before.is)
       (end-forgiven before.kind before.early, key-halts before.stop before.stands))
   member-leaves m x h (inr (y, is, cuts)) =

@@ -6,7 +6,7 @@ use Rattle.std.specs.Option.{option_map}
 use Rattle.std.proofs.lemmas.Bool.{le-leb, lt-leb}
 use Rattle.jiter_scan.specs.PartialMode.{allows_trailing_strings}
 use Rattle.jiter_scan.specs.declared.partial_mode.PartialMode.{PartialMode}
-use Rattle.jiter_scan.proofs.Choices.{if-true, if-false}
+use Rattle.jiter_scan.proofs.Choices.{if_case, if-true, if-false}
 use Rattle.jiter_steps.specs.Cut.{cut, cut_number, cut_string, cut_items, cut_members, with_item, with_member}
 use Rattle.jiter_steps.specs.Literal.{literal_tree}
 use Rattle.jiter_steps.specs.Node as grammar
@@ -77,7 +77,9 @@ module _ (names : Bool) (t : List ℕ) (k : ℕ) (mode : PartialMode) where
 
   -- A node that is begun before k and does not end by it.
   pub literal-left : (l : Literal) (b e : ℕ) → k < e → cut names t (grammar.literal l b e) k mode ≡ None
-  literal-left l b e gt = if-false (nat_le e k) (Some (literal_tree l)) None (lt-leb e k gt)
+  literal-left l b e gt =
+      if_case (λ x. x ≡ None) (nat_le k b) None _ (λ x. refl)
+      (λ x. if-false (nat_le e k) (Some (literal_tree l)) None (lt-leb e k gt))
 
   pub number-left : (b e : ℕ) → b < k → k < e
       → cut names t (grammar.number b e) k mode ≡ cut_number names (slice_range t b k)
@@ -104,18 +106,17 @@ module _ (names : Bool) (t : List ℕ) (k : ℕ) (mode : PartialMode) where
   object-left b e ms lt = begun b k _ lt ∙ ap (λ x. Some (tree.object x)) (members-left ms)
 
   -- What begins behind k leaves nothing.
-  pub node-late : (n : Node) → Spells names t n → k ≤ begin n → cut names t n k mode ≡ None
-  node-late (grammar.literal l b e) h le =
-      let order = node-ahead names t (grammar.literal l b e) h in literal-left l b e (omega arith)
-  node-late (grammar.number b e) h le = if-true (nat_le k b) None _ (le-leb k b le)
-  node-late (grammar.string ps b e) h le = if-true (nat_le k b) None _ (le-leb k b le)
-  node-late (grammar.array b e ns) h le = if-true (nat_le k b) None _ (le-leb k b le)
-  node-late (grammar.object b e ms) h le = if-true (nat_le k b) None _ (le-leb k b le)
+  pub node-late : (n : Node) → k ≤ begin n → cut names t n k mode ≡ None
+  node-late (grammar.literal l b e) le = if-true (nat_le k b) None _ (le-leb k b le)
+  node-late (grammar.number b e) le = if-true (nat_le k b) None _ (le-leb k b le)
+  node-late (grammar.string ps b e) le = if-true (nat_le k b) None _ (le-leb k b le)
+  node-late (grammar.array b e ns) le = if-true (nat_le k b) None _ (le-leb k b le)
+  node-late (grammar.object b e ms) le = if-true (nat_le k b) None _ (le-leb k b le)
 
   pub parts-late : {P Q : Type 0} (value : P → Node) (seen : P → Tree → Q) (room i : ℕ) (ps : List P) (e : ℕ)
       → InOrder names t room value i ps e → k ≤ i → parts_left value seen ps ≡ []
   parts-late value seen room i [] e h le = refl
   parts-late value seen room i (p ∷ ps) e h le =
       let order = node-ahead names t (value p) h.1 in
-      ap₂ cons_option (ap (option_map (seen p)) (node-late (value p) h.1 (omega (arith, h.0))))
+      ap₂ cons_option (ap (option_map (seen p)) (node-late (value p) (omega (arith, h.0))))
       (parts-late value seen room (end (value p)) ps e h.3 (omega (arith, h.0)))

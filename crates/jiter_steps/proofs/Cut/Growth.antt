@@ -141,7 +141,8 @@ module _ (names : Bool) (t : List ℕ) (mode : PartialMode) where
     whole-below : (room : ℕ) → WholeBelow room
     whole-below zero n h d le = absurd (omega arith)
     whole-below (suc room) (grammar.literal l b e) h d le =
-        if-true (nat_le e k) (Some (literal_tree l)) None (le-leb e k le)
+        let order = node-ahead names t (grammar.literal l b e) h in
+        begun b k _ (omega arith) ∙ if-true (nat_le e k) (Some (literal_tree l)) None (le-leb e k le)
     whole-below (suc room) (grammar.number b e) h d le =
         let order = node-ahead names t (grammar.number b e) h in
         let all : min k e ≡ e = omega arith in
@@ -187,11 +188,11 @@ module _ (names : Bool) (t : List ℕ) (mode : PartialMode) where
     whole-grows n h all =
         along n _ _ (node-whole k n h all) (node-whole l n h (omega arith)) (extends-same (value_of t n))
 
-    begun-grows : (n : Node) → Spells names t n → (begin n < k → NodeGrows n) → NodeGrows n
-    begun-grows n h grows = by (cases_lt (begin n) k) where
+    begun-grows : (n : Node) → (begin n < k → NodeGrows n) → NodeGrows n
+    begun-grows n grows = by (cases_lt (begin n) k) where
       by : (begin n < k) ⊎ (k ≤ begin n) → NodeGrows n
       by (inl lt) = grows lt
-      by (inr unread) = none-grows n (node-late names t k mode n h unread)
+      by (inr unread) = none-grows n (node-late names t k mode n unread)
 
     still : (n : Node) → Spells names t n → end n ≤ k → cut names t n k mode ≡ cut names t n l mode
     still n h all = node-whole k n h all ∙ sym (node-whole l n h (omega arith))
@@ -251,12 +252,12 @@ module _ (names : Bool) (t : List ℕ) (mode : PartialMode) where
           (parts-grow (end (value p)) e ps h.3 c.1)
 
       -- and a container that is built of what is left
-      container-grows : (n : Node) (build : List Q → Tree) (i e : ℕ) (ps : List P) → Spells names t n
+      container-grows : (n : Node) (build : List Q → Tree) (i e : ℕ) (ps : List P)
           → ((xs ys : List Q) → ListGrows More xs ys → Extends (build xs) (build ys))
           → ((j : ℕ) → begin n < j → cut names t n j mode ≡ Some (build (left j ps)))
           → InOrder names t room value i ps e → CutsNone value ps → NodeGrows n
-      container-grows n build i e ps h grow is order c =
-          begun-grows n h (λ lt.
+      container-grows n build i e ps grow is order c =
+          begun-grows n (λ lt.
           along n (Some (build (left k ps))) (Some (build (left l ps))) (is k lt) (is l (omega arith))
           (grow (left k ps) (left l ps) (parts-grow i e ps order c)))
 
@@ -284,22 +285,22 @@ module _ (names : Bool) (t : List ℕ) (mode : PartialMode) where
       by (inl cuts) = none-grows (grammar.literal x b e) (literal-left names t k mode x b e cuts)
       by (inr all) = whole-grows (grammar.literal x b e) h all
     grows-below (suc room) (grammar.number b e) h d (inl unread) =
-        none-grows (grammar.number b e) (node-late names t k mode (grammar.number b e) h unread)
+        none-grows (grammar.number b e) (node-late names t k mode (grammar.number b e) unread)
     grows-below (suc room) (grammar.number b e) h d (inr all) = whole-grows (grammar.number b e) h all
     grows-below (suc room) (grammar.string ps b e) h d c =
-        begun-grows (grammar.string ps b e) h (λ lt. by lt (cases_lt k e)) where
+        begun-grows (grammar.string ps b e) (λ lt. by lt (cases_lt k e)) where
           by : b < k → (k < e) ⊎ (e ≤ k) → NodeGrows (grammar.string ps b e)
           by lt (inr all) = whole-grows (grammar.string ps b e) h all
           by lt (inl cuts) =
               along (grammar.string ps b e) _ _ (string-left names t k mode ps b e lt cuts) refl (kept-grows ps b e lt)
     grows-below (suc room) (grammar.array b e ns) h d c =
         container-grows Extends (λ n. n) item_seen (λ n v w more. more) room (grows-below room) (grammar.array b e ns)
-        (λ vs. tree.array (items_of vs)) (b + 1) e (nodes_list ns) h items-grow
+        (λ vs. tree.array (items_of vs)) (b + 1) e (nodes_list ns) items-grow
         (λ j lt. array-left names t j mode b e ns lt) (items-order names t room ns (b + 1) e h.1 (omega arith))
         (cuts-items ns c)
     grows-below (suc room) (grammar.object b e ms) h d c =
         container-grows ExtendsMember (λ m. m.1) (member_seen t) (λ m v w more. (refl, more)) room (grows-below room)
-        (grammar.object b e ms) (λ ms. tree.object (members_of ms)) (b + 1) e (members_list ms) h members-grow
+        (grammar.object b e ms) (λ ms. tree.object (members_of ms)) (b + 1) e (members_list ms) members-grow
         (λ j lt. object-left names t j mode b e ms lt) (members-order names t room ms (b + 1) e h.1 (omega arith))
         (cuts-members ms c)
 

@@ -23,7 +23,7 @@ use Rattle.jiter_steps.proofs.Computed.{computed_cuts, computed_readings}
 abbrev source : List ℕ
 source = codes "[12,\"a" ++ 195 ∷ 169 ∷ codes "\",{\"k\":true}]"
 
-abbrev piece : ℕ → ℕ → Piece
+abbrev pub piece : ℕ → ℕ → Piece
 piece c e = record { character = c; end = e }
 
 -- its node

@@ -1,8 +1,14 @@
 -- Trees that go on where others stopped, and trees that do not.
-use Rattle.std.proofs.Common.{[], ◌∷◌, refl, codes}
-use Rattle.jiter_steps.specs.Tree.{Tree, null}
+use Rattle.std.proofs.Common.{◌≡◌, ℕ, false, List, [], ◌∷◌, refl, ap, codes, map, Some}
+use Rattle.jiter_scan.specs.declared.partial_mode.PartialMode.TheVariants.{TrailingStrings}
+use Rattle.jiter_steps.specs.Cut.{cut}
 use Rattle.jiter_steps.specs.Extends.{Extends}
-use Rattle.jiter_steps.proofs.Rows.Trees.{ascii, number, word, own_text, listed, paired}
+use Rattle.jiter_steps.specs.Node.{no_nodes, node}
+use Rattle.jiter_steps.specs.Node as grammar
+use Rattle.jiter_steps.specs.Tree.{Text, Tree, null}
+use Rattle.jiter_steps.proofs.Computed.{computed_cuts}
+use Rattle.jiter_steps.proofs.Rows.Cuts.{piece}
+use Rattle.jiter_steps.proofs.Rows.Trees.{ascii, borrowed, owned, number, text, word, own_text, listed, paired}
 
 a_text_goes_on : Extends (word "a") (word "ab")
 a_text_goes_on = (codes "b", refl)
@@ -35,3 +41,25 @@ a_text_gets_memory_of_its_own = (codes "b", refl)
 -- a number cut short: no growth is promised there
 an_item_goes : Extends (listed (number 12 ∷ [])) (listed []) → ⊥
 an_item_goes = λ h. h
+
+-- The mark of the text that goes on may change, since a later cut may show its first backslash: `["\n"]` cut behind the
+-- quote, the backslash and the letter.
+a_backslash_comes :
+    map (λ k. cut false (codes "[\"\\n\"]") (grammar.array 0 6 (node (grammar.string (piece 10 4 ∷ []) 1 5) no_nodes)) k
+    TrailingStrings) (2 ∷ 3 ∷ 4 ∷ [])
+    ≡ Some (listed (text [] ∷ [])) ∷ Some (listed (own_text [] ∷ [])) ∷ Some (listed (own_text (codes "\n") ∷ [])) ∷ []
+a_backslash_comes = unfold computed_cuts in refl
+
+the_mark_goes_on : Extends (listed (text [] ∷ [])) (listed (own_text [] ∷ []))
+the_mark_goes_on = ([], refl)
+
+-- No other mark changes: not that of a text with another part behind it, and not that of a key.
+marks_differ : {v w : List ℕ} → borrowed v ≡ owned w → ⊥
+marks_differ e = let marks = ap (λ (x : Text). x.owned) e in cc
+
+an_earlier_mark_stays :
+    Extends (listed (word "a" ∷ null ∷ [])) (listed (own_text (codes "a") ∷ null ∷ [])) → ⊥
+an_earlier_mark_stays h = let texts : ascii "a" ≡ owned (codes "a") = let same = h.0 in cc in marks_differ texts
+
+the_mark_of_a_key_stays : Extends (paired ((ascii "a", null) ∷ [])) (paired ((owned (codes "a"), null) ∷ [])) → ⊥
+the_mark_of_a_key_stays h = marks_differ h.0

@@ -1,0 +1,105 @@
+-- What the words about a lending call say of a result and of where the reader stands, row by row. That it stands so
+-- when the loan ends (`LeavesReader`) is a formula of the toolchain's logic over these words, which no row computes.
+use Rattle.std.proofs.Common.{◌≡◌, ℕ, List, refl, arith, codes, Ok, Err, Some, None, Result, subst}
+use Rattle.std.specs.Prelude.{slice_get, Option}
+use Rattle.jiter_scan.specs.Kind.{trailing_comma}
+use Rattle.jiter_scan.specs.declared.errors.JsonErrorType.TheVariants as kind
+use Rattle.jiter_steps.specs.Tree.{Text}
+use Rattle.jiter.specs.Cause.{json_error, wrong_type, int, string}
+use Rattle.jiter.specs.Jiter.{LeavesAt, RefusesAs, TellsHere, EndsWithColon, reply_seen, text_bytes}
+use Rattle.jiter.specs.Reader.{ReaderState, Reply, gave, refused, next, str_read}
+use Rattle.jiter.specs.declared.errors.JiterError.{JiterError}
+use Rattle.jiter.specs.declared.errors.JiterErrorType.{JiterErrorType}
+use Rattle.jiter.specs.declared.errors.JiterErrorType.TheVariants as error
+use Rattle.jiter.specs.declared.errors.JsonType.TheVariants as type
+use Rattle.jiter.specs.declared.peek.TheConstants.Peek as of
+use Rattle.jiter.proofs.Rows.Tables.{computed_replies, at, borrowed}
+
+abbrev error_at : JiterErrorType → ℕ → JiterError
+error_at t i = record { error_type = t; index = i }
+
+-- what `next_str` replies
+abbrev lent : ReaderState → Reply (List ℕ)
+lent s = reply_seen text_bytes (next s (str_read s))
+
+-- the bytes of a text that was lent, and how the call leaves a reader that stood at 0
+abbrev Leaves : List ℕ → Result (List ℕ) JiterError → ℕ → Type 0
+Leaves t result i = LeavesAt (λ x. x) result (at t 0) (at t i) (lent (at t 0))
+
+-- behind its closing quote
+a_text_is_lent : Leaves (codes "\"a\" 1") (Ok (codes "a")) 3
+a_text_is_lent =
+    unfold computed_replies in record {
+      moves = record { same = refl; forward = omega arith; within = omega arith };
+      value = refl;
+      place = tt;
+    }
+
+-- at another type's value
+another_type : Leaves (codes " 1") (Err (error_at (error.WrongType type.String type.Int) 1)) 1
+another_type =
+    unfold computed_replies in record {
+      moves = record { same = refl; forward = omega arith; within = omega arith };
+      value = λ bytes. refl;
+      place = λ m. absurd (cc);
+    }
+
+-- where memory was refused, at the error's index
+memory_refused : Leaves (codes "\"\\n\"") (Err (error_at (error.JsonError kind.OutOfMemory) 0)) 0
+memory_refused =
+    unfold computed_replies in record {
+      moves = record { same = refl; forward = omega arith; within = omega arith };
+      value = λ bytes. absurd (bytes refl);
+      place = λ m. refl;
+    }
+
+-- nowhere else
+not_behind_blanks : Leaves (codes "\"a\" 1") (Ok (codes "a")) 4 → ⊥
+not_behind_blanks h = by (unfold computed_replies in h.value) where
+  by : gave (codes "a") 3 ≡ gave (codes "a") 4 → ⊥
+  by e = cc
+
+not_past_the_index : Leaves (codes "\"\\n\"") (Err (error_at (error.JsonError kind.OutOfMemory) 0)) 4 → ⊥
+not_past_the_index h = let place = h.place refl in cc
+
+-- A refusal is the reply's, and for want of memory alone it may be another.
+abbrev wrong : Reply (List ℕ)
+wrong = refused (wrong_type string int) 1 1
+
+the_replys_refusal : RefusesAs {X = List ℕ} (Err (error_at (error.WrongType type.String type.Int) 1)) wrong
+the_replys_refusal = λ bytes. refl
+
+for_want_of_memory : RefusesAs {X = List ℕ} (Err (error_at (error.JsonError kind.OutOfMemory) 0)) wrong
+for_want_of_memory = λ bytes. absurd (bytes refl)
+
+no_other_refusal : RefusesAs {X = List ℕ} (Err (error_at (error.JsonError kind.TrailingComma) 1)) wrong → ⊥
+no_other_refusal h = by (h (λ m. cc)) where
+  by : wrong ≡ refused (json_error trailing_comma) 1 1 → ⊥
+  by e = cc
+
+same_byte : (b c : ℕ) → Some b ≡ Some c → b ≡ c
+same_byte b c e = cc
+
+-- A peek that was handed out is the byte where the reader stands.
+told_here : TellsHere (Ok (Some of.True)) (at (codes "[true]") 1)
+told_here = refl
+
+nothing_told : TellsHere (Ok None) (at (codes "[]") 2)
+nothing_told = tt
+
+not_told_elsewhere : TellsHere (Ok (Some of.True)) (at (codes "[true]") 2) → ⊥
+not_told_elsewhere h = let same = same_byte 114 116 h in omega (arith, same)
+
+-- Behind a key the reader stands right behind its colon.
+abbrev key_of_a : Result (Option Text) JiterError
+key_of_a = Ok (Some (borrowed (codes "a")))
+
+behind_the_colon : EndsWithColon key_of_a (codes "{\"a\" : 1}") 6
+behind_the_colon = (5, refl, refl)
+
+not_before_it : EndsWithColon key_of_a (codes "{\"a\" : 1}") 5 → ⊥
+not_before_it h =
+    let next_to = h.1 in
+    let at_4 : h.0 ≡ 4 = omega (arith, next_to) in
+    let same = same_byte 32 58 (subst (λ j. slice_get (codes "{\"a\" : 1}") j ≡ Some 58) at_4 h.2) in
+    omega (arith, same)
