@@ -16,7 +16,7 @@ fn ends_at(alloc: Global, text: &[u8], call: usize, kind: ErrorKind) -> bool {
     let mut reader = CountedReader::new(text, 1, Calls::failing(call, 1, kind));
     match written(alloc, row, &mut reader, Calls::working()) {
         Some((status, writer)) => {
-            status == 3 && reader.calls.made == call + 1 && writer.calls.made == 0
+            status == 3 && reader.calls.made == call.saturating_add(1) && writer.calls.made == 0
         }
         None => false,
     }
@@ -68,7 +68,7 @@ fn nothing_is_read_behind_the_end(rt: HostRuntime) {
     }
 }
 
-// Whether an input that is read in pieces ends with this status and this line. Both have their middle part so many times.
+// Whether an input that is read in pieces ends with this status and this line. Both have their middle part so often.
 fn reads_long(
     alloc: Global,
     count: usize,
