@@ -176,7 +176,7 @@ pub fn show<O: Write, E: Write>(line: Option<Line>, out: &mut O, err: &mut E) ->
     }
 }
 
-/// Writes a line whole and flushes; after a call that failed it makes no other.
+/// Writes a line whole and flushes; after a call that failed it makes no other, but for an interrupted write.
 pub fn write_line<W: Write>(writer: &mut W, line: &[u8]) -> io::Result<()>
     ensures whole { OnOk result (Appends (W.contents writer.old) (W.contents writer.new) line.now) }
     ensures front { OnErr result

@@ -1,0 +1,100 @@
+//! What values are printed as: lines that are shown as they stand.
+use super::{Row, does, repeated};
+use std::alloc::Global;
+use std::test::*;
+
+// Whether a line is shown as it stands.
+fn is_shown(alloc: Global, line: &[u8]) -> bool {
+    let Some((_, text)) = line.split_last() else {
+        return false;
+    };
+    let row = Row {
+        given: &["off"],
+        text,
+        status: 0,
+        line,
+    };
+    does(alloc, row, 300)
+}
+
+#[test]
+fn values_are_printed(rt: HostRuntime) {
+    for line in [
+        "null\n",
+        "true\n",
+        "false\n",
+        "0\n",
+        "9\n",
+        "10\n",
+        "-1\n",
+        "-10\n",
+        "-12\n",
+        "100\n",
+        "1000000007\n",
+        "9223372036854775807\n",
+        "-9223372036854775808\n",
+        "9223372036854775808\n",
+        "-1.50E+2\n",
+        "\"\"\n",
+        "\"\\\"\"\n",
+        "\"\\\"\\\\\"\n",
+        "\"a\\\"\"\n",
+        "\"\\\"a\"\n",
+        "\"ab\\u000acd\\u0000\\u001f é\"\n",
+        "\"a\\\"\\\\/\\u001f\u{7f}é\"\n",
+        "[]\n",
+        "{}\n",
+        "{\"a\":[[],{}],\"\\u000a\":null,\"a\":2}\n",
+    ] {
+        assert!(rt; is_shown(rt.alloc(), line.as_bytes()), "{line}");
+    }
+}
+
+// Whether each count up to this one of the second part between the other two is shown as it stands.
+fn each_is_shown(alloc: Global, first: &str, more: &str, last: &str, counts: usize) -> bool {
+    for count in 0..=counts {
+        let Ok(line) = repeated(alloc, first.as_bytes(), more, count, last) else {
+            return false;
+        };
+        if !is_shown(alloc, line.as_slice()) {
+            return false;
+        }
+    }
+    true
+}
+
+#[test]
+fn each_size_is_shown(rt: HostRuntime) {
+    for (first, more, last, counts) in [
+        ("[", "0,", "0]\n", 300),
+        ("{", "\"k\":0,", "\"k\":0}\n", 300),
+        ("{\"", "k", "\":0}\n", 300),
+        ("\"", "a", "\"\n", 1_000),
+        ("\"", "\\u0001", "\"\n", 300),
+        ("1", "1", "\n", 300),
+        ("-1.0", "0", "\n", 300),
+    ] {
+        assert!(rt;
+            each_is_shown(rt.alloc(), first, more, last, counts),
+            "{more}"
+        );
+    }
+}
+
+// Whether so many empty arrays, one inside the other, are shown as they stand.
+fn depth_is_shown(alloc: Global, depth: usize) -> bool {
+    let Ok(open) = Vec::from_elem(alloc, b'[', depth) else {
+        return false;
+    };
+    match repeated(alloc, open.as_slice(), "]", depth, "\n") {
+        Ok(line) => is_shown(alloc, line.as_slice()),
+        Err(_) => false,
+    }
+}
+
+#[test]
+fn each_depth_is_shown(rt: HostRuntime) {
+    for depth in 1..=200 {
+        assert!(rt; depth_is_shown(rt.alloc(), depth));
+    }
+}

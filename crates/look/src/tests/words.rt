@@ -1,0 +1,78 @@
+//! What words ask for.
+use super::{Row, does, list_of};
+use crate::asking::words;
+use crate::running::End;
+use crate::words::Words;
+use jiter::PartialMode;
+use std::alloc::Global;
+use std::test::*;
+
+// Whether words ask for this.
+fn ask_for(alloc: Global, given: &[&str], mode: PartialMode, inf_nan: bool) -> bool {
+    match list_of(alloc, given) {
+        Ok(list) => words(list.as_slice()) == Some(Words { mode, inf_nan }),
+        Err(_) => false,
+    }
+}
+
+#[test]
+fn words_name_a_mode(rt: HostRuntime) {
+    for (word, mode) in [
+        ("off", PartialMode::Off),
+        ("on", PartialMode::On),
+        ("trailing-strings", PartialMode::TrailingStrings),
+    ] {
+        assert!(rt; ask_for(rt.alloc(), &[word], mode, false));
+        assert!(rt; ask_for(rt.alloc(), &[word, "inf-nan"], mode, true));
+    }
+}
+
+// Whether words ask for nothing, and get the usage line.
+fn are_wrong(alloc: Global, given: &[&str]) -> bool {
+    let row = Row {
+        given,
+        text: b"[1]",
+        status: 2,
+        line: b"usage: look off|on|trailing-strings [inf-nan]\n",
+    };
+    match list_of(alloc, given) {
+        Ok(list) => words(list.as_slice()).is_none() && does(alloc, row, 1),
+        Err(_) => false,
+    }
+}
+
+#[test]
+fn other_words_get_the_usage_line(rt: HostRuntime) {
+    let alloc = rt.alloc();
+    for word in [
+        "maybe",
+        "",
+        "Off",
+        "off ",
+        "inf-nan",
+        "On",
+        "trailing-string",
+        "trailing-strings ",
+        "x",
+    ] {
+        assert!(rt; are_wrong(alloc, &[word]), "{word}");
+        assert!(rt; are_wrong(alloc, &[word, "inf-nan"]), "{word}");
+        assert!(rt; are_wrong(alloc, &["off", "inf-nan", word]), "{word}");
+    }
+    for (first, second) in [
+        ("off", "x"),
+        ("off", "off"),
+        ("on", "off"),
+        ("trailing-strings", "on"),
+    ] {
+        assert!(rt; are_wrong(alloc, &[first, second]), "{first} {second}");
+    }
+    assert!(rt; are_wrong(alloc, &[]));
+}
+
+#[test]
+fn each_end_has_a_status(rt: HostRuntime) {
+    for (end, status) in [(End::Shown, 0), (End::Refused, 1), (End::Failed, 3)] {
+        assert_eq!(rt; end.status(), status);
+    }
+}
