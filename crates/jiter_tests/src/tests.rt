@@ -2,10 +2,9 @@
 //!
 //! Contracts let a parse answer want of memory of most documents, and let a description fail always. These
 //! tests show that with ample memory neither does.
-use crate::told::text_of;
+use crate::told::outcome_text;
 use jiter::JsonValue;
-use std::alloc::Global;
-use std::test::Fail;
+use std::alloc::{AllocError, Global};
 
 mod copies;
 mod cuts;
@@ -20,8 +19,7 @@ mod partial;
 mod turns;
 mod values;
 
-// The value that a parse answers, on one line.
-fn value_text(alloc: Global, bytes: &[u8], allow_inf_nan: bool) -> Result<String, Fail> {
-    let value = JsonValue::parse(alloc, bytes, allow_inf_nan)?;
-    Ok(text_of(alloc, &value)?)
+// The value that a parse answers, or the kind and the index of its fault, on one line.
+fn value_text(alloc: Global, bytes: &[u8], allow_inf_nan: bool) -> Result<String, AllocError> {
+    outcome_text(alloc, &JsonValue::parse(alloc, bytes, allow_inf_nan))
 }

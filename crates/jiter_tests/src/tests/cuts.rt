@@ -4,6 +4,7 @@
 use crate::told::answer_text;
 use jiter::PartialMode;
 use std::alloc::{AllocError, Global};
+use std::process::Abort;
 use std::test::*;
 
 // A part of a document, by its source.
@@ -201,11 +202,11 @@ fn first_miss(
     parts: &[Part],
     bracket: usize,
     mode: PartialMode,
-) -> Result<Option<(usize, String)>, Fail> {
+) -> Result<Option<(usize, String)>, AllocError> {
     let source = source_of(alloc, parts)?;
     let keeps_strings = mode == PartialMode::TrailingStrings;
     for place in bracket.saturating_add(1)..=source.len() {
-        let front = source.as_bytes().get(..place).ok_or("longer")?;
+        let front = &source.as_bytes()[..place];
         let seen = answer_text(alloc, front, true, mode)?;
         let wanted = cut(alloc, parts, place, keeps_strings)?;
         if seen.as_str() != wanted.as_str() {
@@ -220,17 +221,25 @@ fn first_miss_in_either(
     alloc: Global,
     parts: &[Part],
     bracket: usize,
-) -> Result<Option<(usize, String)>, Fail> {
+) -> Result<Option<(usize, String)>, AllocError> {
     match first_miss(alloc, parts, bracket, PartialMode::On)? {
         None => first_miss(alloc, parts, bracket, PartialMode::TrailingStrings),
         miss => Ok(miss),
     }
 }
 
+// Asserts that a parse answers the cut at each place behind the first bracket, in both partial modes.
+fn expect_cuts(rt: &impl Abort, alloc: Global, parts: &[Part], bracket: usize) {
+    match first_miss_in_either(alloc, parts, bracket) {
+        Ok(miss) => assert_eq!(*rt; miss, None),
+        Err(_) => assert!(*rt; false, "no memory"),
+    }
+}
+
 #[test]
-fn literals_and_empty_containers_are_cut(rt: HostRuntime) -> Result<(), Fail> {
+fn literals_and_empty_containers_are_cut(rt: HostRuntime) {
     use Part::{Close, Gap, Open, Word};
-    let parts = [
+    const PARTS: [Part; 22] = [
         Gap(" \t"),
         Open("["),
         Gap("\n "),
@@ -254,14 +263,13 @@ fn literals_and_empty_containers_are_cut(rt: HostRuntime) -> Result<(), Fail> {
         Close("]"),
         Gap(" \n"),
     ];
-    assert_eq!(rt; first_miss_in_either(rt.alloc(), &parts, 2)?, None);
-    Ok(())
+    expect_cuts(&rt, rt.alloc(), &PARTS, 2);
 }
 
 #[test]
-fn strings_are_cut(rt: HostRuntime) -> Result<(), Fail> {
+fn strings_are_cut(rt: HostRuntime) {
     use Part::{Close, Gap, Open, Text};
-    let parts = [
+    const PARTS: [Part; 13] = [
         Open("["),
         Text(&[]),
         Gap(" ,"),
@@ -276,14 +284,13 @@ fn strings_are_cut(rt: HostRuntime) -> Result<(), Fail> {
         Text(&[("€", "€"), (r"\/", "/"), ("😀", "😀")]),
         Close("]"),
     ];
-    assert_eq!(rt; first_miss_in_either(rt.alloc(), &parts, 0)?, None);
-    Ok(())
+    expect_cuts(&rt, rt.alloc(), &PARTS, 0);
 }
 
 #[test]
-fn numbers_are_cut(rt: HostRuntime) -> Result<(), Fail> {
+fn numbers_are_cut(rt: HostRuntime) {
     use Part::{Close, Gap, Number, Open};
-    let parts = [
+    const PARTS: [Part; 11] = [
         Open("["),
         Number("0", &[(1, "0")]),
         Gap(","),
@@ -310,14 +317,13 @@ fn numbers_are_cut(rt: HostRuntime) -> Result<(), Fail> {
         Number("7E2", &[(1, "7"), (3, "float '7E2'")]),
         Close("]"),
     ];
-    assert_eq!(rt; first_miss_in_either(rt.alloc(), &parts, 0)?, None);
-    Ok(())
+    expect_cuts(&rt, rt.alloc(), &PARTS, 0);
 }
 
 #[test]
-fn names_are_cut(rt: HostRuntime) -> Result<(), Fail> {
+fn names_are_cut(rt: HostRuntime) {
     use Part::{Close, Gap, Key, Number, Open};
-    let parts = [
+    const PARTS: [Part; 18] = [
         Gap("\r"),
         Open("{"),
         Gap(" "),
@@ -337,14 +343,13 @@ fn names_are_cut(rt: HostRuntime) -> Result<(), Fail> {
         Gap(" "),
         Close("}"),
     ];
-    assert_eq!(rt; first_miss_in_either(rt.alloc(), &parts, 1)?, None);
-    Ok(())
+    expect_cuts(&rt, rt.alloc(), &PARTS, 1);
 }
 
 #[test]
-fn keys_and_members_are_cut(rt: HostRuntime) -> Result<(), Fail> {
+fn keys_and_members_are_cut(rt: HostRuntime) {
     use Part::{Close, Gap, Key, Open, Text, Word};
-    let parts = [
+    const PARTS: [Part; 20] = [
         Open("{"),
         Key("\"a\"", "'a':"),
         Gap(" :\t"),
@@ -366,14 +371,13 @@ fn keys_and_members_are_cut(rt: HostRuntime) -> Result<(), Fail> {
         Close("}"),
         Gap("\t"),
     ];
-    assert_eq!(rt; first_miss_in_either(rt.alloc(), &parts, 0)?, None);
-    Ok(())
+    expect_cuts(&rt, rt.alloc(), &PARTS, 0);
 }
 
 #[test]
-fn nested_containers_are_cut(rt: HostRuntime) -> Result<(), Fail> {
+fn nested_containers_are_cut(rt: HostRuntime) {
     use Part::{Close, Gap, Key, Number, Open, Text, Word};
-    let parts = [
+    const PARTS: [Part; 25] = [
         Open("["),
         Open("{"),
         Key("\"k\"", "'k':"),
@@ -400,6 +404,5 @@ fn nested_containers_are_cut(rt: HostRuntime) -> Result<(), Fail> {
         Close("]"),
         Close("]"),
     ];
-    assert_eq!(rt; first_miss_in_either(rt.alloc(), &parts, 0)?, None);
-    Ok(())
+    expect_cuts(&rt, rt.alloc(), &PARTS, 0);
 }

@@ -1,13 +1,13 @@
 //! Rows of bytes, each with the kind and the index of the first fault that a parse of the whole answers.
 use super::value_text;
-use crate::told::fault_of;
+use crate::told::{expect_fault, expect_text, fault_of};
 use jiter::{JsonError, JsonErrorType as Kind, JsonValue};
 use std::alloc::{AllocError, Global};
 use std::test::*;
 
 #[test]
 fn literals_and_arrays_are_refused(rt: HostRuntime) {
-    for (text, kind, index) in [
+    const ROWS: [(&str, Kind, usize); 15] = [
         ("", Kind::EofWhileParsingValue, 0),
         ("  ", Kind::EofWhileParsingValue, 2),
         ("tru", Kind::EofWhileParsingValue, 3),
@@ -23,15 +23,16 @@ fn literals_and_arrays_are_refused(rt: HostRuntime) {
         ("\"a", Kind::EofWhileParsingString, 2),
         ("[\"a\", \"b", Kind::EofWhileParsingString, 8),
         ("[\"a\", \"b\\u00", Kind::EofWhileParsingString, 12),
-    ] {
+    ];
+    for (text, kind, index) in &ROWS {
         let seen = fault_of(rt.alloc(), text.as_bytes(), false);
-        assert_eq!(rt; seen, Some((kind, index)), "{text}");
+        expect_fault(&rt, &seen, kind, *index, text);
     }
 }
 
 #[test]
 fn numbers_are_refused(rt: HostRuntime) {
-    for (text, kind, index) in [
+    const ROWS: [(&str, Kind, usize); 8] = [
         ("0.", Kind::EofWhileParsingValue, 2),
         ("1e", Kind::EofWhileParsingValue, 2),
         ("[-I]", Kind::InvalidNumber, 2),
@@ -40,26 +41,28 @@ fn numbers_are_refused(rt: HostRuntime) {
         ("1e+x", Kind::InvalidNumber, 3),
         ("[I]", Kind::ExpectedSomeValue, 1),
         ("[1x]", Kind::ExpectedListCommaOrEnd, 2),
-    ] {
+    ];
+    for (text, kind, index) in &ROWS {
         let seen = fault_of(rt.alloc(), text.as_bytes(), false);
-        assert_eq!(rt; seen, Some((kind, index)), "{text}");
+        expect_fault(&rt, &seen, kind, *index, text);
     }
 }
 
 #[test]
 fn names_are_refused(rt: HostRuntime) {
-    for (text, kind, index) in [
+    const ROWS: [(&str, Kind, usize); 2] = [
         ("[Infinit]", Kind::ExpectedSomeIdent, 8),
         ("-NaN", Kind::InvalidNumber, 1),
-    ] {
+    ];
+    for (text, kind, index) in &ROWS {
         let seen = fault_of(rt.alloc(), text.as_bytes(), true);
-        assert_eq!(rt; seen, Some((kind, index)), "{text}");
+        expect_fault(&rt, &seen, kind, *index, text);
     }
 }
 
 #[test]
 fn objects_are_refused(rt: HostRuntime) {
-    for (text, kind, index) in [
+    const ROWS: [(&str, Kind, usize); 8] = [
         (r#"{"a" 1}"#, Kind::ExpectedColon, 5),
         ("{1:2}", Kind::KeyMustBeAString, 1),
         (r#"{"a":1,}"#, Kind::TrailingComma, 7),
@@ -68,28 +71,30 @@ fn objects_are_refused(rt: HostRuntime) {
         (r#"{"a":"#, Kind::EofWhileParsingValue, 5),
         (r#"{"a":1,"#, Kind::EofWhileParsingValue, 7),
         (r#"{"a""#, Kind::EofWhileParsingObject, 4),
-    ] {
+    ];
+    for (text, kind, index) in &ROWS {
         let seen = fault_of(rt.alloc(), text.as_bytes(), false);
-        assert_eq!(rt; seen, Some((kind, index)), "{text}");
+        expect_fault(&rt, &seen, kind, *index, text);
     }
 }
 
 #[test]
 fn bytes_that_are_no_text_are_refused(rt: HostRuntime) {
-    for (bytes, kind, index) in [
-        (b"\"\\n\xff\"".as_slice(), Kind::InvalidUnicodeCodePoint, 2),
-        (b"{\"\xff\":1}".as_slice(), Kind::InvalidUnicodeCodePoint, 2),
-        (b"\xef\xbb\xbf1".as_slice(), Kind::ExpectedSomeValue, 0),
-    ] {
+    const ROWS: [(&[u8], Kind, usize); 3] = [
+        (b"\"\\n\xff\"", Kind::InvalidUnicodeCodePoint, 2),
+        (b"{\"\xff\":1}", Kind::InvalidUnicodeCodePoint, 2),
+        (b"\xef\xbb\xbf1", Kind::ExpectedSomeValue, 0),
+    ];
+    for (bytes, kind, index) in &ROWS {
         let seen = fault_of(rt.alloc(), bytes, false);
-        assert_eq!(rt; seen, Some((kind, index)), "{bytes:?}");
+        expect_fault(&rt, &seen, kind, *index, bytes);
     }
 }
 
 #[test]
 fn strings_are_refused(rt: HostRuntime) {
-    for (bytes, kind, index) in [
-        (br#""\u00""#.as_slice(), Kind::EofWhileParsingString, 6),
+    const ROWS: [(&[u8], Kind, usize); 19] = [
+        (br#""\u00""#, Kind::EofWhileParsingString, 6),
         (br#""\u00" "#, Kind::InvalidEscape, 5),
         (br#""\u00x0""#, Kind::InvalidEscape, 5),
         (br#""\u000x""#, Kind::InvalidEscape, 6),
@@ -120,66 +125,67 @@ fn strings_are_refused(rt: HostRuntime) {
             Kind::ControlCharacterWhileParsingString,
             20,
         ),
-    ] {
+    ];
+    for (bytes, kind, index) in &ROWS {
         let seen = fault_of(rt.alloc(), bytes, false);
-        assert_eq!(rt; seen, Some((kind, index)), "{bytes:?}");
+        expect_fault(&rt, &seen, kind, *index, bytes);
     }
 }
 
 // The description of the fault that a parse answers.
-fn description_of(alloc: Global, bytes: &[u8]) -> Result<String, Fail> {
+fn description_of(alloc: Global, bytes: &[u8]) -> Result<String, AllocError> {
     match JsonValue::parse(alloc, bytes, false) {
-        Ok(_) => Err("a value".into()),
-        Err(error) => Ok(error.description(alloc, bytes)?),
+        Ok(_) => String::from_str(alloc, "a value"),
+        Err(error) => error.description(alloc, bytes),
     }
 }
 
 #[test]
-fn faults_are_described(rt: HostRuntime) -> Result<(), Fail> {
-    let alloc = rt.alloc();
-    for (text, wanted) in [
+fn faults_are_described(rt: HostRuntime) {
+    const ROWS: [(&str, &str); 2] = [
         ("[\ntrue\nx", "expected `,` or `]` at line 3 column 1"),
         ("[1, 2] extra", "trailing characters at line 1 column 8"),
-    ] {
-        assert_eq!(rt; description_of(alloc, text.as_bytes())?.as_str(), wanted);
+    ];
+    let alloc = rt.alloc();
+    for &(text, wanted) in &ROWS {
+        expect_text(&rt, description_of(alloc, text.as_bytes()), wanted, &text);
     }
-    Ok(())
 }
 
 #[test]
 fn nested_containers_are_refused(rt: HostRuntime) -> Result<(), Fail> {
-    let alloc = rt.alloc();
-    for (front, times, middle, back, kind, index) in [
+    const ROWS: [(&str, usize, &str, &str, Kind, usize); 6] = [
         ("[", 300, "", "]", Kind::RecursionLimitExceeded, 201),
         ("[", 202, "", "", Kind::RecursionLimitExceeded, 201),
         ("[", 201, "", "", Kind::EofWhileParsingList, 201),
         ("{\"a\":", 201, "1", "}", Kind::RecursionLimitExceeded, 1005),
         ("[{\"a\":", 150, "", "", Kind::RecursionLimitExceeded, 601),
         ("{\"\":", 201, "", "", Kind::EofWhileParsingValue, 804),
-    ] {
-        let opened = front.repeat(alloc, times)?;
-        let closed = back.repeat(alloc, times)?;
+    ];
+    let alloc = rt.alloc();
+    for (front, times, middle, back, kind, index) in &ROWS {
+        let opened = front.repeat(alloc, *times)?;
+        let closed = back.repeat(alloc, *times)?;
         let text = format!(in alloc; "{opened}{middle}{closed}")?;
         let seen = fault_of(alloc, text.as_bytes(), false);
-        assert_eq!(rt; seen, Some((kind, index)), "{front} {times} times");
+        expect_fault(&rt, &seen, kind, *index, front);
     }
     Ok(())
 }
 
 #[test]
 fn integers_of_many_digits(rt: HostRuntime) -> Result<(), Fail> {
+    const ROWS: [(&str, &str, usize); 2] = [("", "", 4301), ("[", "]", 4302)];
     let alloc = rt.alloc();
     let digits = "1".repeat(alloc, 4300)?;
-    for (front, back, index) in [("", "", 4301), ("[", "]", 4302)] {
+    for &(front, back, index) in &ROWS {
         let text = format!(in alloc; "{front}{digits}{back}")?;
         let wanted = format!(in alloc; "{front}big '{digits}'{back}")?;
-        assert_eq!(rt;
-            value_text(alloc, text.as_bytes(), false)?.as_str(),
-            wanted.as_str()
-        );
+        let seen = value_text(alloc, text.as_bytes(), false);
+        expect_text(&rt, seen, wanted.as_str(), &front);
         let longer = format!(in alloc; "{front}{digits}1{back}")?;
         let seen = fault_of(alloc, longer.as_bytes(), false);
-        assert_eq!(rt; seen, Some((Kind::NumberOutOfRange, index)));
+        expect_fault(&rt, &seen, &Kind::NumberOutOfRange, index, &front);
     }
     Ok(())
 }
@@ -215,22 +221,15 @@ fn first_miss(
 
 #[test]
 fn damage_is_found_at_each_place_of_a_string(rt: HostRuntime) -> Result<(), Fail> {
-    for (damage, kind, behind) in [
-        (b"\xff".as_slice(), Kind::InvalidUnicodeCodePoint, 1),
-        (
-            b"\x1f".as_slice(),
-            Kind::ControlCharacterWhileParsingString,
-            1,
-        ),
-        (br"\q".as_slice(), Kind::InvalidEscape, 2),
-        (
-            br"\udc00".as_slice(),
-            Kind::LoneLeadingSurrogateInHexEscape,
-            6,
-        ),
-        (br"\ud83dx".as_slice(), Kind::UnexpectedEndOfHexEscape, 7),
-    ] {
-        let miss = first_miss(rt.alloc(), damage, &kind, behind)?;
+    const ROWS: [(&[u8], Kind, usize); 5] = [
+        (b"\xff", Kind::InvalidUnicodeCodePoint, 1),
+        (b"\x1f", Kind::ControlCharacterWhileParsingString, 1),
+        (br"\q", Kind::InvalidEscape, 2),
+        (br"\udc00", Kind::LoneLeadingSurrogateInHexEscape, 6),
+        (br"\ud83dx", Kind::UnexpectedEndOfHexEscape, 7),
+    ];
+    for (damage, kind, behind) in &ROWS {
+        let miss = first_miss(rt.alloc(), damage, kind, *behind)?;
         assert_eq!(rt; miss, None, "{kind}");
     }
     Ok(())
@@ -238,10 +237,7 @@ fn damage_is_found_at_each_place_of_a_string(rt: HostRuntime) -> Result<(), Fail
 
 #[test]
 fn every_proper_front_is_refused_at_its_end(rt: HostRuntime) -> Result<(), Fail> {
-    let alloc = rt.alloc();
-    let bytes = r#"[12,"aé",{"k":true}]"#.as_bytes();
-    assert_eq!(rt; bytes.len(), 21);
-    for (kind, length) in [
+    const ROWS: [(Kind, usize); 21] = [
         (Kind::EofWhileParsingValue, 0),
         (Kind::EofWhileParsingList, 1),
         (Kind::EofWhileParsingList, 2),
@@ -263,14 +259,17 @@ fn every_proper_front_is_refused_at_its_end(rt: HostRuntime) -> Result<(), Fail>
         (Kind::EofWhileParsingValue, 18),
         (Kind::EofWhileParsingObject, 19),
         (Kind::EofWhileParsingList, 20),
-    ] {
-        let front = bytes.get(..length).ok_or("longer than the whole")?;
-        assert_eq!(rt; fault_of(alloc, front, false), Some((kind, length)));
+    ];
+    let alloc = rt.alloc();
+    let bytes = r#"[12,"aé",{"k":true}]"#.as_bytes();
+    assert_eq!(rt; bytes.len(), 21);
+    for (kind, length) in &ROWS {
+        let front = bytes.get(..*length).ok_or("longer than the whole")?;
+        let seen = fault_of(alloc, front, false);
+        expect_fault(&rt, &seen, kind, *length, length);
     }
-    assert_eq!(rt;
-        value_text(alloc, bytes, false)?.as_str(),
-        "[12,'aé',{'k':true}]"
-    );
+    let seen = value_text(alloc, bytes, false);
+    expect_text(&rt, seen, "[12,'aé',{'k':true}]", &bytes);
     Ok(())
 }
 

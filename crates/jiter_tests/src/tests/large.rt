@@ -1,6 +1,6 @@
 //! Large documents with ample memory: many items and members, long texts, faults and positions far in.
 use super::value_text;
-use crate::told::fault_of;
+use crate::told::{expect_fault, fault_of};
 use jiter::{JsonErrorType as Kind, JsonValue, LinePosition};
 use std::alloc::{AllocError, Global};
 use std::test::*;
@@ -25,8 +25,7 @@ fn is_read_as_members(alloc: Global, part: &str, text: &str) -> Result<bool, Fai
 
 #[test]
 fn ten_thousand_like_parts_are_read(rt: HostRuntime) -> Result<(), Fail> {
-    let alloc = rt.alloc();
-    for (part, text) in [
+    const ROWS: [(&str, &str); 20] = [
         ("null", "null"),
         ("true", "true"),
         ("false", "false"),
@@ -47,7 +46,9 @@ fn ten_thousand_like_parts_are_read(rt: HostRuntime) -> Result<(), Fail> {
         ("[7,[7]]", "[7,[7]]"),
         ("{\"7\":7}", "{'7':7}"),
         ("{\"\\u0037\":[]}", "{owned '7':[]}"),
-    ] {
+    ];
+    let alloc = rt.alloc();
+    for &(part, text) in &ROWS {
         assert!(rt; is_read_as_items(alloc, part, text)?, "{part}");
         assert!(rt; is_read_as_members(alloc, part, text)?, "{part}");
     }
@@ -90,7 +91,7 @@ fn first_lost(alloc: Global, letter: &str, text: &str, mark: &str) -> Result<Opt
 
 #[test]
 fn long_texts_are_decoded(rt: HostRuntime) -> Result<(), Fail> {
-    for (letter, text, mark) in [
+    const ROWS: [(&str, &str, &str); 6] = [
         ("a", "a", ""),
         ("\u{1F600}", "\u{1F600}", ""),
         ("\\n", "\n", "owned "),
@@ -101,7 +102,8 @@ fn long_texts_are_decoded(rt: HostRuntime) -> Result<(), Fail> {
             "aaaaaaaaaaaaaaaaaaaaaaaa\t",
             "owned ",
         ),
-    ] {
+    ];
+    for &(letter, text, mark) in &ROWS {
         let lost = first_lost(rt.alloc(), letter, text, mark)?;
         assert_eq!(rt; lost, None, "{letter}");
     }
@@ -155,14 +157,15 @@ fn first_end_missed(alloc: Global, front: &str) -> Result<Option<usize>, Fail> {
 
 #[test]
 fn faults_behind_many_items_are_found(rt: HostRuntime) -> Result<(), Fail> {
-    let alloc = rt.alloc();
-    for (head, item, tail) in [
+    const ROWS: [(&str, &str, &str); 5] = [
         ("[", "7,", ""),
         ("{\"k\":[", "\"\\n\",", ""),
         ("[", "[7],", "[7,"),
         ("{", "\"k\":7,", "\"k\":[7,"),
         ("", " ", "[7,"),
-    ] {
+    ];
+    let alloc = rt.alloc();
+    for &(head, item, tail) in &ROWS {
         let items = item.repeat(alloc, 5000)?;
         let front = format!(in alloc; "{head}{items}{tail}")?;
         assert_eq!(rt;
@@ -176,10 +179,7 @@ fn faults_behind_many_items_are_found(rt: HostRuntime) -> Result<(), Fail> {
 
 #[test]
 fn faults_behind_many_members_are_found(rt: HostRuntime) -> Result<(), Fail> {
-    let alloc = rt.alloc();
-    let members = "\"k\":7,".repeat(alloc, 5000)?;
-    let front = format!(in alloc; "{{{members}")?;
-    for (end, kind, place) in [
+    const ROWS: [(&str, Kind, usize); 11] = [
         ("", Kind::EofWhileParsingValue, 0),
         ("}", Kind::TrailingComma, 0),
         ("1", Kind::KeyMustBeAString, 0),
@@ -191,11 +191,15 @@ fn faults_behind_many_members_are_found(rt: HostRuntime) -> Result<(), Fail> {
         ("\"k\":7", Kind::EofWhileParsingObject, 5),
         ("\"k\":7 8", Kind::ExpectedObjectCommaOrEnd, 6),
         ("\"k\":7} x", Kind::TrailingCharacters, 7),
-    ] {
+    ];
+    let alloc = rt.alloc();
+    let members = "\"k\":7,".repeat(alloc, 5000)?;
+    let front = format!(in alloc; "{{{members}")?;
+    for (end, kind, place) in &ROWS {
         let text = format!(in alloc; "{front}{end}")?;
-        let (seen, index) = fault_of(alloc, text.as_bytes(), false).ok_or("a value")?;
-        assert_eq!(rt; seen, kind, "{end}");
-        assert_eq!(rt; index, front.len().saturating_add(place), "{end}");
+        let seen = fault_of(alloc, text.as_bytes(), false);
+        let index = front.len().saturating_add(*place);
+        expect_fault(&rt, &seen, kind, index, end);
     }
     Ok(())
 }
@@ -211,9 +215,9 @@ fn limits_hold_behind_many_items(rt: HostRuntime) -> Result<(), Fail> {
         (digits.as_str(), Kind::NumberOutOfRange, 4301),
     ] {
         let text = format!(in alloc; "[{items}{end}1]")?;
-        let (seen, index) = fault_of(alloc, text.as_bytes(), false).ok_or("a value")?;
-        assert_eq!(rt; seen, kind);
-        assert_eq!(rt; index, items.len().saturating_add(place).saturating_add(1));
+        let seen = fault_of(alloc, text.as_bytes(), false);
+        let index = items.len().saturating_add(place).saturating_add(1);
+        expect_fault(&rt, &seen, &kind, index, &place);
     }
     Ok(())
 }
@@ -233,8 +237,9 @@ fn description_behind(alloc: Global, filler: &str, count: usize) -> Result<Optio
 
 #[test]
 fn faults_far_in_are_described(rt: HostRuntime) -> Result<(), Fail> {
+    const COUNTS: [usize; 10] = [9, 62, 63, 64, 65, 99, 100, 4096, 1_000_000, 2_345_678];
     let alloc = rt.alloc();
-    for count in [9usize, 62, 63, 64, 65, 99, 100, 4096, 1_000_000, 2_345_678] {
+    for &count in &COUNTS {
         let next = count.saturating_add(1);
         let seen = description_behind(alloc, " ", count)?.ok_or("another place")?;
         let wanted = format!(in alloc; "expected value at line 1 column {next}")?;

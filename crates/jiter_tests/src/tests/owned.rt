@@ -1,28 +1,25 @@
 //! Values that own their texts, their equality, and a scratch that serves many documents.
-use crate::told::{outcome_text, text_of};
+use crate::told::{expect_text, outcome_text, text_of};
 use jiter::{JsonErrorType as Kind, JsonValue, JsonValueScratch, PartialMode};
 use std::alloc::{AllocError, Global};
 use std::test::*;
 
 #[test]
 fn an_owned_value_owns_each_text(rt: HostRuntime) -> Result<(), Fail> {
-    let alloc = rt.alloc();
-    for (bytes, mode, wanted) in [
-        (b"[\"ab".as_slice(), PartialMode::On, "[]"),
+    const ROWS: [(&[u8], PartialMode, &str); 4] = [
+        (b"[\"ab", PartialMode::On, "[]"),
+        (b"[\"ab", PartialMode::TrailingStrings, "[owned 'ab']"),
+        (b"[1] x", PartialMode::On, "[1]"),
         (
-            b"[\"ab".as_slice(),
-            PartialMode::TrailingStrings,
-            "[owned 'ab']",
-        ),
-        (b"[1] x".as_slice(), PartialMode::On, "[1]"),
-        (
-            b"{\"k\":[\"a\",2.50,\"\"],\"\\u0061\":null}".as_slice(),
+            b"{\"k\":[\"a\",2.50,\"\"],\"\\u0061\":null}",
             PartialMode::Off,
             "{owned 'k':[owned 'a',float owned '2.50',owned ''],owned 'a':null}",
         ),
-    ] {
+    ];
+    let alloc = rt.alloc();
+    for &(bytes, mode, wanted) in &ROWS {
         let answer = JsonValue::parse_owned(alloc, bytes, false, mode);
-        assert_eq!(rt; outcome_text(alloc, &answer)?.as_str(), wanted);
+        expect_text(&rt, outcome_text(alloc, &answer), wanted, &bytes);
     }
     let refused = JsonValue::parse_owned(alloc, b"[1] x", false, PartialMode::Off)
         .err()
@@ -39,10 +36,20 @@ fn copies_keep_or_own_each_text(rt: HostRuntime) -> Result<(), Fail> {
     let value = JsonValue::parse(alloc, bytes, false)?;
     let kept = "{'k':['a',owned '\n',12]}";
     let owned = "{owned 'k':[owned 'a',owned '\n',12]}";
-    assert_eq!(rt; text_of(alloc, &value.clone(alloc)?)?.as_str(), kept);
-    assert_eq!(rt; text_of(alloc, &value.to_static(alloc)?)?.as_str(), owned);
-    assert_eq!(rt; text_of(alloc, &value)?.as_str(), kept);
-    assert_eq!(rt; text_of(alloc, &value.into_static(alloc)?)?.as_str(), owned);
+    expect_text(&rt, text_of(alloc, &value.clone(alloc)?), kept, &"clone");
+    expect_text(
+        &rt,
+        text_of(alloc, &value.to_static(alloc)?),
+        owned,
+        &"to_static",
+    );
+    expect_text(&rt, text_of(alloc, &value), kept, &"the value");
+    expect_text(
+        &rt,
+        text_of(alloc, &value.into_static(alloc)?),
+        owned,
+        &"into_static",
+    );
     Ok(())
 }
 
@@ -55,17 +62,18 @@ fn are_equal(alloc: Global, one: &'static [u8], other: &'static [u8]) -> Result<
 
 #[test]
 fn values_are_equal_where_they_hold_the_same(rt: HostRuntime) -> Result<(), Fail> {
+    const ROWS: [(&[u8], &[u8], bool); 8] = [
+        (b"1.0", b"1.00", false),
+        (b"[NaN]", b"[NaN]", true),
+        (b"\"a\"", b"\"\\u0061\"", true),
+        (b"1", b"9223372036854775808", false),
+        (b"{\"a\":1}", b"{\"\\u0061\":1}", true),
+        (b"{\"a\":1}", b"{\"b\":1}", false),
+        (b"[1,2]", b"[1]", false),
+        (b"[]", b"{}", false),
+    ];
     let alloc = rt.alloc();
-    for (one, other, wanted) in [
-        (b"1.0".as_slice(), b"1.00".as_slice(), false),
-        (b"[NaN]".as_slice(), b"[NaN]".as_slice(), true),
-        (b"\"a\"".as_slice(), b"\"\\u0061\"".as_slice(), true),
-        (b"1".as_slice(), b"9223372036854775808".as_slice(), false),
-        (b"{\"a\":1}".as_slice(), b"{\"\\u0061\":1}".as_slice(), true),
-        (b"{\"a\":1}".as_slice(), b"{\"b\":1}".as_slice(), false),
-        (b"[1,2]".as_slice(), b"[1]".as_slice(), false),
-        (b"[]".as_slice(), b"{}".as_slice(), false),
-    ] {
+    for &(one, other, wanted) in &ROWS {
         assert_eq!(rt; are_equal(alloc, one, other)?, wanted);
     }
     Ok(())
@@ -103,11 +111,11 @@ fn a_scratch_answers_each_document_as_a_fresh_parse(rt: HostRuntime) -> Result<(
             alloc,
             &JsonValue::parse_with_config(alloc, bytes, false, mode),
         )?;
-        let answer = outcome_text(alloc, &scratch.parse(bytes, false, mode))?;
-        assert_eq!(rt; answer.as_str(), fresh.as_str());
+        let answer = outcome_text(alloc, &scratch.parse(bytes, false, mode));
+        expect_text(&rt, answer, fresh.as_str(), &bytes);
         let owned = outcome_text(alloc, &JsonValue::parse_owned(alloc, bytes, false, mode))?;
-        let owned_answer = outcome_text(alloc, &owning.parse_owned(bytes, false, mode))?;
-        assert_eq!(rt; owned_answer.as_str(), owned.as_str());
+        let owned_answer = outcome_text(alloc, &owning.parse_owned(bytes, false, mode));
+        expect_text(&rt, owned_answer, owned.as_str(), &bytes);
     }
     Ok(())
 }

@@ -355,29 +355,32 @@ fn a_value_is_made_its_own_by_one_request_for_each_container_and_borrowed_text(
 
 #[test]
 fn copies_of_what_is_empty_take_no_memory(rt: HostRuntime) -> Result<(), Fail> {
-    let alloc = rt.alloc();
-    for (bytes, wanted) in [
-        (b"null".as_slice(), "null"),
+    const TO_STATIC: [(&[u8], &str); 6] = [
+        (b"null", "null"),
         (b"false", "false"),
         (b"12", "12"),
         (b"\"\"", "owned ''"),
         (b"[ ]", "[]"),
         (b"{ }", "{}"),
-    ] {
-        let taken = units_of_copy(alloc, bytes, Copying::ToStatic, wanted)?;
-        assert_eq!(rt; taken, Some(0), "an owned copy of {wanted}");
-    }
-    for (bytes, wanted) in [
-        (b"\"\"".as_slice(), "''"),
+    ];
+    const CLONES: [(&[u8], &str); 5] = [
+        (b"\"\"", "''"),
         (b"\"abc\"", "'abc'"),
         (b"2.50", "float '2.50'"),
         (b"[ ]", "[]"),
         (b"{ }", "{}"),
-    ] {
+    ];
+    const MOVED: [(&[u8], &str); 2] = [(b"\"a\\nb\"", "owned 'a\nb'"), (b"[ ]", "[]")];
+    let alloc = rt.alloc();
+    for &(bytes, wanted) in &TO_STATIC {
+        let taken = units_of_copy(alloc, bytes, Copying::ToStatic, wanted)?;
+        assert_eq!(rt; taken, Some(0), "an owned copy of {wanted}");
+    }
+    for &(bytes, wanted) in &CLONES {
         let taken = units_of_copy(alloc, bytes, Copying::Clone, wanted)?;
         assert_eq!(rt; taken, Some(0), "a clone of {wanted}");
     }
-    for (bytes, wanted) in [(b"\"a\\nb\"".as_slice(), "owned 'a\nb'"), (b"[ ]", "[]")] {
+    for &(bytes, wanted) in &MOVED {
         let taken = units_of_moving(alloc, bytes, wanted)?;
         assert_eq!(rt; taken, Some(0), "{wanted} made its own");
     }

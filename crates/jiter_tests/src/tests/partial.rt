@@ -1,23 +1,27 @@
 //! Rows of bytes, each with what a parse answers in the two partial modes.
-use crate::told::answer_text;
+use crate::told::{answer_text, expect_text};
 use jiter::PartialMode;
 use std::alloc::Global;
+use std::process::Abort;
 use std::test::*;
 
-// Asks both partial modes about these bytes.
-fn in_both_modes(
+// Asserts what both partial modes answer of these bytes: the one that drops a cut string, and then the other.
+fn expect_in_both_modes(
+    rt: &impl Abort,
     alloc: Global,
     bytes: &[u8],
     allow_inf_nan: bool,
-) -> Result<(String, String), Fail> {
-    let on = answer_text(alloc, bytes, allow_inf_nan, PartialMode::On)?;
-    let with_strings = answer_text(alloc, bytes, allow_inf_nan, PartialMode::TrailingStrings)?;
-    Ok((on, with_strings))
+    wanted: [&str; 2],
+) {
+    let on = answer_text(alloc, bytes, allow_inf_nan, PartialMode::On);
+    expect_text(rt, on, wanted[0], &bytes);
+    let with_strings = answer_text(alloc, bytes, allow_inf_nan, PartialMode::TrailingStrings);
+    expect_text(rt, with_strings, wanted[1], &bytes);
 }
 
 #[test]
-fn partial_modes_agree_where_no_string_is_cut(rt: HostRuntime) -> Result<(), Fail> {
-    for (text, wanted) in [
+fn partial_modes_agree_where_no_string_is_cut(rt: HostRuntime) {
+    const ROWS: [(&str, &str); 22] = [
         ("[1, 2] extra", "[1,2]"),
         ("[[1,2],[3,", "[[1,2],[3]]"),
         ("[12", "[12]"),
@@ -43,18 +47,16 @@ fn partial_modes_agree_where_no_string_is_cut(rt: HostRuntime) -> Result<(), Fai
             "[[1,[2,3]],{\"a\":[4,{\"b\":5}],\"c\":[]},6]",
             "[[1,[2,3]],{'a':[4,{'b':5}],'c':[]},6]",
         ),
-    ] {
-        let (on, with_strings) = in_both_modes(rt.alloc(), text.as_bytes(), false)?;
-        assert_eq!(rt; on.as_str(), wanted, "{text}");
-        assert_eq!(rt; with_strings.as_str(), wanted, "{text}");
+    ];
+    for &(text, wanted) in &ROWS {
+        expect_in_both_modes(&rt, rt.alloc(), text.as_bytes(), false, [wanted, wanted]);
     }
-    Ok(())
 }
 
 #[test]
-fn some_faults_are_forgiven_in_no_mode(rt: HostRuntime) -> Result<(), Fail> {
-    for (bytes, wanted) in [
-        (b"".as_slice(), "EOF while parsing a value at 0"),
+fn some_faults_are_forgiven_in_no_mode(rt: HostRuntime) {
+    const ROWS: [(&[u8], &str); 14] = [
+        (b"", "EOF while parsing a value at 0"),
         (b"  ", "EOF while parsing a value at 2"),
         (b"tru", "EOF while parsing a value at 3"),
         (b"[1,]", "trailing comma at 3"),
@@ -68,19 +70,17 @@ fn some_faults_are_forgiven_in_no_mode(rt: HostRuntime) -> Result<(), Fail> {
         (br#"["\uz"] "#, "invalid escape at 4"),
         (b"[\"\xff\"]", "invalid unicode code point at 2"),
         (b"{\"a\xe2\":1", "invalid unicode code point at 3"),
-    ] {
-        let (on, with_strings) = in_both_modes(rt.alloc(), bytes, false)?;
-        assert_eq!(rt; on.as_str(), wanted, "{bytes:?}");
-        assert_eq!(rt; with_strings.as_str(), wanted, "{bytes:?}");
+    ];
+    for &(bytes, wanted) in &ROWS {
+        expect_in_both_modes(&rt, rt.alloc(), bytes, false, [wanted, wanted]);
     }
-    Ok(())
 }
 
 #[test]
-fn cut_strings_are_kept_in_one_mode(rt: HostRuntime) -> Result<(), Fail> {
-    let end_of_string = "EOF while parsing a string at 2";
-    for (bytes, wanted_on, wanted_with_strings) in [
-        (b"\"a".as_slice(), end_of_string, "'a'"),
+fn cut_strings_are_kept_in_one_mode(rt: HostRuntime) {
+    const END_OF_STRING: &str = "EOF while parsing a string at 2";
+    const ROWS: [(&[u8], &str, &str); 15] = [
+        (b"\"a", END_OF_STRING, "'a'"),
         (
             b"{\"a\": [1, {\"b\": \"x",
             "{'a':[1,{}]}",
@@ -103,79 +103,79 @@ fn cut_strings_are_kept_in_one_mode(rt: HostRuntime) -> Result<(), Fail> {
         ),
         (b"[\"\xff", "[]", "invalid unicode code point at 2"),
         (b"{\"\xff", "{}", "{}"),
-    ] {
-        let (on, with_strings) = in_both_modes(rt.alloc(), bytes, false)?;
-        assert_eq!(rt; on.as_str(), wanted_on, "{bytes:?}");
-        assert_eq!(rt; with_strings.as_str(), wanted_with_strings, "{bytes:?}");
+    ];
+    for &(bytes, wanted_on, wanted_with_strings) in &ROWS {
+        expect_in_both_modes(
+            &rt,
+            rt.alloc(),
+            bytes,
+            false,
+            [wanted_on, wanted_with_strings],
+        );
     }
-    Ok(())
 }
 
 #[test]
-fn cut_names_are_dropped(rt: HostRuntime) -> Result<(), Fail> {
-    for (text, wanted) in [("[-Inf", "[]"), ("[Na", "[]"), ("[NaN", "[float 'NaN']")] {
-        let (on, with_strings) = in_both_modes(rt.alloc(), text.as_bytes(), true)?;
-        assert_eq!(rt; on.as_str(), wanted, "{text}");
-        assert_eq!(rt; with_strings.as_str(), wanted, "{text}");
+fn cut_names_are_dropped(rt: HostRuntime) {
+    const ROWS: [(&str, &str); 3] = [("[-Inf", "[]"), ("[Na", "[]"), ("[NaN", "[float 'NaN']")];
+    for &(text, wanted) in &ROWS {
+        expect_in_both_modes(&rt, rt.alloc(), text.as_bytes(), true, [wanted, wanted]);
     }
-    Ok(())
 }
 
 #[test]
 fn nesting_is_limited_in_partial_modes(rt: HostRuntime) -> Result<(), Fail> {
-    let alloc = rt.alloc();
-    for (front, times, middle, back, wanted) in [
+    const ROWS: [(&str, usize, &str, &str, &str); 2] = [
         ("[", 300, "", "]", "recursion limit exceeded at 201"),
         ("{\"a\":", 201, "1", "}", "recursion limit exceeded at 1005"),
-    ] {
+    ];
+    let alloc = rt.alloc();
+    for &(front, times, middle, back, wanted) in &ROWS {
         let opened = front.repeat(alloc, times)?;
         let closed = back.repeat(alloc, times)?;
         let text = format!(in alloc; "{opened}{middle}{closed}")?;
-        let (on, with_strings) = in_both_modes(alloc, text.as_bytes(), false)?;
-        assert_eq!(rt; on.as_str(), wanted, "{front} {times} times");
-        assert_eq!(rt; with_strings.as_str(), wanted, "{front} {times} times");
+        expect_in_both_modes(&rt, alloc, text.as_bytes(), false, [wanted, wanted]);
     }
     Ok(())
 }
 
 #[test]
 fn two_hundred_containers_around_a_cut_one_are_read(rt: HostRuntime) -> Result<(), Fail> {
+    const ROWS: [(&str, &str, &str); 2] = [("[", "[", "]"), ("{\"\":", "{'':", "}")];
     let alloc = rt.alloc();
-    for (front, shown, back) in [("[", "[", "]"), ("{\"\":", "{'':", "}")] {
+    for &(front, shown, back) in &ROWS {
         let bytes = front.repeat(alloc, 201)?;
         let opened = shown.repeat(alloc, 200)?;
         let closed = back.repeat(alloc, 201)?;
         let last = &shown[..1];
         let wanted = format!(in alloc; "{opened}{last}{closed}")?;
-        let (on, with_strings) = in_both_modes(alloc, bytes.as_bytes(), false)?;
-        assert_eq!(rt; on.as_str(), wanted.as_str());
-        assert_eq!(rt; with_strings.as_str(), wanted.as_str());
+        let wanted = wanted.as_str();
+        expect_in_both_modes(&rt, alloc, bytes.as_bytes(), false, [wanted, wanted]);
     }
     Ok(())
 }
 
 #[test]
-fn refusals_leave_nothing_behind(rt: HostRuntime) -> Result<(), Fail> {
-    for (text, wanted) in [
+fn refusals_leave_nothing_behind(rt: HostRuntime) {
+    const ROWS: [(&str, &str); 3] = [
         (
             "{\"a\": \"escaped\\nvalue\", \"b\": [1, 2, {\"c\": [3, ",
             "EOF while parsing a value at 46",
         ),
         ("[1] x", "trailing characters at 4"),
         ("[\"ok\\n\", {\"d\": 4}]", "[owned 'ok\n',{'d':4}]"),
-    ] {
-        let seen = answer_text(rt.alloc(), text.as_bytes(), false, PartialMode::Off)?;
-        assert_eq!(rt; seen.as_str(), wanted, "{text}");
+    ];
+    for &(text, wanted) in &ROWS {
+        let seen = answer_text(rt.alloc(), text.as_bytes(), false, PartialMode::Off);
+        expect_text(&rt, seen, wanted, &text);
     }
-    Ok(())
 }
 
 #[test]
 fn one_document_is_cut_at_each_byte(rt: HostRuntime) -> Result<(), Fail> {
-    let bytes = r#"[12,"aé",{"k":true}]"#.as_bytes();
-    let none = "EOF while parsing a value at 0";
-    for (length, wanted_on, wanted_with_strings) in [
-        (0, none, none),
+    const NONE: &str = "EOF while parsing a value at 0";
+    const ROWS: [(usize, &str, &str); 22] = [
+        (0, NONE, NONE),
         (1, "[]", "[]"),
         (2, "[1]", "[1]"),
         (3, "[12]", "[12]"),
@@ -197,11 +197,17 @@ fn one_document_is_cut_at_each_byte(rt: HostRuntime) -> Result<(), Fail> {
         (19, "[12,'aé',{'k':true}]", "[12,'aé',{'k':true}]"),
         (20, "[12,'aé',{'k':true}]", "[12,'aé',{'k':true}]"),
         (21, "[12,'aé',{'k':true}]", "[12,'aé',{'k':true}]"),
-    ] {
+    ];
+    let bytes = r#"[12,"aé",{"k":true}]"#.as_bytes();
+    for &(length, wanted_on, wanted_with_strings) in &ROWS {
         let front = bytes.get(..length).ok_or("longer than the whole")?;
-        let (on, with_strings) = in_both_modes(rt.alloc(), front, false)?;
-        assert_eq!(rt; on.as_str(), wanted_on, "{length}");
-        assert_eq!(rt; with_strings.as_str(), wanted_with_strings, "{length}");
+        expect_in_both_modes(
+            &rt,
+            rt.alloc(),
+            front,
+            false,
+            [wanted_on, wanted_with_strings],
+        );
     }
     Ok(())
 }

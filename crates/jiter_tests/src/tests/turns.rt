@@ -29,9 +29,8 @@ fn answer_by_turns(
 
 #[test]
 fn a_machine_answers_as_a_parse_does(rt: HostRuntime) -> Result<(), Fail> {
-    let alloc = rt.alloc();
-    for bytes in [
-        b"".as_slice(),
+    const TEXTS: [&[u8]; 12] = [
+        b"",
         b" ",
         b"7",
         b" [ ] ",
@@ -43,7 +42,9 @@ fn a_machine_answers_as_a_parse_does(rt: HostRuntime) -> Result<(), Fail> {
         b"[{\"a\":[1}, 2]",
         b"{\"a\": [1, {\"b\": \"x",
         b"[[[[[[[[[[[[",
-    ] {
+    ];
+    let alloc = rt.alloc();
+    for &bytes in &TEXTS {
         for mode in MODES {
             let (by_turns, _) = answer_by_turns(alloc, bytes, mode)?;
             let parsed = answer_text(alloc, bytes, true, mode)?;
@@ -78,14 +79,15 @@ fn turns_before_value(alloc: Global, bytes: &[u8], mode: PartialMode) -> Option<
 
 #[test]
 fn a_turn_for_each_scalar_opening_and_key(rt: HostRuntime) {
+    const ROWS: [(&[u8], usize); 5] = [
+        (b"7", 0),
+        (b"[]", 0),
+        (b"[1,2]", 2),
+        (b"{\"a\":[1]}", 3),
+        (b"[[],{},\"x\"]", 3),
+    ];
     let alloc = rt.alloc();
-    for (bytes, turns) in [
-        (b"7".as_slice(), 0),
-        (b"[]".as_slice(), 0),
-        (b"[1,2]".as_slice(), 2),
-        (b"{\"a\":[1]}".as_slice(), 3),
-        (b"[[],{},\"x\"]".as_slice(), 3),
-    ] {
+    for &(bytes, turns) in &ROWS {
         assert!(rt; turns_before_value(alloc, bytes, PartialMode::Off) == Some(turns));
     }
 }

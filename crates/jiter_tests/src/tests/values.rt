@@ -1,31 +1,32 @@
 //! Rows of documents, each with the value that a parse of the whole answers.
 use super::value_text;
+use crate::told::expect_text;
 use jiter::JsonValue;
 use std::borrow::CowStr;
 use std::mem;
 use std::test::*;
 
 #[test]
-fn values_are_read(rt: HostRuntime) -> Result<(), Fail> {
-    let alloc = rt.alloc();
-    for (text, wanted) in [
+fn values_are_read(rt: HostRuntime) {
+    const ROWS: [(&str, &str); 3] = [
         (" [true, [null, []], false]", "[true,[null,[]],false]"),
         (
             "  { \"int\": 1, \"bigint\": 123456789012345678901234567890, \"float\": 1.2}  ",
             "{'int':1,'bigint':big '123456789012345678901234567890','float':float '1.2'}",
         ),
         (r#"{"a":1,"\u0061":2}"#, "{'a':1,owned 'a':2}"),
-    ] {
-        assert_eq!(rt; value_text(alloc, text.as_bytes(), false)?.as_str(), wanted);
+    ];
+    let alloc = rt.alloc();
+    for &(text, wanted) in &ROWS {
+        let seen = value_text(alloc, text.as_bytes(), false);
+        expect_text(&rt, seen, wanted, &text);
     }
-    Ok(())
 }
 
 #[test]
-fn values_are_read_where_names_are_numbers(rt: HostRuntime) -> Result<(), Fail> {
-    let alloc = rt.alloc();
-    let person = "{'name':'John Doe','age':43,'phones':['+44 1234567','+44 2345678']}";
-    for (text, wanted) in [
+fn values_are_read_where_names_are_numbers(rt: HostRuntime) {
+    const PERSON: &str = "{'name':'John Doe','age':43,'phones':['+44 1234567','+44 2345678']}";
+    const ROWS: [(&str, &str); 4] = [
         ("[NaN]", "[float 'NaN']"),
         (
             r#"["string", "\u00a3", true, false, null, NaN, Infinity, -Infinity]"#,
@@ -33,7 +34,7 @@ fn values_are_read_where_names_are_numbers(rt: HostRuntime) -> Result<(), Fail> 
         ),
         (
             "\n{\"name\": \"John Doe\", \"age\": 43, \"phones\": [\"+44 1234567\", \"+44 2345678\"]}",
-            person,
+            PERSON,
         ),
         (
             r#"
@@ -45,27 +46,30 @@ fn values_are_read_where_names_are_numbers(rt: HostRuntime) -> Result<(), Fail> 
         "+44 2345678"
     ]
 }"#,
-            person,
+            PERSON,
         ),
-    ] {
-        assert_eq!(rt; value_text(alloc, text.as_bytes(), true)?.as_str(), wanted);
+    ];
+    let alloc = rt.alloc();
+    for &(text, wanted) in &ROWS {
+        let seen = value_text(alloc, text.as_bytes(), true);
+        expect_text(&rt, seen, wanted, &text);
     }
-    Ok(())
 }
 
 #[test]
-fn texts_are_borrowed_unless_they_have_escapes(rt: HostRuntime) -> Result<(), Fail> {
-    let alloc = rt.alloc();
-    for (text, wanted) in [
+fn texts_are_borrowed_unless_they_have_escapes(rt: HostRuntime) {
+    const ROWS: [(&str, &str); 5] = [
         ("\"aaaaaaaaaaaaaaaa\"", "'aaaaaaaaaaaaaaaa'"),
         ("\"éaaaaaaaaaaaaa\"", "'éaaaaaaaaaaaaa'"),
         ("\"\x7f\"", "'\x7f'"),
         (r#""aaaaaaaaaaaaaaa\n""#, "owned 'aaaaaaaaaaaaaaa\n'"),
         (r#""\ud83d\ude00""#, "owned '\u{1F600}'"),
-    ] {
-        assert_eq!(rt; value_text(alloc, text.as_bytes(), false)?.as_str(), wanted);
+    ];
+    let alloc = rt.alloc();
+    for &(text, wanted) in &ROWS {
+        let seen = value_text(alloc, text.as_bytes(), false);
+        expect_text(&rt, seen, wanted, &text);
     }
-    Ok(())
 }
 
 #[test]
@@ -74,10 +78,8 @@ fn two_hundred_containers_around_an_empty_one_are_read(rt: HostRuntime) -> Resul
     let opened = "[".repeat(alloc, 201)?;
     let closed = "]".repeat(alloc, 201)?;
     let text = format!(in alloc; "{opened}{closed}")?;
-    assert_eq!(rt;
-        value_text(alloc, text.as_bytes(), false)?.as_str(),
-        text.as_str()
-    );
+    let seen = value_text(alloc, text.as_bytes(), false);
+    expect_text(&rt, seen, text.as_str(), &"nested arrays");
     Ok(())
 }
 
@@ -95,20 +97,20 @@ fn a_text_is_taken_out_of_a_value(rt: HostRuntime) {
 }
 
 #[test]
-fn values_show_their_variants(rt: HostRuntime) -> Result<(), Fail> {
-    let alloc = rt.alloc();
-    for (text, shown) in [
+fn values_show_their_variants(rt: HostRuntime) {
+    const ROWS: [(&str, &str); 3] = [
         ("null", "Null"),
         (
             "[true, 1, 2.50, 12345678901234567890]",
             r#"Array([Bool(true), Int(1), Float("2.50"), BigInt("12345678901234567890")])"#,
         ),
         (r#"{"a": "\n"}"#, r#"Object([("a", Str("\n"))])"#),
-    ] {
+    ];
+    let alloc = rt.alloc();
+    for &(text, shown) in &ROWS {
         match &JsonValue::parse(alloc, text.as_bytes(), false) {
-            Ok(value) => assert_eq!(rt; format!(in alloc; "{value:?}")?.as_str(), shown),
+            Ok(value) => expect_text(&rt, format!(in alloc; "{value:?}"), shown, &text),
             Err(_) => assert!(rt; false),
         }
     }
-    Ok(())
 }
