@@ -3,6 +3,7 @@ use jiter::client::value_by_steps;
 use jiter::{Jiter, JiterResult, JsonValue};
 use jiter_tests::told::text_of;
 use std::alloc::{AllocError, Global};
+use std::process::Abort;
 use std::test::*;
 
 // The value on one line, or the error's text.
@@ -27,10 +28,26 @@ fn read(alloc: Global, bytes: &[u8]) -> Result<(String, usize), AllocError> {
     Ok((told(alloc, &reply)?, jiter.current_index()))
 }
 
+// Asserts that this line was told, and where the reader stands then.
+fn expect_stop(
+    rt: &impl Abort,
+    stop: Result<(String, usize), AllocError>,
+    wanted: &str,
+    place: usize,
+    asked: &str,
+) {
+    match stop {
+        Ok((line, index)) => {
+            assert_eq!(*rt; line.as_str(), wanted, "of {asked}");
+            assert_eq!(*rt; index, place, "of {asked}");
+        }
+        Err(_) => assert!(*rt; false, "no memory for the line of {asked}"),
+    }
+}
+
 #[test]
-fn values_are_built_with_texts_of_their_own(rt: HostRuntime) -> Result<(), Fail> {
-    let alloc = rt.alloc();
-    for (text, wanted, place) in [
+fn values_are_built_with_texts_of_their_own(rt: HostRuntime) {
+    const ROWS: [(&str, &str, usize); 13] = [
         (" null x", "null", 5),
         ("true", "true", 4),
         ("false,", "false", 5),
@@ -48,18 +65,16 @@ fn values_are_built_with_texts_of_their_own(rt: HostRuntime) -> Result<(), Fail>
             "[1,[true,{owned 'k':[owned 'x',{}]},[]],null]",
             40,
         ),
-    ] {
-        let (line, index) = built(alloc, text.as_bytes())?;
-        assert_eq!(rt; line.as_str(), wanted);
-        assert_eq!(rt; index, place, "{text}");
+    ];
+    let alloc = rt.alloc();
+    for &(text, wanted, place) in &ROWS {
+        expect_stop(&rt, built(alloc, text.as_bytes()), wanted, place, text);
     }
-    Ok(())
 }
 
 #[test]
-fn refusals_are_those_of_the_value_read_whole(rt: HostRuntime) -> Result<(), Fail> {
-    let alloc = rt.alloc();
-    for (text, wanted, place) in [
+fn refusals_are_those_of_the_value_read_whole(rt: HostRuntime) {
+    const ROWS: [(&str, &str, usize); 18] = [
         ("  ", "EOF while parsing a value at index 2", 2),
         ("x", "expected value at index 0", 0),
         ("[x", "expected value at index 1", 1),
@@ -78,43 +93,34 @@ fn refusals_are_those_of_the_value_read_whole(rt: HostRuntime) -> Result<(), Fai
         ("{1:2}", "key must be a string at index 1", 1),
         (r#"{"a\x":1}"#, "invalid escape at index 4", 1),
         (r#"["ab"#, "EOF while parsing a string at index 4", 1),
-    ] {
-        let (line, index) = built(alloc, text.as_bytes())?;
-        assert_eq!(rt; line.as_str(), wanted);
-        assert_eq!(rt; index, place, "{text}");
-        let (whole, behind) = read(alloc, text.as_bytes())?;
-        assert_eq!(rt; line.as_str(), whole.as_str());
-        assert_eq!(rt; index, behind, "{text}");
+    ];
+    let alloc = rt.alloc();
+    for &(text, wanted, place) in &ROWS {
+        expect_stop(&rt, built(alloc, text.as_bytes()), wanted, place, text);
+        expect_stop(&rt, read(alloc, text.as_bytes()), wanted, place, text);
     }
-    Ok(())
 }
 
-// So many times this text.
-fn repeated(alloc: Global, text: &str, count: usize) -> Result<String, AllocError> {
-    let mut all = String::new(alloc);
-    for _ in 0..count {
-        all.push_str(text)?;
-    }
-    Ok(all)
+// This text 201 times, and what ends it.
+fn nest(alloc: Global, text: &str, end: &str) -> Result<String, AllocError> {
+    let opened = text.repeat(alloc, 201)?;
+    format!(in alloc; "{opened}{end}")
 }
 
 #[test]
 fn the_limit_of_nesting_is_kept(rt: HostRuntime) -> Result<(), Fail> {
-    let alloc = rt.alloc();
-    let mut deepest = repeated(alloc, "[", 201)?;
-    deepest.push_str(repeated(alloc, "]", 201)?.as_str())?;
-    let (line, index) = built(alloc, deepest.as_str().as_bytes())?;
-    assert_eq!(rt; line.as_str(), deepest.as_str());
-    assert_eq!(rt; index, 402);
-    for (text, wanted, place) in [
+    const ROWS: [(&str, &str, usize); 2] = [
         ("[", "recursion limit exceeded at index 201", 201),
         ("{\"a\":", "recursion limit exceeded at index 1005", 1005),
-    ] {
-        let mut deep = repeated(alloc, text, 201)?;
-        deep.push_str("1")?;
-        let (line, index) = built(alloc, deep.as_str().as_bytes())?;
-        assert_eq!(rt; line.as_str(), wanted);
-        assert_eq!(rt; index, place);
+    ];
+    let alloc = rt.alloc();
+    let closed = "]".repeat(alloc, 201)?;
+    let deepest = nest(alloc, "[", closed.as_str())?;
+    let deepest = deepest.as_str();
+    expect_stop(&rt, built(alloc, deepest.as_bytes()), deepest, 402, "[");
+    for &(text, wanted, place) in &ROWS {
+        let deep = nest(alloc, text, "1")?;
+        expect_stop(&rt, built(alloc, deep.as_bytes()), wanted, place, text);
     }
     Ok(())
 }

@@ -3,7 +3,7 @@ use jiter::{
     Jiter, JiterResult, JsonArray, JsonError, JsonErrorType, JsonObject, JsonResult, JsonValue,
     JsonValueScratch, LinePosition, Machine, NumberAny, NumberInt, PartialMode, Peek, Turn,
 };
-use jiter_tests::told::text_of;
+use jiter_tests::told::{expect_text, text_of};
 use std::alloc::{AllocError, Global};
 use std::borrow::CowStr;
 use std::test::*;
@@ -19,16 +19,16 @@ fn told(alloc: Global, bytes: &[u8]) -> Result<String, AllocError> {
 }
 
 #[test]
-fn a_document_is_told(rt: HostRuntime) -> Result<(), Fail> {
-    for (text, wanted) in [
+fn a_document_is_told(rt: HostRuntime) {
+    const ROWS: [(&str, &str); 4] = [
         ("[true, 1.50]", "an array of 2"),
         ("[1,]", "trailing comma at line 1 column 4"),
         ("{\"a\": 1}", "an object of 1"),
         ("1.50", "a scalar"),
-    ] {
-        assert_eq!(rt; told(rt.alloc(), text.as_bytes())?.as_str(), wanted);
+    ];
+    for &(text, wanted) in &ROWS {
+        expect_text(&rt, told(rt.alloc(), text.as_bytes()), wanted, &text);
     }
-    Ok(())
 }
 
 // How many items have arrived; none, where the bytes are no array yet.
@@ -87,9 +87,11 @@ fn another_type_may_be_tried(rt: HostRuntime) -> Result<(), Fail> {
     let mut jiter = Jiter::new(b"[1.5, 2]");
     assert_eq!(rt; jiter.next_array()?, Some(Peek::new(b'1')));
     let error = jiter.next_int().err().ok_or("an integer")?;
-    assert_eq!(rt;
-        error.description(alloc, &jiter)?.as_str(),
-        "expected int but found float at line 1 column 2"
+    expect_text(
+        &rt,
+        error.description(alloc, &jiter),
+        "expected int but found float at line 1 column 2",
+        &error,
     );
     assert_eq!(rt; jiter.next_number_bytes()?, b"1.5".as_slice());
     Ok(())
@@ -141,26 +143,23 @@ fn number_text(alloc: Global, bytes: &[u8]) -> Result<String, AllocError> {
 }
 
 #[test]
-fn a_number_is_told(rt: HostRuntime) -> Result<(), Fail> {
-    for (text, wanted) in [
+fn a_number_is_told(rt: HostRuntime) {
+    const ROWS: [(&str, &str); 4] = [
         ("2.50", "2.50"),
         ("-12", "-12"),
         ("9223372036854775808", "9223372036854775808"),
         ("2.", "EOF while parsing a value at 2"),
-    ] {
-        assert_eq!(rt; number_text(rt.alloc(), text.as_bytes())?.as_str(), wanted);
+    ];
+    for &(text, wanted) in &ROWS {
+        expect_text(&rt, number_text(rt.alloc(), text.as_bytes()), wanted, &text);
     }
-    Ok(())
 }
 
 #[test]
-fn a_position_is_told(rt: HostRuntime) -> Result<(), Fail> {
+fn a_position_is_told(rt: HostRuntime) {
     let position = LinePosition::find(b"ab\ncd", 4);
-    assert_eq!(rt;
-        format!(in rt.alloc(); "{position}")?.as_str(),
-        "line 2 column 2"
-    );
-    Ok(())
+    let told = format!(in rt.alloc(); "{position}");
+    expect_text(&rt, told, "line 2 column 2", &position);
 }
 
 // The values of the lines that are documents; each owns its texts, and the scratch serves all lines.
@@ -208,6 +207,6 @@ fn each_name_stands_for_its_own_type(rt: HostRuntime) -> Result<(), Fail> {
     let items: JsonArray<'_> = vec![in alloc; JsonValue::Null]?;
     let members: JsonObject<'_> = vec![in alloc; (CowStr::Borrowed("a"), JsonValue::Array(items))]?;
     let value: JsonValue<'_> = JsonValue::Object(members);
-    assert_eq!(rt; text_of(alloc, &value)?.as_str(), "{'a':[null]}");
+    expect_text(&rt, text_of(alloc, &value), "{'a':[null]}", &"a value");
     Ok(())
 }

@@ -44,17 +44,20 @@ fn small_documents_are_skipped_as_they_are_read(rt: HostRuntime) {
 
 #[test]
 fn nested_documents_are_skipped_as_they_are_read(rt: HostRuntime) -> Result<(), Fail> {
-    let alloc = rt.alloc();
-    for (front, back) in [
+    const ROWS: [(&str, &str); 6] = [
         ("[", "]"),
         ("{\"a\":", "}"),
         ("[{\"a\":", "}]"),
         ("{\"a\":[", "]}"),
         ("[[],{},", "]"),
         ("[", "}"),
-    ] {
-        for times in [1, 99, 100, 101, 199, 200, 201, 202] {
-            for middle in ["", "1", "[]", "{}", "{1", "{\"b\":1}", "x", "\"\\q\""] {
+    ];
+    const TIMES: [usize; 8] = [1, 99, 100, 101, 199, 200, 201, 202];
+    const MIDDLES: [&str; 8] = ["", "1", "[]", "{}", "{1", "{\"b\":1}", "x", "\"\\q\""];
+    let alloc = rt.alloc();
+    for &(front, back) in &ROWS {
+        for &times in &TIMES {
+            for &middle in &MIDDLES {
                 let opened = front.repeat(alloc, times)?;
                 let closed = back.repeat(alloc, times)?;
                 let text = format!(in alloc; "{opened}{middle}{closed}")?;

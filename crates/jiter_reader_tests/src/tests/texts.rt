@@ -1,5 +1,6 @@
 //! What the errors of the pull reader print.
 use jiter::{Jiter, JiterError, JiterErrorType, JsonError, JsonErrorType, JsonType, LinePosition};
+use jiter_tests::told::expect_text;
 use std::alloc::{AllocError, Global};
 use std::error::Error;
 use std::test::*;
@@ -11,8 +12,7 @@ fn shown<E: Error>(alloc: Global, error: &E) -> Result<String, AllocError> {
 
 #[test]
 fn types_print_their_names(rt: HostRuntime) -> Result<(), Fail> {
-    let alloc = rt.alloc();
-    for (name, text, shown) in [
+    const ROWS: [(JsonType, &str, &str); 7] = [
         (JsonType::Null, "null", "Null"),
         (JsonType::Bool, "bool", "Bool"),
         (JsonType::Int, "int", "Int"),
@@ -20,19 +20,20 @@ fn types_print_their_names(rt: HostRuntime) -> Result<(), Fail> {
         (JsonType::String, "string", "String"),
         (JsonType::Array, "array", "Array"),
         (JsonType::Object, "object", "Object"),
-    ] {
-        assert_eq!(rt; name.to_string(alloc)?.as_str(), text);
-        assert_eq!(rt; format!(in alloc; "{name:>40}")?.as_str(), text);
-        assert_eq!(rt; format!(in alloc; "{name:?}")?.as_str(), shown);
-        assert_eq!(rt; name.clone()?, name);
+    ];
+    let alloc = rt.alloc();
+    for (name, text, shown) in &ROWS {
+        expect_text(&rt, name.to_string(alloc), text, name);
+        expect_text(&rt, format!(in alloc; "{name:>40}"), text, name);
+        expect_text(&rt, format!(in alloc; "{name:?}"), shown, name);
+        assert!(rt; name.clone()? == *name, "{shown}");
     }
     Ok(())
 }
 
 #[test]
 fn causes_print_their_texts(rt: HostRuntime) -> Result<(), Fail> {
-    let alloc = rt.alloc();
-    for (cause, text, shown) in [
+    const ROWS: [(JiterErrorType, &str, &str); 3] = [
         (
             JiterErrorType::JsonError(JsonErrorType::ExpectedColon),
             "expected `:`",
@@ -54,11 +55,13 @@ fn causes_print_their_texts(rt: HostRuntime) -> Result<(), Fail> {
             "expected object but found null",
             "WrongType { expected: Object, actual: Null }",
         ),
-    ] {
-        assert_eq!(rt; cause.to_string(alloc)?.as_str(), text);
-        assert_eq!(rt; format!(in alloc; "{cause:>40}")?.as_str(), text);
-        assert_eq!(rt; format!(in alloc; "{cause:?}")?.as_str(), shown);
-        assert_eq!(rt; cause.clone()?, cause);
+    ];
+    let alloc = rt.alloc();
+    for (cause, text, shown) in &ROWS {
+        expect_text(&rt, cause.to_string(alloc), text, cause);
+        expect_text(&rt, format!(in alloc; "{cause:>40}"), text, cause);
+        expect_text(&rt, format!(in alloc; "{cause:?}"), shown, cause);
+        assert!(rt; cause.clone()? == *cause, "{shown}");
     }
     Ok(())
 }
@@ -70,12 +73,24 @@ fn errors_print_cause_and_index(rt: HostRuntime) -> Result<(), Fail> {
         error_type: JsonErrorType::TrailingComma,
         index: 3,
     };
-    assert_eq!(rt; shown(alloc, &comma)?.as_str(), "trailing comma at index 3");
+    expect_text(
+        &rt,
+        shown(alloc, &comma),
+        "trailing comma at index 3",
+        &comma,
+    );
     let error = JiterError::from(comma);
-    assert_eq!(rt; shown(alloc, &error)?.as_str(), "trailing comma at index 3");
-    assert_eq!(rt;
-        format!(in alloc; "{error:?}")?.as_str(),
-        "JiterError { error_type: JsonError(TrailingComma), index: 3 }"
+    expect_text(
+        &rt,
+        shown(alloc, &error),
+        "trailing comma at index 3",
+        &error,
+    );
+    expect_text(
+        &rt,
+        format!(in alloc; "{error:?}"),
+        "JiterError { error_type: JsonError(TrailingComma), index: 3 }",
+        &error,
     );
     let wrong = JiterError {
         error_type: JiterErrorType::WrongType {
@@ -84,32 +99,37 @@ fn errors_print_cause_and_index(rt: HostRuntime) -> Result<(), Fail> {
         },
         index: 1,
     };
-    assert_eq!(rt;
-        shown(alloc, &wrong)?.as_str(),
-        "expected int but found float at index 1"
+    expect_text(
+        &rt,
+        shown(alloc, &wrong),
+        "expected int but found float at index 1",
+        &wrong,
     );
     assert!(rt; wrong != error);
-    assert_eq!(rt; wrong.clone()?, wrong);
+    assert!(rt; wrong.clone()? == wrong);
     Ok(())
 }
 
 #[test]
-fn a_width_changes_no_text(rt: HostRuntime) -> Result<(), Fail> {
+fn a_width_changes_no_text(rt: HostRuntime) {
     let alloc = rt.alloc();
     let comma = JsonError {
         error_type: JsonErrorType::TrailingComma,
         index: 3,
     };
-    assert_eq!(rt;
-        format!(in alloc; "{comma:>40}")?.as_str(),
-        "trailing comma at index 3"
+    expect_text(
+        &rt,
+        format!(in alloc; "{comma:>40}"),
+        "trailing comma at index 3",
+        &comma,
     );
     let error = JiterError::from(comma);
-    assert_eq!(rt;
-        format!(in alloc; "{error:>40}")?.as_str(),
-        "trailing comma at index 3"
+    expect_text(
+        &rt,
+        format!(in alloc; "{error:>40}"),
+        "trailing comma at index 3",
+        &error,
     );
-    Ok(())
 }
 
 #[test]
@@ -117,23 +137,30 @@ fn errors_of_a_reader_are_described(rt: HostRuntime) -> Result<(), Fail> {
     let alloc = rt.alloc();
     let mut jiter = Jiter::new(b" 1.5");
     let error = jiter.next_int().err().ok_or("an integer")?;
-    assert_eq!(rt;
-        shown(alloc, &error)?.as_str(),
-        "expected int but found float at index 1"
+    expect_text(
+        &rt,
+        shown(alloc, &error),
+        "expected int but found float at index 1",
+        &error,
     );
-    assert_eq!(rt; error.get_position(&jiter), LinePosition::new(1, 2));
-    assert_eq!(rt;
-        error.description(alloc, &jiter)?.as_str(),
-        "expected int but found float at line 1 column 2"
+    assert!(rt; error.get_position(&jiter) == LinePosition::new(1, 2));
+    expect_text(
+        &rt,
+        error.description(alloc, &jiter),
+        "expected int but found float at line 1 column 2",
+        &error,
     );
     let mut lines = Jiter::new(b"[\n1,\n]");
     assert!(rt; lines.next_array()?.is_some());
     assert!(rt; lines.next_int().is_ok());
     let comma = lines.array_step().err().ok_or("an item")?;
-    assert_eq!(rt;
-        comma.description(alloc, &lines)?.as_str(),
-        "trailing comma at line 3 column 1"
+    expect_text(
+        &rt,
+        comma.description(alloc, &lines),
+        "trailing comma at line 3 column 1",
+        &comma,
     );
-    assert_eq!(rt; comma.get_position(&lines).short(alloc)?.as_str(), "3:1");
+    let position = comma.get_position(&lines);
+    expect_text(&rt, position.short(alloc), "3:1", &comma);
     Ok(())
 }

@@ -1,12 +1,12 @@
 //! Rows of bytes, each with what calls on them reply.
 use super::{Call, last_text, stop_text};
 use jiter::Jiter;
+use jiter_tests::told::expect_text;
 use std::test::*;
 
 #[test]
-fn scalars_are_read_or_refused(rt: HostRuntime) -> Result<(), Fail> {
-    let alloc = rt.alloc();
-    for (call, text, wanted) in [
+fn scalars_are_read_or_refused(rt: HostRuntime) {
+    const ROWS: [(Call, &str, &str); 35] = [
         (Call::Null, " null,", "() | 5"),
         (Call::Null, " [", "WrongType Null, Array at 1 | 1"),
         (Call::Null, "  ", "EofWhileParsingValue at 2 | 2"),
@@ -51,17 +51,17 @@ fn scalars_are_read_or_refused(rt: HostRuntime) -> Result<(), Fail> {
         (Call::Peek, "", "EofWhileParsingValue at 0 | 0"),
         (Call::Finish, " \n", "() | 2"),
         (Call::Finish, " x", "TrailingCharacters at 1 | 1"),
-    ] {
-        let told = stop_text(alloc, &mut Jiter::new(text.as_bytes()), call)?;
-        assert_eq!(rt; told.as_str(), wanted, "{call:?} on {text}");
+    ];
+    let alloc = rt.alloc();
+    for &(call, text, wanted) in &ROWS {
+        let told = stop_text(alloc, &mut Jiter::new(text.as_bytes()), call);
+        expect_text(&rt, told, wanted, &(call, text));
     }
-    Ok(())
 }
 
 #[test]
-fn names_are_numbers_where_they_are_allowed(rt: HostRuntime) -> Result<(), Fail> {
-    let alloc = rt.alloc();
-    for (call, text, wanted) in [
+fn names_are_numbers_where_they_are_allowed(rt: HostRuntime) {
+    const ROWS: [(Call, &str, &str); 5] = [
         (Call::Bool, "NaN", "WrongType Bool, Float at 0 | 0"),
         (Call::Int, "NaN", "WrongType Int, Float at 0 | 0"),
         (Call::Number, "-Infinity", "float -Infinity | 9"),
@@ -71,19 +71,19 @@ fn names_are_numbers_where_they_are_allowed(rt: HostRuntime) -> Result<(), Fail>
             "WrongType Float, Array at 0 | 0",
         ),
         (Call::Value, "NaN,", "float 'NaN' | 3"),
-    ] {
+    ];
+    let alloc = rt.alloc();
+    for &(call, text, wanted) in &ROWS {
         let mut jiter = Jiter::new(text.as_bytes()).with_allow_inf_nan();
-        let told = stop_text(alloc, &mut jiter, call)?;
-        assert_eq!(rt; told.as_str(), wanted, "{call:?} on {text}");
+        let told = stop_text(alloc, &mut jiter, call);
+        expect_text(&rt, told, wanted, &(call, text));
     }
-    Ok(())
 }
 
 #[test]
-fn cut_strings_are_kept_where_so_asked(rt: HostRuntime) -> Result<(), Fail> {
-    let alloc = rt.alloc();
-    for (call, bytes, wanted) in [
-        (Call::Str, b"\"ab".as_slice(), "'ab' | 3"),
+fn cut_strings_are_kept_where_so_asked(rt: HostRuntime) {
+    const ROWS: [(Call, &[u8], &str); 9] = [
+        (Call::Str, b"\"ab", "'ab' | 3"),
         (Call::Str, b"\"ab\\", "'ab' | 4"),
         (Call::Str, b"\"a\xe2\x82", "'a' | 4"),
         (Call::Str, b"\"a\\q", "InvalidEscape at 3 | 0"),
@@ -92,148 +92,105 @@ fn cut_strings_are_kept_where_so_asked(rt: HostRuntime) -> Result<(), Fail> {
         (Call::Object, b"{\"a", "EofWhileParsingString at 3 | 1"),
         (Call::ObjectBytes, b"{\"a", "EofWhileParsingString at 3 | 1"),
         (Call::Value, b"\"ab", "EofWhileParsingString at 3 | 0"),
-    ] {
+    ];
+    let alloc = rt.alloc();
+    for &(call, bytes, wanted) in &ROWS {
         let mut jiter = Jiter::new(bytes).with_allow_partial_strings();
-        let told = stop_text(alloc, &mut jiter, call)?;
-        assert_eq!(rt; told.as_str(), wanted, "{call:?} on {bytes:?}");
+        let told = stop_text(alloc, &mut jiter, call);
+        expect_text(&rt, told, wanted, &(call, bytes));
     }
-    Ok(())
 }
 
 #[test]
-fn steps_lead_on_or_are_refused(rt: HostRuntime) -> Result<(), Fail> {
-    let alloc = rt.alloc();
-    for (calls, bytes, wanted) in [
+fn steps_lead_on_or_are_refused(rt: HostRuntime) {
+    const ROWS: [(&[Call], &[u8], &str); 31] = [
+        (&[Call::Array], b" [ 1]", "Peek('1') | 3"),
+        (&[Call::Array], b"[ ]", "None | 3"),
+        (&[Call::Array], b"[", "EofWhileParsingList at 1 | 1"),
+        (&[Call::Array], b"[x", "Peek('x') | 1"),
+        (&[Call::Array], b" {", "WrongType Array, Object at 1 | 1"),
         (
-            [Call::Array].as_slice(),
-            b" [ 1]".as_slice(),
-            "Peek('1') | 3",
-        ),
-        ([Call::Array].as_slice(), b"[ ]", "None | 3"),
-        (
-            [Call::Array].as_slice(),
-            b"[",
-            "EofWhileParsingList at 1 | 1",
-        ),
-        ([Call::Array].as_slice(), b"[x", "Peek('x') | 1"),
-        (
-            [Call::Array].as_slice(),
-            b" {",
-            "WrongType Array, Object at 1 | 1",
-        ),
-        (
-            [Call::Array, Call::Int, Call::ArrayStep].as_slice(),
+            &[Call::Array, Call::Int, Call::ArrayStep],
             b"[1 , -]",
             "Minus | 5",
         ),
         (
-            [Call::Array, Call::Int, Call::ArrayStep].as_slice(),
+            &[Call::Array, Call::Int, Call::ArrayStep],
             b"[1]",
             "None | 3",
         ),
         (
-            [Call::Array, Call::Int, Call::ArrayStep].as_slice(),
+            &[Call::Array, Call::Int, Call::ArrayStep],
             b"[1,]",
             "TrailingComma at 3 | 3",
         ),
         (
-            [Call::Array, Call::Int, Call::ArrayStep, Call::ArrayStep].as_slice(),
+            &[Call::Array, Call::Int, Call::ArrayStep, Call::ArrayStep],
             b"[1,]",
             "None | 4",
         ),
-        ([Call::Object].as_slice(), b" {\"a\" : 1}", "'a' | 7"),
-        ([Call::Object].as_slice(), b"{ }", "None | 3"),
+        (&[Call::Object], b" {\"a\" : 1}", "'a' | 7"),
+        (&[Call::Object], b"{ }", "None | 3"),
+        (&[Call::Object], b" 1", "WrongType Object, Int at 1 | 1"),
+        (&[Call::Object], b"{\"a\" 1}", "ExpectedColon at 5 | 5"),
+        (&[Call::Object], b"{\"a", "EofWhileParsingString at 3 | 1"),
+        (&[Call::Object], b"{\"\\u0061\":1}", "'a' | 10"),
         (
-            [Call::Object].as_slice(),
-            b" 1",
-            "WrongType Object, Int at 1 | 1",
-        ),
-        (
-            [Call::Object].as_slice(),
-            b"{\"a\" 1}",
-            "ExpectedColon at 5 | 5",
-        ),
-        (
-            [Call::Object].as_slice(),
-            b"{\"a",
-            "EofWhileParsingString at 3 | 1",
-        ),
-        ([Call::Object].as_slice(), b"{\"\\u0061\":1}", "'a' | 10"),
-        (
-            [Call::Object].as_slice(),
+            &[Call::Object],
             b"{\"\xff\":1}",
             "InvalidUnicodeCodePoint at 2 | 1",
         ),
+        (&[Call::ObjectBytes], b"{\"\\u0061\":1}", "<\\u0061> | 10"),
+        (&[Call::ObjectBytes], b"{\"\xff\":1}", "<[255]> | 5"),
+        (&[Call::ObjectBytes], b"{ }", "None | 3"),
         (
-            [Call::ObjectBytes].as_slice(),
-            b"{\"\\u0061\":1}",
-            "<\\u0061> | 10",
-        ),
-        (
-            [Call::ObjectBytes].as_slice(),
-            b"{\"\xff\":1}",
-            "<[255]> | 5",
-        ),
-        ([Call::ObjectBytes].as_slice(), b"{ }", "None | 3"),
-        (
-            [Call::ObjectBytes].as_slice(),
+            &[Call::ObjectBytes],
             b"[",
             "WrongType Object, Array at 0 | 0",
         ),
         (
-            [Call::Object, Call::Int, Call::Key].as_slice(),
+            &[Call::Object, Call::Int, Call::Key],
             b"{\"a\":1",
             "EofWhileParsingObject at 6 | 6",
         ),
         (
-            [Call::Object, Call::Int, Call::Key].as_slice(),
+            &[Call::Object, Call::Int, Call::Key],
             b"{\"a\":1,\"b\" :",
             "'b' | 12",
         ),
         (
-            [Call::Object, Call::Int, Call::Key].as_slice(),
+            &[Call::Object, Call::Int, Call::Key],
             b"{\"a\":1}",
             "None | 7",
         ),
         (
-            [Call::Object, Call::Int, Call::Key].as_slice(),
+            &[Call::Object, Call::Int, Call::Key],
             b"{\"a\":1,}",
             "TrailingComma at 7 | 7",
         ),
         (
-            [Call::Object, Call::Int, Call::KeyBytes].as_slice(),
+            &[Call::Object, Call::Int, Call::KeyBytes],
             b"{\"a\":1,\"\\n\":",
             "<\\n> | 12",
         ),
         (
-            [Call::Object, Call::Int, Call::KeyBytes].as_slice(),
+            &[Call::Object, Call::Int, Call::KeyBytes],
             b"{\"a\":1}",
             "None | 7",
         ),
+        (&[Call::Int, Call::Number], b" 1.5", "float 1.5 | 4"),
+        (&[Call::Value], b" [1,{\"a\":\"b\"}] ", "[1,{'a':'b'}] | 14"),
         (
-            [Call::Int, Call::Number].as_slice(),
-            b" 1.5",
-            "float 1.5 | 4",
-        ),
-        (
-            [Call::Value].as_slice(),
-            b" [1,{\"a\":\"b\"}] ",
-            "[1,{'a':'b'}] | 14",
-        ),
-        (
-            [Call::Value].as_slice(),
+            &[Call::Value],
             b"[\"\xff\"]",
             "InvalidUnicodeCodePoint at 2 | 1",
         ),
-        ([Call::Value].as_slice(), b"[1,]", "TrailingComma at 3 | 3"),
-        (
-            [Call::Value].as_slice(),
-            b" ",
-            "EofWhileParsingValue at 1 | 1",
-        ),
-    ] {
-        let told = last_text(alloc, &mut Jiter::new(bytes), calls)?;
-        assert_eq!(rt; told.as_str(), wanted, "{calls:?} on {bytes:?}");
+        (&[Call::Value], b"[1,]", "TrailingComma at 3 | 3"),
+        (&[Call::Value], b" ", "EofWhileParsingValue at 1 | 1"),
+    ];
+    let alloc = rt.alloc();
+    for &(calls, bytes, wanted) in &ROWS {
+        let told = last_text(alloc, &mut Jiter::new(bytes), calls);
+        expect_text(&rt, told, wanted, &(calls, bytes));
     }
-    Ok(())
 }

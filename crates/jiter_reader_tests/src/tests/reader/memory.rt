@@ -44,12 +44,13 @@ fn refusals_are_told(
 
 #[test]
 fn each_refused_request_of_a_text_is_told(rt: HostRuntime) -> Result<(), Fail> {
-    let alloc = rt.alloc();
-    for (call, bytes, index, length) in [
-        (Call::Str, b" \"a\\nb\"".as_slice(), 1, 3),
+    const ROWS: [(Call, &[u8], usize, usize); 3] = [
+        (Call::Str, b" \"a\\nb\"", 1, 3),
         (Call::Object, b" { \"\\u0061\" : 1}", 3, 1),
         (Call::Key, b" , \"ab\\t\" : 1}", 3, 3),
-    ] {
+    ];
+    let alloc = rt.alloc();
+    for &(call, bytes, index, length) in &ROWS {
         let told = refusals_are_told(alloc, bytes, call, index, length)?;
         assert!(rt; told, "{call:?}");
     }

@@ -1,19 +1,18 @@
 //! The making of a reader, its settings, where it stands, and the calls of a caller that has looked.
 use super::{Call, last_text, number_text, peek_text, reply_text, str_text};
 use jiter::{Jiter, JiterResult, LinePosition, Peek};
-use jiter_tests::told::text_of;
+use jiter_tests::told::{expect_text, text_of};
 use std::alloc::{AllocError, Global};
 use std::test::*;
 
 #[test]
-fn a_reader_tells_where_it_stands(rt: HostRuntime) -> Result<(), Fail> {
+fn a_reader_tells_where_it_stands(rt: HostRuntime) {
+    const CALLS: [Call; 4] = [Call::Array, Call::Int, Call::ArrayStep, Call::Int];
     let alloc = rt.alloc();
     let mut jiter = Jiter::new(b"[1,\n23, x]");
     assert_eq!(rt; jiter.current_index(), 0);
     assert_eq!(rt; jiter.current_position(), LinePosition::new(1, 1));
-    let calls = [Call::Array, Call::Int, Call::ArrayStep, Call::Int];
-    let told = last_text(alloc, &mut jiter, &calls)?;
-    assert_eq!(rt; told.as_str(), "23 | 6");
+    expect_text(&rt, last_text(alloc, &mut jiter, &CALLS), "23 | 6", &CALLS);
     assert_eq!(rt; jiter.current_position(), LinePosition::new(2, 3));
     assert_eq!(rt; jiter.error_position(8), LinePosition::new(2, 5));
     let index = jiter.current_index();
@@ -21,43 +20,61 @@ fn a_reader_tells_where_it_stands(rt: HostRuntime) -> Result<(), Fail> {
         assert_eq!(rt; jiter.slice_to_current(4), b"23".as_slice());
     }
     assert_eq!(rt; index, 6);
-    Ok(())
 }
 
 #[test]
 fn a_clone_reads_on_by_itself(rt: HostRuntime) -> Result<(), Fail> {
+    const CALLS: [Call; 3] = [Call::Number, Call::ArrayStep, Call::Str];
     let alloc = rt.alloc();
     let mut jiter = Jiter::new(b"[NaN, \"\\n\"]")
         .with_allow_inf_nan()
         .with_allow_partial_strings();
-    assert_eq!(rt; reply_text(alloc, &mut jiter, Call::Array)?.as_str(), "NaN");
+    expect_text(
+        &rt,
+        reply_text(alloc, &mut jiter, Call::Array),
+        "NaN",
+        &"[NaN",
+    );
     let mut other = jiter.clone()?;
-    let calls = [Call::Number, Call::ArrayStep, Call::Str];
-    let told = last_text(alloc, &mut other, &calls)?;
-    assert_eq!(rt; told.as_str(), "'\n' | 10");
-    let told = last_text(alloc, &mut jiter, &calls)?;
-    assert_eq!(rt; told.as_str(), "'\n' | 10");
+    expect_text(
+        &rt,
+        last_text(alloc, &mut other, &CALLS),
+        "'\n' | 10",
+        &CALLS,
+    );
+    expect_text(
+        &rt,
+        last_text(alloc, &mut jiter, &CALLS),
+        "'\n' | 10",
+        &CALLS,
+    );
     Ok(())
 }
 
 #[test]
-fn a_tape_goes_from_reader_to_reader(rt: HostRuntime) -> Result<(), Fail> {
+fn a_tape_goes_from_reader_to_reader(rt: HostRuntime) {
     let alloc = rt.alloc();
     let mut first = Jiter::new(b"\"a\\tb\"");
-    assert_eq!(rt;
-        reply_text(alloc, &mut first, Call::Str)?.as_str(),
-        "'a\tb'"
+    expect_text(
+        &rt,
+        reply_text(alloc, &mut first, Call::Str),
+        "'a\tb'",
+        &"first",
     );
     let tape = first.into_tape(alloc);
     assert!(rt; tape.capacity() > 0);
     let mut second = Jiter::with_tape(b"\"\\n\"", tape);
-    assert_eq!(rt; reply_text(alloc, &mut second, Call::Str)?.as_str(), "'\n'");
+    expect_text(
+        &rt,
+        reply_text(alloc, &mut second, Call::Str),
+        "'\n'",
+        &"second",
+    );
     assert_eq!(rt; Jiter::new(b"").into_tape(alloc).capacity(), 0);
-    Ok(())
 }
 
 #[test]
-fn peeks_are_told_by_their_names(rt: HostRuntime) -> Result<(), Fail> {
+fn peeks_are_told_by_their_names(rt: HostRuntime) {
     let alloc = rt.alloc();
     for (peek, byte, is_num, wanted) in [
         (Peek::Null, b'n', false, "Null"),
@@ -72,12 +89,13 @@ fn peeks_are_told_by_their_names(rt: HostRuntime) -> Result<(), Fail> {
         (Peek::new(b'7'), b'7', true, "Peek('7')"),
         (Peek::new(b' '), b' ', false, "Peek(' ')"),
     ] {
-        assert_eq!(rt; peek.into_inner(), byte);
-        assert_eq!(rt; peek.is_num(), is_num);
-        assert_eq!(rt; format!(in alloc; "{peek:?}")?.as_str(), wanted);
-        assert!(rt; peek == Peek::new(byte));
+        assert!(rt;
+            peek.into_inner() == byte && peek.is_num() == is_num,
+            "{wanted}"
+        );
+        assert!(rt; peek == Peek::new(byte), "{wanted}");
+        expect_text(&rt, format!(in alloc; "{peek:?}"), wanted, &byte);
     }
-    Ok(())
 }
 
 // What the call for a value that begins so replies to a caller that has looked.
@@ -96,9 +114,8 @@ fn known_text(alloc: Global, jiter: &mut Jiter<'_>) -> Result<String, AllocError
 }
 
 #[test]
-fn known_calls_read_what_was_looked_at(rt: HostRuntime) -> Result<(), Fail> {
-    let alloc = rt.alloc();
-    for (text, wanted, stop) in [
+fn known_calls_read_what_was_looked_at(rt: HostRuntime) {
+    const ROWS: [(&str, &str, usize); 9] = [
         (" null", "()", 5),
         ("true", "true", 4),
         ("fals", "EofWhileParsingValue at 4", 0),
@@ -108,13 +125,13 @@ fn known_calls_read_what_was_looked_at(rt: HostRuntime) -> Result<(), Fail> {
         ("{\"a\": 1}", "'a'", 5),
         ("-1.5", "float -1.5", 4),
         ("]", "ExpectedSomeValue at 0", 0),
-    ] {
+    ];
+    let alloc = rt.alloc();
+    for &(text, wanted, stop) in &ROWS {
         let mut jiter = Jiter::new(text.as_bytes());
-        let told = known_text(alloc, &mut jiter)?;
-        assert_eq!(rt; told.as_str(), wanted, "{text}");
+        expect_text(&rt, known_text(alloc, &mut jiter), wanted, &text);
         assert_eq!(rt; jiter.current_index(), stop, "{text}");
     }
-    Ok(())
 }
 
 // The same of the other calls.
@@ -134,9 +151,8 @@ fn other_known_text(alloc: Global, jiter: &mut Jiter<'_>) -> Result<String, Allo
 }
 
 #[test]
-fn other_known_calls_read_what_was_looked_at(rt: HostRuntime) -> Result<(), Fail> {
-    let alloc = rt.alloc();
-    for (text, wanted, stop) in [
+fn other_known_calls_read_what_was_looked_at(rt: HostRuntime) {
+    const ROWS: [(&str, &str, usize); 7] = [
         (" \"a\\u0062\"", "<a\\u0062>", 10),
         ("[ 1, null]", "[1,null]", 10),
         ("[1", "EofWhileParsingList at 2", 2),
@@ -144,13 +160,13 @@ fn other_known_calls_read_what_was_looked_at(rt: HostRuntime) -> Result<(), Fail
         ("-1.5", "WrongType Int, Float at 0", 0),
         (" 1.50,", "<1.50>", 5),
         ("{", "WrongType Float, Object at 0", 0),
-    ] {
+    ];
+    let alloc = rt.alloc();
+    for &(text, wanted, stop) in &ROWS {
         let mut jiter = Jiter::new(text.as_bytes());
-        let told = other_known_text(alloc, &mut jiter)?;
-        assert_eq!(rt; told.as_str(), wanted, "{text}");
+        expect_text(&rt, other_known_text(alloc, &mut jiter), wanted, &text);
         assert_eq!(rt; jiter.current_index(), stop, "{text}");
     }
-    Ok(())
 }
 
 // Whether a number of this text gives its own bytes, whatever follows it.
@@ -172,8 +188,9 @@ fn is_read_as_itself(alloc: Global, number: &str) -> Result<bool, AllocError> {
 
 #[test]
 fn runs_of_digits_of_many_lengths_are_read(rt: HostRuntime) -> Result<(), Fail> {
+    const LENGTHS: [usize; 11] = [1, 7, 8, 9, 15, 16, 17, 23, 24, 25, 40];
     let alloc = rt.alloc();
-    for length in [1usize, 7, 8, 9, 15, 16, 17, 23, 24, 25, 40] {
+    for &length in &LENGTHS {
         let digits = "7".repeat(alloc, length)?;
         for number in [
             format!(in alloc; "{digits}")?,

@@ -1,12 +1,26 @@
 //! Documents that are walked through by steps, beside their trees.
 use super::{Call, bool_text, number_text, reply_text};
 use jiter::{Jiter, JsonValue, Peek};
-use jiter_tests::told::text_of;
+use jiter_tests::told::{expect_text, text_of};
 use std::alloc::{AllocError, Global};
 use std::test::*;
 
 #[test]
-fn a_person_is_read_by_steps(rt: HostRuntime) -> Result<(), Fail> {
+fn a_person_is_read_by_steps(rt: HostRuntime) {
+    const CALLS: [(Call, &str); 12] = [
+        (Call::Object, "'name'"),
+        (Call::Str, "'John Doe'"),
+        (Call::Key, "'age'"),
+        (Call::Int, "43"),
+        (Call::Key, "'phones'"),
+        (Call::Array, "String"),
+        (Call::Str, "'+44 1234567'"),
+        (Call::ArrayStep, "String"),
+        (Call::Str, "'+44 2345678'"),
+        (Call::ArrayStep, "None"),
+        (Call::Key, "None"),
+        (Call::Finish, "()"),
+    ];
     let alloc = rt.alloc();
     let line =
         "\n{\"name\": \"John Doe\", \"age\": 43, \"phones\": [\"+44 1234567\", \"+44 2345678\"]}";
@@ -21,26 +35,11 @@ fn a_person_is_read_by_steps(rt: HostRuntime) -> Result<(), Fail> {
 }"#;
     for text in [line, lines] {
         let mut jiter = Jiter::new(text.as_bytes()).with_allow_inf_nan();
-        for (call, wanted) in [
-            (Call::Object, "'name'"),
-            (Call::Str, "'John Doe'"),
-            (Call::Key, "'age'"),
-            (Call::Int, "43"),
-            (Call::Key, "'phones'"),
-            (Call::Array, "String"),
-            (Call::Str, "'+44 1234567'"),
-            (Call::ArrayStep, "String"),
-            (Call::Str, "'+44 2345678'"),
-            (Call::ArrayStep, "None"),
-            (Call::Key, "None"),
-            (Call::Finish, "()"),
-        ] {
-            let told = reply_text(alloc, &mut jiter, call)?;
-            assert_eq!(rt; told.as_str(), wanted);
+        for &(call, wanted) in &CALLS {
+            expect_text(&rt, reply_text(alloc, &mut jiter, call), wanted, &call);
         }
         assert_eq!(rt; jiter.current_index(), text.len());
     }
-    Ok(())
 }
 
 // The text as a tree's text has it, but for the mark of texts in memory of their own.
@@ -173,15 +172,16 @@ fn tree_text(alloc: Global, bytes: &[u8]) -> Result<String, Fail> {
 
 #[test]
 fn documents_are_walked_as_they_are_read(rt: HostRuntime) -> Result<(), Fail> {
-    let alloc = rt.alloc();
-    for text in [
+    const TEXTS: [&str; 6] = [
         "12",
         " [ ] ",
         r#"{"a":{"b":[{}, [], [[]]], "c":null},"d":[true,false,""]}"#,
         r#"[{"id": 1, "name": "one", "tags": ["a", "b"]}, {"id": 2, "name": "zwei \u00fc", "tags": []}]"#,
         r#"{"\u0061\n": ["\ud83d\ude00", "plain", "caf\u00e9"], "b": {"c": {"d": {"e": "f"}}}}"#,
         "{\"type\":\"Feature\",\"geometry\":{\"coordinates\":[[0,1],[2,-3]]},\"properties\":{}}",
-    ] {
+    ];
+    let alloc = rt.alloc();
+    for &text in &TEXTS {
         let walked = walked_text(alloc, text.as_bytes())?;
         assert_eq!(rt;
             walked.as_str(),
