@@ -6,13 +6,14 @@ use std::alloc::Global;
 use std::borrow::CowStr;
 use std::test::*;
 
-// Whether the whole of the bytes is a string of this text, owned or not.
-fn reads(alloc: Global, bytes: &[u8], owned: bool, text: &str) -> bool {
+// Whether the whole of the bytes is a string of this text, owned or not; with `keep` the end of the bytes may
+// cut it.
+fn reads_as(alloc: Global, bytes: &[u8], keep: bool, owned: bool, text: &str) -> bool {
     let mut tape = Vec::new(alloc);
     if bytes.is_empty() {
         return false;
     }
-    let Ok((seen, end)) = string_at(alloc, &mut tape, bytes, 0, false) else {
+    let Ok((seen, end)) = string_at(alloc, &mut tape, bytes, 0, keep) else {
         return false;
     };
     let same = match &seen {
@@ -20,6 +21,10 @@ fn reads(alloc: Global, bytes: &[u8], owned: bool, text: &str) -> bool {
         CowStr::Owned(s) => owned && s.as_str() == text,
     };
     same && end == bytes.len()
+}
+
+fn reads(alloc: Global, bytes: &[u8], owned: bool, text: &str) -> bool {
+    reads_as(alloc, bytes, false, owned, text)
 }
 
 // Whether the string at this index is refused with this fault.
@@ -56,6 +61,23 @@ fn decodes_escapes(rt: HostRuntime) {
     assert!(rt; reads(alloc, b"\"\\u00a3\"", true, "\u{a3}"));
     assert!(rt; reads(alloc, b"\"a\\u0062\\nC\"", true, "ab\nC"));
     assert!(rt; reads(alloc, b"\"\\ud83d\\ude00\"", true, "\u{1F600}"));
+}
+
+#[test]
+fn keeps_what_there_is_of_a_cut_text(rt: HostRuntime) {
+    let alloc = rt.alloc();
+    for (bytes, owned, text) in [
+        (b"\"".as_slice(), false, ""),
+        (b"\"ab", false, "ab"),
+        (b"\"ab\xe2\x82", false, "ab"),
+        (b"\"ab\\", true, "ab"),
+        (b"\"ab\\u00", true, "ab"),
+        (b"\"a\\n\\ud83d", true, "a\n"),
+    ] {
+        assert!(rt; reads_as(alloc, bytes, true, owned, text));
+        assert!(rt; !reads(alloc, bytes, owned, text));
+    }
+    assert!(rt; reads_as(alloc, b"\"a\\n\"", true, true, "a\n"));
 }
 
 #[test]
