@@ -47,8 +47,8 @@ module _ (names : Bool) (t : List ℕ) where
     key = λ i h. seen-within _ t i (string_at whole t i) (string_at-within whole t i h);
   }
 
-  pub built_inside-within : (room : ℕ) → AllWithin t (inside_at (owned_trees names) t room)
-  built_inside-within room = inside_at-within (owned_trees names) t owned-advances room
+  pub built_inside-within : (levels : ℕ) → AllWithin t (inside_at (owned_trees names) t levels)
+  built_inside-within levels = inside_at-within (owned_trees names) t owned-advances levels
 
 -- How the client goes through a container: what it is told where a part begins, which byte stands there then, the call
 -- for the part's value, the part that this makes, and the call behind a part.
@@ -146,9 +146,9 @@ seen-part f told (more i) = refl
 seen-part f told (closed e) = refl
 seen-part f told (stuck k i) = refl
 
-module _ (s0 : ReaderState) (room : ℕ) where
+module _ (s0 : ReaderState) (levels : ℕ) where
   abbrev inner : ℕ → Reading Tree
-  inner = inside_at (owned_trees s0.names) s0.text room
+  inner = inside_at (owned_trees s0.names) s0.text levels
 
   -- The array whose bracket stands at s0: its items' first bytes are told.
   abbrev pub items : Walk ℕ Tree
@@ -156,7 +156,7 @@ module _ (s0 : ReaderState) (room : ℕ) where
     container = array_of (owned_trees s0.names) inner s0.text s0.position;
     told = λ i. gave (Some (slice_index s0.text i)) i;
     byte = λ c. Some c;
-    asked = λ s. built_inside s room s.position;
+    asked = λ s. built_inside s levels s.position;
     part = λ c v. v;
     stepped = λ s. item_step s;
   }
@@ -165,11 +165,11 @@ module _ (s0 : ReaderState) (room : ℕ) where
   items-laws = record {
     goes =
         array_of-goes (owned_trees s0.names) s0.text (owned-advances s0.names s0.text) inner
-        (built_inside-within s0.names s0.text room) s0.position;
+        (built_inside-within s0.names s0.text levels) s0.position;
     begins = λ i lt. (seen-same (value_reply (inner i)), slice_get-get_or s0.text i 0 lt);
     steps = λ i. refl;
     ahead = λ k i v e at h. gave-ahead s0.text i (inner i)
-        (built_inside-within s0.names s0.text room i (slice_get_within s0.text i k at)) v e h;
+        (built_inside-within s0.names s0.text levels i (slice_get_within s0.text i k at)) v e h;
   }
 
   -- The object whose bracket stands at s0: its members' keys are told, their colons consumed.
@@ -178,7 +178,7 @@ module _ (s0 : ReaderState) (room : ℕ) where
     container = object_of (owned_trees s0.names) inner s0.text s0.position;
     told = λ i. reply_seen (option_map owned_text) (key_reply s0.text i (string_at whole s0.text i));
     byte = λ key. None;
-    asked = λ s. next s (λ i b. built_inside s room i);
+    asked = λ s. next s (λ i b. built_inside s levels i);
     part = λ key v. (key, v);
     stepped = λ s. reply_seen (option_map owned_text) (key_step whole s);
   }
@@ -212,7 +212,7 @@ module _ (s0 : ReaderState) (room : ℕ) where
   value-ahead p None v e q h = absurd (cc)
   value-ahead p (Some c) v e q h =
       gave-ahead s0.text p (inner p)
-      (built_inside-within s0.names s0.text room p (slice_get_within s0.text p c q)) v e h
+      (built_inside-within s0.names s0.text levels p (slice_get_within s0.text p c q)) v e h
 
   member-ahead : (i : ℕ) (v : Tree) (e : ℕ) → members.asked (with_position s0 i) ≡ gave v e → i < e
   member-ahead i v e h =
@@ -224,7 +224,7 @@ module _ (s0 : ReaderState) (room : ℕ) where
   members-laws = record {
     goes =
         object_of-goes (owned_trees s0.names) s0.text (owned-advances s0.names s0.text) inner
-        (built_inside-within s0.names s0.text room) s0.position;
+        (built_inside-within s0.names s0.text levels) s0.position;
     begins = λ i lt. key-begins i (string_at whole s0.text i);
     steps = λ i. seen-part owned_text (λ j. key_reply s0.text j (string_at whole s0.text j))
         (step s0.text (object_step s0.text) i);

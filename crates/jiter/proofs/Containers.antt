@@ -185,15 +185,15 @@ module _ {K P : Type 0} {s0 : ReaderState} {w : Walk K P} (laws : WalkLaws s0 w)
       }
 
 -- the calls that open a container
-pub array-opens : (s0 : ReaderState) (room : ℕ) → StandsAt s0 91
+pub array-opens : (s0 : ReaderState) (levels : ℕ) → StandsAt s0 91
     → known s0 (array_read s0)
-    ≡ part_reply (items s0 room).told (step s0.text (items s0 room).container.first (s0.position + 1))
-array-opens s0 room at = ap (array_read s0 s0.position) (known-first s0 91 at)
+    ≡ part_reply (items s0 levels).told (step s0.text (items s0 levels).container.first (s0.position + 1))
+array-opens s0 levels at = ap (array_read s0 s0.position) (known-first s0 91 at)
 
-pub object-opens : (s0 : ReaderState) (room : ℕ) → StandsAt s0 123
+pub object-opens : (s0 : ReaderState) (levels : ℕ) → StandsAt s0 123
     → reply_seen (option_map owned_text) (known s0 (object_read whole s0))
-    ≡ part_reply (members s0 room).told (step s0.text (members s0 room).container.first (s0.position + 1))
-object-opens s0 room at =
+    ≡ part_reply (members s0 levels).told (step s0.text (members s0 levels).container.first (s0.position + 1))
+object-opens s0 levels at =
     ap (λ b. reply_seen (option_map owned_text) (object_read whole s0 s0.position b)) (known-first s0 123 at)
     ∙ seen-part owned_text (λ j. key_reply s0.text j (string_at whole s0.text j))
     (step s0.text object_first (s0.position + 1))

@@ -55,20 +55,20 @@ module _ (names : Bool) (t : List ℕ) where
     object = λ b e members. ap tree.object (members_of-owned members);
   }
 
-  value_at-owned : (room i : ℕ)
-      → mapped owned_tree (value_at (whole_trees names) t room i) ≡ value_at (owned_trees names) t room i
-  value_at-owned room i =
-      value_at-mapped (whole_trees names) (owned_trees names) owned_text owned_tree t owned-leads room i
+  value_at-owned : (levels i : ℕ)
+      → mapped owned_tree (value_at (whole_trees names) t levels i) ≡ value_at (owned_trees names) t levels i
+  value_at-owned levels i =
+      value_at-mapped (whole_trees names) (owned_trees names) owned_text owned_tree t owned-leads levels i
 
   reply-owned : (x : Reading Tree) → reply_seen owned_tree (value_reply x) ≡ value_reply (mapped owned_tree x)
   reply-owned (done v e) = refl
   reply-owned (fault k i stop) = refl
 
   -- the reply with its texts owned
-  pub value-owned : (room i : ℕ)
-      → reply_seen owned_tree (value_reply (value_at (whole_trees names) t room i))
-      ≡ value_reply (value_at (owned_trees names) t room i)
-  value-owned room i = reply-owned (value_at (whole_trees names) t room i) ∙ ap value_reply (value_at-owned room i)
+  pub value-owned : (levels i : ℕ)
+      → reply_seen owned_tree (value_reply (value_at (whole_trees names) t levels i))
+      ≡ value_reply (value_at (owned_trees names) t levels i)
+  value-owned levels i = reply-owned (value_at (whole_trees names) t levels i) ∙ ap value_reply (value_at-owned levels i)
 
 -- What is built where a value begins, at the place that a peek moves to, is the value that is read.
 pub built_as_read : {X : Type 0} (view : X → Tree) (result : Result X JiterError) (s0 s end : ReaderState) (c : ℕ)

@@ -7,7 +7,7 @@ use Rattle.jiter_scan.proofs.Runs.{run_end-here}
 use Rattle.jiter_steps.proofs.Grammar.Blanks.{no_blank-behind}
 use Rattle.jiter.specs.Jiter.{StandsAt}
 use Rattle.jiter_scan.specs.Scanned.{Scanned, taken, failed}
-use Rattle.jiter_scan.specs.NumberReading.{Integer, whole, float_seen, number_at, int_at}
+use Rattle.jiter_scan.specs.NumberReading.{Integer, int_seen, float_seen, number_at, int_at}
 use Rattle.jiter_steps.specs.Blank.{is_blank, past_blanks}
 use Rattle.jiter_steps.specs.StringReading.{Form, string_at}
 use Rattle.jiter_steps.specs.Answer.{seen_as}
@@ -56,7 +56,7 @@ module _ (s : ReaderState) (i : ℕ) where
   number_read-stays b = refl
 
   integer_reply-stays : (x : Scanned Integer) → StaysAt i (integer_reply i x)
-  integer_reply-stays (taken (whole n) e) = tt
+  integer_reply-stays (taken (int_seen n) e) = tt
   integer_reply-stays (taken float_seen j) = refl
   integer_reply-stays (failed k j) = refl
 

@@ -31,14 +31,14 @@ owned_trees names = record {
 abbrev pub own_text : List ℕ → Text
 own_text bytes = record { owned = true; bytes = bytes }
 
--- The value that begins so where the reader stands, with room for so many containers inside it that are not empty.
+-- The value that begins so where the reader stands, with levels left for so many containers inside it that are not empty.
 abbrev pub built : ReaderState → ℕ → Start → Reply Tree
-built s room b =
-    value_reply (value_with (owned_trees s.names) (inside_at (owned_trees s.names) s.text room) s.text s.position b)
+built s levels b =
+    value_reply (value_with (owned_trees s.names) (inside_at (owned_trees s.names) s.text levels) s.text s.position b)
 
--- The value at i inside a container with this room.
+-- The value at i inside a container with so many levels left.
 abbrev pub built_inside : ReaderState → ℕ → ℕ → Reply Tree
-built_inside s room i = value_reply (inside_at (owned_trees s.names) s.text room i)
+built_inside s levels i = value_reply (inside_at (owned_trees s.names) s.text levels i)
 
 -- The value where the reader stands, each text owned, may want memory: reading it does, or it is read with a borrowed
 -- text or a part.

@@ -6,7 +6,7 @@ use Rattle.jiter_scan.specs.Scanned.{Scanned, taken, failed}
 use Rattle.jiter_scan.specs.Number.{Number, integer, big}
 use Rattle.jiter_scan.specs.Number as number
 use Rattle.jiter_scan.specs.Word.{Extent}
-use Rattle.jiter_scan.specs.NumberReading.{Integer, whole, float_seen, number_at, int_at}
+use Rattle.jiter_scan.specs.NumberReading.{Integer, int_seen, float_seen, number_at, int_at}
 use Rattle.jiter_steps.specs.Blank.{past_blanks}
 use Rattle.jiter_steps.specs.Literal.{literal_at, start_of}
 use Rattle.jiter_steps.specs.Tree.{Text, Tree}
@@ -125,7 +125,7 @@ number_read s i b = refused_as s i int b
 
 -- an integer at i; a float that shows behind it is another type, whatever follows
 abbrev pub integer_reply : ℕ → Scanned Integer → Reply Number
-integer_reply i (taken (whole n) e) = gave n e
+integer_reply i (taken (int_seen n) e) = gave n e
 integer_reply i (taken float_seen j) = refused (wrong_type int float) i i
 integer_reply i (failed k j) = refused (json_error k) j i
 

@@ -112,10 +112,14 @@ fn build_bool(jiter: &mut Jiter<'_>, peek: Peek) -> JiterResult<JsonValue<'stati
 
 // The array whose bracket stands where the reader stands.
 #[cycle(build)]
-fn build_array(alloc: Global, jiter: &mut Jiter<'_>, room: usize) -> JiterResult<JsonValue<'static>>
+fn build_array(
+    alloc: Global,
+    jiter: &mut Jiter<'_>,
+    levels: usize,
+) -> JiterResult<JsonValue<'static>>
     requires whole { jiter.old.partial_strings ≡ false }
     requires here { StandsAt jiter.old ascii.left_bracket }
-    ensures value { LeavesAt view result jiter.old jiter.new (built jiter.old room Start.Array) }
+    ensures value { LeavesAt view result jiter.old jiter.new (built jiter.old levels Start.Array) }
     ensures index { IndexWithin jiter.old.text result }
     ensures memory { WhereMemory result (λ _.
         LeadsOn (step jiter.old.text array_first (jiter.old.position + 1))) }
@@ -123,7 +127,7 @@ fn build_array(alloc: Global, jiter: &mut Jiter<'_>, room: usize) -> JiterResult
     let mut next = jiter.known_array()?;
     let mut items = Vec::new(alloc);
     while let Some(peek) = next {
-        let item = build_inside(alloc, jiter, peek, room)?;
+        let item = build_inside(alloc, jiter, peek, levels)?;
         if let Err(refused) = push(&mut items, item) {
             return Err(out_of_memory(refused, jiter));
         }
@@ -181,11 +185,11 @@ fn next_key(alloc: Global, jiter: &mut Jiter<'_>) -> JiterResult<Option<CowStr<'
 fn build_object(
     alloc: Global,
     jiter: &mut Jiter<'_>,
-    room: usize,
+    levels: usize,
 ) -> JiterResult<JsonValue<'static>>
     requires whole { jiter.old.partial_strings ≡ false }
     requires here { StandsAt jiter.old ascii.left_brace }
-    ensures value { LeavesAt view result jiter.old jiter.new (built jiter.old room Start.Object) }
+    ensures value { LeavesAt view result jiter.old jiter.new (built jiter.old levels Start.Object) }
     ensures index { IndexWithin jiter.old.text result }
     ensures memory { WhereMemory result (λ _.
         LeadsOn (step jiter.old.text object_first (jiter.old.position + 1))) }
@@ -193,7 +197,7 @@ fn build_object(
     let mut next = first_key(alloc, jiter)?;
     let mut members = Vec::new(alloc);
     while let Some(key) = next {
-        let value = build_member(alloc, jiter, room)?;
+        let value = build_member(alloc, jiter, levels)?;
         if let Err(refused) = push(&mut members, (key, value)) {
             return Err(out_of_memory(refused, jiter));
         }
@@ -207,58 +211,58 @@ fn build_object(
 fn build_member(
     alloc: Global,
     jiter: &mut Jiter<'_>,
-    room: usize,
+    levels: usize,
 ) -> JiterResult<JsonValue<'static>>
     requires { jiter.old.partial_strings ≡ false }
     ensures value { LeavesAt view result jiter.old jiter.new
-        (next jiter.old (λ i _. built_inside jiter.old room i)) }
+        (next jiter.old (λ i _. built_inside jiter.old levels i)) }
     ensures index { IndexWithin jiter.old.text result }
 {
     let peek = jiter.peek()?;
-    build_inside(alloc, jiter, peek, room)
+    build_inside(alloc, jiter, peek, levels)
 }
 
-// A value inside a container with this room: without room it is refused at its first byte.
+// A value inside a container with so many levels left: with none it is refused at its first byte.
 #[cycle(build)]
 fn build_inside(
     alloc: Global,
     jiter: &mut Jiter<'_>,
     peek: Peek,
-    room: usize,
+    levels: usize,
 ) -> JiterResult<JsonValue<'static>>
     requires whole { jiter.old.partial_strings ≡ false }
     requires here { StandsAt jiter.old (byte_of peek) }
     ensures value { LeavesAt view result jiter.old jiter.new
-        (built_inside jiter.old room jiter.old.position) }
+        (built_inside jiter.old levels jiter.old.position) }
     ensures index { IndexWithin jiter.old.text result }
 {
-    if room == 0 {
+    if levels == 0 {
         return Err(JiterError {
             error_type: JiterErrorType::JsonError(JsonErrorType::RecursionLimitExceeded),
             index: jiter.current_index(),
         });
     }
-    build_value(alloc, jiter, peek, room - 1)
+    build_value(alloc, jiter, peek, levels - 1)
 }
 
-// The value where the reader stands, with room for so many containers inside it that are not empty.
+// The value where the reader stands, with levels left for so many containers inside it that are not empty.
 #[cycle(build)]
 fn build_value(
     alloc: Global,
     jiter: &mut Jiter<'_>,
     peek: Peek,
-    room: usize,
+    levels: usize,
 ) -> JiterResult<JsonValue<'static>>
     requires whole { jiter.old.partial_strings ≡ false }
     requires here { StandsAt jiter.old (byte_of peek) }
     ensures value { LeavesAt view result jiter.old jiter.new
-        (built jiter.old room (start_of (byte_of peek))) }
+        (built jiter.old levels (start_of (byte_of peek))) }
     ensures index { IndexWithin jiter.old.text result }
     ensures memory { WhereMemory result (λ _. OwnedMayGrowAt jiter.old) }
 {
     match start_of(peek.into_inner()) {
-        Start::Array => build_array(alloc, jiter, room),
-        Start::Object => build_object(alloc, jiter, room),
+        Start::Array => build_array(alloc, jiter, levels),
+        Start::Object => build_object(alloc, jiter, levels),
         Start::String => build_string(alloc, jiter),
         Start::Number => build_number(alloc, jiter, peek),
         Start::Literal(Literal::Null) => build_null(jiter),

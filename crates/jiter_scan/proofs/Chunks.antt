@@ -63,11 +63,11 @@ module _ (test : ℕ → Bool) where
     -- a chunk of bytes that all pass
     pub prefix_len-through : i + n ≤ length t → list_all test (chunk i n t) ≡ true → prefix_len test (drop i t)
         ≡ n + prefix_len test (drop (i + n) t)
-    prefix_len-through room all =
+    prefix_len-through reach all =
         let c = chunk i n t in
         split ∙ ap (λ b. cond b (length c + prefix_len test (drop (i + n) t)) (prefix_len test c))
         (eq-eqb _ _ (prefix_len-all c all))
-        ∙ ap (λ k. k + prefix_len test (drop (i + n) t)) (length-chunk i n t room)
+        ∙ ap (λ k. k + prefix_len test (drop (i + n) t)) (length-chunk i n t reach)
 
     -- a chunk in which one fails
     pub prefix_len-inside : list_all test (chunk i n t) ≡ false → prefix_len test (drop i t)
@@ -92,28 +92,28 @@ module _ (test : ℕ → Bool) where
     one_fails h = list_all-failing (chunk i n t) ∙ ne_eqb _ _ (λ (e : failing test (chunk i n t) ≡ 0). omega arith)
 
     pub run_end-through : i + n ≤ length t → failing test (chunk i n t) ≡ 0 → run_end test t i ≡ run_end test t (i + n)
-    run_end-through room none = omega (arith, prefix_len-through room (none_fails none))
+    run_end-through reach none = omega (arith, prefix_len-through reach (none_fails none))
 
     pub run_end-inside : i + n ≤ length t → n ≤ 64 → 0 < failing test (chunk i n t) → run_end test t i
         ≡ i + count_trailing_zeros 64 (failing test (chunk i n t))
-    run_end-inside room short some =
+    run_end-inside reach short some =
         ap (λ k. i + k)
         (prefix_len-inside (one_fails some)
-        ∙ prefix_len-failing (chunk i n t) (omega (arith, length-chunk i n t room)) some)
+        ∙ prefix_len-failing (chunk i n t) (omega (arith, length-chunk i n t reach)) some)
 
     -- of a mask that is at hand
-    module _ (mask : ℕ) (is : mask ≡ failing test (chunk i n t)) (room : i + n ≤ length t) where
+    module _ (mask : ℕ) (is : mask ≡ failing test (chunk i n t)) (reach : i + n ≤ length t) where
       pub run_end-clear : mask ≡ 0 → run_end test t i ≡ run_end test t (i + n)
-      run_end-clear none = run_end-through room (sym is ∙ none)
+      run_end-clear none = run_end-through reach (sym is ∙ none)
 
       pub run_end-stopped : n ≤ 64 → 0 < mask → run_end test t i ≡ i + count_trailing_zeros 64 mask
       run_end-stopped short some =
-          run_end-inside room short (omega arith) ∙ ap (λ m. i + count_trailing_zeros 64 m) (sym is)
+          run_end-inside reach short (omega arith) ∙ ap (λ m. i + count_trailing_zeros 64 m) (sym is)
 
       pub run_end-near : 0 < mask → run_end test t i ≤ i + n
       run_end-near some =
           let inside = prefix_len-inside (one_fails (omega arith)) in
-          omega (arith, inside, prefix_len-le-length test (chunk i n t), length-chunk i n t room)
+          omega (arith, inside, prefix_len-le-length test (chunk i n t), length-chunk i n t reach)
 
   -- a chunk of 64 by its four parts
   pub list_all-four : (t : List ℕ) (i : ℕ) → list_all test (chunk i 64 t)

@@ -21,6 +21,6 @@ pub mod Chunks
 pub mod PlainRuns
 pub mod DigitWords
 pub mod Magnitudes
-pub mod ShortNumbers
+pub mod PlainNumbers
 pub mod Tapes
-pub mod ShortValues
+pub mod PlainNumberValues

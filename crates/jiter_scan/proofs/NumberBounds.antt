@@ -5,8 +5,8 @@ use Rattle.std.proofs.lemmas.Bool.{false≢true}
 use Rattle.std.proofs.lemmas.Option.{slice_get_within}
 use Rattle.jiter_scan.specs.Kind.{eof_value, invalid_number}
 use Rattle.jiter_scan.specs.Number.{Number, IsNumberText}
-use Rattle.jiter_scan.specs.NumberReading.{whole_at, number_extent, with_value}
-use Rattle.jiter_scan.specs.NumberReading.{number_at, Integer, whole, float_seen, is_float_sign, integer_or_float}
+use Rattle.jiter_scan.specs.NumberReading.{int_part_at, number_extent, with_value}
+use Rattle.jiter_scan.specs.NumberReading.{number_at, Integer, int_seen, float_seen, is_float_sign, integer_or_float}
 use Rattle.jiter_scan.specs.NumberReading.{integer_behind, integer_behind_minus, integer_from, int_at, alone}
 use Rattle.jiter_scan.specs.NumberReading.{integer_alone, if_number, begins_number, number_alone, int_alone}
 use Rattle.jiter_scan.specs.Scanned.{Scanned, taken, failed}
@@ -14,7 +14,7 @@ use Rattle.jiter_scan.specs.Stands.{Stands}
 use Rattle.jiter_scan.specs.Word.{Extent}
 use Rattle.jiter_scan.proofs.Choices.{if_case}
 use Rattle.jiter_scan.proofs.NumberBytes.{number-not_empty}
-use Rattle.jiter_scan.proofs.NumberSound.{Spelled, whole-spelled, number-spelled}
+use Rattle.jiter_scan.proofs.NumberSound.{Spelled, int_part-spelled, number-spelled}
 use Rattle.jiter_scan.proofs.NumberRows.{Part}
 use Rattle.jiter_scan.proofs.Scanning.{ScalarWithin, Within, FaultAt}
 use Rattle.jiter_scan.proofs.Standing.{get-none, stands-length, stands-within}
@@ -31,8 +31,8 @@ module _ (t : List ℕ) where
   spelled-within Is i (taken u e) le s = stands-within t i e s.0 le s.1
   spelled-within Is i (failed k j) le s = (s.0 le).1
 
-  whole-within : (i : ℕ) → i ≤ length t → Within t (whole_at t i)
-  whole-within i le = spelled-within _ i (whole_at t i) le (whole-spelled t i)
+  int_part-within : (i : ℕ) → i ≤ length t → Within t (int_part_at t i)
+  int_part-within i le = spelled-within _ i (int_part_at t i) le (int_part-spelled t i)
 
   integer_or_float-within : (i e : ℕ) (o : Option ℕ) → e ≤ length t → Within t (integer_or_float t i e o)
   integer_or_float-within i e None h = h
@@ -48,7 +48,7 @@ module _ (t : List ℕ) where
   integer_behind_minus-within i None s le = over (i + 1) le s
   integer_behind_minus-within i (Some c) s le =
       if_case (Within t) (c == 73) _ _
-      (λ _. le) (λ _. integer_behind-within i (whole_at t (i + 1)) (whole-within (i + 1) le))
+      (λ _. le) (λ _. integer_behind-within i (int_part_at t (i + 1)) (int_part-within (i + 1) le))
 
   integer_from-within : (i : ℕ) (o : Option ℕ) → slice_get t i ≡ o → i ≤ length t → Within t (integer_from t i o)
   integer_from-within i None s le = over i le s
@@ -56,7 +56,7 @@ module _ (t : List ℕ) where
       let lt = slice_get_within t i c s in
       if_case (Within t) (c == 45) _ _ (λ _. integer_behind_minus-within i (slice_get t (i + 1)) refl (omega arith))
       (λ _. if_case (Within t) ((c == 78) || (c == 73)) _ _
-      (λ _. le) (λ _. integer_behind-within i (whole_at t i) (whole-within i le)))
+      (λ _. le) (λ _. integer_behind-within i (int_part_at t i) (int_part-within i le)))
 
   alone-within : (x : Scanned Number) → Within t x → Within t (alone t x)
   alone-within (taken n e) h =
@@ -65,7 +65,7 @@ module _ (t : List ℕ) where
   alone-within (failed k j) h = h
 
   integer_alone-within : (x : Scanned Integer) → Within t x → Within t (integer_alone x)
-  integer_alone-within (taken (whole n) e) h = h
+  integer_alone-within (taken (int_seen n) e) h = h
   integer_alone-within (taken float_seen j) h = refused j h
   integer_alone-within (failed k j) h = h
 

@@ -10,8 +10,8 @@ use Rattle.std.proofs.lemmas.List.Sums.{AllPass-from_list_all}
 use Rattle.std.proofs.lemmas.Str.{IsAscii-append}
 use Rattle.std.proofs.lemmas.Str.Ascii.{IsAscii-from_all, IsAscii-nil, IsAscii-cons}
 use Rattle.jiter_scan.specs.Digits.{is_digit}
-use Rattle.jiter_scan.specs.Number.{AreDigits, IsDigits, IsMinus, IsWhole, IsFraction, IsSign, IsExponent, IsNumberText}
-use Rattle.jiter_scan.specs.NumberReading.{begins_number, whole_at, decimal_at}
+use Rattle.jiter_scan.specs.Number.{AreDigits, IsDigits, IsMinus, IsIntPart, IsFraction, IsSign, IsExponent, IsNumberText}
+use Rattle.jiter_scan.specs.NumberReading.{begins_number, int_part_at, decimal_at}
 use Rattle.jiter_scan.specs.NumberDecoder.{IsMinusTo}
 use Rattle.jiter_scan.specs.Scan.{is_ascii}
 use Rattle.jiter_scan.specs.Scanned.{taken}
@@ -19,7 +19,7 @@ use Rattle.jiter_scan.specs.Stands.{Stands}
 use Rattle.jiter_scan.specs.Word.{word_at}
 use Rattle.jiter_scan.proofs.Digits.{digit-bounds}
 use Rattle.jiter_scan.proofs.NumberRows.{decimal-is}
-use Rattle.jiter_scan.proofs.NumberSound.{decimal_at-sound, whole_at-sound}
+use Rattle.jiter_scan.proofs.NumberSound.{decimal_at-sound, int_part_at-sound}
 use Rattle.jiter_scan.proofs.Standing.{stands-append, stands-length, slice-stands}
 use Rattle.jiter_scan.proofs.WordLaws.{word_at-sound}
 
@@ -44,9 +44,9 @@ minus-ascii : (w : List ℕ) → IsMinus w → IsAscii w
 minus-ascii w (inl e) = given-ascii w [] e refl
 minus-ascii w (inr e) = given-ascii w (45 ∷ []) e refl
 
-whole-ascii : (w : List ℕ) → IsWhole w → IsAscii w
-whole-ascii [] h = absurd h
-whole-ascii (c ∷ w) h = digits-ascii (c ∷ w) h.0
+int_part-ascii : (w : List ℕ) → IsIntPart w → IsAscii w
+int_part-ascii [] h = absurd h
+int_part-ascii (c ∷ w) h = digits-ascii (c ∷ w) h.0
 
 fraction-ascii : (w : List ℕ) → IsFraction w → IsAscii w
 fraction-ascii [] h = IsAscii-nil
@@ -72,8 +72,8 @@ exponent-ascii w (inr p) =
 pub number-ascii : (names : Bool) (w : List ℕ) → IsNumberText names w → IsAscii w
 number-ascii names w (inl d) =
     subst IsAscii (sym d.is)
-    (IsAscii-append d.minus (d.whole ++ (d.fraction ++ d.exponent)) (minus-ascii d.minus d.is_minus)
-    (IsAscii-append d.whole (d.fraction ++ d.exponent) (whole-ascii d.whole d.is_whole)
+    (IsAscii-append d.minus (d.int_part ++ (d.fraction ++ d.exponent)) (minus-ascii d.minus d.is_minus)
+    (IsAscii-append d.int_part (d.fraction ++ d.exponent) (int_part-ascii d.int_part d.is_int_part)
     (IsAscii-append d.fraction d.exponent (fraction-ascii d.fraction d.is_fraction)
     (exponent-ascii d.exponent d.is_exponent))))
 number-ascii names w (inr (n, inl e)) = given-ascii w (codes "NaN") e refl
@@ -83,29 +83,29 @@ number-ascii names w (inr (n, inr (inr e))) = given-ascii w (codes "-Infinity") 
 digit-begins : (c : ℕ) → is_digit c ≡ true → begins_number c ≡ true
 digit-begins c h = ap (λ b. b || (c == 45) || (c == 78) || (c == 73)) h
 
-decimal-first : (minus whole rest w : List ℕ) (c : ℕ) → c ∷ w ≡ minus ++ (whole ++ rest) → IsMinus minus → IsWhole whole
+decimal-first : (minus int_part rest w : List ℕ) (c : ℕ) → c ∷ w ≡ minus ++ (int_part ++ rest) → IsMinus minus → IsIntPart int_part
     → begins_number c ≡ true
 decimal-first [] [] rest w c e m h = absurd h
-decimal-first [] (d ∷ whole) rest w c e m h = let same : c ≡ d = cc in digit-begins c (ap is_digit same ∙ h.0.0)
-decimal-first (d ∷ minus) whole rest w c e (inl m) h = absurd (cc)
-decimal-first (d ∷ minus) whole rest w c e (inr m) h = let same : c ≡ 45 = cc in ap begins_number same
+decimal-first [] (d ∷ int_part) rest w c e m h = let same : c ≡ d = cc in digit-begins c (ap is_digit same ∙ h.0.0)
+decimal-first (d ∷ minus) int_part rest w c e (inl m) h = absurd (cc)
+decimal-first (d ∷ minus) int_part rest w c e (inr m) h = let same : c ≡ 45 = cc in ap begins_number same
 
 -- the first byte of a number's text tells that a number begins
 pub number-begins : (names : Bool) (c : ℕ) (w : List ℕ) → IsNumberText names (c ∷ w) → begins_number c ≡ true
 number-begins names c w (inl d) =
-    decimal-first d.minus d.whole (d.fraction ++ d.exponent) w c d.is d.is_minus d.is_whole
+    decimal-first d.minus d.int_part (d.fraction ++ d.exponent) w c d.is d.is_minus d.is_int_part
 number-begins names c w (inr (n, inl e)) = let same : c ≡ 78 = cc in ap begins_number same
 number-begins names c w (inr (n, inr (inl e))) = let same : c ≡ 73 = cc in ap begins_number same
 number-begins names c w (inr (n, inr (inr e))) = let same : c ≡ 45 = cc in ap begins_number same
 
-decimal-some : (minus whole rest : List ℕ) → [] ≡ minus ++ (whole ++ rest) → IsWhole whole → ⊥
+decimal-some : (minus int_part rest : List ℕ) → [] ≡ minus ++ (int_part ++ rest) → IsIntPart int_part → ⊥
 decimal-some [] [] rest e h = h
-decimal-some [] (d ∷ whole) rest e h = cc
-decimal-some (d ∷ minus) whole rest e h = cc
+decimal-some [] (d ∷ int_part) rest e h = cc
+decimal-some (d ∷ minus) int_part rest e h = cc
 
 -- a number's text has a byte
 pub number-not_empty : (names : Bool) → IsNumberText names [] → ⊥
-number-not_empty names (inl d) = decimal-some d.minus d.whole (d.fraction ++ d.exponent) d.is d.is_whole
+number-not_empty names (inl d) = decimal-some d.minus d.int_part (d.fraction ++ d.exponent) d.is d.is_int_part
 number-not_empty names (inr (n, inl e)) = cc
 number-not_empty names (inr (n, inr (inl e))) = cc
 number-not_empty names (inr (n, inr (inr e))) = cc
@@ -133,9 +133,9 @@ module _ (t : List ℕ) where
       let d = decimal_at-sound t j e h in
       behind_minus-ascii d.0 i j e minus d.1 (number-ascii false d.0 (inl (decimal-is [] (inl refl) d.0 d.2)))
 
-  pub IsAscii-integer : (i j e : ℕ) → IsMinusTo t i j → whole_at t j ≡ taken tt e → IsAscii (slice_range t i e)
+  pub IsAscii-integer : (i j e : ℕ) → IsMinusTo t i j → int_part_at t j ≡ taken tt e → IsAscii (slice_range t i e)
   IsAscii-integer i j e minus h =
-      let w = whole_at-sound t j e h in behind_minus-ascii w.0 i j e minus w.1 (whole-ascii w.0 w.2.0)
+      let w = int_part_at-sound t j e h in behind_minus-ascii w.0 i j e minus w.1 (int_part-ascii w.0 w.2.0)
 
   -- a name
   pub IsAscii-name : (w : List ℕ) (i j e : ℕ) → IsMinusTo t i j → word_at t w j ≡ taken tt e → IsAscii w

@@ -6,9 +6,9 @@ use Rattle.std.proofs.lemmas.Bool.Decides.{nat_tests}
 use Rattle.std.proofs.lemmas.Bool.{ne_eqb, le-leb, cases_eq}
 use Rattle.std.proofs.lemmas.Option.{IfSome_then}
 use Rattle.jiter_scan.specs.Digits.{is_digit, digit_run_end}
-use Rattle.jiter_scan.specs.Number.{number_value, IsDigits, IsMinus, IsWhole, IsFraction, IsSign, IsExponent, IsDecimal}
+use Rattle.jiter_scan.specs.Number.{number_value, IsDigits, IsMinus, IsIntPart, IsFraction, IsSign, IsExponent, IsDecimal}
 use Rattle.jiter_scan.specs.Number.{IsName, IsNumberText, digit_limit}
-use Rattle.jiter_scan.specs.NumberReading.{digits_from, behind_zero, whole_from, whole_at, fraction_from, fraction_at}
+use Rattle.jiter_scan.specs.NumberReading.{digits_from, behind_zero, int_part_from, int_part_at, fraction_from, fraction_at}
 use Rattle.jiter_scan.specs.NumberReading.{power_from, exponent_from, exponent_at, decimal_at, behind_minus}
 use Rattle.jiter_scan.specs.NumberReading.{extent_from, number_extent, with_value, number_at}
 use Rattle.jiter_scan.specs.Scanned.{taken}
@@ -63,34 +63,34 @@ module _ (t : List ℕ) where
       ap (digits_from t i) h.0 ∙ if-true (is_digit c) _ _ d.0
       ∙ ap (taken tt) (run_end-complete is_digit t i j (c ∷ w) h d n)
 
-  whole-zero : (i j c : ℕ) (w : List ℕ) → Stands t i j (c ∷ w) → c ≡ 48 → w ≡ [] → NoDigit (slice_get t j)
-      → whole_at t i ≡ taken tt j
-  whole-zero i j c w h z none n =
+  int_part-zero : (i j c : ℕ) (w : List ℕ) → Stands t i j (c ∷ w) → c ≡ 48 → w ≡ [] → NoDigit (slice_get t j)
+      → int_part_at t i ≡ taken tt j
+  int_part-zero i j c w h z none n =
       let at : i + 1 ≡ j = subst (Stands t (i + 1) j) none h.1 in
-      ap (whole_from t i) (h.0 ∙ ap Some z)
+      ap (int_part_from t i) (h.0 ∙ ap Some z)
       ∙ behind_zero-complete (i + 1) (slice_get t (i + 1)) (subst (λ k. NoDigit (slice_get t k)) (sym at) n)
       ∙ ap (taken tt) at
 
-  whole-digits : (i j c : ℕ) (w : List ℕ) → Stands t i j (c ∷ w) → c ≢ 48 → IsDigits (c ∷ w)
-      → length (c ∷ w) ≤ digit_limit → NoDigit (slice_get t j) → whole_at t i ≡ taken tt j
-  whole-digits i j c w h z d l n =
+  int_part-digits : (i j c : ℕ) (w : List ℕ) → Stands t i j (c ∷ w) → c ≢ 48 → IsDigits (c ∷ w)
+      → length (c ∷ w) ≤ digit_limit → NoDigit (slice_get t j) → int_part_at t i ≡ taken tt j
+  int_part-digits i j c w h z d l n =
       let run = run_end-complete is_digit t i j (c ∷ w) h d n in
       let long = stands-length t i j (c ∷ w) h in
       let few : digit_run_end t i ≤ i + digit_limit = omega arith in
-      ap (whole_from t i) h.0
+      ap (int_part_from t i) h.0
       ∙ if-false (c == 48) _ _ (ne_eqb c 48 z)
       ∙ if-true (is_digit c) _ _ d.0
       ∙ if-true (nat_le (digit_run_end t i) (i + digit_limit)) _ _ (le-leb (digit_run_end t i) (i + digit_limit) few)
       ∙ ap (taken tt) run
 
   -- the integer part
-  pub whole_at-complete : (i j : ℕ) (w : List ℕ) → Stands t i j w → IsWhole w → length w ≤ digit_limit
-      → NoDigit (slice_get t j) → whole_at t i ≡ taken tt j
-  whole_at-complete i j [] h is l n = absurd is
-  whole_at-complete i j (c ∷ w) h is l n = by (cases_eq c 48) is.1 where
-    by : (c ≡ 48) ⊎ (c ≢ 48) → (w ≡ []) ⊎ (c ≢ 48) → whole_at t i ≡ taken tt j
-    by (inr z) x = whole-digits i j c w h z is.0 l n
-    by (inl z) (inl none) = whole-zero i j c w h z none n
+  pub int_part_at-complete : (i j : ℕ) (w : List ℕ) → Stands t i j w → IsIntPart w → length w ≤ digit_limit
+      → NoDigit (slice_get t j) → int_part_at t i ≡ taken tt j
+  int_part_at-complete i j [] h is l n = absurd is
+  int_part_at-complete i j (c ∷ w) h is l n = by (cases_eq c 48) is.1 where
+    by : (c ≡ 48) ⊎ (c ≢ 48) → (w ≡ []) ⊎ (c ≢ 48) → int_part_at t i ≡ taken tt j
+    by (inr z) x = int_part-digits i j c w h z is.0 l n
+    by (inl z) (inl none) = int_part-zero i j c w h z none n
     by (inl z) (inr x) = absurd (x z)
 
   fraction-none : (i : ℕ) (o : Option ℕ) → IfSome o NoPoint → fraction_from t i o ≡ taken tt i
@@ -157,11 +157,11 @@ module _ (t : List ℕ) where
       (IfSome_then (slice_get t j) n (λ c q. q.0))
 
   -- the parts behind a minus
-  pub decimal_at-complete : (i e : ℕ) (whole fraction exponent : List ℕ) → IsWhole whole → length whole ≤ digit_limit
+  pub decimal_at-complete : (i e : ℕ) (int_part fraction exponent : List ℕ) → IsIntPart int_part → length int_part ≤ digit_limit
       → IsFraction fraction → IsExponent exponent
-      → Stands t i e (whole ++ (fraction ++ exponent)) → EndsNumber (slice_get t e) → decimal_at t i ≡ taken tt e
-  decimal_at-complete i e whole fraction exponent w l f x h n =
-      let a = stands-split t i e whole (fraction ++ exponent) h in
+      → Stands t i e (int_part ++ (fraction ++ exponent)) → EndsNumber (slice_get t e) → decimal_at t i ≡ taken tt e
+  decimal_at-complete i e int_part fraction exponent w l f x h n =
+      let a = stands-split t i e int_part (fraction ++ exponent) h in
       let b = stands-split t a.0 e fraction exponent a.2 in
       let behind : IfSome (slice_get t e) NoPart = IfSome_then (slice_get t e) n no_part in
       let k : IfSome (slice_get t b.0) NoPoint =
@@ -170,27 +170,27 @@ module _ (t : List ℕ) where
       let j : NoDigit (slice_get t a.0) =
       stands-next t (λ c. is_digit c ≡ false) a.0 b.0 fraction b.1 (fraction-first fraction f)
       (IfSome_then (slice_get t b.0) k (λ c p. p.0)) in
-      decimal_at-tail t i a.0 e (whole_at-complete i a.0 whole a.1 w l j)
+      decimal_at-tail t i a.0 e (int_part_at-complete i a.0 int_part a.1 w l j)
       (tail-parts t a.0 b.0 e (fraction_at-complete a.0 b.0 fraction b.1 f k)
       (exponent_at-complete b.0 e exponent b.2 x behind))
 
   number_extent-decimal : (names : Bool) (i e : ℕ) (w : List ℕ) → Stands t i e w → IsDecimal w
       → EndsNumber (slice_get t e) → number_extent names t i ≡ taken tt e
   number_extent-decimal names i e w h d n = by d.is_minus where
-    all : Stands t i e (d.minus ++ (d.whole ++ (d.fraction ++ d.exponent)))
+    all : Stands t i e (d.minus ++ (d.int_part ++ (d.fraction ++ d.exponent)))
     all = subst (Stands t i e) d.is h
 
     by : IsMinus d.minus → number_extent names t i ≡ taken tt e
     by (inl m) =
-        let s : Stands t i e (d.whole ++ (d.fraction ++ d.exponent)) =
-        subst (λ x. Stands t i e (x ++ (d.whole ++ (d.fraction ++ d.exponent)))) m all in
+        let s : Stands t i e (d.int_part ++ (d.fraction ++ d.exponent)) =
+        subst (λ x. Stands t i e (x ++ (d.int_part ++ (d.fraction ++ d.exponent)))) m all in
         extent-decimal t names i e
-        (decimal_at-complete i e d.whole d.fraction d.exponent d.is_whole d.limit d.is_fraction d.is_exponent s n)
+        (decimal_at-complete i e d.int_part d.fraction d.exponent d.is_int_part d.limit d.is_fraction d.is_exponent s n)
     by (inr m) =
-        let s : Stands t i e (45 ∷ (d.whole ++ (d.fraction ++ d.exponent))) =
-        subst (λ x. Stands t i e (x ++ (d.whole ++ (d.fraction ++ d.exponent)))) m all in
+        let s : Stands t i e (45 ∷ (d.int_part ++ (d.fraction ++ d.exponent))) =
+        subst (λ x. Stands t i e (x ++ (d.int_part ++ (d.fraction ++ d.exponent)))) m all in
         extent-minus t names i e s.0
-        (decimal_at-complete (i + 1) e d.whole d.fraction d.exponent d.is_whole d.limit d.is_fraction d.is_exponent
+        (decimal_at-complete (i + 1) e d.int_part d.fraction d.exponent d.is_int_part d.limit d.is_fraction d.is_exponent
         s.1 n)
 
   extent-name : (i e : ℕ) (w : List ℕ) → Stands t i e w → IsName w → number_extent true t i ≡ taken tt e

@@ -6,17 +6,17 @@ use Rattle.std.proofs.lemmas.Bool.{ne_eqb}
 use Rattle.std.proofs.lemmas.Option.{slice_get-get_or}
 use Rattle.jiter_scan.specs.Digits.{is_digit}
 use Rattle.jiter_scan.specs.Kind.{invalid_number}
-use Rattle.jiter_scan.specs.Number.{IsWhole}
+use Rattle.jiter_scan.specs.Number.{IsIntPart}
 use Rattle.jiter_scan.specs.NumberDecoder.{magnitude_of, IsMinusTo}
-use Rattle.jiter_scan.specs.NumberReading.{whole_from, whole_at, fraction_at, exponent_at, extent_then, decimal_at}
+use Rattle.jiter_scan.specs.NumberReading.{int_part_from, int_part_at, fraction_at, exponent_at, extent_then, decimal_at}
 use Rattle.jiter_scan.specs.NumberReading.{behind_minus, name_at, extent_from, number_extent}
 use Rattle.jiter_scan.specs.Scanned.{taken, failed}
 use Rattle.jiter_scan.specs.Stands.{Stands}
 use Rattle.jiter_scan.specs.Word.{word_at}
 use Rattle.jiter_scan.proofs.Choices.{if-false, extent_then-taken}
 use Rattle.jiter_scan.proofs.Digits.{digit-bounds}
-use Rattle.jiter_scan.proofs.NumberRows.{WholePart}
-use Rattle.jiter_scan.proofs.NumberSound.{behind_zero-sound, whole_at-sound}
+use Rattle.jiter_scan.proofs.NumberRows.{IntPart}
+use Rattle.jiter_scan.proofs.NumberSound.{behind_zero-sound, int_part_at-sound}
 use Rattle.jiter_scan.proofs.Standing.{slice-one}
 
 module _ (t : List ℕ) where
@@ -25,10 +25,10 @@ module _ (t : List ℕ) where
   byte-got i b h e = slice_get-get_or t i 0 h ∙ ap (λ x. Some x) e
 
   -- the integer part, and a fraction and an exponent behind it or not
-  pub decimal_at-tail : (i k e : ℕ) → whole_at t i ≡ taken tt k
+  pub decimal_at-tail : (i k e : ℕ) → int_part_at t i ≡ taken tt k
       → extent_then (fraction_at t k) (exponent_at t) ≡ taken tt e → decimal_at t i ≡ taken tt e
-  decimal_at-tail i k e whole tail =
-      ap (λ x. extent_then x (λ j. extent_then (fraction_at t j) (exponent_at t))) whole ∙ tail
+  decimal_at-tail i k e int_part tail =
+      ap (λ x. extent_then x (λ j. extent_then (fraction_at t j) (exponent_at t))) int_part ∙ tail
 
   -- a fraction and what follows it
   pub tail-parts : (i j e : ℕ) → fraction_at t i ≡ taken tt j → exponent_at t j ≡ taken tt e
@@ -37,15 +37,15 @@ module _ (t : List ℕ) where
 
   -- a decimal number begins with a digit
   decimal-digit : (i e : ℕ) → decimal_at t i ≡ taken tt e → (c : ℕ) × (slice_get t i ≡ Some c) × (is_digit c ≡ true)
-  decimal-digit i e h = by whole.0 w.0 w.1 w.2.0
+  decimal-digit i e h = by int_part.0 w.0 w.1 w.2.0
     where
-      whole : (j : ℕ) × (whole_at t i ≡ taken tt j) × (extent_then (fraction_at t j) (exponent_at t) ≡ taken tt e)
-      whole = extent_then-taken _ _ _ _ h
+      int_part : (j : ℕ) × (int_part_at t i ≡ taken tt j) × (extent_then (fraction_at t j) (exponent_at t) ≡ taken tt e)
+      int_part = extent_then-taken _ _ _ _ h
 
-      w : (w : List ℕ) × Stands t i whole.0 w × WholePart w
-      w = whole_at-sound t i whole.0 whole.1
+      w : (w : List ℕ) × Stands t i int_part.0 w × IntPart w
+      w = int_part_at-sound t i int_part.0 int_part.1
 
-      by : (j : ℕ) (v : List ℕ) → Stands t i j v → IsWhole v
+      by : (j : ℕ) (v : List ℕ) → Stands t i j v → IsIntPart v
           → (c : ℕ) × (slice_get t i ≡ Some c) × (is_digit c ≡ true)
       by j [] s is = absurd is
       by j (c ∷ v) s is = (c, s.0, is.0.0)
@@ -82,8 +82,8 @@ module _ (t : List ℕ) where
       extent-minus names i e minus (subst (λ k. decimal_at t k ≡ taken tt e) next h)
 
   -- an integer part that begins with a zero is worth nothing
-  pub magnitude_of-zero : (i e : ℕ) → slice_get t i ≡ Some 48 → whole_at t i ≡ taken tt e
+  pub magnitude_of-zero : (i e : ℕ) → slice_get t i ≡ Some 48 → int_part_at t i ≡ taken tt e
       → 0 ≡ magnitude_of (slice_range t i e)
   magnitude_of-zero i e q h =
-      let end = behind_zero-sound t (i + 1) e (sym (ap (whole_from t i) q) ∙ h) in
+      let end = behind_zero-sound t (i + 1) e (sym (ap (int_part_from t i) q) ∙ h) in
       ap magnitude_of (sym (slice-one t i 48 q)) ∙ ap (λ k. magnitude_of (slice_range t i k)) end

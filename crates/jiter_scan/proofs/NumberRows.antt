@@ -12,9 +12,9 @@ use Rattle.std.proofs.lemmas.Bool.Decides.{nat_tests}
 use Rattle.std.proofs.lemmas.Bool.{eqb-true, eqb-false, or_cases}
 use Rattle.jiter_scan.specs.Digits.{is_digit, digit_run_end}
 use Rattle.jiter_scan.specs.Kind.{Kind, eof_value, expected_ident, expected_value, invalid_number}
-use Rattle.jiter_scan.specs.Number.{IsDigits, IsMinus, IsWhole, IsFraction, IsSign, IsExponent, IsDecimal}
+use Rattle.jiter_scan.specs.Number.{IsDigits, IsMinus, IsIntPart, IsFraction, IsSign, IsExponent, IsDecimal}
 use Rattle.jiter_scan.specs.Number.{IsNumberText, digit_limit}
-use Rattle.jiter_scan.specs.NumberReading.{extent_then, digits_from, behind_zero, within_limit, whole_from, whole_at}
+use Rattle.jiter_scan.specs.NumberReading.{extent_then, digits_from, behind_zero, within_limit, int_part_from, int_part_at}
 use Rattle.jiter_scan.specs.NumberReading.{fraction_from, fraction_at, power_from, exponent_from, exponent_at}
 use Rattle.jiter_scan.specs.NumberReading.{decimal_at, behind_minus, extent_from, number_extent}
 use Rattle.jiter_scan.specs.Scanned.{taken, failed}
@@ -34,8 +34,8 @@ abbrev pub IsWord : List ℕ → Part
 IsWord w v = v ≡ w
 
 -- an integer part that is short enough
-abbrev pub WholePart : Part
-WholePart w = IsWhole w × (length w ≤ digit_limit)
+abbrev pub IntPart : Part
+IntPart w = IsIntPart w × (length w ≤ digit_limit)
 
 -- what follows the letter of an exponent; what follows an integer part; and a decimal number behind its minus
 abbrev pub Power : Part
@@ -45,7 +45,7 @@ abbrev pub Tail : Part
 Tail = Joined IsFraction IsExponent
 
 abbrev pub Magnitude : Part
-Magnitude = Joined WholePart Tail
+Magnitude = Joined IntPart Tail
 
 -- what follows a minus
 abbrev pub BehindMinus : Bool → Part
@@ -54,11 +54,11 @@ BehindMinus names v = Magnitude v ⊎ ((names ≡ true) × (v ≡ codes "Infinit
 no_tail : Tail []
 no_tail = ([], [], refl, tt, inl refl)
 
-zero-whole : (c : ℕ) → c ≡ 48 → WholePart (c ∷ [])
-zero-whole c e = (((ap is_digit e, tt), inl refl), omega arith)
+zero-int_part : (c : ℕ) → c ≡ 48 → IntPart (c ∷ [])
+zero-int_part c e = (((ap is_digit e, tt), inl refl), omega arith)
 
 pub zero-magnitude : Magnitude (codes "0")
-zero-magnitude = (codes "0", [], refl, zero-whole 48 refl, no_tail)
+zero-magnitude = (codes "0", [], refl, zero-int_part 48 refl, no_tail)
 
 sign-is : (c : ℕ) → ((c == 43) || (c == 45)) ≡ true → IsSign (c ∷ [])
 sign-is c h = elim (or_cases (c == 43) (c == 45) h) [
@@ -80,12 +80,12 @@ power-is c h v p = inr (record {
 pub decimal-is : (minus : List ℕ) → IsMinus minus → (v : List ℕ) → Magnitude v → IsDecimal (minus ++ v)
 decimal-is minus is v m = record {
   minus = minus;
-  whole = m.0;
+  int_part = m.0;
   fraction = m.4.0;
   exponent = m.4.1;
   is = ap (λ w. minus ++ w) (m.2 ∙ ap (λ w. m.0 ++ w) m.4.2);
   is_minus = is;
-  is_whole = m.3.0;
+  is_int_part = m.3.0;
   limit = m.3.1;
   is_fraction = m.4.3;
   is_exponent = m.4.4;
@@ -123,7 +123,7 @@ pub record Rows (t u : List ℕ) (Here : ℕ → ℕ → Type 0) (R : Part → �
   pub run : (i c : ℕ) → Here i c → is_digit c ≡ true
       → R IsDigits i (taken tt (digit_run_end t i)) (taken tt (digit_run_end u i))
   pub limit : (i c : ℕ) → Here i c → is_digit c ≡ true → c ≢ 48
-      → R WholePart i (within_limit i (digit_run_end t i)) (within_limit i (digit_run_end u i))
+      → R IntPart i (within_limit i (digit_run_end t i)) (within_limit i (digit_run_end u i))
   -- a part behind a byte; a part of one kind as one of another; a part behind a part, where the second may be nothing
   pub behind : (Is Then : Part) (i c : ℕ) (x y : Extent) → Here i c → ((v : List ℕ) → Is v → Then (c ∷ v))
       → R Is (i + 1) x y → R Then i x y
@@ -148,14 +148,14 @@ module _ (t u : List ℕ) (Here : ℕ → ℕ → Type 0) (R : Part → ℕ → 
       (λ c h. if_both (R (IsWord []) i) (is_digit c) _ _ _ _
       (λ d. rows.fault (IsWord []) invalid_number i c h (inl refl)) (λ d. rows.none (IsWord []) i refl))
 
-  pub whole : (i : ℕ) → R WholePart i (whole_at t i) (whole_at u i)
-  whole i =
-      rows.byte WholePart (whole_from t i) (whole_from u i) i (refl, refl) (refl, refl)
-      (λ c h. if_both (R WholePart i) (c == 48) _ _ _ _
-      (λ z. rows.behind (IsWord []) WholePart i c _ _ h
-      (λ v e. subst (λ w. WholePart (c ∷ w)) (sym e) (zero-whole c (eqb-true c 48 z))) (zero (i + 1)))
-      (λ z. if_both (R WholePart i) (is_digit c) _ _ _ _ (λ d. rows.limit i c h d (eqb-false c 48 z))
-      (λ d. rows.fault WholePart invalid_number i c h (inr (zero-whole 48 refl)))))
+  pub int_part : (i : ℕ) → R IntPart i (int_part_at t i) (int_part_at u i)
+  int_part i =
+      rows.byte IntPart (int_part_from t i) (int_part_from u i) i (refl, refl) (refl, refl)
+      (λ c h. if_both (R IntPart i) (c == 48) _ _ _ _
+      (λ z. rows.behind (IsWord []) IntPart i c _ _ h
+      (λ v e. subst (λ w. IntPart (c ∷ w)) (sym e) (zero-int_part c (eqb-true c 48 z))) (zero (i + 1)))
+      (λ z. if_both (R IntPart i) (is_digit c) _ _ _ _ (λ d. rows.limit i c h d (eqb-false c 48 z))
+      (λ d. rows.fault IntPart invalid_number i c h (inr (zero-int_part 48 refl)))))
 
   -- a fraction, or none
   pub fraction : (i : ℕ) → R IsFraction i (fraction_at t i) (fraction_at u i)
@@ -187,8 +187,8 @@ module _ (t u : List ℕ) (Here : ℕ → ℕ → Type 0) (R : Part → ℕ → 
 
   pub decimal : (i : ℕ) → R Magnitude i (decimal_at t i) (decimal_at u i)
   decimal i =
-      rows.joined WholePart Tail i _ _ (λ j. extent_then (fraction_at t j) (exponent_at t))
-      (λ j. extent_then (fraction_at u j) (exponent_at u)) no_tail (whole i) tail
+      rows.joined IntPart Tail i _ _ (λ j. extent_then (fraction_at t j) (exponent_at t))
+      (λ j. extent_then (fraction_at u j) (exponent_at u)) no_tail (int_part i) tail
 
   -- words and names
   pub word : (w : List ℕ) (i : ℕ) → R (IsWord w) i (word_at t w i) (word_at u w i)

@@ -11,15 +11,15 @@ use Rattle.jiter_scan.specs.Kind.{Kind, is_end_kind, out_of_memory, eof_value, e
 use Rattle.jiter_scan.specs.Kind.{invalid_number, number_out_of_range}
 use Rattle.jiter_scan.specs.Number.{Number, number_value, AreDigits, IsDigits, IsFraction, IsExponent, IsNumberText}
 use Rattle.jiter_scan.specs.Number.{digit_limit}
-use Rattle.jiter_scan.specs.NumberReading.{extent_then, digits_from, behind_zero, within_limit, whole_at, fraction_at}
+use Rattle.jiter_scan.specs.NumberReading.{extent_then, digits_from, behind_zero, within_limit, int_part_at, fraction_at}
 use Rattle.jiter_scan.specs.NumberReading.{power_from}
 use Rattle.jiter_scan.specs.NumberReading.{exponent_at, decimal_at, number_extent, with_value, number_at}
 use Rattle.jiter_scan.specs.Scanned.{taken, failed, FaultAt}
 use Rattle.jiter_scan.specs.Stands.{Stands}
 use Rattle.jiter_scan.specs.Word.{Extent, word_at}
 use Rattle.jiter_scan.proofs.Choices.{if_case, failed-taken, same_taken}
-use Rattle.jiter_scan.proofs.NumberRows.{Part, Joined, IsWord, WholePart, Power, Magnitude, Over, Ended, Refused, Rows}
-use Rattle.jiter_scan.proofs.NumberRows.{digits, zero, word, whole, fraction, power, exponent, decimal, number}
+use Rattle.jiter_scan.proofs.NumberRows.{Part, Joined, IsWord, IntPart, Power, Magnitude, Over, Ended, Refused, Rows}
+use Rattle.jiter_scan.proofs.NumberRows.{digits, zero, word, int_part, fraction, power, exponent, decimal, number}
 use Rattle.jiter_scan.proofs.Runs.{run_end-more, run_end-sound, run_end-within}
 use Rattle.jiter_scan.proofs.Standing.{get-none, stands-length, stands-within, stands-append, slice-stands}
 
@@ -96,17 +96,17 @@ module _ (t : List ℕ) where
       (r.0, (h, subst (λ k. Stands t (i + 1) k r.0) (omega arith) r.1), (d, r.2))
 
   limit : (i c : ℕ) → Here i c → is_digit c ≡ true → c ≢ 48
-      → Spelled t WholePart i (within_limit i (digit_run_end t i))
+      → Spelled t IntPart i (within_limit i (digit_run_end t i))
   limit i c h d other =
       let r = run i c h d in
       let long = stands-length t i (digit_run_end t i) (c ∷ r.0) r.1 in
-      if_case (Spelled t WholePart i) (nat_le (digit_run_end t i) (i + digit_limit)) _ _
+      if_case (Spelled t IntPart i) (nat_le (digit_run_end t i) (i + digit_limit)) _ _
       (λ few.
       let l = leb-true (digit_run_end t i) (i + digit_limit) few in
       (c ∷ r.0, r.1, ((r.2, inr other), omega arith)))
       (λ many.
       let l = leb-false (digit_run_end t i) (i + digit_limit) many in
-      fault-at WholePart number_out_of_range i (i + (digit_limit + 1)) refl (λ e. cc) (omega arith)
+      fault-at IntPart number_out_of_range i (i + (digit_limit + 1)) refl (λ e. cc) (omega arith)
       (λ le. omega (arith, run_end-within is_digit t i le)) (λ live. absurd (false≢true live)))
 
   behind : (Is Then : Part) (i c : ℕ) (x : Extent) → Here i c → ((v : List ℕ) → Is v → Then (c ∷ v))
@@ -176,8 +176,8 @@ module _ (t : List ℕ) where
   }
 
   -- the parts and the whole, as they are spelled
-  pub whole-spelled : (i : ℕ) → Spelled t WholePart i (whole_at t i)
-  whole-spelled i = whole t t Here Reads reads i
+  pub int_part-spelled : (i : ℕ) → Spelled t IntPart i (int_part_at t i)
+  int_part-spelled i = int_part t t Here Reads reads i
 
   pub word-spelled : (w : List ℕ) (i : ℕ) → Spelled t (IsWord w) i (word_at t w i)
   word-spelled = word t t Here Reads reads
@@ -194,8 +194,8 @@ module _ (t : List ℕ) where
   behind_zero-sound i e h =
       let r = subst (Spelled t (IsWord []) i) h (zero t t Here Reads reads i) in subst (Stands t i e) r.2 r.1
 
-  pub whole_at-sound : (i e : ℕ) → whole_at t i ≡ taken tt e → (w : List ℕ) × Stands t i e w × WholePart w
-  whole_at-sound i e h = subst (Spelled t WholePart i) h (whole-spelled i)
+  pub int_part_at-sound : (i e : ℕ) → int_part_at t i ≡ taken tt e → (w : List ℕ) × Stands t i e w × IntPart w
+  int_part_at-sound i e h = subst (Spelled t IntPart i) h (int_part-spelled i)
 
   pub fraction_at-sound : (i e : ℕ) → fraction_at t i ≡ taken tt e → (w : List ℕ) × Stands t i e w × IsFraction w
   fraction_at-sound i e h = subst (Spelled t IsFraction i) h (fraction t t Here Reads reads i)

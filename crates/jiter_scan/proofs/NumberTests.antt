@@ -12,10 +12,10 @@ use Rattle.std.proofs.lemmas.Slice.Eq.{bytes_eq-Decides}
 use Rattle.jiter_scan.specs.Ascii as ascii
 use Rattle.jiter_scan.specs.Digits.{is_digit}
 use Rattle.jiter_scan.specs.Stands.{Stands}
-use Rattle.jiter_scan.specs.Number.{AreDigits, IsDigits, IsMinus, IsWhole, IsFraction, IsSign, IsPower, IsExponent}
+use Rattle.jiter_scan.specs.Number.{AreDigits, IsDigits, IsMinus, IsIntPart, IsFraction, IsSign, IsPower, IsExponent}
 use Rattle.jiter_scan.specs.Number.{digit_limit, IsDecimal, IsName, IsNumberText}
 use Rattle.jiter_scan.specs.NumberReading.{number_extent}
-use Rattle.jiter_scan.specs.NumberTests.{is_parted, are_some_digits, is_minus, is_whole, is_fraction, is_sign}
+use Rattle.jiter_scan.specs.NumberTests.{is_parted, are_some_digits, is_minus, is_int_part, is_fraction, is_sign}
 use Rattle.jiter_scan.specs.NumberTests.{is_exponent}
 use Rattle.jiter_scan.specs.NumberTests.{is_magnitude, is_name, is_number_text}
 use Rattle.jiter_scan.specs.Scanned.{taken, failed}
@@ -86,9 +86,9 @@ sign-decides w =
     Decides-or _ _ (bytes_eq-Decides w [])
     (Decides-or _ _ (bytes_eq-Decides w (ascii.plus ∷ [])) (bytes_eq-Decides w (ascii.minus ∷ [])))
 
-whole-decides : (w : List ℕ) → Decides (is_whole w) (IsWhole w)
-whole-decides [] = (λ h. absurd (false≢true h), λ h. absurd h)
-whole-decides (c ∷ cs) =
+int_part-decides : (w : List ℕ) → Decides (is_int_part w) (IsIntPart w)
+int_part-decides [] = (λ h. absurd (false≢true h), λ h. absurd h)
+int_part-decides (c ∷ cs) =
     Decides-and _ _ (some_digits-decide (c ∷ cs))
     (Decides-or _ _ (bytes_eq-Decides cs []) (Decides-not _ (Decides-eqb c ascii.digit_zero)))
 
@@ -133,13 +133,13 @@ abbrev IsTail : List ℕ → Type 0
 IsTail w = IsParted IsFraction IsExponent w
 
 abbrev IsMagnitude : List ℕ → Type 0
-IsMagnitude w = IsParted (λ u. IsWhole u × (length u ≤ digit_limit)) IsTail w
+IsMagnitude w = IsParted (λ u. IsIntPart u × (length u ≤ digit_limit)) IsTail w
 
 magnitude-decides : (w : List ℕ) → Decides (is_magnitude w) (IsMagnitude w)
 magnitude-decides w =
-    parted-decides w (λ u. is_whole u && nat_le (length u) digit_limit) (λ v. is_parted v is_fraction is_exponent)
-    (λ u. IsWhole u × (length u ≤ digit_limit)) IsTail
-    (λ u. Decides-and _ _ (whole-decides u) (limit-decides (length u)))
+    parted-decides w (λ u. is_int_part u && nat_le (length u) digit_limit) (λ v. is_parted v is_fraction is_exponent)
+    (λ u. IsIntPart u × (length u ≤ digit_limit)) IsTail
+    (λ u. Decides-and _ _ (int_part-decides u) (limit-decides (length u)))
     (λ v. parted-decides v is_fraction is_exponent IsFraction IsExponent fraction-decides exponent-decides)
 
 decimal-decides : (w : List ℕ) → Decides (is_parted w is_minus is_magnitude) (IsDecimal w)
@@ -151,12 +151,12 @@ decimal-decides w =
         let m = h.is_back in
         record {
           minus = h.front;
-          whole = m.front;
+          int_part = m.front;
           fraction = m.is_back.front;
           exponent = m.is_back.back;
           is = h.is ∙ ap (λ x. h.front ++ x) (m.is ∙ ap (λ x. m.front ++ x) m.is_back.is);
           is_minus = h.is_front;
-          is_whole = m.is_front.0;
+          is_int_part = m.is_front.0;
           limit = m.is_front.1;
           is_fraction = m.is_back.is_front;
           is_exponent = m.is_back.is_back;
@@ -165,14 +165,14 @@ decimal-decides w =
     from : IsDecimal w → IsParted IsMinus IsMagnitude w
     from h = record {
       front = h.minus;
-      back = h.whole ++ (h.fraction ++ h.exponent);
+      back = h.int_part ++ (h.fraction ++ h.exponent);
       is = h.is;
       is_front = h.is_minus;
       is_back = record {
-        front = h.whole;
+        front = h.int_part;
         back = h.fraction ++ h.exponent;
         is = refl;
-        is_front = (h.is_whole, h.limit);
+        is_front = (h.is_int_part, h.limit);
         is_back = record {
           front = h.fraction;
           back = h.exponent;
@@ -198,13 +198,13 @@ takes_all n (taken u e) = n == e
 takes_all n (failed k j) = false
 
 module _ (names : Bool) (w : List ℕ) where
-  slice-whole : slice_range w 0 (length w) ≡ w
-  slice-whole = take_all (length w - 0) w (omega arith)
+  slice-int_part : slice_range w 0 (length w) ≡ w
+  slice-int_part = take_all (length w - 0) w (omega arith)
 
   read : (x : Extent) → number_extent names w 0 ≡ x → takes_all (length w) x ≡ true → IsNumberText names w
   read (taken u e) is h =
       let all : length w ≡ e = eqb-true (length w) e h in
-      subst (IsNumberText names) (ap (slice_range w 0) (sym all) ∙ slice-whole)
+      subst (IsNumberText names) (ap (slice_range w 0) (sym all) ∙ slice-int_part)
       (number_extent-sound w names 0 e is)
   read (failed k j) is h = absurd (false≢true h)
 
@@ -216,7 +216,7 @@ module _ (names : Bool) (w : List ℕ) where
         subst (λ o. IfSome o (λ c. continues_number c ≡ false)) (sym (slice_get_past w (length w) (omega arith)))
         tt in
         let stands =
-        subst (Stands w 0 (length w)) slice-whole (stands-slice w 0 (length w) (omega arith) (omega arith)) in
+        subst (Stands w 0 (length w)) slice-int_part (stands-slice w 0 (length w) (omega arith) (omega arith)) in
         ap (takes_all (length w)) (number_extent-complete w names 0 (length w) w stands h none)
         ∙ eq-eqb (length w) (length w) refl,
   )

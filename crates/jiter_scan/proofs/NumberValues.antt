@@ -7,16 +7,16 @@ use Rattle.std.specs.List.{list_any}
 use Rattle.std.proofs.lemmas.Bool.{cases_lt, or_right}
 use Rattle.std.proofs.lemmas.Bool.Decides.{nat_tests}
 use Rattle.jiter_scan.specs.Digits.{is_digit, decimal_of}
-use Rattle.jiter_scan.specs.Number.{Number, AreDigits, IsWhole, IsFraction, IsExponent, float, big, integer}
+use Rattle.jiter_scan.specs.Number.{Number, AreDigits, IsIntPart, IsFraction, IsExponent, float, big, integer}
 use Rattle.jiter_scan.specs.Number.{is_float_byte, number_value, positive_value, negative_value, integral_value}
 use Rattle.jiter_scan.specs.Number.{minus_of}
-use Rattle.jiter_scan.specs.NumberReading.{extent_then, whole_at, fraction_at, exponent_at}
+use Rattle.jiter_scan.specs.NumberReading.{extent_then, int_part_at, fraction_at, exponent_at}
 use Rattle.jiter_scan.specs.NumberDecoder.{magnitude_of, IsMinusTo}
 use Rattle.jiter_scan.specs.Scanned.{taken}
 use Rattle.jiter_scan.specs.Stands.{Stands}
 use Rattle.jiter_scan.specs.Word.{word_at}
 use Rattle.jiter_scan.proofs.Choices.{if-false, extent_then-taken}
-use Rattle.jiter_scan.proofs.NumberSound.{whole_at-sound, fraction_at-sound, exponent_at-sound}
+use Rattle.jiter_scan.proofs.NumberSound.{int_part_at-sound, fraction_at-sound, exponent_at-sound}
 use Rattle.jiter_scan.proofs.Standing.{stands-append, stands-length, stands-slice, slice-stands}
 use Rattle.jiter_scan.proofs.WordLaws.{word_at-sound}
 
@@ -51,7 +51,7 @@ negative_value-min w n =
     choice-min (λ m. nat_le m (2 ^ 63)) (λ m. integer (minus_of m)) (big w) (λ m h. grind (arith, nat_tests)) n
 
 -- digits alone
-number_value-digits : (w : List ℕ) → IsWhole w → number_value w ≡ positive_value w (magnitude_of w)
+number_value-digits : (w : List ℕ) → IsIntPart w → number_value w ≡ positive_value w (magnitude_of w)
 unfolding number_value
 number_value-digits [] h = absurd h
 number_value-digits (c ∷ cs) h =
@@ -63,7 +63,7 @@ number_value-digits (c ∷ cs) h =
     ∙ sym (positive_value-min (c ∷ cs) (decimal_of (c ∷ cs)))
 
 -- a minus and digits
-number_value-minus : (w : List ℕ) → IsWhole w → number_value (45 ∷ w) ≡ negative_value (45 ∷ w) (magnitude_of w)
+number_value-minus : (w : List ℕ) → IsIntPart w → number_value (45 ∷ w) ≡ negative_value (45 ∷ w) (magnitude_of w)
 unfolding number_value
 number_value-minus [] h = absurd h
 number_value-minus (c ∷ cs) h =
@@ -126,19 +126,19 @@ module _ (t : List ℕ) where
       let s = word_at-sound t (c ∷ v) j e tt h in float_at i j e c v low high s (first c s.0)
 
   -- the integer from i to before e, whose digits begin at j
-  pub integer_value-positive : (i j e m : ℕ) → i ≡ j → whole_at t j ≡ taken tt e → m ≡ magnitude_of (slice_range t j e)
+  pub integer_value-positive : (i j e m : ℕ) → i ≡ j → int_part_at t j ≡ taken tt e → m ≡ magnitude_of (slice_range t j e)
       → positive_value (slice_range t i e) m ≡ number_value (slice_range t i e)
   integer_value-positive i j e m same h value =
-      let w = whole_at-sound t j e h in
-      let digits = subst IsWhole (slice-stands t j e w.0 w.1) w.2.0 in
+      let w = int_part_at-sound t j e h in
+      let digits = subst IsIntPart (slice-stands t j e w.0 w.1) w.2.0 in
       subst (λ k. positive_value (slice_range t k e) m ≡ number_value (slice_range t k e)) (sym same)
       (ap (positive_value (slice_range t j e)) value ∙ sym (number_value-digits (slice_range t j e) digits))
 
-  pub integer_value-negative : (i j e m : ℕ) → IsMinusTo t i j → i ≢ j → whole_at t j ≡ taken tt e
+  pub integer_value-negative : (i j e m : ℕ) → IsMinusTo t i j → i ≢ j → int_part_at t j ≡ taken tt e
       → m ≡ magnitude_of (slice_range t j e) → negative_value (slice_range t i e) m ≡ number_value (slice_range t i e)
   integer_value-negative i j e m (inl none) other h value = absurd (other (sym none))
   integer_value-negative i j e m (inr (same, at)) other h value =
-      let w = whole_at-sound t j e h in
+      let w = int_part_at-sound t j e h in
       let digits = slice-stands t j e w.0 w.1 in
       let all = slice-stands t i e (45 ∷ w.0) (at, subst (λ k. Stands t k e w.0) same w.1) in
       subst (λ v. negative_value v m ≡ number_value v) all

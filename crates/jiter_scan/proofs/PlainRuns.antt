@@ -44,19 +44,19 @@ module _ (t : List ℕ) (i n : ℕ) where
   -- a chunk without a stop
   pub ascii_from-through : i + n ≤ length t → list_all is_plain (chunk i n t) ≡ true → ascii_from t i
       ≡ (list_all is_ascii (chunk i n t) && ascii_from t (i + n))
-  ascii_from-through room plain =
+  ascii_from-through reach plain =
       let m = prefix_len is_plain (drop (i + n) t) in
-      ap (λ k. list_all is_ascii (take k (drop i t))) (prefix_len-through is_plain t i n room plain)
+      ap (λ k. list_all is_ascii (take k (drop i t))) (prefix_len-through is_plain t i n reach plain)
       ∙ ap (list_all is_ascii) (take-add n m (drop i t))
       ∙ list_all-append is_ascii (chunk i n t) (take m (drop n (drop i t)))
       ∙ ap (λ l. list_all is_ascii (chunk i n t) && list_all is_ascii (take m l)) (drop-drop n i t)
 
   -- the same by masks of the bytes that stop and of those that are not ASCII
   module _ (found high : ℕ) (stops : found ≡ failing is_plain (chunk i n t))
-      (highs : high ≡ failing is_ascii (chunk i n t)) (room : i + n ≤ length t) where
+      (highs : high ≡ failing is_ascii (chunk i n t)) (reach : i + n ≤ length t) where
     pub ascii_from-clear : found ≡ 0 → ascii_from t i ≡ (eqb high 0 && ascii_from t (i + n))
     ascii_from-clear none =
-        ascii_from-through room (none_fails is_plain t i n (sym stops ∙ none))
+        ascii_from-through reach (none_fails is_plain t i n (sym stops ∙ none))
         ∙ ap (λ b. b && ascii_from t (i + n))
         (list_all-failing is_ascii (chunk i n t) ∙ ap (λ m. eqb m 0) (sym highs))
 
@@ -66,7 +66,7 @@ module _ (t : List ℕ) (i n : ℕ) where
     ascii_from-stopped short some =
         let c = chunk i n t in
         let r = prefix_len is_plain c in
-        let long = length-chunk i n t room in
+        let long = length-chunk i n t reach in
         let within : r ≤ length c = prefix_len-le-length is_plain c in
         let fails : 0 < failing is_plain c = omega arith in
         ap (λ k. list_all is_ascii (take k (drop i t)))

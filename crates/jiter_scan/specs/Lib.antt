@@ -12,4 +12,4 @@ pub mod NumberTests
 pub mod NumberReading
 pub mod NumberDecoder
 pub mod Simd
-pub mod ShortNumber
+pub mod PlainNumber

@@ -26,9 +26,9 @@ abbrev pub IsMinus : List ℕ → Type 0
 IsMinus w = (w ≡ []) ⊎ (w ≡ ascii.minus ∷ [])
 
 -- `0`, or digits of which the first is another
-abbrev pub IsWhole : List ℕ → Type 0
-IsWhole [] = ⊥
-IsWhole (c ∷ cs) = IsDigits (c ∷ cs) × ((cs ≡ []) ⊎ (c ≢ ascii.digit_zero))
+abbrev pub IsIntPart : List ℕ → Type 0
+IsIntPart [] = ⊥
+IsIntPart (c ∷ cs) = IsDigits (c ∷ cs) × ((cs ≡ []) ⊎ (c ≢ ascii.digit_zero))
 
 -- nothing, or a point and one digit or more
 abbrev pub IsFraction : List ℕ → Type 0
@@ -60,13 +60,13 @@ digit_limit = 4300
 -- a decimal number: a minus or none, the integer part, a fraction or none, an exponent or none
 pub record IsDecimal (w : List ℕ) : Type 0 where
   pub minus : List ℕ
-  pub whole : List ℕ
+  pub int_part : List ℕ
   pub fraction : List ℕ
   pub exponent : List ℕ
-  pub is : w ≡ minus ++ (whole ++ (fraction ++ exponent))
+  pub is : w ≡ minus ++ (int_part ++ (fraction ++ exponent))
   pub is_minus : IsMinus minus
-  pub is_whole : IsWhole whole
-  pub limit : length whole ≤ digit_limit
+  pub is_int_part : IsIntPart int_part
+  pub limit : length int_part ≤ digit_limit
   pub is_fraction : IsFraction fraction
   pub is_exponent : IsExponent exponent
 

@@ -23,7 +23,7 @@ number_view (any.Float s) = float s.now
 
 -- the integer, or that a float shows
 abbrev pub integer_view : Integer → reading.Integer
-integer_view (found.Whole n) = reading.whole (int_view n)
+integer_view (found.Whole n) = reading.int_seen (int_view n)
 integer_view found.FloatSeen = reading.float_seen
 
 -- an integer ends behind i, a float shows at i or behind it, and neither past the length

@@ -28,15 +28,15 @@ abbrev pub within_limit : ℕ → ℕ → Extent
 within_limit i e = if nat_le e (i + digit_limit) then taken tt e else failed number_out_of_range (i + (digit_limit + 1))
 
 -- the integer part, at the place i of this byte
-abbrev pub whole_from : List ℕ → ℕ → Option ℕ → Extent
-whole_from t i None = failed eof_value i
-whole_from t i (Some c) =
+abbrev pub int_part_from : List ℕ → ℕ → Option ℕ → Extent
+int_part_from t i None = failed eof_value i
+int_part_from t i (Some c) =
     if c == ascii.digit_zero then behind_zero (i + 1) (slice_get t (i + 1))
     else (if is_digit c then within_limit i (digit_run_end t i) else failed invalid_number i)
 
 -- the integer part at i
-abbrev pub whole_at : List ℕ → ℕ → Extent
-whole_at t i = whole_from t i (slice_get t i)
+abbrev pub int_part_at : List ℕ → ℕ → Extent
+int_part_at t i = int_part_from t i (slice_get t i)
 
 -- a fraction, or none
 abbrev pub fraction_from : List ℕ → ℕ → Option ℕ → Extent
@@ -66,7 +66,7 @@ exponent_at t i = exponent_from t i (slice_get t i)
 
 -- a decimal number behind its minus
 abbrev pub decimal_at : List ℕ → ℕ → Extent
-decimal_at t i = extent_then (whole_at t i) (λ j. extent_then (fraction_at t j) (λ k. exponent_at t k))
+decimal_at t i = extent_then (int_part_at t i) (λ j. extent_then (fraction_at t j) (λ k. exponent_at t k))
 
 -- behind a minus
 abbrev pub behind_minus : Bool → List ℕ → ℕ → Option ℕ → Extent
@@ -103,7 +103,7 @@ number_at names t i = with_value t i (number_extent names t i)
 
 -- an integer's value, or that a float shows
 pub data Integer : Type 0 where
-  whole : Number → Integer
+  int_seen : Number → Integer
   float_seen : Integer
 
 -- a point or the letter of an exponent
@@ -112,9 +112,9 @@ is_float_sign c = (c == ascii.point) || (c == ascii.small_e) || (c == ascii.capi
 
 -- the integer from i to before e, unless a float shows at e
 abbrev pub integer_or_float : List ℕ → ℕ → ℕ → Option ℕ → Scanned Integer
-integer_or_float t i e None = taken (whole (number_value (slice_range t i e))) e
+integer_or_float t i e None = taken (int_seen (number_value (slice_range t i e))) e
 integer_or_float t i e (Some c) =
-    if is_float_sign c then taken float_seen e else taken (whole (number_value (slice_range t i e))) e
+    if is_float_sign c then taken float_seen e else taken (int_seen (number_value (slice_range t i e))) e
 
 -- behind the integer part of a number that begins at i
 abbrev pub integer_behind : List ℕ → ℕ → Extent → Scanned Integer
@@ -125,7 +125,7 @@ integer_behind t i (failed k j) = failed k j
 abbrev pub integer_behind_minus : List ℕ → ℕ → Option ℕ → Scanned Integer
 integer_behind_minus t i None = failed eof_value (i + 1)
 integer_behind_minus t i (Some c) =
-    if c == ascii.capital_i then taken float_seen (i + 1) else integer_behind t i (whole_at t (i + 1))
+    if c == ascii.capital_i then taken float_seen (i + 1) else integer_behind t i (int_part_at t (i + 1))
 
 -- an integer, at the place i of this byte
 abbrev pub integer_from : List ℕ → ℕ → Option ℕ → Scanned Integer
@@ -133,7 +133,7 @@ integer_from t i None = failed eof_value i
 integer_from t i (Some c) =
     if c == ascii.minus then integer_behind_minus t i (slice_get t (i + 1))
     else (if (c == ascii.capital_n) || (c == ascii.capital_i) then taken float_seen i
-    else integer_behind t i (whole_at t i))
+    else integer_behind t i (int_part_at t i))
 
 -- The integer at i and its end, or that a float shows and where: sign and integer part, and what stands behind.
 unfoldable pub int_at : List ℕ → ℕ → Scanned Integer
@@ -150,7 +150,7 @@ alone t (failed k j) = failed k j
 
 -- an integer: a float is a fault
 abbrev pub integer_alone : Scanned Integer → Scanned Number
-integer_alone (taken (whole n) e) = taken n e
+integer_alone (taken (int_seen n) e) = taken n e
 integer_alone (taken float_seen j) = failed invalid_number j
 integer_alone (failed k j) = failed k j
 

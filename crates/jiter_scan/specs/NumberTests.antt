@@ -18,9 +18,9 @@ are_some_digits (c ∷ cs) = is_digit c && list_all is_digit cs
 abbrev pub is_minus : List ℕ → Bool
 is_minus w = bytes_eq w [] || bytes_eq w (ascii.minus ∷ [])
 
-abbrev pub is_whole : List ℕ → Bool
-is_whole [] = false
-is_whole (c ∷ cs) = are_some_digits (c ∷ cs) && (bytes_eq cs [] || not (c == ascii.digit_zero))
+abbrev pub is_int_part : List ℕ → Bool
+is_int_part [] = false
+is_int_part (c ∷ cs) = are_some_digits (c ∷ cs) && (bytes_eq cs [] || not (c == ascii.digit_zero))
 
 abbrev pub is_fraction : List ℕ → Bool
 is_fraction [] = true
@@ -37,7 +37,7 @@ is_exponent (c ∷ cs) =
 -- an integer part within the limit, and what follows it
 abbrev pub is_magnitude : List ℕ → Bool
 is_magnitude w =
-    is_parted w (λ u. is_whole u && nat_le (length u) digit_limit) (λ v. is_parted v is_fraction is_exponent)
+    is_parted w (λ u. is_int_part u && nat_le (length u) digit_limit) (λ v. is_parted v is_fraction is_exponent)
 
 abbrev pub is_name : List ℕ → Bool
 is_name w = bytes_eq w (codes "NaN") || (bytes_eq w (codes "Infinity") || bytes_eq w (codes "-Infinity"))

@@ -7,7 +7,7 @@ pub mod memory;
 pub mod number_decoder;
 pub mod number_extent;
 pub mod partial_mode;
-pub mod short_number;
+pub mod plain_number;
 pub mod simd;
 pub mod tape;
 pub mod text;

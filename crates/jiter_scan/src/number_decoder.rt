@@ -7,15 +7,15 @@ ghost use Rattle.jiter_scan.specs.Scanned.{Scans, with_end, whole_text, AnswersA
 ghost use Rattle.jiter_scan.specs.Word.{word_at};
 ghost use Rattle.jiter_scan.specs.Digits.{digit_run_end, decimal_of};
 ghost use Rattle.jiter_scan.specs.Number.{is_float_byte, positive_value, negative_value, number_value};
-ghost use Rattle.jiter_scan.specs.NumberReading.{whole_at, decimal_at, is_float_sign, behind_minus, name_at};
+ghost use Rattle.jiter_scan.specs.NumberReading.{int_part_at, decimal_at, is_float_sign, behind_minus, name_at};
 ghost use Rattle.jiter_scan.specs.NumberReading.{with_value, number_at, int_at, integer_behind, integer_behind_minus};
 ghost use Rattle.jiter_scan.specs.NumberReading.{begins_number, number_alone, int_alone};
 ghost use Rattle.jiter_scan.specs.NumberDecoder.{int_view, number_view, integer_view, EndsWithin, magnitude_of};
 ghost use Rattle.jiter_scan.specs.NumberDecoder.{IsMinusTo};
 
 use crate::errors::{Fault, FaultKind, JsonError, JsonResult, fault_at};
-use crate::number_extent::{tail_end, whole_end};
-use crate::short_number::{Short, short_at};
+use crate::number_extent::{int_part_end, tail_end};
+use crate::plain_number::{PlainNumber, plain_number_at};
 use crate::simd::{chunk_at, digit_word, joined};
 use crate::text::ascii_text;
 use crate::word::{byte_at, word_end};
@@ -164,14 +164,14 @@ pub(crate) fn digits_magnitude(bytes: &[u8], at: usize, end: usize) -> u64
 }
 
 // The integer part: its magnitude, or the least of twenty digits, and the place behind it.
-fn read_whole(bytes: &[u8], at: usize) -> Result<(u64, usize), Fault>
+fn read_int_part(bytes: &[u8], at: usize) -> Result<(u64, usize), Fault>
     requires { at ≤ length bytes.now }
-    ensures value { Scans (with_end (λ _. tt)) result (whole_at bytes.now at) }
+    ensures value { Scans (with_end (λ _. tt)) result (int_part_at bytes.now at) }
     ensures place { IfOk result (λ x. (at < x.1) × (x.1 ≤ length bytes.now)) }
     ensures magnitude { IfOk result
         (λ x. x.0 ≡ magnitude_of (slice_range bytes.now at x.1)) }
 {
-    let end = whole_end(bytes, at)?;
+    let end = int_part_end(bytes, at)?;
     let magnitude = if bytes[at] == b'0' {
         0
     } else {
@@ -215,7 +215,7 @@ fn integer_of<'j>(
     magnitude: u64,
 ) -> NumberInt<'j>
     requires minus { IsMinusTo bytes.now from at }
-    requires whole { whole_at bytes.now at ≡ taken tt end }
+    requires int_part { int_part_at bytes.now at ≡ taken tt end }
     requires place { (at < end) × (end ≤ length bytes.now) }
     requires magnitude { magnitude ≡ magnitude_of (slice_range bytes.now at end) }
     ensures { int_view result ≡ number_value (slice_range bytes.now from end) }
@@ -241,9 +241,9 @@ fn read_long_decimal<'j>(
         (with_value bytes.now from (decimal_at bytes.now at)) }
     ensures place { IfOk result (λ x. (at < x.1) × (x.1 ≤ length bytes.now)) }
 {
-    let (magnitude, whole_end) = read_whole(bytes, at)?;
-    let end = tail_end(bytes, whole_end)?;
-    let number = if end == whole_end {
+    let (magnitude, int_part_end) = read_int_part(bytes, at)?;
+    let end = tail_end(bytes, int_part_end)?;
+    let number = if end == int_part_end {
         NumberAny::Int(integer_of(bytes, from, at, end, magnitude))
     } else {
         NumberAny::Float(ascii_text(&bytes[from..end]))
@@ -262,16 +262,16 @@ fn read_decimal<'j>(
     ensures value { Scans (with_end number_view) result (with_value bytes.now from (decimal_at bytes.now at)) }
     ensures place { IfOk result (λ x. (at < x.1) × (x.1 ≤ length bytes.now)) }
 {
-    match short_at(bytes, at) {
-        Short::Int(magnitude, end) => {
+    match plain_number_at(bytes, at) {
+        PlainNumber::Int(magnitude, end) => {
             let number = integer_of(bytes, from, at, end, magnitude);
             Ok((NumberAny::Int(number), end))
         }
-        Short::Float(end) => {
+        PlainNumber::Float(end) => {
             let text = ascii_text(&bytes[from..end]);
             Ok((NumberAny::Float(text), end))
         }
-        Short::Other => read_long_decimal(bytes, from, at),
+        PlainNumber::Other => read_long_decimal(bytes, from, at),
     }
 }
 
@@ -384,10 +384,10 @@ fn read_integer<'j>(bytes: &'j [u8], from: usize, at: usize) -> Result<(Integer<
     requires within { at ≤ length bytes.now }
     requires minus { IsMinusTo bytes.now from at }
     ensures value { Scans (with_end integer_view) result
-        (integer_behind bytes.now from (whole_at bytes.now at)) }
+        (integer_behind bytes.now from (int_part_at bytes.now at)) }
     ensures place { IfOk result (EndsWithin at (length bytes.now)) }
 {
-    let (magnitude, end) = read_whole(bytes, at)?;
+    let (magnitude, end) = read_int_part(bytes, at)?;
     if byte_at(bytes, end).is_some_and(is_float_sign) {
         return Ok((Integer::FloatSeen, end));
     }

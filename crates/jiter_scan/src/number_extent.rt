@@ -1,14 +1,14 @@
 //! Where numbers end, with no value made (RFC 8259, 6).
 ghost use Rattle.std.specs.Prelude.{◌≡◌, ◌+◌, ◌<◌, ◌≤◌, Bool, IfOk, IfSome, length, slice_get};
 ghost use Rattle.jiter_scan.specs.Digits.{digit_run_end};
-ghost use Rattle.jiter_scan.specs.NumberReading.{extent_then, digits_from, behind_zero, within_limit, whole_at};
+ghost use Rattle.jiter_scan.specs.NumberReading.{extent_then, digits_from, behind_zero, within_limit, int_part_at};
 ghost use Rattle.jiter_scan.specs.NumberReading.{fraction_at, exponent_at, power_from, decimal_at, behind_minus};
 ghost use Rattle.jiter_scan.specs.NumberReading.{name_at, number_extent};
 ghost use Rattle.jiter_scan.specs.NumberDecoder.{IsMinusTo};
 ghost use Rattle.jiter_scan.specs.Scanned.{Scans, taken};
 
 use crate::errors::{Fault, FaultKind, fault_at};
-use crate::short_number::{Short, short_at};
+use crate::plain_number::{PlainNumber, plain_number_at};
 use crate::simd::{digit_run_end, digits_end, is_digit};
 use crate::word::{byte_at, word_end};
 
@@ -65,9 +65,9 @@ fn limited_end(bytes: &[u8], at: usize) -> Result<usize, Fault>
 }
 
 // Behind the integer part.
-pub(crate) fn whole_end(bytes: &[u8], at: usize) -> Result<usize, Fault>
+pub(crate) fn int_part_end(bytes: &[u8], at: usize) -> Result<usize, Fault>
     requires { at ≤ length bytes.now }
-    ensures value { Scans (taken tt) result (whole_at bytes.now at) }
+    ensures value { Scans (taken tt) result (int_part_at bytes.now at) }
     ensures place { IfOk result (λ e. (at < e) × (e ≤ length bytes.now)) }
 {
     match byte_at(bytes, at) {
@@ -155,7 +155,7 @@ fn decimal_end(bytes: &[u8], at: usize) -> Result<usize, Fault>
     ensures value { Scans (taken tt) result (decimal_at bytes.now at) }
     ensures place { IfOk result (λ e. (at < e) × (e ≤ length bytes.now)) }
 {
-    let end = whole_end(bytes, at)?;
+    let end = int_part_end(bytes, at)?;
     tail_end(bytes, end)
 }
 
@@ -196,7 +196,7 @@ fn negative_end(bytes: &[u8], at: usize, allow_inf_nan: bool) -> Result<usize, F
 
 // Behind the number at `at`, part by part.
 #[inline(never)]
-fn long_end(bytes: &[u8], at: usize, allow_inf_nan: bool) -> Result<usize, Fault>
+fn general_number_end(bytes: &[u8], at: usize, allow_inf_nan: bool) -> Result<usize, Fault>
     requires { at < length bytes.now }
     ensures value { Scans (taken tt) result (number_extent allow_inf_nan bytes.now at) }
     ensures place { IfOk result (λ e. (at < e) × (e ≤ length bytes.now)) }
@@ -229,16 +229,16 @@ pub fn minus_end(bytes: &[u8], at: usize) -> usize
 
 // Behind the number at `at`, if it is short.
 #[inline(always)]
-fn short_end(bytes: &[u8], at: usize) -> Option<usize>
+fn plain_number_end(bytes: &[u8], at: usize) -> Option<usize>
     requires { at < length bytes.now }
     ensures end { IfSome result
         (λ e. (names : Bool) → number_extent names bytes.now at ≡ taken tt e) }
     ensures place { IfSome result (λ e. (at < e) × (e ≤ length bytes.now)) }
 {
-    match short_at(bytes, minus_end(bytes, at)) {
-        Short::Int(_, end) => Some(end),
-        Short::Float(end) => Some(end),
-        Short::Other => None,
+    match plain_number_at(bytes, minus_end(bytes, at)) {
+        PlainNumber::Int(_, end) => Some(end),
+        PlainNumber::Float(end) => Some(end),
+        PlainNumber::Other => None,
     }
 }
 
@@ -250,8 +250,8 @@ pub fn number_end(bytes: &[u8], at: usize, allow_inf_nan: bool) -> Result<usize,
     ensures value { Scans (taken tt) result (number_extent allow_inf_nan bytes.now at) }
     ensures advances { IfOk result (λ e. (at < e) × (e ≤ length bytes.now)) }
 {
-    match short_end(bytes, at) {
+    match plain_number_end(bytes, at) {
         Some(end) => Ok(end),
-        None => long_end(bytes, at, allow_inf_nan),
+        None => general_number_end(bytes, at, allow_inf_nan),
     }
 }

@@ -154,7 +154,7 @@ fn greater(a: u8x16, b: u8x16) -> u8x16
 
 // Whether all bytes of a vector are below 80 hex.
 #[inline(always)]
-fn is_low(v: u8x16) -> bool
+fn is_ascii_chunk(v: u8x16) -> bool
     ensures { result ≡ list_all is_ascii v }
 {
     highs(v) == 0
@@ -174,7 +174,10 @@ fn is_plain_chunk(bytes: &[u8], i: usize) -> (bool, bool)
     let marked = greater(greater(marks(a), marks(b)), greater(marks(c), marks(d)));
     let controlled = controls(lesser(lesser(a, b), lesser(c, d)));
     let highest = greater(greater(a, b), greater(c, d));
-    (is_low(greater(marked, controlled)), is_low(highest))
+    (
+        is_ascii_chunk(greater(marked, controlled)),
+        is_ascii_chunk(highest),
+    )
 }
 
 // The same 64 bytes at a time.
@@ -319,7 +322,7 @@ fn eight_digits(word: u64) -> u64
 
 // The sixteen bytes as two words, each byte less 30 hex.
 #[inline(always)]
-fn words(bytes: [u8; 16]) -> (u64, u64)
+fn halves(bytes: [u8; 16]) -> (u64, u64)
     ensures low { result.0 ≡ number_l 256 (take 8 (map less_zero bytes)) }
     ensures high { result.1 ≡ number_l 256 (drop 8 (map less_zero bytes)) }
 {
@@ -372,7 +375,7 @@ pub fn digit_word(chunk: [u8; 16], count: usize) -> u64
     requires digits { count ≤ digit_run_end chunk 0 }
     ensures { result ≡ decimal_of (take count chunk) }
 {
-    let (low, high) = words(chunk);
+    let (low, high) = halves(chunk);
     if count <= 8 {
         first_digits(low, count)
     } else {

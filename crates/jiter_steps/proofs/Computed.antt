@@ -6,7 +6,7 @@ use Rattle.std.specs.Char.{encode_utf8}
 use Rattle.jiter_scan.specs.Word.{word_at}
 use Rattle.jiter_scan.proofs.Computed.{computed_numbers}
 use Rattle.jiter_steps.specs.Blank.{past_blanks}
-use Rattle.jiter_steps.specs.StringReading.{place_at, body_within, body_at, content_at}
+use Rattle.jiter_steps.specs.StringReading.{portion_at, body_within, body_at, content_at}
 use Rattle.jiter_steps.specs.Read.{parts_at, inside_at, front_answer, whole_answer}
 
 unfoldable pub computed_literals : ⊤
@@ -18,7 +18,7 @@ unfolding past_blanks
 computed_steps = tt
 
 unfoldable pub computed_strings : ⊤
-unfolding content_at body_at body_within place_at utf8_valid_len utf8_error_len is_utf8 chars encode_utf8
+unfolding content_at body_at body_within portion_at utf8_valid_len utf8_error_len is_utf8 chars encode_utf8
 computed_strings = tt
 
 unfoldable pub computed_cuts : ⊤

@@ -8,14 +8,14 @@
 -- number's text (NumberCutLaws), a string is kept as its pieces before the cut (CutCharacters, StringCut,
 -- StringCutLaws), a container keeps the parts that end by the cut and what is left of the next (CutNodes). Where the
 -- reading halts no container round it takes a byte (Halting), so that the law goes up the nesting (CutLaw). A later
--- cut goes on where an earlier one stopped (Growth).
+-- cut goes on where an earlier one stopped (LaterCuts).
 pub mod CutCharacters
 pub mod CutLaw
 pub mod CutNodes
 pub mod CutParts
 pub mod FrontNodes
 pub mod Fronts
-pub mod Growth
+pub mod LaterCuts
 pub mod Halting
 pub mod NumberCut
 pub mod NumberCutLaws

@@ -9,7 +9,7 @@
 --
 -- Alive: where a value's reading meets a fault that can go on, there is a filler, and a closer for each container
 -- that is open there, with which what was read is a node of the completed text (Completions). By induction on the
--- room: a number (OpenNumbers, from jiter_scan's NumberSound), a container behind its parts (StuckSteps, OpenParts),
+-- levels: a number (OpenNumbers, from jiter_scan's NumberSound), a container behind its parts (StuckSteps, OpenParts),
 -- any value (OpenReadings).
 pub mod Alive
 pub mod Completions

@@ -10,6 +10,6 @@ mod Completed
 mod PartialAnswers
 mod Cuts
 mod Skips
-mod Growing
+mod LaterCuts
 mod Escapes
 mod Edges

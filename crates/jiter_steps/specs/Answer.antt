@@ -33,8 +33,8 @@ trees forgives form names = record {
 }
 
 -- ends alone: strings and keys between their quotes, no value made
-abbrev pub ends : Bool → Rules (Unit {0}) (Unit {0})
-ends names = record {
+abbrev pub only_ends : Bool → Rules (Unit {0}) (Unit {0})
+only_ends names = record {
   forgives = nothing_forgiven;
   literal = λ t l i. literal_at t l i;
   number = λ t i. seen_as (λ n e. tt) (number_at names t i);
@@ -71,4 +71,4 @@ read_at names t i = value_at (whole_trees names) t nesting_limit i
 
 -- Where the value at a place ends; its UTF-8 is not tested.
 abbrev pub skip_at : Bool → List ℕ → ℕ → Reading (Unit {0})
-skip_at names t i = value_at (ends names) t nesting_limit i
+skip_at names t i = value_at (only_ends names) t nesting_limit i

@@ -82,7 +82,7 @@ module _ {K A : Type 0} where
         follow r (go (parts ++ p ∷ [])) (λ e. c.build e (parts ++ p ∷ [])) (step t c.next e)
     behind_part r c t go parts (fault k i stop) = if_forgiven r (λ e. c.build e parts) k i stop
 
-    -- The parts from i on, behind those so far. The number bounds the turns; the text's length is always enough.
+    -- The parts from i on, behind those so far. The number bounds the rounds; the text's length is always enough.
     unfoldable pub parts_at : Rules K A → Container P A → List ℕ → ℕ → List P → ℕ → Reading A
     parts_at r c t zero parts i = fault eof_value i i
     parts_at r c t (suc n) parts i = behind_part r c t (λ more_parts j. parts_at r c t n more_parts j) parts (c.part i)
@@ -113,14 +113,14 @@ module _ {K A : Type 0} where
   value_with r inner t i (start.Literal l) = scalar_at i (r.literal t l i)
   value_with r inner t i start.Nothing = fault expected_value i i
 
-  -- A value inside a container with this room: without room it is the limit's fault at its first byte.
+  -- A value inside a container with so many levels left: with none it is the limit's fault at its first byte.
   unfoldable pub inside_at : Rules K A → List ℕ → ℕ → ℕ → Reading A
   inside_at r t zero i = fault recursion_limit i i
-  inside_at r t (suc room) i = value_with r (λ j. inside_at r t room j) t i (start_of (slice_index t i))
+  inside_at r t (suc levels) i = value_with r (λ j. inside_at r t levels j) t i (start_of (slice_index t i))
 
-  -- The value at i, with room for so many containers that are not empty, one inside another.
+  -- The value at i, with levels left for so many containers that are not empty, one inside another.
   abbrev pub value_at : Rules K A → List ℕ → ℕ → ℕ → Reading A
-  value_at r t room i = value_with r (inside_at r t room) t i (start_of (slice_index t i))
+  value_at r t levels i = value_with r (inside_at r t levels) t i (start_of (slice_index t i))
 
   abbrev pub if_begun : Rules K A → List ℕ → ℕ → Option ℕ → Reading A
   if_begun r t i None = fault eof_value i i

@@ -3,7 +3,7 @@ use Rattle.std.specs.Prelude.{◌≡◌, ◌<◌, ℕ, zero, suc, ◌+◌, Bool,
 use Rattle.std.specs.Prelude.{Result, Ok, Err}
 use Rattle.jiter_scan.specs.Kind.{fault_kind}
 use Rattle.jiter_scan.specs.declared.errors.Fault.{Fault}
-use Rattle.jiter_steps.specs.Answer.{seen_as, ends}
+use Rattle.jiter_steps.specs.Answer.{seen_as, only_ends}
 use Rattle.jiter_steps.specs.Frames.{Frame, items_frame, members_frame, resume, value_from}
 use Rattle.jiter_steps.specs.Read.{Reading, done, fault, behind_key}
 use Rattle.jiter_steps.specs.Step.{Step, more, closed, stuck, step, container_first, container_step}
@@ -58,6 +58,6 @@ open_frames objects (suc n) = frame_of (shape_of (slice_index_or objects n false
 -- at i, or one has ended there.
 abbrev pub Continues : Bool → List ℕ → List (Frame (Unit {0}) (Unit {0})) → Result Bool Fault → ℕ → Reading (Unit {0})
     → Type 0
-Continues names t fs (Ok true) i x = (x ≡ value_from (ends names) t fs i) × (i < length t)
-Continues names t fs (Ok false) i x = x ≡ resume (ends names) t fs (done tt i)
+Continues names t fs (Ok true) i x = (x ≡ value_from (only_ends names) t fs i) × (i < length t)
+Continues names t fs (Ok false) i x = x ≡ resume (only_ends names) t fs (done tt i)
 Continues names t fs (Err f) i x = x ≡ fault (fault_kind f.kind) f.index i

@@ -9,7 +9,7 @@ use Rattle.jiter_scan.specs.Ascii as ascii
 use Rattle.jiter_scan.specs.Kind.{fault_kind}
 use Rattle.jiter_scan.specs.Scan.{scan_stop}
 use Rattle.jiter_steps.specs.Tree.{Text}
-use Rattle.jiter_steps.specs.StringReading.{HexDigits, number, bad, few, Place, part, over, Stop, closed, unclosed, cut}
+use Rattle.jiter_steps.specs.StringReading.{HexDigits, number, bad, few, Portion, part, over, Stop, closed, unclosed, cut}
 use Rattle.jiter_steps.specs.StringReading.{wrong}
 use Rattle.jiter_steps.specs.declared.string_decoder.Hex.{Hex}
 use Rattle.jiter_steps.specs.declared.string_decoder.Hex.TheVariants as hex
@@ -47,9 +47,9 @@ stop_view ending.Cut = cut
 stop_view (ending.Wrong f) = wrong (fault_kind f.kind) f.index
 
 -- what stands at a place that is no plain byte's
-abbrev pub place_view : AtStop → Place
-place_view (at_stop.Escape c j) = part (encode_utf8 c) true j
-place_view (at_stop.End s) = over (stop_view s)
+abbrev pub portion_view : AtStop → Portion
+portion_view (at_stop.Escape c j) = part (encode_utf8 c) true j
+portion_view (at_stop.End s) = over (stop_view s)
 
 -- Only a string with a backslash wants memory: the plain bytes behind its quote end at one.
 abbrev pub WantsMemory : List ℕ → ℕ → Type 0

@@ -19,9 +19,9 @@ pub data Stop : Type 0 where
   wrong : Kind → ℕ → Stop
 
 -- what stands at a place of a string: decoded bytes, whether they were escaped, and their end; or how the string ends
-pub data Place : Type 0 where
-  part : List ℕ → Bool → ℕ → Place
-  over : Stop → Place
+pub data Portion : Type 0 where
+  part : List ℕ → Bool → ℕ → Portion
+  over : Stop → Portion
 
 -- the first of the four bytes at i that is no hex digit
 abbrev pub bad_digit : List ℕ → ℕ → Option ℕ
@@ -51,68 +51,68 @@ abbrev pub hex_digits_at : List ℕ → ℕ → HexDigits
 hex_digits_at t i = if nat_lt (length t) (i + 4) then few else hex_digits_or (bad_digit t i) (unit_at t i)
 
 -- behind four hex digits, what follows for their number
-abbrev pub behind : (ℕ → Place) → HexDigits → Place
+abbrev pub behind : (ℕ → Portion) → HexDigits → Portion
 behind next (number u) = next u
 behind next (bad i) = over (wrong invalid_escape i)
 behind next few = over cut
 
 -- the digits at i, and what follows for their end and their number
-abbrev pub unit_then : List ℕ → ℕ → (ℕ → ℕ → Place) → Place
+abbrev pub unit_then : List ℕ → ℕ → (ℕ → ℕ → Portion) → Portion
 unit_then t i next = behind (next (i + 4)) (hex_digits_at t i)
 
 -- the second number of a pair, which ends at j
-abbrev pub surrogate_pair : ℕ → ℕ → ℕ → Place
+abbrev pub surrogate_pair : ℕ → ℕ → ℕ → Portion
 surrogate_pair high j low =
     if is_low low then part (encode_utf8 (pair_of high low)) true j else over (wrong lone_surrogate (j - 1))
 
 -- behind the backslash that follows a high surrogate
-abbrev pub behind_high_backslash : List ℕ → ℕ → ℕ → Option ℕ → Place
+abbrev pub behind_high_backslash : List ℕ → ℕ → ℕ → Option ℕ → Portion
 behind_high_backslash t high i None = over cut
 behind_high_backslash t high i (Some b) =
     if b == ascii.small_u then unit_then t (i + 1) (surrogate_pair high) else over (wrong end_of_hex_escape i)
 
 -- behind the digits of a high surrogate
-abbrev pub behind_high : List ℕ → ℕ → ℕ → Option ℕ → Place
+abbrev pub behind_high : List ℕ → ℕ → ℕ → Option ℕ → Portion
 behind_high t high i None = over cut
 behind_high t high i (Some b) =
     if b == ascii.backslash then behind_high_backslash t high (i + 1) (slice_get t (i + 1))
     else over (wrong end_of_hex_escape i)
 
 -- the number of an escape that ends at j, where it is no high surrogate
-abbrev pub single : ℕ → ℕ → Place
+abbrev pub single : ℕ → ℕ → Portion
 single j u = if is_low u then over (wrong lone_surrogate (j - 1)) else part (encode_utf8 u) true j
 
 -- the number of an escape whose digits end at j
-abbrev pub unicode_escape : List ℕ → ℕ → ℕ → Place
+abbrev pub unicode_escape : List ℕ → ℕ → ℕ → Portion
 unicode_escape t j u = if is_high u then behind_high t u j (slice_get t j) else single j u
 
 -- an escape of one letter or sign, at i
-abbrev pub short : ℕ → Option ℕ → Place
+abbrev pub short : ℕ → Option ℕ → Portion
 short i None = over (wrong invalid_escape i)
 short i (Some c) = part (encode_utf8 c) true (i + 1)
 
 -- behind a backslash
-abbrev pub behind_backslash : List ℕ → ℕ → Option ℕ → Place
+abbrev pub behind_backslash : List ℕ → ℕ → Option ℕ → Portion
 behind_backslash t i None = over cut
 behind_backslash t i (Some b) =
     if b == ascii.small_u then unit_then t (i + 1) (unicode_escape t) else short i (short_escape b)
 
 -- a byte that stands for itself
-abbrev pub plain : ℕ → ℕ → Place
+abbrev pub plain : ℕ → ℕ → Portion
 plain i b = if nat_lt b ascii.space then over (wrong control_character i) else part (b ∷ []) false (i + 1)
 
 -- a byte that is no quote
-abbrev pub escape_or_plain : List ℕ → ℕ → ℕ → Place
+abbrev pub escape_or_plain : List ℕ → ℕ → ℕ → Portion
 escape_or_plain t i b = if b == ascii.backslash then behind_backslash t (i + 1) (slice_get t (i + 1)) else plain i b
 
 -- what stands at i, by its byte
-abbrev pub place_by : List ℕ → ℕ → Option ℕ → Place
-place_by t i None = over unclosed
-place_by t i (Some b) = if b == ascii.quote then over (closed (i + 1)) else escape_or_plain t i b
+abbrev pub portion_by : List ℕ → ℕ → Option ℕ → Portion
+portion_by t i None = over unclosed
+portion_by t i (Some b) = if b == ascii.quote then over (closed (i + 1)) else escape_or_plain t i b
 
 -- what stands at i
-unfoldable pub place_at : List ℕ → ℕ → Place
-place_at t i = place_by t i (slice_get t i)
+unfoldable pub portion_at : List ℕ → ℕ → Portion
+portion_at t i = portion_by t i (slice_get t i)
 
 -- the decoded bytes up to where a string ends, and whether a backslash was read
 pub record Body : Type 0 where
@@ -132,14 +132,14 @@ abbrev pub before : List ℕ → Bool → Body → Body
 before bytes owned b = record { bytes = bytes ++ b.bytes; owned = owned || b.owned; stop = b.stop }
 
 -- what stands at a place, and the rest behind it
-abbrev pub join : (ℕ → Body) → Place → Body
+abbrev pub join : (ℕ → Body) → Portion → Body
 join rest (part bytes owned j) = before bytes owned (rest j)
 join rest (over s) = record { bytes = []; owned = is_cut s; stop = s }
 
--- The number bounds the turns; the text's length is always enough.
+-- The number bounds the rounds; the text's length is always enough.
 unfoldable pub body_within : ℕ → List ℕ → ℕ → Body
 body_within zero t i = record { bytes = []; owned = false; stop = unclosed }
-body_within (suc n) t i = join (body_within n t) (place_at t i)
+body_within (suc n) t i = join (body_within n t) (portion_at t i)
 
 -- the body that begins at i
 unfoldable pub body_at : List ℕ → ℕ → Body

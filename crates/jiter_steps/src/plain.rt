@@ -44,7 +44,7 @@ pub fn peek(bytes: &[u8], from: usize) -> (usize, Option<u8>)
 
 /// Behind a container's bracket: its first part, or its end (RFC 8259, 4 and 5).
 #[inline(always)]
-pub fn first_at(bytes: &[u8], from: usize, shape: Shape) -> (usize, Next)
+pub fn plain_first(bytes: &[u8], from: usize, shape: Shape) -> (usize, Next)
     requires { from ≤ length bytes.now }
     ensures next { IsNext result.0 result.1 (step bytes.now (container_first shape) from) }
     ensures within { (from ≤ result.0) × (result.0 ≤ length bytes.now) }
@@ -67,7 +67,7 @@ pub fn first_at(bytes: &[u8], from: usize, shape: Shape) -> (usize, Next)
 
 // Behind a comma: another part.
 #[inline(always)]
-fn comma_at(bytes: &[u8], from: usize, shape: Shape) -> (usize, Next)
+fn plain_comma(bytes: &[u8], from: usize, shape: Shape) -> (usize, Next)
     requires { from ≤ length bytes.now }
     ensures next { IsNext result.0 result.1 (step bytes.now (container_comma shape) from) }
     ensures within { (from ≤ result.0) × (result.0 ≤ length bytes.now) }
@@ -88,7 +88,7 @@ fn comma_at(bytes: &[u8], from: usize, shape: Shape) -> (usize, Next)
 
 // Behind a part: another one, or the container's end, by a shape that is known where it is inlined.
 #[inline(always)]
-fn known_step_at(bytes: &[u8], from: usize, shape: Shape) -> (usize, Next)
+fn known_plain_step(bytes: &[u8], from: usize, shape: Shape) -> (usize, Next)
     requires { from ≤ length bytes.now }
     ensures next { IsNext result.0 result.1 (step bytes.now (container_step shape bytes.now) from) }
     ensures within { (from ≤ result.0) × (result.0 ≤ length bytes.now) }
@@ -99,7 +99,7 @@ fn known_step_at(bytes: &[u8], from: usize, shape: Shape) -> (usize, Next)
         None => (at, Next::Stuck),
         Some(byte) => {
             if byte == b',' {
-                comma_at(bytes, at + 1, shape)
+                plain_comma(bytes, at + 1, shape)
             } else if byte == shape.closer() {
                 (at + 1, Next::End)
             } else {
@@ -111,21 +111,21 @@ fn known_step_at(bytes: &[u8], from: usize, shape: Shape) -> (usize, Next)
 
 /// Behind a part: another one, or the container's end (RFC 8259, 4 and 5).
 #[inline(always)]
-pub fn step_at(bytes: &[u8], from: usize, shape: Shape) -> (usize, Next)
+pub fn plain_step(bytes: &[u8], from: usize, shape: Shape) -> (usize, Next)
     requires { from ≤ length bytes.now }
     ensures next { IsNext result.0 result.1 (step bytes.now (container_step shape bytes.now) from) }
     ensures within { (from ≤ result.0) × (result.0 ≤ length bytes.now) }
     ensures part { result.1 ≡ Next.Part → result.0 < length bytes.now }
 {
     match shape {
-        Shape::Array => known_step_at(bytes, from, Shape::Array),
-        Shape::Object => known_step_at(bytes, from, Shape::Object),
+        Shape::Array => known_plain_step(bytes, from, Shape::Array),
+        Shape::Object => known_plain_step(bytes, from, Shape::Object),
     }
 }
 
 /// From behind a key to the place where its value begins, if a colon and a value stand there (RFC 8259, 4).
 #[inline(always)]
-pub fn colon_at(bytes: &[u8], from: usize) -> Option<usize>
+pub fn plain_colon(bytes: &[u8], from: usize) -> Option<usize>
     requires { from ≤ length bytes.now }
     ensures value { IfSome result (λ j. object_colon bytes.now from ≡ taken tt j) }
     ensures within { IfSome result (λ j. (from ≤ j) × (j < length bytes.now)) }

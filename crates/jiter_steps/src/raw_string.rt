@@ -12,7 +12,7 @@ ghost use Rattle.jiter_steps.specs.Read.{scalar_at};
 ghost use Rattle.jiter_steps.specs.StringReading.{content_at, string_at, raw, raw_form};
 
 use crate::parse::Parser;
-use crate::string_decoder::{AtStop, Ending, cut_short, place_at};
+use crate::string_decoder::{AtStop, Ending, cut_short, portion_at};
 use jiter_scan::errors::Fault;
 use jiter_scan::simd::scan_string;
 use jiter_scan::word::byte_at;
@@ -28,7 +28,7 @@ fn escaped_end(bytes: &[u8], from: usize) -> usize
 {
     let mut at = from;
     loop {
-        match place_at(bytes, at) {
+        match portion_at(bytes, at) {
             AtStop::Escape(_, end) => {
                 let (to, _) = scan_string(bytes, end);
                 at = to;
@@ -65,7 +65,7 @@ fn fault_of(bytes: &[u8], at: usize) -> Fault
         → (IsTrue keep → at < length bytes.now)
         → content_at (raw_form keep) bytes.now i ≡ failed (fault_kind result.kind) result.index }
 {
-    match place_at(bytes, at) {
+    match portion_at(bytes, at) {
         AtStop::End(Ending::Wrong(fault)) => fault,
         AtStop::End(Ending::Unclosed) => cut_short(bytes),
         AtStop::End(Ending::Cut) => cut_short(bytes),

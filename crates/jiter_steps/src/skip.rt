@@ -1,7 +1,7 @@
 //! Skipping a value: its end alone, with no value made, no text decoded and no memory taken.
 ghost use Rattle.std.specs.Prelude.{◌≡◌, ◌≢◌, ℕ, Bool, true, false, ◌+◌, ◌<◌, ◌≤◌, ◌∷◌, IfOk, OnOk, length};
 ghost use Rattle.std.specs.Prelude.{slice_index};
-ghost use Rattle.jiter_steps.specs.Answer.{ends, skip_at};
+ghost use Rattle.jiter_steps.specs.Answer.{only_ends, skip_at};
 ghost use Rattle.jiter_steps.specs.Frames.{resume, value_from};
 ghost use Rattle.jiter_steps.specs.Literal.{start_of};
 ghost use Rattle.jiter_steps.specs.Node.{nesting_limit};
@@ -17,12 +17,12 @@ use jiter_scan::errors::{Fault, FaultKind};
 use jiter_scan::number_extent::number_end;
 
 // How many open containers the table has places for.
-const PLACES: usize = 256;
+const TABLE_SIZE: usize = 256;
 
 // The open containers, the outermost first: of each whether it is an object.
 #[derive(Drop)]
 struct Nest {
-    objects: [bool; PLACES],
+    objects: [bool; TABLE_SIZE],
     depth: usize,
     ghost within: { depth ≤ nesting_limit },
 }
@@ -56,7 +56,7 @@ fn open(parser: &Parser<'_>, nest: &mut Nest, shape: Shape) -> Result<bool, Faul
     requires { parser.now.index < length parser.now.bytes.now }
     ensures { (names : Bool) → Continues names parser.now.bytes.now
         (open_frames nest.new.objects nest.new.depth) result parser.now.index
-        (value_from (ends names) parser.now.bytes.now
+        (value_from (only_ends names) parser.now.bytes.now
         (frame_of shape ∷ open_frames nest.old.objects nest.old.depth) parser.now.index) }
 {
     if nest.depth == NESTING_LIMIT {
@@ -76,7 +76,7 @@ fn number(parser: &mut Parser<'_>, allow_inf_nan: bool) -> Result<(), Fault>
     requires { parser.old.index < length parser.old.bytes.now }
     ensures moves { Moves parser.old parser.new }
     ensures value { Reads (λ u. u) result parser.new.index (scalar_at parser.old.index
-        ((ends allow_inf_nan).number parser.old.bytes.now parser.old.index)) }
+        ((only_ends allow_inf_nan).number parser.old.bytes.now parser.old.index)) }
     ensures ahead { OnOk result (parser.old.index < parser.new.index) }
 {
     parser.index = number_end(parser.bytes, parser.index, allow_inf_nan)?;
@@ -158,7 +158,7 @@ fn begin(parser: &mut Parser<'_>, nest: &mut Nest, shape: Shape) -> Result<bool,
     ensures moves { Moves parser.old parser.new }
     ensures value { (names : Bool) → Continues names parser.old.bytes.now
         (open_frames nest.new.objects nest.new.depth) result parser.new.index
-        (value_from (ends names) parser.old.bytes.now
+        (value_from (only_ends names) parser.old.bytes.now
         (open_frames nest.old.objects nest.old.depth) parser.old.index) }
     ensures ahead { OnOk result (parser.old.index < parser.new.index) }
 {
@@ -176,8 +176,8 @@ fn skip_scalar(parser: &mut Parser<'_>, allow_inf_nan: bool) -> Result<(), Fault
     requires array { start_of (slice_index parser.old.bytes.now parser.old.index) ≢ Start.Array }
     requires object { start_of (slice_index parser.old.bytes.now parser.old.index) ≢ Start.Object }
     ensures moves { Moves parser.old parser.new }
-    ensures value { (room : ℕ) → Reads (λ u. u) result parser.new.index
-        (value_at (ends allow_inf_nan) parser.old.bytes.now room parser.old.index) }
+    ensures value { (levels : ℕ) → Reads (λ u. u) result parser.new.index
+        (value_at (only_ends allow_inf_nan) parser.old.bytes.now levels parser.old.index) }
     ensures ahead { OnOk result (parser.old.index < parser.new.index) }
 {
     match start_of(parser.bytes[parser.index]) {
@@ -203,7 +203,7 @@ fn begin_value(parser: &mut Parser<'_>, nest: &mut Nest, allow_inf_nan: bool) ->
     ensures moves { Moves parser.old parser.new }
     ensures value { Continues allow_inf_nan parser.old.bytes.now
         (open_frames nest.new.objects nest.new.depth) result parser.new.index
-        (value_from (ends allow_inf_nan) parser.old.bytes.now
+        (value_from (only_ends allow_inf_nan) parser.old.bytes.now
         (open_frames nest.old.objects nest.old.depth) parser.old.index) }
     ensures ahead { OnOk result (parser.old.index < parser.new.index) }
 {
@@ -222,7 +222,7 @@ fn begin_value(parser: &mut Parser<'_>, nest: &mut Nest, allow_inf_nan: bool) ->
 fn end_value(parser: &mut Parser<'_>, nest: &mut Nest) -> Result<bool, Fault>
     ensures moves { Moves parser.old parser.new }
     ensures value { (names : Bool) → Continues names parser.old.bytes.now
-        (open_frames nest.new.objects nest.new.depth) result parser.new.index (resume (ends names)
+        (open_frames nest.new.objects nest.new.depth) result parser.new.index (resume (only_ends names)
         parser.old.bytes.now (open_frames nest.old.objects nest.old.depth)
         (done tt parser.old.index)) }
     ensures all { IfOk result (λ more. more ≡ false → nest.new.depth ≡ 0) }
@@ -248,7 +248,7 @@ fn skip_container(parser: &mut Parser<'_>, allow_inf_nan: bool) -> Result<(), Fa
     ensures ahead { OnOk result (parser.old.index < parser.new.index) }
 {
     let mut nest = Nest {
-        objects: [false; PLACES],
+        objects: [false; TABLE_SIZE],
         depth: 0,
     };
     'skipping: loop {

@@ -13,10 +13,10 @@ ghost use Rattle.jiter_scan.specs.Kind.{fault_kind, invalid_code_point};
 ghost use Rattle.jiter_scan.specs.Scanned.{Scans, with_end, taken, failed};
 ghost use Rattle.jiter_steps.specs.Escape.{short_escape, is_hex, is_high, is_low};
 ghost use Rattle.jiter_steps.specs.ReadError.{UnlessRefused, WhereRefused};
-ghost use Rattle.jiter_steps.specs.StringReading.{number, part, hex_digits_at, place_at, unit_then, behind_backslash};
+ghost use Rattle.jiter_steps.specs.StringReading.{number, part, hex_digits_at, portion_at, unit_then, behind_backslash};
 ghost use Rattle.jiter_steps.specs.StringReading.{unicode_escape, behind_high, behind_high_backslash, surrogate_pair};
 ghost use Rattle.jiter_steps.specs.StringReading.{body_at, text_form, text_in_form, checked, string_at};
-ghost use Rattle.jiter_steps.specs.StringDecoder.{text_view, digits_view, IfNumber, place_view, stop_view, WantsMemory};
+ghost use Rattle.jiter_steps.specs.StringDecoder.{text_view, digits_view, IfNumber, portion_view, stop_view, WantsMemory};
 ghost use Rattle.jiter_steps.specs.declared.string_decoder.AtStop.TheVariants as at_stop;
 ghost use Rattle.jiter_steps.specs.declared.string_decoder.Ending.TheVariants as ending;
 
@@ -129,7 +129,7 @@ fn wrong(kind: FaultKind, index: usize) -> AtStop
 fn low_surrogate(bytes: &[u8], high: u32, at: usize) -> AtStop
     requires high { is_high high ≡ true }
     requires within { at ≤ length bytes.now }
-    ensures value { place_view result ≡ unit_then bytes.now at (surrogate_pair high) }
+    ensures value { portion_view result ≡ unit_then bytes.now at (surrogate_pair high) }
 {
     match hex_at(bytes, at) {
         Hex::Short => AtStop::End(Ending::Cut),
@@ -149,7 +149,7 @@ fn low_surrogate(bytes: &[u8], high: u32, at: usize) -> AtStop
 // Behind the backslash that follows a high surrogate.
 fn behind_high_backslash(bytes: &[u8], high: u32, at: usize) -> AtStop
     requires high { is_high high ≡ true }
-    ensures value { place_view result ≡ behind_high_backslash bytes.now high at (slice_get bytes.now at) }
+    ensures value { portion_view result ≡ behind_high_backslash bytes.now high at (slice_get bytes.now at) }
 {
     match byte_at(bytes, at) {
         None => AtStop::End(Ending::Cut),
@@ -161,7 +161,7 @@ fn behind_high_backslash(bytes: &[u8], high: u32, at: usize) -> AtStop
 // Behind the digits of a high surrogate.
 fn behind_high(bytes: &[u8], high: u32, at: usize) -> AtStop
     requires high { is_high high ≡ true }
-    ensures value { place_view result ≡ behind_high bytes.now high at (slice_get bytes.now at) }
+    ensures value { portion_view result ≡ behind_high bytes.now high at (slice_get bytes.now at) }
 {
     match byte_at(bytes, at) {
         None => AtStop::End(Ending::Cut),
@@ -173,7 +173,7 @@ fn behind_high(bytes: &[u8], high: u32, at: usize) -> AtStop
 // Behind `\u`.
 fn unicode_escape(bytes: &[u8], at: usize) -> AtStop
     requires within { at ≤ length bytes.now }
-    ensures value { place_view result ≡ unit_then bytes.now at (unicode_escape bytes.now) }
+    ensures value { portion_view result ≡ unit_then bytes.now at (unicode_escape bytes.now) }
 {
     match hex_at(bytes, at) {
         Hex::Short => AtStop::End(Ending::Cut),
@@ -195,7 +195,7 @@ fn unicode_escape(bytes: &[u8], at: usize) -> AtStop
 
 // Behind a backslash.
 fn behind_backslash(bytes: &[u8], at: usize) -> AtStop
-    ensures value { place_view result ≡ behind_backslash bytes.now at (slice_get bytes.now at) }
+    ensures value { portion_view result ≡ behind_backslash bytes.now at (slice_get bytes.now at) }
 {
     match byte_at(bytes, at) {
         None => AtStop::End(Ending::Cut),
@@ -208,10 +208,10 @@ fn behind_backslash(bytes: &[u8], at: usize) -> AtStop
 }
 
 // What stands where a run of plain bytes ends.
-#[tactic(auto, unfolding(crate::specs::StringReading::place_at))]
-pub(crate) fn place_at(bytes: &[u8], at: usize) -> AtStop
+#[tactic(auto, unfolding(crate::specs::StringReading::portion_at))]
+pub(crate) fn portion_at(bytes: &[u8], at: usize) -> AtStop
     requires { IfSome (slice_get bytes.now at) (λ b. is_stop b ≡ true) }
-    ensures { place_view result ≡ place_at bytes.now at }
+    ensures { portion_view result ≡ portion_at bytes.now at }
 {
     match byte_at(bytes, at) {
         None => AtStop::End(Ending::Unclosed),
@@ -237,10 +237,10 @@ fn unit_at(bytes: &[u8], at: usize) -> Option<u32>
 
 // The character of the escape at `at`, and its end, where it is at once seen to be whole and no pair.
 #[inline(always)]
-#[tactic(auto, unfolding(crate::specs::StringReading::place_at))]
+#[tactic(auto, unfolding(crate::specs::StringReading::portion_at))]
 fn escape_at(bytes: &[u8], at: usize) -> Option<(char, usize)>
     requires { at ≤ length bytes.now }
-    ensures { IfSome result (λ r. part (encode_utf8 r.0) true r.1 ≡ place_at bytes.now at) }
+    ensures { IfSome result (λ r. part (encode_utf8 r.0) true r.1 ≡ portion_at bytes.now at) }
 {
     if bytes.len() - at < 6 || bytes[at] != b'\\' {
         return None;
@@ -257,14 +257,14 @@ fn escape_at(bytes: &[u8], at: usize) -> Option<(char, usize)>
 
 // What stands where a run of plain bytes ends, an escape at once.
 #[inline(always)]
-fn next_place(bytes: &[u8], at: usize) -> AtStop
+fn next_portion(bytes: &[u8], at: usize) -> AtStop
     requires within { at ≤ length bytes.now }
     requires stop { IfSome (slice_get bytes.now at) (λ b. is_stop b ≡ true) }
-    ensures { place_view result ≡ place_at bytes.now at }
+    ensures { portion_view result ≡ portion_at bytes.now at }
 {
     match escape_at(bytes, at) {
         Some((c, end)) => AtStop::Escape(c, end),
-        None => place_at(bytes, at),
+        None => portion_at(bytes, at),
     }
 }
 
@@ -282,7 +282,7 @@ fn decode(tape: &mut Vec<u8>, bytes: &[u8], from: usize) -> Result<(usize, Endin
     loop {
         let to = put_plain(tape, count, bytes, at)?;
         let plain = count + (to - at);
-        match next_place(bytes, to) {
+        match next_portion(bytes, to) {
             AtStop::Escape(c, end) => {
                 count = put_char(tape, plain, c);
                 at = end;

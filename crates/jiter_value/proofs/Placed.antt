@@ -5,8 +5,8 @@ use Rattle.std.specs.Prelude.{reverse, slice_index, nat_lt, pos, if◌then◌els
 use Rattle.std.proofs.lemmas.Bool.Decides.{nat_tests}
 use Rattle.jiter_scan.specs.Number.{Number, integer, float, minus_of}
 use Rattle.jiter_scan.specs.NumberDecoder.{IsMinusTo}
-use Rattle.jiter_scan.specs.ShortNumber.{IsShortInteger, IsShortFloat}
-use Rattle.jiter_scan.proofs.ShortValues.{short-integer, short-negative, short-float, short-negative_float}
+use Rattle.jiter_scan.specs.PlainNumber.{IsPlainInteger, IsPlainFloat}
+use Rattle.jiter_scan.proofs.PlainNumberValues.{plain-integer, plain-negative, plain-float, plain-negative_float}
 use Rattle.jiter_scan.specs.NumberReading.{number_at}
 use Rattle.jiter_scan.specs.Scanned.{taken}
 use Rattle.jiter_scan.specs.PartialMode.{allows_trailing_strings}
@@ -36,23 +36,23 @@ use Rattle.jiter_steps.specs.StringDecoder.{text_view}
 use Rattle.jiter_value.proofs.StackTurns.{value-read, key-opens, key-above}
 use Rattle.jiter_value.proofs.Sizes.{key-size}
 
-module _ (p : Settings) (t : List ℕ) (i e room : ℕ) where
+module _ (p : Settings) (t : List ℕ) (i e levels : ℕ) where
   begins : (s : Start) → start_of (slice_index t i) ≡ s
-      → value_at (rules p) t room i ≡ value_with (rules p) (inside_at (rules p) t room) t i s
-  begins s h = ap (value_with (rules p) (inside_at (rules p) t room) t i) h
+      → value_at (rules p) t levels i ≡ value_with (rules p) (inside_at (rules p) t levels) t i s
+  begins s h = ap (value_with (rules p) (inside_at (rules p) t levels) t i) h
 
   pub text-read : (s : Text) → start_of (slice_index t i) ≡ start.String
-      → ((keep : Bool) → string_at (text_form keep) t i ≡ taken s e) → value_at (rules p) t room i ≡ done (string s) e
+      → ((keep : Bool) → string_at (text_form keep) t i ≡ taken s e) → value_at (rules p) t levels i ≡ done (string s) e
   text-read s h is =
       begins start.String h
       ∙ ap (λ x. scalar_at i (seen_as (λ s e. string s) x)) (is (allows_trailing_strings p.mode))
 
   pub number-read : (n : Number) → start_of (slice_index t i) ≡ start.Number
-      → number_at p.allow_inf_nan t i ≡ taken n e → value_at (rules p) t room i ≡ done (number_tree n) e
+      → number_at p.allow_inf_nan t i ≡ taken n e → value_at (rules p) t levels i ≡ done (number_tree n) e
   number-read n h is = begins start.Number h ∙ ap (λ x. scalar_at i (seen_as (λ n e. number_tree n) x)) is
 
   pub literal-read : (l : Literal) → start_of (slice_index t i) ≡ start.Literal l → literal_at t l i ≡ taken tt e
-      → value_at (rules p) t room i ≡ done (literal_tree l) e
+      → value_at (rules p) t levels i ≡ done (literal_tree l) e
   literal-read l h is = begins (start.Literal l) h ∙ ap (λ x. scalar_at i (seen_as (λ u e. literal_tree l) x)) is
 
 -- a scalar that was read so, and put so
@@ -60,7 +60,7 @@ module _ {t : List ℕ} {old new : Stacks} {a : Slot} {i e : ℕ} (v : JsonValue
   pub put-at : view v ≡ x → Stands old a → length old.nest.items ≤ 200
       → ((p : Settings) (u : List ℕ) (j : ℕ) → resume_with p u old a (done (view v) j) ≡ behind p u new a j)
       → Stands new a → new.nest ≡ old.nest → behind_size new a ≡ value_size old a + size (view v) → size x ≡ 1
-      → i < e → e ≤ length t → ((p : Settings) (room : ℕ) → value_at (rules p) t room i ≡ done x e)
+      → i < e → e ≤ length t → ((p : Settings) (levels : ℕ) → value_at (rules p) t levels i ≡ done x e)
       → IsPutAt t old i a new e
   put-at seen b few put stands nest held one ahead within read =
       let counts : size (view v) ≡ 1 = ap size seen ∙ one in
@@ -77,26 +77,26 @@ module _ {t : List ℕ} {old new : Stacks} {a : Slot} {i e : ℕ} (v : JsonValue
 
 -- short numbers with their sign
 module _ (t : List ℕ) (names : Bool) (i e : ℕ) where
-  pub short-signed : (j n : ℕ) → IsMinusTo t i j → IsShortInteger t j n e
+  pub short-signed : (j n : ℕ) → IsMinusTo t i j → IsPlainInteger t j n e
       → number_at names t i ≡ taken (integer (if nat_lt i j then minus_of n else pos n)) e
   short-signed j n (inl same) s =
       let no : nat_lt i j ≡ false = grind (arith, nat_tests, same) in
-      rw no (short-integer t names e i n (rw same at s))
+      rw no (plain-integer t names e i n (rw same at s))
   short-signed j n (inr (next, minus)) s =
       let yes : nat_lt i j ≡ true = grind (arith, nat_tests, next) in
-      rw yes (short-negative t names e i minus n (rw next at s))
+      rw yes (plain-negative t names e i minus n (rw next at s))
 
-  pub short-signed_float : (j : ℕ) → IsMinusTo t i j → IsShortFloat t j e
+  pub short-signed_float : (j : ℕ) → IsMinusTo t i j → IsPlainFloat t j e
       → number_at names t i ≡ taken (float (slice_range t i e)) e
-  short-signed_float j (inl same) s = short-float t names e i (rw same at s)
-  short-signed_float j (inr (next, minus)) s = short-negative_float t names e i minus (rw next at s)
+  short-signed_float j (inl same) s = plain-float t names e i (rw same at s)
+  short-signed_float j (inr (next, minus)) s = plain-negative_float t names e i minus (rw next at s)
 
 -- a key that was read so, and put so
 pub key-at : (t : List ℕ) (s : Stacks) (ms : Vec Member Global) (i e j : ℕ) (k : CowStr Global) → StandsAtKey s
     → i < length t → scalar_at i (string_at whole t i) ≡ done (text_view k) e → object_colon t e ≡ taken tt j
     → ms.items ≡ s.members.items ++ (k, Null) ∷ [] → i < j → j < length t
     → IsKeyAt t s i (record
-    { items = s.items; members = ms; nest = s.nest; root = s.root; error = s.error; kept = s.kept }) j
+    { items = s.items; members = ms; nest = s.nest; root = s.root; error = s.error; reused = s.reused }) j
 key-at t s ms i e j k b inside read colon pushed ahead within =
     let os = reverse s.nest.items in
     let es = s.items.items in

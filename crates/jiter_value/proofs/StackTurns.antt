@@ -26,11 +26,11 @@ use Rattle.jiter_steps.specs.declared.parse.Shape.{Shape}
 use Rattle.jiter_steps.specs.declared.parse.Shape.TheVariants as shape
 use Rattle.jiter_steps.proofs.Reading.Values.{Advances}
 use Rattle.jiter_steps.proofs.Reading.Instances.{trees-advances}
-use Rattle.jiter_steps.proofs.Calls.Resumed.{IgnoresBegin, value_in-room, value_in-limit, if_forgiven-no, resume-fault}
+use Rattle.jiter_steps.proofs.Calls.Resumed.{IgnoresBegin, value_in-levels, value_in-limit, if_forgiven-no, resume-fault}
 use Rattle.jiter_steps.proofs.Calls.Resumed.{resume-forgiven, step-to, step-stuck, items-value, key-value, key-failed}
 use Rattle.jiter_steps.proofs.Calls.Resumed.{colon-failed, container-begins}
 use Rattle.jiter_value.specs.Settings.{forgives, rules}
-use Rattle.jiter_value.specs.Stacks.{Member, member_view, last_key_of, last_key, front, frames, PartTree, built}
+use Rattle.jiter_value.specs.Stacks.{Member, member_view, last_key_of, last_key, but_last, frames, PartTree, built}
 use Rattle.jiter_value.specs.Stacks.{parts_above, frames_below, HaveBases, HaveKeyBase, key_in, key_fault_in}
 use Rattle.jiter_value.specs.Stacks.{behind_in, container_in, slot_in, empty_tree, Stands}
 use Rattle.jiter_value.specs.Turns.{Fails, IsResolved}
@@ -70,8 +70,8 @@ last_key-append : (xs : List Member) (m : Member) → last_key (xs ++ m ∷ []) 
 last_key-append [] m = refl
 last_key-append (x ∷ xs) m = last_key_of-append x xs m
 
-front-append : (xs : List Member) (m : Member) → front (xs ++ m ∷ []) ≡ xs
-front-append xs m =
+but_last-append : (xs : List Member) (m : Member) → but_last (xs ++ m ∷ []) ≡ xs
+but_last-append xs m =
     let e : length (xs ++ m ∷ []) - 1 ≡ length xs = omega (arith, length-append xs (m ∷ [])) in
     ap (λ n. take n (xs ++ m ∷ [])) e ∙ take-append-le (length xs) xs (m ∷ []) (omega arith)
     ∙ take_all (length xs) xs (omega arith)
@@ -85,7 +85,7 @@ value-frames o os es before m h =
     rw (
       drop-append-le o.base before (m ∷ []) h,
       take-append-le o.base before (m ∷ []) h,
-      front-append (drop o.base before) m,
+      but_last-append (drop o.base before) m,
       last_key-append (drop o.base before) m,
     ) refl
 
@@ -255,9 +255,9 @@ module _ (p : Settings) (t : List ℕ) where
         let deep = length-frames a (reverse s.nest.items) (length es) (length ms) es ms bases in
         omega (arith, deep, few, length-reverse s.nest.items)
 
-    pub value-read : (x : Reading Tree) → ((room : ℕ) → value_at (rules p) t room i ≡ x)
+    pub value-read : (x : Reading Tree) → ((levels : ℕ) → value_at (rules p) t levels i ≡ x)
         → value_from (rules p) t fs i ≡ resume (rules p) t fs x
-    value-read x is = ap (resume (rules p) t fs) (value_in-room (rules p) t (length fs) i low ∙ is (200 - length fs))
+    value-read x is = ap (resume (rules p) t fs) (value_in-levels (rules p) t (length fs) i low ∙ is (200 - length fs))
 
     -- a container begins, by where the step behind its bracket leads
     pub begins : (h : Shape) (u : Step) → start_of (slice_index t i) ≡ opening h
@@ -351,7 +351,7 @@ root-stands nest es ms a b c =
 pub root-from : (p : Settings) (t : List ℕ) (os : List Open) (es : List JsonValue) (ms : List Member) (n m i : ℕ)
     → HaveBases slot.Root os n m
     → value_at (rules p) t 200 i ≡ value_from (rules p) t (frames slot.Root os es ms) i
-root-from p t [] es ms n m i h = sym (value_in-room (rules p) t 0 i (omega arith))
+root-from p t [] es ms n m i h = sym (value_in-levels (rules p) t 0 i (omega arith))
 root-from p t (o ∷ os) es ms n m i h = absurd h
 
 pub root-alone : (os : List Open) (n m : ℕ) → HaveBases slot.Root os n m → length os ≡ 0

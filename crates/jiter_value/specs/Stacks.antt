@@ -40,8 +40,8 @@ last_key [] = record { owned = false; bytes = [] }
 last_key (m ∷ ms) = last_key_of m ms
 
 -- all members but the last
-abbrev pub front : List Member → List Member
-front ms = take (length ms - 1) ms
+abbrev pub but_last : List Member → List Member
+but_last ms = take (length ms - 1) ms
 
 -- Each open container has what stands from its base up, the innermost first. In an object that awaits a value the last
 -- member has its key alone.
@@ -50,7 +50,7 @@ frames a [] items members = []
 frames slot.Item (o ∷ os) items members =
     items_frame (map view (drop o.base items)) ∷ frames o.outer os (take o.base items) members
 frames slot.Member (o ∷ os) items members =
-    members_frame (map member_view (front (drop o.base members)))
+    members_frame (map member_view (but_last (drop o.base members)))
     (last_key (drop o.base members)) ∷ frames o.outer os items (take o.base members)
 frames slot.Root (o ∷ os) items members = []
 

@@ -43,7 +43,7 @@ impl<'j> JsonValueScratch<'j> {
         ensures elements { result.elements ≡ [] }
         ensures members { result.members ≡ [] }
     {
-        let mut stacks = Stacks::kept(alloc);
+        let mut stacks = Stacks::reused(alloc);
         clear(&mut stacks);
         JsonValueScratch {
             alloc,

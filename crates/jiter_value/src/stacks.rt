@@ -78,7 +78,7 @@ pub struct Stacks<'j> {
     /// Why the reading was given up, once it was.
     pub error: ReadError,
     /// Whether the stacks serve further documents: then the root's parts are split off too.
-    pub kept: bool,
+    pub reused: bool,
 }
 
 // The value of the last key.
@@ -93,18 +93,18 @@ fn set_last<'j>(members: &mut Vec<(CowStr<'j>, JsonValue<'j>)>, value: JsonValue
     mem::forget(mem::replace(&mut members[last].1, value));
 }
 
-// Takes the parts of a container that ends: the root takes a stack that is not kept itself.
+// Takes the parts of a container that ends: the root takes a stack that is not reused itself.
 fn take_parts<T: Drop>(
     alloc: Global,
     parts: &mut Vec<T>,
     container: Open,
-    kept: bool,
+    reused: bool,
 ) -> Result<Vec<T>, Refused>
     requires { container.base ≤ vec_len parts.old }
     ensures rest { OnOk result (parts.new.items ≡ take container.base parts.old.items) }
     ensures value { IfOk result (λ v. v.items ≡ drop container.base parts.old.items) }
 {
-    if !kept && container.base == 0 && matches!(container.outer, Slot::Root) {
+    if !reused && container.base == 0 && matches!(container.outer, Slot::Root) {
         let empty = Vec::new(alloc);
         return Ok(mem::replace(parts, empty));
     }
@@ -184,11 +184,11 @@ pub fn close<'j>(alloc: Global, stacks: &mut Stacks<'j>, shape: Shape) -> Result
         Some(container) => {
             match shape {
                 Shape::Array => {
-                    let items = take_parts(alloc, &mut stacks.items, container, stacks.kept)?;
+                    let items = take_parts(alloc, &mut stacks.items, container, stacks.reused)?;
                     put(stacks, container.outer, JsonValue::Array(items))?;
                 }
                 Shape::Object => {
-                    let members = take_parts(alloc, &mut stacks.members, container, stacks.kept)?;
+                    let members = take_parts(alloc, &mut stacks.members, container, stacks.reused)?;
                     put(stacks, container.outer, object_of(members))?;
                 }
             }
@@ -262,18 +262,18 @@ impl<'j> Stacks<'j> {
             nest: SmallVec::new(alloc),
             root: JsonValue::Null,
             error: no_error(),
-            kept: false,
+            reused: false,
         }
     }
 
     /// Nothing held, for one document after another: no value takes a stack over.
-    pub fn kept(alloc: Global) -> Stacks<'j>
+    pub fn reused(alloc: Global) -> Stacks<'j>
         ensures nest { result.nest.items ≡ [] }
         ensures items { result.items.items ≡ [] }
         ensures members { result.members.items ≡ [] }
     {
         let mut stacks = Stacks::new(alloc);
-        stacks.kept = true;
+        stacks.reused = true;
         stacks
     }
 }

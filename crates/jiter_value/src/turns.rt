@@ -66,7 +66,7 @@ fn key_turn<'j>(
     settings: Settings,
 ) -> (usize, State)
     requires stands { StandsAtKey stacks.old }
-    requires room { length stacks.old.nest.items ≤ nesting_limit + 1 }
+    requires levels { length stacks.old.nest.items ≤ nesting_limit + 1 }
     requires within { at < length bytes.now }
     ensures leads { Proceeds settings bytes.now at (left bytes.now stacks.old at)
         (key_size stacks.old + 1) (from_key settings bytes.now stacks.old at)

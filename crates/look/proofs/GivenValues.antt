@@ -36,18 +36,18 @@ Each P (x ∷ xs) = P x × Each P xs
 abbrev pub Both : {K A : Type 0} → (K → Type 0) → (A → Type 0) → K × A → Type 0
 Both IsKey P m = IsKey m.0 × P m.1
 
--- With this room a value is so, and inside a container that has it. What is scanned is so, and what is built of such
+-- With so many levels left a value is so, and inside a container that has it. What is scanned is so, and what is built of such
 -- parts.
 pub record Builds {K A : Type 0} (r : Rules K A) (t : List ℕ) (IsKey : K → Type 0) (Is IsInside : ℕ → A → Type 0)
     : Type 0 where
-  pub literal : (room : ℕ) (l : Literal) (i : ℕ) → Takes (Is room) (r.literal t l i)
-  pub number : (room i : ℕ) → Takes (Is room) (r.number t i)
-  pub text : (room i : ℕ) → Takes (Is room) (r.text t i)
+  pub literal : (levels : ℕ) (l : Literal) (i : ℕ) → Takes (Is levels) (r.literal t l i)
+  pub number : (levels i : ℕ) → Takes (Is levels) (r.number t i)
+  pub text : (levels i : ℕ) → Takes (Is levels) (r.text t i)
   pub key : (i : ℕ) → Takes IsKey (r.key t i)
-  pub array : (room b e : ℕ) (items : List A) → Each (IsInside room) items → Is room (r.array b e items)
-  pub object : (room b e : ℕ) (members : List (K × A)) → Each (Both IsKey (IsInside room)) members
-      → Is room (r.object b e members)
-  pub inside : (room : ℕ) (a : A) → Is room a → IsInside (suc room) a
+  pub array : (levels b e : ℕ) (items : List A) → Each (IsInside levels) items → Is levels (r.array b e items)
+  pub object : (levels b e : ℕ) (members : List (K × A)) → Each (Both IsKey (IsInside levels)) members
+      → Is levels (r.object b e members)
+  pub inside : (levels : ℕ) (a : A) → Is levels a → IsInside (suc levels) a
 
 -- one more element
 each-push : {A : Type 0} (P : A → Type 0) (xs : List A) (x : A) → Each P xs → P x → Each P (xs ++ x ∷ [])
@@ -107,34 +107,34 @@ module _ {K A : Type 0} (r : Rules K A) (t : List ℕ) where
   scalar_at-gives Is i (failed k j) is = tt
 
   module _ (IsKey : K → Type 0) (Is IsInside : ℕ → A → Type 0) (builds : Builds r t IsKey Is IsInside) where
-    value_with-gives : (room : ℕ) (inner : ℕ → Reading A) → ((i : ℕ) → Gives (IsInside room) (inner i)) → (i : ℕ)
-        (s : Start) → Gives (Is room) (value_with r inner t i s)
-    value_with-gives room inner each i start.Array =
-        container_at-gives (array_of r inner t i) (IsInside room) (Is room) each (builds.array room i) i
-    value_with-gives room inner each i start.Object =
-        container_at-gives (object_of r inner t i) (Both IsKey (IsInside room)) (Is room)
-        (λ j. behind_key-gives IsKey (IsInside room) inner each j (r.key t j) (builds.key j)) (builds.object room i) i
-    value_with-gives room inner each i start.String = scalar_at-gives (Is room) i (r.text t i) (builds.text room i)
-    value_with-gives room inner each i start.Number = scalar_at-gives (Is room) i (r.number t i) (builds.number room i)
-    value_with-gives room inner each i (start.Literal l) =
-        scalar_at-gives (Is room) i (r.literal t l i) (builds.literal room l i)
-    value_with-gives room inner each i start.Nothing = tt
+    value_with-gives : (levels : ℕ) (inner : ℕ → Reading A) → ((i : ℕ) → Gives (IsInside levels) (inner i)) → (i : ℕ)
+        (s : Start) → Gives (Is levels) (value_with r inner t i s)
+    value_with-gives levels inner each i start.Array =
+        container_at-gives (array_of r inner t i) (IsInside levels) (Is levels) each (builds.array levels i) i
+    value_with-gives levels inner each i start.Object =
+        container_at-gives (object_of r inner t i) (Both IsKey (IsInside levels)) (Is levels)
+        (λ j. behind_key-gives IsKey (IsInside levels) inner each j (r.key t j) (builds.key j)) (builds.object levels i) i
+    value_with-gives levels inner each i start.String = scalar_at-gives (Is levels) i (r.text t i) (builds.text levels i)
+    value_with-gives levels inner each i start.Number = scalar_at-gives (Is levels) i (r.number t i) (builds.number levels i)
+    value_with-gives levels inner each i (start.Literal l) =
+        scalar_at-gives (Is levels) i (r.literal t l i) (builds.literal levels l i)
+    value_with-gives levels inner each i start.Nothing = tt
 
-    -- a value inside leaves room for the container round it
-    inside-gives : (room : ℕ) (x : Reading A) → Gives (Is room) x → Gives (IsInside (suc room)) x
-    inside-gives room (done a e) h = builds.inside room a h
-    inside-gives room (fault k i stop) h = tt
+    -- a value inside leaves a level for the container round it
+    inside-gives : (levels : ℕ) (x : Reading A) → Gives (Is levels) x → Gives (IsInside (suc levels)) x
+    inside-gives levels (done a e) h = builds.inside levels a h
+    inside-gives levels (fault k i stop) h = tt
 
-    inside_at-gives : (room i : ℕ) → Gives (IsInside room) (inside_at r t room i)
+    inside_at-gives : (levels i : ℕ) → Gives (IsInside levels) (inside_at r t levels i)
     unfolding inside_at
     inside_at-gives zero i = tt
-    inside_at-gives (suc room) i =
-        inside-gives room _
-        (value_with-gives room (λ j. inside_at r t room j) (inside_at-gives room) i (start_of (slice_index t i)))
+    inside_at-gives (suc levels) i =
+        inside-gives levels _
+        (value_with-gives levels (λ j. inside_at r t levels j) (inside_at-gives levels) i (start_of (slice_index t i)))
 
-    value_at-gives : (room i : ℕ) → Gives (Is room) (value_at r t room i)
-    value_at-gives room i =
-        value_with-gives room (inside_at r t room) (inside_at-gives room) i (start_of (slice_index t i))
+    value_at-gives : (levels i : ℕ) → Gives (Is levels) (value_at r t levels i)
+    value_at-gives levels i =
+        value_with-gives levels (inside_at r t levels) (inside_at-gives levels) i (start_of (slice_index t i))
 
     if_begun-gives : (i : ℕ) (o : Option ℕ) → Gives (Is nesting_limit) (if_begun r t i o)
     if_begun-gives i None = tt

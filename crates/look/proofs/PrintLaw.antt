@@ -56,45 +56,45 @@ module _ (names : Bool) (u : List ℕ) where
   abbrev SameMembers : List (Text × Tree) → List (Key × Node) → Type 0
   SameMembers ps ms = borrow_members (grammar.members_of u (node_members_of ms)) ≡ borrow_members (members_of ps)
 
-  -- with this room a node of the same value, and inside a container that has it
+  -- with so many levels left a node of the same value, and inside a container that has it
   abbrev AgainTree : ℕ → Tree → ℕ → ℕ → Type 0
-  AgainTree room v = Again (λ i n j. IsNodeAt names u i n j × (nesting n ≤ room)) Same v
+  AgainTree levels v = Again (λ i n j. IsNodeAt names u i n j × (nesting n ≤ levels)) Same v
 
   abbrev AgainInside : ℕ → Tree → ℕ → ℕ → Type 0
-  AgainInside room v = Again (IsItemAt names u room) Same v
+  AgainInside levels v = Again (IsItemAt names u levels) Same v
 
   abbrev IsMember : ℕ → ℕ → Key × Node → ℕ → Type 0
-  IsMember room i m j = IsMemberAt names u room i m.0 m.1 j
+  IsMember levels i m j = IsMemberAt names u levels i m.0 m.1 j
 
   -- a node that begins right here
-  node-again : (room : ℕ) (v : Tree) (n : Node) (w : List ℕ) → begin n ≤ length u → Stands u (begin n) (end n) w
-      → Spells names u n → nesting n ≤ room → Same v n → AgainTree room v (begin n) (end n)
-  node-again room v n w l h spelled depth same = record {
+  node-again : (levels : ℕ) (v : Tree) (n : Node) (w : List ℕ) → begin n ≤ length u → Stands u (begin n) (end n) w
+      → Spells names u n → nesting n ≤ levels → Same v n → AgainTree levels v (begin n) (end n)
+  node-again levels v n w l h spelled depth same = record {
     again = n;
     spelled = (record { spelled = spelled; begins = refl; ends = refl; within = stands-within u _ _ w l h }, depth);
     like = same;
   }
 
-  literal-again : (room : ℕ) (l : Literal) → Wherever u (word_of l) (AgainTree room (literal_tree l))
-  literal-again room word i j l h = node-again room (literal_tree word) (literal word i j) _ l h h (omega arith) refl
+  literal-again : (levels : ℕ) (l : Literal) → Wherever u (word_of l) (AgainTree levels (literal_tree l))
+  literal-again levels word i j l h = node-again levels (literal_tree word) (literal word i j) _ l h h (omega arith) refl
 
   -- a number's print is a number's text, of the same number
-  number-node : (room : ℕ) (v : Tree) → IsNumber names v → Wherever u (print_of v) (AgainTree room v)
-  number-node room v n i j l h =
+  number-node : (levels : ℕ) (v : Tree) → IsNumber names v → Wherever u (print_of v) (AgainTree levels v)
+  number-node levels v n i j l h =
       let again = number-again names n.text n.is_text in
       let text = subst (λ x. IsNumberText names (print_of x)) n.is again.0 in
       let value = subst (λ x. number_value (print_of x) ≡ number_value n.text) n.is again.1 in
       let is = slice-stands u i j _ h in
       let long = stands-length u i j _ h in
       let within = stands-within u i j _ l h in
-      node-again room v (number i j) _ l h
+      node-again levels v (number i j) _ l h
       (record { ordered = omega arith; within = within; text = subst (IsNumberText names) is text })
       (omega arith) (ap borrow_tree (ap number_tree (ap number_value (sym is) ∙ value) ∙ n.is))
 
   -- What is printed of a member is spelled by a key of the same text, a colon and what spells the value.
-  member-again : (room : ℕ) (p : Text × Tree) → IsUtf8 p.0.bytes → Wherever u (print_of p.1) (AgainInside room p.1)
-      → Wherever u (print_member p) (Again (IsMember room) SameMember p)
-  member-again room p s value i j l h =
+  member-again : (levels : ℕ) (p : Text × Tree) → IsUtf8 p.0.bytes → Wherever u (print_of p.1) (AgainInside levels p.1)
+      → Wherever u (print_member p) (Again (IsMember levels) SameMember p)
+  member-again levels p s value i j l h =
       let parts = stands-split u i j (print_text p.0.bytes) (58 ∷ print_of p.1) h in
       let r = string-again u i parts.0 p.0.bytes s parts.1 in
       let lt = slice_get_within u parts.0 58 parts.2.0 in
@@ -117,43 +117,43 @@ module _ (names : Bool) (u : List ℕ) where
       }
 
   -- What is printed of a value is spelled by a node of the same value, if that is so of each value inside.
-  tree-again : (room : ℕ) (Inside : Tree → Type 0)
-      → ((v : Tree) → Inside v → Wherever u (print_of v) (AgainInside room v)) → (v : Tree) → FitsWith names Inside v
-      → Wherever u (print_of v) (AgainTree room v)
-  tree-again room Inside inside tree.null s = literal-again room name.Null
-  tree-again room Inside inside (tree.boolean true) s = literal-again room name.True
-  tree-again room Inside inside (tree.boolean false) s = literal-again room name.False
-  tree-again room Inside inside (tree.int z) s = number-node room (tree.int z) s
-  tree-again room Inside inside (tree.big x) s = number-node room (tree.big x) s
-  tree-again room Inside inside (tree.float x) s = number-node room (tree.float x) s
-  tree-again room Inside inside (tree.string x) s = λ i j l h.
+  tree-again : (levels : ℕ) (Inside : Tree → Type 0)
+      → ((v : Tree) → Inside v → Wherever u (print_of v) (AgainInside levels v)) → (v : Tree) → FitsWith names Inside v
+      → Wherever u (print_of v) (AgainTree levels v)
+  tree-again levels Inside inside tree.null s = literal-again levels name.Null
+  tree-again levels Inside inside (tree.boolean true) s = literal-again levels name.True
+  tree-again levels Inside inside (tree.boolean false) s = literal-again levels name.False
+  tree-again levels Inside inside (tree.int z) s = number-node levels (tree.int z) s
+  tree-again levels Inside inside (tree.big x) s = number-node levels (tree.big x) s
+  tree-again levels Inside inside (tree.float x) s = number-node levels (tree.float x) s
+  tree-again levels Inside inside (tree.string x) s = λ i j l h.
       let r = string-again u i j x.bytes s h in
-      node-again room (tree.string x) (string r.0 i j) (print_of (tree.string x)) l h r.1 (omega arith)
+      node-again levels (tree.string x) (string r.0 i j) (print_of (tree.string x)) l h r.1 (omega arith)
       (ap (λ (y : List ℕ). tree.string (record { owned = false; bytes = y })) r.2)
-  tree-again room Inside inside (tree.array js) s = λ i j l h.
+  tree-again levels Inside inside (tree.array js) s = λ i j l h.
       let lt = slice_get_within u i 91 h.0 in
       let a =
-      parts-again (items-grammar names u room Anywhere (IsItemAt names u room) (λ j n m at is. is)) {Like = SameItems}
+      parts-again (items-grammar names u levels Anywhere (IsItemAt names u levels) (λ j n m at is. is)) {Like = SameItems}
       refl (λ v n vs ns one more. ap₂ tree.item one more) print_of inside s.0 s.2 (i + 1) j (omega arith)
       (rw (s.1, item_prints-are s.0) at h.1) in
-      node-again room (tree.array js) (array i j (nodes_of a.again)) (print_of (tree.array js)) l h (h.0, a.spelled.0)
+      node-again levels (tree.array js) (array i j (nodes_of a.again)) (print_of (tree.array js)) l h (h.0, a.spelled.0)
       a.spelled.1 (ap tree.array (a.like ∙ ap borrow_items (sym s.1)))
-  tree-again room Inside inside (tree.object ms) s = λ i j l h.
+  tree-again levels Inside inside (tree.object ms) s = λ i j l h.
       let lt = slice_get_within u i 123 h.0 in
       let a =
-      parts-again (members-grammar names u room Anywhere (IsMember room) (λ j m e at is. is)) {Like = SameMembers}
+      parts-again (members-grammar names u levels Anywhere (IsMember levels) (λ j m e at is. is)) {Like = SameMembers}
       refl
       (λ p m ps ms one more.
       (λ d. tree.member (record { owned = false; bytes = one.0 d }) (one.1 d) (more d)))
-      print_member (λ p is. member-again room p is.0 (inside p.1 is.1)) s.0 s.2 (i + 1) j (omega arith)
+      print_member (λ p is. member-again levels p is.0 (inside p.1 is.1)) s.0 s.2 (i + 1) j (omega arith)
       (rw (s.1, member_prints-are s.0) at h.1) in
-      node-again room (tree.object ms) (object i j (node_members_of a.again)) (print_of (tree.object ms)) l h
+      node-again levels (tree.object ms) (object i j (node_members_of a.again)) (print_of (tree.object ms)) l h
       (h.0, a.spelled.0) a.spelled.1 (ap tree.object (a.like ∙ ap borrow_members (sym s.1)))
 
-  inside-again : (room : ℕ) (v : Tree) → FitsInside names room v → Wherever u (print_of v) (AgainInside room v)
+  inside-again : (levels : ℕ) (v : Tree) → FitsInside names levels v → Wherever u (print_of v) (AgainInside levels v)
   inside-again zero v s i j l h = absurd s
-  inside-again (suc room) v s i j l h =
-      let a = tree-again room (FitsInside names room) (inside-again room) v s i j l h in
+  inside-again (suc levels) v s i j l h =
+      let a = tree-again levels (FitsInside names levels) (inside-again levels) v s i j l h in
       record { again = a.again; spelled = (a.spelled.0, omega (arith, a.spelled.1)); like = a.like }
 
 -- ---- the whole text

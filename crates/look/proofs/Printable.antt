@@ -47,37 +47,37 @@ FitsWith names Inside (string s) = IsText s
 FitsWith names Inside (array js) = (vs : List Tree) × (js ≡ items_of vs) × Each Inside vs
 FitsWith names Inside (object ms) = (ps : List (Text × Tree)) × (ms ≡ members_of ps) × Each (Both IsText Inside) ps
 
--- inside a container with this room, which needs room itself
+-- inside a container with so many levels left, which needs one itself
 abbrev pub FitsInside : Bool → ℕ → Tree → Type 0
 FitsInside names zero v = ⊥
 FitsInside names (suc left) v = FitsWith names (λ w. FitsInside names left w) v
 
--- No more containers than there is room for stand one inside another, empty ones left out.
+-- No more containers than there are levels stand one inside another, empty ones left out.
 abbrev pub Fits : Bool → ℕ → Tree → Type 0
-Fits names room v = FitsWith names (λ w. FitsInside names room w) v
+Fits names levels v = FitsWith names (λ w. FitsInside names levels w) v
 
 -- ---- what is scanned
-literal-fits : (names : Bool) (room : ℕ) (l : Literal) → Fits names room (literal_tree l)
-literal-fits names room name.Null = tt
-literal-fits names room name.True = tt
-literal-fits names room name.False = tt
+literal-fits : (names : Bool) (levels : ℕ) (l : Literal) → Fits names levels (literal_tree l)
+literal-fits names levels name.Null = tt
+literal-fits names levels name.True = tt
+literal-fits names levels name.False = tt
 
-literal_at-fits : (names : Bool) (room : ℕ) (l : Literal) (x : Extent)
-    → Takes (Fits names room) (seen_as (λ u e. literal_tree l) x)
-literal_at-fits names room l (taken u e) = literal-fits names room l
-literal_at-fits names room l (failed k j) = tt
+literal_at-fits : (names : Bool) (levels : ℕ) (l : Literal) (x : Extent)
+    → Takes (Fits names levels) (seen_as (λ u e. literal_tree l) x)
+literal_at-fits names levels l (taken u e) = literal-fits names levels l
+literal_at-fits names levels l (failed k j) = tt
 
-number-fits : (names : Bool) (room : ℕ) (x : Number) → IsNumber names (number_tree x) → Fits names room (number_tree x)
-number-fits names room (integer z) h = h
-number-fits names room (big w) h = h
-number-fits names room (float w) h = h
+number-fits : (names : Bool) (levels : ℕ) (x : Number) → IsNumber names (number_tree x) → Fits names levels (number_tree x)
+number-fits names levels (integer z) h = h
+number-fits names levels (big w) h = h
+number-fits names levels (float w) h = h
 
-number_at-fits : (names : Bool) (t : List ℕ) (room i : ℕ) (x : Scanned Number) → number_at names t i ≡ x
-    → Takes (Fits names room) (seen_as (λ n e. number_tree n) x)
-number_at-fits names t room i (taken n e) is =
+number_at-fits : (names : Bool) (t : List ℕ) (levels i : ℕ) (x : Scanned Number) → number_at names t i ≡ x
+    → Takes (Fits names levels) (seen_as (λ n e. number_tree n) x)
+number_at-fits names t levels i (taken n e) is =
     let r = number_at-sound names t i n e is in
-    number-fits names room n (record { text = _; is_text = r.0; is = ap number_tree (sym r.1) })
-number_at-fits names t room i (failed k j) is = tt
+    number-fits names levels n (record { text = _; is_text = r.0; is = ap number_tree (sym r.1) })
+number_at-fits names t levels i (failed k j) is = tt
 
 -- a form whose texts are UTF-8
 abbrev Decodes : Form → Type 0
@@ -116,22 +116,22 @@ unfolding content_at
 string_at-text form d t i =
     let b = body_at t (i + 1) in text_in_form-text form d t (i + 1) b.bytes b.owned b.stop
 
-string-fits : (names : Bool) (room : ℕ) (x : Scanned Text) → Takes IsText x
-    → Takes (Fits names room) (seen_as (λ s e. string s) x)
-string-fits names room (taken s e) h = h
-string-fits names room (failed k j) h = tt
+string-fits : (names : Bool) (levels : ℕ) (x : Scanned Text) → Takes IsText x
+    → Takes (Fits names levels) (seen_as (λ s e. string s) x)
+string-fits names levels (taken s e) h = h
+string-fits names levels (failed k j) h = tt
 
 -- ---- what is built
 trees-build : (forgives : Kind → Bool) (form : Form) → Decodes form → (names : Bool) (t : List ℕ)
     → Builds (trees forgives form names) t IsText (Fits names) (FitsInside names)
 trees-build forgives form d names t = record {
-  literal = λ room l i. literal_at-fits names room l (literal_at t l i);
-  number = λ room i. number_at-fits names t room i (number_at names t i) refl;
-  text = λ room i. string-fits names room (string_at form t i) (string_at-text form d t i);
+  literal = λ levels l i. literal_at-fits names levels l (literal_at t l i);
+  number = λ levels i. number_at-fits names t levels i (number_at names t i) refl;
+  text = λ levels i. string-fits names levels (string_at form t i) (string_at-text form d t i);
   key = λ i. string_at-text whole tt t i;
-  array = λ room b e items h. (items, refl, h);
-  object = λ room b e members h. (members, refl, h);
-  inside = λ room v h. h;
+  array = λ levels b e items h. (items, refl, h);
+  object = λ levels b e members h. (members, refl, h);
+  inside = λ levels v h. h;
 }
 
 -- What a text is read as can be printed, in each mode.

@@ -4,7 +4,7 @@ ghost use Rattle.std.specs.Prelude.{◌<◌, length};
 use jiter_scan::simd::scan_string;
 use jiter_scan::word::byte_at;
 use jiter_steps::parse::Literal;
-use jiter_steps::plain::{colon_at, plain_literal_end, plain_text_end, text_between};
+use jiter_steps::plain::{plain_colon, plain_literal_end, plain_text_end, text_between};
 use std::test::*;
 
 #[test]
@@ -16,7 +16,7 @@ fn a_colon_leads_to_a_value(rt: HostRuntime) {
         (b"{\"a\":", None),
         (b"{\"a\"", None),
     ] {
-        assert_eq!(rt; colon_at(bytes, 4), value, "of {bytes:?}");
+        assert_eq!(rt; plain_colon(bytes, 4), value, "of {bytes:?}");
     }
 }
 

@@ -3,15 +3,15 @@ use Rattle.std.proofs.Common.{◌≡◌, ℕ, pos, List, [], ◌∷◌, refl, co
 use Rattle.jiter_scan.specs.Kind.{eof_value, invalid_number}
 use Rattle.jiter_scan.specs.Scanned.{Scanned, taken, failed}
 use Rattle.jiter_scan.specs.Number.{integer, big}
-use Rattle.jiter_scan.specs.NumberReading.{Integer, int_at, whole, float_seen}
+use Rattle.jiter_scan.specs.NumberReading.{Integer, int_at, int_seen, float_seen}
 use Rattle.jiter_scan.proofs.Computed.{computed_numbers}
 
 abbrev integers : List (List ℕ × ℕ × Scanned Integer)
 integers =
-    (codes "[12,", 1, taken (whole (integer (pos 12))) 3) ∷
-    (codes "-0", 0, taken (whole (integer (pos 0))) 2) ∷
-    (codes "9223372036854775808", 0, taken (whole (big (codes "9223372036854775808"))) 19) ∷
-    (codes "[1x]", 1, taken (whole (integer (pos 1))) 2) ∷
+    (codes "[12,", 1, taken (int_seen (integer (pos 12))) 3) ∷
+    (codes "-0", 0, taken (int_seen (integer (pos 0))) 2) ∷
+    (codes "9223372036854775808", 0, taken (int_seen (big (codes "9223372036854775808"))) 19) ∷
+    (codes "[1x]", 1, taken (int_seen (integer (pos 1))) 2) ∷
     -- a byte of a float is seen, whatever follows it
     (codes " 1.5", 1, taken float_seen 2) ∷
     (codes "1.x", 0, taken float_seen 1) ∷

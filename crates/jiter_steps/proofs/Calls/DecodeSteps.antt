@@ -4,10 +4,10 @@ use Rattle.std.proofs.Common.{◌≢◌, Bool, subst, append-nil}
 use Rattle.std.specs.Prelude.{slice_get, slice_range, Some}
 use Rattle.std.proofs.lemmas.Bool.Decides.{nat_tests}
 use Rattle.jiter_scan.specs.Scan.{scan_stop}
-use Rattle.jiter_steps.specs.StringReading.{part, over, place_at, Stop, body_at, number, hex_digits_at}
+use Rattle.jiter_steps.specs.StringReading.{part, over, portion_at, Stop, body_at, number, hex_digits_at}
 use Rattle.std.proofs.lemmas.Bool.{ne_eqb}
-use Rattle.jiter_steps.proofs.Grammar.Places.{place_at-explains, Explains}
-use Rattle.jiter_steps.proofs.Reading.Bodies.{body_at-place_by, part-ahead}
+use Rattle.jiter_steps.proofs.Grammar.Places.{portion_at-explains, Explains}
+use Rattle.jiter_steps.proofs.Reading.Bodies.{body_at-portion_by, part-ahead}
 use Rattle.std.specs.Char.{encode_utf8, IsScalar}
 use Rattle.jiter_steps.specs.Escape.{short_escape, is_high, is_low}
 use Rattle.jiter_steps.proofs.Calls.PlainRuns.{plain_run_to, plain_run-within}
@@ -15,8 +15,8 @@ use Rattle.jiter_steps.proofs.Calls.PlainRuns.{plain_run_to, plain_run-within}
 -- Escapes that one look shows to be whole, and no pair.
 module _ (t : List ℕ) (i : ℕ) (backslash : slice_get t i ≡ Some 92) where
   pub decode-unit : (u : ℕ) → slice_get t (i + 1) ≡ Some 117 → hex_digits_at t (i + 2) ≡ number u → IsScalar u
-      → place_at t i ≡ part (encode_utf8 u) true (i + 6)
-  unfolding place_at
+      → portion_at t i ≡ part (encode_utf8 u) true (i + 6)
+  unfolding portion_at
   decode-unit u letter digits scalar =
       let at : i + 1 + 1 ≡ i + 2 = omega arith in
       let end : i + 2 + 4 ≡ i + 6 = omega arith in
@@ -25,8 +25,8 @@ module _ (t : List ℕ) (i : ℕ) (backslash : slice_get t i ≡ Some 92) where
       rw (backslash, letter, at, digits, no_high, no_low, end)
 
   pub decode-letter : (b c : ℕ) → slice_get t (i + 1) ≡ Some b → b ≢ 117 → short_escape b ≡ Some c
-      → place_at t i ≡ part (encode_utf8 c) true (i + 2)
-  unfolding place_at
+      → portion_at t i ≡ part (encode_utf8 c) true (i + 2)
+  unfolding portion_at
   decode-letter b c letter other sign =
       let end : i + 1 + 1 ≡ i + 2 = omega arith in
       rw (backslash, letter, ne_eqb b 117 other, sign, end)
@@ -37,18 +37,18 @@ Decoded t tape from at =
     ((body_at t from).bytes ≡ tape ++ (body_at t at).bytes) × ((body_at t from).stop ≡ (body_at t at).stop)
 
 -- a part is added
-part_more : (t tape bs : List ℕ) (from at j : ℕ) (o : Bool) → Decoded t tape from at → place_at t at ≡ part bs o j
+part_more : (t tape bs : List ℕ) (from at j : ℕ) (o : Bool) → Decoded t tape from at → portion_at t at ≡ part bs o j
     → Decoded t (tape ++ bs) from j × (at < j) × (j ≤ length t)
 part_more t tape bs from at j o d e =
-    let b = body_at-place_by t at (part bs o j) e in
-    let ahead = part-ahead t at j bs o (subst (Explains t at) e (place_at-explains t at)) in
+    let b = body_at-portion_by t at (part bs o j) e in
+    let ahead = part-ahead t at j bs o (subst (Explains t at) e (portion_at-explains t at)) in
     ((rw (d.0, b, append_assoc), rw (d.1, b)), ahead.0, ahead.1)
 
 -- the end
-part_over : (t tape : List ℕ) (from at : ℕ) (x : Stop) → Decoded t tape from at → place_at t at ≡ over x
+part_over : (t tape : List ℕ) (from at : ℕ) (x : Stop) → Decoded t tape from at → portion_at t at ≡ over x
     → (tape ≡ (body_at t from).bytes) × ((body_at t from).stop ≡ x)
 part_over t tape from at x d e =
-    let b = body_at-place_by t at (over x) e in (rw (d.0, b, append-nil), rw (d.1, b))
+    let b = body_at-portion_by t at (over x) e in (rw (d.0, b, append-nil), rw (d.1, b))
 
 -- a run of plain bytes is added
 module _ (t tape next : List ℕ) (from at to : ℕ) (so_far : Decoded t tape from at) (within : at ≤ length t)
@@ -59,7 +59,7 @@ module _ (t tape next : List ℕ) (from at to : ℕ) (so_far : Decoded t tape fr
       (rw (so_far.0, b, added, append_assoc), rw (so_far.1, b))
 
   -- and the character of an escape
-  pub decode-more : (after bs : List ℕ) (end : ℕ) → part bs true end ≡ place_at t to → after ≡ next ++ bs
+  pub decode-more : (after bs : List ℕ) (end : ℕ) → part bs true end ≡ portion_at t to → after ≡ next ++ bs
       → Decoded t after from end × (at < end) × (end ≤ length t)
   decode-more after bs end f a =
       let m = part_more t next bs from to end true run_more (sym f) in
@@ -67,6 +67,6 @@ module _ (t tape next : List ℕ) (from at to : ℕ) (so_far : Decoded t tape fr
       (rw a m.0, omega (arith, m.1, ahead.0, stop), m.2)
 
   -- or the string is over
-  pub decode-over : (x : Stop) → over x ≡ place_at t to
+  pub decode-over : (x : Stop) → over x ≡ portion_at t to
       → (next ≡ (body_at t from).bytes) × (x ≡ (body_at t from).stop)
   decode-over x f = let m = part_over t next from to x run_more (sym f) in (m.0, sym m.1)

@@ -8,9 +8,9 @@ use Rattle.std.proofs.lemmas.List.Edits.{between_none, between_more}
 use Rattle.jiter_scan.specs.Scan.{is_stop, is_plain, scan_stop}
 use Rattle.jiter_scan.proofs.Runs.{run_end-ahead, run_end-within, run_end-passes, run_end-stops}
 use Rattle.jiter_steps.specs.StringReading.{part, before, body_at}
-use Rattle.jiter_steps.proofs.Grammar.StringComplete.{IsPrinted, place_by-byte}
+use Rattle.jiter_steps.proofs.Grammar.StringComplete.{IsPrinted, portion_by-byte}
 use Rattle.jiter_steps.proofs.Grammar.Places.{got}
-use Rattle.jiter_steps.proofs.Reading.Bodies.{before-before, body_at-place_by}
+use Rattle.jiter_steps.proofs.Reading.Bodies.{before-before, body_at-portion_by}
 
 plain_more : (t : List ℕ) (from at : ℕ) → body_at t from ≡ before (slice_range t from at) false (body_at t at)
     → from ≤ at → at < length t → IsPrinted (slice_index t at)
@@ -18,7 +18,7 @@ plain_more : (t : List ℕ) (from at : ℕ) → body_at t from ≡ before (slice
 plain_more t from at h le lt printed =
     let b = slice_index t at in
     let step =
-    body_at-place_by t at (part (b ∷ []) false (at + 1)) (place_by-byte t at b (got t at lt) printed) in
+    body_at-portion_by t at (part (b ∷ []) false (at + 1)) (portion_by-byte t at b (got t at lt) printed) in
     h ∙ ap (before (slice_range t from at) false) step
     ∙ before-before (slice_range t from at) (b ∷ []) false false (body_at t (at + 1))
     ∙ ap (λ l. before l false (body_at t (at + 1))) (sym (between_more t from at 0 le lt))

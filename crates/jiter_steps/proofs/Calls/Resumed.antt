@@ -44,8 +44,8 @@ module _ {K A : Type 0} (r : Rules K A) (t : List ℕ) where
   build_of (items_frame items) e = r.array 0 e items
   build_of (members_frame members k) e = r.object 0 e members
 
-  pub value_in-room : (depth j : ℕ) → depth ≤ 200 → value_in r t depth j ≡ value_at r t (200 - depth) j
-  value_in-room depth j h =
+  pub value_in-levels : (depth j : ℕ) → depth ≤ 200 → value_in r t depth j ≡ value_at r t (200 - depth) j
+  value_in-levels depth j h =
       let e : 201 - depth ≡ suc (200 - depth) = omega arith in ap (λ n. inside_at r t n j) e
       ∙ inside_at-suc r t (200 - depth) j
 

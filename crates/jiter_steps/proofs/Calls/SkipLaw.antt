@@ -6,7 +6,7 @@ use Rattle.jiter_scan.specs.Number.{Number}
 use Rattle.jiter_scan.specs.Scanned.{Scanned, taken, failed}
 use Rattle.jiter_scan.specs.Word.{Extent}
 use Rattle.jiter_scan.specs.NumberReading.{number_at}
-use Rattle.jiter_steps.specs.Answer.{seen_as, ends, whole_trees, read_at, skip_at}
+use Rattle.jiter_steps.specs.Answer.{seen_as, only_ends, whole_trees, read_at, skip_at}
 use Rattle.jiter_steps.specs.Literal.{literal_at}
 use Rattle.jiter_steps.specs.Node.{nesting_limit}
 use Rattle.jiter_steps.specs.Read.{Reading, done, fault}
@@ -48,8 +48,8 @@ module _ (names : Bool) (t : List ℕ) where
   strings-alike i (taken s e) h told = sym (ap (seen_as (λ s e. tt {0})) (raw-whole t i e s h))
   strings-alike i (failed k j) h told = sym (ap (seen_as (λ s e. tt {0})) (raw-whole-fault t i k j told h))
 
-  ends-lead : Leads Told (whole_trees names) (ends names) seen_end seen_end t
-  ends-lead = record {
+  only_ends-lead : Leads Told (whole_trees names) (only_ends names) seen_end seen_end t
+  only_ends-lead = record {
     forgives = λ k. refl;
     told = λ k forgiven. absurd (false≢true forgiven);
     literal = λ l i lt s. seen-alike _ _ _ seen_end seen_end (λ u e. refl) (literal-alike (literal_at t l i));
@@ -69,4 +69,4 @@ module _ (names : Bool) (t : List ℕ) where
   pub skip_at-law : (i : ℕ) → EndsAlike (read_at names t i) (skip_at names t i)
   skip_at-law i =
       alike (read_at names t i) (skip_at names t i)
-      (value_at-told Told (whole_trees names) (ends names) seen_end seen_end t ends-lead nesting_limit i)
+      (value_at-told Told (whole_trees names) (only_ends names) seen_end seen_end t only_ends-lead nesting_limit i)

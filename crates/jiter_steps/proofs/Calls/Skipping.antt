@@ -7,7 +7,7 @@ use Rattle.jiter_scan.specs.Kind.{Kind, recursion_limit}
 use Rattle.jiter_scan.specs.Scanned.{Scanned, taken, failed}
 use Rattle.jiter_scan.specs.Word.{Extent}
 use Rattle.jiter_scan.specs.declared.errors.Fault.{Fault}
-use Rattle.jiter_steps.specs.Answer.{seen_as, ends, nothing_forgiven}
+use Rattle.jiter_steps.specs.Answer.{seen_as, only_ends, nothing_forgiven}
 use Rattle.jiter_steps.specs.Literal.{start_of}
 use Rattle.jiter_steps.specs.Step.{Step, more, closed, stuck, step, opening, container_first, container_step}
 use Rattle.jiter_steps.specs.Step.{object_colon}
@@ -20,13 +20,13 @@ use Rattle.jiter_steps.specs.Frames.{Frame, resolve_step, parts_from, parts_step
 use Rattle.jiter_steps.specs.Skip.{awaits_value, value_inside, inside, first_inside, next_inside, frame_of, shape_of}
 use Rattle.jiter_steps.specs.Skip.{open_frames, Continues}
 use Rattle.jiter_steps.proofs.Reading.Bounds.{Ahead, container_first-ahead, container_step-ahead}
-use Rattle.jiter_steps.proofs.Reading.Instances.{ends-advances}
-use Rattle.jiter_steps.proofs.Calls.Resumed.{IgnoresBegin, value_in-room, value_in-limit, resume-fault, Part}
+use Rattle.jiter_steps.proofs.Reading.Instances.{only_ends-advances}
+use Rattle.jiter_steps.proofs.Calls.Resumed.{IgnoresBegin, value_in-levels, value_in-limit, resume-fault, Part}
 use Rattle.jiter_steps.proofs.Calls.Resumed.{container_in, container-begins, container_in-goes}
 use Rattle.jiter_steps.proofs.Reading.Values.{Advances, parts_at_is}
 use Rattle.jiter_scan.specs.NumberReading.{with_value, number_extent, number_at}
 
--- The end of a number alone, in the words of the reading that gives ends alone.
+-- The end of a number alone, in the words of the reading that gives only_ends alone.
 extent-again : (t : List ℕ) (i : ℕ) (x : Extent) → seen_as (λ n e. tt {0}) (with_value t i x) ≡ x
 extent-again t i (taken u e) = refl
 extent-again t i (failed k j) = refl
@@ -68,60 +68,60 @@ step-kept (closed e) = refl
 step-kept (stuck k j) = refl
 
 module _ (names : Bool) (t : List ℕ) where
-  good : Advances (ends names) t
-  good = ends-advances t names
+  good : Advances (only_ends names) t
+  good = only_ends-advances t names
 
-  any : IgnoresBegin (ends names)
+  any : IgnoresBegin (only_ends names)
   any = record { array = λ b. refl; object = λ b. refl }
 
   -- what the open containers make of a reading, and of one behind some parts of a container inside them
   abbrev resumed : Frames → Reading (Unit {0}) → Reading (Unit {0})
-  resumed fs x = resume (ends names) t fs x
+  resumed fs x = resume (only_ends names) t fs x
 
   abbrev behind : {P : Type 0} → Container P (Unit {0}) → Frames → List P → Reading P → Reading (Unit {0})
-  behind c fs ps x = resumed fs (behind_part (ends names) c t (parts_from (ends names) t c) ps x)
+  behind c fs ps x = resumed fs (behind_part (only_ends names) c t (parts_from (only_ends names) t c) ps x)
 
   -- the one inside them
-  abbrev innermost : (b : Shape) → Frames → Container (Part (ends names) t b) (Unit {0})
-  innermost b fs = container_in (ends names) t b (length fs)
+  abbrev innermost : (b : Shape) → Frames → Container (Part (only_ends names) t b) (Unit {0})
+  innermost b fs = container_in (only_ends names) t b (length fs)
 
   -- Which parts a container has makes no difference.
   module _ {P : Type 0} (c : Container P (Unit {0}))
       (same : (e : ℕ) (ps qs : List P) → c.build e ps ≡ c.build e qs) where
     behind_part-any : (go : List P → ℕ → Reading (Unit {0}))
         → ((ps qs : List P) (j : ℕ) → go ps j ≡ go qs j) → (ps qs : List P) (x : Reading P)
-        → behind_part (ends names) c t go ps x ≡ behind_part (ends names) c t go qs x
+        → behind_part (only_ends names) c t go ps x ≡ behind_part (only_ends names) c t go qs x
     behind_part-any go all ps qs (done p e) =
         let us = ps ++ p ∷ [] in
         let vs = qs ++ p ∷ [] in
-        λ k. follow (ends names) (λ j. all us vs j k) (λ e. same e us vs k) (step t c.next e)
+        λ k. follow (only_ends names) (λ j. all us vs j k) (λ e. same e us vs k) (step t c.next e)
     behind_part-any go all ps qs (fault k i stop) = refl
 
     parts_at-any : (n : ℕ) (ps qs : List P) (i : ℕ)
-        → parts_at (ends names) c t n ps i ≡ parts_at (ends names) c t n qs i
+        → parts_at (only_ends names) c t n ps i ≡ parts_at (only_ends names) c t n qs i
     unfolding parts_at
     parts_at-any zero ps qs i = refl
     parts_at-any (suc n) ps qs i =
-        behind_part-any (parts_at (ends names) c t n) (λ us vs j. parts_at-any n us vs j) ps qs (c.part i)
+        behind_part-any (parts_at (only_ends names) c t n) (λ us vs j. parts_at-any n us vs j) ps qs (c.part i)
 
     behind-any : (fs : Frames) (ps qs : List P) (x : Reading P) → behind c fs ps x ≡ behind c fs qs x
     behind-any fs ps qs x =
         ap (resumed fs)
-        (behind_part-any (parts_from (ends names) t c) (λ us vs j. parts_at-any (length t) us vs j) ps qs x)
+        (behind_part-any (parts_from (only_ends names) t c) (λ us vs j. parts_at-any (length t) us vs j) ps qs x)
 
   -- What a step inside the innermost container leads to: a value awaited, or the container's end.
   abbrev pub led_on : Shape → Frames → Reading Bool → Reading (Unit {0})
-  led_on b fs (done true m) = value_from (ends names) t (frame_of b ∷ fs) m
+  led_on b fs (done true m) = value_from (only_ends names) t (frame_of b ∷ fs) m
   led_on b fs (done false e) = resumed fs (done tt e)
   led_on b fs (fault k i stop) = fault k i stop
 
   pub fault-passes : (fs : Frames) (k : Kind) (i stop : ℕ) → resumed fs (fault k i stop) ≡ fault k i stop
-  fault-passes fs k i stop = resume-fault (ends names) t fs k i stop refl
+  fault-passes fs k i stop = resume-fault (only_ends names) t fs k i stop refl
 
   -- a key and its colon, inside an object
   module _ (fs : Frames) (members : List (Unit {0} × Unit {0})) where
     abbrev inner : ℕ → Reading (Unit {0})
-    inner j = value_in (ends names) t (suc (length fs)) j
+    inner j = value_in (only_ends names) t (suc (length fs)) j
 
     abbrev behind_member : Reading (Unit {0} × Unit {0}) → Reading (Unit {0})
     behind_member x = behind (innermost shape.Object fs) fs members x
@@ -140,17 +140,17 @@ module _ (names : Bool) (t : List ℕ) where
     key-step i (failed k j) = fault-passes fs k j i
 
   -- a part of the innermost container, and a step to one
-  part-led : (b : Shape) (fs : Frames) (parts : List (Part (ends names) t b)) (j : ℕ)
+  part-led : (b : Shape) (fs : Frames) (parts : List (Part (only_ends names) t b)) (j : ℕ)
       → behind (innermost b fs) fs parts ((innermost b fs).part j) ≡ led_on b fs (value_inside b t j)
   part-led shape.Array fs items j =
-      behind-any (innermost shape.Array fs) (λ e ps qs. refl) fs items [] (value_in (ends names) t (suc (length fs)) j)
+      behind-any (innermost shape.Array fs) (λ e ps qs. refl) fs items [] (value_in (only_ends names) t (suc (length fs)) j)
   part-led shape.Object fs members j = key-step fs members j (seen_as (λ s e. tt) (string_at raw t j))
 
-  parts-led : (b : Shape) (fs : Frames) (parts : List (Part (ends names) t b)) (i : ℕ) (s : Step) → Ahead t i s
-      → resumed fs (parts_step (ends names) t (innermost b fs) parts s) ≡ led_on b fs (inside b t s)
+  parts-led : (b : Shape) (fs : Frames) (parts : List (Part (only_ends names) t b)) (i : ℕ) (s : Step) → Ahead t i s
+      → resumed fs (parts_step (only_ends names) t (innermost b fs) parts s) ≡ led_on b fs (inside b t s)
   parts-led b fs parts i (more j) h =
       ap (resumed fs)
-      (parts_at_is (ends names) t (innermost b fs) (container_in-goes (ends names) t good b (length fs)) parts j h.1)
+      (parts_at_is (only_ends names) t (innermost b fs) (container_in-goes (only_ends names) t good b (length fs)) parts j h.1)
       ∙ part-led b fs parts j
   parts-led b fs parts i (closed e) h = refl
   parts-led b fs parts i (stuck k j) h = fault-passes fs k j j
@@ -168,28 +168,28 @@ module _ (names : Bool) (t : List ℕ) where
   -- At a container's bracket: the first value inside, or the container's end.
   pub first_inside-is : (b : Shape) (objects : List Bool) (d i : ℕ) (x : Reading Bool) → d ≤ 200 → i < length t
       → start_of (slice_index t i) ≡ opening b → first_inside b t i ≡ x
-      → value_from (ends names) t (open_frames objects d) i ≡ led_on b (open_frames objects d) x
+      → value_from (only_ends names) t (open_frames objects d) i ≡ led_on b (open_frames objects d) x
   first_inside-is b objects d i x few h opens is =
       let fs = open_frames objects d in
       let s = step t (container_first b) (i + 1) in
       let few : length fs ≤ 200 = omega (arith, length-open_frames objects d) in
-      container-begins (ends names) t good any fs i s few b opens (step-kept s)
+      container-begins (only_ends names) t good any fs i s few b opens (step-kept s)
       ∙ parts-led b fs [] (i + 1) s (container_first-ahead t b (i + 1) (omega arith)) ∙ ap (led_on b fs) is
 
   -- a scalar's end, or its fault
   pub value_from-is : (objects : List Bool) (d i : ℕ) (x : Reading (Unit {0})) → d ≤ 200
-      → ((room : ℕ) → value_at (ends names) t room i ≡ x)
-      → value_from (ends names) t (open_frames objects d) i ≡ resumed (open_frames objects d) x
+      → ((levels : ℕ) → value_at (only_ends names) t levels i ≡ x)
+      → value_from (only_ends names) t (open_frames objects d) i ≡ resumed (open_frames objects d) x
   value_from-is objects d i x few is =
       let fs = open_frames objects d in
-      let room = value_in-room (ends names) t (length fs) i (omega (arith, length-open_frames objects d)) in
-      ap (resumed fs) (room ∙ is (200 - length fs))
+      let levels = value_in-levels (only_ends names) t (length fs) i (omega (arith, length-open_frames objects d)) in
+      ap (resumed fs) (levels ∙ is (200 - length fs))
 
   pub value_from-limit : (f : Frame (Unit {0}) (Unit {0})) (fs : Frames) (i : ℕ) → length fs ≡ 200
-      → value_from (ends names) t (f ∷ fs) i ≡ fault recursion_limit i i
+      → value_from (only_ends names) t (f ∷ fs) i ≡ fault recursion_limit i i
   value_from-limit f fs i full =
-      ap (λ n. resumed (f ∷ fs) (value_in (ends names) t (suc n) i)) full
-      ∙ ap (resumed (f ∷ fs)) (value_in-limit (ends names) t i)
+      ap (λ n. resumed (f ∷ fs) (value_in (only_ends names) t (suc n) i)) full
+      ∙ ap (resumed (f ∷ fs)) (value_in-limit (only_ends names) t i)
       ∙ fault-passes (f ∷ fs) recursion_limit i i
 
   -- a reading that is another's
@@ -208,6 +208,6 @@ open_frames-innermost objects d b h is =
 
 pub innermost-led : (names : Bool) (t u : List ℕ) (objects : List Bool) (d : ℕ) (b : Shape) (e : ℕ) (x : Reading Bool)
     → open_frames objects d ≡ frame_of b ∷ open_frames objects (d - 1) → u ≡ t → e ≤ length u → next_inside b u e ≡ x
-    → resume (ends names) t (open_frames objects d) (done tt e) ≡ led_on names t b (open_frames objects (d - 1)) x
+    → resume (only_ends names) t (open_frames objects d) (done tt e) ≡ led_on names t b (open_frames objects (d - 1)) x
 innermost-led names t u objects d b e x inner same within at =
     rw (inner, ← same, ← at) (next_inside-is names u b (open_frames objects (d - 1)) e within)

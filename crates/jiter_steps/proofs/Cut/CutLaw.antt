@@ -41,7 +41,7 @@ use Rattle.jiter_steps.proofs.Cut.CutNodes.{array-left, object-left, node-late, 
 use Rattle.jiter_steps.proofs.Cut.CutParts.{EndsInput, CutParts}
 use Rattle.jiter_steps.proofs.Grammar.Documents.{key_text, answer-of}
 use Rattle.jiter_steps.proofs.Cut.Fronts.{front-length, front-get, front-blank, front-stands, front-word}
-use Rattle.jiter_steps.proofs.Cut.Growth.{node-whole}
+use Rattle.jiter_steps.proofs.Cut.LaterCuts.{node-whole}
 use Rattle.jiter_steps.specs.declared.parse.Shape.TheVariants as shape
 use Rattle.jiter_steps.proofs.Cut.Halting.{Halts, StuckAt, end-forgiven, byte-halts, cut-halts, begin-halts}
 use Rattle.jiter_steps.proofs.Cut.Halting.{container-halts}
@@ -209,35 +209,35 @@ module _ (names : Bool) (t : List ℕ) (k : ℕ) (within : k ≤ length t) (mode
     inside j lt = omega (arith, front-length t k within)
 
     -- Behind the parts so far, the container is closed round those that the cut leaves.
-    parts-close : (room i e : ℕ) (ps : List P) (row : ℕ → Option ℕ → Step) (m : ℕ) (qs : List Q)
-        → InOrder names t room value i ps e → CutParts t k within c value as_whole IsCut row m ps
+    parts-close : (levels i e : ℕ) (ps : List P) (row : ℕ → Option ℕ → Step) (m : ℕ) (qs : List Q)
+        → InOrder names t levels value i ps e → CutParts t k within c value as_whole IsCut row m ps
         → Closes (qs ++ left ps) (Behind qs (step front row m))
-    parts-close room i e [] row m qs order h = input-closes qs [] (step front row m) h refl
-    parts-close room i e (p ∷ ps) row m qs order (inl h) =
-        let late : InOrder names t room value k (p ∷ ps) e = (h.1, order.1, order.2, order.3) in
+    parts-close levels i e [] row m qs order h = input-closes qs [] (step front row m) h refl
+    parts-close levels i e (p ∷ ps) row m qs order (inl h) =
+        let late : InOrder names t levels value k (p ∷ ps) e = (h.1, order.1, order.2, order.3) in
         input-closes qs (p ∷ ps) (step front row m) h.0
-        (parts-late names t k mode value seen room k (p ∷ ps) e late (omega arith))
-    parts-close room i e (p ∷ ps) row m qs order (inr (j, begins, lt, inl (past, cuts))) =
-        let none = parts-late names t k mode value seen room (end (value p)) ps e order.3 (omega arith) in
+        (parts-late names t k mode value seen levels k (p ∷ ps) e late (omega arith))
+    parts-close levels i e (p ∷ ps) row m qs order (inr (j, begins, lt, inl (past, cuts))) =
+        let none = parts-late names t k mode value seen levels (end (value p)) ps e order.3 (omega arith) in
         along (qs ++ left (p ∷ ps)) (Behind qs (step front row m)) (At qs j) (ap (Behind qs) begins)
         (part-closes qs ps j (part_left names t k mode value seen p) (c.part j) (inside j lt) none refl
         (leaves p (c.part j) order.1 cuts))
-    parts-close room i e (p ∷ ps) row m qs order (inr (j, begins, lt, inr (ends, f, is, more_parts))) =
+    parts-close levels i e (p ∷ ps) row m qs order (inr (j, begins, lt, inr (ends, f, is, more_parts))) =
         let q = as_whole p in
         let read = parts-part rules front c goes j f qs q (step front c.next f) (inside j lt) is refl in
         let behind = Behind (qs ++ q ∷ []) (step front c.next f) in
-        let rest = parts-close room (end (value p)) e ps c.next f (qs ++ q ∷ []) order.3 more_parts in
+        let rest = parts-close levels (end (value p)) e ps c.next f (qs ++ q ∷ []) order.3 more_parts in
         let same = ap (option_map (seen p)) (node-whole names t mode k (value p) order.1 ends) in
         let whole = append_assoc qs (q ∷ []) (left ps) ∙ ap (λ o. qs ++ cons_option o (left ps)) (sym same) in
         along (qs ++ left (p ∷ ps)) (Behind qs (step front row m)) behind (ap (Behind qs) begins ∙ read)
         (subst (λ l. Closes l behind) whole rest)
 
     -- A container that is cut leaves its cut.
-    container-leaves : (b i e room : ℕ) (ps : List P) (o : Option Tree) → InOrder names t room value i ps e
+    container-leaves : (b i e levels : ℕ) (ps : List P) (o : Option Tree) → InOrder names t levels value i ps e
         → CutParts t k within c value as_whole IsCut c.first (b + 1) ps
         → ((p : ℕ) → o ≡ Some (c.build p (left ps))) → Leaves front o (container_at rules c front b)
-    container-leaves b i e room ps o order h is =
-        let closes = parts-close room i e ps c.first (b + 1) [] order h in
+    container-leaves b i e levels ps o order h is =
+        let closes = parts-close levels i e ps c.first (b + 1) [] order h in
         subst (λ o. Leaves front o (container_at rules c front b)) (sym (is closes.0))
         (subst (Leaves front (Some (c.build closes.0 (left ps)))) (sym closes.1) (refl, closes.2))
 
@@ -280,16 +280,16 @@ module _ (names : Bool) (t : List ℕ) (k : ℕ) (within : k ≤ length t) (mode
     array = λ b e ns. ap tree.array (values-listed t ns);
     object = λ b e ms. ap tree.object (member_values-listed t ms);
     array-cut = λ inner b e ns h lt goes parts.
-        let room = nesting_round ns in
-        let order = items-order names t room ns (b + 1) e h.1 (omega arith) in
+        let levels = nesting_round ns in
+        let order = items-order names t levels ns (b + 1) e h.1 (omega arith) in
         container-leaves (array_of rules inner front b) (λ n. n) item_seen IsCut goes
-        (container-halts front shape.Array) (λ n x h cuts. item-leaves (cut names t n k mode) x cuts) b (b + 1) e room
+        (container-halts front shape.Array) (λ n x h cuts. item-leaves (cut names t n k mode) x cuts) b (b + 1) e levels
         (nodes_list ns) _ order parts (λ p. array-left names t k mode b e ns lt);
     object-cut = λ inner b e ms h lt goes parts.
-        let room = nesting_round_members ms in
-        let order = members-order names t room ms (b + 1) e h.1 (omega arith) in
+        let levels = nesting_round_members ms in
+        let order = members-order names t levels ms (b + 1) e h.1 (omega arith) in
         container-leaves (object_of rules inner front b) (λ m. m.1) (member_seen t) CutsMember goes
-        (container-halts front shape.Object) member-leaves b (b + 1) e room (members_list ms) _ order parts
+        (container-halts front shape.Object) member-leaves b (b + 1) e levels (members_list ms) _ order parts
         (λ p. object-left names t k mode b e ms lt);
   }
 

@@ -113,10 +113,10 @@ module _ (names : Bool) (t : List ℕ) (k : ℕ) (mode : PartialMode) where
   node-late (grammar.array b e ns) le = if-true (nat_le k b) None _ (le-leb k b le)
   node-late (grammar.object b e ms) le = if-true (nat_le k b) None _ (le-leb k b le)
 
-  pub parts-late : {P Q : Type 0} (value : P → Node) (seen : P → Tree → Q) (room i : ℕ) (ps : List P) (e : ℕ)
-      → InOrder names t room value i ps e → k ≤ i → parts_left value seen ps ≡ []
-  parts-late value seen room i [] e h le = refl
-  parts-late value seen room i (p ∷ ps) e h le =
+  pub parts-late : {P Q : Type 0} (value : P → Node) (seen : P → Tree → Q) (levels i : ℕ) (ps : List P) (e : ℕ)
+      → InOrder names t levels value i ps e → k ≤ i → parts_left value seen ps ≡ []
+  parts-late value seen levels i [] e h le = refl
+  parts-late value seen levels i (p ∷ ps) e h le =
       let order = node-ahead names t (value p) h.1 in
       ap₂ cons_option (ap (option_map (seen p)) (node-late (value p) (omega (arith, h.0))))
-      (parts-late value seen room (end (value p)) ps e h.3 (omega (arith, h.0)))
+      (parts-late value seen levels (end (value p)) ps e h.3 (omega (arith, h.0)))

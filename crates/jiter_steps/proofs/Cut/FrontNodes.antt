@@ -193,13 +193,13 @@ module _ (names : Bool) (t : List ℕ) (k : ℕ) (within : k ≤ length t) where
   }
 
   -- A value that begins before the cut.
-  pub node-front : (n : Node) (room : ℕ) → Spells names t n → nesting n ≤ room → EndsNumber t (end n) → begin n < k
-      → Reads n (value_at (nodes names) front room (begin n))
+  pub node-front : (n : Node) (levels : ℕ) → Spells names t n → nesting n ≤ levels → EndsNumber t (end n) → begin n < k
+      → Reads n (value_at (nodes names) front levels (begin n))
   node-front =
       value_at-front (nodes names) names t k within (λ key. key) (λ n. n) IsCut (nodes-advances front names) nodes-front
 
   -- A container that is cut.
-  pub container-front : (n : Node) (room : ℕ) → IsContainer n → Spells names t n → nesting n ≤ room
+  pub container-front : (n : Node) (levels : ℕ) → IsContainer n → Spells names t n → nesting n ≤ levels
       → EndsNumber t (end n) → begin n < k
-      → k < end n → EndsEarly (value_at (nodes names) front room (begin n))
-  container-front n room is h d q lt gt = cut-early n _ is ((node-front n room h d q lt).1 gt)
+      → k < end n → EndsEarly (value_at (nodes names) front levels (begin n))
+  container-front n levels is h d q lt gt = cut-early n _ is ((node-front n levels h d q lt).1 gt)

@@ -82,12 +82,12 @@ module _ {K A : Type 0} (r : Rules K A) (names : Bool) (t : List ℕ) (k : ℕ) 
         → IsCut (grammar.object b e ms) (container_at r (object_of r inner u b) u b)
 
   module _ (good : Advances r u) (rules : CutRules) where
-    module _ (room : ℕ) where
+    module _ (levels : ℕ) where
       abbrev inner : ℕ → Reading A
-      inner i = inside_at r u room i
+      inner i = inside_at r u levels i
 
       inner-within : AllWithin u inner
-      inner-within = inside_at-within r u good room
+      inner-within = inside_at-within r u good levels
 
       abbrev array : ℕ → Container A A
       array b = array_of r inner u b
@@ -98,7 +98,7 @@ module _ {K A : Type 0} (r : Rules K A) (names : Bool) (t : List ℕ) (k : ℕ) 
       -- the values inside are read so
       abbrev InnerReads : Type 0
       InnerReads =
-          (n : Node) → Spells names t n → nesting n < room → EndsNumber t (end n) → begin n < k
+          (n : Node) → Spells names t n → nesting n < levels → EndsNumber t (end n) → begin n < k
           → Reads n (inner (begin n))
 
       -- where a part begins
@@ -108,10 +108,10 @@ module _ {K A : Type 0} (r : Rules K A) (names : Bool) (t : List ℕ) (k : ℕ) 
           record { byte = h.byte; here = here; no_blank = h.no_blank; begins = h.begins }
 
       -- items
-      item-ahead : (j : ℕ) (n : Node) (e : ℕ) → IsItem names t room j n e → j < e
+      item-ahead : (j : ℕ) (n : Node) (e : ℕ) → IsItem names t levels j n e → j < e
       item-ahead j n e is = omega (arith, node-ahead names t n is.spelled, is.begins, is.ends)
 
-      item-reads : InnerReads → (j : ℕ) (n : Node) (e : ℕ) → IsItem names t room j n e → j < k
+      item-reads : InnerReads → (j : ℕ) (n : Node) (e : ℕ) → IsItem names t levels j n e → j < k
           → ReadTo t k within see IsCut n e (inner j)
       item-reads all j n e is lt =
           let quiet = subst (EndsNumber t) (sym is.ends) is.quiet in
@@ -119,7 +119,7 @@ module _ {K A : Type 0} (r : Rules K A) (names : Bool) (t : List ℕ) (k : ℕ) 
           subst (λ f. ReadTo t k within see IsCut n f (inner j)) is.ends (subst (λ i. Reads n (inner i)) is.begins read)
 
       items-front : InnerReads → (b : ℕ)
-          → ReadsFront t k within (array b) (λ n. n) see IsCut 93 (PartAt shape.Array) (IsItem names t room)
+          → ReadsFront t k within (array b) (λ n. n) see IsCut 93 (PartAt shape.Array) (IsItem names t levels)
       items-front all b = record {
         delimits = delimits u shape.Array;
         ends = cuts t k within shape.Array;
@@ -145,7 +145,7 @@ module _ {K A : Type 0} (r : Rules K A) (names : Bool) (t : List ℕ) (k : ℕ) 
           object_colon-taken u key.end h.colon (begin n) behind blanks
           (record { byte = first.byte; here = here; no_blank = first.no_blank })
 
-      member-ahead : (j : ℕ) (m : Key × Node) (e : ℕ) → IsMember names t room j m e → j < e
+      member-ahead : (j : ℕ) (m : Key × Node) (e : ℕ) → IsMember names t levels j m e → j < e
       member-ahead j m e is =
           omega (arith, is.begins, key-ahead names t m.0 (begin m.1) is.key, item-ahead (begin m.1) m.1 e is.value)
 
@@ -180,7 +180,7 @@ module _ {K A : Type 0} (r : Rules K A) (names : Bool) (t : List ℕ) (k : ℕ) 
         by (inr at) =
             stops eof_value refl (value_first-cut t k within m.0.end h.colon (begin m.1) h.behind at h.blanks ge)
 
-      member-reads : InnerReads → (j : ℕ) (m : Key × Node) (e : ℕ) → IsMember names t room j m e → j < k
+      member-reads : InnerReads → (j : ℕ) (m : Key × Node) (e : ℕ) → IsMember names t levels j m e → j < k
           → ReadTo t k within see_member IsCutMember m e (MemberAt j)
       member-reads all j m e is lt =
           subst (λ i. ReadTo t k within see_member IsCutMember m e (MemberAt i)) is.begins
@@ -213,7 +213,7 @@ module _ {K A : Type 0} (r : Rules K A) (names : Bool) (t : List ℕ) (k : ℕ) 
 
       members-front : InnerReads → (b : ℕ)
           → ReadsFront t k within (object b) (λ m. m.1) see_member IsCutMember 125 (PartAt shape.Object)
-          (IsMember names t room)
+          (IsMember names t levels)
       members-front all b = record {
         delimits = delimits u shape.Object;
         ends = cuts t k within shape.Object;
@@ -242,7 +242,7 @@ module _ {K A : Type 0} (r : Rules K A) (names : Bool) (t : List ℕ) (k : ℕ) 
       )
 
       -- a value, by what it begins with
-      value-reads : InnerReads → (n : Node) → Spells names t n → nesting n ≤ room → EndsNumber t (end n) → begin n < k
+      value-reads : InnerReads → (n : Node) → Spells names t n → nesting n ≤ levels → EndsNumber t (end n) → begin n < k
           → Reads n (value_with r inner u (begin n) (start_is n))
       value-reads all (grammar.literal l b e) h d q lt = rules.literal l b e h lt
       value-reads all (grammar.number b e) h d q lt = rules.number b e h q lt
@@ -250,28 +250,28 @@ module _ {K A : Type 0} (r : Rules K A) (names : Bool) (t : List ℕ) (k : ℕ) 
       value-reads all (grammar.array b e ns) h d q lt =
           let goes = array_of-goes r u good inner inner-within b in
           container-reads (array b) (λ n. n) see IsCut (items-front all b) goes (grammar.array b e ns) (nodes_list ns)
-          (items-parts names t room ns (b + 1) e h.1 d) lt
+          (items-parts names t levels ns (b + 1) e h.1 d) lt
           (rules.array b e ns) (rules.array-cut inner b e ns h lt goes)
       value-reads all (grammar.object b e ms) h d q lt =
           let goes = object_of-goes r u good inner inner-within b in
           container-reads (object b) (λ m. m.1) see_member IsCutMember (members-front all b) goes
-          (grammar.object b e ms) (members_list ms) (members-parts names t room ms (b + 1) e h.1 d) lt
+          (grammar.object b e ms) (members_list ms) (members-parts names t levels ms (b + 1) e h.1 d) lt
           (rules.object b e ms) (rules.object-cut inner b e ms h lt goes)
 
-      begun-reads : InnerReads → (n : Node) → Spells names t n → nesting n ≤ room → EndsNumber t (end n) → begin n < k
-          → Reads n (value_at r u room (begin n))
+      begun-reads : InnerReads → (n : Node) → Spells names t n → nesting n ≤ levels → EndsNumber t (end n) → begin n < k
+          → Reads n (value_at r u levels (begin n))
       begun-reads all n h d q lt =
           let starts = ap start_of (front-index t k within (begin n) lt) ∙ node-starts names t n h in
-          subst (Reads n) (sym (value-starts r u room (begin n) (start_is n) starts)) (value-reads all n h d q lt)
+          subst (Reads n) (sym (value-starts r u levels (begin n) (start_is n) starts)) (value-reads all n h d q lt)
 
-    inner-reads : (room : ℕ) → InnerReads room
+    inner-reads : (levels : ℕ) → InnerReads levels
     inner-reads zero n h d q lt = absurd (omega arith)
-    inner-reads (suc room) n h d q lt =
-        subst (Reads n) (sym (inside_at-suc r u room (begin n)))
-        (begun-reads room (inner-reads room) n h (omega arith) q lt)
+    inner-reads (suc levels) n h d q lt =
+        subst (Reads n) (sym (inside_at-suc r u levels (begin n)))
+        (begun-reads levels (inner-reads levels) n h (omega arith) q lt)
 
     -- A value that begins before the cut.
-    pub value_at-front : (n : Node) (room : ℕ) → Spells names t n → nesting n ≤ room → EndsNumber t (end n)
+    pub value_at-front : (n : Node) (levels : ℕ) → Spells names t n → nesting n ≤ levels → EndsNumber t (end n)
         → begin n < k
-        → Reads n (value_at r u room (begin n))
-    value_at-front n room h d q lt = begun-reads room (inner-reads room) n h d q lt
+        → Reads n (value_at r u levels (begin n))
+    value_at-front n levels h d q lt = begun-reads levels (inner-reads levels) n h d q lt

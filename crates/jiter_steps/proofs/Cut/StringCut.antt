@@ -10,7 +10,7 @@ use Rattle.jiter_scan.specs.Stands.{Stands}
 use Rattle.jiter_steps.specs.Piece.{IsPlain, IsEscape, Piece, SpellsChar, SpellsPieces, SpellsString, characters}
 use Rattle.jiter_steps.specs.Piece.{text_of, pieces_to}
 use Rattle.jiter_scan.specs.Scanned.{taken, failed}
-use Rattle.jiter_steps.specs.StringReading.{Stop, unclosed, cut, over, few, hex_digits_at, behind_high, place_at}
+use Rattle.jiter_steps.specs.StringReading.{Stop, unclosed, cut, over, few, hex_digits_at, behind_high, portion_at}
 use Rattle.jiter_steps.specs.StringReading.{Body, before, body_at, kept, valid_front, content_at, string_at, whole}
 use Rattle.jiter_steps.specs.StringReading.{raw}
 use Rattle.jiter_steps.proofs.Grammar.Utf8Shape.{lead}
@@ -18,10 +18,10 @@ use Rattle.jiter_scan.proofs.Standing.{stands-split}
 use Rattle.jiter_steps.proofs.Cut.Fronts.{front-length, front-get, front-stands}
 use Rattle.jiter_steps.proofs.Fault.SameSpelling.{string-too}
 use Rattle.jiter_steps.proofs.Grammar.Places.{UnitAt}
-use Rattle.jiter_steps.proofs.Reading.Bodies.{body_at-place_by, place_by-end}
+use Rattle.jiter_steps.proofs.Reading.Bodies.{body_at-portion_by, portion_by-end}
 use Rattle.jiter_steps.proofs.Grammar.StringMarks.{EndOf}
 use Rattle.jiter_steps.proofs.Grammar.StringComplete.{ArePrinted, plain-printed, bytes-read, char-read}
-use Rattle.jiter_steps.proofs.Grammar.StringComplete.{place_by-backslash, place_by-number, unit-at}
+use Rattle.jiter_steps.proofs.Grammar.StringComplete.{portion_by-backslash, portion_by-number, unit-at}
 use Rattle.jiter_scan.specs.Kind.{eof_string}
 use Rattle.jiter_steps.proofs.Cut.CutCharacters.{IsFront, tail-unfinished, tail-taken}
 
@@ -60,13 +60,13 @@ module _ (t : List ℕ) (k : ℕ) (within : k ≤ length t) where
     some = let l = lead 65 refl in subst (λ x. 0 < length x) (sym l.is) (omega arith);
   }
 
-  ends-at : (i : ℕ) (s : Stop) → place_at u i ≡ over s → (s ≡ unclosed) ⊎ (s ≡ cut) → EndsAt i
+  ends-at : (i : ℕ) (s : Stop) → portion_at u i ≡ over s → (s ≡ unclosed) ⊎ (s ≡ cut) → EndsAt i
   ends-at i s e h =
-      let b = body_at-place_by u i (over s) e in
+      let b = body_at-portion_by u i (over s) e in
       record { rest = []; front = any-front; bytes = ap (λ (x : Body). x.bytes) b; stop = rw b h; scalars = refl }
 
   ends-here : (i : ℕ) → k ≤ i → EndsAt i
-  ends-here i h = ends-at i unclosed (place_by-end u i (omega (arith, long))) (inl refl)
+  ends-here i h = ends-at i unclosed (portion_by-end u i (omega (arith, long))) (inl refl)
 
   -- a plain character's front
   front-split : (i j : ℕ) (w : List ℕ) → Stands t i j w → i ≤ k → k < j → (v : List ℕ) × (more : List ℕ)
@@ -87,7 +87,7 @@ module _ (t : List ℕ) (k : ℕ) (within : k ≤ length t) where
   plain-ends i j c p is s l m =
       let r = front-split i j (encode_utf8 c) (subst (Stands t i j) is.is s) l m in
       let printed = printed-front r.0 r.1 (subst ArePrinted r.2 (plain-printed p c is)) in
-      let e = body_at-place_by u k (over unclosed) (place_by-end u k (omega (arith, long))) in
+      let e = body_at-portion_by u k (over unclosed) (portion_by-end u k (omega (arith, long))) in
       let both = bytes-read u i k r.0 printed r.3 ∙ ap (before r.0 false) e in
       record {
         rest = r.0;
@@ -101,8 +101,8 @@ module _ (t : List ℕ) (k : ℕ) (within : k ≤ length t) where
   digits-few x h = rw (lt-ltb (length u) (x + 4) (omega (arith, long)))
 
   -- an escape's front
-  unit-ends : (i e n : ℕ) → UnitAt t i e n → i < k → k < i + 6 → place_at u i ≡ over cut
-  unit-ends i e n x l m = rw (place_by-backslash u i (same i 92 l x.slash)) (elim (cases_lt (i + 1) k) [
+  unit-ends : (i e n : ℕ) → UnitAt t i e n → i < k → k < i + 6 → portion_at u i ≡ over cut
+  unit-ends i e n x l m = rw (portion_by-backslash u i (same i 92 l x.slash)) (elim (cases_lt (i + 1) k) [
     | inl lt ↦ rw (same (i + 1) 117 lt x.letter, digits-few (i + 1 + 1) (omega arith))
     | inr ge ↦ rw (slice_get_past u (i + 1) (omega (arith, long)))
   ])
@@ -117,10 +117,10 @@ module _ (t : List ℕ) (k : ℕ) (within : k ≤ length t) where
     ])
   ]
 
-  escape-ends : (i j c : ℕ) (p : List ℕ) → IsEscape p c → Stands t i j p → i < k → k < j → place_at u i ≡ over cut
+  escape-ends : (i j c : ℕ) (p : List ℕ) → IsEscape p c → Stands t i j p → i < k → k < j → portion_at u i ≡ over cut
   escape-ends i j c p (inl is) s l m =
       let h : Stands t i j (92 ∷ is.sign ∷ []) = subst (Stands t i j) is.is s in
-      rw (place_by-backslash u i (same i 92 l h.0), slice_get_past u (i + 1) (omega (arith, long, h.1.1)))
+      rw (portion_by-backslash u i (same i 92 l h.0), slice_get_past u (i + 1) (omega (arith, long, h.1.1)))
   escape-ends i j c p (inr (inl is)) s l m =
       let x = unit-at t i j c p is.0 s in
       unit-ends i j c x l (omega (arith, x.ends))
@@ -135,7 +135,7 @@ module _ (t : List ℕ) (k : ℕ) (within : k ≤ length t) where
         | inr ge ↦
             let first = front-stands t k within i h.0 is.front h.1 (omega (arith, at)) in
             let z = unit-at u i h.0 is.high is.front is.first first in
-            rw (place_by-number u i h.0 is.high z, is.is_high)
+            rw (portion_by-number u i h.0 is.high z, is.is_high)
             (behind_high-ends o j is.high is.low y ge (omega (arith, y.ends)))
       ]
 

@@ -43,7 +43,7 @@ module _ {P : Type 0} (closer : ℕ) (IsPart : List ℕ → ℕ → P → ℕ �
   CanEnd t b x = (b ≤ x) × CanClose t x (λ u. (ps : List P) × PartsOf u ps b (length u))
 
   -- What a container's parts are: those read are there, those begun can be ended, and some filler is one.
-  pub record Grows {A : Type 0} (t : List ℕ) (c : Container P A) (Begins : ℕ → Type 0) : Type 0 where
+  pub record Fillable {A : Type 0} (t : List ℕ) (c : Container P A) (Begins : ℕ → Type 0) : Type 0 where
     pub is_closer : AreClosers (closer ∷ [])
     pub too : (u v : List ℕ) (i e : ℕ) (p : P) → SameBefore u v e → IsPart u i p e → IsPart v i p e
     pub is : (i e : ℕ) (p : P) → Begins i → c.part i ≡ done p e → IsPart t i p e
@@ -57,7 +57,7 @@ module _ {P : Type 0} (closer : ℕ) (IsPart : List ℕ → ℕ → P → ℕ �
 module _ {K P A : Type 0} (r : Rules K A) (strict : (k : Kind) → r.forgives k ≡ false) (t : List ℕ) (c : Container P A)
     (closer : ℕ) (Begins : ℕ → Type 0) (IsPart : List ℕ → ℕ → P → ℕ → Type 0)
     (delimits : Delimits t c.first c.next closer Begins) (sticks : Sticks t c.first c.next) (goes : Goes c t)
-    (grows : Grows closer IsPart t c Begins) where
+    (fillable : Fillable closer IsPart t c Begins) where
   -- behind these parts from b on the next one is to begin at i; so it is in each text with the same bytes before i
   record SoFar (b i : ℕ) (ps : List P) : Type 0 where
     ordered : b ≤ i
@@ -83,7 +83,7 @@ module _ {K P A : Type 0} (r : Rules K A) (strict : (k : Kind) → r.forgives k 
         parts = λ u q rest n e same also more_parts.
             let comma = behind-too t u j same m 44 h.0 behind_comma h.1 in
             let blanks = blanks-too t u j same h.0 j (omega arith) h.2 in
-            let here = grows.too t u i m p (same-sooner t u m j (omega arith) same) is in
+            let here = fillable.too t u i m p (same-sooner t u m j (omega arith) same) is in
             subst (λ l. PartsOf closer IsPart u l b e) (sym (append_assoc ps (p ∷ []) (q ∷ rest)))
             (so.parts u p (q ∷ rest) m e (same-sooner t u i j (omega arith) same) here
             (h.0, comma, record { begin = j; end = n; blanks = blanks; begins = tt; is = also; rest = more_parts }));
@@ -97,7 +97,7 @@ module _ {K P A : Type 0} (r : Rules K A) (strict : (k : Kind) → r.forgives k 
   close-part b i x m ps p filler closers so le within is_filler are_closers is blanks =
       let u = take x t ++ (filler ++ closers) in
       let v = u ++ closer ∷ [] in
-      let here = grows.too u v i m p (longer-same u (closer ∷ []) m) is in
+      let here = fillable.too u v i m p (longer-same u (closer ∷ []) m) is in
       let front = front-kept t x within (filler ++ closers) in
       let same : SameBefore t v i =
       λ j c lt e. longer-same u (closer ∷ []) x j c (omega arith) (front j c (omega arith) e) in
@@ -110,7 +110,7 @@ module _ {K P A : Type 0} (r : Rules K A) (strict : (k : Kind) → r.forgives k 
           filler = filler;
           closers = closers ++ closer ∷ [];
           is_filler = is_filler;
-          are_closers = closers-more closers closer grows.is_closer are_closers;
+          are_closers = closers-more closers closer fillable.is_closer are_closers;
           within = within;
           is = subst (λ w. (qs : List P) × PartsOf closer IsPart w qs b (length w)) text (ps ++ p ∷ [], all);
         },
@@ -127,7 +127,7 @@ module _ {K P A : Type 0} (r : Rules K A) (strict : (k : Kind) → r.forgives k 
           filler = [];
           closers = closer ∷ [];
           is_filler = inl refl;
-          are_closers = grows.is_closer;
+          are_closers = fillable.is_closer;
           within = h.within;
           is = ([], ends);
         },
@@ -151,21 +151,21 @@ module _ {K P A : Type 0} (r : Rules K A) (strict : (k : Kind) → r.forgives k 
       let u = take x t ++ ([] ++ []) in
       let same = front-kept t x h.within ([] ++ []) in
       let long = taken-length t x h.within ([] ++ []) in
-      let here = grows.too t u i m p (same-sooner t u m x h.ordered same) is in
+      let here = fillable.too t u i m p (same-sooner t u m x h.ordered same) is in
       let at_end : x ≡ length u = omega arith in
       let blanks = subst (IsBlank u m) at_end (blanks-too t u x same m x (omega arith) h) in
       close-part b i x m ps p [] [] so (omega (arith, h.ordered)) h.within (inl refl) tt here blanks
   stuck-behind b i m x ps p so le is (inr h) =
-      let w = grows.filler in
+      let w = fillable.filler in
       let within = h.2.within in
-      let part = grows.fills i m p is x within in
+      let part = fillable.fills i m p is x within in
       let long = taken-length t x within (w ++ []) in
       let size = ap length (append-nil w) in
       let u = take x t ++ (w ++ []) in
       let blanks = no-blanks u (x + length w) (length u) (omega arith) (omega arith) in
       let next = next-part b i x m ps p so le is h in
       close-part b x x (x + length w) (ps ++ p ∷ []) part.0 w [] next (omega arith) within
-      grows.is_filler tt part.1 blanks
+      fillable.is_filler tt part.1 blanks
 
   follow-open : (b i m : ℕ) (ps : List P) (p : P) (next : List P → ℕ → Reading A) → GoesOn b next → SoFar b i ps
       → i ≤ m → m ≤ length t → IsPart t i p m → (s : Step) → step t c.next m ≡ s
@@ -181,10 +181,10 @@ module _ {K P A : Type 0} (r : Rules K A) (strict : (k : Kind) → r.forgives k 
   part-open : (b i : ℕ) (ps : List P) (next : List P → ℕ → Reading A) → GoesOn b next → Begins i → SoFar b i ps
       → (x : Reading P) → c.part i ≡ x → Within t i x → Open b (behind_part r c t next ps x)
   part-open b i ps next go at so (done p m) is w =
-      follow-open b i m ps p next go so (omega (arith, w.0)) w.1 (grows.is i m p at is) (step t c.next m) refl
+      follow-open b i m ps p next go so (omega (arith, w.0)) w.1 (fillable.is i m p at is) (step t c.next m) refl
       (delimits.next-is m w.1)
   part-open b i ps next go at so (fault k x stop) is w =
-      fault-open b (λ e. c.build e ps) k x stop (λ live. by (grows.begun i x stop k at is live)) where
+      fault-open b (λ e. c.build e ps) k x stop (λ live. by (fillable.begun i x stop k at is live)) where
         by : CanEndHere IsPart t i x → CanEnd closer IsPart t b x
         by (le, part) =
             let u = take x t ++ (part.filler ++ part.closers) in

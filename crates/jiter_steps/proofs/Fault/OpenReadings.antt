@@ -33,7 +33,7 @@ use Rattle.jiter_steps.proofs.Fault.Completions.{taken-first, front-kept}
 use Rattle.jiter_steps.proofs.Grammar.NodeRules.{nodes, nodes_of, node_members_of, key_of, pieces_from}
 use Rattle.jiter_steps.proofs.Fault.OpenNumbers.{LiveIs, map-live, then-live, word-live, no_live, zero-number}
 use Rattle.jiter_steps.proofs.Fault.OpenNumbers.{CanEndNumber, number-open}
-use Rattle.jiter_steps.proofs.Fault.OpenParts.{Anywhere, CanEndHere, Grows, container_at-open}
+use Rattle.jiter_steps.proofs.Fault.OpenParts.{Anywhere, CanEndHere, Fillable, container_at-open}
 use Rattle.jiter_steps.proofs.Reading.Parts.{Grammar, parts-are}
 use Rattle.jiter_steps.proofs.Grammar.Places.{IsPlaceKind}
 use Rattle.jiter_steps.specs.declared.parse.Shape.TheVariants as shape
@@ -85,15 +85,15 @@ module _ (t : List ℕ) (At : ℕ → Type 0) where
       (λ e is. value_first-live (past_blanks t e) (slice_get t (past_blanks t e)))
 
 module _ (names : Bool) where
-  -- with room for it
+  -- with a level left for it
   abbrev pub IsValue : ℕ → List ℕ → ℕ → Node → ℕ → Type 0
-  IsValue room u i n e = IsNodeAt names u i n e × (nesting n ≤ room)
+  IsValue levels u i n e = IsNodeAt names u i n e × (nesting n ≤ levels)
 
   abbrev IsItem : ℕ → List ℕ → ℕ → Node → ℕ → Type 0
-  IsItem room u i n e = IsItemAt names u room i n e
+  IsItem levels u i n e = IsItemAt names u levels i n e
 
   abbrev IsMember : ℕ → List ℕ → ℕ → Key × Node → ℕ → Type 0
-  IsMember room u i m e = IsMemberAt names u room i m.0 m.1 e
+  IsMember levels u i m e = IsMemberAt names u levels i m.0 m.1 e
 
   -- in each text with the same bytes before its end a node stands
   node-too : (u v : List ℕ) (i e : ℕ) (n : Node) → SameBefore u v e → IsNodeAt names u i n e → IsNodeAt names v i n e
@@ -104,9 +104,9 @@ module _ (names : Bool) where
     within = place-too u v e same e (omega arith) is.within;
   }
 
-  member-too : (room : ℕ) (u v : List ℕ) (i e : ℕ) (m : Key × Node) → SameBefore u v e → IsMember room u i m e
-      → IsMember room v i m e
-  member-too room u v i e m same is =
+  member-too : (levels : ℕ) (u v : List ℕ) (i e : ℕ) (m : Key × Node) → SameBefore u v e → IsMember levels u i m e
+      → IsMember levels v i m e
+  member-too levels u v i e m same is =
       let ahead = node-ahead names u m.1 is.value.spelled in
       record {
         begins = is.begins;
@@ -124,9 +124,9 @@ module _ (names : Bool) where
       number-node u x e (subst (SpellsNumber names u x) last (zero-number names u x h))
 
   -- a zero behind an empty key
-  zero-member : (room : ℕ) (t : List ℕ) (x : ℕ) → x ≤ length t → 0 < room
-      → (m : Key × Node) × IsMember room (take x t ++ codes "\"\":0") x m (x + 4)
-  zero-member room t x within some =
+  zero-member : (levels : ℕ) (t : List ℕ) (x : ℕ) → x ≤ length t → 0 < levels
+      → (m : Key × Node) × IsMember levels (take x t ++ codes "\"\":0") x m (x + 4)
+  zero-member levels t x within some =
       let w = codes "\"\":0" in
       let u = take x t ++ w in
       let long = taken-length t x within w in
@@ -150,33 +150,33 @@ module _ (names : Bool) where
       record { string = string; colon = x + 3; behind = behind; blanks = blanks } in
       ((key, _), record { begins = refl; key = spelled; value = value; limit = omega arith })
 
-  -- Inside a container with this room.
-  module _ (t : List ℕ) (room : ℕ)
-      (all : (i : ℕ) → i < length t → OpenAs (IsItem room) t i (inside_at (nodes names) t room i)) where
+  -- Inside a container with so many levels left.
+  module _ (t : List ℕ) (levels : ℕ)
+      (all : (i : ℕ) → i < length t → OpenAs (IsItem levels) t i (inside_at (nodes names) t levels i)) where
     abbrev inner : ℕ → Reading Node
-    inner i = inside_at (nodes names) t room i
+    inner i = inside_at (nodes names) t levels i
 
-    items-grow : (b : ℕ) → Grows 93 (IsItem room) t (array names t room b) (PartAt shape.Array t)
-    items-grow b = record {
+    items-fillable : (b : ℕ) → Fillable 93 (IsItem levels) t (array names t levels b) (PartAt shape.Array t)
+    items-fillable b = record {
       is_closer = (inl refl, tt);
       too = λ u v i e n same is. (node-too u v i e n same is.0, is.1);
-      is = λ i e n at is. item-read names t room (inside_at-sound names t room) i n e at is;
+      is = λ i e n at is. item-read names t levels (inside_at-sound names t levels) i n e at is;
       begun = λ i x stop k at is.
-          subst (OpenAs (IsItem room) t i) is (all i (slice_get_within t i at.byte at.here));
+          subst (OpenAs (IsItem levels) t i) is (all i (slice_get_within t i at.byte at.here));
       filler = codes "0";
       is_filler = inr (inl refl);
       fills = λ i e q is x within.
           let here = taken-first t x within (codes "0") 48 refl in
-          let some : 0 < room = omega (arith, is.1) in
+          let some : 0 < levels = omega (arith, is.1) in
           (grammar.number x (x + 1), (zero-node (take x t ++ codes "0") x (x + 1) refl here, some));
     }
 
     -- a member: its key, its colon and its value
     with_key-open : (i j : ℕ) (key : Key) → key.begin ≡ i → SpellsKey t key j → (x : Reading Node)
-        → OpenAs (IsItem room) t j x → OpenAs (IsMember room) t i (with_key key x)
+        → OpenAs (IsItem levels) t j x → OpenAs (IsMember levels) t i (with_key key x)
     with_key-open i j key begins spelled (done n e) h = tt
     with_key-open i j key begins spelled (fault k x stop) h = λ live. by (h live) where
-      by : CanEndHere (IsItem room) t j x → CanEndHere (IsMember room) t i x
+      by : CanEndHere (IsItem levels) t j x → CanEndHere (IsMember levels) t i x
       by (le, ends) =
           let ahead = key-ahead names t key j spelled in (
             omega arith,
@@ -193,7 +193,7 @@ module _ (names : Bool) where
 
     behind_colon-open : (i : ℕ) (key : Key) → key.begin ≡ i → SpellsString t key.begin key.pieces key.end
         → (x : Extent) → ExtentIs (Behind t key.end 58 (PartBehind t (ByteAt t))) x
-        → LiveIs (CanEndHere (IsMember room) t i) x → OpenAs (IsMember room) t i (behind_colon key inner x)
+        → LiveIs (CanEndHere (IsMember levels) t i) x → OpenAs (IsMember levels) t i (behind_colon key inner x)
     behind_colon-open i key begins string (taken u j) h dead =
         with_key-open i j key begins (record { string = string; colon = h.0; behind = h.1; blanks = h.2.blanks })
         (inner j)
@@ -202,41 +202,41 @@ module _ (names : Bool) where
 
     behind_key-open : (i : ℕ) → slice_get t i ≡ Some 34 → (x : Scanned Text) → string_at whole t i ≡ x
         → ScalarWithin t i x
-        → LiveIs (CanEndHere (IsMember room) t i) x
-        → OpenAs (IsMember room) t i (behind_key inner t i (seen_as (key_of t i) x))
+        → LiveIs (CanEndHere (IsMember levels) t i) x
+        → OpenAs (IsMember levels) t i (behind_key inner t i (seen_as (key_of t i) x))
     behind_key-open i quote (taken s e) is w dead =
         let string = (scalar-laws names t).string-sound i e s quote is in
         behind_colon-open i (key_of t i s e) refl string.0 (object_colon t e) (object_colon-is t e w.1)
-        (object_colon-live t (CanEndHere (IsMember room) t i) e)
+        (object_colon-live t (CanEndHere (IsMember levels) t i) e)
     behind_key-open i quote (failed k j) is w dead = dead
 
-    members-grow : (b : ℕ) → Grows 125 (IsMember room) t (object names t room b) (PartAt shape.Object t)
-    members-grow b = record {
+    members-fillable : (b : ℕ) → Fillable 125 (IsMember levels) t (object names t levels b) (PartAt shape.Object t)
+    members-fillable b = record {
       is_closer = (inr refl, tt);
-      too = λ u v i e m same is. member-too room u v i e m same is;
-      is = λ i e m at is. member-read names t room (inside_at-sound names t room) b i m e at is;
+      too = λ u v i e m same is. member-too levels u v i e m same is;
+      is = λ i e m at is. member-read names t levels (inside_at-sound names t levels) b i m e at is;
       begun = λ i x stop k at is.
           let within = slice_get_within t i at.byte at.here in
-          subst (OpenAs (IsMember room) t i) is
+          subst (OpenAs (IsMember levels) t i) is
           (behind_key-open i (begins-quote t i at) (string_at whole t i) refl
           ((scalar-laws names t).string-within i within)
-          (string-live t (CanEndHere (IsMember room) t i) i));
+          (string-live t (CanEndHere (IsMember levels) t i) i));
       filler = codes "\"\":0";
       is_filler = inr (inr refl);
-      fills = λ i e q is x within. zero-member room t x within (omega (arith, is.limit));
+      fills = λ i e q is x within. zero-member levels t x within (omega (arith, is.limit));
     }
 
     -- A container whose grammar is so, from its bracket on: the parts and the closer make a value.
     container-open : {P : Type 0} {closer : ℕ} {Begins : ℕ → Type 0} {IsPart : List ℕ → ℕ → P → ℕ → Type 0}
         (Are MoreAre : List ℕ → List P → ℕ → ℕ → Type 0) (c : Container P Node)
-        → Delimits t c.first c.next closer Begins → Sticks t c.first c.next → Goes c t → Grows closer IsPart t c Begins
+        → Delimits t c.first c.next closer Begins → Sticks t c.first c.next → Goes c t → Fillable closer IsPart t c Begins
         → ((u : List ℕ) → Grammar u closer Anywhere (IsPart u) (Are u) (MoreAre u))
         → (i b : ℕ) → slice_get t i ≡ Some b
         → ((u : List ℕ) (ps : List P) → slice_get u i ≡ Some b → Are u ps (i + 1) (length u)
-        → (n : Node) × IsValue room u i n (length u))
-        → OpenAs (IsValue room) t i (container_at (nodes names) c t i)
-    container-open Are MoreAre c delimits sticks goes grows are i b here build =
-        open-map _ (CanEndHere (IsValue room) t i)
+        → (n : Node) × IsValue levels u i n (length u))
+        → OpenAs (IsValue levels) t i (container_at (nodes names) c t i)
+    container-open Are MoreAre c delimits sticks goes fillable are i b here build =
+        open-map _ (CanEndHere (IsValue levels) t i)
         (λ x ends. (
           omega (arith, ends.0),
           close-map t x _ _
@@ -247,18 +247,18 @@ module _ (names : Bool) where
               ends.1,
         ))
         (container_at (nodes names) c t i)
-        (container_at-open (nodes names) (λ k. refl) t c _ _ _ delimits sticks goes grows i
+        (container_at-open (nodes names) (λ k. refl) t c _ _ _ delimits sticks goes fillable i
         (slice_get_within t i b here))
 
     -- scalars
-    scalar-open : {X : Type 0} (i : ℕ) (seen : X → ℕ → Node) (x : Scanned X) → LiveIs (CanEndHere (IsValue room) t i) x
-        → OpenAs (IsValue room) t i (scalar_at i (seen_as seen x))
+    scalar-open : {X : Type 0} (i : ℕ) (seen : X → ℕ → Node) (x : Scanned X) → LiveIs (CanEndHere (IsValue levels) t i) x
+        → OpenAs (IsValue levels) t i (scalar_at i (seen_as seen x))
     scalar-open i seen (taken a e) h = tt
     scalar-open i seen (failed k j) h = h
 
-    number-here : (i : ℕ) → i < length t → LiveIs (CanEndHere (IsValue room) t i) (number_at names t i)
+    number-here : (i : ℕ) → i < length t → LiveIs (CanEndHere (IsValue levels) t i) (number_at names t i)
     number-here i h =
-        map-live (CanEndNumber t names i) (CanEndHere (IsValue room) t i)
+        map-live (CanEndNumber t names i) (CanEndHere (IsValue levels) t i)
         (λ x ends. (
           ends.0,
           close-map t x _ _
@@ -267,7 +267,7 @@ module _ (names : Bool) where
         ))
         (number_at names t i) (number-open t names i (omega arith))
 
-    zero-here : (i : ℕ) → i ≤ length t → CanEndHere (IsValue room) t i i
+    zero-here : (i : ℕ) → i ≤ length t → CanEndHere (IsValue levels) t i i
     zero-here i within =
         let w = codes "0" in
         let u = take i t ++ w in
@@ -285,53 +285,53 @@ module _ (names : Bool) where
           },
         )
 
-    value-here : (u : List ℕ) (n : Node) → Spells names u n → end n ≡ length u → nesting n ≤ room
-        → (m : Node) × IsValue room u (begin n) m (length u)
+    value-here : (u : List ℕ) (n : Node) → Spells names u n → end n ≡ length u → nesting n ≤ levels
+        → (m : Node) × IsValue levels u (begin n) m (length u)
     value-here u n h last d = (n, (record { spelled = h; begins = refl; ends = last; within = omega arith }, d))
 
     value_with-open : (i : ℕ) → i < length t → (s : Start) → start_of (slice_index t i) ≡ s
-        → OpenAs (IsValue room) t i (value_with (nodes names) inner t i s)
+        → OpenAs (IsValue levels) t i (value_with (nodes names) inner t i s)
     value_with-open i h start.Array e =
-        container-open (λ u. ItemsAre names u room) (λ u. MoreItemsAre names u room) (array names t room i)
-        (delimits t shape.Array) (sticks t shape.Array) (array-goes names t room i) (items-grow i)
-        (λ u. items-grammar names u room Anywhere (IsItem room u) (λ j n m at is. is))
-        i 91 (byte-here names t room i 91 h (array-byte _ e))
+        container-open (λ u. ItemsAre names u levels) (λ u. MoreItemsAre names u levels) (array names t levels i)
+        (delimits t shape.Array) (sticks t shape.Array) (array-goes names t levels i) (items-fillable i)
+        (λ u. items-grammar names u levels Anywhere (IsItem levels u) (λ j n m at is. is))
+        i 91 (byte-here names t levels i 91 h (array-byte _ e))
         (λ u ps opens are. value-here u (grammar.array i (length u) (nodes_of ps)) (opens, are.0) refl are.1)
     value_with-open i h start.Object e =
-        container-open (λ u. MembersAre names u room) (λ u. MoreMembersAre names u room) (object names t room i)
-        (delimits t shape.Object) (sticks t shape.Object) (object-goes names t room i) (members-grow i)
-        (λ u. members-grammar names u room Anywhere (IsMember room u) (λ j m e at is. is))
-        i 123 (byte-here names t room i 123 h (object-byte _ e))
+        container-open (λ u. MembersAre names u levels) (λ u. MoreMembersAre names u levels) (object names t levels i)
+        (delimits t shape.Object) (sticks t shape.Object) (object-goes names t levels i) (members-fillable i)
+        (λ u. members-grammar names u levels Anywhere (IsMember levels u) (λ j m e at is. is))
+        i 123 (byte-here names t levels i 123 h (object-byte _ e))
         (λ u ps opens are. value-here u (grammar.object i (length u) (node_members_of ps)) (opens, are.0) refl are.1)
     value_with-open i h start.String e =
         scalar-open i (λ x e. grammar.string (pieces_from t (i + 1) (chars x.bytes)) i e) (string_at whole t i)
-        (string-live t (CanEndHere (IsValue room) t i) i)
+        (string-live t (CanEndHere (IsValue levels) t i) i)
     value_with-open i h start.Number e =
         scalar-open i (λ n e. grammar.number i e) (number_at names t i) (number-here i h)
     value_with-open i h (start.Literal l) e =
         scalar-open i (λ x e. grammar.literal l i e) (literal_at t l i)
-        (word-live t (CanEndHere (IsValue room) t i) (word_of l) i)
+        (word-live t (CanEndHere (IsValue levels) t i) (word_of l) i)
     value_with-open i h start.Nothing e = λ live. zero-here i (omega arith)
 
-  -- a value inside needs room for the container round it
-  room-inside : (t : List ℕ) (room i : ℕ) (y : Reading Node) → OpenAs (IsValue room) t i y
-      → OpenAs (IsItem (suc room)) t i y
-  room-inside t room i y h =
-      open-map (CanEndHere (IsValue room) t i) (CanEndHere (IsItem (suc room)) t i)
+  -- a value inside needs a level for the container round it
+  levels-inside : (t : List ℕ) (levels i : ℕ) (y : Reading Node) → OpenAs (IsValue levels) t i y
+      → OpenAs (IsItem (suc levels)) t i y
+  levels-inside t levels i y h =
+      open-map (CanEndHere (IsValue levels) t i) (CanEndHere (IsItem (suc levels)) t i)
       (λ x ends. (
         ends.0,
         close-map t x _ _ (λ w within here. (here.0, (here.1.0, omega (arith, here.1.1)))) ends.1,
       ))
       y h
 
-  inside_at-open : (t : List ℕ) (room i : ℕ) → i < length t
-      → OpenAs (IsItem room) t i (inside_at (nodes names) t room i)
+  inside_at-open : (t : List ℕ) (levels i : ℕ) → i < length t
+      → OpenAs (IsItem levels) t i (inside_at (nodes names) t levels i)
   unfolding inside_at
   inside_at-open t zero i h = no_live
-  inside_at-open t (suc room) i h =
-      room-inside t room i _ (value_with-open t room (inside_at-open t room) i h (start_of (slice_index t i)) refl)
+  inside_at-open t (suc levels) i h =
+      levels-inside t levels i _ (value_with-open t levels (inside_at-open t levels) i h (start_of (slice_index t i)) refl)
 
   -- Where a value's reading meets a fault that can go on, the value can be ended.
-  pub value_at-open : (t : List ℕ) (room i : ℕ) → i < length t
-      → OpenAs (IsValue room) t i (value_at (nodes names) t room i)
-  value_at-open t room i h = value_with-open t room (inside_at-open t room) i h (start_of (slice_index t i)) refl
+  pub value_at-open : (t : List ℕ) (levels i : ℕ) → i < length t
+      → OpenAs (IsValue levels) t i (value_at (nodes names) t levels i)
+  value_at-open t levels i h = value_with-open t levels (inside_at-open t levels) i h (start_of (slice_index t i)) refl

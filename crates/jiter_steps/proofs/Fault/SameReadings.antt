@@ -222,17 +222,17 @@ module _ (t u : List ℕ) (m : ℕ) (same : SameBefore t u m) where
             let start = ap start_of (sym (index-same t u m same i v.0 lt)) in
             (v.0, subst (λ s. Meets (value_with r inner t i (here t)) (value_with r inner_too u i s)) start v.1)
 
-      inside-stays : (room i : ℕ) → i < length t → Stays i (inside_at r t room i) (inside_at r u room i)
+      inside-stays : (levels i : ℕ) → i < length t → Stays i (inside_at r t levels i) (inside_at r u levels i)
       unfolding inside_at
       inside-stays zero i lt = λ shown. (shown.0, tt)
-      inside-stays (suc room) i lt =
-          value-stays (inside_at r t room) (inside_at r u room) (inside_at-within r t good room)
-          (inside_at-within r u good_too room) (inside-stays room) i lt
+      inside-stays (suc levels) i lt =
+          value-stays (inside_at r t levels) (inside_at r u levels) (inside_at-within r t good levels)
+          (inside_at-within r u good_too levels) (inside-stays levels) i lt
 
-      value_at-stays : (room i : ℕ) → i < length t → Stays i (value_at r t room i) (value_at r u room i)
-      value_at-stays room =
-          value-stays (inside_at r t room) (inside_at r u room) (inside_at-within r t good room)
-          (inside_at-within r u good_too room) (inside-stays room)
+      value_at-stays : (levels i : ℕ) → i < length t → Stays i (value_at r t levels i) (value_at r u levels i)
+      value_at-stays levels =
+          value-stays (inside_at r t levels) (inside_at r u levels) (inside_at-within r t good levels)
+          (inside_at-within r u good_too levels) (inside-stays levels)
 
       -- whole texts
       front-stays : (i : ℕ) (o : Option ℕ) → past_blanks t 0 ≡ i → slice_get t i ≡ o

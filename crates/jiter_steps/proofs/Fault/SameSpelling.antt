@@ -105,16 +105,16 @@ module _ (names : Bool) (t : List ℕ) where
   -- a first part ends before the container
   items-after : (n : Node) (ns : Nodes) (i e : ℕ) → SpellsItems names t i (node n ns) e → end n < e
   items-after n ns i e h =
-      let room = nesting_round (node n ns) in
-      let order = items-order names t room (node n ns) i e h (omega arith) in
-      order-ahead names t room (λ n. n) (nodes_list ns) (end n) e order.3
+      let levels = nesting_round (node n ns) in
+      let order = items-order names t levels (node n ns) i e h (omega arith) in
+      order-ahead names t levels (λ n. n) (nodes_list ns) (end n) e order.3
 
   members-after : (key : Key) (n : Node) (ms : NodeMembers) (i e : ℕ) → SpellsMembers names t i (member key n ms) e
       → end n < e
   members-after key n ms i e h =
-      let room = nesting_round_members (member key n ms) in
-      let order = members-order names t room (member key n ms) i e h (omega arith) in
-      order-ahead names t room (λ m. m.1) (members_list ms) (end n) e order.3
+      let levels = nesting_round_members (member key n ms) in
+      let order = members-order names t levels (member key n ms) i e h (omega arith) in
+      order-ahead names t levels (λ m. m.1) (members_list ms) (end n) e order.3
 
 module _ (names : Bool) (t u : List ℕ) (k : ℕ) (same : SameBefore t u k) where
   mutual

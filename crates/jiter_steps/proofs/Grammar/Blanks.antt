@@ -54,12 +54,12 @@ module _ (t : List ℕ) where
   pub past_blanks-through : (i : ℕ) → i + 16 ≤ length t → failing is_blank (chunk i 16 t) ≡ 0
       → past_blanks t i ≡ past_blanks t (i + 16)
   unfolding past_blanks
-  past_blanks-through i room none = run_end-through is_blank t i 16 room none
+  past_blanks-through i levels none = run_end-through is_blank t i 16 levels none
 
   pub past_blanks-inside : (i : ℕ) → i + 16 ≤ length t → 0 < failing is_blank (chunk i 16 t)
       → past_blanks t i ≡ i + count_trailing_zeros 64 (failing is_blank (chunk i 16 t))
   unfolding past_blanks
-  past_blanks-inside i room some = run_end-inside is_blank t i 16 room (omega arith) some
+  past_blanks-inside i levels some = run_end-inside is_blank t i 16 levels (omega arith) some
 
   -- blanks that stand are passed, up to a byte that is none or the end
   passes : (i j : ℕ) → IsBlank t i j → (j < length t → is_blank (get_or t j 0) ≡ false) → past_blanks t i ≡ j

@@ -27,12 +27,12 @@ use Rattle.jiter_steps.proofs.Cut.FrontNodes.{node-front}
 
 -- What is spelled so is read.
 -- A node that the text spells is read: it ends in the front that is the whole text.
-pub value_at-complete : (names : Bool) (t : List ℕ) (n : Node) (room : ℕ) → Spells names t n → nesting n ≤ room
+pub value_at-complete : (names : Bool) (t : List ℕ) (n : Node) (levels : ℕ) → Spells names t n → nesting n ≤ levels
     → EndsNumber t (end n)
-    → value_at (nodes names) t room (begin n) ≡ done n (end n)
-value_at-complete names t n room h d q =
-    let read = node-front names t (length t) (omega arith) n room h d q (begin-within names t n h) in
-    subst (λ u. value_at (nodes names) u room (begin n) ≡ done n (end n)) (take_all (length t) t (omega arith))
+    → value_at (nodes names) t levels (begin n) ≡ done n (end n)
+value_at-complete names t n levels h d q =
+    let read = node-front names t (length t) (omega arith) n levels h d q (begin-within names t n h) in
+    subst (λ u. value_at (nodes names) u levels (begin n) ≡ done n (end n)) (take_all (length t) t (omega arith))
     (read.0 (node-within names t n h))
 
 -- the text that a key stands for

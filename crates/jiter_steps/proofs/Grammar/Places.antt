@@ -11,10 +11,10 @@ use Rattle.jiter_scan.specs.Kind.{Kind, invalid_escape, lone_surrogate, end_of_h
 use Rattle.jiter_steps.specs.Escape.{short_escape, is_hex, unit_of, is_high, is_low, pair_of}
 use Rattle.jiter_scan.specs.Stands.{Stands}
 use Rattle.jiter_steps.specs.Piece.{IsUnit, IsEscape, Piece, SpellsPieces}
-use Rattle.jiter_steps.specs.StringReading.{closed, unclosed, cut, wrong, Place, part, over, bad_digit, unit_at}
+use Rattle.jiter_steps.specs.StringReading.{closed, unclosed, cut, wrong, Portion, part, over, bad_digit, unit_at}
 use Rattle.jiter_steps.specs.StringReading.{hex_digits_or, hex_digits_at, behind, surrogate_pair}
 use Rattle.jiter_steps.specs.StringReading.{behind_high_backslash, behind_high, single, unicode_escape, short}
-use Rattle.jiter_steps.specs.StringReading.{behind_backslash, place_by, place_at}
+use Rattle.jiter_steps.specs.StringReading.{behind_backslash, portion_by, portion_at}
 use Rattle.jiter_scan.proofs.Choices.{if_case}
 use Rattle.jiter_scan.proofs.Standing.{stands-append, stands-within, stands-length}
 
@@ -53,7 +53,7 @@ pub record EscapeAt (t : List ℕ) (i : ℕ) (bs : List ℕ) (j : ℕ) : Type 0 
 abbrev pub IsPlaceKind : Kind → Type 0
 IsPlaceKind k = (k ≡ invalid_escape) ⊎ ((k ≡ lone_surrogate) ⊎ ((k ≡ end_of_hex_escape) ⊎ (k ≡ control_character)))
 
-abbrev pub Explains : List ℕ → ℕ → Place → Type 0
+abbrev pub Explains : List ℕ → ℕ → Portion → Type 0
 Explains t i (part bs false j) = ByteAt t i bs j
 Explains t i (part bs true j) = EscapeAt t i bs j
 Explains t i (over (closed e)) = (slice_get t i ≡ Some 34) × (e ≡ i + 1)
@@ -82,7 +82,7 @@ bad_digit-explains t i within =
     (λ e. (omega arith, omega arith)))
     (λ e. (omega arith, omega arith))
 
-hex_digits_at-case : (P : Place → Type 0) (t : List ℕ) (i : ℕ) (next : ℕ → Place) → P (over cut)
+hex_digits_at-case : (P : Portion → Type 0) (t : List ℕ) (i : ℕ) (next : ℕ → Portion) → P (over cut)
     → ((k : ℕ) → i ≤ k → k < length t → P (over (wrong invalid_escape k))) → (HexAt t i → P (next (unit_at t i)))
     → P (behind next (hex_digits_at t i))
 hex_digits_at-case P t i next none wrong_at good =
@@ -274,10 +274,10 @@ module _ (t : List ℕ) (o : ℕ) where
         })))
         (λ q. short-explains b e (short_escape b) refl)
 
-pub place_at-explains : (t : List ℕ) (i : ℕ) → Explains t i (place_at t i)
-unfolding place_at
-place_at-explains t i = by (slice_get t i) refl where
-  by : (x : Option ℕ) → slice_get t i ≡ x → Explains t i (place_by t i x)
+pub portion_at-explains : (t : List ℕ) (i : ℕ) → Explains t i (portion_at t i)
+unfolding portion_at
+portion_at-explains t i = by (slice_get t i) refl where
+  by : (x : Option ℕ) → slice_get t i ≡ x → Explains t i (portion_by t i x)
   by None e = e
   by (Some b) e =
       if_case (Explains t i) (b == 34) _ _ (λ q. (e ∙ ap Some (eqb-true b 34 q), refl)) (λ q.

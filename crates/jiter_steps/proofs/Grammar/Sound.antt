@@ -34,15 +34,15 @@ use Rattle.jiter_steps.proofs.Grammar.ScalarLaws.{ScalarLaws, scalar-laws}
 use Rattle.jiter_steps.proofs.Reading.Values.{AllWithin, Goes, array_of-goes, object_of-goes, container_at-within}
 use Rattle.jiter_steps.proofs.Reading.Values.{inside_at-within}
 
-round-items : (n : Node) (ns : Nodes) (room : ℕ) → nesting n < room → nesting_round ns ≤ room
-    → nesting_round (node n ns) ≤ room
-round-items n no_nodes room d h = omega arith
-round-items n (node m ns) room d h = omega arith
+round-items : (n : Node) (ns : Nodes) (levels : ℕ) → nesting n < levels → nesting_round ns ≤ levels
+    → nesting_round (node n ns) ≤ levels
+round-items n no_nodes levels d h = omega arith
+round-items n (node m ns) levels d h = omega arith
 
-round-members : (k : Key) (n : Node) (ms : NodeMembers) (room : ℕ) → nesting n < room → nesting_round_members ms ≤ room
-    → nesting_round_members (member k n ms) ≤ room
-round-members k n no_members room d h = omega arith
-round-members k n (member l m ms) room d h = omega arith
+round-members : (k : Key) (n : Node) (ms : NodeMembers) (levels : ℕ) → nesting n < levels → nesting_round_members ms ≤ levels
+    → nesting_round_members (member k n ms) ≤ levels
+round-members k n no_members levels d h = omega arith
+round-members k n (member l m ms) levels d h = omega arith
 
 -- the bytes that begin an array and an object
 pub array-byte : (c : ℕ) → start_of c ≡ start.Array → c ≡ 91
@@ -58,57 +58,57 @@ pub record IsNodeAt (names : Bool) (t : List ℕ) (i : ℕ) (n : Node) (e : ℕ)
   pub ends : end n ≡ e
   pub within : e ≤ length t
 
--- with room for it
+-- with a level left for it
 abbrev pub Sound : Bool → List ℕ → ℕ → ℕ → Reading Node → Type 0
-Sound names t room i (done n e) = IsNodeAt names t i n e × (nesting n ≤ room)
-Sound names t room i (fault k x stop) = Unit {0}
+Sound names t levels i (done n e) = IsNodeAt names t i n e × (nesting n ≤ levels)
+Sound names t levels i (fault k x stop) = Unit {0}
 
--- inside a container, which needs room itself
+-- inside a container, which needs a level itself
 abbrev pub IsItemAt : Bool → List ℕ → ℕ → ℕ → Node → ℕ → Type 0
-IsItemAt names t room i n e = IsNodeAt names t i n e × (nesting n < room)
+IsItemAt names t levels i n e = IsNodeAt names t i n e × (nesting n < levels)
 
 abbrev pub InsideSound : Bool → List ℕ → ℕ → ℕ → Reading Node → Type 0
-InsideSound names t room i (done n e) = IsItemAt names t room i n e
-InsideSound names t room i (fault k x stop) = Unit {0}
+InsideSound names t levels i (done n e) = IsItemAt names t levels i n e
+InsideSound names t levels i (fault k x stop) = Unit {0}
 
 -- a key at i, its colon, and its value before e
-pub record IsMemberAt (names : Bool) (t : List ℕ) (room i : ℕ) (k : Key) (n : Node) (e : ℕ) : Type 0 where
+pub record IsMemberAt (names : Bool) (t : List ℕ) (levels i : ℕ) (k : Key) (n : Node) (e : ℕ) : Type 0 where
   pub begins : k.begin ≡ i
   pub key : SpellsKey t k (begin n)
   pub value : IsNodeAt names t (begin n) n e
-  pub limit : nesting n < room
+  pub limit : nesting n < levels
 
 abbrev pub MemberSound : Bool → List ℕ → ℕ → ℕ → Reading (Key × Node) → Type 0
-MemberSound names t room i (done m e) = IsMemberAt names t room i m.0 m.1 e
-MemberSound names t room i (fault k x stop) = Unit {0}
+MemberSound names t levels i (done m e) = IsMemberAt names t levels i m.0 m.1 e
+MemberSound names t levels i (fault k x stop) = Unit {0}
 
 module _ (names : Bool) (t : List ℕ) where
   laws : ScalarLaws names t
   laws = scalar-laws names t
 
-  sound-at : (room : ℕ) (n : Node) → Spells names t n → end n ≤ length t → nesting n ≤ room
-      → Sound names t room (begin n) (done n (end n))
-  sound-at room n h le d = (record { spelled = h; begins = refl; ends = refl; within = le }, d)
+  sound-at : (levels : ℕ) (n : Node) → Spells names t n → end n ≤ length t → nesting n ≤ levels
+      → Sound names t levels (begin n) (done n (end n))
+  sound-at levels n h le d = (record { spelled = h; begins = refl; ends = refl; within = le }, d)
 
   -- scalars
-  scalar-sound : {X : Type 0} (room i : ℕ) (f : X → ℕ → Node) (x : Scanned X) → ScalarWithin t i x
-      → ((s : X) (e : ℕ) → x ≡ taken s e → i < e → e ≤ length t → Sound names t room i (done (f s e) e))
-      → Sound names t room i (scalar_at i (seen_as f x))
-  scalar-sound room i f (taken s e) w all = all s e refl w.0 w.1
-  scalar-sound room i f (failed k j) w all = tt
+  scalar-sound : {X : Type 0} (levels i : ℕ) (f : X → ℕ → Node) (x : Scanned X) → ScalarWithin t i x
+      → ((s : X) (e : ℕ) → x ≡ taken s e → i < e → e ≤ length t → Sound names t levels i (done (f s e) e))
+      → Sound names t levels i (scalar_at i (seen_as f x))
+  scalar-sound levels i f (taken s e) w all = all s e refl w.0 w.1
+  scalar-sound levels i f (failed k j) w all = tt
 
-  module _ (room : ℕ) where
+  module _ (levels : ℕ) where
     abbrev pub inner : ℕ → Reading Node
-    inner i = inside_at (nodes names) t room i
+    inner i = inside_at (nodes names) t levels i
 
     abbrev pub InnerSound : Type 0
-    InnerSound = (i : ℕ) → i < length t → InsideSound names t room i (inner i)
+    InnerSound = (i : ℕ) → i < length t → InsideSound names t levels i (inner i)
 
     -- a member: its key, its colon and its value
     with_key-sound : (i colon j : ℕ) (k : Key) → k.begin ≡ i → SpellsString t k.begin k.pieces k.end
         → StandsBehind t k.end 58 colon
-        → PartBehind t (ByteAt t) colon j → (x : Reading Node) → InsideSound names t room j x
-        → MemberSound names t room i (with_key k x)
+        → PartBehind t (ByteAt t) colon j → (x : Reading Node) → InsideSound names t levels j x
+        → MemberSound names t levels i (with_key k x)
     with_key-sound i colon j k begins string behind h (done n d) is =
         record {
           begins = begins;
@@ -120,14 +120,14 @@ module _ (names : Bool) (t : List ℕ) where
 
     behind_colon-sound : InnerSound → (i : ℕ) (k : Key) → k.begin ≡ i → SpellsString t k.begin k.pieces k.end
         → (x : Extent) → ExtentIs (Behind t k.end 58 (PartBehind t (ByteAt t))) x
-        → MemberSound names t room i (behind_colon k inner x)
+        → MemberSound names t levels i (behind_colon k inner x)
     behind_colon-sound all i k begins string (taken u j) h =
         with_key-sound i h.0 j k begins string h.1 h.2 (inner j)
         (all j (slice_get_within t j h.2.begins.byte h.2.begins.here))
     behind_colon-sound all i k begins string (failed kind j) h = tt
 
     behind_key-sound : InnerSound → (i : ℕ) → slice_get t i ≡ Some 34 → (x : Scanned Text) → string_at whole t i ≡ x
-        → ScalarWithin t i x → MemberSound names t room i (behind_key inner t i (seen_as (key_of t i) x))
+        → ScalarWithin t i x → MemberSound names t levels i (behind_key inner t i (seen_as (key_of t i) x))
     behind_key-sound all i quote (taken s e) is w =
         behind_colon-sound all i (key_of t i s e) refl (laws.string-sound i e s quote is).0 (object_colon t e)
         (object_colon-is t e w.1)
@@ -141,7 +141,7 @@ module _ (names : Bool) (t : List ℕ) where
     object b = object_of (nodes names) inner t b
 
     inner-within : AllWithin t inner
-    inner-within = inside_at-within (nodes names) t (nodes-advances t names) room
+    inner-within = inside_at-within (nodes names) t (nodes-advances t names) levels
 
     pub array-goes : (b : ℕ) → Goes (array b) t
     array-goes b = array_of-goes (nodes names) t (nodes-advances t names) inner inner-within b
@@ -151,21 +151,21 @@ module _ (names : Bool) (t : List ℕ) where
 
     -- and their grammar
     abbrev pub ItemsAre : List Node → ℕ → ℕ → Type 0
-    ItemsAre ns i e = SpellsItems names t i (nodes_of ns) e × (nesting_round (nodes_of ns) ≤ room)
+    ItemsAre ns i e = SpellsItems names t i (nodes_of ns) e × (nesting_round (nodes_of ns) ≤ levels)
 
     abbrev pub MoreItemsAre : List Node → ℕ → ℕ → Type 0
-    MoreItemsAre ns i e = SpellsMoreItems names t i (nodes_of ns) e × (nesting_round (nodes_of ns) ≤ room)
+    MoreItemsAre ns i e = SpellsMoreItems names t i (nodes_of ns) e × (nesting_round (nodes_of ns) ≤ levels)
 
     abbrev pub MembersAre : List (Key × Node) → ℕ → ℕ → Type 0
     MembersAre ms i e =
-        SpellsMembers names t i (node_members_of ms) e × (nesting_round_members (node_members_of ms) ≤ room)
+        SpellsMembers names t i (node_members_of ms) e × (nesting_round_members (node_members_of ms) ≤ levels)
 
     abbrev pub MoreMembersAre : List (Key × Node) → ℕ → ℕ → Type 0
     MoreMembersAre ms i e =
-        SpellsMoreMembers names t i (node_members_of ms) e × (nesting_round_members (node_members_of ms) ≤ room)
+        SpellsMoreMembers names t i (node_members_of ms) e × (nesting_round_members (node_members_of ms) ≤ levels)
 
     pub items-grammar : (Begins : ℕ → Type 0) (IsPart : ℕ → Node → ℕ → Type 0)
-        → ((j : ℕ) (n : Node) (m : ℕ) → Begins j → IsPart j n m → IsItemAt names t room j n m)
+        → ((j : ℕ) (n : Node) (m : ℕ) → Begins j → IsPart j n m → IsItemAt names t levels j n m)
         → Grammar t 93 Begins IsPart ItemsAre MoreItemsAre
     items-grammar Begins IsPart each = record {
       none = λ i e h. (h, omega arith);
@@ -173,13 +173,13 @@ module _ (names : Bool) (t : List ℕ) where
       part = λ n ns i j m e blanks at is rest.
           let x = each j n m at is in (
             (rw x.0.begins blanks, x.0.spelled, rw x.0.ends rest.0),
-            round-items n (nodes_of ns) room x.1 rest.1,
+            round-items n (nodes_of ns) levels x.1 rest.1,
           );
       comma = λ n ns i c e h x. ((c, h, x.0.0, x.0.1, x.0.2), x.1);
     }
 
     pub members-grammar : (Begins : ℕ → Type 0) (IsPart : ℕ → Key × Node → ℕ → Type 0)
-        → ((j : ℕ) (p : Key × Node) (m : ℕ) → Begins j → IsPart j p m → IsMemberAt names t room j p.0 p.1 m)
+        → ((j : ℕ) (p : Key × Node) (m : ℕ) → Begins j → IsPart j p m → IsMemberAt names t levels j p.0 p.1 m)
         → Grammar t 125 Begins IsPart MembersAre MoreMembersAre
     members-grammar Begins IsPart each = record {
       none = λ i e h. (h, omega arith);
@@ -187,22 +187,22 @@ module _ (names : Bool) (t : List ℕ) where
       part = λ p ms i j m e blanks at is rest.
           let x = each j p m at is in (
             (rw x.begins blanks, x.key, x.value.spelled, rw x.value.ends rest.0),
-            round-members p.0 p.1 (node_members_of ms) room x.limit rest.1,
+            round-members p.0 p.1 (node_members_of ms) levels x.limit rest.1,
           );
       comma = λ p ms i c e h x. ((c, h, x.0.0, x.0.1, x.0.2, x.0.3), x.1);
     }
 
     -- what is read of a container is a part of it
     pub item-read : InnerSound → (j : ℕ) (n : Node) (m : ℕ) → PartAt shape.Array t j → inner j ≡ done n m
-        → IsItemAt names t room j n m
-    item-read all j n m at is = subst (InsideSound names t room j) is (all j (slice_get_within t j at.byte at.here))
+        → IsItemAt names t levels j n m
+    item-read all j n m at is = subst (InsideSound names t levels j) is (all j (slice_get_within t j at.byte at.here))
 
     pub member-read : InnerSound → (b j : ℕ) (p : Key × Node) (m : ℕ) → PartAt shape.Object t j → Reads (object b) j p m
-        → IsMemberAt names t room j p.0 p.1 m
+        → IsMemberAt names t levels j p.0 p.1 m
     member-read all b j p m at is =
         let quote = begins-quote t j at in
         let within = laws.string-within j (slice_get_within t j 34 quote) in
-        subst (MemberSound names t room j) is (behind_key-sound all j quote _ refl within)
+        subst (MemberSound names t levels j) is (behind_key-sound all j quote _ refl within)
 
     -- values
     container-sound : {P : Type 0} (c : Container P Node) (closer : ℕ) (Begins : ℕ → Type 0)
@@ -210,60 +210,60 @@ module _ (names : Bool) (t : List ℕ) where
         → Delimits t c.first c.next closer Begins → Goes c t
         → Grammar t closer Begins (Reads c) Are MoreAre
         → (b : ℕ) → b < length t
-        → ((ps : List P) (e : ℕ) → Are ps (b + 1) e → e ≤ length t → Sound names t room b (done (c.build e ps) e))
-        → Sound names t room b (container_at (nodes names) c t b)
+        → ((ps : List P) (e : ℕ) → Are ps (b + 1) e → e ≤ length t → Sound names t levels b (done (c.build e ps) e))
+        → Sound names t levels b (container_at (nodes names) c t b)
     container-sound c closer Begins Are MoreAre delimits goes grammar b h all =
         by _ (container_at-built (nodes names) t c closer Begins (λ k. refl) delimits goes b h)
         (container_at-within (nodes names) t c goes b h) where
           by : (x : Reading Node) → BuiltOf (nodes names) t c closer Begins (b + 1) x → Within t b x
-              → Sound names t room b x
+              → Sound names t levels b x
           by (done n e) built within =
               let are = parts-are t closer Begins (Reads c) Are MoreAre grammar built.0 (b + 1) e built.2 in
-              subst (λ n. Sound names t room b (done n e)) (sym built.1) (all built.0 e are within.1)
+              subst (λ n. Sound names t levels b (done n e)) (sym built.1) (all built.0 e are within.1)
           by (fault k x stop) built within = tt
 
     pub byte-here : (i c : ℕ) → i < length t → slice_index t i ≡ c → slice_get t i ≡ Some c
     byte-here i c h e = slice_get-get_or t i 0 h ∙ ap Some e
 
     value_with-sound : InnerSound → (i : ℕ) → i < length t → (s : Start) → start_of (slice_index t i) ≡ s
-        → Sound names t room i (value_with (nodes names) inner t i s)
+        → Sound names t levels i (value_with (nodes names) inner t i s)
     value_with-sound all i h start.Array e =
         let here = byte-here i 91 h (array-byte _ e) in
         container-sound (array i) 93 (PartAt shape.Array t) ItemsAre MoreItemsAre (delimits t shape.Array)
         (array-goes i)
         (items-grammar (PartAt shape.Array t) (Reads (array i)) (item-read all)) i h
-        (λ ns f x le. sound-at room (grammar.array i f (nodes_of ns)) (here, x.0) le x.1)
+        (λ ns f x le. sound-at levels (grammar.array i f (nodes_of ns)) (here, x.0) le x.1)
     value_with-sound all i h start.Object e =
         let here = byte-here i 123 h (object-byte _ e) in
         container-sound (object i) 125 (PartAt shape.Object t) MembersAre MoreMembersAre (delimits t shape.Object)
         (object-goes i)
         (members-grammar (PartAt shape.Object t) (Reads (object i)) (member-read all i)) i h
-        (λ ms f x le. sound-at room (grammar.object i f (node_members_of ms)) (here, x.0) le x.1)
+        (λ ms f x le. sound-at levels (grammar.object i f (node_members_of ms)) (here, x.0) le x.1)
     value_with-sound all i h start.String e =
         let here = byte-here i 34 h (string-first _ e) in
-        scalar-sound room i (λ s e. grammar.string (pieces_from t (i + 1) (chars s.bytes)) i e) (string_at whole t i)
+        scalar-sound levels i (λ s e. grammar.string (pieces_from t (i + 1) (chars s.bytes)) i e) (string_at whole t i)
         (laws.string-within i h)
-        (λ s e is l le. sound-at room (grammar.string _ i e) (laws.string-sound i e s here is).0 le (omega arith))
+        (λ s e is l le. sound-at levels (grammar.string _ i e) (laws.string-sound i e s here is).0 le (omega arith))
     value_with-sound all i h start.Number e =
-        scalar-sound room i (λ n e. grammar.number i e) (number_at names t i) (laws.number-within i h)
-        (λ n e is l le. sound-at room (grammar.number i e)
+        scalar-sound levels i (λ n e. grammar.number i e) (number_at names t i) (laws.number-within i h)
+        (λ n e is l le. sound-at levels (grammar.number i e)
         (record { ordered = omega arith; within = le; text = (laws.number-sound i e n is).0 }) le (omega arith))
     value_with-sound all i h (start.Literal l) e =
-        scalar-sound room i (λ u e. grammar.literal l i e) (literal_at t l i) (laws.literal-within l i h)
-        (λ u e is b le. sound-at room (grammar.literal l i e) (laws.literal-sound l i e is) le (omega arith))
+        scalar-sound levels i (λ u e. grammar.literal l i e) (literal_at t l i) (laws.literal-within l i h)
+        (λ u e is b le. sound-at levels (grammar.literal l i e) (laws.literal-sound l i e is) le (omega arith))
     value_with-sound all i h start.Nothing e = tt
 
-  -- a value inside needs room for the container round it
-  room-inside : (room i : ℕ) (x : Reading Node) → Sound names t room i x → InsideSound names t (suc room) i x
-  room-inside room i (done n e) h = (h.0, omega (arith, h.1))
-  room-inside room i (fault k x stop) h = tt
+  -- a value inside needs a level for the container round it
+  levels-inside : (levels i : ℕ) (x : Reading Node) → Sound names t levels i x → InsideSound names t (suc levels) i x
+  levels-inside levels i (done n e) h = (h.0, omega (arith, h.1))
+  levels-inside levels i (fault k x stop) h = tt
 
-  pub inside_at-sound : (room i : ℕ) → i < length t → InsideSound names t room i (inside_at (nodes names) t room i)
+  pub inside_at-sound : (levels i : ℕ) → i < length t → InsideSound names t levels i (inside_at (nodes names) t levels i)
   unfolding inside_at
   inside_at-sound zero i h = tt
-  inside_at-sound (suc room) i h =
-      room-inside room i _ (value_with-sound room (inside_at-sound room) i h (start_of (slice_index t i)) refl)
+  inside_at-sound (suc levels) i h =
+      levels-inside levels i _ (value_with-sound levels (inside_at-sound levels) i h (start_of (slice_index t i)) refl)
 
   -- A node is read only where the text spells it.
-  pub value_at-sound : (room i : ℕ) → i < length t → Sound names t room i (value_at (nodes names) t room i)
-  value_at-sound room i h = value_with-sound room (inside_at-sound room) i h (start_of (slice_index t i)) refl
+  pub value_at-sound : (levels i : ℕ) → i < length t → Sound names t levels i (value_at (nodes names) t levels i)
+  value_at-sound levels i h = value_with-sound levels (inside_at-sound levels) i h (start_of (slice_index t i)) refl

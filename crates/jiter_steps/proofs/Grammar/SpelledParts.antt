@@ -109,19 +109,19 @@ pub members-listed : (ms : NodeMembers) → node_members_of (members_list ms) �
 members-listed no_members = refl
 members-listed (member k n ms) = ap (member k n) (members-listed ms)
 
--- the text spells n from i to e as an item: there is room, and behind it no number goes on
-pub record IsItem (names : Bool) (t : List ℕ) (room i : ℕ) (n : Node) (e : ℕ) : Type 0 where
+-- the text spells n from i to e as an item: there is a level left, and behind it no number goes on
+pub record IsItem (names : Bool) (t : List ℕ) (levels i : ℕ) (n : Node) (e : ℕ) : Type 0 where
   pub spelled : Spells names t n
   pub begins : begin n ≡ i
   pub ends : end n ≡ e
-  pub limit : nesting n < room
+  pub limit : nesting n < levels
   pub quiet : EndsNumber t e
 
 -- a key from i on, its colon, and its value as an item
-pub record IsMember (names : Bool) (t : List ℕ) (room i : ℕ) (m : Key × Node) (e : ℕ) : Type 0 where
+pub record IsMember (names : Bool) (t : List ℕ) (levels i : ℕ) (m : Key × Node) (e : ℕ) : Type 0 where
   pub begins : m.0.begin ≡ i
   pub key : SpellsKey t m.0 (begin m.1)
-  pub value : IsItem names t room (begin m.1) m.1 e
+  pub value : IsItem names t levels (begin m.1) m.1 e
 
 module _ (names : Bool) (t : List ℕ) where
   laws : ScalarLaws names t
@@ -181,61 +181,61 @@ module _ (names : Bool) (t : List ℕ) where
       (laws.pieces-again k.begin k.end k.pieces h)
 
   -- the parts of a container, by the grammar
-  module _ (room : ℕ) where
+  module _ (levels : ℕ) where
     abbrev MoreItems : List Node → ℕ → ℕ → Type 0
-    MoreItems ns i e = MoreParts t 93 (PartAt shape.Array t) (IsItem names t room) ns i e
+    MoreItems ns i e = MoreParts t 93 (PartAt shape.Array t) (IsItem names t levels) ns i e
 
     abbrev MoreMembers : List (Key × Node) → ℕ → ℕ → Type 0
-    MoreMembers ms i e = MoreParts t 125 (PartAt shape.Object t) (IsMember names t room) ms i e
+    MoreMembers ms i e = MoreParts t 125 (PartAt shape.Object t) (IsMember names t levels) ms i e
 
     abbrev pub Items : List Node → ℕ → ℕ → Type 0
-    Items ns i e = Parts t 93 (PartAt shape.Array t) (IsItem names t room) ns i e
+    Items ns i e = Parts t 93 (PartAt shape.Array t) (IsItem names t levels) ns i e
 
     abbrev pub Members : List (Key × Node) → ℕ → ℕ → Type 0
-    Members ms i e = Parts t 125 (PartAt shape.Object t) (IsMember names t room) ms i e
+    Members ms i e = Parts t 125 (PartAt shape.Object t) (IsMember names t levels) ms i e
 
-    is_item : (n : Node) → Spells names t n → nesting n < room → EndsNumber t (end n)
-        → IsItem names t room (begin n) n (end n)
+    is_item : (n : Node) → Spells names t n → nesting n < levels → EndsNumber t (end n)
+        → IsItem names t levels (begin n) n (end n)
     is_item n h d q = record { spelled = h; begins = refl; ends = refl; limit = d; quiet = q }
 
-    item-first : (n : Node) (ns : List Node) (i e : ℕ) → IsBlank t i (begin n) → Spells names t n → nesting n < room
+    item-first : (n : Node) (ns : List Node) (i e : ℕ) → IsBlank t i (begin n) → Spells names t n → nesting n < levels
         → MoreItems ns (end n) e → Items (n ∷ ns) i e
     item-first n ns i e blanks h d rest =
-        let quiet = more_parts-quiet t 93 (PartAt shape.Array t) (IsItem names t room) refl ns (end n) e rest in
+        let quiet = more_parts-quiet t 93 (PartAt shape.Array t) (IsItem names t levels) refl ns (end n) e rest in
         let is = is_item n h d quiet in
         record { begin = begin n; end = end n; blanks = blanks; begins = item-begins n h; is = is; rest = rest }
 
-    more_items-parts : (ns : Nodes) (i e : ℕ) → SpellsMoreItems names t i ns e → nesting_of ns < room
+    more_items-parts : (ns : Nodes) (i e : ℕ) → SpellsMoreItems names t i ns e → nesting_of ns < levels
         → MoreItems (nodes_list ns) i e
     more_items-parts no_nodes i e h d = h
     more_items-parts (node n ns) i e h d =
         let rest = more_items-parts ns (end n) e h.4 (omega arith) in
         (h.0, h.1, item-first n (nodes_list ns) h.0 e h.2 h.3 (omega arith) rest)
 
-    pub items-parts : (ns : Nodes) (i e : ℕ) → SpellsItems names t i ns e → nesting_round ns ≤ room
+    pub items-parts : (ns : Nodes) (i e : ℕ) → SpellsItems names t i ns e → nesting_round ns ≤ levels
         → Items (nodes_list ns) i e
     items-parts no_nodes i e h d = h
     items-parts (node n ns) i e h d =
         item-first n (nodes_list ns) i e h.0 h.1 (omega arith) (more_items-parts ns (end n) e h.2 (omega arith))
 
     member-first : (k : Key) (n : Node) (ms : List (Key × Node)) (i e : ℕ) → IsBlank t i k.begin
-        → SpellsKey t k (begin n) → Spells names t n → nesting n < room → MoreMembers ms (end n) e
+        → SpellsKey t k (begin n) → Spells names t n → nesting n < levels → MoreMembers ms (end n) e
         → Members ((k, n) ∷ ms) i e
     member-first k n ms i e blanks key h d rest =
-        let quiet = more_parts-quiet t 125 (PartAt shape.Object t) (IsMember names t room) refl ms (end n) e rest in
+        let quiet = more_parts-quiet t 125 (PartAt shape.Object t) (IsMember names t levels) refl ms (end n) e rest in
         let value = is_item n h d quiet in
-        let is : IsMember names t room k.begin (k, n) (end n) = record { begins = refl; key = key; value = value } in
+        let is : IsMember names t levels k.begin (k, n) (end n) = record { begins = refl; key = key; value = value } in
         let begins = quote-begins t k.begin key.string.opens in
         record { begin = k.begin; end = end n; blanks = blanks; begins = begins; is = is; rest = rest }
 
-    more_members-parts : (ms : NodeMembers) (i e : ℕ) → SpellsMoreMembers names t i ms e → nesting_of_members ms < room
+    more_members-parts : (ms : NodeMembers) (i e : ℕ) → SpellsMoreMembers names t i ms e → nesting_of_members ms < levels
         → MoreMembers (members_list ms) i e
     more_members-parts no_members i e h d = h
     more_members-parts (member k n ms) i e h d =
         let rest = more_members-parts ms (end n) e h.5 (omega arith) in
         (h.0, h.1, member-first k n (members_list ms) h.0 e h.2 h.3 h.4 (omega arith) rest)
 
-    pub members-parts : (ms : NodeMembers) (i e : ℕ) → SpellsMembers names t i ms e → nesting_round_members ms ≤ room
+    pub members-parts : (ms : NodeMembers) (i e : ℕ) → SpellsMembers names t i ms e → nesting_round_members ms ≤ levels
         → Members (members_list ms) i e
     members-parts no_members i e h d = h
     members-parts (member k n ms) i e h d =
@@ -255,18 +255,18 @@ module _ (names : Bool) (t : List ℕ) where
       let string = laws.string-ordered key.begin key.end key.pieces h.string in
       omega (arith, string.0, behind-ahead t key.end 58 h.colon h.behind, h.blanks.ordered)
 
-  module _ (room : ℕ) where
+  module _ (levels : ℕ) where
     -- the values of these parts stand one behind another, from i to before e, which lies within the text
     abbrev pub InOrder : {P : Type 0} → (P → Node) → ℕ → List P → ℕ → Type 0
     InOrder value i [] e = (i < e) × (e ≤ length t)
     InOrder value i (p ∷ ps) e =
-        (i ≤ begin (value p)) × Spells names t (value p) × (nesting (value p) < room)
+        (i ≤ begin (value p)) × Spells names t (value p) × (nesting (value p) < levels)
         × InOrder value (end (value p)) ps e
 
     -- So stand parts whose values are such, one behind another.
     order-grammar : {P : Type 0} (closer : ℕ) (Begins : ℕ → Type 0) (IsPart : ℕ → P → ℕ → Type 0) (value : P → Node)
         → ((i : ℕ) (p : P) (e : ℕ) → IsPart i p e
-        → (i ≤ begin (value p)) × Spells names t (value p) × (nesting (value p) < room) × (end (value p) ≡ e))
+        → (i ≤ begin (value p)) × Spells names t (value p) × (nesting (value p) < levels) × (end (value p) ≡ e))
         → Grammar t closer Begins IsPart (λ ps i e. InOrder value i ps e) (λ ps i e. InOrder value i ps e)
     order-grammar closer Begins IsPart value each = record {
       none = λ i e h. (behind-ahead t i closer e h, behind-within i closer e h);
@@ -277,27 +277,27 @@ module _ (names : Bool) (t : List ℕ) where
       comma = λ p ps i c e h x. (omega (arith, behind-ahead t i 44 c h, x.0), x.1, x.2, x.3);
     }
 
-    pub items-order : (ns : Nodes) (i e : ℕ) → SpellsItems names t i ns e → nesting_round ns ≤ room
+    pub items-order : (ns : Nodes) (i e : ℕ) → SpellsItems names t i ns e → nesting_round ns ≤ levels
         → InOrder (λ n. n) i (nodes_list ns) e
     items-order ns i e h d =
         parts-are t 93 _ _ _ _
-        (order-grammar 93 (PartAt shape.Array t) (IsItem names t room) (λ n. n)
+        (order-grammar 93 (PartAt shape.Array t) (IsItem names t levels) (λ n. n)
         (λ i n e is. (omega (arith, is.begins), is.spelled, is.limit, is.ends)))
-        (nodes_list ns) i e (items-parts room ns i e h d)
+        (nodes_list ns) i e (items-parts levels ns i e h d)
 
-    pub members-order : (ms : NodeMembers) (i e : ℕ) → SpellsMembers names t i ms e → nesting_round_members ms ≤ room
+    pub members-order : (ms : NodeMembers) (i e : ℕ) → SpellsMembers names t i ms e → nesting_round_members ms ≤ levels
         → InOrder (λ m. m.1) i (members_list ms) e
     members-order ms i e h d =
         parts-are t 125 _ _ _ _
-        (order-grammar 125 (PartAt shape.Object t) (IsMember names t room) (λ m. m.1)
+        (order-grammar 125 (PartAt shape.Object t) (IsMember names t levels) (λ m. m.1)
         (λ i m e is.
         let value = is.value in
         (omega (arith, is.begins, key-ahead m.0 (begin m.1) is.key), value.spelled, value.limit, value.ends)))
-        (members_list ms) i e (members-parts room ms i e h d)
+        (members_list ms) i e (members-parts levels ms i e h d)
 
     -- from its begin on, to an end within the text
     abbrev Ends : Type 0
-    Ends = (n : Node) → Spells names t n → nesting n < room → (begin n < end n) × (end n ≤ length t)
+    Ends = (n : Node) → Spells names t n → nesting n < levels → (begin n < end n) × (end n ≤ length t)
 
     order-ends : Ends → {P : Type 0} (value : P → Node) (ps : List P) (i e : ℕ) → InOrder value i ps e
         → (i < e) × (e ≤ length t)
@@ -311,20 +311,20 @@ module _ (names : Bool) (t : List ℕ) where
   word-ahead literal.Null b e h = omega (arith, stands-length t b e (word_of literal.Null) h)
   word-ahead l b e h = omega (arith, stands-length t b e (word_of l) h)
 
-  node-ends : (room : ℕ) → Ends room
+  node-ends : (levels : ℕ) → Ends levels
   node-ends zero n h d = absurd (omega arith)
-  node-ends (suc room) (grammar.literal l b e) h d =
+  node-ends (suc levels) (grammar.literal l b e) h d =
       let within = stands-within t b e (word_of l) (omega (arith, begin-within (grammar.literal l b e) h)) h in
       (word-ahead l b e h, within)
-  node-ends (suc room) (grammar.number b e) h d = (number-ahead b e h (cases_eq b e), h.within)
-  node-ends (suc room) (grammar.string ps b e) h d = let order = laws.string-ordered b e ps h in (order.0, order.1)
-  node-ends (suc room) (grammar.array b e ns) h d =
-      let order = items-order room ns (b + 1) e h.1 (omega arith) in
-      let ends = order-ends room (node-ends room) (λ n. n) (nodes_list ns) (b + 1) e order in
+  node-ends (suc levels) (grammar.number b e) h d = (number-ahead b e h (cases_eq b e), h.within)
+  node-ends (suc levels) (grammar.string ps b e) h d = let order = laws.string-ordered b e ps h in (order.0, order.1)
+  node-ends (suc levels) (grammar.array b e ns) h d =
+      let order = items-order levels ns (b + 1) e h.1 (omega arith) in
+      let ends = order-ends levels (node-ends levels) (λ n. n) (nodes_list ns) (b + 1) e order in
       (omega (arith, ends.0), ends.1)
-  node-ends (suc room) (grammar.object b e ms) h d =
-      let order = members-order room ms (b + 1) e h.1 (omega arith) in
-      let ends = order-ends room (node-ends room) (λ m. m.1) (members_list ms) (b + 1) e order in
+  node-ends (suc levels) (grammar.object b e ms) h d =
+      let order = members-order levels ms (b + 1) e h.1 (omega arith) in
+      let ends = order-ends levels (node-ends levels) (λ m. m.1) (members_list ms) (b + 1) e order in
       (omega (arith, ends.0), ends.1)
 
   pub node-ahead : (n : Node) → Spells names t n → begin n < end n
@@ -333,6 +333,6 @@ module _ (names : Bool) (t : List ℕ) where
   pub node-within : (n : Node) → Spells names t n → end n ≤ length t
   node-within n h = (node-ends (suc (nesting n)) n h (omega arith)).1
 
-  pub order-ahead : (room : ℕ) {P : Type 0} (value : P → Node) (ps : List P) (i e : ℕ) → InOrder room value i ps e
+  pub order-ahead : (levels : ℕ) {P : Type 0} (value : P → Node) (ps : List P) (i e : ℕ) → InOrder levels value i ps e
       → i < e
-  order-ahead room value ps i e h = (order-ends room (node-ends room) value ps i e h).0
+  order-ahead levels value ps i e h = (order-ends levels (node-ends levels) value ps i e h).0

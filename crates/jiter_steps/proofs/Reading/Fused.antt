@@ -187,16 +187,16 @@ module _ (Told : Kind → Type 0) where
           scalar-mapped i _ _ (leads.literal l i (starts i (start.Literal l) e (λ z. cc)) e)
       value_with-mapped i start.Nothing e = λ told. refl
 
-    inside_at-mapped : (room i : ℕ) → MapsTo h (inside_at p t room i) (inside_at q t room i)
+    inside_at-mapped : (levels i : ℕ) → MapsTo h (inside_at p t levels i) (inside_at q t levels i)
     unfolding inside_at
     inside_at-mapped zero i = λ told. refl
-    inside_at-mapped (suc room) i =
-        value_with-mapped (inside_at p t room) (inside_at q t room) (inside_at-mapped room) i
+    inside_at-mapped (suc levels) i =
+        value_with-mapped (inside_at p t levels) (inside_at q t levels) (inside_at-mapped levels) i
         (start_of (slice_index t i)) refl
 
-    pub value_at-told : (room i : ℕ) → MapsTo h (value_at p t room i) (value_at q t room i)
-    value_at-told room i =
-        value_with-mapped (inside_at p t room) (inside_at q t room) (inside_at-mapped room) i
+    pub value_at-told : (levels i : ℕ) → MapsTo h (value_at p t levels i) (value_at q t levels i)
+    value_at-told levels i =
+        value_with-mapped (inside_at p t levels) (inside_at q t levels) (inside_at-mapped levels) i
         (start_of (slice_index t i)) refl
 
 -- where every fault is told
@@ -209,8 +209,8 @@ all_told (fault k i stop) = tt
 
 module _ {K L A B : Type 0} (p : Rules K A) (q : Rules L B) (g : K → L) (h : A → B) (t : List ℕ)
     (leads : Leads AllTold p q g h t) where
-  pub value_at-mapped : (room i : ℕ) → mapped h (value_at p t room i) ≡ value_at q t room i
-  value_at-mapped room i = value_at-told AllTold p q g h t leads room i (all_told (value_at p t room i))
+  pub value_at-mapped : (levels i : ℕ) → mapped h (value_at p t levels i) ≡ value_at q t levels i
+  value_at-mapped levels i = value_at-told AllTold p q g h t leads levels i (all_told (value_at p t levels i))
 
   to_end-mapped : (x : Reading A) → mapped h (to_end t x) ≡ to_end t (mapped h x)
   to_end-mapped (done a e) = at (slice_get t (past_blanks t e)) where

@@ -12,7 +12,7 @@ use Rattle.jiter_scan.proofs.NumberLaws.{number_at-within}
 use Rattle.jiter_steps.specs.Literal.{word_of, literal_at}
 use Rattle.jiter_steps.specs.StringReading.{Form, whole, raw, string_at}
 use Rattle.jiter_steps.specs.Node.{nesting_limit}
-use Rattle.jiter_steps.specs.Answer.{seen_as, trees, ends, whole_trees, partial_trees, value_form, answer}
+use Rattle.jiter_steps.specs.Answer.{seen_as, trees, only_ends, whole_trees, partial_trees, value_form, answer}
 use Rattle.jiter_steps.specs.Answer.{partial_answer, read_at, skip_at}
 use Rattle.jiter_steps.specs.declared.parse.Literal.{Literal}
 use Rattle.jiter_steps.specs.declared.parse.Literal.TheVariants as literal
@@ -46,8 +46,8 @@ module _ (t : List ℕ) where
     key = λ i h. string_at-within whole t i h;
   }
 
-  pub ends-advances : (names : Bool) → Advances (ends names) t
-  ends-advances names = record {
+  pub only_ends-advances : (names : Bool) → Advances (only_ends names) t
+  only_ends-advances names = record {
     literal = λ l i h. literal_at-within t l i (omega arith);
     number = λ i h. seen-within _ t i (number_at names t i) (number_at-within names t i h);
     text = λ i h. seen-within _ t i (string_at raw t i) (string_at-within raw t i h);
@@ -67,7 +67,7 @@ module _ (t : List ℕ) where
   read_at-within names i h = value_at-within (whole_trees names) t (trees-advances _ whole names) nesting_limit i h
 
   pub skip_at-within : (names : Bool) (i : ℕ) → i < length t → Within t i (skip_at names t i)
-  skip_at-within names i h = value_at-within (ends names) t (ends-advances names) nesting_limit i h
+  skip_at-within names i h = value_at-within (only_ends names) t (only_ends-advances names) nesting_limit i h
 
   -- what a parse answers
   pub answer-within : (names : Bool) → Within t 0 (answer names t)

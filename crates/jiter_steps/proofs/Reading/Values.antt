@@ -159,25 +159,25 @@ module _ {K A : Type 0} (r : Rules K A) (t : List ℕ) where
     value_with-within start.Nothing h =
         (omega arith, omega arith, fault-byte t expected_value i (λ e. cc) refl (omega arith))
 
-  pub inside_at-within : Advances r t → (room : ℕ) → AllWithin t (inside_at r t room)
+  pub inside_at-within : Advances r t → (levels : ℕ) → AllWithin t (inside_at r t levels)
   unfolding inside_at
   inside_at-within good zero i h =
       (omega arith, omega arith, fault-byte t recursion_limit i (λ e. cc) refl (omega arith))
-  inside_at-within good (suc room) i h =
-      value_with-within good (λ j. inside_at r t room j) (inside_at-within good room) i (start_of (slice_index t i)) h
+  inside_at-within good (suc levels) i h =
+      value_with-within good (λ j. inside_at r t levels j) (inside_at-within good levels) i (start_of (slice_index t i)) h
 
-  pub value_at-within : Advances r t → (room : ℕ) → AllWithin t (value_at r t room)
-  value_at-within good room i h =
-      value_with-within good (inside_at r t room) (inside_at-within good room) i (start_of (slice_index t i)) h
+  pub value_at-within : Advances r t → (levels : ℕ) → AllWithin t (value_at r t levels)
+  value_at-within good levels i h =
+      value_with-within good (inside_at r t levels) (inside_at-within good levels) i (start_of (slice_index t i)) h
 
-  pub inside_at-suc : (room i : ℕ) → inside_at r t (suc room) i ≡ value_at r t room i
+  pub inside_at-suc : (levels i : ℕ) → inside_at r t (suc levels) i ≡ value_at r t levels i
   unfolding inside_at
-  inside_at-suc room i = refl
+  inside_at-suc levels i = refl
 
   -- A value, by its first byte.
-  pub value-starts : (room i : ℕ) (s : Start) → start_of (slice_index t i) ≡ s
-      → value_at r t room i ≡ value_with r (inside_at r t room) t i s
-  value-starts room i s e = ap (value_with r (inside_at r t room) t i) e
+  pub value-starts : (levels i : ℕ) (s : Start) → start_of (slice_index t i) ≡ s
+      → value_at r t levels i ≡ value_with r (inside_at r t levels) t i s
+  value-starts levels i s e = ap (value_with r (inside_at r t levels) t i) e
 
   -- A member, by its key, its colon and its value.
   pub member-key : (inner : ℕ → Reading A) (i j : ℕ) (k : Kind) → r.key t i ≡ failed k j
@@ -193,15 +193,15 @@ module _ {K A : Type 0} (r : Rules K A) (t : List ℕ) where
   member-value inner i e j key x h w v =
       ap (behind_key inner t i) h ∙ ap (behind_colon key inner) w ∙ ap (with_key key) v
 
-  pub inside_at-none : (room i : ℕ) → room ≡ 0 → inside_at r t room i ≡ fault recursion_limit i i
+  pub inside_at-none : (levels i : ℕ) → levels ≡ 0 → inside_at r t levels i ≡ fault recursion_limit i i
   unfolding inside_at
-  inside_at-none room i z = ap (λ n. inside_at r t n i) z
+  inside_at-none levels i z = ap (λ n. inside_at r t n i) z
 
   -- The value inside, by its first byte.
-  pub inside_at-starts : (room i : ℕ) (s : Start) → 0 < room → start_of (slice_index t i) ≡ s
-      → inside_at r t room i ≡ value_with r (inside_at r t (room - 1)) t i s
+  pub inside_at-starts : (levels i : ℕ) (s : Start) → 0 < levels → start_of (slice_index t i) ≡ s
+      → inside_at r t levels i ≡ value_with r (inside_at r t (levels - 1)) t i s
   unfolding inside_at
   inside_at-starts zero i s lt e = absurd (omega arith)
-  inside_at-starts (suc room) i s lt e =
-      let same : suc room - 1 ≡ room = omega arith in ap (value_with r (inside_at r t room) t i) e
+  inside_at-starts (suc levels) i s lt e =
+      let same : suc levels - 1 ≡ levels = omega arith in ap (value_with r (inside_at r t levels) t i) e
       ∙ ap (λ n. value_with r (inside_at r t n) t i s) (sym same)

@@ -23,7 +23,7 @@ use Rattle.jiter_steps.specs.Tree.{Text, Tree}
 use Rattle.jiter_steps.specs.Tree as tree
 use Rattle.jiter_steps.proofs.Reading.WholeTexts.{whole-fault}
 use Rattle.jiter_steps.proofs.Grammar.Blanks.{past_blanks-other}
-use Rattle.jiter_steps.proofs.Reading.Bodies.{body_at-place_by, place_by-end}
+use Rattle.jiter_steps.proofs.Reading.Bodies.{body_at-portion_by, portion_by-end}
 use Rattle.jiter_steps.proofs.Fault.Dead.{dead}
 use Rattle.jiter_steps.proofs.Grammar.Documents.{answer-of}
 use Rattle.jiter_steps.proofs.Computed.{computed_readings}
@@ -157,7 +157,7 @@ open_string-reads w printed =
     ap (λ n. take n w) (omega arith) ∙ take_all (length w) w (omega arith) in
     let slice = stands-slice t 1 (1 + length w) (omega arith) (omega arith) in
     let stands = subst (Stands t 1 (1 + length w)) range slice in
-    let last = body_at-place_by t (1 + length w) (over unclosed) (place_by-end t (1 + length w) (omega arith)) in
+    let last = body_at-portion_by t (1 + length w) (over unclosed) (portion_by-end t (1 + length w) (omega arith)) in
     let body = bytes-read t 1 (1 + length w) w printed stands ∙ ap (before w false) last in
     ap (λ (b : Body). text_in_form whole t 1 b.bytes b.owned b.stop) body
 

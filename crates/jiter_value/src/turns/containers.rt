@@ -21,7 +21,7 @@ use crate::value::JsonValue;
 use jiter_scan::errors::Fault;
 use jiter_scan::memory::{Refused, push_small};
 use jiter_steps::parse::{NESTING_LIMIT, Parser, Shape};
-use jiter_steps::plain::{Next, first_at, step_at};
+use jiter_steps::plain::{Next, plain_first, plain_step};
 use jiter_steps::read_error::ReadError;
 use std::alloc::Global;
 
@@ -140,7 +140,7 @@ pub fn after<'j>(
     slot: Slot,
 ) -> (usize, State)
     requires stands { Stands stacks.old slot }
-    requires room { length stacks.old.nest.items ≤ nesting_limit }
+    requires levels { length stacks.old.nest.items ≤ nesting_limit }
     requires within { from ≤ length bytes.now }
     ensures leads { Proceeds settings bytes.now from (left bytes.now stacks.old from + 1)
         (behind_size stacks.old slot) (behind settings bytes.now stacks.old slot from)
@@ -155,7 +155,7 @@ pub fn after<'j>(
         match shape_of(inside) {
             None => return (at, State::Done),
             Some(shape) => {
-                let (next, what) = step_at(bytes, at, shape);
+                let (next, what) = plain_step(bytes, at, shape);
                 match what {
                     Next::Part => return (next, part_of(shape)),
                     _ => {}
@@ -184,7 +184,7 @@ pub fn close_and_go_on<'j>(
     shape: Shape,
 ) -> (usize, State)
     requires stands { StandsInside shape stacks.old }
-    requires room { length stacks.old.nest.items ≤ nesting_limit + 1 }
+    requires levels { length stacks.old.nest.items ≤ nesting_limit + 1 }
     requires within { at ≤ length bytes.now }
     ensures leads { Proceeds settings bytes.now at (left bytes.now stacks.old at)
         (inside_size shape stacks.old) (container_ends settings bytes.now shape stacks.old at)
@@ -230,7 +230,7 @@ fn empty<'j>(
     shape: Shape,
 ) -> (usize, State)
     requires stands { Stands stacks.old slot }
-    requires room { length stacks.old.nest.items ≤ nesting_limit }
+    requires levels { length stacks.old.nest.items ≤ nesting_limit }
     requires within { end ≤ length bytes.now }
     ensures leads { Proceeds settings bytes.now end (left bytes.now stacks.old end + 1)
         (value_size stacks.old slot + 1) (resume_with settings bytes.now stacks.old slot
@@ -283,7 +283,7 @@ fn open<'j>(
     shape: Shape,
 ) -> (usize, State)
     requires stands { Stands stacks.old slot }
-    requires room { length stacks.old.nest.items ≤ nesting_limit }
+    requires levels { length stacks.old.nest.items ≤ nesting_limit }
     requires within { (at < next) × (next < length bytes.now) }
     requires bracket { start_of (slice_index bytes.now at) ≡ opening shape }
     requires part { step bytes.now (container_first shape) (at + 1) ≡ more next }
@@ -321,7 +321,7 @@ pub fn begin<'j>(
     ensures memory { slot ≡ Slot.Root
         → MayGrowFor (outcome stacks.new result.1) (MayGrowAt bytes.now at) }
 {
-    let (next, what) = first_at(bytes, at + 1, shape);
+    let (next, what) = plain_first(bytes, at + 1, shape);
     match what {
         Next::Part => return open(stacks, bytes, at, next, settings, slot, shape),
         _ => {}

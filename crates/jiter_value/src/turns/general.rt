@@ -35,7 +35,7 @@ fn fault_at_value<'j>(
     slot: Slot,
 ) -> (usize, State)
     requires stands { Stands stacks.old slot }
-    requires room { length stacks.old.nest.items ≤ nesting_limit }
+    requires levels { length stacks.old.nest.items ≤ nesting_limit }
     requires within { at ≤ length bytes.now }
     ensures leads { Proceeds settings bytes.now at (left bytes.now stacks.old at)
         (value_size stacks.old slot) (resume_with settings bytes.now stacks.old slot
@@ -69,7 +69,7 @@ fn fault_at_key<'j>(
     problem: Fault,
 ) -> (usize, State)
     requires stands { StandsAtKey stacks.old }
-    requires room { length stacks.old.nest.items ≤ nesting_limit + 1 }
+    requires levels { length stacks.old.nest.items ≤ nesting_limit + 1 }
     requires within { at ≤ length bytes.now }
     ensures leads { Proceeds settings bytes.now at (left bytes.now stacks.old at)
         (key_size stacks.old) (key_fault settings bytes.now stacks.old
@@ -126,7 +126,7 @@ pub fn general_key<'j>(
     settings: Settings,
 ) -> (usize, State)
     requires stands { StandsAtKey stacks.old }
-    requires room { length stacks.old.nest.items ≤ nesting_limit + 1 }
+    requires levels { length stacks.old.nest.items ≤ nesting_limit + 1 }
     requires within { at < length bytes.now }
     ensures leads { Proceeds settings bytes.now at (left bytes.now stacks.old at)
         (key_size stacks.old + 1) (from_key settings bytes.now stacks.old at)

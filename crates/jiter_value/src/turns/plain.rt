@@ -15,12 +15,12 @@ ghost use Rattle.jiter_value.specs.Value.{view};
 use crate::stacks::{Slot, Stacks, has_room, put_reserved};
 use crate::value::JsonValue;
 use jiter_scan::number_extent::minus_end;
-use jiter_scan::short_number::{Short, short_at};
+use jiter_scan::plain_number::{PlainNumber, plain_number_at};
 use jiter_scan::simd::scan_string;
 use jiter_scan::text::ascii_text;
 use jiter_steps::parse::Literal;
 use jiter_steps::plain::{
-    ascii_between, colon_at, plain_literal_end, plain_text_end, text_between,
+    ascii_between, plain_colon, plain_literal_end, plain_text_end, text_between,
 };
 use std::borrow::CowStr;
 
@@ -100,17 +100,17 @@ fn put_plain_number<'j>(
     ensures same { result ≡ None → stacks.new ≡ stacks.old }
 {
     let from = minus_end(bytes, at);
-    match short_at(bytes, from) {
-        Short::Int(magnitude, end) => {
+    match plain_number_at(bytes, from) {
+        PlainNumber::Int(magnitude, end) => {
             put_reserved(stacks, slot, signed(magnitude, from > at));
             Some(end)
         }
-        Short::Float(end) => {
+        PlainNumber::Float(end) => {
             let text = ascii_text(&bytes[at..end]);
             put_reserved(stacks, slot, JsonValue::Float(CowStr::Borrowed(text)));
             Some(end)
         }
-        Short::Other => None,
+        PlainNumber::Other => None,
     }
 }
 
@@ -174,7 +174,7 @@ pub fn put_plain_key<'j>(stacks: &mut Stacks<'j>, bytes: &'j [u8], at: usize) ->
     ensures same { result ≡ None → stacks.new ≡ stacks.old }
 {
     let to = plain_text_end(bytes, at)?;
-    let next = colon_at(bytes, to + 1)?;
+    let next = plain_colon(bytes, to + 1)?;
     let text = ascii_text(&bytes[at + 1..to]);
     let key = CowStr::Borrowed(text);
     stacks.members.push_reserved((key, JsonValue::Null));

@@ -74,7 +74,7 @@ fn read_number<'j>(parser: &mut Parser<'j>, settings: Settings) -> Result<JsonVa
 }
 
 #[inline(always)]
-fn read_text<'j>(
+fn read_string<'j>(
     alloc: Global,
     tape: &mut Vec<u8>,
     parser: &mut Parser<'j>,
@@ -104,8 +104,8 @@ pub fn scalar<'j>(
     requires array { start_of (slice_index parser.old.bytes.now parser.old.index) ≢ Start.Array }
     requires object { start_of (slice_index parser.old.bytes.now parser.old.index) ≢ Start.Object }
     ensures moves { Moves parser.old parser.new }
-    ensures value { (room : ℕ) → Gives view result parser.new.index
-        (value_at (rules settings) parser.old.bytes.now room parser.old.index) }
+    ensures value { (levels : ℕ) → Gives view result parser.new.index
+        (value_at (rules settings) parser.old.bytes.now levels parser.old.index) }
     ensures ahead { OnOk result (parser.old.index < parser.new.index) }
     ensures one { IfOk result (λ v. size (view v) ≡ 1) }
     ensures memory { WhereRefused result (MayGrowAt parser.old.bytes.now parser.old.index) }
@@ -113,7 +113,7 @@ pub fn scalar<'j>(
     match start_of(parser.bytes[parser.index]) {
         Start::Literal(literal) => Ok(read_literal(parser, literal, settings)?),
         Start::Number => Ok(read_number(parser, settings)?),
-        Start::String => read_text(alloc, tape, parser, settings),
+        Start::String => read_string(alloc, tape, parser, settings),
         Start::Nothing => Err(ReadError::Fault(Fault {
             kind: FaultKind::ExpectedSomeValue,
             index: parser.index,

@@ -24,9 +24,9 @@ joined-requires-clause-fits c =
     let counted : c.args.count ≤ prefix_len is_digit v = omega arith in
     let digits = AllBelowBase-in_two zs c.args.count (omega arith) (decimal_of-digits v c.args.count counted).0 in
     let eight = IsEightBytes-low v (omega arith) in
-    let front = c.eight_digits.ensures (take 8 zs) eight.0 digits.0 c.words-low.ensures.low in
+    let front = c.eight_digits.ensures (take 8 zs) eight.0 digits.0 c.halves-low.ensures.low in
     let back = c.first_digits-else-count-le8.ensures.bound (drop 8 zs)
-    (IsEightBytes-high v (omega arith)) digits.1 c.words-low.ensures.high in
+    (IsEightBytes-high v (omega arith)) digits.1 c.halves-low.ensures.high in
     below c.eight_digits.result c.first_digits-else-count-le8.result (c.args.count - 8) (omega arith)
     (omega (arith, front, number-eight_below (take 8 zs) eight.0 digits.0)) back
 
@@ -39,7 +39,7 @@ returns-then-count-le8 c =
     let all = decimal_of-digits v n counted in
     let short = take-take n 8 zs (omega arith) in
     let below : AllBelowBase 10 (take n (take 8 zs)) = rw short all.0 in
-    c.first_digits.ensures.value (take 8 zs) (IsEightBytes-low v (omega arith)) below c.words-low.ensures.low
+    c.first_digits.ensures.value (take 8 zs) (IsEightBytes-low v (omega arith)) below c.halves-low.ensures.low
     ∙ ap (number_from_digits 10) short ∙ sym all.1
 
 pub returns-else-count-le8 : goal.returns-else-count-le8
@@ -51,8 +51,8 @@ returns-else-count-le8 c =
     let all = decimal_of-digits v n counted in
     let below = AllBelowBase-in_two zs n (omega arith) all.0 in
     let low = IsEightBytes-low v (omega arith) in
-    let front = c.eight_digits.ensures (take 8 zs) low.0 below.0 c.words-low.ensures.low in
+    let front = c.eight_digits.ensures (take 8 zs) low.0 below.0 c.halves-low.ensures.low in
     let back = c.first_digits-else-count-le8.ensures.value (drop 8 zs)
-    (IsEightBytes-high v (omega arith)) below.1 c.words-low.ensures.high in
+    (IsEightBytes-high v (omega arith)) below.1 c.halves-low.ensures.high in
     c.joined.ensures ∙ ap₂ (λ x y. x * 10 ^ (n - 8) + y) front back
     ∙ sym (number-in_two zs n (omega arith) (omega (arith, length-map v less_zero))) ∙ sym all.1

@@ -14,12 +14,12 @@ returns-clause-plain c =
     (c.greater-2.ensures ∙ ap₂ both c.marks-3.ensures c.marks-4.ensures) in
     let controlled =
     c.controls-controlled.ensures ∙ c.lesser-3.ensures ∙ ap₂ both c.lesser.ensures c.lesser-2.ensures in
-    c.is_low.ensures ∙ c.greater-5.ensures ∙ ap₂ both marked controlled
+    c.is_ascii_chunk.ensures ∙ c.greater-5.ensures ∙ ap₂ both marked controlled
     ∙ list_all-plain-four (chunk i 16 t) (chunk (i + 16) 16 t) (chunk (i + 32) 16 t) (chunk (i + 48) 16 t)
     ∙ sym (list_all-four is_plain t i)
 
 pub returns-clause-ascii : goal.returns-clause-ascii
 returns-clause-ascii c =
     let both : Bool → Bool → Bool = λ x y. x && y in
-    c.is_low-2.ensures ∙ c.greater-highest.ensures ∙ ap₂ both c.greater-3.ensures c.greater-4.ensures
+    c.is_ascii_chunk-2.ensures ∙ c.greater-highest.ensures ∙ ap₂ both c.greater-3.ensures c.greater-4.ensures
     ∙ sym (list_all-four is_ascii c.args.bytes.now c.args.i)

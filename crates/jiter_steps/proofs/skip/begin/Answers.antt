@@ -1,5 +1,5 @@
 use Rattle.std.proofs.Common.{◌∷◌, ◌∙◌, ap, subst, arith}
-use Rattle.jiter_steps.specs.Answer.{ends}
+use Rattle.jiter_steps.specs.Answer.{only_ends}
 use Rattle.jiter_steps.specs.Frames.{value_from}
 use Rattle.jiter_steps.specs.Read.{done}
 use Rattle.jiter_steps.specs.Skip.{frame_of, open_frames, Continues}
@@ -18,7 +18,7 @@ returns-in-Ok-true-clause-value c = λ names.
     continues-along names t gs c.open.result m _ _
     (first_inside-is names t b n.objects n.depth p.index _ (omega arith) c.requires.within c.requires.bracket
     (c.in-Ok-true.ensures.value ∙ ap (λ more. done more m) c.in-Ok-true.field-0-test))
-    (subst (λ u. Continues names u gs c.open.result m (value_from (ends names) u (frame_of b ∷ fs) m))
+    (subst (λ u. Continues names u gs c.open.result m (value_from (only_ends names) u (frame_of b ∷ fs) m))
     (ap (λ bytes. bytes.now) c.first_inside.ensures.moves.same) (c.open.ensures names))
 
 pub returns-in-Ok-false-clause-value : goal.returns-in-Ok-false-clause-value

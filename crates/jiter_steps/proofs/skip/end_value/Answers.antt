@@ -1,5 +1,5 @@
 use Rattle.std.proofs.Common.{◌<◌, ◌∙◌, sym, ap, subst, arith, length}
-use Rattle.jiter_steps.specs.Answer.{ends}
+use Rattle.jiter_steps.specs.Answer.{only_ends}
 use Rattle.jiter_steps.specs.Frames.{value_from}
 use Rattle.jiter_steps.specs.Read.{done}
 use Rattle.jiter_steps.proofs.Calls.Skipping.{innermost-led, open_frames-innermost}
@@ -16,7 +16,7 @@ returns-in-Ok-true-clause-value c = λ names.
     let inner = open_frames-innermost l.nest.objects l.nest.depth _ (omega arith) c.shape_of.ensures in (
       l.invariant.same names ∙ innermost-led names t p.bytes.now _ _ _ p.index _ inner same p.within
           (i.ensures.value ∙ ap (λ more. done more m) i.field-0-test)
-          ∙ ap (λ fs. value_from (ends names) t fs m) (sym inner),
+          ∙ ap (λ fs. value_from (only_ends names) t fs m) (sym inner),
       subst (λ u. m < length u) same (i.ensures.inside i.field-0-test),
     )
 

@@ -1,5 +1,5 @@
 use Rattle.std.proofs.Common.{◌≡◌, Bool}
-use Rattle.jiter_steps.specs.Answer.{ends}
+use Rattle.jiter_steps.specs.Answer.{only_ends}
 use Rattle.jiter_steps.specs.Frames.{resume}
 use Rattle.jiter_steps.specs.Parse.{Moves}
 use Rattle.jiter_steps.specs.Read.{done}
@@ -10,9 +10,9 @@ abbrev pub invariant-closing : goal.invariant-closing
 invariant-closing l = record {
   moves : Moves l.fn.parser l.parser;
   same : (names : Bool)
-      → resume (ends names) l.fn.parser.bytes.now (open_frames l.fn.nest.objects l.fn.nest.depth)
+      → resume (only_ends names) l.fn.parser.bytes.now (open_frames l.fn.nest.objects l.fn.nest.depth)
       (done tt l.fn.parser.index)
-      ≡ resume (ends names) l.fn.parser.bytes.now (open_frames l.nest.objects l.nest.depth) (done tt l.parser.index);
+      ≡ resume (only_ends names) l.fn.parser.bytes.now (open_frames l.nest.objects l.nest.depth) (done tt l.parser.index);
 }
 
 abbrev pub decreases-closing : goal.decreases-closing

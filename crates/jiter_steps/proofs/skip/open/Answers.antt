@@ -1,5 +1,5 @@
 use Rattle.std.proofs.Common.{◌<◌, ◌∙◌, ◌∷◌, length, ap, sym, arith}
-use Rattle.jiter_steps.specs.Answer.{ends}
+use Rattle.jiter_steps.specs.Answer.{only_ends}
 use Rattle.jiter_steps.specs.Frames.{value_from}
 use Rattle.jiter_steps.specs.Skip.{frame_of, open_frames}
 use Rattle.jiter_steps.proofs.Calls.Skipping.{value_from-limit, length-open_frames, open_frames-opens}
@@ -19,4 +19,4 @@ returns c = λ names.
     let place : n.depth < length n.objects = omega (arith, n.within) in
     let opens = open_frames-opens n.objects n.depth c.is_object.result place
     ∙ ap (λ b. frame_of b ∷ open_frames n.objects n.depth) (sym c.is_object.ensures) in
-    (ap (λ fs. value_from (ends names) p.bytes.now fs p.index) (sym opens), c.requires)
+    (ap (λ fs. value_from (only_ends names) p.bytes.now fs p.index) (sym opens), c.requires)

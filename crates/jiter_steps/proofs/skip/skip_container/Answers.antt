@@ -1,6 +1,6 @@
 use Rattle.std.proofs.Common.{refl, sym, arith}
-use Rattle.jiter_steps.specs.Answer.{ends}
-use Rattle.jiter_steps.proofs.Calls.Resumed.{value_in-room}
+use Rattle.jiter_steps.specs.Answer.{only_ends}
+use Rattle.jiter_steps.proofs.Calls.Resumed.{value_in-levels}
 use Rattle.jiter_steps.proofs.skip.skip_container.Goals as goal
 
 pub skipping-init : goal.skipping-init
@@ -9,5 +9,5 @@ skipping-init c =
     record {
       moves = record { same = refl; forward = omega arith };
       inside = c.requires;
-      same = sym (value_in-room (ends a.allow_inf_nan) a.parser.now.bytes.now 0 a.parser.now.index (omega arith));
+      same = sym (value_in-levels (only_ends a.allow_inf_nan) a.parser.now.bytes.now 0 a.parser.now.index (omega arith));
     }

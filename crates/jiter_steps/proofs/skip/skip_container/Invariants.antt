@@ -1,5 +1,5 @@
 use Rattle.std.proofs.Common.{◌≡◌, ◌<◌, ◌-◌, length}
-use Rattle.jiter_steps.specs.Answer.{ends, skip_at}
+use Rattle.jiter_steps.specs.Answer.{only_ends, skip_at}
 use Rattle.jiter_steps.specs.Frames.{value_from}
 use Rattle.jiter_steps.specs.Parse.{Moves}
 use Rattle.jiter_steps.specs.Skip.{open_frames}
@@ -10,7 +10,7 @@ invariant-skipping l = record {
   moves : Moves l.fn.parser l.parser;
   inside : l.parser.index < length l.fn.parser.bytes.now;
   same : skip_at l.allow_inf_nan l.fn.parser.bytes.now l.fn.parser.index
-      ≡ value_from (ends l.allow_inf_nan) l.fn.parser.bytes.now (open_frames l.nest.objects l.nest.depth)
+      ≡ value_from (only_ends l.allow_inf_nan) l.fn.parser.bytes.now (open_frames l.nest.objects l.nest.depth)
       l.parser.index;
 }
 

@@ -22,7 +22,7 @@ loop-to-preserved c =
     let m = decode-more c.args.bytes.now (take l.count l.tape.items) _ c.args.from l.at c.in_ok-to.to (i.text, i.stop)
     i.within e.stop e.text _ (encode_utf8 c.in-Escape.c) c.in-Escape.end c.in-Escape.ensures
     c.put_char-count.ensures.text in
-    record { text = m.0.0; stop = m.0.1; within = m.2; room = c.put_char-count.ensures.place }
+    record { text = m.0.0; stop = m.0.1; within = m.2; levels = c.put_char-count.ensures.place }
 
 pub returns-in-End : goal.returns-in-End
 returns-in-End c =

@@ -8,7 +8,7 @@ invariant-loop-to l = record {
   text : (body_at l.bytes l.from).bytes ≡ take l.count l.tape.items ++ (body_at l.bytes l.at).bytes;
   stop : (body_at l.bytes l.from).stop ≡ (body_at l.bytes l.at).stop;
   within : l.at ≤ length l.bytes;
-  room : l.count ≤ vec_len l.tape;
+  levels : l.count ≤ vec_len l.tape;
 }
 
 abbrev pub decreases-loop-to : goal.decreases-loop-to

@@ -11,11 +11,11 @@ returns-in-Part-clause-leads c =
     let l = c.closing in
     let s = l.stacks in
     let h = c.in-Some.shape in
-    let j = c.step_at-next.result.0 in
+    let j = c.plain_step-next.result.0 in
     let so_far = rw c.in-Some.ensures.some at l.invariant in
-    let next = rw c.in-Part.is at c.step_at-next.ensures.next in
-    let lt = c.step_at-next.ensures.part c.in-Part.is in
-    let forward = c.step_at-next.ensures.within.0 in
+    let next = rw c.in-Part.is at c.plain_step-next.ensures.next in
+    let lt = c.plain_step-next.ensures.part c.in-Part.is in
+    let forward = c.plain_step-next.ensures.within.0 in
     record {
       within = (omega (arith, so_far.0, forward), omega (arith, lt));
       reaches = rw c.part_of.ensures
@@ -31,10 +31,10 @@ pub returns-then-not-ends-clause-leads : goal.returns-then-not-ends-clause-leads
 returns-then-not-ends-clause-leads c =
     let l = c.closing in
     let s = l.stacks in
-    let j = c.step_at-next.result.0 in
+    let j = c.plain_step-next.result.0 in
     let so_far = rw c.in-Some.ensures.some at l.invariant in
     record {
-      within = (omega (arith, so_far.0, c.step_at-next.ensures.within.0), c.step_at-next.ensures.within.1);
+      within = (omega (arith, so_far.0, c.plain_step-next.ensures.within.0), c.plain_step-next.ensures.within.1);
       reaches = rw so_far.2
           (behind-fails c.args.settings c.args.bytes.now c.in-Some.shape s.items.items s.members.items s.root l.at
           (reverse s.nest.items) j c.ends.new.stacks.error so_far.3 c.if-not-ends.ensures.resolved);
@@ -49,13 +49,13 @@ closing-preserved c =
     let l = c.closing in
     let s = l.stacks in
     let h = c.in-Some.shape in
-    let j = c.step_at-next.result.0 in
+    let j = c.plain_step-next.result.0 in
     let so_far = rw c.in-Some.ensures.some at l.invariant in
     let same = c.if-not-ends.ensures.same refl in
-    let forward = c.step_at-next.ensures.within.0 in
+    let forward = c.plain_step-next.ensures.within.0 in
     let fewer = rw same at c.in-Ok.ensures.nest in (
       omega (arith, so_far.0, forward),
-      c.step_at-next.ensures.within.1,
+      c.plain_step-next.ensures.within.1,
       so_far.2
           ∙ behind-closed p t h s.items.items s.members.items s.root l.at (reverse s.nest.items) j so_far.3
           c.if-not-ends.ensures.resolved

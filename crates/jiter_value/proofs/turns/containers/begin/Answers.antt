@@ -10,10 +10,10 @@ returns-then-not-ends c =
     let r = c.if-not-ends.ensures.resolved in
     record {
       leads = record {
-        within = (omega (arith, c.first_at-next.ensures.within.0), c.first_at-next.ensures.within.1);
+        within = (omega (arith, c.plain_first-next.ensures.within.0), c.plain_first-next.ensures.within.1);
         reaches = begins-fails a.settings a.bytes.now a.stacks.now a.slot c.requires.at_value.0 c.requires.at_value.1
             a.at
-            a.shape c.first_at-next.result.0 c.ends.new.stacks.error c.requires.bracket r;
+            a.shape c.plain_first-next.result.0 c.ends.new.stacks.error c.requires.bracket r;
         left = tt;
         held = tt;
       };
@@ -27,11 +27,11 @@ returns c =
     let ends = c.if-not-ends.ensures in
     let empty = c.empty.ensures in
     let same = ends.same refl in
-    let forward = c.first_at-next.ensures.within.0 in
+    let forward = c.plain_first-next.ensures.within.0 in
     record {
       leads = leads-weaker (rw same at empty.leads) (omega (arith, forward)) (omega (arith, forward)) (omega arith)
           (begins-closed a.settings a.bytes.now a.stacks.now a.slot c.requires.at_value.0 c.requires.at_value.1 a.at
           a.shape
-          c.first_at-next.result.0 c.requires.bracket ends.resolved);
+          c.plain_first-next.result.0 c.requires.bracket ends.resolved);
       memory = λ e. root-grows r _ (empty.root e) (refused-weaker r _ _ (λ other. absurd (other e)) empty.memory);
     }

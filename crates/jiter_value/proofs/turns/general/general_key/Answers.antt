@@ -22,7 +22,7 @@ returns-then-len-gt-NESTING_LIMIT c =
     let same = ap (λ b. b.now) c.in-Ok.ensures.moves.same in
     let read = c.in-Ok-object_colon.ensures in
     let full : length os ≡ 201 = omega
-    (arith, length-reverse s.nest.items, c.len.ensures.value, c.if-len-gt-NESTING_LIMIT.true, c.requires.room) in
+    (arith, length-reverse s.nest.items, c.len.ensures.value, c.if-len-gt-NESTING_LIMIT.true, c.requires.levels) in
     rw c.too_deep.ensures.place
     (record {
       leads = record {

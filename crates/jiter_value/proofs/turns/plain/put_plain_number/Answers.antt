@@ -25,7 +25,7 @@ returns-in-Int-clause-put c =
     let z = if nat_lt a.at from then minus_of c.in-Int.magnitude else pos c.in-Int.magnitude in
     put-at _ (int z) c.signed.ensures c.requires.at_value.0 c.requires.at_value.1 n.value n.stands n.nest n.held refl
     (omega (arith, found.some, IsMinusTo-le t a.at from minus)) found.within
-    (λ p room. number-read p t a.at c.in-Int.end room (integer z) c.requires.begins
+    (λ p levels. number-read p t a.at c.in-Int.end levels (integer z) c.requires.begins
     (short-signed t p.allow_inf_nan a.at c.in-Int.end from c.in-Int.magnitude minus found))
 
 pub returns-in-Float-clause-put : goal.returns-in-Float-clause-put
@@ -41,5 +41,5 @@ returns-in-Float-clause-put c =
     (view_float _ ∙ ap (λ w. float (record { owned = false; bytes = w })) c.ascii_text-text.ensures)
     c.requires.at_value.0 c.requires.at_value.1 n.value n.stands n.nest n.held refl
     (omega (arith, found.some, IsMinusTo-le t a.at from minus)) found.within
-    (λ p room. number-read p t a.at e room (number.float (slice_range t a.at e)) c.requires.begins
+    (λ p levels. number-read p t a.at e levels (number.float (slice_range t a.at e)) c.requires.begins
     (short-signed_float t p.allow_inf_nan a.at e from minus found))

@@ -17,4 +17,4 @@ returns-clause-put c =
     (view_str _ ∙ ap (λ w. string (record { owned = false; bytes = w })) text.text)
     c.requires.at_value.0 c.requires.at_value.1 n.value n.stands n.nest n.held
     refl (omega (arith, scanned.ensures.within.0)) (omega (arith, c.if-to-bytes.false))
-    (λ p room. text-read p t a.at (to + 1) room (between t (a.at + 1) to) c.requires.begins text.value)
+    (λ p levels. text-read p t a.at (to + 1) levels (between t (a.at + 1) to) c.requires.begins text.value)

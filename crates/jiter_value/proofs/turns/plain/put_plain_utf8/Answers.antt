@@ -15,4 +15,4 @@ returns-clause-put c =
     (view_str _ ∙ ap (λ w. string (record { owned = false; bytes = w })) found.text)
     c.requires.stands c.requires.few n.value n.stands n.nest n.held
     refl (omega (arith, c.requires.within.0)) (omega (arith, c.requires.within.1))
-    (λ p room. text-read p t a.at (a.to + 1) room (between t (a.at + 1) a.to) c.requires.begins found.value)
+    (λ p levels. text-read p t a.at (a.to + 1) levels (between t (a.at + 1) a.to) c.requires.begins found.value)

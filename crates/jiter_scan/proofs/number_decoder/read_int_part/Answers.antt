@@ -1,6 +1,6 @@
 use Rattle.std.proofs.Common.{arith}
 use Rattle.jiter_scan.proofs.NumberExtents.{magnitude_of-zero, byte-got}
-use Rattle.jiter_scan.proofs.number_decoder.read_whole.Goals as goal
+use Rattle.jiter_scan.proofs.number_decoder.read_int_part.Goals as goal
 
 pub returns-then-bytes-at-eq48-clause-magnitude : goal.returns-then-bytes-at-eq48-clause-magnitude
 returns-then-bytes-at-eq48-clause-magnitude c =

@@ -1,21 +1,22 @@
-//! Short numbers that do not stand near the end of the input, sixteen bytes at a time, with the answer in registers.
+//! Plain numbers: short ones that do not stand near the end of the input, sixteen bytes at a time, with the answer
+//! in registers.
 ghost use Rattle.std.specs.Prelude.{◌≡◌, ◌==◌, ◌||◌, ◌<◌, ◌≤◌, ◌+◌, IfSome, length, slice_get};
 ghost use Rattle.jiter_scan.specs.Ascii as ascii;
 ghost use Rattle.jiter_scan.specs.Digits.{digit_run_end};
 ghost use Rattle.jiter_scan.specs.NumberReading.{extent_then, digits_from, fraction_at, power_from, exponent_at};
 ghost use Rattle.jiter_scan.specs.NumberReading.{is_float_sign};
 ghost use Rattle.jiter_scan.specs.Scanned.{taken};
-ghost use Rattle.jiter_scan.specs.ShortNumber.{IsShort};
+ghost use Rattle.jiter_scan.specs.PlainNumber.{IsPlainNumber};
 
 use crate::number_decoder::{digits_magnitude, is_float_sign};
 use crate::simd::{digit_count, digit_word, full_chunk_at};
 
 // From a number's first digit on: fifteen digits, a point and 31 more, a letter and a sign, and a chunk of digits.
-const ROOM: usize = 65;
+const REACH: usize = 65;
 
 /// What stands at a number's first digit.
 #[derive(Debug, Clone, Copy, PartialEq, Eq)]
-pub enum Short {
+pub enum PlainNumber {
     /// An integer: its magnitude, and the place behind it.
     Int(u64, usize),
     /// A number with a point or an exponent: the place behind it.
@@ -41,7 +42,7 @@ fn few_digits_end(bytes: &[u8], at: usize) -> Option<usize>
 // Behind the digits at `at`, if there are 16 to 31 of them.
 #[inline(always)]
 fn more_digits_end(bytes: &[u8], at: usize) -> Option<usize>
-    requires room { at + 32 ≤ length bytes.now }
+    requires reach { at + 32 ≤ length bytes.now }
     requires digits { at + 16 ≤ digit_run_end bytes.now at }
     ensures { IfSome result
         (λ e. (digit_run_end bytes.now at ≡ e) × (at < e) × (e < at + 32)) }
@@ -56,7 +57,7 @@ fn more_digits_end(bytes: &[u8], at: usize) -> Option<usize>
 
 // Behind a fraction of up to 31 digits, or where none stands.
 #[inline(always)]
-fn short_fraction_end(bytes: &[u8], at: usize) -> Option<usize>
+fn plain_fraction_end(bytes: &[u8], at: usize) -> Option<usize>
     requires { at + 33 ≤ length bytes.now }
     ensures end { IfSome result (λ e. fraction_at bytes.now at ≡ taken tt e) }
     ensures place { IfSome result (λ e. (at ≤ e) × (e ≤ at + 32)) }
@@ -108,7 +109,7 @@ fn sign_end(bytes: &[u8], at: usize) -> usize
 
 // Behind an exponent of up to fifteen digits, or where none stands.
 #[inline(always)]
-fn short_exponent_end(bytes: &[u8], at: usize) -> Option<usize>
+fn plain_exponent_end(bytes: &[u8], at: usize) -> Option<usize>
     requires { at + 18 ≤ length bytes.now }
     ensures { IfSome result (λ e. exponent_at bytes.now at ≡ taken tt e) }
 {
@@ -120,60 +121,60 @@ fn short_exponent_end(bytes: &[u8], at: usize) -> Option<usize>
 
 // Behind the fraction and the exponent that stand at `at`, or where none stands, if they are short.
 #[inline(always)]
-fn short_float_end(bytes: &[u8], at: usize) -> Option<usize>
+fn plain_float_end(bytes: &[u8], at: usize) -> Option<usize>
     requires { at + 50 ≤ length bytes.now }
     ensures { IfSome result
         (λ e. extent_then (fraction_at bytes.now at) (exponent_at bytes.now) ≡ taken tt e) }
 {
-    match short_fraction_end(bytes, at) {
-        Some(end) => short_exponent_end(bytes, end),
+    match plain_fraction_end(bytes, at) {
+        Some(end) => plain_exponent_end(bytes, end),
         None => None,
     }
 }
 
 // The integer of sixteen to eighteen digits at `at`.
 #[inline(always)]
-fn two_words_at(bytes: &[u8], at: usize) -> Short
-    requires room { at + 32 ≤ length bytes.now }
+fn two_chunks_at(bytes: &[u8], at: usize) -> PlainNumber
+    requires reach { at + 32 ≤ length bytes.now }
     requires digits { at + 16 ≤ digit_run_end bytes.now at }
-    ensures { IsShort bytes.now at result }
+    ensures { IsPlainNumber bytes.now at result }
 {
     let back = full_chunk_at(bytes, at + 16);
     let more = digit_count(back);
     if more > 2 || bytes[at] <= b'0' {
-        return Short::Other;
+        return PlainNumber::Other;
     }
     let end = at + 16 + more;
     if goes_on(bytes[end]) {
-        return Short::Other;
+        return PlainNumber::Other;
     }
     let magnitude = digits_magnitude(bytes, at, end);
-    Short::Int(magnitude, end)
+    PlainNumber::Int(magnitude, end)
 }
 
 /// The number whose first digit stands at a byte index, if it is short: a minus is read before.
 #[inline(always)]
-pub fn short_at(bytes: &[u8], at: usize) -> Short
+pub fn plain_number_at(bytes: &[u8], at: usize) -> PlainNumber
     requires { at ≤ length bytes.now }
-    ensures { IsShort bytes.now at result }
+    ensures { IsPlainNumber bytes.now at result }
 {
-    if bytes.len() - at < ROOM {
-        return Short::Other;
+    if bytes.len() - at < REACH {
+        return PlainNumber::Other;
     }
     let chunk = full_chunk_at(bytes, at);
     let count = digit_count(chunk);
     if count > 15 {
-        return two_words_at(bytes, at);
+        return two_chunks_at(bytes, at);
     }
     if count == 0 || bytes[at] == b'0' && count != 1 {
-        return Short::Other;
+        return PlainNumber::Other;
     }
     let end = at + count;
     if !goes_on(bytes[end]) {
-        return Short::Int(digit_word(chunk, count), end);
+        return PlainNumber::Int(digit_word(chunk, count), end);
     }
-    match short_float_end(bytes, end) {
-        Some(behind) => Short::Float(behind),
-        None => Short::Other,
+    match plain_float_end(bytes, end) {
+        Some(behind) => PlainNumber::Float(behind),
+        None => PlainNumber::Other,
     }
 }

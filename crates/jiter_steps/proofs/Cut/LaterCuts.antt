@@ -126,42 +126,42 @@ module _ (names : Bool) (t : List ℕ) (mode : PartialMode) where
   -- What ends by k is whole.
   module _ (k : ℕ) where
     abbrev WholeBelow : ℕ → Type 0
-    WholeBelow room =
-        (n : Node) → Spells names t n → nesting n < room → end n ≤ k → cut names t n k mode ≡ Some (value_of t n)
+    WholeBelow levels =
+        (n : Node) → Spells names t n → nesting n < levels → end n ≤ k → cut names t n k mode ≡ Some (value_of t n)
 
-    parts-whole : {P Q : Type 0} (value : P → Node) (seen : P → Tree → Q) (room i : ℕ) (ps : List P) (e : ℕ)
-        → WholeBelow room → InOrder names t room value i ps e → e ≤ k
+    parts-whole : {P Q : Type 0} (value : P → Node) (seen : P → Tree → Q) (levels i : ℕ) (ps : List P) (e : ℕ)
+        → WholeBelow levels → InOrder names t levels value i ps e → e ≤ k
         → parts_left names t k mode value seen ps ≡ map (λ p. seen p (value_of t (value p))) ps
-    parts-whole value seen room i [] e all h le = refl
-    parts-whole value seen room i (p ∷ ps) e all h le =
-        let rest = order-ahead names t room value ps (end (value p)) e h.3 in
+    parts-whole value seen levels i [] e all h le = refl
+    parts-whole value seen levels i (p ∷ ps) e all h le =
+        let rest = order-ahead names t levels value ps (end (value p)) e h.3 in
         ap₂ cons_option (ap (option_map (seen p)) (all (value p) h.1 h.2 (omega arith)))
-        (parts-whole value seen room (end (value p)) ps e all h.3 le)
+        (parts-whole value seen levels (end (value p)) ps e all h.3 le)
 
-    whole-below : (room : ℕ) → WholeBelow room
+    whole-below : (levels : ℕ) → WholeBelow levels
     whole-below zero n h d le = absurd (omega arith)
-    whole-below (suc room) (grammar.literal l b e) h d le =
+    whole-below (suc levels) (grammar.literal l b e) h d le =
         let order = node-ahead names t (grammar.literal l b e) h in
         begun b k _ (omega arith) ∙ if-true (nat_le e k) (Some (literal_tree l)) None (le-leb e k le)
-    whole-below (suc room) (grammar.number b e) h d le =
+    whole-below (suc levels) (grammar.number b e) h d le =
         let order = node-ahead names t (grammar.number b e) h in
         let all : min k e ≡ e = omega arith in
         begun b k _ (omega arith) ∙ ap (λ m. cut_number names (slice_range t b m)) all
         ∙ if-true (is_number_text names (slice_range t b e)) (Some (value_of t (grammar.number b e))) None
         ((number_text-decides names (slice_range t b e)).1 h.text)
-    whole-below (suc room) (grammar.string ps b e) h d le =
+    whole-below (suc levels) (grammar.string ps b e) h d le =
         let order = node-ahead names t (grammar.string ps b e) h in
         begun b k _ (omega arith) ∙ if-true (nat_le e k) (Some (tree.string (text_at t ps b e))) _ (le-leb e k le)
-    whole-below (suc room) (grammar.array b e ns) h d le =
-        let order = items-order names t room ns (b + 1) e h.1 (omega arith) in
-        let inner = whole-below room in
-        let same = parts-whole (λ n. n) item_seen room (b + 1) (nodes_list ns) e inner order le in
+    whole-below (suc levels) (grammar.array b e ns) h d le =
+        let order = items-order names t levels ns (b + 1) e h.1 (omega arith) in
+        let inner = whole-below levels in
+        let same = parts-whole (λ n. n) item_seen levels (b + 1) (nodes_list ns) e inner order le in
         array-left names t k mode b e ns (omega (arith, node-ahead names t (grammar.array b e ns) h))
         ∙ ap (λ x. Some (tree.array x)) (ap items_of same ∙ values-listed t ns)
-    whole-below (suc room) (grammar.object b e ms) h d le =
-        let order = members-order names t room ms (b + 1) e h.1 (omega arith) in
-        let inner = whole-below room in
-        let same = parts-whole (λ m. m.1) (member_seen t) room (b + 1) (members_list ms) e inner order le in
+    whole-below (suc levels) (grammar.object b e ms) h d le =
+        let order = members-order names t levels ms (b + 1) e h.1 (omega arith) in
+        let inner = whole-below levels in
+        let same = parts-whole (λ m. m.1) (member_seen t) levels (b + 1) (members_list ms) e inner order le in
         object-left names t k mode b e ms (omega (arith, node-ahead names t (grammar.object b e ms) h))
         ∙ ap (λ x. Some (tree.object x)) (ap members_of same ∙ member_values-listed t ms)
 
@@ -170,27 +170,27 @@ module _ (names : Bool) (t : List ℕ) (mode : PartialMode) where
 
   -- What there is at k goes on at l.
   module _ (k l : ℕ) (later : k ≤ l) where
-    abbrev NodeGrows : Node → Type 0
-    NodeGrows n = Grows Extends (cut names t n k mode) (cut names t n l mode)
+    abbrev NodeExtends : Node → Type 0
+    NodeExtends n = Grows Extends (cut names t n k mode) (cut names t n l mode)
 
-    abbrev GrowsBelow : ℕ → Type 0
-    GrowsBelow room = (n : Node) → Spells names t n → nesting n < room → CutsNoNumber k n → NodeGrows n
+    abbrev ExtendsBelow : ℕ → Type 0
+    ExtendsBelow levels = (n : Node) → Spells names t n → nesting n < levels → CutsNoNumber k n → NodeExtends n
 
     along : (n : Node) (o p : Option Tree) → cut names t n k mode ≡ o → cut names t n l mode ≡ p → Grows Extends o p
-        → NodeGrows n
+        → NodeExtends n
     along n o p at_k at_l h =
         subst (λ x. Grows Extends x (cut names t n l mode)) (sym at_k) (subst (Grows Extends o) (sym at_l) h)
 
-    none-grows : (n : Node) → cut names t n k mode ≡ None → NodeGrows n
+    none-grows : (n : Node) → cut names t n k mode ≡ None → NodeExtends n
     none-grows n e = along n None (cut names t n l mode) e refl tt
 
-    whole-grows : (n : Node) → Spells names t n → end n ≤ k → NodeGrows n
+    whole-grows : (n : Node) → Spells names t n → end n ≤ k → NodeExtends n
     whole-grows n h all =
         along n _ _ (node-whole k n h all) (node-whole l n h (omega arith)) (extends-same (value_of t n))
 
-    begun-grows : (n : Node) → (begin n < k → NodeGrows n) → NodeGrows n
+    begun-grows : (n : Node) → (begin n < k → NodeExtends n) → NodeExtends n
     begun-grows n grows = by (cases_lt (begin n) k) where
-      by : (begin n < k) ⊎ (k ≤ begin n) → NodeGrows n
+      by : (begin n < k) ⊎ (k ≤ begin n) → NodeExtends n
       by (inl lt) = grows lt
       by (inr unread) = none-grows n (node-late names t k mode n unread)
 
@@ -212,8 +212,8 @@ module _ (names : Bool) (t : List ℕ) (mode : PartialMode) where
 
     -- Parts that are seen by their values, where what goes on is seen to go on.
     module _ {P Q : Type 0} (More : Q → Q → Type 0) (value : P → Node) (seen : P → Tree → Q)
-        (seen_more : (p : P) (v w : Tree) → Extends v w → More (seen p v) (seen p w)) (room : ℕ)
-        (all : GrowsBelow room) where
+        (seen_more : (p : P) (v w : Tree) → Extends v w → More (seen p v) (seen p w)) (levels : ℕ)
+        (all : ExtendsBelow levels) where
       abbrev one_left : ℕ → P → Option Q
       one_left j p = part_left names t j mode value seen p
 
@@ -231,13 +231,13 @@ module _ (names : Bool) (t : List ℕ) (mode : PartialMode) where
 
       -- a part that k cuts is the last one; one that ends by k stays as it is
       first-grows : (p : P) (ps : List P) (e : ℕ) → Spells names t (value p)
-          → InOrder names t room value (end (value p)) ps e
+          → InOrder names t levels value (end (value p)) ps e
           → Grows More (one_left k p) (one_left l p) → PartsGrow ps → PartsGrow (p ∷ ps)
       first-grows p ps e h order here rest = by (cases_lt k (end (value p))) where
         by : (k < end (value p)) ⊎ (end (value p) ≤ k) → PartsGrow (p ∷ ps)
         by (inl unended) =
             subst (λ xs. ListGrows More (cons_option (one_left k p) xs) (left l (p ∷ ps)))
-            (sym (parts-late names t k mode value seen room (end (value p)) ps e order (omega arith)))
+            (sym (parts-late names t k mode value seen levels (end (value p)) ps e order (omega arith)))
             (last-grows More (one_left k p) (one_left l p) (left l ps) here)
         by (inr all) =
             let same = ap (option_map (seen p)) (still (value p) h all) in
@@ -245,7 +245,7 @@ module _ (names : Bool) (t : List ℕ) (mode : PartialMode) where
             (rest-grows More (one_left k p) (left k ps) (left l ps)
             (subst (Grows More (one_left k p)) (sym same) here) rest)
 
-      parts-grow : (i e : ℕ) (ps : List P) → InOrder names t room value i ps e → CutsNone value ps → PartsGrow ps
+      parts-grow : (i e : ℕ) (ps : List P) → InOrder names t levels value i ps e → CutsNone value ps → PartsGrow ps
       parts-grow i e [] h c = tt
       parts-grow i e (p ∷ ps) h c =
           first-grows p ps e h.1 h.3 (part-grows p _ _ (all (value p) h.1 h.2 c.0))
@@ -255,7 +255,7 @@ module _ (names : Bool) (t : List ℕ) (mode : PartialMode) where
       container-grows : (n : Node) (build : List Q → Tree) (i e : ℕ) (ps : List P)
           → ((xs ys : List Q) → ListGrows More xs ys → Extends (build xs) (build ys))
           → ((j : ℕ) → begin n < j → cut names t n j mode ≡ Some (build (left j ps)))
-          → InOrder names t room value i ps e → CutsNone value ps → NodeGrows n
+          → InOrder names t levels value i ps e → CutsNone value ps → NodeExtends n
       container-grows n build i e ps grow is order c =
           begun-grows n (λ lt.
           along n (Some (build (left k ps))) (Some (build (left l ps))) (is k lt) (is l (omega arith))
@@ -278,37 +278,37 @@ module _ (names : Bool) (t : List ℕ) (mode : PartialMode) where
           Kept : Option Tree → Type 0
           Kept y = Grows Extends (Some (cut_string t ps b k)) y
 
-    grows-below : (room : ℕ) → GrowsBelow room
+    grows-below : (levels : ℕ) → ExtendsBelow levels
     grows-below zero n h d c = absurd (omega arith)
-    grows-below (suc room) (grammar.literal x b e) h d c = by (cases_lt k e) where
-      by : (k < e) ⊎ (e ≤ k) → NodeGrows (grammar.literal x b e)
+    grows-below (suc levels) (grammar.literal x b e) h d c = by (cases_lt k e) where
+      by : (k < e) ⊎ (e ≤ k) → NodeExtends (grammar.literal x b e)
       by (inl cuts) = none-grows (grammar.literal x b e) (literal-left names t k mode x b e cuts)
       by (inr all) = whole-grows (grammar.literal x b e) h all
-    grows-below (suc room) (grammar.number b e) h d (inl unread) =
+    grows-below (suc levels) (grammar.number b e) h d (inl unread) =
         none-grows (grammar.number b e) (node-late names t k mode (grammar.number b e) unread)
-    grows-below (suc room) (grammar.number b e) h d (inr all) = whole-grows (grammar.number b e) h all
-    grows-below (suc room) (grammar.string ps b e) h d c =
+    grows-below (suc levels) (grammar.number b e) h d (inr all) = whole-grows (grammar.number b e) h all
+    grows-below (suc levels) (grammar.string ps b e) h d c =
         begun-grows (grammar.string ps b e) (λ lt. by lt (cases_lt k e)) where
-          by : b < k → (k < e) ⊎ (e ≤ k) → NodeGrows (grammar.string ps b e)
+          by : b < k → (k < e) ⊎ (e ≤ k) → NodeExtends (grammar.string ps b e)
           by lt (inr all) = whole-grows (grammar.string ps b e) h all
           by lt (inl cuts) =
               along (grammar.string ps b e) _ _ (string-left names t k mode ps b e lt cuts) refl (kept-grows ps b e lt)
-    grows-below (suc room) (grammar.array b e ns) h d c =
-        container-grows Extends (λ n. n) item_seen (λ n v w more. more) room (grows-below room) (grammar.array b e ns)
+    grows-below (suc levels) (grammar.array b e ns) h d c =
+        container-grows Extends (λ n. n) item_seen (λ n v w more. more) levels (grows-below levels) (grammar.array b e ns)
         (λ vs. tree.array (items_of vs)) (b + 1) e (nodes_list ns) items-grow
-        (λ j lt. array-left names t j mode b e ns lt) (items-order names t room ns (b + 1) e h.1 (omega arith))
+        (λ j lt. array-left names t j mode b e ns lt) (items-order names t levels ns (b + 1) e h.1 (omega arith))
         (cuts-items ns c)
-    grows-below (suc room) (grammar.object b e ms) h d c =
-        container-grows ExtendsMember (λ m. m.1) (member_seen t) (λ m v w more. (refl, more)) room (grows-below room)
+    grows-below (suc levels) (grammar.object b e ms) h d c =
+        container-grows ExtendsMember (λ m. m.1) (member_seen t) (λ m v w more. (refl, more)) levels (grows-below levels)
         (grammar.object b e ms) (λ ms. tree.object (members_of ms)) (b + 1) e (members_list ms) members-grow
-        (λ j lt. object-left names t j mode b e ms lt) (members-order names t room ms (b + 1) e h.1 (omega arith))
+        (λ j lt. object-left names t j mode b e ms lt) (members-order names t levels ms (b + 1) e h.1 (omega arith))
         (cuts-members ms c)
 
 -- Where no number is cut at k, what a later cut leaves goes on where the cut at k stopped.
-pub cut-grows : (names : Bool) (t : List ℕ) (mode : PartialMode) (n : Node) (k l : ℕ) (v w : Tree) → Spells names t n
+pub cut-extends : (names : Bool) (t : List ℕ) (mode : PartialMode) (n : Node) (k l : ℕ) (v w : Tree) → Spells names t n
     → CutsNoNumber k n → k ≤ l
     → cut names t n k mode ≡ Some v → cut names t n l mode ≡ Some w → Extends v w
-cut-grows names t mode n k l v w h c later at_k at_l =
+cut-extends names t mode n k l v w h c later at_k at_l =
     subst (Grows Extends (Some v)) at_l
     (subst (λ x. Grows Extends x (cut names t n l mode)) at_k
     (grows-below names t mode k l later (suc (nesting n)) n h (omega arith) c))

@@ -4,7 +4,7 @@ use Rattle.std.proofs.lemmas.List.{length-map}
 use lib.Lanes.{number_l}
 use Rattle.jiter_scan.specs.Simd.{less_zero}
 use Rattle.jiter_scan.proofs.DigitWords.{number_l-front, number_l-high, less_zero-below}
-use Rattle.jiter_scan.proofs.simd.words.Goals as goal
+use Rattle.jiter_scan.proofs.simd.halves.Goals as goal
 
 pub returns-clause-low : goal.returns-clause-low
 returns-clause-low c =

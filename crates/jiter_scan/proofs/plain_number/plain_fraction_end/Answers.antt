@@ -2,8 +2,8 @@ use Rattle.std.proofs.Common.{◌+◌, get_or, ap, ◌∙◌, arith}
 use Rattle.std.specs.Prelude.{Some}
 use Rattle.std.proofs.lemmas.Bool.{ne_eqb}
 use Rattle.std.proofs.lemmas.Option.{IfSome_then, slice_get-get_or}
-use Rattle.jiter_scan.proofs.ShortNumbers.{digits-counted, digits-of_chunk, fraction_at-run, fraction_at-none}
-use Rattle.jiter_scan.proofs.short_number.short_fraction_end.Goals as goal
+use Rattle.jiter_scan.proofs.PlainNumbers.{digits-counted, digits-of_chunk, fraction_at-run, fraction_at-none}
+use Rattle.jiter_scan.proofs.plain_number.plain_fraction_end.Goals as goal
 
 pub returns-then-bytes-at-ne46-clause-end : goal.returns-then-bytes-at-ne46-clause-end
 returns-then-bytes-at-ne46-clause-end c =

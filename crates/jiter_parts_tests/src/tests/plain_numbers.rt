@@ -1,6 +1,6 @@
 //! Numbers of each length, far from the end of the input and near it.
 use jiter_scan::number_decoder::{NumberAny, NumberInt, number_at};
-use jiter_scan::short_number::{Short, short_at};
+use jiter_scan::plain_number::{PlainNumber, plain_number_at};
 use std::alloc::{AllocError, Global};
 use std::test::*;
 
@@ -62,11 +62,11 @@ fn runs_of_digits_end_at_each_length(rt: HostRuntime) -> Result<(), Fail> {
 }
 
 // What a number of so many digits before its point, behind it and in its exponent is.
-fn wanted_of(whole: usize, fraction: usize, power: usize, length: usize) -> Short {
+fn wanted_of(whole: usize, fraction: usize, power: usize, length: usize) -> PlainNumber {
     if whole < 16 && fraction < 32 && power < 16 {
-        Short::Float(length)
+        PlainNumber::Float(length)
     } else {
-        Short::Other
+        PlainNumber::Other
     }
 }
 
@@ -79,7 +79,7 @@ fn floats_are_short_up_to_each_limit(rt: HostRuntime) -> Result<(), Fail> {
                 let alone = spelled(rt.alloc(), &parts, "")?;
                 let text = spelled(rt.alloc(), &parts, FAR)?;
                 let wanted = wanted_of(whole, fraction, power, alone.len());
-                assert_eq!(rt; short_at(&text, 0), wanted);
+                assert_eq!(rt; plain_number_at(&text, 0), wanted);
                 assert_eq!(rt; number_end(&alone), Some(alone.len()));
             }
         }
@@ -117,7 +117,7 @@ fn floats_of_one_part_are_short_up_to_its_limit(rt: HostRuntime) -> Result<(), F
             ),
         ] {
             let text = spelled(rt.alloc(), parts, FAR)?;
-            assert_eq!(rt; short_at(&text, 0), wanted);
+            assert_eq!(rt; plain_number_at(&text, 0), wanted);
         }
     }
     Ok(())
@@ -129,11 +129,11 @@ fn near_the_end_no_number_is_short(rt: HostRuntime) -> Result<(), Fail> {
     for length in 6..text.len() + 1 {
         let part = &text[..length];
         let wanted = if length < 65 {
-            Short::Other
+            PlainNumber::Other
         } else {
-            Short::Float(6)
+            PlainNumber::Float(6)
         };
-        assert_eq!(rt; short_at(part, 0), wanted);
+        assert_eq!(rt; plain_number_at(part, 0), wanted);
         assert_eq!(rt; number_end(part), Some(6));
     }
     Ok(())
@@ -192,40 +192,43 @@ fn integers_are_read_near_the_end_and_far_from_it(rt: HostRuntime) -> Result<(),
 #[test]
 fn what_is_short_is_read_at_once(rt: HostRuntime) -> Result<(), Fail> {
     for (text, wanted) in [
-        ("7", Short::Int(7, 1)),
-        ("0", Short::Int(0, 1)),
-        ("123456789012345", Short::Int(123456789012345, 15)),
-        ("1234567890123456", Short::Int(1234567890123456, 16)),
-        ("123456789012345678", Short::Int(123456789012345678, 18)),
-        ("1234567890123456789", Short::Other),
-        ("1.5", Short::Float(3)),
-        ("1.5e5", Short::Float(5)),
-        ("1e-5", Short::Float(4)),
-        ("1e+5", Short::Float(4)),
-        ("1E5", Short::Float(3)),
-        ("0.5.5", Short::Float(3)),
-        ("0e0e", Short::Float(3)),
-        ("01", Short::Other),
-        ("00.5", Short::Other),
-        ("1.", Short::Other),
-        ("1.e5", Short::Other),
-        ("1.5e", Short::Other),
-        ("1.5e+", Short::Other),
-        ("1.5e--5", Short::Other),
-        ("1.5ee5", Short::Other),
-        ("1234567890123456.5", Short::Other),
-        ("12345678901234567e5", Short::Other),
-        ("-1", Short::Other),
-        (".5", Short::Other),
-        ("e5", Short::Other),
-        ("x", Short::Other),
+        ("7", PlainNumber::Int(7, 1)),
+        ("0", PlainNumber::Int(0, 1)),
+        ("123456789012345", PlainNumber::Int(123456789012345, 15)),
+        ("1234567890123456", PlainNumber::Int(1234567890123456, 16)),
+        (
+            "123456789012345678",
+            PlainNumber::Int(123456789012345678, 18),
+        ),
+        ("1234567890123456789", PlainNumber::Other),
+        ("1.5", PlainNumber::Float(3)),
+        ("1.5e5", PlainNumber::Float(5)),
+        ("1e-5", PlainNumber::Float(4)),
+        ("1e+5", PlainNumber::Float(4)),
+        ("1E5", PlainNumber::Float(3)),
+        ("0.5.5", PlainNumber::Float(3)),
+        ("0e0e", PlainNumber::Float(3)),
+        ("01", PlainNumber::Other),
+        ("00.5", PlainNumber::Other),
+        ("1.", PlainNumber::Other),
+        ("1.e5", PlainNumber::Other),
+        ("1.5e", PlainNumber::Other),
+        ("1.5e+", PlainNumber::Other),
+        ("1.5e--5", PlainNumber::Other),
+        ("1.5ee5", PlainNumber::Other),
+        ("1234567890123456.5", PlainNumber::Other),
+        ("12345678901234567e5", PlainNumber::Other),
+        ("-1", PlainNumber::Other),
+        (".5", PlainNumber::Other),
+        ("e5", PlainNumber::Other),
+        ("x", PlainNumber::Other),
     ] {
         for end in [",", "]", "}", " ", "\n", "\u{7f}"] {
             let bytes = spelled(rt.alloc(), &[(text, 0), (end, 0)], FAR)?;
-            assert_eq!(rt; short_at(&bytes, 0), wanted);
+            assert_eq!(rt; plain_number_at(&bytes, 0), wanted);
         }
     }
-    assert_eq!(rt; short_at(b"", 0), Short::Other);
-    assert_eq!(rt; short_at(b"7,", 0), Short::Other);
+    assert_eq!(rt; plain_number_at(b"", 0), PlainNumber::Other);
+    assert_eq!(rt; plain_number_at(b"7,", 0), PlainNumber::Other);
     Ok(())
 }

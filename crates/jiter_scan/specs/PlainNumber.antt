@@ -1,17 +1,17 @@
--- What a short number is, behind its minus.
+-- What a plain number is, behind its minus: a short one.
 use Rattle.std.specs.Prelude.{◌≡◌, ◌≢◌, ℕ, ◌+◌, ◌^◌, ◌<◌, ◌≤◌, List, length, slice_range, slice_index, false}
 use Rattle.jiter_scan.specs.Ascii as ascii
 use Rattle.jiter_scan.specs.Digits.{digit_run_end}
 use Rattle.jiter_scan.specs.Number.{float, number_value}
 use Rattle.jiter_scan.specs.NumberDecoder.{magnitude_of}
-use Rattle.jiter_scan.specs.NumberReading.{whole_at, decimal_at, is_float_sign}
+use Rattle.jiter_scan.specs.NumberReading.{int_part_at, decimal_at, is_float_sign}
 use Rattle.jiter_scan.specs.Scanned.{taken}
-use Rattle.jiter_scan.specs.declared.short_number.Short.{Short}
-use Rattle.jiter_scan.specs.declared.short_number.Short.TheVariants as short
+use Rattle.jiter_scan.specs.declared.plain_number.PlainNumber.{PlainNumber}
+use Rattle.jiter_scan.specs.declared.plain_number.PlainNumber.TheVariants as plain
 
 -- digits alone from i to before e, and their value
-pub record IsShortInteger (t : List ℕ) (i n e : ℕ) : Type 0 where
-  pub whole : whole_at t i ≡ taken tt e
+pub record IsPlainInteger (t : List ℕ) (i n e : ℕ) : Type 0 where
+  pub int_part : int_part_at t i ≡ taken tt e
   pub decimal : decimal_at t i ≡ taken tt e
   pub magnitude : n ≡ magnitude_of (slice_range t i e)
   pub small : n < 2 ^ 63
@@ -19,7 +19,7 @@ pub record IsShortInteger (t : List ℕ) (i n e : ℕ) : Type 0 where
   pub within : e ≤ length t
 
 -- a number from i to before e that is no integer, a minus before it or not
-pub record IsShortFloat (t : List ℕ) (i e : ℕ) : Type 0 where
+pub record IsPlainFloat (t : List ℕ) (i e : ℕ) : Type 0 where
   pub decimal : decimal_at t i ≡ taken tt e
   pub value : (j : ℕ) → j ≤ i → number_value (slice_range t j e) ≡ float (slice_range t j e)
   pub some : i < e
@@ -27,14 +27,14 @@ pub record IsShortFloat (t : List ℕ) (i e : ℕ) : Type 0 where
 
 -- an integer of one to fifteen digits, the first no zero, with as many bytes behind its first digit as are looked at
 pub record IsFewDigits (t : List ℕ) (i : ℕ) : Type 0 where
-  pub room : i + 65 ≤ length t
+  pub reach : i + 65 ≤ length t
   pub some : i < digit_run_end t i
   pub few : digit_run_end t i ≤ i + 15
   pub first : slice_index t i ≢ ascii.digit_zero
   pub alone : is_float_sign (slice_index t (digit_run_end t i)) ≡ false
 
 -- what was found at i: such an integer always is
-abbrev pub IsShort : List ℕ → ℕ → Short → Type 0
-IsShort t i (short.Int n e) = IsShortInteger t i n e
-IsShort t i (short.Float e) = IsShortFloat t i e
-IsShort t i short.Other = IsFewDigits t i → ⊥
+abbrev pub IsPlainNumber : List ℕ → ℕ → PlainNumber → Type 0
+IsPlainNumber t i (plain.Int n e) = IsPlainInteger t i n e
+IsPlainNumber t i (plain.Float e) = IsPlainFloat t i e
+IsPlainNumber t i plain.Other = IsFewDigits t i → ⊥

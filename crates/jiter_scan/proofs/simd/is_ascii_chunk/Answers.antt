@@ -1,7 +1,7 @@
 use Rattle.std.proofs.Common.{eqb, sym, ap, ◌∙◌}
 use Rattle.jiter_scan.specs.Scan.{is_ascii}
 use Rattle.jiter_scan.proofs.Chunks.{list_all-failing}
-use Rattle.jiter_scan.proofs.simd.is_low.Goals as goal
+use Rattle.jiter_scan.proofs.simd.is_ascii_chunk.Goals as goal
 
 pub returns : goal.returns
 returns c = ap (λ m. eqb m 0) c.highs.ensures ∙ sym (list_all-failing is_ascii c.args.v)

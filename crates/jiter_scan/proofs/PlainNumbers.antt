@@ -9,14 +9,14 @@ use Rattle.std.proofs.lemmas.List.{length-take}
 use Rattle.std.proofs.lemmas.Option.{slice_get-get_or, slice_get_within}
 use Rattle.jiter_scan.specs.Digits.{is_digit, digit_run_end}
 use Rattle.jiter_scan.specs.Number.{IsDigits}
-use Rattle.jiter_scan.specs.NumberReading.{extent_then, whole_at, fraction_at, exponent_at, decimal_at, fraction_from}
+use Rattle.jiter_scan.specs.NumberReading.{extent_then, int_part_at, fraction_at, exponent_at, decimal_at, fraction_from}
 use Rattle.jiter_scan.specs.NumberReading.{exponent_from, digits_from, power_from, is_float_sign}
 use Rattle.jiter_scan.specs.Scanned.{taken}
 use Rattle.jiter_scan.specs.Stands.{Stands}
 use Rattle.jiter_scan.proofs.Choices.{if-false, if-true, extent_then-taken}
 use Rattle.jiter_scan.proofs.Chunks.{prefix_len-front, prefix_len-pass, run_end-on}
 use Rattle.jiter_scan.proofs.Magnitudes.{slice_range-count}
-use Rattle.jiter_scan.proofs.NumberComplete.{whole_at-complete}
+use Rattle.jiter_scan.proofs.NumberComplete.{int_part_at-complete}
 use Rattle.jiter_scan.proofs.NumberExtents.{decimal_at-tail, tail-parts}
 use Rattle.jiter_scan.proofs.NumberSound.{digits-sound, power-sound, exponent_at-sound}
 use Rattle.jiter_scan.proofs.Runs.{run_end-passes, run_end-stops, NoDigit}
@@ -51,9 +51,9 @@ module _ (t : List ℕ) where
     by (Some c) h = run_end-stops is_digit t i c (ap (slice_get t) run ∙ h)
 
   -- one digit, or more of which the first is no zero
-  pub whole_at-run : (i e : ℕ) → digit_run_end t i ≡ e → i < e → e ≤ length t → e ≤ i + 4300
-      → (e ≡ i + 1) ⊎ (get_or t i 0 ≢ 48) → whole_at t i ≡ taken tt e
-  whole_at-run i e run some within few first =
+  pub int_part_at-run : (i e : ℕ) → digit_run_end t i ≡ e → i < e → e ≤ length t → e ≤ i + 4300
+      → (e ≡ i + 1) ⊎ (get_or t i 0 ≢ 48) → int_part_at t i ≡ taken tt e
+  int_part_at-run i e run some within few first =
       let c = get_or t i 0 in
       let cs = slice_range t (i + 1) e in
       let stands : Stands t i e (c ∷ cs) =
@@ -63,24 +63,24 @@ module _ (t : List ℕ) where
       let others = prefix_len-pass is_digit (e - (i + 1)) (drop (i + 1) t) rest in
       let digits : IsDigits (c ∷ cs) = (run_end-passes is_digit t i i (omega arith) (omega arith), others) in
       let long : length (c ∷ cs) ≤ 4300 = omega (arith, length-take (e - (i + 1)) (drop (i + 1) t)) in
-      whole_at-complete t i e (c ∷ cs) stands (digits, by first) long (no_digit i e run)
+      int_part_at-complete t i e (c ∷ cs) stands (digits, by first) long (no_digit i e run)
     where
       by : (e ≡ i + 1) ⊎ (get_or t i 0 ≢ 48) → (slice_range t (i + 1) e ≡ []) ⊎ (get_or t i 0 ≢ 48)
       by (inl one) = let none : e - (i + 1) ≡ 0 = omega arith in inl (ap (λ n. take n (drop (i + 1) t)) none)
       by (inr other) = inr other
 
   -- the integer part that is counted in a chunk
-  module _ (chunk : List ℕ) (i n : ℕ) (counted : n ≡ digit_run_end chunk 0) (few : n ≤ 15) (room : i + 16 ≤ length t)
+  module _ (chunk : List ℕ) (i n : ℕ) (counted : n ≡ digit_run_end chunk 0) (few : n ≤ 15) (reach : i + 16 ≤ length t)
       (front : (m : ℕ) → m ≤ 16 → i + m ≤ length t → take m chunk ≡ slice_range t i (i + m)) where
     pub digits-counted : digit_run_end t i ≡ i + n
     digits-counted =
         run_end-counted chunk i n counted (front n (omega arith) (omega arith))
         (front (n + 1) (omega arith) (omega arith))
 
-    pub whole_at-counted : 0 < n → ((get_or t i 0 ≡ 48) × (n ≡ 1)) ⊎ (get_or t i 0 ≢ 48)
-        → whole_at t i ≡ taken tt (i + n)
-    whole_at-counted some first =
-        whole_at-run i (i + n) digits-counted (omega arith) (omega arith) (omega arith) (by first) where
+    pub int_part_at-counted : 0 < n → ((get_or t i 0 ≡ 48) × (n ≡ 1)) ⊎ (get_or t i 0 ≢ 48)
+        → int_part_at t i ≡ taken tt (i + n)
+    int_part_at-counted some first =
+        int_part_at-run i (i + n) digits-counted (omega arith) (omega arith) (omega arith) (by first) where
           by : ((get_or t i 0 ≡ 48) × (n ≡ 1)) ⊎ (get_or t i 0 ≢ 48) → (i + n ≡ i + 1) ⊎ (get_or t i 0 ≢ 48)
           by (inl zero) = let one = zero.1 in inl (ap (λ k. i + k) one)
           by (inr other) = inr other
@@ -89,7 +89,7 @@ module _ (t : List ℕ) where
   pub digits-in_two : (back : List ℕ) (i n : ℕ) → n ≡ digit_run_end back 0 → n ≤ 15 → i + 32 ≤ length t
       → ((m : ℕ) → m ≤ 16 → i + 16 + m ≤ length t → take m back ≡ slice_range t (i + 16) (i + 16 + m))
       → i + 16 ≤ digit_run_end t i → digit_run_end t i ≡ i + 16 + n
-  digits-in_two back i n counted few room front run =
+  digits-in_two back i n counted few reach front run =
       sym (run_end-on is_digit t i 16 run (omega arith))
       ∙ digits-counted back (i + 16) n counted few (omega arith) front
 
@@ -131,12 +131,12 @@ module _ (t : List ℕ) where
       ∙ if-false ((c == 101) || (c == 69)) _ _ no_letter
 
   -- no point and no exponent behind it
-  pub decimal_at-whole : (i e c : ℕ) → whole_at t i ≡ taken tt e → slice_get t e ≡ Some c → is_float_sign c ≡ false
+  pub decimal_at-int_part : (i e c : ℕ) → int_part_at t i ≡ taken tt e → slice_get t e ≡ Some c → is_float_sign c ≡ false
       → decimal_at t i ≡ taken tt e
-  decimal_at-whole i e c whole here no_sign =
+  decimal_at-int_part i e c int_part here no_sign =
       let point : (c == 46) ≡ false = grind (arith, nat_tests) in
       let letter : ((c == 101) || (c == 69)) ≡ false = grind (arith, nat_tests) in
-      decimal_at-tail t i e e whole
+      decimal_at-tail t i e e int_part
       (tail-parts t e e e (fraction_at-none e c here point) (exponent_at-none e c here letter))
 
   -- a point or an exponent takes a byte or more

@@ -1,6 +1,6 @@
 use Rattle.std.proofs.Common.{arith}
-use Rattle.jiter_scan.proofs.ShortNumbers.{digits-counted}
-use Rattle.jiter_scan.proofs.short_number.few_digits_end.Goals as goal
+use Rattle.jiter_scan.proofs.PlainNumbers.{digits-counted}
+use Rattle.jiter_scan.proofs.plain_number.few_digits_end.Goals as goal
 
 pub returns : goal.returns
 returns c =

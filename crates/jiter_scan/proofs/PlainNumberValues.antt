@@ -1,11 +1,11 @@
--- Short numbers as the numbers that are read.
+-- Plain numbers as the numbers that are read.
 use Rattle.std.proofs.Common.{◌≡◌, inr, ℕ, ◌+◌, ◌≤◌, Bool, List, refl, sym, ap, ◌∙◌, slice_range, arith}
 use Rattle.std.specs.Prelude.{◌^◌, slice_get, Some, pos, nat_lt, nat_le}
 use Rattle.std.proofs.lemmas.Bool.{lt-ltb, le-leb}
 use Rattle.jiter_scan.specs.Number.{integer, float, number_value, minus_of}
 use Rattle.jiter_scan.specs.NumberReading.{number_extent, with_value, number_at}
 use Rattle.jiter_scan.specs.Scanned.{taken}
-use Rattle.jiter_scan.specs.ShortNumber.{IsShortInteger, IsShortFloat}
+use Rattle.jiter_scan.specs.PlainNumber.{IsPlainInteger, IsPlainFloat}
 use Rattle.jiter_scan.proofs.Choices.{if-true}
 use Rattle.jiter_scan.proofs.NumberExtents.{extent-decimal, extent-minus}
 use Rattle.jiter_scan.proofs.NumberValues.{integer_value-positive, integer_value-negative}
@@ -16,26 +16,26 @@ module _ (t : List ℕ) (names : Bool) (e : ℕ) where
   unfolding number_at
   number_at-extent i h = ap (with_value t i) h
 
-  pub short-integer : (i n : ℕ) → IsShortInteger t i n e → number_at names t i ≡ taken (integer (pos n)) e
-  short-integer i n s =
+  pub plain-integer : (i n : ℕ) → IsPlainInteger t i n e → number_at names t i ≡ taken (integer (pos n)) e
+  plain-integer i n s =
       number_at-extent i (extent-decimal t names i e s.decimal)
       ∙ ap (λ x. taken x e)
-      (sym (integer_value-positive t i i e n refl s.whole s.magnitude)
+      (sym (integer_value-positive t i i e n refl s.int_part s.magnitude)
       ∙ if-true (nat_lt n (2 ^ 63)) _ _ (lt-ltb n (2 ^ 63) s.small))
 
-  pub short-float : (i : ℕ) → IsShortFloat t i e → number_at names t i ≡ taken (float (slice_range t i e)) e
-  short-float i s =
+  pub plain-float : (i : ℕ) → IsPlainFloat t i e → number_at names t i ≡ taken (float (slice_range t i e)) e
+  plain-float i s =
       number_at-extent i (extent-decimal t names i e s.decimal) ∙ ap (λ x. taken x e) (s.value i (omega arith))
 
   module _ (i : ℕ) (minus : slice_get t i ≡ Some 45) where
-    pub short-negative_float : IsShortFloat t (i + 1) e → number_at names t i ≡ taken (float (slice_range t i e)) e
-    short-negative_float s =
+    pub plain-negative_float : IsPlainFloat t (i + 1) e → number_at names t i ≡ taken (float (slice_range t i e)) e
+    plain-negative_float s =
         number_at-extent i (extent-minus t names i e minus s.decimal) ∙ ap (λ x. taken x e) (s.value i (omega arith))
 
-    pub short-negative : (n : ℕ) → IsShortInteger t (i + 1) n e → number_at names t i ≡ taken (integer (minus_of n)) e
-    short-negative n s =
+    pub plain-negative : (n : ℕ) → IsPlainInteger t (i + 1) n e → number_at names t i ≡ taken (integer (minus_of n)) e
+    plain-negative n s =
         let small : n ≤ 2 ^ 63 = omega (arith, s.small) in
         number_at-extent i (extent-minus t names i e minus s.decimal)
         ∙ ap (λ x. taken x e)
-        (sym (integer_value-negative t i (i + 1) e n (inr (refl, minus)) (omega arith) s.whole s.magnitude)
+        (sym (integer_value-negative t i (i + 1) e n (inr (refl, minus)) (omega arith) s.int_part s.magnitude)
         ∙ if-true (nat_le n (2 ^ 63)) _ _ (le-leb n (2 ^ 63) small))
