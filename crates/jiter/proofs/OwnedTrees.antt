@@ -68,7 +68,8 @@ module _ (names : Bool) (t : List ℕ) where
   pub value-owned : (levels i : ℕ)
       → reply_seen owned_tree (value_reply (value_at (whole_trees names) t levels i))
       ≡ value_reply (value_at (owned_trees names) t levels i)
-  value-owned levels i = reply-owned (value_at (whole_trees names) t levels i) ∙ ap value_reply (value_at-owned levels i)
+  value-owned levels i = reply-owned (value_at (whole_trees names) t levels i)
+      ∙ ap value_reply (value_at-owned levels i)
 
 -- What is built where a value begins, at the place that a peek moves to, is the value that is read.
 pub built_as_read : {X : Type 0} (view : X → Tree) (result : Result X JiterError) (s0 s end : ReaderState) (c : ℕ)

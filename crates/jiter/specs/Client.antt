@@ -31,7 +31,8 @@ owned_trees names = record {
 abbrev pub own_text : List ℕ → Text
 own_text bytes = record { owned = true; bytes = bytes }
 
--- The value that begins so where the reader stands, with levels left for so many containers inside it that are not empty.
+-- The value that begins so where the reader stands, with levels left for so many containers inside it that are not
+-- empty.
 abbrev pub built : ReaderState → ℕ → Start → Reply Tree
 built s levels b =
     value_reply (value_with (owned_trees s.names) (inside_at (owned_trees s.names) s.text levels) s.text s.position b)

@@ -10,7 +10,8 @@ use Rattle.std.proofs.lemmas.List.Sums.{AllPass-from_list_all}
 use Rattle.std.proofs.lemmas.Str.{IsAscii-append}
 use Rattle.std.proofs.lemmas.Str.Ascii.{IsAscii-from_all, IsAscii-nil, IsAscii-cons}
 use Rattle.jiter_scan.specs.Digits.{is_digit}
-use Rattle.jiter_scan.specs.Number.{AreDigits, IsDigits, IsMinus, IsIntPart, IsFraction, IsSign, IsExponent, IsNumberText}
+use Rattle.jiter_scan.specs.Number.{AreDigits, IsDigits, IsMinus, IsIntPart, IsFraction, IsSign, IsExponent}
+use Rattle.jiter_scan.specs.Number.{IsNumberText}
 use Rattle.jiter_scan.specs.NumberReading.{begins_number, int_part_at, decimal_at}
 use Rattle.jiter_scan.specs.NumberDecoder.{IsMinusTo}
 use Rattle.jiter_scan.specs.Scan.{is_ascii}
@@ -83,7 +84,8 @@ number-ascii names w (inr (n, inr (inr e))) = given-ascii w (codes "-Infinity") 
 digit-begins : (c : ℕ) → is_digit c ≡ true → begins_number c ≡ true
 digit-begins c h = ap (λ b. b || (c == 45) || (c == 78) || (c == 73)) h
 
-decimal-first : (minus int_part rest w : List ℕ) (c : ℕ) → c ∷ w ≡ minus ++ (int_part ++ rest) → IsMinus minus → IsIntPart int_part
+decimal-first : (minus int_part rest w : List ℕ) (c : ℕ) → c ∷ w ≡ minus ++ (int_part ++ rest) → IsMinus minus
+    → IsIntPart int_part
     → begins_number c ≡ true
 decimal-first [] [] rest w c e m h = absurd h
 decimal-first [] (d ∷ int_part) rest w c e m h = let same : c ≡ d = cc in digit-begins c (ap is_digit same ∙ h.0.0)

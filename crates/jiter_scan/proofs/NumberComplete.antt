@@ -6,9 +6,11 @@ use Rattle.std.proofs.lemmas.Bool.Decides.{nat_tests}
 use Rattle.std.proofs.lemmas.Bool.{ne_eqb, le-leb, cases_eq}
 use Rattle.std.proofs.lemmas.Option.{IfSome_then}
 use Rattle.jiter_scan.specs.Digits.{is_digit, digit_run_end}
-use Rattle.jiter_scan.specs.Number.{number_value, IsDigits, IsMinus, IsIntPart, IsFraction, IsSign, IsExponent, IsDecimal}
+use Rattle.jiter_scan.specs.Number.{number_value, IsDigits, IsMinus, IsIntPart, IsFraction, IsSign, IsExponent}
+use Rattle.jiter_scan.specs.Number.{IsDecimal}
 use Rattle.jiter_scan.specs.Number.{IsName, IsNumberText, digit_limit}
-use Rattle.jiter_scan.specs.NumberReading.{digits_from, behind_zero, int_part_from, int_part_at, fraction_from, fraction_at}
+use Rattle.jiter_scan.specs.NumberReading.{digits_from, behind_zero, int_part_from, int_part_at, fraction_from}
+use Rattle.jiter_scan.specs.NumberReading.{fraction_at}
 use Rattle.jiter_scan.specs.NumberReading.{power_from, exponent_from, exponent_at, decimal_at, behind_minus}
 use Rattle.jiter_scan.specs.NumberReading.{extent_from, number_extent, with_value, number_at}
 use Rattle.jiter_scan.specs.Scanned.{taken}
@@ -157,7 +159,8 @@ module _ (t : List ℕ) where
       (IfSome_then (slice_get t j) n (λ c q. q.0))
 
   -- the parts behind a minus
-  pub decimal_at-complete : (i e : ℕ) (int_part fraction exponent : List ℕ) → IsIntPart int_part → length int_part ≤ digit_limit
+  pub decimal_at-complete : (i e : ℕ) (int_part fraction exponent : List ℕ) → IsIntPart int_part
+      → length int_part ≤ digit_limit
       → IsFraction fraction → IsExponent exponent
       → Stands t i e (int_part ++ (fraction ++ exponent)) → EndsNumber (slice_get t e) → decimal_at t i ≡ taken tt e
   decimal_at-complete i e int_part fraction exponent w l f x h n =
@@ -190,7 +193,8 @@ module _ (t : List ℕ) where
         let s : Stands t i e (45 ∷ (d.int_part ++ (d.fraction ++ d.exponent))) =
         subst (λ x. Stands t i e (x ++ (d.int_part ++ (d.fraction ++ d.exponent)))) m all in
         extent-minus t names i e s.0
-        (decimal_at-complete (i + 1) e d.int_part d.fraction d.exponent d.is_int_part d.limit d.is_fraction d.is_exponent
+        (decimal_at-complete (i + 1) e d.int_part d.fraction d.exponent d.is_int_part d.limit d.is_fraction
+            d.is_exponent
         s.1 n)
 
   extent-name : (i e : ℕ) (w : List ℕ) → Stands t i e w → IsName w → number_extent true t i ≡ taken tt e

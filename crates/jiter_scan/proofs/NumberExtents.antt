@@ -8,7 +8,8 @@ use Rattle.jiter_scan.specs.Digits.{is_digit}
 use Rattle.jiter_scan.specs.Kind.{invalid_number}
 use Rattle.jiter_scan.specs.Number.{IsIntPart}
 use Rattle.jiter_scan.specs.NumberDecoder.{magnitude_of, IsMinusTo}
-use Rattle.jiter_scan.specs.NumberReading.{int_part_from, int_part_at, fraction_at, exponent_at, extent_then, decimal_at}
+use Rattle.jiter_scan.specs.NumberReading.{int_part_from, int_part_at, fraction_at, exponent_at, extent_then}
+use Rattle.jiter_scan.specs.NumberReading.{decimal_at}
 use Rattle.jiter_scan.specs.NumberReading.{behind_minus, name_at, extent_from, number_extent}
 use Rattle.jiter_scan.specs.Scanned.{taken, failed}
 use Rattle.jiter_scan.specs.Stands.{Stands}

@@ -14,7 +14,8 @@ use Rattle.jiter_scan.specs.Digits.{is_digit, digit_run_end}
 use Rattle.jiter_scan.specs.Kind.{Kind, eof_value, expected_ident, expected_value, invalid_number}
 use Rattle.jiter_scan.specs.Number.{IsDigits, IsMinus, IsIntPart, IsFraction, IsSign, IsExponent, IsDecimal}
 use Rattle.jiter_scan.specs.Number.{IsNumberText, digit_limit}
-use Rattle.jiter_scan.specs.NumberReading.{extent_then, digits_from, behind_zero, within_limit, int_part_from, int_part_at}
+use Rattle.jiter_scan.specs.NumberReading.{extent_then, digits_from, behind_zero, within_limit, int_part_from}
+use Rattle.jiter_scan.specs.NumberReading.{int_part_at}
 use Rattle.jiter_scan.specs.NumberReading.{fraction_from, fraction_at, power_from, exponent_from, exponent_at}
 use Rattle.jiter_scan.specs.NumberReading.{decimal_at, behind_minus, extent_from, number_extent}
 use Rattle.jiter_scan.specs.Scanned.{taken, failed}

@@ -11,7 +11,8 @@ use Rattle.jiter_scan.specs.Kind.{Kind, is_end_kind, out_of_memory, eof_value, e
 use Rattle.jiter_scan.specs.Kind.{invalid_number, number_out_of_range}
 use Rattle.jiter_scan.specs.Number.{Number, number_value, AreDigits, IsDigits, IsFraction, IsExponent, IsNumberText}
 use Rattle.jiter_scan.specs.Number.{digit_limit}
-use Rattle.jiter_scan.specs.NumberReading.{extent_then, digits_from, behind_zero, within_limit, int_part_at, fraction_at}
+use Rattle.jiter_scan.specs.NumberReading.{extent_then, digits_from, behind_zero, within_limit, int_part_at}
+use Rattle.jiter_scan.specs.NumberReading.{fraction_at}
 use Rattle.jiter_scan.specs.NumberReading.{power_from}
 use Rattle.jiter_scan.specs.NumberReading.{exponent_at, decimal_at, number_extent, with_value, number_at}
 use Rattle.jiter_scan.specs.Scanned.{taken, failed, FaultAt}

@@ -126,7 +126,8 @@ module _ (t : List ℕ) where
       let s = word_at-sound t (c ∷ v) j e tt h in float_at i j e c v low high s (first c s.0)
 
   -- the integer from i to before e, whose digits begin at j
-  pub integer_value-positive : (i j e m : ℕ) → i ≡ j → int_part_at t j ≡ taken tt e → m ≡ magnitude_of (slice_range t j e)
+  pub integer_value-positive : (i j e m : ℕ) → i ≡ j → int_part_at t j ≡ taken tt e
+      → m ≡ magnitude_of (slice_range t j e)
       → positive_value (slice_range t i e) m ≡ number_value (slice_range t i e)
   integer_value-positive i j e m same h value =
       let w = int_part_at-sound t j e h in

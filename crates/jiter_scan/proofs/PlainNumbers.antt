@@ -9,7 +9,8 @@ use Rattle.std.proofs.lemmas.List.{length-take}
 use Rattle.std.proofs.lemmas.Option.{slice_get-get_or, slice_get_within}
 use Rattle.jiter_scan.specs.Digits.{is_digit, digit_run_end}
 use Rattle.jiter_scan.specs.Number.{IsDigits}
-use Rattle.jiter_scan.specs.NumberReading.{extent_then, int_part_at, fraction_at, exponent_at, decimal_at, fraction_from}
+use Rattle.jiter_scan.specs.NumberReading.{extent_then, int_part_at, fraction_at, exponent_at, decimal_at}
+use Rattle.jiter_scan.specs.NumberReading.{fraction_from}
 use Rattle.jiter_scan.specs.NumberReading.{exponent_from, digits_from, power_from, is_float_sign}
 use Rattle.jiter_scan.specs.Scanned.{taken}
 use Rattle.jiter_scan.specs.Stands.{Stands}
@@ -131,7 +132,8 @@ module _ (t : List ℕ) where
       ∙ if-false ((c == 101) || (c == 69)) _ _ no_letter
 
   -- no point and no exponent behind it
-  pub decimal_at-int_part : (i e c : ℕ) → int_part_at t i ≡ taken tt e → slice_get t e ≡ Some c → is_float_sign c ≡ false
+  pub decimal_at-int_part : (i e c : ℕ) → int_part_at t i ≡ taken tt e → slice_get t e ≡ Some c
+      → is_float_sign c ≡ false
       → decimal_at t i ≡ taken tt e
   decimal_at-int_part i e c int_part here no_sign =
       let point : (c == 46) ≡ false = grind (arith, nat_tests) in

@@ -9,7 +9,8 @@ use Rattle.jiter_scan.specs.Ascii as ascii
 use Rattle.jiter_scan.specs.Kind.{fault_kind}
 use Rattle.jiter_scan.specs.Scan.{scan_stop}
 use Rattle.jiter_steps.specs.Tree.{Text}
-use Rattle.jiter_steps.specs.StringReading.{HexDigits, number, bad, few, Portion, part, over, Stop, closed, unclosed, cut}
+use Rattle.jiter_steps.specs.StringReading.{HexDigits, number, bad, few, Portion, part, over, Stop, closed, unclosed}
+use Rattle.jiter_steps.specs.StringReading.{cut}
 use Rattle.jiter_steps.specs.StringReading.{wrong}
 use Rattle.jiter_steps.specs.declared.string_decoder.Hex.{Hex}
 use Rattle.jiter_steps.specs.declared.string_decoder.Hex.TheVariants as hex

@@ -16,7 +16,8 @@ ghost use Rattle.jiter_steps.specs.ReadError.{UnlessRefused, WhereRefused};
 ghost use Rattle.jiter_steps.specs.StringReading.{number, part, hex_digits_at, portion_at, unit_then, behind_backslash};
 ghost use Rattle.jiter_steps.specs.StringReading.{unicode_escape, behind_high, behind_high_backslash, surrogate_pair};
 ghost use Rattle.jiter_steps.specs.StringReading.{body_at, text_form, text_in_form, checked, string_at};
-ghost use Rattle.jiter_steps.specs.StringDecoder.{text_view, digits_view, IfNumber, portion_view, stop_view, WantsMemory};
+ghost use Rattle.jiter_steps.specs.StringDecoder.{text_view, digits_view, IfNumber, portion_view, stop_view};
+ghost use Rattle.jiter_steps.specs.StringDecoder.{WantsMemory};
 ghost use Rattle.jiter_steps.specs.declared.string_decoder.AtStop.TheVariants as at_stop;
 ghost use Rattle.jiter_steps.specs.declared.string_decoder.Ending.TheVariants as ending;
 

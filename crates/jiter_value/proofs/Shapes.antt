@@ -41,7 +41,8 @@ inside-stands s shape.Object b = key-base (reverse s.nest.items) (length s.items
 
 -- the stacks with other open containers
 abbrev pub with_nest : Stacks → SmallVec Open → Stacks
-with_nest s n = record { items = s.items; members = s.members; nest = n; root = s.root; error = s.error; reused = s.reused }
+with_nest s n = record
+    { items = s.items; members = s.members; nest = n; root = s.root; error = s.error; reused = s.reused }
 
 -- above its own base a container that begins has no part, and below it stands what stood there
 no-parts : (s : Stacks) (h : Shape) → parts_above h (base_of h s) s.items.items s.members.items ≡ []

@@ -26,7 +26,8 @@ use Rattle.jiter_steps.specs.declared.parse.Shape.{Shape}
 use Rattle.jiter_steps.specs.declared.parse.Shape.TheVariants as shape
 use Rattle.jiter_steps.proofs.Reading.Values.{Advances}
 use Rattle.jiter_steps.proofs.Reading.Instances.{trees-advances}
-use Rattle.jiter_steps.proofs.Calls.Resumed.{IgnoresBegin, value_in-levels, value_in-limit, if_forgiven-no, resume-fault}
+use Rattle.jiter_steps.proofs.Calls.Resumed.{IgnoresBegin, value_in-levels, value_in-limit, if_forgiven-no}
+use Rattle.jiter_steps.proofs.Calls.Resumed.{resume-fault}
 use Rattle.jiter_steps.proofs.Calls.Resumed.{resume-forgiven, step-to, step-stuck, items-value, key-value, key-failed}
 use Rattle.jiter_steps.proofs.Calls.Resumed.{colon-failed, container-begins}
 use Rattle.jiter_value.specs.Settings.{forgives, rules}

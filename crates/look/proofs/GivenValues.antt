@@ -36,7 +36,8 @@ Each P (x ∷ xs) = P x × Each P xs
 abbrev pub Both : {K A : Type 0} → (K → Type 0) → (A → Type 0) → K × A → Type 0
 Both IsKey P m = IsKey m.0 × P m.1
 
--- With so many levels left a value is so, and inside a container that has it. What is scanned is so, and what is built of such
+-- With so many levels left a value is so, and inside a container that has it. What is scanned is so, and what is
+-- built of such
 -- parts.
 pub record Builds {K A : Type 0} (r : Rules K A) (t : List ℕ) (IsKey : K → Type 0) (Is IsInside : ℕ → A → Type 0)
     : Type 0 where
@@ -113,9 +114,12 @@ module _ {K A : Type 0} (r : Rules K A) (t : List ℕ) where
         container_at-gives (array_of r inner t i) (IsInside levels) (Is levels) each (builds.array levels i) i
     value_with-gives levels inner each i start.Object =
         container_at-gives (object_of r inner t i) (Both IsKey (IsInside levels)) (Is levels)
-        (λ j. behind_key-gives IsKey (IsInside levels) inner each j (r.key t j) (builds.key j)) (builds.object levels i) i
-    value_with-gives levels inner each i start.String = scalar_at-gives (Is levels) i (r.text t i) (builds.text levels i)
-    value_with-gives levels inner each i start.Number = scalar_at-gives (Is levels) i (r.number t i) (builds.number levels i)
+        (λ j. behind_key-gives IsKey (IsInside levels) inner each j (r.key t j) (builds.key j))
+            (builds.object levels i) i
+    value_with-gives levels inner each i start.String = scalar_at-gives (Is levels) i (r.text t i)
+        (builds.text levels i)
+    value_with-gives levels inner each i start.Number = scalar_at-gives (Is levels) i (r.number t i)
+        (builds.number levels i)
     value_with-gives levels inner each i (start.Literal l) =
         scalar_at-gives (Is levels) i (r.literal t l i) (builds.literal levels l i)
     value_with-gives levels inner each i start.Nothing = tt

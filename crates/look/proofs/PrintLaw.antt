@@ -76,7 +76,8 @@ module _ (names : Bool) (u : List ℕ) where
   }
 
   literal-again : (levels : ℕ) (l : Literal) → Wherever u (word_of l) (AgainTree levels (literal_tree l))
-  literal-again levels word i j l h = node-again levels (literal_tree word) (literal word i j) _ l h h (omega arith) refl
+  literal-again levels word i j l h = node-again levels (literal_tree word) (literal word i j) _ l h h (omega arith)
+      refl
 
   -- a number's print is a number's text, of the same number
   number-node : (levels : ℕ) (v : Tree) → IsNumber names v → Wherever u (print_of v) (AgainTree levels v)
@@ -133,7 +134,8 @@ module _ (names : Bool) (u : List ℕ) where
   tree-again levels Inside inside (tree.array js) s = λ i j l h.
       let lt = slice_get_within u i 91 h.0 in
       let a =
-      parts-again (items-grammar names u levels Anywhere (IsItemAt names u levels) (λ j n m at is. is)) {Like = SameItems}
+      parts-again (items-grammar names u levels Anywhere (IsItemAt names u levels) (λ j n m at is. is))
+          {Like = SameItems}
       refl (λ v n vs ns one more. ap₂ tree.item one more) print_of inside s.0 s.2 (i + 1) j (omega arith)
       (rw (s.1, item_prints-are s.0) at h.1) in
       node-again levels (tree.array js) (array i j (nodes_of a.again)) (print_of (tree.array js)) l h (h.0, a.spelled.0)

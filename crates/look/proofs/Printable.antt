@@ -67,7 +67,8 @@ literal_at-fits : (names : Bool) (levels : ℕ) (l : Literal) (x : Extent)
 literal_at-fits names levels l (taken u e) = literal-fits names levels l
 literal_at-fits names levels l (failed k j) = tt
 
-number-fits : (names : Bool) (levels : ℕ) (x : Number) → IsNumber names (number_tree x) → Fits names levels (number_tree x)
+number-fits : (names : Bool) (levels : ℕ) (x : Number) → IsNumber names (number_tree x)
+    → Fits names levels (number_tree x)
 number-fits names levels (integer z) h = h
 number-fits names levels (big w) h = h
 number-fits names levels (float w) h = h

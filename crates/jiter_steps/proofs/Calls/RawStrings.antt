@@ -7,7 +7,8 @@ use Rattle.std.proofs.lemmas.Option.{none-some}
 use Rattle.jiter_scan.specs.Scan.{is_stop, scan_stop}
 use Rattle.jiter_scan.specs.Kind.{eof_string}
 use Rattle.jiter_scan.specs.Scanned.{taken, failed}
-use Rattle.jiter_steps.specs.StringReading.{Portion, part, over, Stop, closed, unclosed, cut, portion_by, portion_at, Body}
+use Rattle.jiter_steps.specs.StringReading.{Portion, part, over, Stop, closed, unclosed, cut, portion_by, portion_at}
+use Rattle.jiter_steps.specs.StringReading.{Body}
 use Rattle.jiter_steps.specs.StringReading.{body_at, Form, raw, raw_kept, raw_form, between, text_in_form, content_at}
 use Rattle.jiter_steps.specs.RawString.{EndsAt}
 use Rattle.jiter_steps.proofs.Reading.Bodies.{body_at-portion_by, part-ahead}

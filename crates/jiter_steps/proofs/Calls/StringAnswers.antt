@@ -18,7 +18,8 @@ use Rattle.jiter_scan.proofs.Choices.{if-true, if-false}
 use Rattle.jiter_scan.proofs.Scanning.{ScalarWithin}
 use Rattle.jiter_steps.specs.ReadError.{UnlessRefused}
 use Rattle.jiter_steps.specs.StringDecoder.{text_view}
-use Rattle.jiter_steps.specs.StringReading.{Portion, part, over, portion_by, portion_at, Stop, closed, unclosed, cut, wrong}
+use Rattle.jiter_steps.specs.StringReading.{Portion, part, over, portion_by, portion_at, Stop, closed, unclosed, cut}
+use Rattle.jiter_steps.specs.StringReading.{wrong}
 use Rattle.jiter_steps.specs.StringReading.{is_cut, Body, before, join, body_at, Form, text_form, checked}
 use Rattle.jiter_steps.specs.StringReading.{text_in_form, content_at, string_at}
 use Rattle.jiter_steps.specs.declared.read_error.ReadError.{ReadError}

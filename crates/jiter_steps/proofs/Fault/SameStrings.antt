@@ -13,7 +13,8 @@ use Rattle.jiter_steps.specs.Escape.{short_escape, is_hex, unit_of, is_high, is_
 use Rattle.jiter_steps.specs.StringReading.{Stop, closed, unclosed, cut, wrong, Portion, part, over, bad_digit, unit_at}
 use Rattle.jiter_steps.specs.StringReading.{HexDigits, few, hex_digits_or, hex_digits_at, behind, unit_then}
 use Rattle.jiter_steps.specs.StringReading.{surrogate_pair, behind_high_backslash, behind_high, single}
-use Rattle.jiter_steps.specs.StringReading.{unicode_escape, short, behind_backslash, plain, portion_by, portion_at, Body}
+use Rattle.jiter_steps.specs.StringReading.{unicode_escape, short, behind_backslash, plain, portion_by, portion_at}
+use Rattle.jiter_steps.specs.StringReading.{Body}
 use Rattle.jiter_steps.specs.StringReading.{before, join, body_at, whole, text_in_form, content_at, string_at}
 use Rattle.jiter_steps.proofs.Fault.SameSpelling.{SameBefore, index-same}
 use Rattle.jiter_steps.proofs.Reading.Bounds.{both}

@@ -39,7 +39,8 @@ round-items : (n : Node) (ns : Nodes) (levels : ℕ) → nesting n < levels → 
 round-items n no_nodes levels d h = omega arith
 round-items n (node m ns) levels d h = omega arith
 
-round-members : (k : Key) (n : Node) (ms : NodeMembers) (levels : ℕ) → nesting n < levels → nesting_round_members ms ≤ levels
+round-members : (k : Key) (n : Node) (ms : NodeMembers) (levels : ℕ) → nesting n < levels
+    → nesting_round_members ms ≤ levels
     → nesting_round_members (member k n ms) ≤ levels
 round-members k n no_members levels d h = omega arith
 round-members k n (member l m ms) levels d h = omega arith
@@ -258,7 +259,8 @@ module _ (names : Bool) (t : List ℕ) where
   levels-inside levels i (done n e) h = (h.0, omega (arith, h.1))
   levels-inside levels i (fault k x stop) h = tt
 
-  pub inside_at-sound : (levels i : ℕ) → i < length t → InsideSound names t levels i (inside_at (nodes names) t levels i)
+  pub inside_at-sound : (levels i : ℕ) → i < length t
+      → InsideSound names t levels i (inside_at (nodes names) t levels i)
   unfolding inside_at
   inside_at-sound zero i h = tt
   inside_at-sound (suc levels) i h =

@@ -228,7 +228,8 @@ module _ (names : Bool) (t : List ℕ) where
         let begins = quote-begins t k.begin key.string.opens in
         record { begin = k.begin; end = end n; blanks = blanks; begins = begins; is = is; rest = rest }
 
-    more_members-parts : (ms : NodeMembers) (i e : ℕ) → SpellsMoreMembers names t i ms e → nesting_of_members ms < levels
+    more_members-parts : (ms : NodeMembers) (i e : ℕ) → SpellsMoreMembers names t i ms e
+        → nesting_of_members ms < levels
         → MoreMembers (members_list ms) i e
     more_members-parts no_members i e h d = h
     more_members-parts (member k n ms) i e h d =

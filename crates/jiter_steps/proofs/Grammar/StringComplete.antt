@@ -15,7 +15,8 @@ use Rattle.jiter_steps.specs.Piece.{IsPlain, IsUnit, IsEscape, Piece, SpellsChar
 use Rattle.jiter_steps.specs.Piece.{characters, text_of}
 use Rattle.jiter_scan.specs.Scanned.{taken}
 use Rattle.jiter_steps.specs.StringReading.{closed, part, over, unit_at, number, hex_digits_at, unicode_escape}
-use Rattle.jiter_steps.specs.StringReading.{behind_backslash, portion_by, portion_at, before, body_at, whole, content_at}
+use Rattle.jiter_steps.specs.StringReading.{behind_backslash, portion_by, portion_at, before, body_at, whole}
+use Rattle.jiter_steps.specs.StringReading.{content_at}
 use Rattle.jiter_steps.specs.StringReading.{string_at}
 use Rattle.jiter_scan.proofs.Standing.{stands-split}
 use Rattle.jiter_steps.proofs.Grammar.Utf8Shape.{AllFollow, lead}

@@ -26,7 +26,8 @@ returns-then-not-goes_on c =
     let value = c.digit_word.ensures ∙ ap decimal_of (chunk.ensures n (omega arith) (omega arith)) in
     record {
       int_part = int_part;
-      decimal = decimal_at-int_part t i (i + n) (get_or t (i + n) 0) int_part (slice_get-get_or t (i + n) 0 (omega arith))
+      decimal = decimal_at-int_part t i (i + n) (get_or t (i + n) 0) int_part
+          (slice_get-get_or t (i + n) 0 (omega arith))
           (sym c.goes_on.ensures ∙ c.if-not-goes_on.true);
       magnitude = magnitude_of-short t i (i + n) (omega arith) (omega arith) (omega arith) c.digit_word.result
           (omega arith) value;

@@ -9,5 +9,6 @@ skipping-init c =
     record {
       moves = record { same = refl; forward = omega arith };
       inside = c.requires;
-      same = sym (value_in-levels (only_ends a.allow_inf_nan) a.parser.now.bytes.now 0 a.parser.now.index (omega arith));
+      same = sym (value_in-levels (only_ends a.allow_inf_nan) a.parser.now.bytes.now 0 a.parser.now.index
+          (omega arith));
     }
