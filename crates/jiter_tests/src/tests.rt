@@ -7,10 +7,13 @@ use jiter::JsonValue;
 use std::alloc::Global;
 use std::test::Fail;
 
+mod alike;
 mod copies;
 mod cuts;
+mod every_size;
 mod faults;
 mod huge;
+mod kept;
 mod kernels;
 mod large;
 mod memory;
