@@ -1,4 +1,4 @@
-//! Rows of each part: positions and texts, numbers, kernels, blanks, strings, steps and skips.
+//! Rows of each part: sizes and errors, positions and texts, numbers, kernels, blanks, strings, steps and skips.
 mod blanks;
 mod kernels;
 mod number_ends;
@@ -6,6 +6,7 @@ mod numbers;
 mod plain;
 mod plain_numbers;
 mod raw_strings;
+mod sizes;
 mod skips;
 mod steps;
 mod strings;

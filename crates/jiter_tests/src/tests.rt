@@ -6,10 +6,13 @@ use crate::told::outcome_text;
 use jiter::JsonValue;
 use std::alloc::{AllocError, Global};
 
+mod alike;
 mod copies;
 mod cuts;
+mod every_size;
 mod faults;
 mod huge;
+mod kept;
 mod kernels;
 mod large;
 mod memory;
