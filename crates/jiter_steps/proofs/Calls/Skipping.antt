@@ -26,7 +26,7 @@ use Rattle.jiter_steps.proofs.Calls.Resumed.{container_in, container-begins, con
 use Rattle.jiter_steps.proofs.Reading.Values.{Advances, parts_at_is}
 use Rattle.jiter_scan.specs.NumberReading.{with_value, number_extent, number_at}
 
--- The end of a number alone, in the words of the reading that gives only_ends alone.
+-- The end of a number alone, in the words of the reading that gives ends alone.
 extent-again : (t : List ℕ) (i : ℕ) (x : Extent) → seen_as (λ n e. tt {0}) (with_value t i x) ≡ x
 extent-again t i (taken u e) = refl
 extent-again t i (failed k j) = refl

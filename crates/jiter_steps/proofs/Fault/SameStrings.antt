@@ -270,11 +270,11 @@ module _ (t u : List ℕ) (m : ℕ) (same : SameBefore t u m) where
   body-shown i b unclosed e ends = λ shown. absurd (true≢false shown.1.0)
   body-shown i b cut e ends = λ shown. absurd (true≢false shown.1.0)
   body-shown i b (wrong k j) e ends = λ shown.
-      let r = only_ends shown.0 in
+      let r = ends shown.0 in
       (r.0, wrong-ends i b (body_at u i) (subst IsWrong (sym e) tt) r.1)
   body-shown i b (closed e) is ends =
       if_case (λ x. SameScalar t m i x (content_at whole u i)) (utf8_valid_len b.bytes == length b.bytes) _ _
-      (λ valid shown. let r = only_ends shown.0 in (r.0, again r.1 ∙ if-true _ _ _ valid))
+      (λ valid shown. let r = ends shown.0 in (r.0, again r.1 ∙ if-true _ _ _ valid))
       (λ other shown. absurd (shown.1.1 refl)) where
         again : Ends t u m same b (body_at u i)
             → content_at whole u i ≡ text_in_form whole u i b.bytes b.owned (closed e)
