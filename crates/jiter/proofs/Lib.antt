@@ -3,6 +3,7 @@ pub mod Containers
 pub mod Copies
 pub mod OwnedTrees
 pub mod Peeking
+pub mod PlainReplies
 pub mod Refusals
 pub mod SkipReplies
 mod Rows

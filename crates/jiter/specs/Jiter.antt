@@ -1,6 +1,7 @@
 -- What the calls of the pull reader return, and where they leave it.
 use Rattle.std.specs.Prelude.{◌≡◌, ◌≢◌, ◌<◌, ◌≤◌, ◌+◌, ℕ, false, List, length, Result, Ok, Err, IfOk, IfErr, IfSome}
-use Rattle.std.specs.Prelude.{slice_get, slice_index, Option, Some, option_map}
+use Rattle.std.specs.Prelude.{slice_get, slice_index, Option, Some, None, option_map, [], take, Vec}
+use Rattle.std.specs.declared.alloc.Global.{Global}
 use Rattle.jiter_scan.specs.Ascii as ascii
 use Rattle.jiter_scan.specs.Kind.{fault_kind, out_of_memory}
 use Rattle.jiter_steps.specs.Literal.{start_of}
@@ -118,3 +119,8 @@ BeginsAt t i b = start_of (slice_index t i) ≡ b
 pub record BeginsAs (s : ReaderState) (b : Start) : Type 0 where
   pub within : s.position < length s.text
   pub is : b ≡ start_of (slice_index s.text s.position)
+
+-- the first so many bytes of a tape, if there is one
+abbrev pub front : Option (Vec ℕ Global) → ℕ → List ℕ
+front None n = []
+front (Some tape) n = take n tape.items

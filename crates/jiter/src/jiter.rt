@@ -27,6 +27,7 @@ mod arrays;
 mod objects;
 mod owned_values;
 mod places;
+mod plain;
 mod scalars;
 mod skips;
 mod texts;

@@ -194,7 +194,7 @@ module _ (t : List ℕ) where
         subst (λ x. Stands t i e (x ++ (d.int_part ++ (d.fraction ++ d.exponent)))) m all in
         extent-minus t names i e s.0
         (decimal_at-complete (i + 1) e d.int_part d.fraction d.exponent d.is_int_part d.limit d.is_fraction
-            d.is_exponent
+        d.is_exponent
         s.1 n)
 
   extent-name : (i e : ℕ) (w : List ℕ) → Stands t i e w → IsName w → number_extent true t i ≡ taken tt e

@@ -227,9 +227,9 @@ pub fn minus_end(bytes: &[u8], at: usize) -> usize
     if bytes[at] == b'-' { at + 1 } else { at }
 }
 
-// Behind the number at `at`, if it is short.
+/// The byte index behind the number at a byte index, if it is short.
 #[inline(always)]
-fn plain_number_end(bytes: &[u8], at: usize) -> Option<usize>
+pub fn plain_number_end(bytes: &[u8], at: usize) -> Option<usize>
     requires { at < length bytes.now }
     ensures end { IfSome result
         (λ e. (names : Bool) → number_extent names bytes.now at ≡ taken tt e) }

@@ -8,6 +8,7 @@
 -- fault, but for that of UTF-8 (SkipLaw). The machine: what its open containers, as frames, complete the reading of a
 -- value to (Resumed).
 pub mod DecodeSteps
+pub mod Decoded
 pub mod PlainAnswers
 pub mod PlainRuns
 pub mod RawStrings

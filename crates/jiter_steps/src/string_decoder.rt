@@ -256,13 +256,17 @@ fn escape_at(bytes: &[u8], at: usize) -> Option<(char, usize)>
     Some((c as char, at + 2))
 }
 
-// What stands where a run of plain bytes ends, an escape at once.
+// What stands where a run of plain bytes ends, the closing quote and an escape at once.
 #[inline(always)]
+#[tactic(auto, unfolding(crate::specs::StringReading::portion_at))]
 fn next_portion(bytes: &[u8], at: usize) -> AtStop
     requires within { at ≤ length bytes.now }
     requires stop { IfSome (slice_get bytes.now at) (λ b. is_stop b ≡ true) }
     ensures { portion_view result ≡ portion_at bytes.now at }
 {
+    if at < bytes.len() && bytes[at] == b'"' {
+        return AtStop::End(Ending::Closed(at + 1));
+    }
     match escape_at(bytes, at) {
         Some((c, end)) => AtStop::Escape(c, end),
         None => portion_at(bytes, at),
@@ -271,6 +275,7 @@ fn next_portion(bytes: &[u8], at: usize) -> AtStop
 
 // Decodes what stands from `from` on to the front of the tape, a run of plain bytes and an escape at a time,
 // and gives how many bytes that makes.
+#[inline(always)]
 #[tactic(auto, using(crate::proofs::Calls::PlainRuns::plain_run_stops))]
 fn decode(tape: &mut Vec<u8>, bytes: &[u8], from: usize) -> Result<(usize, Ending), Refused>
     requires { from ≤ length bytes.now }
@@ -427,6 +432,59 @@ fn decode_text<'j>(
     let (count, ending) = decode(tape, bytes, at + 1)?;
     let end = text_end(bytes, ending, keep)?;
     own_text(alloc, &tape.as_slice()[..count], at + 1, end, keep)
+}
+
+// How many bytes of a decoded content are its text: of one that is kept, without an unfinished character at their
+// end. Or how many are right before one that is wrong.
+fn checked_count(content: &[u8], keep: bool) -> Result<usize, usize>
+    ensures value { (i e : ℕ) → MatchResult result
+        (λ n. checked keep i true content.now e
+        ≡ taken (record { owned = true; bytes = take n content.now }) e)
+        (λ n. checked keep i true content.now e ≡ failed invalid_code_point (i + n)) }
+    ensures text { IfOk result (λ n. IsUtf8 (take n content.now)) }
+    ensures front { IfOk result (λ n. n ≤ length content.now) }
+    ensures within { IfErr result (λ n. n ≤ length content.now) }
+{
+    if content.is_ascii() {
+        return Ok(content.len());
+    }
+    match simdutf8::compat::from_utf8(content) {
+        Ok(_) => Ok(content.len()),
+        Err(e) => match e.error_len() {
+            Some(_) => Err(e.valid_up_to()),
+            None if keep => Ok(e.valid_up_to()),
+            None => Err(e.valid_up_to()),
+        },
+    }
+}
+
+/// Decodes the string with a backslash whose opening quote is at the byte index `at` to the front of the tape,
+/// and gives how many bytes its text has there, with the index behind its closing quote. The faults, and what
+/// `keep` keeps, are those of [`string_at`].
+#[inline(never)]
+pub fn decode_to(
+    tape: &mut Vec<u8>,
+    bytes: &[u8],
+    at: usize,
+    keep: bool,
+) -> Result<(usize, usize), ReadError>
+    requires within { at < length bytes.now }
+    requires backslash { WantsMemory bytes.now at }
+    ensures value { UnlessRefused result (λ r. Scans
+        (with_end (λ n. record { owned = true; bytes = take n tape.new.items })) r
+        (string_at (text_form keep) bytes.now at)) }
+    ensures text { IfOk result (λ r. IsUtf8 (take r.0 tape.new.items)) }
+    ensures front { IfOk result (λ r. r.0 ≤ vec_len tape.new) }
+{
+    let (count, ending) = decode(tape, bytes, at + 1)?;
+    let end = text_end(bytes, ending, keep)?;
+    match checked_count(&tape.as_slice()[..count], keep) {
+        Ok(fit) => Ok((fit, end)),
+        Err(right) => {
+            let fault = fault_at(FaultKind::InvalidUnicodeCodePoint, at + 1 + right);
+            Err(ReadError::Fault(fault))
+        }
+    }
 }
 
 /// Reads the string whose opening quote is at the byte index `at`, and gives its text with the index behind

@@ -115,7 +115,7 @@ module _ {K A : Type 0} (r : Rules K A) (t : List ℕ) where
     value_with-gives levels inner each i start.Object =
         container_at-gives (object_of r inner t i) (Both IsKey (IsInside levels)) (Is levels)
         (λ j. behind_key-gives IsKey (IsInside levels) inner each j (r.key t j) (builds.key j))
-            (builds.object levels i) i
+        (builds.object levels i) i
     value_with-gives levels inner each i start.String = scalar_at-gives (Is levels) i (r.text t i)
         (builds.text levels i)
     value_with-gives levels inner each i start.Number = scalar_at-gives (Is levels) i (r.number t i)

@@ -135,7 +135,7 @@ module _ (names : Bool) (u : List ℕ) where
       let lt = slice_get_within u i 91 h.0 in
       let a =
       parts-again (items-grammar names u levels Anywhere (IsItemAt names u levels) (λ j n m at is. is))
-          {Like = SameItems}
+      {Like = SameItems}
       refl (λ v n vs ns one more. ap₂ tree.item one more) print_of inside s.0 s.2 (i + 1) j (omega arith)
       (rw (s.1, item_prints-are s.0) at h.1) in
       node-again levels (tree.array js) (array i j (nodes_of a.again)) (print_of (tree.array js)) l h (h.0, a.spelled.0)

@@ -11,6 +11,7 @@ use crate::jiter::{Jiter, refusal};
 use crate::peek::Peek;
 use jiter_scan::errors::Fault;
 use jiter_steps::parse::{Shape, Start};
+use jiter_steps::plain::plain_step;
 
 impl<'j> Jiter<'j> {
     // Where a step led: an item's first byte, or None behind the closer.
@@ -48,6 +49,20 @@ impl<'j> Jiter<'j> {
         }
     }
 
+    // The same of what comes next, whatever it is.
+    #[cold]
+    #[inline(never)]
+    fn general_array(&mut self) -> JiterResult<Option<Peek>>
+        ensures moves { MovesOn self.old self.new }
+        ensures value { Replies (option_map byte_of) result self.new
+            (next self.old (array_read self.old)) }
+        ensures here { TellsHere result self.new }
+        ensures refusal { RefusesBytes self.old.text result }
+    {
+        let start = self.next_start()?;
+        self.read_array(start)
+    }
+
     /// The first byte of an array's first item, which is not consumed; None where the array is empty, and
     /// then its bracket is consumed (RFC 8259, 5).
     pub fn next_array(&mut self) -> JiterResult<Option<Peek>>
@@ -57,8 +72,10 @@ impl<'j> Jiter<'j> {
         ensures here { TellsHere result self.new }
         ensures refusal { RefusesBytes self.old.text result }
     {
-        let start = self.next_start()?;
-        self.read_array(start)
+        match self.plain_array() {
+            Some(told) => Ok(told),
+            None => self.general_array(),
+        }
     }
 
     /// The same where its bracket stands.
@@ -73,6 +90,19 @@ impl<'j> Jiter<'j> {
         self.read_array(Start::Array)
     }
 
+    // The step behind an item, whatever it leads to.
+    #[cold]
+    #[inline(never)]
+    fn general_step(&mut self) -> JiterResult<Option<Peek>>
+        ensures moves { MovesOn self.old self.new }
+        ensures value { Replies (option_map byte_of) result self.new (item_step self.old) }
+        ensures here { TellsHere result self.new }
+        ensures refusal { RefusesBytes self.old.text result }
+    {
+        let led = self.parser.step(Shape::Array);
+        self.item(led)
+    }
+
     /// Behind an item: the first byte of the next one, which is not consumed; None where the array ends, and
     /// then its bracket is consumed (RFC 8259, 5).
     pub fn array_step(&mut self) -> JiterResult<Option<Peek>>
@@ -81,7 +111,10 @@ impl<'j> Jiter<'j> {
         ensures here { TellsHere result self.new }
         ensures refusal { RefusesBytes self.old.text result }
     {
-        let led = self.parser.step(Shape::Array);
-        self.item(led)
+        let (at, what) = plain_step(self.parser.bytes, self.parser.index, Shape::Array);
+        match self.plain_item(at, what) {
+            Some(told) => Ok(told),
+            None => self.general_step(),
+        }
     }
 }

@@ -101,6 +101,7 @@ impl<'j> Jiter<'j> {
     }
 
     // The first key of the object that comes next.
+    #[inline(never)]
     fn take_first_key(&mut self, alloc: Global) -> JiterResult<Option<CowStr<'j>>>
         ensures moves { MovesOn self.old self.new }
         ensures value { UnlessMemory result (Replies (option_map text_view) result self.new
@@ -118,6 +119,7 @@ impl<'j> Jiter<'j> {
     }
 
     // Behind a member: the next key.
+    #[inline(never)]
     fn take_key(&mut self, alloc: Global) -> JiterResult<Option<CowStr<'j>>>
         ensures moves { MovesOn self.old self.new }
         ensures value { UnlessMemory result (Replies (option_map text_view) result self.new
@@ -226,6 +228,9 @@ impl<'j> Jiter<'j> {
         ensures* after { sem 𝓛 (LeavesReader (option_map (λ x. x.now)) result self.entry
             (reply_seen key_bytes (next self.old (object_read whole self.old)))) }
     {
+        if let Some(key) = self.plain_object() {
+            return Ok(key);
+        }
         let key = self.take_first_key(alloc)?;
         match key {
             Some(text) => {
@@ -276,6 +281,9 @@ impl<'j> Jiter<'j> {
         ensures* after { sem 𝓛 (LeavesReader (option_map (λ x. x.now)) result self.entry
             (reply_seen key_bytes (key_step whole self.old))) }
     {
+        if let Some(key) = self.plain_next_key() {
+            return Ok(key);
+        }
         let key = self.take_key(alloc)?;
         match key {
             Some(text) => {

@@ -51,14 +51,29 @@ impl<'j> Jiter<'j> {
         }
     }
 
-    /// Reads `null` (RFC 8259, 3).
-    pub fn next_null(&mut self) -> JiterResult<()>
+    // The same of what comes next, whatever it is.
+    #[cold]
+    #[inline(never)]
+    fn general_null(&mut self) -> JiterResult<()>
         ensures moves { MovesOn self.old self.new }
         ensures value { Replies (λ u. u) result self.new (next self.old (null_read self.old)) }
         ensures refusal { RefusesBytes self.old.text result }
     {
         let start = self.next_start()?;
         self.read_null(start)
+    }
+
+    /// Reads `null` (RFC 8259, 3).
+    pub fn next_null(&mut self) -> JiterResult<()>
+        ensures moves { MovesOn self.old self.new }
+        ensures value { Replies (λ u. u) result self.new (next self.old (null_read self.old)) }
+        ensures refusal { RefusesBytes self.old.text result }
+    {
+        if self.plain_null() {
+            Ok(())
+        } else {
+            self.general_null()
+        }
     }
 
     /// Reads `null` where its first byte stands.
@@ -86,14 +101,28 @@ impl<'j> Jiter<'j> {
         }
     }
 
-    /// Reads `true` or `false` (RFC 8259, 3).
-    pub fn next_bool(&mut self) -> JiterResult<bool>
+    // The same of what comes next, whatever it is.
+    #[cold]
+    #[inline(never)]
+    fn general_bool(&mut self) -> JiterResult<bool>
         ensures moves { MovesOn self.old self.new }
         ensures value { Replies (λ b. b) result self.new (next self.old (bool_read self.old)) }
         ensures refusal { RefusesBytes self.old.text result }
     {
         let start = self.next_start()?;
         self.read_bool(start)
+    }
+
+    /// Reads `true` or `false` (RFC 8259, 3).
+    pub fn next_bool(&mut self) -> JiterResult<bool>
+        ensures moves { MovesOn self.old self.new }
+        ensures value { Replies (λ b. b) result self.new (next self.old (bool_read self.old)) }
+        ensures refusal { RefusesBytes self.old.text result }
+    {
+        match self.plain_bool() {
+            Some(truth) => Ok(truth),
+            None => self.general_bool(),
+        }
     }
 
     /// The same where the caller has peeked.
@@ -215,8 +244,10 @@ impl<'j> Jiter<'j> {
         }
     }
 
-    /// Reads a number, and gives its own bytes.
-    pub fn next_number_bytes(&mut self) -> JiterResult<&'j [u8]>
+    // The same of what comes next, whatever it is.
+    #[cold]
+    #[inline(never)]
+    fn general_number_bytes(&mut self) -> JiterResult<&'j [u8]>
         ensures moves { MovesOn self.old self.new }
         ensures value { Replies (λ b. b.now) result self.new
             (next self.old (number_bytes_read self.old)) }
@@ -224,6 +255,19 @@ impl<'j> Jiter<'j> {
     {
         let start = self.next_start()?;
         self.read_number_bytes(start)
+    }
+
+    /// Reads a number, and gives its own bytes.
+    pub fn next_number_bytes(&mut self) -> JiterResult<&'j [u8]>
+        ensures moves { MovesOn self.old self.new }
+        ensures value { Replies (λ b. b.now) result self.new
+            (next self.old (number_bytes_read self.old)) }
+        ensures refusal { RefusesBytes self.old.text result }
+    {
+        match self.plain_number_bytes() {
+            Some(bytes) => Ok(bytes),
+            None => self.general_number_bytes(),
+        }
     }
 
     /// The same where the caller has peeked.

@@ -1,20 +1,70 @@
 //! The pull reader's texts.
 ghost use Rattle.std.specs.Borrow.{sem};
-ghost use Rattle.std.specs.Prelude.{◌≡◌, ◌<◌, ℕ, IfOk, if◌then◌else◌, length};
+ghost use Rattle.std.specs.Prelude.{◌≡◌, ◌<◌, ◌≤◌, ℕ, IfOk, IfSome, Some, if◌then◌else◌, length, slice_get, true};
+ghost use Rattle.std.specs.Prelude.{take, vec_len};
+ghost use Rattle.std.specs.Str.{IsUtf8};
 ghost use Rattle.jiter_scan.specs.Ascii as ascii;
+ghost use Rattle.jiter_scan.specs.Scanned.{taken};
+ghost use Rattle.jiter_steps.specs.Blank.{past_blanks};
 ghost use Rattle.jiter_steps.specs.RawString.{raw_view};
 ghost use Rattle.jiter_steps.specs.StringDecoder.{text_view, WantsMemory};
-ghost use Rattle.jiter_steps.specs.StringReading.{string_at, whole, kept, raw, raw_kept};
+ghost use Rattle.jiter_steps.specs.StringReading.{string_at, text_form, whole, kept, raw, raw_kept};
 ghost use Rattle.jiter.specs.Reader.{value_place, next, known, gave, scalar_reply, str_read, bytes_read};
 ghost use Rattle.jiter.specs.Jiter.{MovesOn, Replies, RefusesBytes, UnlessMemory, WhereMemory, IndexWithin, reply_seen};
-ghost use Rattle.jiter.specs.Jiter.{text_bytes, BeginsAs, BeginsAt, RefusesAs, StandsAt};
+ghost use Rattle.jiter.specs.Jiter.{front, text_bytes, BeginsAs, BeginsAt, RefusesAs, StandsAt};
 ghost use Rattle.jiter.specs.Lending.{LeavesReader};
 
 use crate::errors::{JiterResult, JsonType};
 use crate::jiter::{Jiter, refusal, refusal_at};
+use jiter_scan::simd::scan_string;
+use jiter_scan::text::utf8_text;
+use jiter_scan::word::byte_at;
 use jiter_steps::parse::Start;
+use jiter_steps::plain::peek;
+use jiter_steps::string_decoder::decode_to;
 use std::alloc::Global;
 use std::borrow::CowStr;
+
+// The string with a backslash that comes next, decoded to the front of the tape: how many bytes its text has there, and
+// the place behind it. None where something else comes next, or the string is refused.
+#[inline(never)]
+fn decode_next(tape: &mut Vec<u8>, bytes: &[u8], from: usize, keep: bool) -> Option<(usize, usize)>
+    requires { from ≤ length bytes.now }
+    ensures quote { IfSome result (λ _. slice_get bytes.now (past_blanks bytes.now from) ≡ Some ascii.quote) }
+    ensures value { IfSome result (λ r. string_at (text_form keep) bytes.now (past_blanks bytes.now from)
+        ≡ taken (record { owned = true; bytes = take r.0 tape.new.items }) r.1) }
+    ensures text { IfSome result (λ r. IsUtf8 (take r.0 tape.new.items)) }
+    ensures levels { IfSome result (λ r. r.0 ≤ vec_len tape.new) }
+    ensures within { IfSome result (λ r. (from ≤ r.1) × (r.1 ≤ length bytes.now)) }
+{
+    let (at, byte) = peek(bytes, from);
+    match byte {
+        Some(b'"') => {}
+        _ => return None,
+    }
+    let (to, _) = scan_string(bytes, at + 1);
+    match byte_at(bytes, to) {
+        Some(b'\\') => {}
+        _ => return None,
+    }
+    match decode_to(tape, bytes, at, keep) {
+        Ok((count, end)) => Some((count, end)),
+        Err(_) => None,
+    }
+}
+
+// The text at the front of the tape.
+#[inline(always)]
+fn text_on(tape: &Option<Vec<u8>>, count: usize) -> &str
+    requires text { IsUtf8 (front tape.now count) }
+    requires levels { IfSome tape.now (λ v. count ≤ vec_len v) }
+    ensures { result.now ≡ front tape.now count }
+{
+    match tape {
+        Some(tape) => utf8_text(&tape.as_slice()[..count]),
+        None => "",
+    }
+}
 
 impl<'j> Jiter<'j> {
     // The buffer for decoded texts, which is made where there is none.
@@ -25,6 +75,22 @@ impl<'j> Jiter<'j> {
             Some(tape) => tape,
             None => Vec::new(alloc),
         }
+    }
+
+    // The buffer is put back.
+    fn put_tape(&mut self, tape: Vec<u8>)
+        ensures { self.new ≡ self.old }
+    {
+        self.tape = Some(tape);
+    }
+
+    // The bytes, and whether cut strings are kept.
+    #[inline(always)]
+    fn source(&self) -> (&'j [u8], bool)
+        ensures bytes { result.0.now ≡ self.now.text }
+        ensures keep { result.1 ≡ self.now.partial_strings }
+    {
+        (self.parser.bytes, self.allow_partial_strings)
     }
 
     // The text of the string where the reader stands; of one that the end of input may cut, if so asked.
@@ -64,6 +130,7 @@ impl<'j> Jiter<'j> {
     }
 
     // The next value's text.
+    #[inline(never)]
     fn take_str(&mut self, alloc: Global) -> JiterResult<CowStr<'j>>
         ensures moves { MovesOn self.old self.new }
         ensures value { UnlessMemory result (Replies text_view result self.new
@@ -93,8 +160,23 @@ impl<'j> Jiter<'j> {
         ensures* after { sem 𝓛 (LeavesReader (λ x. x.now) result self.entry
             (reply_seen text_bytes (next self.old (str_read self.old)))) }
     {
-        self.text = self.take_str(alloc)?;
-        Ok(self.text.as_str())
+        if let Some(text) = self.plain_str() {
+            return Ok(text);
+        }
+        let mut tape = self.take_tape(alloc);
+        let (bytes, keep) = self.source();
+        match decode_next(&mut tape, bytes, self.current_index(), keep) {
+            Some((count, end)) => {
+                self.tape = Some(tape);
+                self.parser.index = end;
+                Ok(text_on(&self.tape, count))
+            }
+            None => {
+                self.put_tape(tape);
+                self.text = self.take_str(alloc)?;
+                Ok(self.text.as_str())
+            }
+        }
     }
 
     /// The same where its opening quote stands.

@@ -144,7 +144,7 @@ module _ (names : Bool) (t : List ℕ) where
       → behind (innermost b fs) fs parts ((innermost b fs).part j) ≡ led_on b fs (value_inside b t j)
   part-led shape.Array fs items j =
       behind-any (innermost shape.Array fs) (λ e ps qs. refl) fs items []
-          (value_in (only_ends names) t (suc (length fs)) j)
+      (value_in (only_ends names) t (suc (length fs)) j)
   part-led shape.Object fs members j = key-step fs members j (seen_as (λ s e. tt) (string_at raw t j))
 
   parts-led : (b : Shape) (fs : Frames) (parts : List (Part (only_ends names) t b)) (i : ℕ) (s : Step) → Ahead t i s
@@ -152,7 +152,7 @@ module _ (names : Bool) (t : List ℕ) where
   parts-led b fs parts i (more j) h =
       ap (resumed fs)
       (parts_at_is (only_ends names) t (innermost b fs) (container_in-goes (only_ends names) t good b (length fs))
-          parts j h.1)
+      parts j h.1)
       ∙ part-led b fs parts j
   parts-led b fs parts i (closed e) h = refl
   parts-led b fs parts i (stuck k j) h = fault-passes fs k j j

@@ -295,13 +295,13 @@ module _ (names : Bool) (t : List ℕ) (mode : PartialMode) where
               along (grammar.string ps b e) _ _ (string-left names t k mode ps b e lt cuts) refl (kept-grows ps b e lt)
     grows-below (suc levels) (grammar.array b e ns) h d c =
         container-grows Extends (λ n. n) item_seen (λ n v w more. more) levels (grows-below levels)
-            (grammar.array b e ns)
+        (grammar.array b e ns)
         (λ vs. tree.array (items_of vs)) (b + 1) e (nodes_list ns) items-grow
         (λ j lt. array-left names t j mode b e ns lt) (items-order names t levels ns (b + 1) e h.1 (omega arith))
         (cuts-items ns c)
     grows-below (suc levels) (grammar.object b e ms) h d c =
         container-grows ExtendsMember (λ m. m.1) (member_seen t) (λ m v w more. (refl, more)) levels
-            (grows-below levels)
+        (grows-below levels)
         (grammar.object b e ms) (λ ms. tree.object (members_of ms)) (b + 1) e (members_list ms) members-grow
         (λ j lt. object-left names t j mode b e ms lt) (members-order names t levels ms (b + 1) e h.1 (omega arith))
         (cuts-members ms c)

@@ -230,7 +230,7 @@ module _ (names : Bool) where
     container-open : {P : Type 0} {closer : ℕ} {Begins : ℕ → Type 0} {IsPart : List ℕ → ℕ → P → ℕ → Type 0}
         (Are MoreAre : List ℕ → List P → ℕ → ℕ → Type 0) (c : Container P Node)
         → Delimits t c.first c.next closer Begins → Sticks t c.first c.next → Goes c t
-            → Fillable closer IsPart t c Begins
+        → Fillable closer IsPart t c Begins
         → ((u : List ℕ) → Grammar u closer Anywhere (IsPart u) (Are u) (MoreAre u))
         → (i b : ℕ) → slice_get t i ≡ Some b
         → ((u : List ℕ) (ps : List P) → slice_get u i ≡ Some b → Are u ps (i + 1) (length u)
@@ -332,7 +332,7 @@ module _ (names : Bool) where
   inside_at-open t zero i h = no_live
   inside_at-open t (suc levels) i h =
       levels-inside t levels i _
-          (value_with-open t levels (inside_at-open t levels) i h (start_of (slice_index t i)) refl)
+      (value_with-open t levels (inside_at-open t levels) i h (start_of (slice_index t i)) refl)
 
   -- Where a value's reading meets a fault that can go on, the value can be ended.
   pub value_at-open : (t : List ℕ) (levels i : ℕ) → i < length t

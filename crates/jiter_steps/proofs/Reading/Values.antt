@@ -165,7 +165,7 @@ module _ {K A : Type 0} (r : Rules K A) (t : List ℕ) where
       (omega arith, omega arith, fault-byte t recursion_limit i (λ e. cc) refl (omega arith))
   inside_at-within good (suc levels) i h =
       value_with-within good (λ j. inside_at r t levels j) (inside_at-within good levels) i
-          (start_of (slice_index t i)) h
+      (start_of (slice_index t i)) h
 
   pub value_at-within : Advances r t → (levels : ℕ) → AllWithin t (value_at r t levels)
   value_at-within good levels i h =

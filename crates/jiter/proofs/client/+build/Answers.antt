@@ -24,7 +24,7 @@ build_array-loop-next-init t c =
     in
     rw c.new-items.ensures.items
     (begins (items-laws s0 c.args.levels) 91 c.requires.here
-        (rw (array-opens s0 c.args.levels c.requires.here) at opened))
+    (rw (array-opens s0 c.args.levels c.requires.here) at opened))
 
 pub build_array-returns-in_err-item-clause-value : goal.build_array-returns-in_err-item-clause-value
 build_array-returns-in_err-item-clause-value t c =
@@ -112,7 +112,7 @@ build_inside-returns-then-levels-eq0-clause-value t c =
       moves = record { same = refl; forward = omega arith; within = omega (arith, at.within, at.value) };
       value =
           λ m. ap value_reply
-              (inside_at-none (owned_trees s.names) s.text c.args.levels s.position c.if-levels-eq0.true)
+          (inside_at-none (owned_trees s.names) s.text c.args.levels s.position c.if-levels-eq0.true)
           ∙ ap (λ x. refused (json_error recursion_limit) x s.position) (sym at.value);
       place = λ m. sym at.value;
     }

@@ -13,7 +13,7 @@ invariant-closing l = record {
       → resume (only_ends names) l.fn.parser.bytes.now (open_frames l.fn.nest.objects l.fn.nest.depth)
       (done tt l.fn.parser.index)
       ≡ resume (only_ends names) l.fn.parser.bytes.now (open_frames l.nest.objects l.nest.depth)
-          (done tt l.parser.index);
+      (done tt l.parser.index);
 }
 
 abbrev pub decreases-closing : goal.decreases-closing

@@ -1,0 +1,290 @@
+//! The plain way of the pull reader: what comes next where one look tells it, with answers that stay in registers. Of
+//! what is not plain nothing is read, and the reader stays where it stands.
+ghost use Rattle.std.specs.Prelude.{◌≡◌, ◌+◌, ◌<◌, ◌≤◌, Bool, IfSome, None, Some, false, true, length, option_map};
+ghost use Rattle.jiter_scan.specs.Ascii as ascii;
+ghost use Rattle.jiter_scan.specs.Scanned.{taken};
+ghost use Rattle.jiter_steps.specs.Plain.{IsNext};
+ghost use Rattle.jiter_steps.specs.Step.{Step};
+ghost use Rattle.jiter_steps.specs.StringReading.{string_at, text_form, whole};
+ghost use Rattle.jiter_steps.specs.declared.parse.Literal.{Literal};
+ghost use Rattle.jiter_steps.specs.declared.parse.Start.{Start};
+ghost use Rattle.jiter_steps.specs.Literal.{literal_at};
+ghost use Rattle.jiter.specs.Reader.{next, gave, null_read, bool_read, number_bytes_read, str_read};
+ghost use Rattle.jiter.specs.Reader.{item_reply, array_read, key_reply, member_reply, object_read, key_step};
+ghost use Rattle.jiter.specs.Jiter.{MovesOn, StandsAt, StandsBefore, byte_of, reply_seen, text_bytes, key_bytes};
+
+use crate::jiter::Jiter;
+use crate::peek::Peek;
+use jiter_scan::number_extent::plain_number_end;
+use jiter_scan::simd::scan_string;
+use jiter_steps::parse::{Literal, Shape};
+use jiter_steps::plain::{
+    Next, ascii_between, peek, plain_first, plain_literal_end, plain_step, text_between,
+};
+
+// The text of the string at a place, if it has no backslash and is UTF-8.
+#[inline(always)]
+fn plain_text<'j>(bytes: &'j [u8], at: usize) -> Option<&'j str>
+    requires { at < length bytes.now }
+    ensures value { IfSome result (λ text. (keep : Bool) → string_at (text_form keep) bytes.now at
+        ≡ taken (record { owned = false; bytes = text.now }) (at + length text.now + 2)) }
+    ensures within { IfSome result (λ text. at + length text.now + 2 ≤ length bytes.now) }
+{
+    let (to, low) = scan_string(bytes, at + 1);
+    if to >= bytes.len() || bytes[to] != b'"' {
+        return None;
+    }
+    if low {
+        Some(ascii_between(bytes, at, to))
+    } else {
+        text_between(bytes, at, to)
+    }
+}
+
+impl<'j> Jiter<'j> {
+    // The literal at a place, if it stands there, to whose end the reader moves.
+    #[inline(always)]
+    fn plain_literal_at(&mut self, at: usize, literal: Literal) -> bool
+        requires within { (self.old.position ≤ at) × (at < length self.old.text) }
+        ensures moves { MovesOn self.old self.new }
+        ensures value { result ≡ true → literal_at self.old.text literal at ≡ taken tt self.new.position }
+        ensures same { result ≡ false → self.new ≡ self.old }
+    {
+        match plain_literal_end(self.parser.bytes, at, literal) {
+            Some(end) => {
+                self.parser.index = end;
+                true
+            }
+            None => false,
+        }
+    }
+
+    // Whether `null` comes next, to whose end the reader moves.
+    #[inline(always)]
+    pub(super) fn plain_null(&mut self) -> bool
+        ensures moves { MovesOn self.old self.new }
+        ensures value { result ≡ true → next self.old (null_read self.old) ≡ gave tt self.new.position }
+        ensures same { result ≡ false → self.new ≡ self.old }
+    {
+        match peek(self.parser.bytes, self.parser.index) {
+            (at, Some(b'n')) => self.plain_literal_at(at, Literal::Null),
+            _ => false,
+        }
+    }
+
+    // The truth value that comes next, if one does, to whose end the reader moves.
+    #[inline(always)]
+    pub(super) fn plain_bool(&mut self) -> Option<bool>
+        ensures moves { MovesOn self.old self.new }
+        ensures value { IfSome result
+            (λ b. next self.old (bool_read self.old) ≡ gave b self.new.position) }
+        ensures same { result ≡ None → self.new ≡ self.old }
+    {
+        match peek(self.parser.bytes, self.parser.index) {
+            (at, Some(b't')) if self.plain_literal_at(at, Literal::True) => Some(true),
+            (at, Some(b'f')) if self.plain_literal_at(at, Literal::False) => Some(false),
+            _ => None,
+        }
+    }
+
+    // The bytes of the number at a place, if it is short, to whose end the reader moves.
+    #[inline(always)]
+    pub(super) fn plain_number_bytes_at(&mut self, at: usize) -> Option<&'j [u8]>
+        requires within { (self.old.position ≤ at) × (at < length self.old.text) }
+        ensures moves { MovesOn self.old self.new }
+        ensures value { IfSome result (λ b. number_bytes_read self.old at Start.Number
+            ≡ gave b.now self.new.position) }
+        ensures same { result ≡ None → self.new ≡ self.old }
+    {
+        let end = plain_number_end(self.parser.bytes, at)?;
+        self.parser.index = end;
+        Some(&self.parser.bytes[at..end])
+    }
+
+    // The bytes of the number that comes next, if it is short.
+    #[inline(always)]
+    pub(super) fn plain_number_bytes(&mut self) -> Option<&'j [u8]>
+        ensures moves { MovesOn self.old self.new }
+        ensures value { IfSome result (λ b. next self.old (number_bytes_read self.old)
+            ≡ gave b.now self.new.position) }
+        ensures same { result ≡ None → self.new ≡ self.old }
+    {
+        match peek(self.parser.bytes, self.parser.index) {
+            (at, Some(b'0'..=b'9' | b'-')) => self.plain_number_bytes_at(at),
+            _ => None,
+        }
+    }
+
+    // The text of the string at a place, if it is plain, to whose end the reader moves.
+    #[inline(always)]
+    pub(super) fn plain_text_at(&mut self, at: usize) -> Option<&'j str>
+        requires within { (self.old.position ≤ at) × (at < length self.old.text) }
+        ensures moves { MovesOn self.old self.new }
+        ensures value { IfSome result (λ text. (keep : Bool) → string_at (text_form keep) self.old.text at
+            ≡ taken (record { owned = false; bytes = text.now }) self.new.position) }
+        ensures same { result ≡ None → self.new ≡ self.old }
+    {
+        let text = plain_text(self.parser.bytes, at)?;
+        self.parser.index = at + text.len() + 2;
+        Some(text)
+    }
+
+    // The text that comes next, if it is plain.
+    #[inline(always)]
+    pub(super) fn plain_str(&mut self) -> Option<&'j str>
+        ensures moves { MovesOn self.old self.new }
+        ensures value { IfSome result (λ text. reply_seen text_bytes (next self.old (str_read self.old))
+            ≡ gave text.now self.new.position) }
+        ensures same { result ≡ None → self.new ≡ self.old }
+    {
+        match peek(self.parser.bytes, self.parser.index) {
+            (at, Some(b'"')) => self.plain_text_at(at),
+            _ => None,
+        }
+    }
+
+    // Where a step of an array led to: an item's first byte, or None behind the closer.
+    #[inline(always)]
+    pub(super) fn plain_item(&mut self, at: usize, what: Next) -> Option<Option<Peek>>
+        requires within { (self.old.position ≤ at) × (at ≤ length self.old.text) }
+        requires part { what ≡ Next.Part → at < length self.old.text }
+        ensures moves { MovesOn self.old self.new }
+        ensures value { (s : Step) → IsNext at what s → IfSome result
+            (λ told. item_reply self.old.text s ≡ gave (option_map byte_of told) self.new.position) }
+        ensures here { IfSome result (λ told. IfSome told (λ p. StandsAt self.new (byte_of p))) }
+        ensures same { result ≡ None → self.new ≡ self.old }
+    {
+        match what {
+            Next::Part => {
+                self.parser.index = at;
+                Some(Some(Peek::new(self.parser.bytes[at])))
+            }
+            Next::End => {
+                self.parser.index = at;
+                Some(None)
+            }
+            Next::Stuck => None,
+        }
+    }
+
+    // The first item of the array whose bracket is at a place.
+    #[inline(always)]
+    pub(super) fn plain_first_item(&mut self, at: usize) -> Option<Option<Peek>>
+        requires within { (self.old.position ≤ at) × (at < length self.old.text) }
+        ensures moves { MovesOn self.old self.new }
+        ensures value { IfSome result (λ told. array_read self.old at Start.Array
+            ≡ gave (option_map byte_of told) self.new.position) }
+        ensures here { IfSome result (λ told. IfSome told (λ p. StandsAt self.new (byte_of p))) }
+        ensures same { result ≡ None → self.new ≡ self.old }
+    {
+        let (next, what) = plain_first(self.parser.bytes, at + 1, Shape::Array);
+        self.plain_item(next, what)
+    }
+
+    // The first item of the array that comes next.
+    #[inline(always)]
+    pub(super) fn plain_array(&mut self) -> Option<Option<Peek>>
+        ensures moves { MovesOn self.old self.new }
+        ensures value { IfSome result (λ told. next self.old (array_read self.old)
+            ≡ gave (option_map byte_of told) self.new.position) }
+        ensures here { IfSome result (λ told. IfSome told (λ p. StandsAt self.new (byte_of p))) }
+        ensures same { result ≡ None → self.new ≡ self.old }
+    {
+        match peek(self.parser.bytes, self.parser.index) {
+            (at, Some(b'[')) => self.plain_first_item(at),
+            _ => None,
+        }
+    }
+
+    // The key at a place with its colon, if both are plain, to behind which the reader moves.
+    #[inline(always)]
+    fn plain_key_at(&mut self, at: usize) -> Option<&'j str>
+        requires within { (self.old.position ≤ at) × (at < length self.old.text) }
+        ensures moves { MovesOn self.old self.new }
+        ensures value { IfSome result (λ key. key_reply self.old.text at (string_at whole self.old.text at)
+            ≡ gave (Some (record { owned = false; bytes = key.now })) self.new.position) }
+        ensures colon { IfSome result (λ _. StandsBefore self.old.text self.new.position ascii.colon) }
+        ensures same { result ≡ None → self.new ≡ self.old }
+    {
+        let key = plain_text(self.parser.bytes, at)?;
+        match peek(self.parser.bytes, at + key.len() + 2) {
+            (colon, Some(b':')) => {
+                self.parser.index = colon + 1;
+                Some(key)
+            }
+            _ => None,
+        }
+    }
+
+    // Where a step of an object led to: the key there with its colon, or None behind the closer.
+    #[inline(always)]
+    pub(super) fn plain_member(&mut self, at: usize, what: Next) -> Option<Option<&'j str>>
+        requires within { (self.old.position ≤ at) × (at ≤ length self.old.text) }
+        requires part { what ≡ Next.Part → at < length self.old.text }
+        ensures moves { MovesOn self.old self.new }
+        ensures value { (s : Step) → IsNext at what s → IfSome result
+            (λ key. reply_seen key_bytes (member_reply whole self.old.text s)
+            ≡ gave (option_map (λ x. x.now) key) self.new.position) }
+        ensures colon { IfSome result
+            (λ key. IfSome key (λ _. StandsBefore self.old.text self.new.position ascii.colon)) }
+        ensures same { result ≡ None → self.new ≡ self.old }
+    {
+        match what {
+            Next::Part => match self.plain_key_at(at) {
+                Some(key) => Some(Some(key)),
+                None => None,
+            },
+            Next::End => {
+                self.parser.index = at;
+                Some(None)
+            }
+            Next::Stuck => None,
+        }
+    }
+
+    // The first key of the object whose bracket is at a place.
+    #[inline(always)]
+    pub(super) fn plain_first_key(&mut self, at: usize) -> Option<Option<&'j str>>
+        requires within { (self.old.position ≤ at) × (at < length self.old.text) }
+        ensures moves { MovesOn self.old self.new }
+        ensures value { IfSome result (λ key. reply_seen key_bytes (object_read whole self.old at Start.Object)
+            ≡ gave (option_map (λ x. x.now) key) self.new.position) }
+        ensures colon { IfSome result
+            (λ key. IfSome key (λ _. StandsBefore self.old.text self.new.position ascii.colon)) }
+        ensures same { result ≡ None → self.new ≡ self.old }
+    {
+        let (next, what) = plain_first(self.parser.bytes, at + 1, Shape::Object);
+        self.plain_member(next, what)
+    }
+
+    // The first key of the object that comes next.
+    #[inline(always)]
+    pub(super) fn plain_object(&mut self) -> Option<Option<&'j str>>
+        ensures moves { MovesOn self.old self.new }
+        ensures value { IfSome result
+            (λ key. reply_seen key_bytes (next self.old (object_read whole self.old))
+            ≡ gave (option_map (λ x. x.now) key) self.new.position) }
+        ensures colon { IfSome result
+            (λ key. IfSome key (λ _. StandsBefore self.old.text self.new.position ascii.colon)) }
+        ensures same { result ≡ None → self.new ≡ self.old }
+    {
+        match peek(self.parser.bytes, self.parser.index) {
+            (at, Some(b'{')) => self.plain_first_key(at),
+            _ => None,
+        }
+    }
+
+    // The key behind a member, if one is there.
+    #[inline(always)]
+    pub(super) fn plain_next_key(&mut self) -> Option<Option<&'j str>>
+        ensures moves { MovesOn self.old self.new }
+        ensures value { IfSome result (λ key. reply_seen key_bytes (key_step whole self.old)
+            ≡ gave (option_map (λ x. x.now) key) self.new.position) }
+        ensures colon { IfSome result
+            (λ key. IfSome key (λ _. StandsBefore self.old.text self.new.position ascii.colon)) }
+        ensures same { result ≡ None → self.new ≡ self.old }
+    {
+        let (at, what) = plain_step(self.parser.bytes, self.parser.index, Shape::Object);
+        self.plain_member(at, what)
+    }
+}
