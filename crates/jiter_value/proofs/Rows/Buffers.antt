@@ -35,7 +35,7 @@ module _ (error : ReadError) where
     nest = record { items = os; capacity = 8 };
     root = v;
     error = error;
-    kept = false;
+    reused = false;
   }
 
   module _ (es : Vec JsonValue Global) (ms : Vec Member Global) where
