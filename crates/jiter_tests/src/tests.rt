@@ -10,6 +10,7 @@ mod alike;
 mod copies;
 mod cuts;
 mod every_size;
+mod expect;
 mod faults;
 mod huge;
 mod kept;

@@ -2,8 +2,6 @@
 use jiter::{JsonError, JsonErrorType as Kind, JsonValue, PartialMode};
 use std::alloc::{AllocError, Global};
 use std::borrow::CowStr;
-use std::fmt::Debug;
-use std::process::Abort;
 
 // A text in quotes, behind the word `owned` where it is not borrowed.
 fn append_text(text: &CowStr<'_>, out: &mut String) -> Result<(), AllocError> {
@@ -107,34 +105,4 @@ pub fn answer_text(
         alloc,
         &JsonValue::parse_with_config(alloc, bytes, allow_inf_nan, mode),
     )
-}
-
-/// Asserts that a text was told, and that it is this one; a failure shows what was asked.
-pub fn expect_text(
-    rt: &impl Abort,
-    told: Result<String, AllocError>,
-    wanted: &str,
-    asked: &impl Debug,
-) {
-    match told {
-        Ok(seen) => assert_eq!(*rt; seen.as_str(), wanted, "of {asked:?}"),
-        Err(_) => assert!(*rt; false, "no memory for the text of {asked:?}"),
-    }
-}
-
-/// Asserts that a fault was met, of this kind and at this index; a failure shows what was asked.
-pub fn expect_fault(
-    rt: &impl Abort,
-    seen: &Option<(Kind, usize)>,
-    kind: &Kind,
-    index: usize,
-    asked: &impl Debug,
-) {
-    match seen {
-        Some((other, place)) => {
-            assert_eq!(*rt; *other, *kind, "of {asked:?}");
-            assert_eq!(*rt; *place, index, "of {asked:?}");
-        }
-        None => assert!(*rt; false, "no fault of {asked:?}"),
-    }
 }

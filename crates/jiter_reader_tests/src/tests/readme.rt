@@ -1,9 +1,10 @@
 //! The examples of README.md and docs/CALLING.md, with what each prints, and each name that `jiter` exports.
+use crate::tests::expect::expect_text;
 use jiter::{
     Jiter, JiterResult, JsonArray, JsonError, JsonErrorType, JsonObject, JsonResult, JsonValue,
     JsonValueScratch, LinePosition, Machine, NumberAny, NumberInt, PartialMode, Peek, Turn,
 };
-use jiter_tests::told::{expect_text, text_of};
+use jiter_tests::told::text_of;
 use std::alloc::{AllocError, Global};
 use std::borrow::CowStr;
 use std::test::*;

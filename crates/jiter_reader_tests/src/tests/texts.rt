@@ -1,6 +1,6 @@
 //! What the errors of the pull reader print.
+use crate::tests::expect::expect_text;
 use jiter::{Jiter, JiterError, JiterErrorType, JsonError, JsonErrorType, JsonType, LinePosition};
-use jiter_tests::told::expect_text;
 use std::alloc::{AllocError, Global};
 use std::error::Error;
 use std::test::*;

@@ -1,6 +1,7 @@
 //! Rows of bytes, each with the kind and the index of the first fault that a parse of the whole answers.
 use super::value_text;
-use crate::told::{expect_fault, expect_text, fault_of};
+use crate::tests::expect::{expect_fault, expect_text};
+use crate::told::fault_of;
 use jiter::{JsonError, JsonErrorType as Kind, JsonValue};
 use std::alloc::{AllocError, Global};
 use std::test::*;

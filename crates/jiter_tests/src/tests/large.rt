@@ -1,6 +1,7 @@
 //! Large documents with ample memory: many items and members, long texts, faults and positions far in.
 use super::value_text;
-use crate::told::{expect_fault, fault_of};
+use crate::tests::expect::expect_fault;
+use crate::told::fault_of;
 use jiter::{JsonErrorType as Kind, JsonValue, LinePosition};
 use std::alloc::{AllocError, Global};
 use std::test::*;

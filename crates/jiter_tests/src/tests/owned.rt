@@ -1,5 +1,6 @@
 //! Values that own their texts, their equality, and a scratch that serves many documents.
-use crate::told::{expect_text, outcome_text, text_of};
+use crate::tests::expect::expect_text;
+use crate::told::{outcome_text, text_of};
 use jiter::{JsonErrorType as Kind, JsonValue, JsonValueScratch, PartialMode};
 use std::alloc::{AllocError, Global};
 use std::test::*;

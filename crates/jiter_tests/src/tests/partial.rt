@@ -1,5 +1,6 @@
 //! Rows of bytes, each with what a parse answers in the two partial modes.
-use crate::told::{answer_text, expect_text};
+use crate::tests::expect::expect_text;
+use crate::told::answer_text;
 use jiter::PartialMode;
 use std::alloc::Global;
 use std::process::Abort;

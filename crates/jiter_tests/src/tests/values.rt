@@ -1,6 +1,6 @@
 //! Rows of documents, each with the value that a parse of the whole answers.
 use super::value_text;
-use crate::told::expect_text;
+use crate::tests::expect::expect_text;
 use jiter::JsonValue;
 use std::borrow::CowStr;
 use std::mem;

@@ -1,7 +1,7 @@
 //! Rows of bytes, each with what calls on them reply.
 use super::{Call, last_text, stop_text};
+use crate::tests::expect::expect_text;
 use jiter::Jiter;
-use jiter_tests::told::expect_text;
 use std::test::*;
 
 #[test]

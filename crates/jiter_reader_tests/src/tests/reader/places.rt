@@ -1,7 +1,8 @@
 //! The making of a reader, its settings, where it stands, and the calls of a caller that has looked.
 use super::{Call, last_text, number_text, peek_text, reply_text, str_text};
+use crate::tests::expect::expect_text;
 use jiter::{Jiter, JiterResult, LinePosition, Peek};
-use jiter_tests::told::{expect_text, text_of};
+use jiter_tests::told::text_of;
 use std::alloc::{AllocError, Global};
 use std::test::*;
 

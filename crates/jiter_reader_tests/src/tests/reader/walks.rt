@@ -1,7 +1,8 @@
 //! Documents that are walked through by steps, beside their trees.
 use super::{Call, bool_text, number_text, reply_text};
+use crate::tests::expect::expect_text;
 use jiter::{Jiter, JsonValue, Peek};
-use jiter_tests::told::{expect_text, text_of};
+use jiter_tests::told::text_of;
 use std::alloc::{AllocError, Global};
 use std::test::*;
 
