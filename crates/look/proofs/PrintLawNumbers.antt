@@ -7,7 +7,7 @@ use Rattle.std.proofs.lemmas.Bool.{lt-ltb, le-leb, ltb-true, leb-true}
 use Rattle.std.proofs.lemmas.Bool.Decides.{nat_tests}
 use Rattle.std.proofs.lemmas.Fmt.{decimal_by_steps, length-decimal-le}
 use Rattle.jiter_scan.specs.Digits.{is_digit, decimal_of}
-use Rattle.jiter_scan.specs.Number.{Number, integer, big, float, AreDigits, IsWhole, IsDecimal, IsNumberText}
+use Rattle.jiter_scan.specs.Number.{Number, integer, big, float, AreDigits, IsIntPart, IsDecimal, IsNumberText}
 use Rattle.jiter_scan.specs.Number.{digit_limit, is_integral, minus_of, positive_value, negative_value}
 use Rattle.jiter_scan.specs.Number.{integral_value, number_value}
 use Rattle.jiter_scan.proofs.Digits.{decimal_of-append}
@@ -23,24 +23,24 @@ are_digits-append (c ∷ u) v h g = (h.0, are_digits-append u v h.1 g)
 
 -- these digits are written for n
 record Writes (n : ℕ) (w : List ℕ) : Type 0 where
-  whole : IsWhole w
+  int_part : IsIntPart w
   value : decimal_of w ≡ n
 
 glyph-digit : (d : ℕ) → d < 10 → is_digit (48 + d) ≡ true
 glyph-digit d h = grind (arith, nat_tests)
 
 writes-one : (n : ℕ) → n < 10 → Writes n ((48 + n) ∷ [])
-writes-one n h = record { whole = ((glyph-digit n h, tt), inl refl); value = omega arith }
+writes-one n h = record { int_part = ((glyph-digit n h, tt), inl refl); value = omega arith }
 
 writes-more : (n : ℕ) (w : List ℕ) → 10 ≤ n → Writes (n / 10) w → Writes n (w ++ ((48 + n % 10) ∷ []))
-writes-more n [] l h = absurd h.whole
+writes-more n [] l h = absurd h.int_part
 writes-more n (c ∷ cs) l h =
     let last : AreDigits ((48 + n % 10) ∷ []) = (glyph-digit (n % 10) (omega arith), tt) in
     let more : decimal_of ((c ∷ cs) ++ (48 + n % 10) ∷ []) ≡ decimal_of (c ∷ cs) * 10 + (48 + n % 10 - 48) =
     decimal_of-append (c ∷ cs) ((48 + n % 10) ∷ []) ∙ omega arith in
     let front : decimal_of (c ∷ cs) ≡ n / 10 = h.value in
-    let digits = are_digits-append cs ((48 + n % 10) ∷ []) h.whole.0.1 last in
-    record { whole = ((h.whole.0.0, digits), inr (λ e. first e h.whole.1)); value = more ∙ value front } where
+    let digits = are_digits-append cs ((48 + n % 10) ∷ []) h.int_part.0.1 last in
+    record { int_part = ((h.int_part.0.0, digits), inr (λ e. first e h.int_part.1)); value = more ∙ value front } where
       value : decimal_of (c ∷ cs) ≡ n / 10 → decimal_of (c ∷ cs) * 10 + (48 + n % 10 - 48) ≡ n
       value e = omega (arith, e)
 
@@ -54,14 +54,14 @@ decimal-writes : (n : ℕ) → n < 2 ^ 64 → Writes n (decimal n)
 decimal-writes n h = decimal_by_steps Writes writes-one writes-more n h
 
 -- ---- a number of digits alone
-whole-digits : (w : List ℕ) → IsWhole w → AreDigits w
-whole-digits [] h = absurd h
-whole-digits (c ∷ w) h = h.0
+int_part-digits : (w : List ℕ) → IsIntPart w → AreDigits w
+int_part-digits [] h = absurd h
+int_part-digits (c ∷ w) h = h.0
 
 digit-no_minus : (c : ℕ) → is_digit c ≡ true → (c == 45) ≡ false
 digit-no_minus c h = grind (arith, nat_tests)
 
-positive-value : (w : List ℕ) (n : ℕ) → IsWhole w → decimal_of w ≡ n → n < 2 ^ 63 → number_value w ≡ integer (pos n)
+positive-value : (w : List ℕ) (n : ℕ) → IsIntPart w → decimal_of w ≡ n → n < 2 ^ 63 → number_value w ≡ integer (pos n)
 unfolding number_value
 positive-value [] n h e l = absurd h
 positive-value (c ∷ cs) n h e l =
@@ -72,12 +72,12 @@ positive-value (c ∷ cs) n h e l =
     ∙ ap (positive_value (c ∷ cs)) e
     ∙ if-true (nat_lt n (2 ^ 63)) (integer (pos n)) (big (c ∷ cs)) (lt-ltb n (2 ^ 63) l)
 
-negative-value : (w : List ℕ) (n : ℕ) → IsWhole w → decimal_of w ≡ n → n ≤ 2 ^ 63
+negative-value : (w : List ℕ) (n : ℕ) → IsIntPart w → decimal_of w ≡ n → n ≤ 2 ^ 63
     → number_value (45 ∷ w) ≡ integer (minus_of n)
 unfolding number_value
 negative-value w n h e l =
     if-true (is_integral (45 ∷ w)) (integral_value (45 ∷ w)) (float (45 ∷ w))
-    (ap (λ (b : Bool). if b then false else true) (digits-no_float w (whole-digits w h)))
+    (ap (λ (b : Bool). if b then false else true) (digits-no_float w (int_part-digits w h)))
     ∙ ap (negative_value (45 ∷ w)) e
     ∙ if-true (nat_le n (2 ^ 63)) (integer (minus_of n)) (big (45 ∷ w)) (le-leb n (2 ^ 63) l)
 
@@ -85,16 +85,16 @@ append-nothing : (w : List ℕ) → w ≡ w ++ ([] ++ [])
 append-nothing [] = refl
 append-nothing (c ∷ w) = ap (λ x. c ∷ x) (append-nothing w)
 
-whole-decimal : (minus w : List ℕ) → (minus ≡ []) ⊎ (minus ≡ 45 ∷ []) → IsWhole w → length w ≤ digit_limit
+int_part-decimal : (minus w : List ℕ) → (minus ≡ []) ⊎ (minus ≡ 45 ∷ []) → IsIntPart w → length w ≤ digit_limit
     → IsDecimal (minus ++ w)
-whole-decimal minus w m h l = record {
+int_part-decimal minus w m h l = record {
   minus = minus;
-  whole = w;
+  int_part = w;
   fraction = [];
   exponent = [];
   is = ap (λ x. minus ++ x) (append-nothing w);
   is_minus = m;
-  is_whole = h;
+  is_int_part = h;
   limit = l;
   is_fraction = tt;
   is_exponent = inl refl;
@@ -137,13 +137,13 @@ integer-again (pos n) h =
     let w = decimal-writes n (omega arith) in
     let short : length (decimal n) ≤ digit_limit =
     omega (arith, length-decimal-le 20 n (omega arith) (omega arith) (omega arith)) in
-    (whole-decimal [] (decimal n) (inl refl) w.whole short, positive-value (decimal n) n w.whole w.value h)
+    (int_part-decimal [] (decimal n) (inl refl) w.int_part short, positive-value (decimal n) n w.int_part w.value h)
 integer-again (negsuc n) h =
     let w = decimal-writes (suc n) (omega arith) in
     let short : length (decimal (suc n)) ≤ digit_limit =
     omega (arith, length-decimal-le 20 (suc n) (omega arith) (omega arith) (omega arith)) in
-    let value = negative-value (decimal (suc n)) (suc n) w.whole w.value (omega arith) in
-    (whole-decimal (45 ∷ []) (decimal (suc n)) (inr refl) w.whole short, value)
+    let value = negative-value (decimal (suc n)) (suc n) w.int_part w.value (omega arith) in
+    (int_part-decimal (45 ∷ []) (decimal (suc n)) (inr refl) w.int_part short, value)
 
 -- What is printed of a number's value is a number's text too, and stands for the same.
 pub number-again : (names : Bool) (w : List ℕ) → IsNumberText names w
