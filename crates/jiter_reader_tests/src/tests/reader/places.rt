@@ -131,7 +131,7 @@ fn known_calls_read_what_was_looked_at(rt: HostRuntime) {
     for &(text, wanted, stop) in &ROWS {
         let mut jiter = Jiter::new(text.as_bytes());
         expect_text(&rt, known_text(alloc, &mut jiter), wanted, &text);
-        assert_eq!(rt; jiter.current_index(), stop, "{text}");
+        assert_eq!(rt; jiter.current_index(), stop);
     }
 }
 
