@@ -34,7 +34,7 @@ fn decode_next(tape: &mut Vec<u8>, bytes: &[u8], from: usize, keep: bool) -> Opt
     ensures value { IfSome result (λ r. string_at (text_form keep) bytes.now (past_blanks bytes.now from)
         ≡ taken (record { owned = true; bytes = take r.0 tape.new.items }) r.1) }
     ensures text { IfSome result (λ r. IsUtf8 (take r.0 tape.new.items)) }
-    ensures levels { IfSome result (λ r. r.0 ≤ vec_len tape.new) }
+    ensures room { IfSome result (λ r. r.0 ≤ vec_len tape.new) }
     ensures within { IfSome result (λ r. (from ≤ r.1) × (r.1 ≤ length bytes.now)) }
 {
     let (at, byte) = peek(bytes, from);
@@ -57,7 +57,7 @@ fn decode_next(tape: &mut Vec<u8>, bytes: &[u8], from: usize, keep: bool) -> Opt
 #[inline(always)]
 fn text_on(tape: &Option<Vec<u8>>, count: usize) -> &str
     requires text { IsUtf8 (front tape.now count) }
-    requires levels { IfSome tape.now (λ v. count ≤ vec_len v) }
+    requires room { IfSome tape.now (λ v. count ≤ vec_len v) }
     ensures { result.now ≡ front tape.now count }
 {
     match tape {

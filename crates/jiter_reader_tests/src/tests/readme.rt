@@ -133,7 +133,7 @@ fn two_members_of_a_message_are_read(rt: HostRuntime) -> Result<(), Fail> {
     Ok(())
 }
 
-// A number alone; each arm makes the line that README's prints.
+// A number alone; each arm makes the line that the example in docs/CALLING.md prints.
 fn number_text(alloc: Global, bytes: &[u8]) -> Result<String, AllocError> {
     match NumberAny::from_bytes(bytes, false) {
         Ok(NumberAny::Int(NumberInt::Int(number))) => format!(in alloc; "{number}"),
