@@ -211,8 +211,8 @@ fn are_owned_again(alloc: Global, bytes: &[u8], others: &[u8]) -> Result<(bool, 
     Ok((first, refused.is_err() && again? == value))
 }
 
-// How long the text of a document is that a reader reads with this tape and 20,100 bytes of memory left, and how much
-// room the tape has that it gives back.
+// How long the text of a document is that a reader reads with this tape and no memory left, and how much room the tape
+// has that it gives back.
 fn read_with_tape(
     alloc: Global,
     bytes: &[u8],
@@ -223,12 +223,10 @@ fn read_with_tape(
     let mut jiter = Jiter::with_tape(bytes, tape)
         .with_allow_inf_nan()
         .with_allow_partial_strings();
-    let refused = jiter.next_str(alloc).is_err();
-    held.leave(alloc, 20_100)?;
     let length = jiter.next_str(alloc).ok().map(|text| text.len());
     drop(held);
     let capacity = jiter.into_tape(alloc).capacity();
-    Ok((if refused { length } else { None }, capacity))
+    Ok((length, capacity))
 }
 
 // Whether a reader that has read the first of two such texts reads the second with as much memory left.
