@@ -144,12 +144,16 @@ fn texts(alloc: Global, letter: char, size: usize) -> Result<(String, String), A
     Ok((source, wanted))
 }
 
-// Containers of each size to 300; texts of each size, with each letter in turn; and texts with each letter, of some
-// sizes, short and long.
+// Containers of each size to 300, and of three larger ones; texts of each size, with each letter in turn; and texts with
+// each letter, of some sizes, short and long.
 fn document(alloc: Global, step: usize) -> Result<(String, String), AllocError> {
     let sizes = [1, 40, 600];
+    let larger = [500, 777, 4000];
     if step <= 300 {
         return containers(alloc, step);
+    }
+    if step > 1080 {
+        return containers(alloc, larger[(step - 1081) % 3]);
     }
     let letter = char::from_u32((step % 160) as u32).unwrap_or('a');
     let size = if step <= 600 {
@@ -165,7 +169,7 @@ fn documents_of_every_size_and_first_letter_are_read_and_copied(
     rt: HostRuntime,
 ) -> Result<(), Fail> {
     let alloc = rt.alloc();
-    for step in 0..1081usize {
+    for step in 0..1084usize {
         let (source, wanted) = document(alloc, step)?;
         let bytes = source.as_bytes();
         let read = value_text(alloc, bytes, false)?;

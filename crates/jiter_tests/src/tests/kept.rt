@@ -12,93 +12,103 @@ use std::test::*;
 #[derive(Debug, Clone, Copy)]
 enum Call {
     Parse,
+    Partial,
     Owned,
     Scratch,
     OwnedByScratch,
     Turns,
+    Next,
+    NextOwned,
     BySteps,
     Clone,
     ToStatic,
     IntoStatic,
 }
 
-const CALLS: [Call; 9] = [
+const CALLS: [Call; 12] = [
     Call::Parse,
+    Call::Partial,
     Call::Owned,
     Call::Scratch,
     Call::OwnedByScratch,
     Call::Turns,
+    Call::Next,
+    Call::NextOwned,
     Call::BySteps,
     Call::Clone,
     Call::ToStatic,
     Call::IntoStatic,
 ];
 
-// Whether the bytes end inside an array; nothing, where memory was refused.
-fn ending<T: Drop>(answer: Result<T, JsonError>) -> Option<bool> {
+// Whether memory was refused.
+fn is_short<T: Drop>(answer: Result<T, JsonError>) -> bool {
     match answer {
-        Ok(_) => Some(false),
-        Err(error) if error.error_type == Kind::EofWhileParsingList => Some(true),
-        Err(_) => None,
+        Ok(_) => false,
+        Err(error) => error.error_type == Kind::OutOfMemory,
     }
 }
 
-// The same of the client of a reader.
-fn ending_by_steps(alloc: Global, bytes: &[u8]) -> Option<bool> {
-    match value_by_steps(alloc, &mut Jiter::new(bytes)) {
-        Ok(_) => Some(false),
-        Err(error) => match error.error_type {
-            JiterErrorType::JsonError(Kind::EofWhileParsingList) => Some(true),
-            _ => None,
-        },
+// The same of a reader.
+fn is_reader_short(alloc: Global, bytes: &[u8], call: Call) -> bool {
+    let mut jiter = Jiter::new(bytes);
+    let refusal = match call {
+        Call::BySteps => value_by_steps(alloc, &mut jiter).err(),
+        Call::NextOwned => jiter.next_value_owned(alloc).err(),
+        _ => jiter.next_value(alloc).err(),
+    };
+    match refusal {
+        None => false,
+        Some(error) => error.error_type == JiterErrorType::JsonError(Kind::OutOfMemory),
     }
 }
 
 // The same of a machine.
-fn ending_by_turns(alloc: Global, bytes: &[u8]) -> Option<bool> {
+fn is_machine_short(alloc: Global, bytes: &[u8]) -> bool {
     let mut machine = Machine::new(alloc, bytes, false, PartialMode::Off);
     for _ in 0..bytes.len().saturating_mul(3) {
         match machine.turn() {
             Turn::More(next) => machine = next,
-            Turn::Done(answer) => return ending(answer),
+            Turn::Done(answer) => return is_short(answer),
         }
     }
-    None
+    true
 }
 
 // The same of a copy of what is parsed.
-fn ending_of_copy(alloc: Global, bytes: &[u8], call: Call) -> Option<bool> {
+fn is_copy_short(alloc: Global, bytes: &[u8], call: Call) -> bool {
     let value = match JsonValue::parse(alloc, bytes, false) {
         Ok(value) => value,
-        Err(error) => return ending::<()>(Err(error)),
+        Err(error) => return error.error_type == Kind::OutOfMemory,
     };
-    let granted = match call {
-        Call::Clone => value.clone(alloc).is_ok(),
-        Call::ToStatic => value.to_static(alloc).is_ok(),
-        _ => value.into_static(alloc).is_ok(),
-    };
-    granted.then_some(false)
-}
-
-// The same of any call; what it gives is dropped.
-fn ending_of(alloc: Global, bytes: &[u8], call: Call) -> Option<bool> {
-    let mode = PartialMode::Off;
     match call {
-        Call::Parse => ending(JsonValue::parse(alloc, bytes, false)),
-        Call::Owned => ending(JsonValue::parse_owned(alloc, bytes, false, mode)),
-        Call::Scratch => ending(JsonValueScratch::new(alloc).parse(bytes, false, mode)),
-        Call::OwnedByScratch => {
-            ending(JsonValueScratch::new(alloc).parse_owned(bytes, false, mode))
-        }
-        Call::Turns => ending_by_turns(alloc, bytes),
-        Call::BySteps => ending_by_steps(alloc, bytes),
-        Call::Clone | Call::ToStatic | Call::IntoStatic => ending_of_copy(alloc, bytes, call),
+        Call::Clone => value.clone(alloc).is_err(),
+        Call::ToStatic => value.to_static(alloc).is_err(),
+        _ => value.into_static(alloc).is_err(),
     }
 }
 
-// The first call that is refused, or ends otherwise, when each is made again and again with as much memory as some of
-// them take.
-fn first_leaking(alloc: Global, bytes: &[u8], is_cut: bool) -> Result<Option<Call>, AllocError> {
+// The same of any call; what it gives is dropped.
+fn is_call_short(alloc: Global, bytes: &[u8], call: Call) -> bool {
+    let mode = PartialMode::Off;
+    let strings = PartialMode::TrailingStrings;
+    match call {
+        Call::Parse => is_short(JsonValue::parse(alloc, bytes, false)),
+        Call::Partial => is_short(JsonValue::parse_with_config(alloc, bytes, false, strings)),
+        Call::Owned => is_short(JsonValue::parse_owned(alloc, bytes, false, mode)),
+        Call::Scratch => is_short(JsonValueScratch::new(alloc).parse(bytes, false, mode)),
+        Call::OwnedByScratch => {
+            is_short(JsonValueScratch::new(alloc).parse_owned(bytes, false, mode))
+        }
+        Call::Turns => is_machine_short(alloc, bytes),
+        Call::Next | Call::NextOwned | Call::BySteps => is_reader_short(alloc, bytes, call),
+        Call::Clone | Call::ToStatic | Call::IntoStatic => is_copy_short(alloc, bytes, call),
+    }
+}
+
+// The first call that is refused memory when each is made again and again with as much memory as some of them take.
+fn first_leaking(alloc: Global, bytes: &[u8]) -> Result<Option<Call>, AllocError> {
+    // Once before, so that the stack has grown.
+    let _ = is_call_short(alloc, bytes, Call::BySteps);
     let reserves = (
         Vec::<u8>::with_capacity(alloc, 100_000)?,
         Vec::<u8>::with_capacity(alloc, 100_000)?,
@@ -108,8 +118,8 @@ fn first_leaking(alloc: Global, bytes: &[u8], is_cut: bool) -> Result<Option<Cal
     drop(reserves);
     let mut leaking = None;
     for turn in 0..CALLS.len().saturating_mul(64) {
-        let call = CALLS[turn % 9];
-        if leaking.is_none() && ending_of(alloc, bytes, call) != Some(is_cut) {
+        let call = CALLS[turn % 12];
+        if leaking.is_none() && is_call_short(alloc, bytes, call) {
             leaking = Some(call);
         }
     }
@@ -143,11 +153,73 @@ fn what_is_dropped_gives_its_memory_back(rt: HostRuntime) -> Result<(), Fail> {
         (text.as_str(), 1),
     ] {
         let whole = listed(alloc, part, times, "]")?;
-        let leaking = first_leaking(alloc, whole.as_bytes(), false)?;
+        let leaking = first_leaking(alloc, whole.as_bytes())?;
         assert!(rt; leaking.is_none(), "{leaking:?}, {part:.9}");
         let cut = listed(alloc, part, times, "")?;
-        let leaking = first_leaking(alloc, cut.as_bytes(), true)?;
+        let leaking = first_leaking(alloc, cut.as_bytes())?;
         assert!(rt; leaking.is_none(), "{leaking:?}, {part:.9}, cut");
+    }
+    Ok(())
+}
+
+#[test]
+fn what_faults_leave_over_is_given_back(rt: HostRuntime) -> Result<(), Fail> {
+    let alloc = rt.alloc();
+    let long = "a".repeat(alloc, 20_000)?;
+    let text = format!(in alloc; "\"\\n{long}\"")?;
+    for (front, end) in [
+        ("[{", ":"),
+        ("[{", ":nul"),
+        ("[{", ":x"),
+        ("[{", " 7}]"),
+        ("[{", ":[7 8"),
+        ("[{\"\\n\":7,", "}]"),
+        ("[", ",x]"),
+        ("{", ":7,\"k\":x}"),
+        ("[", "] x"),
+    ] {
+        let document = format!(in alloc; "{front}{text}{end}")?;
+        let leaking = first_leaking(alloc, document.as_bytes())?;
+        assert!(rt; leaking.is_none(), "{leaking:?}, {end}");
+    }
+    Ok(())
+}
+
+// Whether each copy of these bytes' value, and each value of theirs that owns its texts, is refused with so little
+// memory, and then one more text is granted.
+fn are_refused_whole(alloc: Global, bytes: &[u8]) -> Result<(bool, bool), Fail> {
+    let value = JsonValue::parse_owned(alloc, bytes, false, PartialMode::Off)?;
+    let mut held = Held::all(alloc)?;
+    held.take_small(alloc);
+    held.leave(alloc, 100_000)?;
+    let mut refused = true;
+    for _ in 0..4 {
+        refused = refused
+            && value.clone(alloc).is_err()
+            && value.to_static(alloc).is_err()
+            && is_call_short(alloc, bytes, Call::Owned)
+            && is_call_short(alloc, bytes, Call::NextOwned)
+            && is_call_short(alloc, bytes, Call::BySteps)
+            && is_call_short(alloc, bytes, Call::IntoStatic);
+    }
+    let granted = is_granted(alloc, 21_000);
+    drop(held);
+    Ok((refused, granted))
+}
+
+#[test]
+fn what_is_refused_midway_gives_its_memory_back(rt: HostRuntime) -> Result<(), Fail> {
+    let alloc = rt.alloc();
+    let long = "a".repeat(alloc, 20_000)?;
+    let text = format!(in alloc; "\"{long}\"")?;
+    let items = listed(alloc, text.as_str(), 15, "]")?;
+    let object = format!(in alloc; "{{{text}:{text}}}")?;
+    let objects = listed(alloc, object.as_str(), 7, "]")?;
+    let members = format!(in alloc; "{text}:{text},")?.repeat(alloc, 7)?;
+    let members = format!(in alloc; "{{{members}{text}:{text}}}")?;
+    for bytes in [&items, &objects, &members] {
+        let seen = are_refused_whole(alloc, bytes.as_bytes())?;
+        assert_eq!(rt; seen, (true, true), "{:.3}", bytes.as_str());
     }
     Ok(())
 }
@@ -174,12 +246,35 @@ fn least_for_copy(
     Ok(granted)
 }
 
+// Documents of each kind and with each setting, which make no buffer grow that has served for a large one.
+const OTHERS: [(&[u8], bool, PartialMode); 14] = [
+    (b"[1,{\"k\":[\"\\n\"", false, PartialMode::Off),
+    (b"[1,{\"k\":[\"\\n\"", false, PartialMode::On),
+    (b"[1,{\"k\":[\"\\n\"", false, PartialMode::TrailingStrings),
+    (b"[1,{\"\\n\":[\"\\n\"]}]", true, PartialMode::Off),
+    (b"", false, PartialMode::Off),
+    (b" null", false, PartialMode::Off),
+    (b"-7", false, PartialMode::On),
+    (b"2.5", false, PartialMode::Off),
+    (b"NaN", true, PartialMode::TrailingStrings),
+    (b"\"a\"", false, PartialMode::Off),
+    (b"\"\\n\"", false, PartialMode::Off),
+    (b"\"\\x\"", false, PartialMode::Off),
+    (b"[ ]", false, PartialMode::Off),
+    (b"{ } x", false, PartialMode::Off),
+];
+
 // Whether these bytes are read once more with no more memory than a copy of the value takes: by a new scratch, and by
-// one that has read them, and then others that are refused.
-fn are_read_again(alloc: Global, bytes: &[u8], others: &[u8]) -> Result<(bool, bool), Fail> {
+// one that has read them, then others, and then them again with no memory left.
+fn are_read_again(alloc: Global, bytes: &[u8]) -> Result<(bool, bool), Fail> {
     let mut scratch = JsonValueScratch::new(alloc);
     let value = scratch.parse(bytes, false, PartialMode::Off)?;
-    let refused = scratch.parse(others, false, PartialMode::Off);
+    for (others, names, mode) in OTHERS {
+        let _ = scratch.parse(others, names, mode);
+    }
+    let none = Held::all(alloc)?;
+    let _ = scratch.parse(bytes, false, PartialMode::Off);
+    drop(none);
     let mut held = Held::all(alloc)?;
     held.take_small(alloc);
     let least = least_for_copy(alloc, &mut held, &value)?;
@@ -191,14 +286,19 @@ fn are_read_again(alloc: Global, bytes: &[u8], others: &[u8]) -> Result<(bool, b
     held.leave(alloc, least)?;
     let again = scratch.parse(bytes, false, PartialMode::Off);
     drop(held);
-    Ok((first, refused.is_err() && again? == value))
+    Ok((first, again? == value))
 }
 
 // The same of values that own their texts.
-fn are_owned_again(alloc: Global, bytes: &[u8], others: &[u8]) -> Result<(bool, bool), Fail> {
+fn are_owned_again(alloc: Global, bytes: &[u8]) -> Result<(bool, bool), Fail> {
     let mut scratch: JsonValueScratch<'static> = JsonValueScratch::new(alloc);
     let value = scratch.parse_owned(bytes, false, PartialMode::Off)?;
-    let refused = scratch.parse_owned(others, false, PartialMode::Off);
+    for (others, names, mode) in OTHERS {
+        let _ = scratch.parse_owned(others, names, mode);
+    }
+    let none = Held::all(alloc)?;
+    let _ = scratch.parse_owned(bytes, false, PartialMode::Off);
+    drop(none);
     let mut held = Held::all(alloc)?;
     held.take_small(alloc);
     let least = least_for_copy(alloc, &mut held, &value)?;
@@ -208,25 +308,25 @@ fn are_owned_again(alloc: Global, bytes: &[u8], others: &[u8]) -> Result<(bool, 
     held.leave(alloc, least)?;
     let again = scratch.parse_owned(bytes, false, PartialMode::Off);
     drop(held);
-    Ok((first, refused.is_err() && again? == value))
+    Ok((first, again? == value))
 }
 
-// How long the text of a document is that a reader reads with this tape and no memory left, and how much room the tape
-// has that it gives back.
+// How long the text of a document is that a reader reads with this tape and no memory left, and the tape that it gives
+// back.
 fn read_with_tape(
     alloc: Global,
     bytes: &[u8],
     tape: Vec<u8>,
-) -> Result<(Option<usize>, usize), AllocError> {
+) -> Result<(Option<usize>, Vec<u8>), AllocError> {
     let mut held = Held::all(alloc)?;
     held.take_small(alloc);
     let mut jiter = Jiter::with_tape(bytes, tape)
         .with_allow_inf_nan()
         .with_allow_partial_strings();
     let length = jiter.next_str(alloc).ok().map(|text| text.len());
+    let tape = jiter.into_tape(alloc);
     drop(held);
-    let capacity = jiter.into_tape(alloc).capacity();
-    Ok((length, capacity))
+    Ok((length, tape))
 }
 
 // Whether a reader that has read the first of two such texts reads the second with as much memory left.
@@ -253,19 +353,39 @@ fn buffers_serve_again(rt: HostRuntime) -> Result<(), Fail> {
     let members = "\"k\":7,".repeat(alloc, 600)?;
     let object = format!(in alloc; "{{{members}\"k\":7}}")?;
     for bytes in [&text, &items, &object] {
-        let read = are_read_again(alloc, bytes.as_bytes(), b"[1,{\"k\":[\"\\n\"")?;
+        let read = are_read_again(alloc, bytes.as_bytes())?;
         assert_eq!(rt; read, (false, true), "{:.9}", bytes.as_str());
     }
-    let owned = are_owned_again(alloc, text.as_bytes(), b"[1,{\"k\":[\"\\n\"")?;
+    let owned = are_owned_again(alloc, text.as_bytes())?;
     assert_eq!(rt; owned, (false, true));
-    let tape = Vec::with_capacity(alloc, 50_000)?;
-    assert_eq!(rt;
-        read_with_tape(alloc, text.as_bytes(), tape)?,
-        (Some(20_001), 50_000)
-    );
-    let (length, _) = read_with_tape(alloc, text.as_bytes(), Vec::new(alloc))?;
-    assert_eq!(rt; length, None);
     assert!(rt; is_second_read(alloc, texts.as_bytes())?);
+    Ok(())
+}
+
+#[test]
+fn tapes_serve_again(rt: HostRuntime) -> Result<(), Fail> {
+    let alloc = rt.alloc();
+    let long = "a".repeat(alloc, 20_000)?;
+    let text = format!(in alloc; "\"\\n{long}\"")?;
+    let mut first = Jiter::new(text.as_bytes());
+    let _ = first.next_str(alloc)?;
+    // An empty one, one that holds other bytes, and one that a reader has made grow.
+    for tape in [
+        Vec::with_capacity(alloc, 50_000)?,
+        Vec::from_elem(alloc, b'x', 50_000)?,
+        first.into_tape(alloc),
+    ] {
+        let room = tape.capacity();
+        let (length, tape) = read_with_tape(alloc, text.as_bytes(), tape)?;
+        assert!(rt; length == Some(20_001) && tape.capacity() == room, "{room}");
+        let (length, tape) = read_with_tape(alloc, text.as_bytes(), tape)?;
+        assert!(rt;
+            length == Some(20_001) && tape.capacity() == room,
+            "{room}, again"
+        );
+    }
+    let (length, tape) = read_with_tape(alloc, text.as_bytes(), Vec::new(alloc))?;
+    assert!(rt; length.is_none() && tape.capacity() == 0);
     Ok(())
 }
 
