@@ -10,13 +10,13 @@ use Rattle.jiter_scan.specs.Digits.{decimal_of}
 use Rattle.jiter_scan.specs.Number.{Number, integer, big, float, is_integral, negative_value, positive_value}
 use Rattle.jiter_scan.specs.Number.{integral_value, number_value}
 use Rattle.jiter_scan.specs.NumberReading.{number_at}
-use Rattle.jiter_scan.specs.Scanned.{Scanned, taken, failed}
+use Rattle.jiter_scan.specs.Scanned.{taken}
 use Rattle.jiter_scan.proofs.Scanning.{ScalarWithin}
-use Rattle.jiter_scan.proofs.Choices.{if_case, if_gives, failed-taken, same_taken}
+use Rattle.jiter_scan.proofs.Choices.{if_case, failed-taken, same_taken}
 use Rattle.jiter_scan.proofs.NumberLaws.{number_at-sound, number_at-within}
 use Rattle.jiter_scan.proofs.Standing.{slice_range-split, slice-one}
 use Rattle.jiter_steps.specs.StringReading.{Stop, closed, unclosed, cut, wrong, part, over, Body, before, join, body_at}
-use Rattle.jiter_steps.specs.StringReading.{text_form, valid_front_by, text_in_form, whole, kept, content_at, string_at}
+use Rattle.jiter_steps.specs.StringReading.{text_form, valid_front_by, text_in_form, kept, content_at, string_at}
 use Rattle.jiter_steps.specs.Tree.{Text}
 use Rattle.jiter_steps.proofs.Grammar.Places.{Explains}
 use Rattle.jiter_steps.proofs.Grammar.StringSound.{closed-text}

@@ -1,5 +1,5 @@
 -- What a whole text answers whose texts are made so, by how its reading goes.
-use Rattle.std.proofs.Common.{◌≡◌, ◌∙◌, sym, ap, subst, ℕ, ◌<◌, Bool, true, false, List, length}
+use Rattle.std.proofs.Common.{◌≡◌, ◌∙◌, sym, ap, subst, ℕ, ◌<◌, true, false, List, length}
 use Rattle.std.specs.Prelude.{Result, Err}
 use Rattle.jiter_scan.specs.Kind.{Kind, fault_kind}
 use Rattle.jiter_scan.specs.PartialMode.{is_active}

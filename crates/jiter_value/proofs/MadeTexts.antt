@@ -1,12 +1,10 @@
 -- Readings whose texts are made so: what is read then is made of what is read.
-use Rattle.std.proofs.Common.{◌≡◌, ◌∙◌, refl, sym, ap, ap₂, ℕ, ◌+◌, ◌<◌, List, [], ◌∷◌, map, length, arith}
-use Rattle.jiter_scan.specs.Number.{Number, integer, big, float}
+use Rattle.std.proofs.Common.{◌≡◌, ◌∙◌, refl, sym, ap, ap₂, ℕ, List, [], ◌∷◌, map, arith}
 use Rattle.jiter_scan.specs.NumberReading.{number_at}
 use Rattle.jiter_scan.specs.Scanned.{Scanned, taken, failed}
 use Rattle.jiter_scan.proofs.NumberLaws.{number_at-within}
 use Rattle.jiter_steps.specs.Answer.{seen_as, value_form}
 use Rattle.jiter_steps.specs.Literal.{literal_at, literal_tree}
-use Rattle.jiter_steps.specs.Node.{number_tree}
 use Rattle.jiter_steps.specs.Read.{Reading, done, fault, value_at}
 use Rattle.jiter_steps.specs.StringReading.{whole, string_at}
 use Rattle.jiter_steps.specs.Tree.{Text, Tree, Items, no_items, item, Members, no_members, member, items_of, members_of}

@@ -29,7 +29,7 @@ use Rattle.jiter_steps.proofs.Reading.Bounds.{Within}
 use Rattle.jiter_value.specs.Parses.{Parses, as_read, reading_as}
 use Rattle.jiter_value.specs.Reading.{GivesWhole, IsErrorOf}
 use Rattle.jiter_value.specs.Settings.{answer_by}
-use Rattle.jiter_value.specs.Value.{view, Answers, MayGrow}
+use Rattle.jiter_value.specs.Value.{view, Answers}
 use Rattle.jiter_value.specs.declared.settings.Settings.{Settings}
 use Rattle.jiter_value.specs.declared.value.JsonValue.{JsonValue}
 use Rattle.jiter_value.proofs.WholeTextAnswers.{answer_in-within, error-answers}

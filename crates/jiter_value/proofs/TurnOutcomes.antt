@@ -1,14 +1,11 @@
 -- What a turn leads on to, and where it may want memory.
-use Rattle.std.proofs.Common.{◌≡◌, ◌⊎◌, inl, inr, ℕ, ◌≤◌, List, arith}
-use Rattle.std.specs.Prelude.{slice_index}
+use Rattle.std.proofs.Common.{◌≡◌, inl, inr, ℕ, ◌≤◌, List, arith}
 use Rattle.std.proofs.lemmas.Result.{IfOk-weaker, on_ok_weaker}
 use Rattle.std.specs.Prelude.{Result, Ok, Err, IfOk}
 use Rattle.jiter_scan.specs.declared.errors.Fault.{Fault}
 use Rattle.jiter_steps.specs.declared.read_error.ReadError.{ReadError}
 use Rattle.jiter_steps.specs.declared.read_error.ReadError.TheVariants as error
-use Rattle.jiter_steps.specs.Literal.{start_of}
 use Rattle.jiter_steps.specs.ReadError.{WhereRefused}
-use Rattle.jiter_steps.specs.declared.parse.Start.TheVariants as start
 use Rattle.jiter_steps.specs.Read.{Reading}
 use Rattle.jiter_steps.specs.Tree.{Text, Tree}
 use Rattle.jiter_value.specs.Turns.{Proceeds, MayGrowFor, outcome}

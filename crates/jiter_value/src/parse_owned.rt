@@ -78,11 +78,7 @@ fn own_text<'s>(
 }
 
 // The same by way of a tape and stacks of its own.
-fn own_once<'s>(
-    alloc: Global,
-    bytes: &[u8],
-    settings: Settings,
-) -> Result<JsonValue<'s>, JsonError>
+fn own_once<'s>(alloc: Global, bytes: &[u8], settings: Settings) -> Result<JsonValue<'s>, JsonError>
     requires { BeginsContainer bytes.now (past_blanks bytes.now 0) }
     ensures { Parses owned_tree (MayGrow bytes.now)
         settings.allow_inf_nan settings.mode bytes.now result }

@@ -101,14 +101,9 @@ impl JsonValueScratch<'static> {
             allow_inf_nan,
             mode: allow_partial,
         };
-        let answer = read_text_owned(
-            self.alloc,
-            &mut self.tape,
-            &mut self.stacks,
-            bytes,
-            settings,
-        );
-        clear(&mut self.stacks);
+        let stacks = &mut self.stacks;
+        let answer = read_text_owned(self.alloc, &mut self.tape, stacks, bytes, settings);
+        clear(stacks);
         answer
     }
 }

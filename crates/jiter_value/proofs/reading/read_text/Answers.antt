@@ -1,4 +1,3 @@
-use Rattle.std.proofs.Common.{◌⊎◌}
 use Rattle.jiter_steps.specs.Blank.{past_blanks}
 use Rattle.jiter_value.specs.Owned.{as_it_is, tree_as}
 use Rattle.jiter_value.specs.Parses.{as_read}

@@ -2,8 +2,6 @@ use Rattle.std.proofs.Common.{◌≡◌, ◌∙◌, refl, ap, arith, length, rev
 use Rattle.std.proofs.lemmas.List.{length-reverse}
 use Rattle.jiter_scan.specs.Kind.{fault_kind}
 use Rattle.jiter_steps.specs.StringDecoder.{text_view}
-use Rattle.jiter_value.specs.declared.stacks.Slot.TheVariants as slot
-use Rattle.jiter_value.specs.declared.value.JsonValue.TheVariants.{Null}
 use Rattle.jiter_value.proofs.Placed.{key-at}
 use Rattle.jiter_value.proofs.LentTexts.{string-lent}
 use Rattle.jiter_value.proofs.StackTurns.{key-begins, key-limit, key-fails, colon-fails, scalar-taken}
@@ -39,8 +37,14 @@ returns-then-len-gt-NESTING_LIMIT g c =
 
 pub push_key-requires : goal.push_key-requires
 push_key-requires g c =
-    λ k. ((refl, tt), (c.requires.texts, string-lent c.args.bytes.now false c.args.at (text_view c.in-Ok.key) c.string.new.self.index c.requires.within
-    (scalar-taken c.args.at _ (text_view c.in-Ok.key) c.string.new.self.index c.in-Ok.ensures.value)))
+    λ k. (
+      (refl, tt),
+      (
+        c.requires.texts,
+        string-lent c.args.bytes.now false c.args.at (text_view c.in-Ok.key) c.string.new.self.index c.requires.within
+            (scalar-taken c.args.at _ (text_view c.in-Ok.key) c.string.new.self.index c.in-Ok.ensures.value),
+      ),
+    )
 
 pub returns-in-Ok-push_key : goal.returns-in-Ok-push_key
 returns-in-Ok-push_key g c =

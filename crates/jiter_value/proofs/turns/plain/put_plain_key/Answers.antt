@@ -8,8 +8,14 @@ use Rattle.jiter_value.proofs.turns.plain.put_plain_key.Goals as goal
 pub keep_lent-requires : goal.keep_lent-requires
 keep_lent-requires g c =
     let a = c.args in
-    λ k. ((refl, tt), (c.requires.texts, range-lies a.bytes.now (a.at + 1) c.in_ok-to.to _ (omega (arith, c.in_ok-to.ensures.within.0))
-    (omega (arith, c.in_ok-to.ensures.within.1)) c.ascii_text.ensures))
+    λ k. (
+      (refl, tt),
+      (
+        c.requires.texts,
+        range-lies a.bytes.now (a.at + 1) c.in_ok-to.to _ (omega (arith, c.in_ok-to.ensures.within.0))
+            (omega (arith, c.in_ok-to.ensures.within.1)) c.ascii_text.ensures,
+      ),
+    )
 
 pub returns-clause-put : goal.returns-clause-put
 returns-clause-put g c =

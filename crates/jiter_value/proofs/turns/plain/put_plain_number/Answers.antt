@@ -19,9 +19,15 @@ pub keep_lent-requires : goal.keep_lent-requires
 keep_lent-requires g c =
     let a = c.args in
     let found = c.in-Float.ensures in
-    λ k. ((refl, tt), (c.requires.texts, range-lies a.bytes.now a.at c.in-Float.end _
-    (omega (arith, found.some, IsMinusTo-le a.bytes.now a.at c.minus_end-from.result c.minus_end-from.ensures.minus))
-    found.within c.ascii_text.ensures))
+    λ k. (
+      (refl, tt),
+      (
+        c.requires.texts,
+        range-lies a.bytes.now a.at c.in-Float.end _
+            (omega (arith, found.some, IsMinusTo-le a.bytes.now a.at c.minus_end-from.result c.minus_end-from.ensures.minus))
+            found.within c.ascii_text.ensures,
+      ),
+    )
 
 pub returns-in-Int-clause-put : goal.returns-in-Int-clause-put
 returns-in-Int-clause-put g c =

@@ -10,8 +10,14 @@ pub keep_lent-requires : goal.keep_lent-requires
 keep_lent-requires g c =
     let a = c.args in
     let scanned = c.scan_string-to in
-    λ k. ((refl, tt), (c.requires.texts, range-lies a.bytes.now (a.at + 1) scanned.result.0 _ (omega (arith, scanned.ensures.within.0))
-    (omega (arith, c.if-to-bytes.false)) c.ascii_between.ensures.text))
+    λ k. (
+      (refl, tt),
+      (
+        c.requires.texts,
+        range-lies a.bytes.now (a.at + 1) scanned.result.0 _ (omega (arith, scanned.ensures.within.0))
+            (omega (arith, c.if-to-bytes.false)) c.ascii_between.ensures.text,
+      ),
+    )
 
 pub returns-clause-put : goal.returns-clause-put
 returns-clause-put g c =

@@ -9,8 +9,14 @@ use Rattle.jiter_value.proofs.turns.plain.put_plain_utf8.Goals as goal
 pub keep_lent-requires : goal.keep_lent-requires
 keep_lent-requires g c =
     let a = c.args in
-    λ k. ((refl, tt), (c.requires.texts, range-lies a.bytes.now (a.at + 1) a.to _ (omega (arith, c.requires.within.0)) (omega (arith, c.requires.within.1))
-    c.in_ok-text_between.ensures.text))
+    λ k. (
+      (refl, tt),
+      (
+        c.requires.texts,
+        range-lies a.bytes.now (a.at + 1) a.to _ (omega (arith, c.requires.within.0)) (omega (arith, c.requires.within.1))
+            c.in_ok-text_between.ensures.text,
+      ),
+    )
 
 pub returns-clause-put : goal.returns-clause-put
 returns-clause-put g c =

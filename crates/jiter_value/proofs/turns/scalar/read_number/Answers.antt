@@ -9,5 +9,11 @@ number_value-requires g c =
     let a = c.args in
     let read = c.in_ok-number in
     rw (ap (λ b. b.now) read.ensures.moves.same)
-    (λ k. ((refl, tt), (c.requires.texts, number-lent a.settings.allow_inf_nan a.parser.now.bytes.now a.parser.now.index (number_view read.number)
-          c.number.new.self.index c.requires.within (scalar-taken a.parser.now.index _ _ _ read.ensures.value))))
+    (λ k. (
+      (refl, tt),
+      (
+        c.requires.texts,
+        number-lent a.settings.allow_inf_nan a.parser.now.bytes.now a.parser.now.index (number_view read.number)
+            c.number.new.self.index c.requires.within (scalar-taken a.parser.now.index _ _ _ read.ensures.value),
+      ),
+    ))

@@ -9,5 +9,11 @@ keep-requires g c =
     let a = c.args in
     let read = c.in_ok-text in
     rw (ap (λ b. b.now) read.ensures.moves.same)
-    (λ k. ((refl, tt), (c.requires.texts, string-lent a.parser.now.bytes.now _ a.parser.now.index (text_view read.text) c.string.new.self.index
-          c.requires.within (scalar-taken a.parser.now.index _ _ _ read.ensures.value))))
+    (λ k. (
+      (refl, tt),
+      (
+        c.requires.texts,
+        string-lent a.parser.now.bytes.now _ a.parser.now.index (text_view read.text) c.string.new.self.index
+            c.requires.within (scalar-taken a.parser.now.index _ _ _ read.ensures.value),
+      ),
+    ))
