@@ -255,9 +255,9 @@ fn buffers_serve_again(rt: HostRuntime) -> Result<(), Fail> {
     for bytes in [&text, &items, &object] {
         let read = are_read_again(alloc, bytes.as_bytes(), b"[1,{\"k\":[\"\\n\"")?;
         assert_eq!(rt; read, (false, true), "{:.9}", bytes.as_str());
+        let owned = are_owned_again(alloc, bytes.as_bytes(), b"[1,{\"k\":[\"\\n\"")?;
+        assert_eq!(rt; owned, (false, true), "{:.9}, owned", bytes.as_str());
     }
-    let owned = are_owned_again(alloc, text.as_bytes(), b"[1,{\"k\":[\"\\n\"")?;
-    assert_eq!(rt; owned, (false, true));
     let tape = Vec::with_capacity(alloc, 50_000)?;
     assert_eq!(rt;
         read_with_tape(alloc, text.as_bytes(), tape)?,
