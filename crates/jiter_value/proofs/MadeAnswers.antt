@@ -70,7 +70,8 @@ lent-same : (x : Reading Tree) → reading_as (tree_as as_it_is) x ≡ reading_a
 lent-same x = reading_as-it_is x ∙ sym (as_read-is x)
 
 pub lent-gives : (p : Settings) (t : List ℕ) (r : Result JsonValue ReadError) (i : ℕ)
-    → GivesWhole r i (reading_as (tree_as as_it_is) (answer_by p t)) → GivesWhole r i (reading_as as_read (answer_by p t))
+    → GivesWhole r i (reading_as (tree_as as_it_is) (answer_by p t)) → GivesWhole r i
+    (reading_as as_read (answer_by p t))
 lent-gives p t r i h = subst (GivesWhole r i) (lent-same (answer_by p t)) h
 
 pub lent-none : (p : Settings) (t : List ℕ) (k : Kind) (x i : ℕ) → (step t value_first 0 ≡ failed k x) × (i ≡ x)

@@ -39,18 +39,22 @@ use Rattle.jiter_value.proofs.Sizes.{key-size}
 
 module _ (made : Text → Text) (p : Settings) (t : List ℕ) (i e levels : ℕ) where
   begins : (s : Start) → start_of (slice_index t i) ≡ s
-      → value_at (rules_as made p) t levels i ≡ value_with (rules_as made p) (inside_at (rules_as made p) t levels) t i s
+      → value_at (rules_as made p) t levels i ≡ value_with (rules_as made p) (inside_at (rules_as made p) t levels) t
+      i s
   begins s h = ap (value_with (rules_as made p) (inside_at (rules_as made p) t levels) t i) h
 
   pub text-read : (s : Text) → start_of (slice_index t i) ≡ start.String
-      → ((keep : Bool) → string_at (text_form keep) t i ≡ taken s e) → value_at (rules_as made p) t levels i ≡ done (string (made s)) e
+      → ((keep : Bool) → string_at (text_form keep) t i ≡ taken s e) → value_at (rules_as made p) t levels i ≡ done
+      (string (made s)) e
   text-read s h is =
       begins start.String h
       ∙ ap (λ x. scalar_at i (seen_as (λ s e. string (made s)) x)) (is (allows_trailing_strings p.mode))
 
   pub number-read : (n : Number) → start_of (slice_index t i) ≡ start.Number
-      → number_at p.allow_inf_nan t i ≡ taken n e → value_at (rules_as made p) t levels i ≡ done (tree_as made (number_tree n)) e
-  number-read n h is = begins start.Number h ∙ ap (λ x. scalar_at i (seen_as (λ n e. tree_as made (number_tree n)) x)) is
+      → number_at p.allow_inf_nan t i ≡ taken n e → value_at (rules_as made p) t levels i ≡ done
+      (tree_as made (number_tree n)) e
+  number-read n h is = begins start.Number h ∙ ap (λ x. scalar_at i (seen_as (λ n e. tree_as made (number_tree n)) x))
+      is
 
   pub literal-read : (l : Literal) → start_of (slice_index t i) ≡ start.Literal l → literal_at t l i ≡ taken tt e
       → value_at (rules_as made p) t levels i ≡ done (literal_tree l) e

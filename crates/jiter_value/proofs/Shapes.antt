@@ -67,7 +67,8 @@ turned : (s : Stacks) (a : Slot) (h : Shape) (n : SmallVec Open) → n.items ≡
     → reverse n.items ≡ opened s a h ∷ reverse s.nest.items
 turned s a h n pushed = ap reverse pushed ∙ reverse-append s.nest.items (opened s a h ∷ [])
 
-module _ (made : Text → Text) (p : Settings) (t : List ℕ) (s : Stacks) (a : Slot) (b : Stands s a) (few : length s.nest.items ≤ 200)
+module _ (made : Text → Text) (p : Settings) (t : List ℕ) (s : Stacks) (a : Slot) (b : Stands s a)
+    (few : length s.nest.items ≤ 200)
     (i : ℕ) where
   -- a container begins with a part
   opens : (h : Shape) (j : ℕ) → j < length t → start_of (slice_index t i) ≡ opening h
@@ -77,7 +78,8 @@ module _ (made : Text → Text) (p : Settings) (t : List ℕ) (s : Stacks) (a : 
   opens h j lt starts is =
       let os = reverse s.nest.items in
       begins made p t s a b few i h (more j) starts (ap (resolve_step (forgives p.mode)) is)
-      ∙ ap₂ (λ fs xs. resume (rules_as made p) t fs (parts_from (rules_as made p) t (container_of made p t h (length fs)) xs j))
+      ∙ ap₂ (λ fs xs. resume (rules_as made p) t fs (parts_from (rules_as made p) t
+      (container_of made p t h (length fs)) xs j))
       (sym (same-below s a h)) (sym (no-parts s h))
       ∙ next-part made p t h (opened s a h) os s.items.items s.members.items j lt
 

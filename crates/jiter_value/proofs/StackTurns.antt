@@ -137,7 +137,8 @@ module _ (made : Text → Text) (p : Settings) (t : List ℕ) where
   -- A value goes where it belongs.
   pub put-item : (os : List Open) (es : List JsonValue) (ms : List Member) (root v : JsonValue) (e : ℕ)
       → HaveBases slot.Item os (length es) (length ms)
-      → resume (rules_as made p) t (frames slot.Item os es ms) (done (view v) e) ≡ behind_in made p t slot.Item os (es ++ v ∷ [])
+      → resume (rules_as made p) t (frames slot.Item os es ms) (done (view v) e) ≡ behind_in made p t slot.Item os
+      (es ++ v ∷ [])
       ms root e
   put-item [] es ms root v e h = absurd h
   put-item (o ∷ os) es ms root v e h = rw (above-more view o.base es v h.0, take-append-le o.base es (v ∷ []) h.0) refl
@@ -171,13 +172,15 @@ module _ (made : Text → Text) (p : Settings) (t : List ℕ) where
   behind-to : (h : Shape) (o : Open) (os : List Open) (es : List JsonValue) (ms : List Member) (root : JsonValue)
       (e : ℕ) (u : Step) → resolve_step (forgives p.mode) (step t (container_step h t) e) ≡ u
       → behind_in made p t (slot_in h) (o ∷ os) es ms root e ≡ resume (rules_as made p) t (frames_below h o os es ms)
-      (parts_step (rules_as made p) t (container_of h (length (frames_below h o os es ms))) (parts_above h o.base es ms) u)
+      (parts_step (rules_as made p) t (container_of h (length (frames_below h o os es ms)))
+      (parts_above h o.base es ms) u)
   behind-to shape.Array o os es ms root e u is =
       let fs = frames o.outer os (take o.base es) ms in
       step-to (rules_as made p) t (array_in (rules_as made p) t (length fs)) fs (map view (drop o.base es)) _ u is
   behind-to shape.Object o os es ms root e u is =
       let fs = frames o.outer os es (take o.base ms) in
-      step-to (rules_as made p) t (object_in (rules_as made p) t (length fs)) fs (map member_view (drop o.base ms)) _ u is
+      step-to (rules_as made p) t (object_in (rules_as made p) t (length fs)) fs (map member_view (drop o.base ms)) _
+      u is
 
   -- what a container of these parts ends as
   built-to : (h : Shape) (fs : List (Frame Text Tree)) (xs : List (PartTree h)) (c : ℕ)
@@ -189,7 +192,8 @@ module _ (made : Text → Text) (p : Settings) (t : List ℕ) where
   -- and a fault in it that is not forgiven
   stuck-to : (h : Shape) (fs : List (Frame Text Tree)) (xs : List (PartTree h)) (k : Kind) (j : ℕ)
       → forgives p.mode k ≡ false
-      → resume (rules_as made p) t fs (parts_step (rules_as made p) t (container_of h (length fs)) xs (stuck k j)) ≡ fault k j j
+      → resume (rules_as made p) t fs (parts_step (rules_as made p) t (container_of h (length fs)) xs (stuck k j)) ≡
+      fault k j j
   stuck-to h fs xs k j bad =
       step-stuck (rules_as made p) t (container_of h (length fs)) fs xs (stuck k j) k j
       (ap (λ y. cond y (closed j) (stuck k j)) bad) bad
@@ -206,7 +210,8 @@ module _ (made : Text → Text) (p : Settings) (t : List ℕ) where
   pub next-part : (h : Shape) (o : Open) (os : List Open) (es : List JsonValue) (ms : List Member) (j : ℕ)
       → j < length t
       → resume (rules_as made p) t (frames_below h o os es ms)
-      (parts_from (rules_as made p) t (container_of h (length (frames_below h o os es ms))) (parts_above h o.base es ms) j) ≡
+      (parts_from (rules_as made p) t (container_of h (length (frames_below h o os es ms)))
+      (parts_above h o.base es ms) j) ≡
       part_in h (o ∷ os) es ms j
   next-part shape.Array o os es ms j h =
       items-value (rules_as made p) t good (frames o.outer os (take o.base es) ms) (map view (drop o.base es)) j h
@@ -242,7 +247,8 @@ module _ (made : Text → Text) (p : Settings) (t : List ℕ) where
   -- A fault where a value is awaited.
   pub fault-value : (os : List Open) (es : List JsonValue) (before : List Member) (m : Member) (k : Kind)
       (x stop : ℕ) → HaveKeyBase os (length es) (length before) → forgives p.mode k ≡ true
-      → resume (rules_as made p) t (frames slot.Member os es (before ++ m ∷ [])) (fault k x stop) ≡ container_in made p t
+      → resume (rules_as made p) t (frames slot.Member os es (before ++ m ∷ [])) (fault k x stop) ≡ container_in made
+      p t
       shape.Object os es before stop
   fault-value [] es before m k x stop b ok = absurd b
   fault-value (o ∷ os) es before m k x stop b ok =
@@ -264,12 +270,14 @@ module _ (made : Text → Text) (p : Settings) (t : List ℕ) where
 
     pub value-read : (x : Reading Tree) → ((levels : ℕ) → value_at (rules_as made p) t levels i ≡ x)
         → value_from (rules_as made p) t fs i ≡ resume (rules_as made p) t fs x
-    value-read x is = ap (resume (rules_as made p) t fs) (value_in-levels (rules_as made p) t (length fs) i low ∙ is (200 - length fs))
+    value-read x is = ap (resume (rules_as made p) t fs) (value_in-levels (rules_as made p) t (length fs) i low ∙ is
+        (200 - length fs))
 
     -- a container begins, by where the step behind its bracket leads
     pub begins : (h : Shape) (u : Step) → start_of (slice_index t i) ≡ opening h
         → resolve_step (forgives p.mode) (step t (container_first h) (i + 1)) ≡ u
-        → value_from (rules_as made p) t fs i ≡ resume (rules_as made p) t fs (parts_step (rules_as made p) t (container_of h (length fs)) [] u)
+        → value_from (rules_as made p) t fs i ≡ resume (rules_as made p) t fs
+        (parts_step (rules_as made p) t (container_of h (length fs)) [] u)
     begins shape.Array u is s = container-begins (rules_as made p) t good any fs i u low shape.Array is s
     begins shape.Object u is s = container-begins (rules_as made p) t good any fs i u low shape.Object is s
 
@@ -317,7 +325,8 @@ module _ (made : Text → Text) (p : Settings) (t : List ℕ) where
       → key_in made p t os es ms j ≡ value_from (rules_as made p) t (frames_at_key (made k) os es ms) m
   key-begins [] es ms j k e m b h v s = absurd b
   key-begins (o ∷ os) es ms j k e m b h v s =
-      key-value (rules_as made p) t good (frames o.outer os es (take o.base ms)) (map member_view (drop o.base ms)) j e m
+      key-value (rules_as made p) t good (frames o.outer os es (take o.base ms)) (map member_view (drop o.base ms)) j
+      e m
       (made k) h (ap (seen_as (λ s e. made s)) (scalar-taken j (string_at whole t j) k e v)) s
 
   -- and is the last member's.
@@ -340,7 +349,8 @@ module _ (made : Text → Text) (p : Settings) (t : List ℕ) where
   key-fails (o ∷ os) es ms j k x stop b h v =
       let key = scalar-failed j (string_at whole t j) k x stop v in
       rw key.1
-      (key-failed (rules_as made p) t good (frames o.outer os es (take o.base ms)) (map member_view (drop o.base ms)) j x k h
+      (key-failed (rules_as made p) t good (frames o.outer os es (take o.base ms)) (map member_view (drop o.base ms))
+      j x k h
       (ap (seen_as (λ s e. made s)) key.0))
 
   pub colon-fails : (os : List Open) (es : List JsonValue) (ms : List Member) (j : ℕ) (key : Text) (e x stop : ℕ)
@@ -349,8 +359,10 @@ module _ (made : Text → Text) (p : Settings) (t : List ℕ) where
       → key_in made p t os es ms j ≡ key_fault_in made p t os es ms k x stop
   colon-fails [] es ms j key e x stop k b h v s = absurd b
   colon-fails (o ∷ os) es ms j key e x stop k b h v s =
-      colon-failed (rules_as made p) t good (frames o.outer os es (take o.base ms)) (map member_view (drop o.base ms)) j e x
-      (made key) k h (ap (seen_as (λ s e. made s)) (scalar-taken j (string_at whole t j) key e v)) s.0 ∙ ap (key_fault_in made p t (o ∷ os) es ms k x) (sym s.1)
+      colon-failed (rules_as made p) t good (frames o.outer os es (take o.base ms)) (map member_view (drop o.base ms))
+      j e x
+      (made key) k h (ap (seen_as (λ s e. made s)) (scalar-taken j (string_at whole t j) key e v)) s.0 ∙ ap
+      (key_fault_in made p t (o ∷ os) es ms k x) (sym s.1)
 
   pub key-kept : (os : List Open) (es : List JsonValue) (ms : List Member) (k : Kind) (x stop : ℕ)
       → forgives p.mode k ≡ false → key_fault_in made p t os es ms k x stop ≡ fault k x stop
@@ -358,7 +370,8 @@ module _ (made : Text → Text) (p : Settings) (t : List ℕ) where
   key-kept (o ∷ os) es ms k x stop bad =
       let fs = frames o.outer os es (take o.base ms) in
       ap (resume (rules_as made p) t fs)
-      (if_forgiven-no (rules_as made p) t (λ e. (rules_as made p).object 0 e (map member_view (drop o.base ms))) k x stop bad)
+      (if_forgiven-no (rules_as made p) t (λ e. (rules_as made p).object 0 e (map member_view (drop o.base ms))) k x
+      stop bad)
       ∙ resume-fault (rules_as made p) t fs k x stop bad
 
 -- a value that is there needs no key any more
@@ -378,7 +391,8 @@ pub root-stands : (nest : List Open) (es : List JsonValue) (ms : List Member) �
 root-stands nest es ms a b c =
     rw (a, b, c) (refl, refl)
 
-pub root-from : (made : Text → Text) (p : Settings) (t : List ℕ) (os : List Open) (es : List JsonValue) (ms : List Member) (n m i : ℕ)
+pub root-from : (made : Text → Text) (p : Settings) (t : List ℕ) (os : List Open) (es : List JsonValue)
+    (ms : List Member) (n m i : ℕ)
     → HaveBases slot.Root os n m
     → value_at (rules_as made p) t 200 i ≡ value_from (rules_as made p) t (frames slot.Root os es ms) i
 root-from made p t [] es ms n m i h = sym (value_in-levels (rules_as made p) t 0 i (omega arith))

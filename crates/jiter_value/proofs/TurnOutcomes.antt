@@ -16,7 +16,8 @@ use Rattle.jiter_value.specs.declared.stacks.State.{State}
 use Rattle.jiter_value.specs.declared.stacks.State.TheVariants as state
 
 -- from a place before it, with more that is left and more that may be held
-pub leads-weaker : {made : Text → Text} {p : Settings} {t : List ℕ} {i j l m h n : ℕ} {x y : Reading Tree} {s : Stacks} {r : ℕ × State}
+pub leads-weaker : {made : Text → Text} {p : Settings} {t : List ℕ} {i j l m h n : ℕ} {x y : Reading Tree}
+    {s : Stacks} {r : ℕ × State}
     → Proceeds made p t j m n y s r → i ≤ j → m ≤ l → n ≤ h → x ≡ y → Proceeds made p t i l h x s r
 leads-weaker {s = s} {r = r} a forward more room is =
     let forth = a.within.0 in

@@ -97,14 +97,16 @@ module _ (made : Text → Text) (p : Settings) (t : List ℕ) where
   abbrev pub key_in : List Open → List JsonValue → List Member → ℕ → Reading Tree
   key_in [] items members j = fault eof_object j j
   key_in (o ∷ os) items members j =
-      key_from (rules_as made p) t (frames o.outer os items (take o.base members)) (map member_view (drop o.base members)) j
+      key_from (rules_as made p) t (frames o.outer os items (take o.base members))
+      (map member_view (drop o.base members)) j
 
   -- where the key or its colon has this fault
   abbrev pub key_fault_in : List Open → List JsonValue → List Member → Kind → ℕ → ℕ → Reading Tree
   key_fault_in [] items members k x stop = fault k x stop
   key_fault_in (o ∷ os) items members k x stop =
       resume (rules_as made p) t (frames o.outer os items (take o.base members))
-      (if_forgiven (rules_as made p) (λ e. (rules_as made p).object 0 e (map member_view (drop o.base members))) k x stop)
+      (if_forgiven (rules_as made p) (λ e. (rules_as made p).object 0 e (map member_view (drop o.base members))) k x
+      stop)
 
   -- where the innermost container has a value that ends at e
   abbrev pub behind_in : Slot → List Open → List JsonValue → List Member → JsonValue → ℕ → Reading Tree
@@ -112,14 +114,16 @@ module _ (made : Text → Text) (p : Settings) (t : List ℕ) where
   behind_in slot.Item (o ∷ os) items members root e =
       items_from (rules_as made p) t (frames o.outer os (take o.base items) members) (map view (drop o.base items)) e
   behind_in slot.Member (o ∷ os) items members root e =
-      members_from (rules_as made p) t (frames o.outer os items (take o.base members)) (map member_view (drop o.base members)) e
+      members_from (rules_as made p) t (frames o.outer os items (take o.base members))
+      (map member_view (drop o.base members)) e
   behind_in slot.Root (o ∷ os) items members root e = done (view root) e
 
   -- where the innermost container ends at e
   abbrev pub container_in : Shape → List Open → List JsonValue → List Member → ℕ → Reading Tree
   container_in h [] items members e = fault (end_kind_of h) e e
   container_in h (o ∷ os) items members e =
-      resume (rules_as made p) t (frames_below h o os items members) (done (built h (parts_above h o.base items members)) e)
+      resume (rules_as made p) t (frames_below h o os items members)
+      (done (built h (parts_above h o.base items members)) e)
 
   -- The same of all that is held.
   abbrev pub resume_with : Stacks → Slot → Reading Tree → Reading Tree

@@ -79,13 +79,14 @@ pub record Proceeds (made : Text → Text) (p : Settings) (t : List ℕ) (i l h 
   pub held : IfOk (outcome s r.1) (λ a. held s a ≤ h)
 
 -- The value that is awaited at i is put where it belongs, and ends at e: a scalar.
-pub record IsPutAt (made : Text → Text) (t : List ℕ) (old : Stacks) (i : ℕ) (a : Slot) (new : Stacks) (e : ℕ) : Type 0 where
-  pub value : (p : Settings) → from_value made p t old a i ≡ behind made p t new a e
-  pub stands : Stands new a
-  pub nest : new.nest ≡ old.nest
-  pub held : behind_size new a ≡ value_size old a + 1
-  pub ahead : i < e
-  pub within : e ≤ length t
+pub record IsPutAt (made : Text → Text) (t : List ℕ) (old : Stacks) (i : ℕ) (a : Slot) (new : Stacks) (e : ℕ) : Type 0
+  where
+    pub value : (p : Settings) → from_value made p t old a i ≡ behind made p t new a e
+    pub stands : Stands new a
+    pub nest : new.nest ≡ old.nest
+    pub held : behind_size new a ≡ value_size old a + 1
+    pub ahead : i < e
+    pub within : e ≤ length t
 
 -- The key at i is put where it belongs, and its value begins at j.
 pub record IsKeyAt (made : Text → Text) (t : List ℕ) (old : Stacks) (i : ℕ) (new : Stacks) (j : ℕ) : Type 0 where

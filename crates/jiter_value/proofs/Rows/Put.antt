@@ -30,7 +30,8 @@ module _ (error : ReadError) where
   module _ (es : Vec JsonValue Global) (ms : Vec Member Global) (no_members : ms.items ≡ []) where
     -- `true`
     a_document : es.items ≡ []
-        → IsPutAt as_it_is (codes "true") (stacks error es ms [] Null) 0 slot.Root (stacks error es ms [] (value.Bool true)) 4
+        → IsPutAt as_it_is (codes "true") (stacks error es ms [] Null) 0 slot.Root
+        (stacks error es ms [] (value.Bool true)) 4
     a_document no_items = record {
       value = λ p. unfold computed_readings in rw (view_bool true) refl;
       stands = rw (no_items, no_members) (refl, refl);
@@ -41,7 +42,8 @@ module _ (error : ReadError) where
     }
 
     -- Another value is not put there, nor is it there at another place.
-    not_another : IsPutAt as_it_is (codes "true") (stacks error es ms [] Null) 0 slot.Root (stacks error es ms [] Null) 4 → ⊥
+    not_another : IsPutAt as_it_is (codes "true") (stacks error es ms [] Null) 0 slot.Root
+        (stacks error es ms [] Null) 4 → ⊥
     not_another h =
         unfold computed_readings in
         let put : done (boolean true) 4 ≡ done (view Null) 4 = h.value (settings Off) in

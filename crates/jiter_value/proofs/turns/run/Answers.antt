@@ -11,7 +11,8 @@ turning-init g c =
     let none : length s.nest.items ≡ 0 = ap length c.requires.nest in (
       omega arith,
       a.parser.now.within,
-      root-from g.T.Texts.made a.settings a.parser.now.bytes.now (reverse s.nest.items) s.items.items s.members.items _ _
+      root-from g.T.Texts.made a.settings a.parser.now.bytes.now (reverse s.nest.items) s.items.items s.members.items
+          _ _
           a.parser.now.index b,
       (b, omega (arith, none), c.requires.within),
       λ e. cc,

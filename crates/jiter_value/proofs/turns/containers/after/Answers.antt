@@ -21,7 +21,8 @@ returns-in-Part-clause-leads g c =
       reaches = rw c.part_of.ensures
           (reaches-part g.T.Texts.made p t s h j _
           (so_far.2
-          ∙ behind-more g.T.Texts.made p t h s.items.items s.members.items s.root l.at (reverse s.nest.items) j so_far.3 next lt)
+          ∙ behind-more g.T.Texts.made p t h s.items.items s.members.items s.root l.at (reverse s.nest.items) j
+          so_far.3 next lt)
           (inside-stands s h so_far.3) (λ array. so_far.4) (omega (arith, so_far.4)) lt);
       left = search library_rules;
       held = search library_rules;
@@ -36,7 +37,8 @@ returns-then-not-ends-clause-leads g c =
     record {
       within = (omega (arith, so_far.0, c.plain_step-next.ensures.within.0), c.plain_step-next.ensures.within.1);
       reaches = rw so_far.2
-          (behind-fails g.T.Texts.made c.args.settings c.args.bytes.now c.in-Some.shape s.items.items s.members.items s.root l.at
+          (behind-fails g.T.Texts.made c.args.settings c.args.bytes.now c.in-Some.shape s.items.items s.members.items
+          s.root l.at
           (reverse s.nest.items) j c.ends.new.stacks.error so_far.3 c.if-not-ends.ensures.resolved);
       left = tt;
       held = tt;
@@ -57,7 +59,8 @@ closing-preserved g c =
       omega (arith, so_far.0, forward),
       c.plain_step-next.ensures.within.1,
       so_far.2
-          ∙ behind-closed g.T.Texts.made p t h s.items.items s.members.items s.root l.at (reverse s.nest.items) j so_far.3
+          ∙ behind-closed g.T.Texts.made p t h s.items.items s.members.items s.root l.at (reverse s.nest.items) j
+          so_far.3
           c.if-not-ends.ensures.resolved
           ∙ (rw same at c.in-Ok.ensures.value g.T.Texts.made p t j),
       c.in-Ok.ensures.stands,

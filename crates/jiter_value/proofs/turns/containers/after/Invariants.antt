@@ -9,7 +9,8 @@ abbrev pub invariant-closing : goal.invariant-closing
 invariant-closing g l =
     (l.fn.from ≤ l.at) × (l.at ≤ length l.fn.bytes)
     ×
-    (behind g.T.Texts.made l.settings l.fn.bytes l.fn.stacks l.fn.slot l.fn.from ≡ behind g.T.Texts.made l.settings l.fn.bytes l.stacks l.inside
+    (behind g.T.Texts.made l.settings l.fn.bytes l.fn.stacks l.fn.slot l.fn.from ≡ behind g.T.Texts.made l.settings
+    l.fn.bytes l.stacks l.inside
     l.at)
     × Stands l.stacks l.inside × (length l.stacks.nest.items ≤ 200)
     × (left l.fn.bytes l.stacks l.at ≤ left l.fn.bytes l.fn.stacks l.fn.from)

@@ -11,7 +11,8 @@ returns-then-not-ends g c =
     record {
       leads = record {
         within = (omega (arith, c.plain_first-next.ensures.within.0), c.plain_first-next.ensures.within.1);
-        reaches = begins-fails g.T.Texts.made a.settings a.bytes.now a.stacks.now a.slot c.requires.at_value.0 c.requires.at_value.1
+        reaches = begins-fails g.T.Texts.made a.settings a.bytes.now a.stacks.now a.slot c.requires.at_value.0
+            c.requires.at_value.1
             a.at
             a.shape c.plain_first-next.result.0 c.ends.new.stacks.error c.requires.bracket r;
         left = tt;
@@ -30,7 +31,8 @@ returns g c =
     let forward = c.plain_first-next.ensures.within.0 in
     record {
       leads = leads-weaker (rw same at empty.leads) (omega (arith, forward)) (omega (arith, forward)) (omega arith)
-          (begins-closed g.T.Texts.made a.settings a.bytes.now a.stacks.now a.slot c.requires.at_value.0 c.requires.at_value.1 a.at
+          (begins-closed g.T.Texts.made a.settings a.bytes.now a.stacks.now a.slot c.requires.at_value.0
+          c.requires.at_value.1 a.at
           a.shape
           c.plain_first-next.result.0 c.requires.bracket ends.resolved);
       memory = λ e. root-grows r _ (empty.root e) (refused-weaker r _ _ (λ other. absurd (other e)) empty.memory);

@@ -15,7 +15,8 @@ returns-then-not-forgives g c =
       leads = record {
         within = (omega arith, c.requires.within);
         reaches = rw c.give_up.ensures.error
-            (key-kept g.T.Texts.made a.settings a.bytes.now (reverse s.nest.items) s.items.items s.members.items k a.problem.index a.at
+            (key-kept g.T.Texts.made a.settings a.bytes.now (reverse s.nest.items) s.items.items s.members.items k
+            a.problem.index a.at
             bad);
         left = tt;
         held = tt;

@@ -46,7 +46,8 @@ returns-in-Member-clause-leads g c =
     let outer = ap (inside_size_in shape.Object os es) popped in
     rw c.in-Member.is
     (leads-weaker c.close_and_go_on-in-Member.ensures.leads (omega arith) (omega arith) (omega (arith, outer, was))
-    (ap (λ ys. resume (rules_as g.T.Texts.made a.settings) a.bytes.now (frames slot.Member os es ys) (fault k a.problem.index a.at))
+    (ap (λ ys. resume (rules_as g.T.Texts.made a.settings) a.bytes.now (frames slot.Member os es ys)
+    (fault k a.problem.index a.at))
     last.1
     ∙ fault-value g.T.Texts.made a.settings a.bytes.now os es before last.0 k a.problem.index a.at last.2 ok
     ∙ ap (λ ys. container_in g.T.Texts.made a.settings a.bytes.now shape.Object os es ys a.at) (sym popped)))

@@ -77,7 +77,8 @@ returns-in-Err g c =
     record {
       leads = leads-weaker c.fault_at_key.ensures.leads (omega (arith, forward, onward))
           (omega (arith, forward, onward)) (omega arith)
-          (colon-fails g.T.Texts.made p t (reverse s.nest.items) s.items.items s.members.items c.args.at (text_view c.in-Ok.key)
+          (colon-fails g.T.Texts.made p t (reverse s.nest.items) s.items.items s.members.items c.args.at
+          (text_view c.in-Ok.key)
           c.string.new.self.index f.index c.object_colon.new.self.index (fault_kind f.kind) c.requires.stands
           c.requires.within c.in-Ok.ensures.value (rw same at c.in-Err.ensures.value));
     }
@@ -91,8 +92,10 @@ returns-in-Err-Fault g c =
     let read = rw c.in-Err-Fault.field-0-is at c.in-Err-Fault.ensures.value in
     let forward = c.in-Err-Fault.ensures.moves.forward in
     record {
-      leads = leads-weaker (rw c.in-Err-Fault.field-0-is at c.fault_at_key-in-Err-Fault.ensures.leads) (omega (arith, forward)) (omega (arith, forward))
+      leads = leads-weaker (rw c.in-Err-Fault.field-0-is at c.fault_at_key-in-Err-Fault.ensures.leads)
+          (omega (arith, forward)) (omega (arith, forward))
           (omega arith)
-          (key-fails g.T.Texts.made p t (reverse s.nest.items) s.items.items s.members.items c.args.at (fault_kind f.kind) f.index
+          (key-fails g.T.Texts.made p t (reverse s.nest.items) s.items.items s.members.items c.args.at
+          (fault_kind f.kind) f.index
           c.string.new.self.index c.requires.stands c.requires.within read);
     }

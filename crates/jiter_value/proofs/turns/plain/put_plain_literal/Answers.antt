@@ -12,7 +12,8 @@ returns-in-Null-clause-put g c =
     let found = c.in_ok-end.ensures in
     put-at _ (literal_tree a.literal) (view_null ∙ ap literal_tree (sym c.in-Null.is)) c.requires.at_value.0
     c.requires.at_value.1 n.value n.stands n.nest n.held (ap (λ x. size (literal_tree x)) c.in-Null.is) found.within.0
-    found.within.1 (λ p levels. literal-read g.T.Texts.made p a.bytes.now a.at _ levels a.literal c.requires.begins found.value)
+    found.within.1 (λ p levels. literal-read g.T.Texts.made p a.bytes.now a.at _ levels a.literal c.requires.begins
+    found.value)
 
 pub returns-in-True-clause-put : goal.returns-in-True-clause-put
 returns-in-True-clause-put g c =
@@ -21,7 +22,8 @@ returns-in-True-clause-put g c =
     let found = c.in_ok-end.ensures in
     put-at _ (literal_tree a.literal) (view_bool true ∙ ap literal_tree (sym c.in-True.is)) c.requires.at_value.0
     c.requires.at_value.1 n.value n.stands n.nest n.held (ap (λ x. size (literal_tree x)) c.in-True.is) found.within.0
-    found.within.1 (λ p levels. literal-read g.T.Texts.made p a.bytes.now a.at _ levels a.literal c.requires.begins found.value)
+    found.within.1 (λ p levels. literal-read g.T.Texts.made p a.bytes.now a.at _ levels a.literal c.requires.begins
+    found.value)
 
 pub returns-in-False-clause-put : goal.returns-in-False-clause-put
 returns-in-False-clause-put g c =
@@ -30,4 +32,5 @@ returns-in-False-clause-put g c =
     let found = c.in_ok-end.ensures in
     put-at _ (literal_tree a.literal) (view_bool false ∙ ap literal_tree (sym c.in-False.is)) c.requires.at_value.0
     c.requires.at_value.1 n.value n.stands n.nest n.held (ap (λ x. size (literal_tree x)) c.in-False.is) found.within.0
-    found.within.1 (λ p levels. literal-read g.T.Texts.made p a.bytes.now a.at _ levels a.literal c.requires.begins found.value)
+    found.within.1 (λ p levels. literal-read g.T.Texts.made p a.bytes.now a.at _ levels a.literal c.requires.begins
+    found.value)

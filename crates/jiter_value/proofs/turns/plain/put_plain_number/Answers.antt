@@ -24,7 +24,12 @@ keep_lent-requires g c =
       (
         c.requires.texts,
         range-lies a.bytes.now a.at c.in-Float.end _
-            (omega (arith, found.some, IsMinusTo-le a.bytes.now a.at c.minus_end-from.result c.minus_end-from.ensures.minus))
+            (omega (
+              arith,
+              found.some,
+              IsMinusTo-le a.bytes.now a.at c.minus_end-from.result
+                  c.minus_end-from.ensures.minus,
+            ))
             found.within c.ascii_text.ensures,
       ),
     )
@@ -55,7 +60,8 @@ returns-in_ok-text-in-Float-clause-put g c =
     let made = g.T.Texts.made in
     put-at _ (float (made (record { owned = false; bytes = slice_range t a.at e })))
     (view_float _
-    ∙ ap float (c.in_ok-text-in-Float.ensures ∙ ap (λ w. made (record { owned = false; bytes = w })) c.ascii_text.ensures))
+    ∙ ap float (c.in_ok-text-in-Float.ensures ∙ ap (λ w. made (record { owned = false; bytes = w }))
+    c.ascii_text.ensures))
     c.requires.at_value.0 c.requires.at_value.1 n.value n.stands n.nest n.held refl
     (omega (arith, found.some, IsMinusTo-le t a.at from minus)) found.within
     (λ p levels. number-read g.T.Texts.made p t a.at e levels (number.float (slice_range t a.at e)) c.requires.begins

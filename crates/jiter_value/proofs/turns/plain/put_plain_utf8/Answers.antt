@@ -13,7 +13,8 @@ keep_lent-requires g c =
       (refl, tt),
       (
         c.requires.texts,
-        range-lies a.bytes.now (a.at + 1) a.to _ (omega (arith, c.requires.within.0)) (omega (arith, c.requires.within.1))
+        range-lies a.bytes.now (a.at + 1) a.to _ (omega (arith, c.requires.within.0))
+            (omega (arith, c.requires.within.1))
             c.in_ok-text_between.ensures.text,
       ),
     )
