@@ -6,11 +6,11 @@ use Rattle.std.proofs.lemmas.Option.{slice_get_read}
 use Rattle.std.specs.Prelude.{slice_get, Some}
 use Rattle.jiter_steps.specs.Tree.{Text, Tree, array, object, Items, Members}
 use Rattle.jiter_steps.specs.Tree.{items_of, members_of}
-use Rattle.jiter_value.specs.Owned.{owned_tree, owned_member, HoldSame}
+use Rattle.jiter_value.specs.Owned.{owned_text, owned_tree, owned_member, HoldSame}
 use Rattle.jiter_value.specs.Stacks.{Member, member_view}
 use Rattle.jiter_value.specs.Value.{view}
 use Rattle.jiter_value.specs.declared.value.JsonValue.{JsonValue, Array, Object}
-use Rattle.jiter_value.proofs.Owning.{owned_items-of, owned_members-of}
+use Rattle.jiter_value.proofs.MadeTexts.{items_as-of, members_as-of}
 use Rattle.jiter_value.proofs.Views.{view_array, view_object}
 
 pub along : {b : Bool} {P Q : Type 0} → Decides b P → (P → Q) → (Q → P) → Decides b Q
@@ -45,11 +45,11 @@ same-member_lists ms ns e = absurd (cc)
 
 owned-view-Array : (v : Vec JsonValue Global)
     → owned_tree (view (Array v)) ≡ array (items_of (map owned_tree (map view v.items)))
-owned-view-Array v = ap owned_tree (view_array v) ∙ ap array (owned_items-of (map view v.items))
+owned-view-Array v = ap owned_tree (view_array v) ∙ ap array (items_as-of owned_text (map view v.items))
 
 owned-view-Object : (v : Vec Member Global)
     → owned_tree (view (Object v)) ≡ object (members_of (map owned_member (map member_view v.items)))
-owned-view-Object v = ap owned_tree (view_object v) ∙ ap object (owned_members-of (map member_view v.items))
+owned-view-Object v = ap owned_tree (view_object v) ∙ ap object (members_as-of owned_text (map member_view v.items))
 
 pub array-decides : (b : Bool) (v w : Vec JsonValue Global)
     → Decides b (map owned_tree (map view v.items) ≡ map owned_tree (map view w.items))

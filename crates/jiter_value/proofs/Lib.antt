@@ -1,3 +1,5 @@
+pub mod MadeTexts
+pub mod LentTexts
 pub mod WholeTextAnswers
 pub mod StackTurns
 pub mod ParsedDocuments
@@ -5,6 +7,7 @@ pub mod Pins
 pub mod TurnOutcomes
 pub mod Sizes
 pub mod Views
+pub mod MadeAnswers
 pub mod OwnedAnswers
 pub mod Owning
 pub mod Codes

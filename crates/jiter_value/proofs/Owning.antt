@@ -3,20 +3,13 @@ use Rattle.std.proofs.Common.{◌≡◌, ℕ, ◌+◌, ◌<◌, List, [], ◌∷
 use Rattle.std.proofs.Common.{sym, arith, Vec, Global}
 use Rattle.std.proofs.lemmas.List.{map_push, take_more}
 use Rattle.std.specs.Prelude.{Result, Ok, Err, OnErr}
-use Rattle.jiter_steps.specs.Tree.{Text, Tree, array, object, item, member, items_of, members_of}
-use Rattle.jiter_value.specs.Owned.{owned_tree, owned_items, owned_members, owned_member, owned_text, HoldsSuchOrPart}
+use Rattle.jiter_steps.specs.Tree.{Text, array, object, items_of, members_of}
+use Rattle.jiter_value.specs.Owned.{owned_tree, owned_member, owned_text, HoldsSuchOrPart}
 use Rattle.jiter_value.specs.Stacks.{Member, member_view}
 use Rattle.jiter_value.specs.Value.{view}
 use Rattle.jiter_value.specs.declared.value.JsonValue.{JsonValue, Array, Object}
+use Rattle.jiter_value.proofs.MadeTexts.{items_as-of, members_as-of}
 use Rattle.jiter_value.proofs.Views.{view_array, view_object}
-
-pub owned_items-of : (ts : List Tree) → owned_items (items_of ts) ≡ items_of (map owned_tree ts)
-owned_items-of [] = refl
-owned_items-of (t ∷ ts) = ap (item (owned_tree t)) (owned_items-of ts)
-
-pub owned_members-of : (ms : List (Text × Tree)) → owned_members (members_of ms) ≡ members_of (map owned_member ms)
-owned_members-of [] = refl
-owned_members-of (m ∷ ms) = ap (member (owned_text m.0) (owned_tree m.1)) (owned_members-of ms)
 
 -- the copy of an array, by the copies of its items
 pub copied_array : (v w : Vec JsonValue Global) → map view v.items ≡ map view w.items → view (Array v) ≡ view (Array w)
@@ -29,11 +22,11 @@ copied_object v w h = rw (view_object v, view_object w, h) refl
 -- the owned copy of an array, by the owned copies of its items
 pub owned_array : (v w : Vec JsonValue Global) → map view v.items ≡ map owned_tree (map view w.items)
     → view (Array v) ≡ owned_tree (view (Array w))
-owned_array v w h = rw (view_array v, view_array w, h, owned_items-of (map view w.items)) refl
+owned_array v w h = rw (view_array v, view_array w, h, items_as-of owned_text (map view w.items)) refl
 
 pub owned_object : (v w : Vec Member Global) → map member_view v.items ≡ map owned_member (map member_view w.items)
     → view (Object v) ≡ owned_tree (view (Object w))
-owned_object v w h = rw (view_object v, view_object w, h, owned_members-of (map member_view w.items)) refl
+owned_object v w h = rw (view_object v, view_object w, h, members_as-of owned_text (map member_view w.items)) refl
 
 -- one more part, moved
 pub moved-more : {X Y : Type 0} (f : X → Y) (g : Y → Y) (moved xs : List X) (i : ℕ) (x y : X)

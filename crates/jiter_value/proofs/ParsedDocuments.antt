@@ -29,13 +29,13 @@ use Rattle.jiter_steps.proofs.Reading.Bounds.{Within}
 use Rattle.jiter_value.specs.Parses.{Parses, as_read, reading_as}
 use Rattle.jiter_value.specs.Reading.{GivesWhole, IsErrorOf}
 use Rattle.jiter_value.specs.Settings.{answer_by}
-use Rattle.jiter_value.specs.Value.{view, Answers, MayGrow}
+use Rattle.jiter_value.specs.Value.{view, Answers}
 use Rattle.jiter_value.specs.declared.settings.Settings.{Settings}
 use Rattle.jiter_value.specs.declared.value.JsonValue.{JsonValue}
 use Rattle.jiter_value.proofs.WholeTextAnswers.{answer_in-within, error-answers}
 
 -- a fault is that of the reading, whatever becomes of its tree
-fault-read : (made : Tree → Tree) (x : Reading Tree) (k : Kind) (i stop : ℕ) → reading_as made x ≡ fault k i stop
+pub fault-read : (made : Tree → Tree) (x : Reading Tree) (k : Kind) (i stop : ℕ) → reading_as made x ≡ fault k i stop
     → x ≡ fault k i stop
 fault-read made (done v e) k i stop h = absurd (cc)
 fault-read made (fault l j s) k i stop h = h
@@ -158,27 +158,41 @@ module _ (names : Bool) (t : List ℕ) (mode : PartialMode) where
         }
 
 -- Of what a reading gives: its value, or the error that is made of why it was given up at i.
-module _ (p : Settings) (t : List ℕ) (i : ℕ) where
-  pub value-parses : (v : JsonValue) → GivesWhole (Ok v) i (answer_by p t)
-      → Parses as_read (MayGrow t) p.allow_inf_nan p.mode t (Ok v)
-  value-parses v h =
-      parses p.allow_inf_nan t p.mode as_read (MayGrow t) (Ok v) (h.0, as_read-is (answer_by p t) ∙ h.1) tt
+module _ (made : Tree → Tree) (Grows : Type 0) (p : Settings) (t : List ℕ) (i : ℕ) where
+  pub value-parses : (v : JsonValue) → GivesWhole (Ok v) i (reading_as made (answer_by p t))
+      → Parses made Grows p.allow_inf_nan p.mode t (Ok v)
+  value-parses v h = parses p.allow_inf_nan t p.mode made Grows (Ok v) h tt
 
-  wanted : (x : ReadError) (e : JsonError) → IsErrorOf x i e → GivesWhole (Err x) i (answer_by p t) → i ≤ length t
-      → WhereRefused {A = JsonValue} (Err x) (MayGrow t) → WhereRefused {A = JsonValue} (Err x) (past_blanks t 0 ≤ i)
-      → IsWanted p.allow_inf_nan t p.mode as_read (MayGrow t) e
+  wanted : (x : ReadError) (e : JsonError) → IsErrorOf x i e
+      → GivesWhole (Err x) i (reading_as made (answer_by p t)) → i ≤ length t
+      → WhereRefused {A = JsonValue} (Err x) Grows → WhereRefused {A = JsonValue} (Err x) (past_blanks t 0 ≤ i)
+      → IsWanted p.allow_inf_nan t p.mode made Grows e
   wanted (error.Memory m) e is h le grows from = λ same. rw is (grows, from, le)
   wanted (error.Fault f) e is h le grows from = λ same.
-      let read : answer_by p t ≡ fault (kind_of e.error_type) e.index i =
+      let read : reading_as made (answer_by p t) ≡ fault (kind_of e.error_type) e.index i =
       h ∙ ap₂ (λ k x. fault k x i) (sym is.0) (sym is.1) in
-      absurd ((fault-at p.allow_inf_nan t p.mode as_read e i (as_read-is (answer_by p t) ∙ read)).bytes
-      (ap kind_of same))
+      absurd ((fault-at p.allow_inf_nan t p.mode made e i read).bytes (ap kind_of same))
 
-  pub error-parses : (x : ReadError) (e : JsonError) → IsErrorOf x i e → GivesWhole (Err x) i (answer_by p t)
-      → i ≤ length t → WhereRefused {A = JsonValue} (Err x) (MayGrow t)
-      → WhereRefused {A = JsonValue} (Err x) (past_blanks t 0 ≤ i)
-      → Parses as_read (MayGrow t) p.allow_inf_nan p.mode t (Err e)
+  pub error-parses : (x : ReadError) (e : JsonError) → IsErrorOf x i e
+      → GivesWhole (Err x) i (reading_as made (answer_by p t)) → i ≤ length t
+      → WhereRefused {A = JsonValue} (Err x) Grows → WhereRefused {A = JsonValue} (Err x) (past_blanks t 0 ≤ i)
+      → Parses made Grows p.allow_inf_nan p.mode t (Err e)
   error-parses x e is h le grows from =
-      parses p.allow_inf_nan t p.mode as_read (MayGrow t) (Err e)
-      (subst (Answers (Err e)) (sym (as_read-is (answer_by p t))) (error-answers x i e (answer_by p t) is h))
-      (wanted x e is h le grows from)
+      parses p.allow_inf_nan t p.mode made Grows (Err e)
+      (error-answers x i e (reading_as made (answer_by p t)) is h) (wanted x e is h le grows from)
+
+-- What a parse promises, where the same becomes of its tree and memory may be wanted wherever it was.
+module _ (made other : Tree → Tree) (same : (v : Tree) → made v ≡ other v) (P Q : Type 0) (more : P → Q)
+    (names : Bool) (mode : PartialMode) (t : List ℕ) where
+  reading-same : (x : Reading Tree) → reading_as made x ≡ reading_as other x
+  reading-same (done v e) = ap (λ w. done w e) (same v)
+  reading-same (fault k i stop) = refl
+
+  want-same : (r : Result JsonValue JsonError) → Parses made P names mode t r
+      → IfErr r (IsWanted names t mode other Q)
+  want-same (Ok v) h = tt
+  want-same (Err e) h = λ m. (more (h.memory m), h.place m, h.index)
+
+  pub parses-same : (r : Result JsonValue JsonError) → Parses made P names mode t r → Parses other Q names mode t r
+  parses-same r h =
+      parses names t mode other Q r (subst (Answers r) (reading-same (answer_in names mode t)) h.answer) (want-same r h)

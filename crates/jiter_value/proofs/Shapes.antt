@@ -11,10 +11,10 @@ use Rattle.jiter_steps.specs.Literal.{start_of}
 use Rattle.jiter_steps.specs.Step.{container_first, opening}
 use Rattle.jiter_steps.specs.Read.{Reading, fault}
 use Rattle.jiter_steps.specs.Step.{more, step, array_first}
-use Rattle.jiter_steps.specs.Tree.{Tree}
+use Rattle.jiter_steps.specs.Tree.{Text, Tree}
 use Rattle.jiter_steps.specs.declared.parse.Shape.{Shape}
 use Rattle.jiter_steps.specs.declared.parse.Shape.TheVariants as shape
-use Rattle.jiter_value.specs.Settings.{forgives, rules}
+use Rattle.jiter_value.specs.Settings.{forgives, rules_as}
 use Rattle.jiter_value.specs.Stacks.{from_value, Stands}
 use Rattle.jiter_value.specs.Stacks.{StandsInside, HavePartBase, frames, parts_above, frames_below, member_view}
 use Rattle.jiter_value.specs.Stacks.{slot_in, base_of, part_of}
@@ -28,12 +28,12 @@ use Rattle.jiter_value.specs.declared.stacks.Stacks.{Stacks}
 use Rattle.jiter_value.proofs.StackTurns.{begins, next-part, part_in, container_of, key-base, limit-reached}
 
 -- A part begins; an object's key may stand one deeper than an array's item.
-pub reaches-part : (p : Settings) (t : List ℕ) (s : Stacks) (h : Shape) (j : ℕ) (x : Reading Tree)
-    → x ≡ part_in p t h (reverse s.nest.items) s.items.items s.members.items j → StandsInside h s
+pub reaches-part : (made : Text → Text) (p : Settings) (t : List ℕ) (s : Stacks) (h : Shape) (j : ℕ) (x : Reading Tree)
+    → x ≡ part_in made p t h (reverse s.nest.items) s.items.items s.members.items j → StandsInside h s
     → (h ≡ shape.Array → length s.nest.items ≤ 200) → length s.nest.items ≤ 201 → j < length t
-    → Reaches p t s j (outcome s (part_of h)) x
-reaches-part p t s shape.Array j x is b few low lt = (is, (b, few refl, lt))
-reaches-part p t s shape.Object j x is b few low lt = (is, (b, low, lt))
+    → Reaches made p t s j (outcome s (part_of h)) x
+reaches-part made p t s shape.Array j x is b few low lt = (is, (b, few refl, lt))
+reaches-part made p t s shape.Object j x is b few low lt = (is, (b, low, lt))
 
 pub inside-stands : (s : Stacks) (h : Shape) → Stands s (slot_in h) → StandsInside h s
 inside-stands s shape.Array b = b
@@ -67,42 +67,44 @@ turned : (s : Stacks) (a : Slot) (h : Shape) (n : SmallVec Open) → n.items ≡
     → reverse n.items ≡ opened s a h ∷ reverse s.nest.items
 turned s a h n pushed = ap reverse pushed ∙ reverse-append s.nest.items (opened s a h ∷ [])
 
-module _ (p : Settings) (t : List ℕ) (s : Stacks) (a : Slot) (b : Stands s a) (few : length s.nest.items ≤ 200)
+module _ (made : Text → Text) (p : Settings) (t : List ℕ) (s : Stacks) (a : Slot) (b : Stands s a)
+    (few : length s.nest.items ≤ 200)
     (i : ℕ) where
   -- a container begins with a part
   opens : (h : Shape) (j : ℕ) → j < length t → start_of (slice_index t i) ≡ opening h
       → step t (container_first h) (i + 1) ≡ more j
-      → from_value p t s a i
-      ≡ part_in p t h (opened s a h ∷ reverse s.nest.items) s.items.items s.members.items j
+      → from_value made p t s a i
+      ≡ part_in made p t h (opened s a h ∷ reverse s.nest.items) s.items.items s.members.items j
   opens h j lt starts is =
       let os = reverse s.nest.items in
-      begins p t s a b few i h (more j) starts (ap (resolve_step (forgives p.mode)) is)
-      ∙ ap₂ (λ fs xs. resume (rules p) t fs (parts_from (rules p) t (container_of p t h (length fs)) xs j))
+      begins made p t s a b few i h (more j) starts (ap (resolve_step (forgives p.mode)) is)
+      ∙ ap₂ (λ fs xs. resume (rules_as made p) t fs (parts_from (rules_as made p) t
+      (container_of made p t h (length fs)) xs j))
       (sym (same-below s a h)) (sym (no-parts s h))
-      ∙ next-part p t h (opened s a h) os s.items.items s.members.items j lt
+      ∙ next-part made p t h (opened s a h) os s.items.items s.members.items j lt
 
   -- and stands open
   pub shape-opens : (h : Shape) (j : ℕ) (n : SmallVec Open) → n.items ≡ s.nest.items ++ opened s a h ∷ []
       → j < length t → start_of (slice_index t i) ≡ opening h
       → step t (container_first h) (i + 1) ≡ more j → (h ≡ shape.Array → length s.nest.items ≢ 200)
-      → Reaches p t (with_nest s n) j (outcome (with_nest s n) (part_of h)) (from_value p t s a i)
+      → Reaches made p t (with_nest s n) j (outcome (with_nest s n) (part_of h)) (from_value made p t s a i)
   shape-opens h j n pushed lt starts is some =
       let es = s.items.items in
       let ms = s.members.items in
       let nest = turned s a h n pushed in
       let longer = ap length pushed ∙ length-append s.nest.items (opened s a h ∷ []) in
-      reaches-part p t (with_nest s n) h j _
-      (opens h j lt starts is ∙ ap (λ qs. part_in p t h qs es ms j) (sym nest))
+      reaches-part made p t (with_nest s n) h j _
+      (opens h j lt starts is ∙ ap (λ qs. part_in made p t h qs es ms j) (sym nest))
       (subst (λ qs. HavePartBase h qs (length es) (length ms)) (sym nest) (base-above s a h b))
       (λ array. let full = some array in omega (arith, few, full, longer)) (omega (arith, few, longer)) lt
 
   -- an array stands too deep
   pub array-too-deep : (j : ℕ) → length s.nest.items ≡ 200 → j < length t
       → start_of (slice_index t i) ≡ start.Array → step t array_first (i + 1) ≡ more j
-      → from_value p t s a i ≡ fault recursion_limit j j
+      → from_value made p t s a i ≡ fault recursion_limit j j
   array-too-deep j full lt starts is =
       opens shape.Array j lt starts is
-      ∙ limit-reached p t slot.Item (opened s a shape.Array ∷ reverse s.nest.items) s.items.items s.members.items j
+      ∙ limit-reached made p t slot.Item (opened s a shape.Array ∷ reverse s.nest.items) s.items.items s.members.items j
       (base-above s a shape.Array b) (omega (arith, full, length-reverse s.nest.items))
 
 pub not-root : (h : Shape) → slot_in h ≡ slot.Root → ⊥

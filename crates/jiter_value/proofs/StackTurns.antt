@@ -11,7 +11,7 @@ use Rattle.jiter_scan.specs.Kind.{Kind, fault_kind, recursion_limit}
 use Rattle.jiter_scan.specs.Scanned.{Scanned, taken, failed}
 use Rattle.jiter_scan.specs.declared.partial_mode.PartialMode.{PartialMode}
 use Rattle.jiter_scan.specs.declared.partial_mode.PartialMode.TheVariants.{Off, On, TrailingStrings}
-use Rattle.jiter_steps.specs.Answer.{value_form}
+use Rattle.jiter_steps.specs.Answer.{seen_as}
 use Rattle.jiter_steps.specs.Tree.{Text, Tree}
 use Rattle.jiter_steps.specs.Literal.{start_of}
 use Rattle.jiter_steps.specs.Step.{Step, more, closed, stuck, step, container_first, container_step, object_colon}
@@ -25,12 +25,11 @@ use Rattle.jiter_steps.specs.Frames.{array_in, object_in, value_from}
 use Rattle.jiter_steps.specs.declared.parse.Shape.{Shape}
 use Rattle.jiter_steps.specs.declared.parse.Shape.TheVariants as shape
 use Rattle.jiter_steps.proofs.Reading.Values.{Advances}
-use Rattle.jiter_steps.proofs.Reading.Instances.{trees-advances}
 use Rattle.jiter_steps.proofs.Calls.Resumed.{IgnoresBegin, value_in-levels, value_in-limit, if_forgiven-no}
 use Rattle.jiter_steps.proofs.Calls.Resumed.{resume-fault}
 use Rattle.jiter_steps.proofs.Calls.Resumed.{resume-forgiven, step-to, step-stuck, items-value, key-value, key-failed}
 use Rattle.jiter_steps.proofs.Calls.Resumed.{colon-failed, container-begins}
-use Rattle.jiter_value.specs.Settings.{forgives, rules}
+use Rattle.jiter_value.specs.Settings.{forgives, rules_as}
 use Rattle.jiter_value.specs.Stacks.{Member, member_view, last_key_of, last_key, but_last, frames, PartTree, built}
 use Rattle.jiter_value.specs.Stacks.{parts_above, frames_below, HaveBases, HaveKeyBase, key_in, key_fault_in}
 use Rattle.jiter_value.specs.Stacks.{behind_in, container_in, slot_in, empty_tree, Stands}
@@ -43,6 +42,7 @@ use Rattle.jiter_value.specs.declared.stacks.Open.{Open}
 use Rattle.jiter_value.specs.declared.stacks.Stacks.{Stacks}
 use Rattle.jiter_value.specs.declared.value.JsonValue.{JsonValue}
 use Rattle.jiter_value.specs.declared.value.JsonValue.TheVariants.{Null}
+use Rattle.jiter_value.proofs.MadeTexts.{rules_as-advances}
 
 -- a list's last, set
 pub set-last : (xs before : List Member) (n : ℕ) (key : CowStr Global) (old v : JsonValue) (got : Member)
@@ -90,6 +90,12 @@ value-frames o os es before m h =
       last_key-append (drop o.base before) m,
     ) refl
 
+-- the frames, where an object awaits the value of a key that is not a member's yet
+abbrev pub frames_at_key : Text → List Open → List JsonValue → List Member → List (Frame Text Tree)
+frames_at_key k [] es ms = []
+frames_at_key k (o ∷ os) es ms =
+    members_frame (map member_view (drop o.base ms)) k ∷ frames o.outer os es (take o.base ms)
+
 length-frames : (a : Slot) (os : List Open) (n m : ℕ) (es : List JsonValue) (ms : List Member)
     → HaveBases a os n m → length (frames a os es ms) ≡ length os
 length-frames a [] n m es ms h = refl
@@ -112,7 +118,7 @@ limit-kept On = refl
 limit-kept TrailingStrings = refl
 
 -- what the reading of a scalar says of the scalar
-scalar-taken : {A : Type 0} (i : ℕ) (x : Scanned A) (a : A) (e : ℕ) → scalar_at i x ≡ done a e → x ≡ taken a e
+pub scalar-taken : {A : Type 0} (i : ℕ) (x : Scanned A) (a : A) (e : ℕ) → scalar_at i x ≡ done a e → x ≡ taken a e
 scalar-taken i (taken b d) a e h = cc
 scalar-taken i (failed k j) a e h = absurd (cc)
 
@@ -121,24 +127,25 @@ scalar-failed : {A : Type 0} (i : ℕ) (x : Scanned A) (k : Kind) (j stop : ℕ)
 scalar-failed i (taken b d) k j stop h = absurd (cc)
 scalar-failed i (failed l m) k j stop h = (cc, cc)
 
-module _ (p : Settings) (t : List ℕ) where
-  good : Advances (rules p) t
-  good = trees-advances t (forgives p.mode) (value_form p.mode) p.allow_inf_nan
+module _ (made : Text → Text) (p : Settings) (t : List ℕ) where
+  good : Advances (rules_as made p) t
+  good = rules_as-advances made p t
 
-  any : IgnoresBegin (rules p)
+  any : IgnoresBegin (rules_as made p)
   any = record { array = λ b. refl; object = λ b. refl }
 
   -- A value goes where it belongs.
   pub put-item : (os : List Open) (es : List JsonValue) (ms : List Member) (root v : JsonValue) (e : ℕ)
       → HaveBases slot.Item os (length es) (length ms)
-      → resume (rules p) t (frames slot.Item os es ms) (done (view v) e) ≡ behind_in p t slot.Item os (es ++ v ∷ [])
+      → resume (rules_as made p) t (frames slot.Item os es ms) (done (view v) e) ≡ behind_in made p t slot.Item os
+      (es ++ v ∷ [])
       ms root e
   put-item [] es ms root v e h = absurd h
   put-item (o ∷ os) es ms root v e h = rw (above-more view o.base es v h.0, take-append-le o.base es (v ∷ []) h.0) refl
 
   pub put-value : (os : List Open) (es : List JsonValue) (before : List Member) (m : Member) (root v : JsonValue)
       (e : ℕ) → HaveKeyBase os (length es) (length before)
-      → resume (rules p) t (frames slot.Member os es (before ++ m ∷ [])) (done (view v) e) ≡ behind_in p t
+      → resume (rules_as made p) t (frames slot.Member os es (before ++ m ∷ [])) (done (view v) e) ≡ behind_in made p t
       slot.Member os es (before ++ (m.0, v) ∷ []) root e
   put-value [] es before m root v e h = absurd h
   put-value (o ∷ os) es before m root v e h =
@@ -152,40 +159,43 @@ module _ (p : Settings) (t : List ℕ) where
   pub container-closes : (h : Shape) (nest init : List Open) (o : Open) (es : List JsonValue) (ms : List Member)
       (fs : List (Frame Text Tree)) (x : Tree) (e : ℕ)
       → nest ≡ init ++ o ∷ [] → fs ≡ frames_below h o (reverse init) es ms → x ≡ built h (parts_above h o.base es ms)
-      → container_in p t h (reverse nest) es ms e ≡ resume (rules p) t fs (done x e)
+      → container_in made p t h (reverse nest) es ms e ≡ resume (rules_as made p) t fs (done x e)
   container-closes h nest init o es ms fs x e is below made =
       rw (is, reverse-append init (o ∷ []), below, made) refl
 
   -- Behind a part: the step that is taken there, inside what stands below.
   abbrev pub container_of : (h : Shape) → ℕ → Container (PartTree h) Tree
-  container_of shape.Array depth = array_in (rules p) t depth
-  container_of shape.Object depth = object_in (rules p) t depth
+  container_of shape.Array depth = array_in (rules_as made p) t depth
+  container_of shape.Object depth = object_in (rules_as made p) t depth
 
   -- where a step behind a part of it leads
   behind-to : (h : Shape) (o : Open) (os : List Open) (es : List JsonValue) (ms : List Member) (root : JsonValue)
       (e : ℕ) (u : Step) → resolve_step (forgives p.mode) (step t (container_step h t) e) ≡ u
-      → behind_in p t (slot_in h) (o ∷ os) es ms root e ≡ resume (rules p) t (frames_below h o os es ms)
-      (parts_step (rules p) t (container_of h (length (frames_below h o os es ms))) (parts_above h o.base es ms) u)
+      → behind_in made p t (slot_in h) (o ∷ os) es ms root e ≡ resume (rules_as made p) t (frames_below h o os es ms)
+      (parts_step (rules_as made p) t (container_of h (length (frames_below h o os es ms)))
+      (parts_above h o.base es ms) u)
   behind-to shape.Array o os es ms root e u is =
       let fs = frames o.outer os (take o.base es) ms in
-      step-to (rules p) t (array_in (rules p) t (length fs)) fs (map view (drop o.base es)) _ u is
+      step-to (rules_as made p) t (array_in (rules_as made p) t (length fs)) fs (map view (drop o.base es)) _ u is
   behind-to shape.Object o os es ms root e u is =
       let fs = frames o.outer os es (take o.base ms) in
-      step-to (rules p) t (object_in (rules p) t (length fs)) fs (map member_view (drop o.base ms)) _ u is
+      step-to (rules_as made p) t (object_in (rules_as made p) t (length fs)) fs (map member_view (drop o.base ms)) _
+      u is
 
   -- what a container of these parts ends as
   built-to : (h : Shape) (fs : List (Frame Text Tree)) (xs : List (PartTree h)) (c : ℕ)
-      → resume (rules p) t fs (parts_step (rules p) t (container_of h (length fs)) xs (closed c))
-      ≡ resume (rules p) t fs (done (built h xs) c)
+      → resume (rules_as made p) t fs (parts_step (rules_as made p) t (container_of h (length fs)) xs (closed c))
+      ≡ resume (rules_as made p) t fs (done (built h xs) c)
   built-to shape.Array fs xs c = refl
   built-to shape.Object fs xs c = refl
 
   -- and a fault in it that is not forgiven
   stuck-to : (h : Shape) (fs : List (Frame Text Tree)) (xs : List (PartTree h)) (k : Kind) (j : ℕ)
       → forgives p.mode k ≡ false
-      → resume (rules p) t fs (parts_step (rules p) t (container_of h (length fs)) xs (stuck k j)) ≡ fault k j j
+      → resume (rules_as made p) t fs (parts_step (rules_as made p) t (container_of h (length fs)) xs (stuck k j)) ≡
+      fault k j j
   stuck-to h fs xs k j bad =
-      step-stuck (rules p) t (container_of h (length fs)) fs xs (stuck k j) k j
+      step-stuck (rules_as made p) t (container_of h (length fs)) fs xs (stuck k j) k j
       (ap (λ y. cond y (closed j) (stuck k j)) bad) bad
 
   outermost : (h : Shape) (n m : ℕ) → HaveBases (slot_in h) [] n m → ⊥
@@ -194,29 +204,30 @@ module _ (p : Settings) (t : List ℕ) where
 
   -- a part of the innermost container is awaited at j
   abbrev pub part_in : Shape → List Open → List JsonValue → List Member → ℕ → Reading Tree
-  part_in shape.Array os es ms j = value_from (rules p) t (frames slot.Item os es ms) j
-  part_in shape.Object os es ms j = key_in p t os es ms j
+  part_in shape.Array os es ms j = value_from (rules_as made p) t (frames slot.Item os es ms) j
+  part_in shape.Object os es ms j = key_in made p t os es ms j
 
   pub next-part : (h : Shape) (o : Open) (os : List Open) (es : List JsonValue) (ms : List Member) (j : ℕ)
       → j < length t
-      → resume (rules p) t (frames_below h o os es ms)
-      (parts_from (rules p) t (container_of h (length (frames_below h o os es ms))) (parts_above h o.base es ms) j) ≡
+      → resume (rules_as made p) t (frames_below h o os es ms)
+      (parts_from (rules_as made p) t (container_of h (length (frames_below h o os es ms)))
+      (parts_above h o.base es ms) j) ≡
       part_in h (o ∷ os) es ms j
   next-part shape.Array o os es ms j h =
-      items-value (rules p) t good (frames o.outer os (take o.base es) ms) (map view (drop o.base es)) j h
+      items-value (rules_as made p) t good (frames o.outer os (take o.base es) ms) (map view (drop o.base es)) j h
   next-part shape.Object o os es ms j h = refl
 
   module _ (h : Shape) (es : List JsonValue) (ms : List Member) (root : JsonValue) (e : ℕ) where
     pub behind-more : (os : List Open) (j : ℕ) → HaveBases (slot_in h) os (length es) (length ms)
         → step t (container_step h t) e ≡ more j → j < length t
-        → behind_in p t (slot_in h) os es ms root e ≡ part_in h os es ms j
+        → behind_in made p t (slot_in h) os es ms root e ≡ part_in h os es ms j
     behind-more [] j b s lt = absurd (outermost h (length es) (length ms) b)
     behind-more (o ∷ os) j b s lt =
         behind-to h o os es ms root e (more j) (ap (resolve_step (forgives p.mode)) s) ∙ next-part h o os es ms j lt
 
     pub behind-closed : (os : List Open) (c : ℕ) → HaveBases (slot_in h) os (length es) (length ms)
         → resolve_step (forgives p.mode) (step t (container_step h t) e) ≡ closed c
-        → behind_in p t (slot_in h) os es ms root e ≡ container_in p t h os es ms c
+        → behind_in made p t (slot_in h) os es ms root e ≡ container_in made p t h os es ms c
     behind-closed [] c b s = absurd (outermost h (length es) (length ms) b)
     behind-closed (o ∷ os) c b s =
         behind-to h o os es ms root e (closed c) s
@@ -226,7 +237,7 @@ module _ (p : Settings) (t : List ℕ) where
     pub behind-fails : (os : List Open) (j : ℕ) (error : ReadError)
         → HaveBases (slot_in h) os (length es) (length ms)
         → IsResolved p false error j (step t (container_step h t) e)
-        → Fails error j (behind_in p t (slot_in h) os es ms root e)
+        → Fails error j (behind_in made p t (slot_in h) os es ms root e)
     behind-fails [] j error b r = absurd (outermost h (length es) (length ms) b)
     behind-fails (o ∷ os) j error b r =
         rw (r.1, r.2)
@@ -236,12 +247,13 @@ module _ (p : Settings) (t : List ℕ) where
   -- A fault where a value is awaited.
   pub fault-value : (os : List Open) (es : List JsonValue) (before : List Member) (m : Member) (k : Kind)
       (x stop : ℕ) → HaveKeyBase os (length es) (length before) → forgives p.mode k ≡ true
-      → resume (rules p) t (frames slot.Member os es (before ++ m ∷ [])) (fault k x stop) ≡ container_in p t
+      → resume (rules_as made p) t (frames slot.Member os es (before ++ m ∷ [])) (fault k x stop) ≡ container_in made
+      p t
       shape.Object os es before stop
   fault-value [] es before m k x stop b ok = absurd b
   fault-value (o ∷ os) es before m k x stop b ok =
       rw (value-frames o os es before m b.0)
-      (resume-forgiven (rules p) t (members_frame (map member_view (drop o.base before)) (text_view m.0))
+      (resume-forgiven (rules_as made p) t (members_frame (map member_view (drop o.base before)) (text_view m.0))
       (frames o.outer os es (take o.base before)) k x stop ok)
 
   -- A value begins.
@@ -256,81 +268,111 @@ module _ (p : Settings) (t : List ℕ) where
         let deep = length-frames a (reverse s.nest.items) (length es) (length ms) es ms bases in
         omega (arith, deep, few, length-reverse s.nest.items)
 
-    pub value-read : (x : Reading Tree) → ((levels : ℕ) → value_at (rules p) t levels i ≡ x)
-        → value_from (rules p) t fs i ≡ resume (rules p) t fs x
-    value-read x is = ap (resume (rules p) t fs) (value_in-levels (rules p) t (length fs) i low ∙ is (200 - length fs))
+    pub value-read : (x : Reading Tree) → ((levels : ℕ) → value_at (rules_as made p) t levels i ≡ x)
+        → value_from (rules_as made p) t fs i ≡ resume (rules_as made p) t fs x
+    value-read x is = ap (resume (rules_as made p) t fs) (value_in-levels (rules_as made p) t (length fs) i low ∙ is
+        (200 - length fs))
 
     -- a container begins, by where the step behind its bracket leads
     pub begins : (h : Shape) (u : Step) → start_of (slice_index t i) ≡ opening h
         → resolve_step (forgives p.mode) (step t (container_first h) (i + 1)) ≡ u
-        → value_from (rules p) t fs i ≡ resume (rules p) t fs (parts_step (rules p) t (container_of h (length fs)) [] u)
-    begins shape.Array u is s = container-begins (rules p) t good any fs i u low shape.Array is s
-    begins shape.Object u is s = container-begins (rules p) t good any fs i u low shape.Object is s
+        → value_from (rules_as made p) t fs i ≡ resume (rules_as made p) t fs
+        (parts_step (rules_as made p) t (container_of h (length fs)) [] u)
+    begins shape.Array u is s = container-begins (rules_as made p) t good any fs i u low shape.Array is s
+    begins shape.Object u is s = container-begins (rules_as made p) t good any fs i u low shape.Object is s
 
     pub begins-closed : (h : Shape) (c : ℕ) → start_of (slice_index t i) ≡ opening h
         → resolve_step (forgives p.mode) (step t (container_first h) (i + 1)) ≡ closed c
-        → value_from (rules p) t fs i ≡ resume (rules p) t fs (done (empty_tree h) c)
+        → value_from (rules_as made p) t fs i ≡ resume (rules_as made p) t fs (done (empty_tree h) c)
     begins-closed shape.Array c is s = begins shape.Array (closed c) is s
     begins-closed shape.Object c is s = begins shape.Object (closed c) is s
 
     -- a fault behind its bracket that is not forgiven
     pub begins-fails : (h : Shape) (j : ℕ) (error : ReadError) → start_of (slice_index t i) ≡ opening h
         → IsResolved p false error j (step t (container_first h) (i + 1))
-        → Fails error j (value_from (rules p) t fs i)
+        → Fails error j (value_from (rules_as made p) t fs i)
     begins-fails h j error is r =
         rw (r.1, r.2)
         (begins h (stuck (fault_kind r.0.kind) j) is r.3 ∙ stuck-to h fs [] (fault_kind r.0.kind) j r.4)
 
   -- A value stands inside too many containers.
+  limit-in : (fs : List (Frame Text Tree)) (j : ℕ) → length fs ≡ 201
+      → value_from (rules_as made p) t fs j ≡ fault recursion_limit j j
+  limit-in fs j full =
+      ap (λ n. resume (rules_as made p) t fs (value_in (rules_as made p) t n j)) full
+      ∙ ap (resume (rules_as made p) t fs) (value_in-limit (rules_as made p) t j)
+      ∙ resume-fault (rules_as made p) t fs recursion_limit j j (limit-kept p.mode)
+
   pub limit-reached : (a : Slot) (os : List Open) (es : List JsonValue) (ms : List Member) (j : ℕ)
       → HaveBases a os (length es) (length ms) → length os ≡ 201
-      → value_from (rules p) t (frames a os es ms) j ≡ fault recursion_limit j j
+      → value_from (rules_as made p) t (frames a os es ms) j ≡ fault recursion_limit j j
   limit-reached a os es ms j b full =
-      let fs = frames a os es ms in
-      ap (λ n. resume (rules p) t fs (value_in (rules p) t n j))
-      (length-frames a os (length es) (length ms) es ms b ∙ full)
-      ∙ ap (resume (rules p) t fs) (value_in-limit (rules p) t j)
-      ∙ resume-fault (rules p) t fs recursion_limit j j (limit-kept p.mode)
+      limit-in (frames a os es ms) j (length-frames a os (length es) (length ms) es ms b ∙ full)
 
-  -- A key begins.
-  pub key-opens : (os : List Open) (es : List JsonValue) (ms : List Member) (j : ℕ) (k : CowStr Global) (e m : ℕ)
+  -- the same behind a key
+  pub key-limit : (k : Text) (os : List Open) (es : List JsonValue) (ms : List Member) (j : ℕ)
+      → HaveKeyBase os (length es) (length ms) → length os ≡ 201
+      → value_from (rules_as made p) t (frames_at_key k os es ms) j ≡ fault recursion_limit j j
+  key-limit k [] es ms j b full = absurd b
+  key-limit k (o ∷ os) es ms j b full =
+      limit-in (frames_at_key k (o ∷ os) es ms) j
+      (ap suc (length-frames o.outer os (length es) o.base es (take o.base ms) b.1) ∙ full)
+
+  -- A key begins: what is made of it awaits its value,
+  pub key-begins : (os : List Open) (es : List JsonValue) (ms : List Member) (j : ℕ) (k : Text) (e m : ℕ)
       → HaveKeyBase os (length es) (length ms) → j < length t
-      → scalar_at j (string_at whole t j) ≡ done (text_view k) e → object_colon t e ≡ taken tt m
-      → key_in p t os es ms j ≡ value_from (rules p) t (frames slot.Member os es (ms ++ (k, Null) ∷ [])) m
-  key-opens [] es ms j k e m b h v s = absurd b
-  key-opens (o ∷ os) es ms j k e m b h v s =
-      key-value (rules p) t good (frames o.outer os es (take o.base ms)) (map member_view (drop o.base ms)) j e m
-      (text_view k) h (scalar-taken j (string_at whole t j) (text_view k) e v) s
-      ∙ ap (λ fs. value_from (rules p) t fs m) (sym (value-frames o os es ms (k, Null) b.0))
+      → scalar_at j (string_at whole t j) ≡ done k e → object_colon t e ≡ taken tt m
+      → key_in made p t os es ms j ≡ value_from (rules_as made p) t (frames_at_key (made k) os es ms) m
+  key-begins [] es ms j k e m b h v s = absurd b
+  key-begins (o ∷ os) es ms j k e m b h v s =
+      key-value (rules_as made p) t good (frames o.outer os es (take o.base ms)) (map member_view (drop o.base ms)) j
+      e m
+      (made k) h (ap (seen_as (λ s e. made s)) (scalar-taken j (string_at whole t j) k e v)) s
+
+  -- and is the last member's.
+  pub key-opens : (os : List Open) (es : List JsonValue) (ms : List Member) (j : ℕ) (k : Text) (kept : CowStr Global)
+      (e m : ℕ) → HaveKeyBase os (length es) (length ms) → j < length t
+      → scalar_at j (string_at whole t j) ≡ done k e → text_view kept ≡ made k → object_colon t e ≡ taken tt m
+      → key_in made p t os es ms j
+      ≡ value_from (rules_as made p) t (frames slot.Member os es (ms ++ (kept, Null) ∷ [])) m
+  key-opens [] es ms j k kept e m b h v is s = absurd b
+  key-opens (o ∷ os) es ms j k kept e m b h v is s =
+      key-begins (o ∷ os) es ms j k e m b h v s
+      ∙ ap (λ x. value_from (rules_as made p) t (frames_at_key x (o ∷ os) es ms) m) (sym is)
+      ∙ ap (λ fs. value_from (rules_as made p) t fs m) (sym (value-frames o os es ms (kept, Null) b.0))
 
   -- a fault of the key, and of its colon
   pub key-fails : (os : List Open) (es : List JsonValue) (ms : List Member) (j : ℕ) (k : Kind) (x stop : ℕ)
       → HaveKeyBase os (length es) (length ms) → j < length t → scalar_at j (string_at whole t j) ≡ fault k x stop
-      → key_in p t os es ms j ≡ key_fault_in p t os es ms k x stop
+      → key_in made p t os es ms j ≡ key_fault_in made p t os es ms k x stop
   key-fails [] es ms j k x stop b h v = absurd b
   key-fails (o ∷ os) es ms j k x stop b h v =
       let key = scalar-failed j (string_at whole t j) k x stop v in
       rw key.1
-      (key-failed (rules p) t good (frames o.outer os es (take o.base ms)) (map member_view (drop o.base ms)) j x k h
-      key.0)
+      (key-failed (rules_as made p) t good (frames o.outer os es (take o.base ms)) (map member_view (drop o.base ms))
+      j x k h
+      (ap (seen_as (λ s e. made s)) key.0))
 
   pub colon-fails : (os : List Open) (es : List JsonValue) (ms : List Member) (j : ℕ) (key : Text) (e x stop : ℕ)
       (k : Kind) → HaveKeyBase os (length es) (length ms) → j < length t
       → scalar_at j (string_at whole t j) ≡ done key e → (object_colon t e ≡ failed k x) × (stop ≡ x)
-      → key_in p t os es ms j ≡ key_fault_in p t os es ms k x stop
+      → key_in made p t os es ms j ≡ key_fault_in made p t os es ms k x stop
   colon-fails [] es ms j key e x stop k b h v s = absurd b
   colon-fails (o ∷ os) es ms j key e x stop k b h v s =
-      colon-failed (rules p) t good (frames o.outer os es (take o.base ms)) (map member_view (drop o.base ms)) j e x key
-      k h (scalar-taken j (string_at whole t j) key e v) s.0 ∙ ap (key_fault_in p t (o ∷ os) es ms k x) (sym s.1)
+      colon-failed (rules_as made p) t good (frames o.outer os es (take o.base ms)) (map member_view (drop o.base ms))
+      j e x
+      (made key) k h (ap (seen_as (λ s e. made s)) (scalar-taken j (string_at whole t j) key e v)) s.0 ∙ ap
+      (key_fault_in made p t (o ∷ os) es ms k x) (sym s.1)
 
   pub key-kept : (os : List Open) (es : List JsonValue) (ms : List Member) (k : Kind) (x stop : ℕ)
-      → forgives p.mode k ≡ false → key_fault_in p t os es ms k x stop ≡ fault k x stop
+      → forgives p.mode k ≡ false → key_fault_in made p t os es ms k x stop ≡ fault k x stop
   key-kept [] es ms k x stop bad = refl
   key-kept (o ∷ os) es ms k x stop bad =
       let fs = frames o.outer os es (take o.base ms) in
-      ap (resume (rules p) t fs)
-      (if_forgiven-no (rules p) t (λ e. (rules p).object 0 e (map member_view (drop o.base ms))) k x stop bad)
-      ∙ resume-fault (rules p) t fs k x stop bad
+      ap (resume (rules_as made p) t fs)
+      (if_forgiven-no (rules_as made p) t (λ e. (rules_as made p).object 0 e (map member_view (drop o.base ms))) k x
+      stop bad)
+      ∙ resume-fault (rules_as made p) t fs k x stop bad
 
 -- a value that is there needs no key any more
 pub key-base : (os : List Open) (n m : ℕ) → HaveBases slot.Member os n m → HaveKeyBase os n m
@@ -349,11 +391,12 @@ pub root-stands : (nest : List Open) (es : List JsonValue) (ms : List Member) �
 root-stands nest es ms a b c =
     rw (a, b, c) (refl, refl)
 
-pub root-from : (p : Settings) (t : List ℕ) (os : List Open) (es : List JsonValue) (ms : List Member) (n m i : ℕ)
+pub root-from : (made : Text → Text) (p : Settings) (t : List ℕ) (os : List Open) (es : List JsonValue)
+    (ms : List Member) (n m i : ℕ)
     → HaveBases slot.Root os n m
-    → value_at (rules p) t 200 i ≡ value_from (rules p) t (frames slot.Root os es ms) i
-root-from p t [] es ms n m i h = sym (value_in-levels (rules p) t 0 i (omega arith))
-root-from p t (o ∷ os) es ms n m i h = absurd h
+    → value_at (rules_as made p) t 200 i ≡ value_from (rules_as made p) t (frames slot.Root os es ms) i
+root-from made p t [] es ms n m i h = sym (value_in-levels (rules_as made p) t 0 i (omega arith))
+root-from made p t (o ∷ os) es ms n m i h = absurd h
 
 pub root-alone : (os : List Open) (n m : ℕ) → HaveBases slot.Root os n m → length os ≡ 0
 root-alone [] n m h = refl

@@ -22,9 +22,10 @@ use Rattle.jiter_steps.specs.declared.read_error.ReadError.TheVariants as error
 use Rattle.jiter_steps.proofs.Reading.WholeTexts.{front-begins, whole-is}
 use Rattle.jiter_steps.proofs.Reading.Bounds.{Within}
 use Rattle.jiter_steps.proofs.Reading.Instances.{answer-within, partial_answer-within}
+use Rattle.jiter_value.specs.Owned.{as_it_is}
 use Rattle.jiter_value.specs.Reading.{GivesWhole, IsErrorOf}
 use Rattle.jiter_value.specs.Settings.{forgives, rules, answer_by}
-use Rattle.jiter_value.specs.Value.{view, Answers, MayGrowAt, MayGrow}
+use Rattle.jiter_value.specs.Value.{view, Answers, MayGrowAt, MayGrowBy, MayGrow}
 use Rattle.jiter_value.specs.Machine.{HasBegun}
 use Rattle.jiter_value.specs.Size.{held, held_in}
 use Rattle.jiter_value.specs.Stacks.{Stands}
@@ -36,6 +37,7 @@ use Rattle.jiter_value.specs.declared.stacks.State.{State}
 use Rattle.jiter_value.specs.declared.stacks.State.TheVariants as state
 use Rattle.jiter_value.specs.declared.value.JsonValue.{JsonValue}
 use Rattle.jiter_value.proofs.StackTurns.{root-from, root-alone}
+use Rattle.jiter_value.proofs.TurnOutcomes.{grows-borrowing}
 
 -- where a value begins, a byte stands behind blanks
 begins-at : (i j : ℕ) (o : Option ℕ) → value_first j o ≡ taken tt i → j ≡ i
@@ -143,7 +145,7 @@ begins-at-value p t s i b h lt =
     let none : length s.nest.items ≡ 0 = sym (length-reverse s.nest.items)
     ∙ root-alone os (length s.items.items) (length s.members.items) b in
     record {
-      value = rw at (root-from p t os s.items.items s.members.items (length s.items.items)
+      value = rw at (root-from as_it_is p t os s.items.items s.members.items (length s.items.items)
           (length s.members.items) i b);
       within = (b, omega (arith, none), lt);
       goes_on = λ e. cc;
@@ -159,9 +161,9 @@ begun-grows t i a (inr grows) h = grows
 
 -- where memory is refused in a turn, the value may want some
 pub turn-grows : (t : List ℕ) (p : Settings) (i : ℕ) (a : State) (s : Stacks) (e : ReadError) → HasBegun t p i a s
-    → (a ≡ state.Root → MayGrowFor (Err e) (MayGrowAt t i)) → WhereRefused {A = JsonValue} (Err e) (MayGrow t)
+    → (a ≡ state.Root → MayGrowFor (Err e) (MayGrowBy ⊥ t i)) → WhereRefused {A = JsonValue} (Err e) (MayGrow t)
 turn-grows t p i a s (error.Fault f) b h = tt
-turn-grows t p i a s (error.Memory m) b h = begun-grows t i a b.grows h
+turn-grows t p i a s (error.Memory m) b h = begun-grows t i a b.grows (λ root. grows-borrowing t i (h root))
 
 -- what is held then, as the machine shows it
 pub held-begun : (t : List ℕ) (p : Settings) (i : ℕ) (a : State) (s : Stacks) → HasBegun t p i a s

@@ -8,6 +8,7 @@ pub mod Parses
 pub mod Machine
 pub mod TurnsTo
 pub mod Owned
+pub mod Texts
 pub mod Scratch
 pub mod Equality
 pub mod ValueCode

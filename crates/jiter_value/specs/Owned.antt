@@ -10,29 +10,43 @@ use Rattle.jiter_steps.specs.Tree.{Items, no_items, item, Members, no_members, m
 use Rattle.jiter_value.specs.Value.{view, MayGrow}
 use Rattle.jiter_value.specs.declared.value.JsonValue.{JsonValue}
 
+-- what is made of a text that is lent where it lies
+abbrev pub as_it_is : Text → Text
+as_it_is s = s
+
 -- the same bytes, in memory of their own
 abbrev pub owned_text : Text → Text
 owned_text s = record { owned = true; bytes = s.bytes }
 
--- the same tree, each of its texts owned
+-- the same tree, each of its texts made so
 abbrev mutual
-  pub owned_tree : Tree → Tree
-  owned_tree null = null
-  owned_tree (boolean b) = boolean b
-  owned_tree (int z) = int z
-  owned_tree (big s) = big (owned_text s)
-  owned_tree (float s) = float (owned_text s)
-  owned_tree (string s) = string (owned_text s)
-  owned_tree (array is) = array (owned_items is)
-  owned_tree (object ms) = object (owned_members ms)
+  pub tree_as : (Text → Text) → Tree → Tree
+  tree_as made null = null
+  tree_as made (boolean b) = boolean b
+  tree_as made (int z) = int z
+  tree_as made (big s) = big (made s)
+  tree_as made (float s) = float (made s)
+  tree_as made (string s) = string (made s)
+  tree_as made (array is) = array (items_as made is)
+  tree_as made (object ms) = object (members_as made ms)
 
-  pub owned_items : Items → Items
-  owned_items no_items = no_items
-  owned_items (item v is) = item (owned_tree v) (owned_items is)
+  pub items_as : (Text → Text) → Items → Items
+  items_as made no_items = no_items
+  items_as made (item v is) = item (tree_as made v) (items_as made is)
 
-  pub owned_members : Members → Members
-  owned_members no_members = no_members
-  owned_members (member k v ms) = member (owned_text k) (owned_tree v) (owned_members ms)
+  pub members_as : (Text → Text) → Members → Members
+  members_as made no_members = no_members
+  members_as made (member k v ms) = member (made k) (tree_as made v) (members_as made ms)
+
+-- the same tree, each of its texts owned
+abbrev pub owned_tree : Tree → Tree
+owned_tree = tree_as owned_text
+
+abbrev pub owned_items : Items → Items
+owned_items = items_as owned_text
+
+abbrev pub owned_members : Members → Members
+owned_members = members_as owned_text
 
 -- the same of a member
 abbrev pub owned_member : Text × Tree → Text × Tree

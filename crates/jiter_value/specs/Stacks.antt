@@ -1,4 +1,4 @@
--- What the two stacks hold, and what the rest of a text completes them to.
+-- What the two stacks hold, and what the rest of a text completes them to, where each text that is read is made so.
 use Rattle.std.specs.Prelude.{◌≡◌, ℕ, ◌-◌, ◌≤◌, ◌<◌, false, List, [], ◌∷◌, length, take, drop, reverse, map, vec_len}
 use Rattle.std.specs.Prelude.{vec_capacity}
 use Rattle.std.specs.declared.alloc.Global.{Global}
@@ -12,7 +12,7 @@ use Rattle.jiter_steps.specs.declared.parse.Shape.{Shape}
 use Rattle.jiter_steps.specs.declared.parse.Shape.TheVariants as shape
 use Rattle.jiter_steps.specs.Frames.{Frame, items_frame, members_frame, resume, value_from, key_from, items_from}
 use Rattle.jiter_steps.specs.Frames.{members_from}
-use Rattle.jiter_value.specs.Settings.{rules}
+use Rattle.jiter_value.specs.Settings.{rules_as}
 use Rattle.jiter_value.specs.Value.{view}
 use Rattle.jiter_value.specs.declared.settings.Settings.{Settings}
 use Rattle.jiter_value.specs.declared.stacks.Open.{Open}
@@ -92,41 +92,45 @@ abbrev pub HavePartBase : Shape → List Open → ℕ → ℕ → Type 0
 HavePartBase shape.Array os n m = HaveBases slot.Item os n m
 HavePartBase shape.Object os n m = HaveKeyBase os n m
 
-module _ (p : Settings) (t : List ℕ) where
+module _ (made : Text → Text) (p : Settings) (t : List ℕ) where
   -- where the innermost object awaits a key at j
   abbrev pub key_in : List Open → List JsonValue → List Member → ℕ → Reading Tree
   key_in [] items members j = fault eof_object j j
   key_in (o ∷ os) items members j =
-      key_from (rules p) t (frames o.outer os items (take o.base members)) (map member_view (drop o.base members)) j
+      key_from (rules_as made p) t (frames o.outer os items (take o.base members))
+      (map member_view (drop o.base members)) j
 
   -- where the key or its colon has this fault
   abbrev pub key_fault_in : List Open → List JsonValue → List Member → Kind → ℕ → ℕ → Reading Tree
   key_fault_in [] items members k x stop = fault k x stop
   key_fault_in (o ∷ os) items members k x stop =
-      resume (rules p) t (frames o.outer os items (take o.base members))
-      (if_forgiven (rules p) (λ e. (rules p).object 0 e (map member_view (drop o.base members))) k x stop)
+      resume (rules_as made p) t (frames o.outer os items (take o.base members))
+      (if_forgiven (rules_as made p) (λ e. (rules_as made p).object 0 e (map member_view (drop o.base members))) k x
+      stop)
 
   -- where the innermost container has a value that ends at e
   abbrev pub behind_in : Slot → List Open → List JsonValue → List Member → JsonValue → ℕ → Reading Tree
   behind_in a [] items members root e = done (view root) e
   behind_in slot.Item (o ∷ os) items members root e =
-      items_from (rules p) t (frames o.outer os (take o.base items) members) (map view (drop o.base items)) e
+      items_from (rules_as made p) t (frames o.outer os (take o.base items) members) (map view (drop o.base items)) e
   behind_in slot.Member (o ∷ os) items members root e =
-      members_from (rules p) t (frames o.outer os items (take o.base members)) (map member_view (drop o.base members)) e
+      members_from (rules_as made p) t (frames o.outer os items (take o.base members))
+      (map member_view (drop o.base members)) e
   behind_in slot.Root (o ∷ os) items members root e = done (view root) e
 
   -- where the innermost container ends at e
   abbrev pub container_in : Shape → List Open → List JsonValue → List Member → ℕ → Reading Tree
   container_in h [] items members e = fault (end_kind_of h) e e
   container_in h (o ∷ os) items members e =
-      resume (rules p) t (frames_below h o os items members) (done (built h (parts_above h o.base items members)) e)
+      resume (rules_as made p) t (frames_below h o os items members)
+      (done (built h (parts_above h o.base items members)) e)
 
   -- The same of all that is held.
   abbrev pub resume_with : Stacks → Slot → Reading Tree → Reading Tree
-  resume_with s a x = resume (rules p) t (frames a (reverse s.nest.items) s.items.items s.members.items) x
+  resume_with s a x = resume (rules_as made p) t (frames a (reverse s.nest.items) s.items.items s.members.items) x
 
   abbrev pub from_value : Stacks → Slot → ℕ → Reading Tree
-  from_value s a j = value_from (rules p) t (frames a (reverse s.nest.items) s.items.items s.members.items) j
+  from_value s a j = value_from (rules_as made p) t (frames a (reverse s.nest.items) s.items.items s.members.items) j
 
   abbrev pub from_key : Stacks → ℕ → Reading Tree
   from_key s j = key_in (reverse s.nest.items) s.items.items s.members.items j

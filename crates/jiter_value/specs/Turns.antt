@@ -1,4 +1,4 @@
--- What a turn leads to, and how much is left behind it.
+-- What a turn leads to, where each text that is read is made so, and how much is left behind it.
 use Rattle.std.specs.Prelude.{◌≡◌, ℕ, ◌+◌, ◌≤◌, ◌<◌, Result, Ok, Err, OnOk, IfOk, Bool, true, false, List}
 use Rattle.std.specs.Prelude.{length}
 use Rattle.jiter_scan.specs.Kind.{fault_kind}
@@ -7,7 +7,7 @@ use Rattle.jiter_steps.specs.Frames.{resolve_step}
 use Rattle.jiter_steps.specs.Node.{nesting_limit}
 use Rattle.jiter_steps.specs.Read.{Reading, fault}
 use Rattle.jiter_steps.specs.Step.{Step, closed, stuck, step, container_first, container_step}
-use Rattle.jiter_steps.specs.Tree.{Tree}
+use Rattle.jiter_steps.specs.Tree.{Text, Tree}
 use Rattle.jiter_value.specs.Settings.{forgives}
 use Rattle.jiter_steps.specs.declared.parse.Shape.{Shape}
 use Rattle.jiter_steps.specs.declared.read_error.ReadError.{ReadError}
@@ -51,9 +51,9 @@ Fails (error.Fault f) j x = x ≡ fault (fault_kind f.kind) f.index j
 Fails (error.Memory m) j x = Unit {0}
 
 -- what was returned, and the stacks and the place j then, lead on to the reading x
-abbrev pub Reaches : Settings → List ℕ → Stacks → ℕ → Result State ReadError → Reading Tree → Type 0
-Reaches p t s j (Ok a) x = (x ≡ meaning p t s a j) × IsWithin t s a j
-Reaches p t s j (Err e) x = Fails e j x
+abbrev pub Reaches : (Text → Text) → Settings → List ℕ → Stacks → ℕ → Result State ReadError → Reading Tree → Type 0
+Reaches made p t s j (Ok a) x = (x ≡ meaning made p t s a j) × IsWithin t s a j
+Reaches made p t s j (Err e) x = Fails e j x
 
 -- how much is left to do
 abbrev pub left : List ℕ → Stacks → ℕ → ℕ
@@ -67,29 +67,30 @@ MayGrowFor (Err (error.Fault f)) P = Unit {0}
 MayGrowFor (Err (error.Memory m)) P = P
 
 -- From the place i a turn proceeds to these stacks, to this place and to this state.
-pub record Proceeds (p : Settings) (t : List ℕ) (i l h : ℕ) (x : Reading Tree) (s : Stacks) (r : ℕ × State)
-    : Type 0 where
+pub record Proceeds (made : Text → Text) (p : Settings) (t : List ℕ) (i l h : ℕ) (x : Reading Tree) (s : Stacks)
+    (r : ℕ × State) : Type 0 where
   -- The reader goes no step back, and stays within the text.
   pub within : (i ≤ r.0) × (r.0 ≤ length t)
   -- What is awaited then, or why the reading was given up, is the reading x.
-  pub reaches : Reaches p t s r.0 (outcome s r.1) x
+  pub reaches : Reaches made p t s r.0 (outcome s r.1) x
   -- Less than l is left to do.
   pub left : OnOk (outcome s r.1) (left t s r.0 < l)
   -- At most h scalars, containers and keys are held.
   pub held : IfOk (outcome s r.1) (λ a. held s a ≤ h)
 
 -- The value that is awaited at i is put where it belongs, and ends at e: a scalar.
-pub record IsPutAt (t : List ℕ) (old : Stacks) (i : ℕ) (a : Slot) (new : Stacks) (e : ℕ) : Type 0 where
-  pub value : (p : Settings) → from_value p t old a i ≡ behind p t new a e
-  pub stands : Stands new a
-  pub nest : new.nest ≡ old.nest
-  pub held : behind_size new a ≡ value_size old a + 1
-  pub ahead : i < e
-  pub within : e ≤ length t
+pub record IsPutAt (made : Text → Text) (t : List ℕ) (old : Stacks) (i : ℕ) (a : Slot) (new : Stacks) (e : ℕ) : Type 0
+  where
+    pub value : (p : Settings) → from_value made p t old a i ≡ behind made p t new a e
+    pub stands : Stands new a
+    pub nest : new.nest ≡ old.nest
+    pub held : behind_size new a ≡ value_size old a + 1
+    pub ahead : i < e
+    pub within : e ≤ length t
 
 -- The key at i is put where it belongs, and its value begins at j.
-pub record IsKeyAt (t : List ℕ) (old : Stacks) (i : ℕ) (new : Stacks) (j : ℕ) : Type 0 where
-  pub value : (p : Settings) → from_key p t old i ≡ from_value p t new slot.Member j
+pub record IsKeyAt (made : Text → Text) (t : List ℕ) (old : Stacks) (i : ℕ) (new : Stacks) (j : ℕ) : Type 0 where
+  pub value : (p : Settings) → from_key made p t old i ≡ from_value made p t new slot.Member j
   pub stands : Stands new slot.Member
   pub nest : new.nest ≡ old.nest
   pub held : value_size new slot.Member ≡ key_size old + 1

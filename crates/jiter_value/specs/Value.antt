@@ -1,5 +1,6 @@
 -- The tree that a `JsonValue` stands for, and what a parse returns.
-use Rattle.std.specs.Prelude.{◌≡◌, ◌⊎◌, ℕ, ◌+◌, List, [], ◌∷◌, map, slice_index, Result, Ok, Err}
+use Rattle.std.specs.Prelude.{◌≡◌, ◌≢◌, ◌⊎◌, ℕ, ◌+◌, List, [], ◌∷◌, map, slice_index, Result, Ok}
+use Rattle.std.specs.Prelude.{Err}
 use Rattle.std.specs.declared.alloc.Global.{Global}
 use Rattle.std.specs.declared.borrow.CowStr.{CowStr}
 use Rattle.jiter_scan.specs.Kind.{kind_of}
@@ -68,6 +69,15 @@ MayGrowAs t i start.Nothing = ⊥
 -- the value at i may want memory
 abbrev pub MayGrowAt : List ℕ → ℕ → Type 0
 MayGrowAt t i = MayGrowAs t i (start_of (slice_index t i))
+
+-- an array or an object begins at i
+abbrev pub BeginsContainer : List ℕ → ℕ → Type 0
+BeginsContainer t i = (start_of (slice_index t i) ≡ start.Array) ⊎ (start_of (slice_index t i) ≡ start.Object)
+
+-- the same where each text may want some: then a scalar does too
+abbrev pub MayGrowBy : Type 0 → List ℕ → ℕ → Type 0
+MayGrowBy Wants t i = MayGrowAt t i
+    ⊎ (Wants × (start_of (slice_index t i) ≢ start.Array) × (start_of (slice_index t i) ≢ start.Object))
 
 -- the value that a document begins with may want memory
 abbrev pub MayGrow : List ℕ → Type 0

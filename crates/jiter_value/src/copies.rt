@@ -227,7 +227,16 @@ fn move_text(alloc: Global, text: &mut CowStr<'_>) -> Result<CowStr<'static>, Re
     ensures value { IfOk result (λ moved. text_view moved ≡ owned_text (text_view text.old)) }
     ensures memory { OnErr result ((text_view text.old).owned ≡ false) }
 {
-    match mem::replace(text, CowStr::Borrowed("")) {
+    own_cow(alloc, mem::replace(text, CowStr::Borrowed("")))
+}
+
+/// The text where it is owned, else a copy of it.
+#[inline(always)]
+pub(crate) fn own_cow<'s>(alloc: Global, text: CowStr<'_>) -> Result<CowStr<'s>, Refused>
+    ensures value { IfOk result (λ owned. text_view owned ≡ owned_text (text_view text.entry)) }
+    ensures memory { OnErr result ((text_view text.entry).owned ≡ false) }
+{
+    match text {
         CowStr::Borrowed(borrowed) => Ok(CowStr::Owned(copy_text(alloc, borrowed)?)),
         CowStr::Owned(owned) => Ok(CowStr::Owned(owned)),
     }

@@ -9,6 +9,7 @@ pub mod reading;
 pub mod scratch;
 pub mod settings;
 pub mod stacks;
+pub mod texts;
 pub(crate) mod turns;
 pub mod value;
 

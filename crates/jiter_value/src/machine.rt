@@ -4,7 +4,8 @@ ghost use Rattle.jiter_value.specs.Machine.{progress, left, held, IsUnderWay};
 
 use crate::reading::{error_at, finish_whole};
 use crate::settings::Settings;
-use crate::stacks::{Stacks, State, take_error};
+use crate::stacks::{Stacks, State, take_error, take_root};
+use crate::texts::Borrowing;
 use crate::turns::turn;
 use crate::value::JsonValue;
 use jiter_scan::{JsonError, PartialMode};
@@ -12,7 +13,6 @@ use jiter_steps::parse::Parser;
 use jiter_steps::read_error::ReadError;
 use std::alloc::Global;
 use std::marker::Model;
-use std::mem;
 
 /// A reading that goes on turn by turn.
 #[derive(Drop)]
@@ -126,6 +126,9 @@ impl<'j> Machine<'j> {
         let mut stacks = old_stacks;
         let (at, what) = turn(
             alloc,
+            Borrowing {
+                bytes: parser.bytes,
+            },
             &mut tape,
             &mut stacks,
             parser.bytes,
@@ -136,8 +139,8 @@ impl<'j> Machine<'j> {
         parser.index = at;
         match what {
             State::Done => {
-                let value = mem::replace(&mut stacks.root, JsonValue::Null);
-                match finish_whole(&mut parser, settings, value) {
+                let value = take_root(&mut stacks);
+                match finish_whole::<Borrowing<'j>>(&mut parser, settings, value) {
                     Ok(whole) => Turn::Done(Ok(whole)),
                     Err(error) => Turn::Done(Err(error_at(error, parser.index))),
                 }

@@ -1,20 +1,26 @@
 //! Reading a document into a value that owns its texts.
-ghost use Rattle.std.specs.Prelude.{◌≡◌, ◌<◌, ◌⊎◌, length};
+ghost use Rattle.std.specs.Prelude.{◌≡◌, ◌<◌, ◌⊎◌, length, true};
+ghost use Rattle.jiter_steps.specs.Blank.{past_blanks};
 ghost use Rattle.jiter_steps.specs.Node.{nesting_limit};
 ghost use Rattle.jiter_steps.specs.Parse.{Moves, Gives};
 ghost use Rattle.jiter_steps.specs.Read.{value_at};
 ghost use Rattle.jiter_steps.specs.ReadError.{WhereRefused};
-ghost use Rattle.jiter_value.specs.Owned.{owned_tree, ReadHolds, IsOwnedAnswer, OwnedMayGrow};
+ghost use Rattle.jiter_value.specs.Owned.{owned_text, owned_tree, ReadHolds, IsOwnedAnswer, OwnedMayGrow};
 ghost use Rattle.jiter_value.specs.Parses.{Parses, reading_as};
-ghost use Rattle.jiter_value.specs.Settings.{rules};
-ghost use Rattle.jiter_value.specs.Value.{view, MayGrowAt};
+ghost use Rattle.jiter_value.specs.Scratch.{HoldsNothing};
+ghost use Rattle.jiter_value.specs.Settings.{rules, rules_as};
+ghost use Rattle.jiter_value.specs.Value.{view, BeginsContainer, MayGrowAt, MayGrow};
 
 use crate::copies::move_value;
-use crate::reading::{error_at, read_value};
+use crate::reading::{error_at, read_text, read_text_as, read_value};
 use crate::settings::Settings;
+use crate::stacks::Stacks;
+use crate::texts::Owning;
+use crate::turns::run;
 use crate::value::JsonValue;
 use jiter_scan::{JsonError, PartialMode};
-use jiter_steps::parse::Parser;
+use jiter_steps::blank::past_blanks;
+use jiter_steps::parse::{Parser, Start, start_of};
 use jiter_steps::read_error::ReadError;
 use std::alloc::Global;
 
@@ -22,7 +28,9 @@ impl JsonValue<'static> {
     /// What [`JsonValue::parse_with_config`] answers, the value owning all its texts. In a partial mode what
     /// follows the value is not looked at either.
     ///
-    /// Where memory for a text or a container of the owned value is refused, the index is the length.
+    /// An array or an object is read owned: each text is made from its place in the input, and where memory for
+    /// it is refused, the index is where the reader stands. A scalar is read first, and where memory to own it is
+    /// refused, the index is the length.
     pub fn parse_owned(
         alloc: Global,
         bytes: &[u8],
@@ -33,9 +41,109 @@ impl JsonValue<'static> {
         ensures { Parses owned_tree (OwnedMayGrow allow_inf_nan allow_partial bytes.now)
             allow_inf_nan allow_partial bytes.now result }
     {
-        let read = JsonValue::parse_with_config(alloc, bytes, allow_inf_nan, allow_partial);
-        own_answer(alloc, read, bytes.len())
+        let settings = Settings {
+            allow_inf_nan,
+            mode: allow_partial,
+        };
+        if begins_container(bytes, past_blanks(bytes, 0)) {
+            return own_once(alloc, bytes, settings);
+        }
+        let mut tape = Vec::new(alloc);
+        own_scalar(alloc, &mut tape, bytes, settings)
     }
+}
+
+// Whether an array or an object begins at `at`.
+#[inline(always)]
+fn begins_container(bytes: &[u8], at: usize) -> bool
+    ensures { result ≡ true → BeginsContainer bytes.now at }
+{
+    at < bytes.len() && matches!(start_of(bytes[at]), Start::Array | Start::Object)
+}
+
+// What a text answers, each of its texts owned as it is read, by way of this tape and these stacks.
+fn own_text<'s>(
+    alloc: Global,
+    tape: &mut Vec<u8>,
+    stacks: &mut Stacks<'s>,
+    bytes: &[u8],
+    settings: Settings,
+) -> Result<JsonValue<'s>, JsonError>
+    requires container { BeginsContainer bytes.now (past_blanks bytes.now 0) }
+    requires empty { HoldsNothing stacks.old }
+    ensures { Parses owned_tree (MayGrow bytes.now)
+        settings.allow_inf_nan settings.mode bytes.now result }
+{
+    read_text_as(alloc, Owning { alloc }, tape, stacks, bytes, settings)
+}
+
+// The same by way of a tape and stacks of its own.
+fn own_once<'s>(alloc: Global, bytes: &[u8], settings: Settings) -> Result<JsonValue<'s>, JsonError>
+    requires { BeginsContainer bytes.now (past_blanks bytes.now 0) }
+    ensures { Parses owned_tree (MayGrow bytes.now)
+        settings.allow_inf_nan settings.mode bytes.now result }
+{
+    let mut tape = Vec::new(alloc);
+    let mut stacks = Stacks::new(alloc);
+    own_text(alloc, &mut tape, &mut stacks, bytes, settings)
+}
+
+// What a text answers whose texts are owned once it is read as a whole: a scalar asks for memory last.
+fn own_scalar(
+    alloc: Global,
+    tape: &mut Vec<u8>,
+    bytes: &[u8],
+    settings: Settings,
+) -> Result<JsonValue<'static>, JsonError>
+    ensures { Parses owned_tree (OwnedMayGrow settings.allow_inf_nan settings.mode bytes.now)
+        settings.allow_inf_nan settings.mode bytes.now result }
+{
+    let mut lent = Stacks::new(alloc);
+    let read = read_text(alloc, tape, &mut lent, bytes, settings);
+    own_answer(alloc, read, bytes.len())
+}
+
+// The value that begins where the reader stands, each of its texts owned as it is read.
+fn own_container<'s>(
+    alloc: Global,
+    parser: &mut Parser<'_>,
+    settings: Settings,
+) -> Result<JsonValue<'s>, ReadError>
+    requires within { parser.old.index < length parser.old.bytes.now }
+    requires container { BeginsContainer parser.old.bytes.now parser.old.index }
+    ensures moves { Moves parser.old parser.new }
+    ensures value { Gives view result parser.new.index
+        (value_at (rules_as owned_text settings) parser.old.bytes.now nesting_limit parser.old.index) }
+    ensures memory { WhereRefused result (MayGrowAt parser.old.bytes.now parser.old.index) }
+{
+    let mut tape = Vec::new(alloc);
+    let mut stacks = Stacks::new(alloc);
+    run(
+        alloc,
+        Owning { alloc },
+        &mut tape,
+        &mut stacks,
+        parser,
+        settings,
+    )
+}
+
+/// What a text answers, its texts owned, by way of this tape and these stacks.
+pub(crate) fn read_text_owned(
+    alloc: Global,
+    tape: &mut Vec<u8>,
+    stacks: &mut Stacks<'static>,
+    bytes: &[u8],
+    settings: Settings,
+) -> Result<JsonValue<'static>, JsonError>
+    requires { HoldsNothing stacks.old }
+    ensures { Parses owned_tree (OwnedMayGrow settings.allow_inf_nan settings.mode bytes.now)
+        settings.allow_inf_nan settings.mode bytes.now result }
+{
+    if begins_container(bytes, past_blanks(bytes, 0)) {
+        return own_text(alloc, tape, stacks, bytes, settings);
+    }
+    own_scalar(alloc, tape, bytes, settings)
 }
 
 /// An answer whose value owns its texts; where memory for it is refused, that is told at `index`.
@@ -63,6 +171,9 @@ pub fn read_owned(
     ensures memory { WhereRefused result (MayGrowAt parser.old.bytes.now parser.old.index
         ⊎ ReadHolds (value_at (rules settings) parser.old.bytes.now nesting_limit parser.old.index)) }
 {
+    if begins_container(parser.bytes, parser.index) {
+        return own_container(alloc, parser, settings);
+    }
     let mut value = read_value(alloc, parser, settings)?;
     Ok(move_value(alloc, &mut value)?)
 }

@@ -5,14 +5,16 @@ ghost use Rattle.jiter_steps.specs.Node.{nesting_limit};
 ghost use Rattle.jiter_steps.specs.Parse.{Moves, Gives};
 ghost use Rattle.jiter_steps.specs.Read.{done, value_at};
 ghost use Rattle.jiter_steps.specs.ReadError.{WhereRefused};
-ghost use Rattle.jiter_value.specs.Parses.{Parses, as_read};
+ghost use Rattle.jiter_value.specs.Owned.{tree_as};
+ghost use Rattle.jiter_value.specs.Parses.{Parses, as_read, reading_as};
 ghost use Rattle.jiter_value.specs.Reading.{GivesWhole, IsErrorOf};
 ghost use Rattle.jiter_value.specs.Scratch.{HoldsNothing};
-ghost use Rattle.jiter_value.specs.Settings.{answer_by, rules};
-ghost use Rattle.jiter_value.specs.Value.{view, MayGrowAt, MayGrow};
+ghost use Rattle.jiter_value.specs.Settings.{answer_by, rules, rules_as};
+ghost use Rattle.jiter_value.specs.Value.{view, MayGrowAt, MayGrowBy, MayGrow};
 
 use crate::settings::Settings;
 use crate::stacks::Stacks;
+use crate::texts::{Borrowing, Texts};
 use crate::turns::run;
 use crate::value::JsonValue;
 use jiter_scan::{JsonError, JsonErrorType};
@@ -34,17 +36,18 @@ pub fn error_at(error: ReadError, index: usize) -> JsonError
     }
 }
 
-/// What a text answers whose value ends where the reader stands.
-pub(crate) fn finish_whole<'j>(
-    parser: &mut Parser<'j>,
+/// What a text answers whose value, kept so, ends where the reader stands.
+pub(crate) fn finish_whole<'s, T: Texts<'s>>(
+    parser: &mut Parser<'_>,
     settings: Settings,
-    value: JsonValue<'j>,
-) -> Result<JsonValue<'j>, ReadError>
+    value: JsonValue<'s>,
+) -> Result<JsonValue<'s>, ReadError>
     requires begins { past_blanks parser.old.bytes.now 0 < length parser.old.bytes.now }
-    requires value { value_at (rules settings) parser.old.bytes.now nesting_limit
+    requires value { value_at (rules_as T.made settings) parser.old.bytes.now nesting_limit
         (past_blanks parser.old.bytes.now 0) ≡ done (view value) parser.old.index }
     ensures moves { Moves parser.old parser.new }
-    ensures value { GivesWhole result parser.new.index (answer_by settings parser.old.bytes.now) }
+    ensures value { GivesWhole result parser.new.index
+        (reading_as (tree_as T.made) (answer_by settings parser.old.bytes.now)) }
     ensures same { IfOk result (λ v. v ≡ value.entry) }
     ensures memory { WhereRefused result ⊥ }
 {
@@ -69,28 +72,56 @@ pub fn read_value<'j>(
 {
     let mut tape = Vec::new(alloc);
     let mut stacks = Stacks::new(alloc);
-    run(alloc, &mut tape, &mut stacks, parser, settings)
+    let texts = Borrowing {
+        bytes: parser.bytes,
+    };
+    run(alloc, texts, &mut tape, &mut stacks, parser, settings)
 }
 
 /// The value of a text, where the reader stands before its first byte, by way of this tape and these stacks. With
 /// partial reading off nothing but blanks may stand round it.
-fn read_whole<'j>(
+fn read_whole<'s, T: Texts<'s>>(
     alloc: Global,
+    texts: T,
     tape: &mut Vec<u8>,
-    stacks: &mut Stacks<'j>,
-    parser: &mut Parser<'j>,
+    stacks: &mut Stacks<'s>,
+    parser: &mut Parser<'_>,
     settings: Settings,
-) -> Result<JsonValue<'j>, ReadError>
+) -> Result<JsonValue<'s>, ReadError>
+    requires texts { T.of texts parser.old.bytes.now }
     requires begins { parser.old.index ≡ 0 }
     requires empty { HoldsNothing stacks.old }
     ensures moves { Moves parser.old parser.new }
-    ensures value { GivesWhole result parser.new.index (answer_by settings parser.old.bytes.now) }
-    ensures memory { WhereRefused result (MayGrow parser.old.bytes.now) }
+    ensures value { GivesWhole result parser.new.index
+        (reading_as (tree_as T.made) (answer_by settings parser.old.bytes.now)) }
+    ensures memory { WhereRefused result
+        (MayGrowBy T.wants parser.old.bytes.now (past_blanks parser.old.bytes.now 0)) }
     ensures place { WhereRefused result (past_blanks parser.old.bytes.now 0 ≤ parser.new.index) }
 {
     parser.value_first()?;
-    let value = run(alloc, tape, stacks, parser, settings)?;
-    finish_whole(parser, settings, value)
+    let value = run(alloc, texts, tape, stacks, parser, settings)?;
+    finish_whole::<T>(parser, settings, value)
+}
+
+/// What a text answers, read as the settings say and its texts kept so, by way of this tape and these stacks.
+pub(crate) fn read_text_as<'s, T: Texts<'s>>(
+    alloc: Global,
+    texts: T,
+    tape: &mut Vec<u8>,
+    stacks: &mut Stacks<'s>,
+    bytes: &[u8],
+    settings: Settings,
+) -> Result<JsonValue<'s>, JsonError>
+    requires texts { T.of texts bytes.now }
+    requires empty { HoldsNothing stacks.old }
+    ensures { Parses (tree_as T.made) (MayGrowBy T.wants bytes.now (past_blanks bytes.now 0))
+        settings.allow_inf_nan settings.mode bytes.now result }
+{
+    let mut parser = Parser::new(bytes);
+    match read_whole(alloc, texts, tape, stacks, &mut parser, settings) {
+        Ok(value) => Ok(value),
+        Err(error) => Err(error_at(error, parser.index)),
+    }
 }
 
 /// What a text answers, read as the settings say, by way of this tape and these stacks.
@@ -104,9 +135,6 @@ pub(crate) fn read_text<'j>(
     requires { HoldsNothing stacks.old }
     ensures { Parses as_read (MayGrow bytes.now) settings.allow_inf_nan settings.mode bytes.now result }
 {
-    let mut parser = Parser::new(bytes);
-    match read_whole(alloc, tape, stacks, &mut parser, settings) {
-        Ok(value) => Ok(value),
-        Err(error) => Err(error_at(error, parser.index)),
-    }
+    let texts = Borrowing { bytes };
+    read_text_as(alloc, texts, tape, stacks, bytes, settings)
 }

@@ -5,7 +5,7 @@ ghost use Rattle.jiter_value.specs.Parses.{Parses, as_read};
 ghost use Rattle.jiter_value.specs.Scratch.{IsCleared};
 ghost use Rattle.jiter_value.specs.Value.{MayGrow};
 
-use crate::parse_owned::own_answer;
+use crate::parse_owned::read_text_owned;
 use crate::reading::read_text;
 use crate::settings::Settings;
 use crate::stacks::Stacks;
@@ -83,7 +83,7 @@ impl<'j> JsonValueScratch<'j> {
 }
 
 impl JsonValueScratch<'static> {
-    /// What [`JsonValue::parse_owned`] answers, read with the tape of this scratch.
+    /// What [`JsonValue::parse_owned`] answers, read with these buffers.
     pub fn parse_owned(
         &mut self,
         bytes: &[u8],
@@ -101,9 +101,10 @@ impl JsonValueScratch<'static> {
             allow_inf_nan,
             mode: allow_partial,
         };
-        let mut stacks = Stacks::new(self.alloc);
-        let read = read_text(self.alloc, &mut self.tape, &mut stacks, bytes, settings);
-        own_answer(self.alloc, read, bytes.len())
+        let stacks = &mut self.stacks;
+        let answer = read_text_owned(self.alloc, &mut self.tape, stacks, bytes, settings);
+        clear(stacks);
+        answer
     }
 }
 

@@ -4,7 +4,7 @@ ghost use Rattle.std.specs.Prelude.{take, drop, false, map, vec_len};
 ghost use Rattle.std.specs.declared.alloc.Global.{Global};
 ghost use Rattle.std.specs.declared.borrow.CowStr.{CowStr as CowStrView};
 ghost use Rattle.jiter_steps.specs.Read.{done};
-ghost use Rattle.jiter_steps.specs.Tree.{object, members_of};
+ghost use Rattle.jiter_steps.specs.Tree.{Text, object, members_of};
 ghost use Rattle.jiter_steps.specs.declared.read_error.ReadError.TheVariants as error;
 ghost use Rattle.jiter_value.specs.Value.{view};
 ghost use Rattle.jiter_value.specs.Size.{size, value_size, inside_size, behind_size};
@@ -128,8 +128,8 @@ pub fn has_room<'j>(stacks: &Stacks<'j>, slot: Slot) -> bool
 pub fn put_reserved<'j>(stacks: &mut Stacks<'j>, slot: Slot, value: JsonValue<'j>)
     requires stands { Stands stacks.old slot }
     requires room { HasRoom stacks.old slot }
-    ensures value { (p : SettingsView) → (t : List ℕ) → (e : ℕ)
-        → resume_with p t stacks.old slot (done (view value.entry) e) ≡ behind p t stacks.new slot e }
+    ensures value { (made : Text → Text) → (p : SettingsView) → (t : List ℕ) → (e : ℕ)
+        → resume_with made p t stacks.old slot (done (view value.entry) e) ≡ behind made p t stacks.new slot e }
     ensures stands { Stands stacks.new slot }
     ensures nest { stacks.new.nest ≡ stacks.old.nest }
     ensures held { behind_size stacks.new slot
@@ -146,8 +146,8 @@ pub fn put_reserved<'j>(stacks: &mut Stacks<'j>, slot: Slot, value: JsonValue<'j
 #[inline(always)]
 pub fn put<'j>(stacks: &mut Stacks<'j>, slot: Slot, value: JsonValue<'j>) -> Result<(), Refused>
     requires { Stands stacks.old slot }
-    ensures value { OnOk result ((p : SettingsView) → (t : List ℕ) → (e : ℕ)
-        → resume_with p t stacks.old slot (done (view value.entry) e) ≡ behind p t stacks.new slot e) }
+    ensures value { OnOk result ((made : Text → Text) → (p : SettingsView) → (t : List ℕ) → (e : ℕ)
+        → resume_with made p t stacks.old slot (done (view value.entry) e) ≡ behind made p t stacks.new slot e) }
     ensures stands { OnOk result (Stands stacks.new slot) }
     ensures nest { stacks.new.nest ≡ stacks.old.nest }
     ensures held { OnOk result (behind_size stacks.new slot
@@ -173,8 +173,8 @@ pub fn object_of<'j>(members: JsonObject<'j>) -> JsonValue<'j>
 #[inline(never)]
 pub fn close<'j>(alloc: Global, stacks: &mut Stacks<'j>, shape: Shape) -> Result<Slot, Refused>
     requires { StandsInside shape stacks.old }
-    ensures value { IfOk result (λ a. (p : SettingsView) → (t : List ℕ) → (e : ℕ)
-        → container_ends p t shape stacks.old e ≡ behind p t stacks.new a e) }
+    ensures value { IfOk result (λ a. (made : Text → Text) → (p : SettingsView) → (t : List ℕ) → (e : ℕ)
+        → container_ends made p t shape stacks.old e ≡ behind made p t stacks.new a e) }
     ensures stands { IfOk result (λ a. Stands stacks.new a) }
     ensures nest { length stacks.new.nest.items + 1 ≡ length stacks.old.nest.items }
     ensures held { IfOk result (λ a. behind_size stacks.new a ≡ inside_size shape stacks.old) }
@@ -232,6 +232,13 @@ pub fn too_deep<'j>(stacks: &mut Stacks<'j>, at: usize) -> (usize, State)
         index: at,
     };
     give_up(stacks, fault, at)
+}
+
+/// Takes out the value of the document.
+pub fn take_root<'j>(stacks: &mut Stacks<'j>) -> JsonValue<'j>
+    ensures { result ≡ stacks.old.root }
+{
+    mem::replace(&mut stacks.root, JsonValue::Null)
 }
 
 /// Takes out why the reading was given up.

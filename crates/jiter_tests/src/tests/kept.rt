@@ -355,9 +355,9 @@ fn buffers_serve_again(rt: HostRuntime) -> Result<(), Fail> {
     for bytes in [&text, &items, &object] {
         let read = are_read_again(alloc, bytes.as_bytes())?;
         assert_eq!(rt; read, (false, true), "{:.9}", bytes.as_str());
+        let owned = are_owned_again(alloc, bytes.as_bytes())?;
+        assert_eq!(rt; owned, (false, true), "{:.9}, owned", bytes.as_str());
     }
-    let owned = are_owned_again(alloc, text.as_bytes())?;
-    assert_eq!(rt; owned, (false, true));
     assert!(rt; is_second_read(alloc, texts.as_bytes())?);
     Ok(())
 }

@@ -8,6 +8,7 @@ ghost use Rattle.jiter_steps.specs.Plain.{IsNext, IsStuckAt};
 ghost use Rattle.jiter_steps.specs.Read.{done};
 ghost use Rattle.jiter_steps.specs.ReadError.{WhereRefused};
 ghost use Rattle.jiter_steps.specs.Step.{Step, step, more, container_first, opening};
+ghost use Rattle.jiter_steps.specs.Tree.{Text};
 ghost use Rattle.jiter_value.specs.Size.{value_size, inside_size, behind_size};
 ghost use Rattle.jiter_value.specs.Stacks.{resume_with, from_value, behind, container_ends, Stands, StandsInside};
 ghost use Rattle.jiter_value.specs.Stacks.{slot_in, base_of, part_of, empty_tree};
@@ -17,6 +18,7 @@ ghost use Rattle.jiter_value.specs.declared.settings.Settings.{Settings as Setti
 
 use crate::settings::{Settings, forgives};
 use crate::stacks::{Open, Slot, Stacks, State, close, no_memory, object_of, put, too_deep};
+use crate::texts::Texts;
 use crate::value::JsonValue;
 use jiter_scan::errors::Fault;
 use jiter_scan::memory::{Refused, push_small};
@@ -59,7 +61,7 @@ fn shape_of(slot: Slot) -> Option<Shape>
 }
 
 // Whether a container's fault is forgiven; if not, the reading is given up for it.
-fn is_forgiven<'j>(stacks: &mut Stacks<'j>, step: Result<bool, Fault>, settings: Settings) -> bool
+fn is_forgiven(stacks: &mut Stacks<'_>, step: Result<bool, Fault>, settings: Settings) -> bool
     ensures resolved { (i j : ℕ) → (s : Step) → Steps step i s → IsStuckAt j s
         → IsResolved settings result stacks.new.error j s }
     ensures same { result ≡ true → stacks.new ≡ stacks.old }
@@ -81,7 +83,7 @@ fn is_forgiven<'j>(stacks: &mut Stacks<'j>, step: Result<bool, Fault>, settings:
 #[cold]
 #[inline(never)]
 fn is_stuck_forgiven<'j>(
-    stacks: &mut Stacks<'j>,
+    stacks: &mut Stacks<'_>,
     bytes: &'j [u8],
     from: usize,
     at: usize,
@@ -106,7 +108,7 @@ fn is_stuck_forgiven<'j>(
 // Whether a container that goes on with no part ends at `at`; if not, the reading is given up there.
 #[inline(always)]
 fn ends<'j>(
-    stacks: &mut Stacks<'j>,
+    stacks: &mut Stacks<'_>,
     bytes: &'j [u8],
     from: usize,
     at: usize,
@@ -131,10 +133,10 @@ fn ends<'j>(
 
 // Behind a value, up to the next value or key; containers that end are closed.
 #[inline(always)]
-pub fn after<'j>(
+pub fn after<'s, T: Texts<'s>>(
     alloc: Global,
-    stacks: &mut Stacks<'j>,
-    bytes: &'j [u8],
+    stacks: &mut Stacks<'s>,
+    bytes: &[u8],
     from: usize,
     settings: Settings,
     slot: Slot,
@@ -142,8 +144,8 @@ pub fn after<'j>(
     requires stands { Stands stacks.old slot }
     requires levels { length stacks.old.nest.items ≤ nesting_limit }
     requires within { from ≤ length bytes.now }
-    ensures leads { Proceeds settings bytes.now from (left bytes.now stacks.old from + 1)
-        (behind_size stacks.old slot) (behind settings bytes.now stacks.old slot from)
+    ensures leads { Proceeds T.made settings bytes.now from (left bytes.now stacks.old from + 1)
+        (behind_size stacks.old slot) (behind T.made settings bytes.now stacks.old slot from)
         stacks.new result }
     ensures memory { WhereRefused (outcome stacks.new result.1) (slot ≢ Slot.Root) }
     ensures root { slot ≡ Slot.Root
@@ -175,10 +177,10 @@ pub fn after<'j>(
 
 /// The innermost container ends at `at`, and the steps behind it.
 #[inline(never)]
-pub fn close_and_go_on<'j>(
+pub fn close_and_go_on<'s, T: Texts<'s>>(
     alloc: Global,
-    stacks: &mut Stacks<'j>,
-    bytes: &'j [u8],
+    stacks: &mut Stacks<'s>,
+    bytes: &[u8],
     at: usize,
     settings: Settings,
     shape: Shape,
@@ -186,27 +188,27 @@ pub fn close_and_go_on<'j>(
     requires stands { StandsInside shape stacks.old }
     requires levels { length stacks.old.nest.items ≤ nesting_limit + 1 }
     requires within { at ≤ length bytes.now }
-    ensures leads { Proceeds settings bytes.now at (left bytes.now stacks.old at)
-        (inside_size shape stacks.old) (container_ends settings bytes.now shape stacks.old at)
+    ensures leads { Proceeds T.made settings bytes.now at (left bytes.now stacks.old at)
+        (inside_size shape stacks.old) (container_ends T.made settings bytes.now shape stacks.old at)
         stacks.new result }
 {
     match close(alloc, stacks, shape) {
-        Ok(outer) => after(alloc, stacks, bytes, at, settings, outer),
+        Ok(outer) => after::<T>(alloc, stacks, bytes, at, settings, outer),
         Err(refused) => no_memory(stacks, refused, at),
     }
 }
 
 // An empty container goes where it belongs.
 #[inline(always)]
-fn put_empty<'j>(
+fn put_empty(
     alloc: Global,
-    stacks: &mut Stacks<'j>,
+    stacks: &mut Stacks<'_>,
     slot: Slot,
     shape: Shape,
 ) -> Result<(), Refused>
     requires { Stands stacks.old slot }
-    ensures value { OnOk result ((p : SettingsView) → (t : List ℕ) → (e : ℕ)
-        → resume_with p t stacks.old slot (done (empty_tree shape) e) ≡ behind p t stacks.new slot e) }
+    ensures value { OnOk result ((made : Text → Text) → (p : SettingsView) → (t : List ℕ) → (e : ℕ)
+        → resume_with made p t stacks.old slot (done (empty_tree shape) e) ≡ behind made p t stacks.new slot e) }
     ensures stands { OnOk result (Stands stacks.new slot) }
     ensures nest { stacks.new.nest ≡ stacks.old.nest }
     ensures held { OnOk result (behind_size stacks.new slot ≡ value_size stacks.old slot + 1) }
@@ -220,10 +222,10 @@ fn put_empty<'j>(
 
 // An empty container ends before `end`, and the steps behind it.
 #[inline(always)]
-fn empty<'j>(
+fn empty<'s, T: Texts<'s>>(
     alloc: Global,
-    stacks: &mut Stacks<'j>,
-    bytes: &'j [u8],
+    stacks: &mut Stacks<'s>,
+    bytes: &[u8],
     end: usize,
     settings: Settings,
     slot: Slot,
@@ -232,8 +234,8 @@ fn empty<'j>(
     requires stands { Stands stacks.old slot }
     requires levels { length stacks.old.nest.items ≤ nesting_limit }
     requires within { end ≤ length bytes.now }
-    ensures leads { Proceeds settings bytes.now end (left bytes.now stacks.old end + 1)
-        (value_size stacks.old slot + 1) (resume_with settings bytes.now stacks.old slot
+    ensures leads { Proceeds T.made settings bytes.now end (left bytes.now stacks.old end + 1)
+        (value_size stacks.old slot + 1) (resume_with T.made settings bytes.now stacks.old slot
         (done (empty_tree shape) end))
         stacks.new result }
     ensures memory { WhereRefused (outcome stacks.new result.1) (slot ≢ Slot.Root) }
@@ -241,14 +243,14 @@ fn empty<'j>(
         → IfOk (outcome stacks.new result.1) (λ a. a ≡ State.Done) }
 {
     match put_empty(alloc, stacks, slot, shape) {
-        Ok(()) => after(alloc, stacks, bytes, end, settings, slot),
+        Ok(()) => after::<T>(alloc, stacks, bytes, end, settings, slot),
         Err(refused) => no_memory(stacks, refused, end),
     }
 }
 
 // Whether no value may stand inside a further container of this shape; that of an object waits for its key.
 #[inline(always)]
-fn is_full<'j>(stacks: &Stacks<'j>, shape: Shape) -> bool
+fn is_full(stacks: &Stacks<'_>, shape: Shape) -> bool
     ensures full { result ≡ true
         → (shape ≡ Shape.Array) × (length stacks.now.nest.items ≡ nesting_limit) }
     ensures few { result ≡ false → shape ≡ Shape.Array
@@ -262,7 +264,7 @@ fn is_full<'j>(stacks: &Stacks<'j>, shape: Shape) -> bool
 
 // How many parts lie below those of a container that begins.
 #[inline(always)]
-fn base_of<'j>(stacks: &Stacks<'j>, shape: Shape) -> usize
+fn base_of(stacks: &Stacks<'_>, shape: Shape) -> usize
     ensures { result ≡ base_of shape stacks.now }
 {
     match shape {
@@ -273,9 +275,9 @@ fn base_of<'j>(stacks: &Stacks<'j>, shape: Shape) -> usize
 
 // The container whose bracket is at `at` and whose first part begins at `next` stands open.
 #[inline(always)]
-fn open<'j>(
-    stacks: &mut Stacks<'j>,
-    bytes: &'j [u8],
+fn open<'s, T: Texts<'s>>(
+    stacks: &mut Stacks<'s>,
+    bytes: &[u8],
     at: usize,
     next: usize,
     settings: Settings,
@@ -287,8 +289,8 @@ fn open<'j>(
     requires within { (at < next) × (next < length bytes.now) }
     requires bracket { start_of (slice_index bytes.now at) ≡ opening shape }
     requires part { step bytes.now (container_first shape) (at + 1) ≡ more next }
-    ensures leads { Proceeds settings bytes.now at (left bytes.now stacks.old at)
-        (value_size stacks.old slot + 1) (from_value settings bytes.now stacks.old slot at)
+    ensures leads { Proceeds T.made settings bytes.now at (left bytes.now stacks.old at)
+        (value_size stacks.old slot + 1) (from_value T.made settings bytes.now stacks.old slot at)
         stacks.new result }
 {
     if is_full(stacks, shape) {
@@ -304,10 +306,10 @@ fn open<'j>(
 
 /// The container whose bracket is at `at`.
 #[inline(always)]
-pub fn begin<'j>(
+pub fn begin<'s, T: Texts<'s>>(
     alloc: Global,
-    stacks: &mut Stacks<'j>,
-    bytes: &'j [u8],
+    stacks: &mut Stacks<'s>,
+    bytes: &[u8],
     at: usize,
     settings: Settings,
     slot: Slot,
@@ -315,15 +317,15 @@ pub fn begin<'j>(
 ) -> (usize, State)
     requires at_value { IsAtValue bytes.now stacks.old slot at }
     requires bracket { start_of (slice_index bytes.now at) ≡ opening shape }
-    ensures leads { Proceeds settings bytes.now at (left bytes.now stacks.old at)
-        (value_size stacks.old slot + 1) (from_value settings bytes.now stacks.old slot at)
+    ensures leads { Proceeds T.made settings bytes.now at (left bytes.now stacks.old at)
+        (value_size stacks.old slot + 1) (from_value T.made settings bytes.now stacks.old slot at)
         stacks.new result }
     ensures memory { slot ≡ Slot.Root
         → MayGrowFor (outcome stacks.new result.1) (MayGrowAt bytes.now at) }
 {
     let (next, what) = plain_first(bytes, at + 1, shape);
     match what {
-        Next::Part => return open(stacks, bytes, at, next, settings, slot, shape),
+        Next::Part => return open::<T>(stacks, bytes, at, next, settings, slot, shape),
         _ => {}
     }
     if !ends(
@@ -338,5 +340,5 @@ pub fn begin<'j>(
     ) {
         return (next, State::GivenUp);
     }
-    empty(alloc, stacks, bytes, next, settings, slot, shape)
+    empty::<T>(alloc, stacks, bytes, next, settings, slot, shape)
 }

@@ -1,34 +1,42 @@
 //! The general way: any scalar and any key, and their faults.
-ghost use Rattle.std.specs.Prelude.{◌≡◌, ◌≢◌, ◌+◌, ◌≤◌, ◌<◌, OnOk, length, slice_index};
+ghost use Rattle.std.specs.Prelude.{◌≡◌, ◌≢◌, ◌+◌, ◌≤◌, ◌<◌, ◌++◌, ◌∷◌, [], OnOk, length};
+ghost use Rattle.std.specs.Prelude.{slice_index};
+ghost use Rattle.std.specs.declared.alloc.Global.{Global};
+ghost use Rattle.std.specs.declared.borrow.CowStr.{CowStr as CowStrView};
 ghost use Rattle.jiter_scan.specs.Kind.{fault_kind};
 ghost use Rattle.jiter_steps.specs.Literal.{start_of};
 ghost use Rattle.jiter_steps.specs.Node.{nesting_limit};
 ghost use Rattle.jiter_steps.specs.Read.{fault};
 ghost use Rattle.jiter_steps.specs.ReadError.{WhereRefused};
+ghost use Rattle.jiter_steps.specs.StringDecoder.{text_view};
 ghost use Rattle.jiter_steps.specs.declared.parse.Start.{Start};
 ghost use Rattle.jiter_value.specs.Size.{value_size, key_size};
 ghost use Rattle.jiter_value.specs.Stacks.{resume_with, from_value, from_key, key_fault, Stands, StandsAtKey};
+ghost use Rattle.jiter_value.specs.Texts.{IsLentAt};
 ghost use Rattle.jiter_value.specs.Turns.{IsAtValue, Proceeds, MayGrowFor, left, outcome};
-ghost use Rattle.jiter_value.specs.Value.{MayGrowAt};
+ghost use Rattle.jiter_value.specs.Value.{MayGrowBy};
+ghost use Rattle.jiter_value.specs.declared.value.JsonValue.TheVariants.{Null};
 
 use crate::settings::{Settings, forgives};
 use crate::stacks::{Slot, Stacks, State, give_up, no_memory, put, too_deep};
+use crate::texts::Texts;
 use crate::turns::containers::{after, close_and_go_on};
 use crate::turns::scalar::scalar;
 use crate::value::JsonValue;
 use jiter_scan::errors::Fault;
-use jiter_scan::memory::make_room;
+use jiter_scan::memory::{Refused, make_room};
 use jiter_steps::parse::{NESTING_LIMIT, Parser, Shape};
 use jiter_steps::read_error::ReadError;
 use std::alloc::Global;
+use std::borrow::CowStr;
 
 // A fault where a value is awaited: a forgiven one closes the innermost container.
 #[cold]
 #[inline(never)]
-fn fault_at_value<'j>(
+fn fault_at_value<'s, T: Texts<'s>>(
     alloc: Global,
-    stacks: &mut Stacks<'j>,
-    bytes: &'j [u8],
+    stacks: &mut Stacks<'s>,
+    bytes: &[u8],
     at: usize,
     settings: Settings,
     problem: Fault,
@@ -37,8 +45,8 @@ fn fault_at_value<'j>(
     requires stands { Stands stacks.old slot }
     requires levels { length stacks.old.nest.items ≤ nesting_limit }
     requires within { at ≤ length bytes.now }
-    ensures leads { Proceeds settings bytes.now at (left bytes.now stacks.old at)
-        (value_size stacks.old slot) (resume_with settings bytes.now stacks.old slot
+    ensures leads { Proceeds T.made settings bytes.now at (left bytes.now stacks.old at)
+        (value_size stacks.old slot) (resume_with T.made settings bytes.now stacks.old slot
         (fault (fault_kind problem.kind) problem.index at))
         stacks.new result }
     ensures memory { WhereRefused (outcome stacks.new result.1) (slot ≢ Slot.Root) }
@@ -48,10 +56,10 @@ fn fault_at_value<'j>(
         return give_up(stacks, problem, at);
     }
     match slot {
-        Slot::Item => close_and_go_on(alloc, stacks, bytes, at, settings, Shape::Array),
+        Slot::Item => close_and_go_on::<T>(alloc, stacks, bytes, at, settings, Shape::Array),
         Slot::Member => {
             let _ = stacks.members.pop();
-            close_and_go_on(alloc, stacks, bytes, at, settings, Shape::Object)
+            close_and_go_on::<T>(alloc, stacks, bytes, at, settings, Shape::Object)
         }
         Slot::Root => give_up(stacks, problem, at),
     }
@@ -60,10 +68,10 @@ fn fault_at_value<'j>(
 // A fault of a key or of its colon: a forgiven one closes the object.
 #[cold]
 #[inline(never)]
-fn fault_at_key<'j>(
+fn fault_at_key<'s, T: Texts<'s>>(
     alloc: Global,
-    stacks: &mut Stacks<'j>,
-    bytes: &'j [u8],
+    stacks: &mut Stacks<'s>,
+    bytes: &[u8],
     at: usize,
     settings: Settings,
     problem: Fault,
@@ -71,65 +79,90 @@ fn fault_at_key<'j>(
     requires stands { StandsAtKey stacks.old }
     requires levels { length stacks.old.nest.items ≤ nesting_limit + 1 }
     requires within { at ≤ length bytes.now }
-    ensures leads { Proceeds settings bytes.now at (left bytes.now stacks.old at)
-        (key_size stacks.old) (key_fault settings bytes.now stacks.old
+    ensures leads { Proceeds T.made settings bytes.now at (left bytes.now stacks.old at)
+        (key_size stacks.old) (key_fault T.made settings bytes.now stacks.old
         (fault_kind problem.kind) problem.index at)
         stacks.new result }
 {
     if !forgives(settings.mode, problem.kind) {
         return give_up(stacks, problem, at);
     }
-    close_and_go_on(alloc, stacks, bytes, at, settings, Shape::Object)
+    close_and_go_on::<T>(alloc, stacks, bytes, at, settings, Shape::Object)
 }
 
 /// Any scalar where a value is awaited, or the fault there.
 #[inline(never)]
-pub fn general_scalar<'j>(
+pub fn general_scalar<'s, T: Texts<'s>>(
     alloc: Global,
+    texts: T,
     tape: &mut Vec<u8>,
-    stacks: &mut Stacks<'j>,
-    bytes: &'j [u8],
+    stacks: &mut Stacks<'s>,
+    bytes: &[u8],
     at: usize,
     settings: Settings,
     slot: Slot,
 ) -> (usize, State)
+    requires texts { T.of texts bytes.now }
     requires at_value { IsAtValue bytes.now stacks.old slot at }
     requires array { start_of (slice_index bytes.now at) ≢ Start.Array }
     requires object { start_of (slice_index bytes.now at) ≢ Start.Object }
-    ensures leads { Proceeds settings bytes.now at (left bytes.now stacks.old at)
-        (value_size stacks.old slot + 1) (from_value settings bytes.now stacks.old slot at)
+    ensures leads { Proceeds T.made settings bytes.now at (left bytes.now stacks.old at)
+        (value_size stacks.old slot + 1) (from_value T.made settings bytes.now stacks.old slot at)
         stacks.new result }
     ensures memory { slot ≡ Slot.Root
-        → MayGrowFor (outcome stacks.new result.1) (MayGrowAt bytes.now at) }
+        → MayGrowFor (outcome stacks.new result.1) (MayGrowBy T.wants bytes.now at) }
 {
     let mut parser = Parser { bytes, index: at };
-    match scalar(alloc, tape, &mut parser, settings) {
+    match scalar(alloc, texts, tape, &mut parser, settings) {
         Ok(value) => match put(stacks, slot, value) {
-            Ok(()) => after(alloc, stacks, bytes, parser.index, settings, slot),
+            Ok(()) => after::<T>(alloc, stacks, bytes, parser.index, settings, slot),
             Err(refused) => no_memory(stacks, refused, parser.index),
         },
         Err(ReadError::Fault(fault)) => {
-            fault_at_value(alloc, stacks, bytes, parser.index, settings, fault, slot)
+            fault_at_value::<T>(alloc, stacks, bytes, parser.index, settings, fault, slot)
         }
         Err(ReadError::Memory(refused)) => no_memory(stacks, refused, parser.index),
     }
 }
 
+// A key whose bytes begin at `from`, kept so, is the last member's, whose value is awaited.
+#[inline(always)]
+fn push_key<'s, T: Texts<'s>>(
+    texts: T,
+    members: &mut Vec<(CowStr<'s>, JsonValue<'s>)>,
+    bytes: &[u8],
+    from: usize,
+    key: CowStr<'_>,
+) -> Result<(), Refused>
+    requires texts { T.of texts bytes.now }
+    requires lent { IsLentAt bytes.now from (text_view key) }
+    ensures { OnOk result ((kept : CowStrView Global)
+        × (text_view kept ≡ T.made (text_view key.entry))
+        × (members.new.items ≡ members.old.items ++ (kept, Null) ∷ [])) }
+{
+    let kept = texts.keep(bytes, from, key)?;
+    make_room(members)?;
+    members.push_reserved((kept, JsonValue::Null));
+    Ok(())
+}
+
 /// Any key at `at`, with its colon.
 #[inline(never)]
-pub fn general_key<'j>(
+pub fn general_key<'s, T: Texts<'s>>(
     alloc: Global,
+    texts: T,
     tape: &mut Vec<u8>,
-    stacks: &mut Stacks<'j>,
-    bytes: &'j [u8],
+    stacks: &mut Stacks<'s>,
+    bytes: &[u8],
     at: usize,
     settings: Settings,
 ) -> (usize, State)
+    requires texts { T.of texts bytes.now }
     requires stands { StandsAtKey stacks.old }
     requires levels { length stacks.old.nest.items ≤ nesting_limit + 1 }
     requires within { at < length bytes.now }
-    ensures leads { Proceeds settings bytes.now at (left bytes.now stacks.old at)
-        (key_size stacks.old + 1) (from_key settings bytes.now stacks.old at)
+    ensures leads { Proceeds T.made settings bytes.now at (left bytes.now stacks.old at)
+        (key_size stacks.old + 1) (from_key T.made settings bytes.now stacks.old at)
         stacks.new result }
 {
     let mut parser = Parser { bytes, index: at };
@@ -139,18 +172,15 @@ pub fn general_key<'j>(
                 if stacks.nest.len() > NESTING_LIMIT {
                     return too_deep(stacks, parser.index);
                 }
-                match make_room(&mut stacks.members) {
-                    Ok(()) => {
-                        stacks.members.push_reserved((key, JsonValue::Null));
-                        (parser.index, State::Member)
-                    }
+                match push_key(texts, &mut stacks.members, bytes, at + 1, key) {
+                    Ok(()) => (parser.index, State::Member),
                     Err(refused) => no_memory(stacks, refused, parser.index),
                 }
             }
-            Err(fault) => fault_at_key(alloc, stacks, bytes, parser.index, settings, fault),
+            Err(fault) => fault_at_key::<T>(alloc, stacks, bytes, parser.index, settings, fault),
         },
         Err(ReadError::Fault(fault)) => {
-            fault_at_key(alloc, stacks, bytes, parser.index, settings, fault)
+            fault_at_key::<T>(alloc, stacks, bytes, parser.index, settings, fault)
         }
         Err(ReadError::Memory(refused)) => no_memory(stacks, refused, parser.index),
     }

@@ -13,6 +13,7 @@ ghost use Rattle.jiter_value.specs.Turns.{IsAtValue, IsPutAt, IsKeyAt};
 ghost use Rattle.jiter_value.specs.Value.{view};
 
 use crate::stacks::{Slot, Stacks, has_room, put_reserved};
+use crate::texts::{Texts, keep_lent};
 use crate::value::JsonValue;
 use jiter_scan::number_extent::minus_end;
 use jiter_scan::plain_number::{PlainNumber, plain_number_at};
@@ -22,18 +23,19 @@ use jiter_steps::parse::Literal;
 use jiter_steps::plain::{
     ascii_between, plain_colon, plain_literal_end, plain_text_end, text_between,
 };
-use std::borrow::CowStr;
 
 // A string with no backslash and with characters beyond ASCII goes where it belongs, if it is UTF-8: the place
 // behind it.
 #[inline(never)]
-fn put_plain_utf8<'j>(
-    stacks: &mut Stacks<'j>,
-    bytes: &'j [u8],
+fn put_plain_utf8<'s, T: Texts<'s>>(
+    texts: T,
+    stacks: &mut Stacks<'s>,
+    bytes: &[u8],
     at: usize,
     to: usize,
     slot: Slot,
 ) -> Option<usize>
+    requires texts { T.of texts bytes.now }
     requires stands { Stands stacks.old slot }
     requires few { length stacks.old.nest.items ≤ nesting_limit }
     requires room { HasRoom stacks.old slot }
@@ -41,26 +43,28 @@ fn put_plain_utf8<'j>(
     requires within { (at < to) × (to < length bytes.now) }
     requires stop { to ≡ scan_stop bytes.now (at + 1) }
     requires quote { slice_get bytes.now to ≡ Some ascii.quote }
-    ensures put { IfSome result (λ e. IsPutAt bytes.now stacks.old at slot stacks.new e) }
+    ensures put { IfSome result (λ e. IsPutAt T.made bytes.now stacks.old at slot stacks.new e) }
     ensures same { result ≡ None → stacks.new ≡ stacks.old }
 {
-    let text = text_between(bytes, at, to)?;
-    put_reserved(stacks, slot, JsonValue::Str(CowStr::Borrowed(text)));
+    let text = keep_lent(texts, bytes, at + 1, text_between(bytes, at, to)?)?;
+    put_reserved(stacks, slot, JsonValue::Str(text));
     Some(to + 1)
 }
 
 // A string with no backslash goes where it belongs, if it is UTF-8: the place behind it.
 #[inline(always)]
-fn put_plain_text<'j>(
-    stacks: &mut Stacks<'j>,
-    bytes: &'j [u8],
+fn put_plain_text<'s, T: Texts<'s>>(
+    texts: T,
+    stacks: &mut Stacks<'s>,
+    bytes: &[u8],
     at: usize,
     slot: Slot,
 ) -> Option<usize>
+    requires texts { T.of texts bytes.now }
     requires at_value { IsAtValue bytes.now stacks.old slot at }
     requires room { HasRoom stacks.old slot }
     requires begins { start_of (slice_index bytes.now at) ≡ Start.String }
-    ensures put { IfSome result (λ e. IsPutAt bytes.now stacks.old at slot stacks.new e) }
+    ensures put { IfSome result (λ e. IsPutAt T.made bytes.now stacks.old at slot stacks.new e) }
     ensures same { result ≡ None → stacks.new ≡ stacks.old }
 {
     let (to, low) = scan_string(bytes, at + 1);
@@ -68,16 +72,16 @@ fn put_plain_text<'j>(
         return None;
     }
     if !low {
-        return put_plain_utf8(stacks, bytes, at, to, slot);
+        return put_plain_utf8(texts, stacks, bytes, at, to, slot);
     }
-    let text = ascii_between(bytes, at, to);
-    put_reserved(stacks, slot, JsonValue::Str(CowStr::Borrowed(text)));
+    let text = keep_lent(texts, bytes, at + 1, ascii_between(bytes, at, to))?;
+    put_reserved(stacks, slot, JsonValue::Str(text));
     Some(to + 1)
 }
 
 // The integer of a magnitude, with a minus or none.
 #[inline(always)]
-fn signed<'j>(magnitude: u64, negative: bool) -> JsonValue<'j>
+fn signed<'s>(magnitude: u64, negative: bool) -> JsonValue<'s>
     requires { magnitude < 2 ^ 63 }
     ensures { view result ≡ int (if negative then minus_of magnitude else pos magnitude) }
 {
@@ -87,16 +91,18 @@ fn signed<'j>(magnitude: u64, negative: bool) -> JsonValue<'j>
 
 // A short number goes where it belongs: the place behind it.
 #[inline(always)]
-fn put_plain_number<'j>(
-    stacks: &mut Stacks<'j>,
-    bytes: &'j [u8],
+fn put_plain_number<'s, T: Texts<'s>>(
+    texts: T,
+    stacks: &mut Stacks<'s>,
+    bytes: &[u8],
     at: usize,
     slot: Slot,
 ) -> Option<usize>
+    requires texts { T.of texts bytes.now }
     requires at_value { IsAtValue bytes.now stacks.old slot at }
     requires room { HasRoom stacks.old slot }
     requires begins { start_of (slice_index bytes.now at) ≡ Start.Number }
-    ensures put { IfSome result (λ e. IsPutAt bytes.now stacks.old at slot stacks.new e) }
+    ensures put { IfSome result (λ e. IsPutAt T.made bytes.now stacks.old at slot stacks.new e) }
     ensures same { result ≡ None → stacks.new ≡ stacks.old }
 {
     let from = minus_end(bytes, at);
@@ -106,8 +112,8 @@ fn put_plain_number<'j>(
             Some(end)
         }
         PlainNumber::Float(end) => {
-            let text = ascii_text(&bytes[at..end]);
-            put_reserved(stacks, slot, JsonValue::Float(CowStr::Borrowed(text)));
+            let text = keep_lent(texts, bytes, at, ascii_text(&bytes[at..end]))?;
+            put_reserved(stacks, slot, JsonValue::Float(text));
             Some(end)
         }
         PlainNumber::Other => None,
@@ -116,9 +122,9 @@ fn put_plain_number<'j>(
 
 // A literal goes where it belongs: the place behind it.
 #[inline(always)]
-fn put_plain_literal<'j>(
-    stacks: &mut Stacks<'j>,
-    bytes: &'j [u8],
+fn put_plain_literal<'s, T: Texts<'s>>(
+    stacks: &mut Stacks<'s>,
+    bytes: &[u8],
     at: usize,
     slot: Slot,
     literal: Literal,
@@ -126,7 +132,7 @@ fn put_plain_literal<'j>(
     requires at_value { IsAtValue bytes.now stacks.old slot at }
     requires room { HasRoom stacks.old slot }
     requires begins { start_of (slice_index bytes.now at) ≡ Start.Literal literal }
-    ensures put { IfSome result (λ e. IsPutAt bytes.now stacks.old at slot stacks.new e) }
+    ensures put { IfSome result (λ e. IsPutAt T.made bytes.now stacks.old at slot stacks.new e) }
     ensures same { result ≡ None → stacks.new ≡ stacks.old }
 {
     let end = plain_literal_end(bytes, at, literal)?;
@@ -140,43 +146,50 @@ fn put_plain_literal<'j>(
 
 /// A plain scalar goes where it belongs, if there is room for it: the place behind it.
 #[inline(always)]
-pub fn put_plain_scalar<'j>(
-    stacks: &mut Stacks<'j>,
-    bytes: &'j [u8],
+pub fn put_plain_scalar<'s, T: Texts<'s>>(
+    texts: T,
+    stacks: &mut Stacks<'s>,
+    bytes: &[u8],
     at: usize,
     slot: Slot,
 ) -> Option<usize>
+    requires texts { T.of texts bytes.now }
     requires at_value { IsAtValue bytes.now stacks.old slot at }
-    ensures put { IfSome result (λ e. IsPutAt bytes.now stacks.old at slot stacks.new e) }
+    ensures put { IfSome result (λ e. IsPutAt T.made bytes.now stacks.old at slot stacks.new e) }
     ensures same { result ≡ None → stacks.new ≡ stacks.old }
 {
     if !has_room(stacks, slot) {
         return None;
     }
     match bytes[at] {
-        b'"' => put_plain_text(stacks, bytes, at, slot),
-        b'0'..=b'9' | b'-' => put_plain_number(stacks, bytes, at, slot),
-        b'n' => put_plain_literal(stacks, bytes, at, slot, Literal::Null),
-        b't' => put_plain_literal(stacks, bytes, at, slot, Literal::True),
-        b'f' => put_plain_literal(stacks, bytes, at, slot, Literal::False),
+        b'"' => put_plain_text(texts, stacks, bytes, at, slot),
+        b'0'..=b'9' | b'-' => put_plain_number(texts, stacks, bytes, at, slot),
+        b'n' => put_plain_literal::<T>(stacks, bytes, at, slot, Literal::Null),
+        b't' => put_plain_literal::<T>(stacks, bytes, at, slot, Literal::True),
+        b'f' => put_plain_literal::<T>(stacks, bytes, at, slot, Literal::False),
         _ => None,
     }
 }
 
 /// A plain key, with its colon and a value behind it, goes where it belongs: the place of the value.
 #[inline(always)]
-pub fn put_plain_key<'j>(stacks: &mut Stacks<'j>, bytes: &'j [u8], at: usize) -> Option<usize>
+pub fn put_plain_key<'s, T: Texts<'s>>(
+    texts: T,
+    stacks: &mut Stacks<'s>,
+    bytes: &[u8],
+    at: usize,
+) -> Option<usize>
+    requires texts { T.of texts bytes.now }
     requires stands { StandsAtKey stacks.old }
     requires few { length stacks.old.nest.items ≤ nesting_limit }
     requires room { vec_len stacks.old.members < vec_capacity stacks.old.members }
     requires within { at < length bytes.now }
-    ensures put { IfSome result (λ next. IsKeyAt bytes.now stacks.old at stacks.new next) }
+    ensures put { IfSome result (λ next. IsKeyAt T.made bytes.now stacks.old at stacks.new next) }
     ensures same { result ≡ None → stacks.new ≡ stacks.old }
 {
     let to = plain_text_end(bytes, at)?;
     let next = plain_colon(bytes, to + 1)?;
-    let text = ascii_text(&bytes[at + 1..to]);
-    let key = CowStr::Borrowed(text);
+    let key = keep_lent(texts, bytes, at + 1, ascii_text(&bytes[at + 1..to]))?;
     stacks.members.push_reserved((key, JsonValue::Null));
     Some(next)
 }

@@ -1,19 +1,23 @@
 //! The scalars of a document as values.
-ghost use Rattle.std.specs.Prelude.{◌≡◌, ◌≢◌, ◌<◌, ℕ, IfOk, OnOk, length, slice_index};
+ghost use Rattle.std.specs.Prelude.{◌≡◌, ◌≢◌, ◌<◌, ◌⊎◌, ℕ, IfOk, OnOk, OnErr, length, slice_index};
 ghost use Rattle.jiter_scan.specs.NumberDecoder.{number_view};
 ghost use Rattle.jiter_steps.specs.Literal.{literal_tree, start_of};
 ghost use Rattle.jiter_steps.specs.Node.{number_tree};
 ghost use Rattle.jiter_steps.specs.Read.{scalar_at, value_at};
 ghost use Rattle.jiter_steps.specs.Parse.{Moves, Reads, Gives};
-ghost use Rattle.jiter_value.specs.Settings.{rules};
+ghost use Rattle.jiter_value.specs.Owned.{as_it_is, tree_as};
+ghost use Rattle.jiter_value.specs.Texts.{IsNumberAt};
+ghost use Rattle.jiter_value.specs.Settings.{rules_as};
 ghost use Rattle.jiter_value.specs.Size.{size};
 ghost use Rattle.jiter_steps.specs.ReadError.{WhereRefused};
 ghost use Rattle.jiter_steps.specs.StringDecoder.{WantsMemory};
-ghost use Rattle.jiter_value.specs.Value.{view, MayGrowAt};
+ghost use Rattle.jiter_value.specs.Value.{view, MayGrowBy};
 
 use crate::settings::Settings;
+use crate::texts::Texts;
 use crate::value::JsonValue;
 use jiter_scan::errors::{Fault, FaultKind};
+use jiter_scan::memory::Refused;
 use jiter_scan::{NumberAny, NumberInt};
 use jiter_steps::parse::{Literal, Parser, Start, start_of};
 use jiter_steps::read_error::ReadError;
@@ -21,7 +25,7 @@ use std::alloc::Global;
 use std::borrow::CowStr;
 
 #[inline(always)]
-fn literal_value<'j>(literal: Literal) -> JsonValue<'j>
+fn literal_value<'s>(literal: Literal) -> JsonValue<'s>
     ensures value { view result ≡ literal_tree literal }
     ensures one { size (view result) ≡ 1 }
 {
@@ -33,26 +37,41 @@ fn literal_value<'j>(literal: Literal) -> JsonValue<'j>
 }
 
 #[inline(always)]
-fn number_value<'j>(number: NumberAny<'j>) -> JsonValue<'j>
-    ensures value { view result ≡ number_tree (number_view number.entry) }
-    ensures one { size (view result) ≡ 1 }
+fn number_value<'s, T: Texts<'s>>(
+    texts: T,
+    bytes: &[u8],
+    at: usize,
+    number: NumberAny<'_>,
+) -> Result<JsonValue<'s>, Refused>
+    requires texts { T.of texts bytes.now }
+    requires lent { IsNumberAt bytes.now at (number_view number) }
+    ensures value { IfOk result (λ v.
+        view v ≡ tree_as T.made (number_tree (number_view number.entry))) }
+    ensures one { IfOk result (λ v. size (view v) ≡ 1) }
+    ensures memory { OnErr result T.wants }
 {
     match number {
-        NumberAny::Int(NumberInt::Int(integer)) => JsonValue::Int(integer),
-        NumberAny::Int(NumberInt::BigInt(text)) => JsonValue::BigInt(CowStr::Borrowed(text)),
-        NumberAny::Float(text) => JsonValue::Float(CowStr::Borrowed(text)),
+        NumberAny::Int(NumberInt::Int(integer)) => Ok(JsonValue::Int(integer)),
+        NumberAny::Int(NumberInt::BigInt(text)) => {
+            let kept = texts.keep(bytes, at, CowStr::Borrowed(text))?;
+            Ok(JsonValue::BigInt(kept))
+        }
+        NumberAny::Float(text) => {
+            let kept = texts.keep(bytes, at, CowStr::Borrowed(text))?;
+            Ok(JsonValue::Float(kept))
+        }
     }
 }
 
 #[inline(always)]
-fn read_literal<'j>(
-    parser: &mut Parser<'j>,
+fn read_literal<'s>(
+    parser: &mut Parser<'_>,
     literal: Literal,
     settings: Settings,
-) -> Result<JsonValue<'j>, Fault>
+) -> Result<JsonValue<'s>, Fault>
     ensures moves { Moves parser.old parser.new }
     ensures value { Reads view result parser.new.index (scalar_at parser.old.index
-        ((rules settings).literal parser.old.bytes.now literal parser.old.index)) }
+        ((rules_as as_it_is settings).literal parser.old.bytes.now literal parser.old.index)) }
     ensures ahead { OnOk result (parser.old.index < parser.new.index) }
     ensures one { IfOk result (λ v. size (view v) ≡ 1) }
 {
@@ -61,59 +80,74 @@ fn read_literal<'j>(
 }
 
 #[inline(always)]
-fn read_number<'j>(parser: &mut Parser<'j>, settings: Settings) -> Result<JsonValue<'j>, Fault>
-    requires { parser.old.index < length parser.old.bytes.now }
+fn read_number<'s, T: Texts<'s>>(
+    texts: T,
+    parser: &mut Parser<'_>,
+    settings: Settings,
+) -> Result<JsonValue<'s>, ReadError>
+    requires texts { T.of texts parser.old.bytes.now }
+    requires within { parser.old.index < length parser.old.bytes.now }
     ensures moves { Moves parser.old parser.new }
-    ensures value { Reads view result parser.new.index (scalar_at parser.old.index
-        ((rules settings).number parser.old.bytes.now parser.old.index)) }
+    ensures value { Gives view result parser.new.index (scalar_at parser.old.index
+        ((rules_as T.made settings).number parser.old.bytes.now parser.old.index)) }
     ensures ahead { OnOk result (parser.old.index < parser.new.index) }
     ensures one { IfOk result (λ v. size (view v) ≡ 1) }
+    ensures memory { WhereRefused result T.wants }
 {
+    let at = parser.index;
     let number = parser.number(settings.allow_inf_nan)?;
-    Ok(number_value(number))
+    Ok(number_value(texts, parser.bytes, at, number)?)
 }
 
 #[inline(always)]
-fn read_string<'j>(
+fn read_string<'s, T: Texts<'s>>(
     alloc: Global,
+    texts: T,
     tape: &mut Vec<u8>,
-    parser: &mut Parser<'j>,
+    parser: &mut Parser<'_>,
     settings: Settings,
-) -> Result<JsonValue<'j>, ReadError>
-    requires { parser.old.index < length parser.old.bytes.now }
+) -> Result<JsonValue<'s>, ReadError>
+    requires texts { T.of texts parser.old.bytes.now }
+    requires within { parser.old.index < length parser.old.bytes.now }
     ensures moves { Moves parser.old parser.new }
     ensures value { Gives view result parser.new.index (scalar_at parser.old.index
-        ((rules settings).text parser.old.bytes.now parser.old.index)) }
+        ((rules_as T.made settings).text parser.old.bytes.now parser.old.index)) }
     ensures ahead { OnOk result (parser.old.index < parser.new.index) }
     ensures one { IfOk result (λ v. size (view v) ≡ 1) }
-    ensures memory { WhereRefused result (WantsMemory parser.old.bytes.now parser.old.index) }
+    ensures memory { WhereRefused result
+        (WantsMemory parser.old.bytes.now parser.old.index ⊎ T.wants) }
 {
+    let at = parser.index;
     let text = parser.string(alloc, tape, settings.mode.allow_trailing_str())?;
-    Ok(JsonValue::Str(text))
+    let kept = texts.keep(parser.bytes, at + 1, text)?;
+    Ok(JsonValue::Str(kept))
 }
 
 /// The scalar where the reader stands; a fault leaves it there.
 #[inline(always)]
-pub fn scalar<'j>(
+pub fn scalar<'s, T: Texts<'s>>(
     alloc: Global,
+    texts: T,
     tape: &mut Vec<u8>,
-    parser: &mut Parser<'j>,
+    parser: &mut Parser<'_>,
     settings: Settings,
-) -> Result<JsonValue<'j>, ReadError>
+) -> Result<JsonValue<'s>, ReadError>
+    requires texts { T.of texts parser.old.bytes.now }
     requires within { parser.old.index < length parser.old.bytes.now }
     requires array { start_of (slice_index parser.old.bytes.now parser.old.index) ≢ Start.Array }
     requires object { start_of (slice_index parser.old.bytes.now parser.old.index) ≢ Start.Object }
     ensures moves { Moves parser.old parser.new }
     ensures value { (levels : ℕ) → Gives view result parser.new.index
-        (value_at (rules settings) parser.old.bytes.now levels parser.old.index) }
+        (value_at (rules_as T.made settings) parser.old.bytes.now levels parser.old.index) }
     ensures ahead { OnOk result (parser.old.index < parser.new.index) }
     ensures one { IfOk result (λ v. size (view v) ≡ 1) }
-    ensures memory { WhereRefused result (MayGrowAt parser.old.bytes.now parser.old.index) }
+    ensures memory { WhereRefused result
+        (MayGrowBy T.wants parser.old.bytes.now parser.old.index) }
 {
     match start_of(parser.bytes[parser.index]) {
         Start::Literal(literal) => Ok(read_literal(parser, literal, settings)?),
-        Start::Number => Ok(read_number(parser, settings)?),
-        Start::String => read_string(alloc, tape, parser, settings),
+        Start::Number => read_number(texts, parser, settings),
+        Start::String => read_string(alloc, texts, tape, parser, settings),
         Start::Nothing => Err(ReadError::Fault(Fault {
             kind: FaultKind::ExpectedSomeValue,
             index: parser.index,

@@ -1,26 +1,26 @@
 use Rattle.std.proofs.Common.{◌∙◌, sym}
 use Rattle.std.proofs.lemmas.Result.{err_from_is_err_and}
-use Rattle.jiter_value.proofs.WholeTextAnswers.{answer_by-front, answer_by-end, answer_by-trailing}
+use Rattle.jiter_value.proofs.MadeAnswers.{made-front, made-end, made-trailing}
 use Rattle.jiter_value.proofs.reading.finish_whole.Goals as goal
 
 pub returns-then-is_active-clause-value : goal.returns-then-is_active-clause-value
-returns-then-is_active-clause-value c =
+returns-then-is_active-clause-value g c =
     let a = c.args in
     let on = sym c.is_active.ensures ∙ c.if-is_active.true in
-    (_, answer_by-front a.settings a.parser.now.bytes.now c.requires.begins _ _ c.requires.value on)
+    (_, made-front g.T.Texts.made a.settings a.parser.now.bytes.now c.requires.begins _ _ c.requires.value on)
 
 pub returns-clause-value : goal.returns-clause-value
-returns-clause-value c =
+returns-clause-value g c =
     let a = c.args in
     let off = sym c.is_active.ensures ∙ c.if-is_active.false in
     let ends = c.in_ok-finish.ensures.value in
-    (_, answer_by-end a.settings a.parser.now.bytes.now c.requires.begins _ _ c.requires.value _ off ends)
+    (_, made-end g.T.Texts.made a.settings a.parser.now.bytes.now c.requires.begins _ _ c.requires.value _ off ends)
 
 pub returns-in_err-finish-clause-value : goal.returns-in_err-finish-clause-value
-returns-in_err-finish-clause-value c =
+returns-in_err-finish-clause-value g c =
     let a = c.args in
     let off = sym c.is_active.ensures ∙ c.if-is_active.false in
     let e = err_from_is_err_and c.from_residual.result c.from_residual.ensures.1 in
     rw (e.1, e.2)
-    (answer_by-trailing a.settings a.parser.now.bytes.now c.requires.begins _ _ c.requires.value _ _
+    (made-trailing g.T.Texts.made a.settings a.parser.now.bytes.now c.requires.begins _ _ c.requires.value _ _
     c.finish.new.self.index off c.in_err-finish.ensures.value)

@@ -1,19 +1,15 @@
-use Rattle.std.proofs.Common.{◌∙◌, ap, arith, length}
-use Rattle.jiter_value.proofs.ParsedDocuments.{value-parses, error-parses}
+use Rattle.jiter_steps.specs.Blank.{past_blanks}
+use Rattle.jiter_value.specs.Owned.{as_it_is, tree_as}
+use Rattle.jiter_value.specs.Parses.{as_read}
+use Rattle.jiter_value.specs.Value.{MayGrowBy, MayGrow}
+use Rattle.jiter_value.proofs.MadeTexts.{tree_as-it_is}
+use Rattle.jiter_value.proofs.ParsedDocuments.{parses-same}
+use Rattle.jiter_value.proofs.TurnOutcomes.{grows-borrowing}
 use Rattle.jiter_value.proofs.reading.read_text.Goals as goal
 
-pub returns-in-Ok : goal.returns-in-Ok
-returns-in-Ok c =
-    let a = c.args in
-    value-parses a.settings a.bytes.now c.read_whole.new.parser.index c.in-Ok.value
-    (rw c.new-parser.ensures.same at c.in-Ok.ensures.value)
-
-pub returns-in-Err : goal.returns-in-Err
-returns-in-Err c =
-    let a = c.args in
-    let read = c.in-Err.ensures in
-    let i = c.read_whole.new.parser.index in
-    let same = ap (λ b. length b.now) (read.moves.same ∙ c.new-parser.ensures.same) in
-    error-parses a.settings a.bytes.now i c.in-Err.error c.error_at.result c.error_at.ensures
-    (rw c.new-parser.ensures.same at read.value) (omega (arith, c.read_whole.new.parser.within, same))
-    (rw c.new-parser.ensures.same at read.memory) (rw c.new-parser.ensures.same at read.place)
+pub returns : goal.returns
+returns c =
+    let p = c.args.settings in
+    let t = c.args.bytes.now in
+    parses-same (tree_as as_it_is) as_read tree_as-it_is (MayGrowBy ⊥ t (past_blanks t 0)) (MayGrow t)
+    (grows-borrowing t (past_blanks t 0)) p.allow_inf_nan p.mode t c.read_text_as.result c.read_text_as.ensures

@@ -1,32 +1,34 @@
-use Rattle.std.proofs.Common.{◌∙◌, ap}
+use Rattle.std.proofs.Common.{◌∙◌, refl, ap}
 use Rattle.std.proofs.lemmas.Result.{err_from_is_err_and}
-use Rattle.jiter_value.proofs.WholeTextAnswers.{value-begins-at, answer_by-none, answer_by-refused}
+use Rattle.jiter_value.proofs.MadeAnswers.{made-none, made-refused}
+use Rattle.jiter_value.proofs.WholeTextAnswers.{value-begins-at}
 use Rattle.jiter_value.proofs.reading.read_whole.Goals as goal
 
 pub returns-in_err-value_first-clause-value : goal.returns-in_err-value_first-clause-value
-returns-in_err-value_first-clause-value c =
+returns-in_err-value_first-clause-value g c =
     let a = c.args in
     let e = err_from_is_err_and c.from_residual.result c.from_residual.ensures.1 in
     rw (e.1, e.2)
-    (answer_by-none a.settings a.parser.now.bytes.now _ _ c.value_first.new.self.index
+    (made-none g.T.Texts.made a.settings a.parser.now.bytes.now _ _ c.value_first.new.self.index
     (rw c.requires.begins at c.in_err-value_first.ensures.value))
 
-pub finish_whole-requires-clause-value : goal.finish_whole-requires-clause-value
-finish_whole-requires-clause-value c =
+pub finish_whole-requires : goal.finish_whole-requires
+finish_whole-requires g c =
     let t = c.args.parser.now.bytes.now in
     let begun = c.in_ok-value_first.ensures in
     let first = ap (λ b. b.now) begun.moves.same in
     let second = ap (λ b. b.now) c.in_ok-value.ensures.moves.same in
     let at = value-begins-at t c.value_first.new.self.index (rw c.requires.begins at begun.value) in
-    rw (second ∙ first, at) (rw first at c.in_ok-value.ensures.value)
+    rw (second ∙ first, at)
+    (λ k. ((refl, tt), (begun.inside, rw first at c.in_ok-value.ensures.value)))
 
 pub returns-in_err-value-clause-value : goal.returns-in_err-value-clause-value
-returns-in_err-value-clause-value c =
+returns-in_err-value-clause-value g c =
     let t = c.args.parser.now.bytes.now in
     let begun = c.in_ok-value_first.ensures in
     let first = ap (λ b. b.now) begun.moves.same in
     let at = value-begins-at t c.value_first.new.self.index (rw c.requires.begins at begun.value) in
     let e = err_from_is_err_and c.from_residual-in_err-value.result c.from_residual-in_err-value.ensures.1 in
     rw (e.1, e.2)
-    (answer_by-refused c.args.settings t (rw at begun.inside) _ c.run.new.parser.index
+    (made-refused g.T.Texts.made c.args.settings t (rw at begun.inside) _ c.run.new.parser.index
     (rw at (rw first at c.in_err-value.ensures.value)))

@@ -3,7 +3,7 @@ use Rattle.jiter_value.proofs.StackTurns.{root-stands, root-from}
 use Rattle.jiter_value.proofs.turns.run.Goals as goal
 
 pub turning-init : goal.turning-init
-turning-init c =
+turning-init g c =
     let a = c.args in
     let s = a.stacks.now in
     let b = root-stands s.nest.items s.items.items s.members.items c.requires.nest c.requires.items c.requires.members
@@ -11,7 +11,8 @@ turning-init c =
     let none : length s.nest.items ≡ 0 = ap length c.requires.nest in (
       omega arith,
       a.parser.now.within,
-      root-from a.settings a.parser.now.bytes.now (reverse s.nest.items) s.items.items s.members.items _ _
+      root-from g.T.Texts.made a.settings a.parser.now.bytes.now (reverse s.nest.items) s.items.items s.members.items
+          _ _
           a.parser.now.index b,
       (b, omega (arith, none), c.requires.within),
       λ e. cc,

@@ -1,12 +1,15 @@
-use Rattle.std.proofs.Common.{◌∙◌, ◌≤◌, ap, arith, length, Err}
+use Rattle.std.proofs.Common.{◌∙◌, ◌≤◌, ap, arith, length, Ok, Err}
 use Rattle.jiter_steps.specs.Blank.{past_blanks}
+use Rattle.jiter_value.specs.Owned.{as_it_is}
+use Rattle.jiter_value.specs.Parses.{as_read}
 use Rattle.jiter_value.specs.Size.{size}
 use Rattle.jiter_value.specs.Stacks.{meaning}
 use Rattle.jiter_value.specs.Value.{view, MayGrow}
 use Rattle.jiter_value.specs.declared.value.JsonValue.{JsonValue}
+use Rattle.jiter_value.proofs.MadeAnswers.{made-refused, lent-gives}
 use Rattle.jiter_value.proofs.ParsedDocuments.{value-parses, error-parses}
 use Rattle.jiter_value.proofs.TurnOutcomes.{refused-weaker, refused-any}
-use Rattle.jiter_value.proofs.WholeTextAnswers.{answer_by-refused, fails-gives, held-begun, turn-grows}
+use Rattle.jiter_value.proofs.WholeTextAnswers.{fails-gives, held-begun, turn-grows}
 use Rattle.jiter_value.proofs.machine.Machine.go.Goals as goal
 
 pub returns-in-Ok : goal.returns-in-Ok
@@ -14,10 +17,11 @@ returns-in-Ok c =
     let p = c.args.settings in
     let t = c.args.old_parser.bytes.now in
     let s = c.args.old_stacks in
-    let same = c.in-Ok.ensures.same ∙ c.replace-value.ensures.value in
+    let same = c.in-Ok.ensures.same ∙ c.take_root-value.ensures in
     let holds = rw c.in-Done.is at c.turn-at.ensures.leads.held in
     let was = held-begun t p c.args.old_parser.index c.args.state s c.requires.0 in (
-      value-parses p t c.finish_whole.new.parser.index c.in-Ok.whole c.in-Ok.ensures.value,
+      value-parses as_read (MayGrow t) p t c.finish_whole.new.parser.index c.in-Ok.whole
+          (lent-gives p t (Ok c.in-Ok.whole) c.finish_whole.new.parser.index c.in-Ok.ensures.value),
       omega (arith, holds, was, ap (λ v. size (view v)) same),
     )
 
@@ -30,7 +34,8 @@ returns-in-Done c =
     let read = c.in-Err.ensures in
     let within : i ≤ length t = omega (arith, c.finish_whole.new.parser.within, ap (λ b. length b.now) read.moves.same)
     in (
-      error-parses p t i e c.error_at.result c.error_at.ensures read.value within
+      error-parses as_read (MayGrow t) p t i e c.error_at.result c.error_at.ensures
+          (lent-gives p t (Err e) i read.value) within
           (refused-weaker {X = JsonValue} (Err e) ⊥ (MayGrow t) (λ no. absurd no) read.memory)
           (refused-weaker {X = JsonValue} (Err e) ⊥ (past_blanks t 0 ≤ i) (λ no. absurd no) read.memory),
       tt,
@@ -48,9 +53,9 @@ returns-in-GivenUp c =
     let begun = c.requires.0 in
     let fails = rw c.in-GivenUp.is at c.turn-at.ensures.leads.reaches in
     let grows = rw c.in-GivenUp.is at c.turn-at.ensures.memory in (
-      error-parses p t j e c.error_at-in-GivenUp.result c.error_at-in-GivenUp.ensures
-          (answer_by-refused p t begun.begins e j
-          (fails-gives e j _ (meaning p t s a at) begun.value (rw c.take_error-error.ensures fails)))
+      error-parses as_read (MayGrow t) p t j e c.error_at-in-GivenUp.result c.error_at-in-GivenUp.ensures
+          (lent-gives p t (Err e) j (made-refused as_it_is p t begun.begins e j
+          (fails-gives e j _ (meaning as_it_is p t s a at) begun.value (rw c.take_error-error.ensures fails))))
           c.turn-at.ensures.leads.within.1
           (turn-grows t p at a s e begun (rw c.take_error-error.ensures grows))
           (refused-any JsonValue e (past_blanks t 0 ≤ j)

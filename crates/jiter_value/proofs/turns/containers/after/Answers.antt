@@ -5,7 +5,7 @@ use Rattle.jiter_value.proofs.StackTurns.{behind-more, behind-closed, behind-fai
 use Rattle.jiter_value.proofs.turns.containers.after.Goals as goal
 
 pub returns-in-Part-clause-leads : goal.returns-in-Part-clause-leads
-returns-in-Part-clause-leads c =
+returns-in-Part-clause-leads g c =
     let p = c.args.settings in
     let t = c.args.bytes.now in
     let l = c.closing in
@@ -19,16 +19,17 @@ returns-in-Part-clause-leads c =
     record {
       within = (omega (arith, so_far.0, forward), omega (arith, lt));
       reaches = rw c.part_of.ensures
-          (reaches-part p t s h j _
+          (reaches-part g.T.Texts.made p t s h j _
           (so_far.2
-          ∙ behind-more p t h s.items.items s.members.items s.root l.at (reverse s.nest.items) j so_far.3 next lt)
+          ∙ behind-more g.T.Texts.made p t h s.items.items s.members.items s.root l.at (reverse s.nest.items) j
+          so_far.3 next lt)
           (inside-stands s h so_far.3) (λ array. so_far.4) (omega (arith, so_far.4)) lt);
       left = search library_rules;
       held = search library_rules;
     }
 
 pub returns-then-not-ends-clause-leads : goal.returns-then-not-ends-clause-leads
-returns-then-not-ends-clause-leads c =
+returns-then-not-ends-clause-leads g c =
     let l = c.closing in
     let s = l.stacks in
     let j = c.plain_step-next.result.0 in
@@ -36,14 +37,15 @@ returns-then-not-ends-clause-leads c =
     record {
       within = (omega (arith, so_far.0, c.plain_step-next.ensures.within.0), c.plain_step-next.ensures.within.1);
       reaches = rw so_far.2
-          (behind-fails c.args.settings c.args.bytes.now c.in-Some.shape s.items.items s.members.items s.root l.at
+          (behind-fails g.T.Texts.made c.args.settings c.args.bytes.now c.in-Some.shape s.items.items s.members.items
+          s.root l.at
           (reverse s.nest.items) j c.ends.new.stacks.error so_far.3 c.if-not-ends.ensures.resolved);
       left = tt;
       held = tt;
     }
 
 pub closing-preserved : goal.closing-preserved
-closing-preserved c =
+closing-preserved g c =
     let p = c.args.settings in
     let t = c.args.bytes.now in
     let l = c.closing in
@@ -57,9 +59,10 @@ closing-preserved c =
       omega (arith, so_far.0, forward),
       c.plain_step-next.ensures.within.1,
       so_far.2
-          ∙ behind-closed p t h s.items.items s.members.items s.root l.at (reverse s.nest.items) j so_far.3
+          ∙ behind-closed g.T.Texts.made p t h s.items.items s.members.items s.root l.at (reverse s.nest.items) j
+          so_far.3
           c.if-not-ends.ensures.resolved
-          ∙ (rw same at c.in-Ok.ensures.value p t j),
+          ∙ (rw same at c.in-Ok.ensures.value g.T.Texts.made p t j),
       c.in-Ok.ensures.stands,
       omega (arith, so_far.4, fewer),
       omega (arith, so_far.5, forward, fewer),

@@ -6,10 +6,11 @@ use Rattle.jiter_value.specs.declared.stacks.Slot.TheVariants as slot
 use Rattle.jiter_value.proofs.turns.containers.after.Given as goal
 
 abbrev pub invariant-closing : goal.invariant-closing
-invariant-closing l =
+invariant-closing g l =
     (l.fn.from ≤ l.at) × (l.at ≤ length l.fn.bytes)
     ×
-    (behind l.settings l.fn.bytes l.fn.stacks l.fn.slot l.fn.from ≡ behind l.settings l.fn.bytes l.stacks l.inside
+    (behind g.T.Texts.made l.settings l.fn.bytes l.fn.stacks l.fn.slot l.fn.from ≡ behind g.T.Texts.made l.settings
+    l.fn.bytes l.stacks l.inside
     l.at)
     × Stands l.stacks l.inside × (length l.stacks.nest.items ≤ 200)
     × (left l.fn.bytes l.stacks l.at ≤ left l.fn.bytes l.fn.stacks l.fn.from)
@@ -17,4 +18,4 @@ invariant-closing l =
     × (l.fn.slot ≡ slot.Root → l.inside ≡ slot.Root)
 
 abbrev pub decreases-closing : goal.decreases-closing
-decreases-closing l = length l.stacks.nest.items
+decreases-closing g l = length l.stacks.nest.items

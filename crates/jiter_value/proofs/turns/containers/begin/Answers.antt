@@ -5,13 +5,14 @@ use Rattle.jiter_value.proofs.StackTurns.{begins-closed, begins-fails}
 use Rattle.jiter_value.proofs.turns.containers.begin.Goals as goal
 
 pub returns-then-not-ends : goal.returns-then-not-ends
-returns-then-not-ends c =
+returns-then-not-ends g c =
     let a = c.args in
     let r = c.if-not-ends.ensures.resolved in
     record {
       leads = record {
         within = (omega (arith, c.plain_first-next.ensures.within.0), c.plain_first-next.ensures.within.1);
-        reaches = begins-fails a.settings a.bytes.now a.stacks.now a.slot c.requires.at_value.0 c.requires.at_value.1
+        reaches = begins-fails g.T.Texts.made a.settings a.bytes.now a.stacks.now a.slot c.requires.at_value.0
+            c.requires.at_value.1
             a.at
             a.shape c.plain_first-next.result.0 c.ends.new.stacks.error c.requires.bracket r;
         left = tt;
@@ -21,7 +22,7 @@ returns-then-not-ends c =
     }
 
 pub returns : goal.returns
-returns c =
+returns g c =
     let a = c.args in
     let r = outcome c.empty.new.stacks c.empty.result.1 in
     let ends = c.if-not-ends.ensures in
@@ -30,7 +31,8 @@ returns c =
     let forward = c.plain_first-next.ensures.within.0 in
     record {
       leads = leads-weaker (rw same at empty.leads) (omega (arith, forward)) (omega (arith, forward)) (omega arith)
-          (begins-closed a.settings a.bytes.now a.stacks.now a.slot c.requires.at_value.0 c.requires.at_value.1 a.at
+          (begins-closed g.T.Texts.made a.settings a.bytes.now a.stacks.now a.slot c.requires.at_value.0
+          c.requires.at_value.1 a.at
           a.shape
           c.plain_first-next.result.0 c.requires.bracket ends.resolved);
       memory = λ e. root-grows r _ (empty.root e) (refused-weaker r _ _ (λ other. absurd (other e)) empty.memory);

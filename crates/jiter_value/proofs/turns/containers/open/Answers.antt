@@ -4,7 +4,7 @@ use Rattle.jiter_value.proofs.Shapes.{shape-opens, array-too-deep}
 use Rattle.jiter_value.proofs.turns.containers.open.Goals as goal
 
 pub returns-then-is_full : goal.returns-then-is_full
-returns-then-is_full c =
+returns-then-is_full g c =
     let a = c.args in
     let full = c.if-is_full.ensures.full refl in
     rw c.too_deep.ensures.place
@@ -12,7 +12,8 @@ returns-then-is_full c =
       leads = record {
         within = (omega (arith, c.requires.within.0), omega (arith, c.requires.within.1));
         reaches = rw c.too_deep.ensures.error
-            (array-too-deep a.settings a.bytes.now a.stacks.now a.slot c.requires.stands c.requires.levels a.at a.next
+            (array-too-deep g.T.Texts.made a.settings a.bytes.now a.stacks.now a.slot c.requires.stands
+            c.requires.levels a.at a.next
             full.1 c.requires.within.1 (rw full.0 at c.requires.bracket) (rw full.0 at c.requires.part));
         left = tt;
         held = tt;
@@ -20,13 +21,14 @@ returns-then-is_full c =
     })
 
 pub returns-in-Ok : goal.returns-in-Ok
-returns-in-Ok c =
+returns-in-Ok g c =
     let a = c.args in
     record {
       leads = record {
         within = (omega (arith, c.requires.within.0), omega (arith, c.requires.within.1));
         reaches = rw c.part_of.ensures
-            (shape-opens a.settings a.bytes.now a.stacks.now a.slot c.requires.stands c.requires.levels a.at a.shape
+            (shape-opens g.T.Texts.made a.settings a.bytes.now a.stacks.now a.slot c.requires.stands c.requires.levels
+            a.at a.shape
             a.next
             c.push_small.new.items (rw c.base_of-base.ensures at c.in-Ok.ensures.ok) c.requires.within.1
             c.requires.bracket c.requires.part (c.if-is_full.ensures.few refl));

@@ -5,7 +5,7 @@ use Rattle.jiter_value.proofs.StackTurns.{key-kept}
 use Rattle.jiter_value.proofs.turns.general.fault_at_key.Goals as goal
 
 pub returns-then-not-forgives : goal.returns-then-not-forgives
-returns-then-not-forgives c =
+returns-then-not-forgives g c =
     let a = c.args in
     let s = a.stacks.now in
     let k = fault_kind a.problem.kind in
@@ -15,7 +15,8 @@ returns-then-not-forgives c =
       leads = record {
         within = (omega arith, c.requires.within);
         reaches = rw c.give_up.ensures.error
-            (key-kept a.settings a.bytes.now (reverse s.nest.items) s.items.items s.members.items k a.problem.index a.at
+            (key-kept g.T.Texts.made a.settings a.bytes.now (reverse s.nest.items) s.items.items s.members.items k
+            a.problem.index a.at
             bad);
         left = tt;
         held = tt;

@@ -4,7 +4,7 @@ use Rattle.jiter_steps.specs.declared.parse.Shape.TheVariants as shape
 use Rattle.jiter_steps.specs.Frames.{resume}
 use Rattle.jiter_steps.specs.Read.{fault}
 use Rattle.jiter_steps.proofs.Calls.Resumed.{resume-fault}
-use Rattle.jiter_value.specs.Settings.{forgives, rules}
+use Rattle.jiter_value.specs.Settings.{forgives, rules_as}
 use Rattle.jiter_value.specs.Size.{frames_size, inside_size_in}
 use Rattle.jiter_value.specs.Stacks.{frames, container_in}
 use Rattle.jiter_value.specs.declared.stacks.Slot.TheVariants as slot
@@ -14,7 +14,7 @@ use Rattle.jiter_value.proofs.TurnOutcomes.{leads-weaker}
 use Rattle.jiter_value.proofs.turns.general.fault_at_value.Goals as goal
 
 pub returns-then-not-forgives-clause-leads : goal.returns-then-not-forgives-clause-leads
-returns-then-not-forgives-clause-leads c =
+returns-then-not-forgives-clause-leads g c =
     let a = c.args in
     let s = a.stacks.now in
     let k = fault_kind a.problem.kind in
@@ -23,14 +23,14 @@ returns-then-not-forgives-clause-leads c =
     (record {
       within = (omega arith, c.requires.within);
       reaches = rw c.give_up.ensures.error
-          (resume-fault (rules a.settings) a.bytes.now
+          (resume-fault (rules_as g.T.Texts.made a.settings) a.bytes.now
           (frames a.slot (reverse s.nest.items) s.items.items s.members.items) k a.problem.index a.at bad);
       left = tt;
       held = tt;
     })
 
 pub returns-in-Member-clause-leads : goal.returns-in-Member-clause-leads
-returns-in-Member-clause-leads c =
+returns-in-Member-clause-leads g c =
     let a = c.args in
     let s = a.stacks.now in
     let k = fault_kind a.problem.kind in
@@ -46,7 +46,8 @@ returns-in-Member-clause-leads c =
     let outer = ap (inside_size_in shape.Object os es) popped in
     rw c.in-Member.is
     (leads-weaker c.close_and_go_on-in-Member.ensures.leads (omega arith) (omega arith) (omega (arith, outer, was))
-    (ap (λ ys. resume (rules a.settings) a.bytes.now (frames slot.Member os es ys) (fault k a.problem.index a.at))
+    (ap (λ ys. resume (rules_as g.T.Texts.made a.settings) a.bytes.now (frames slot.Member os es ys)
+    (fault k a.problem.index a.at))
     last.1
-    ∙ fault-value a.settings a.bytes.now os es before last.0 k a.problem.index a.at last.2 ok
-    ∙ ap (λ ys. container_in a.settings a.bytes.now shape.Object os es ys a.at) (sym popped)))
+    ∙ fault-value g.T.Texts.made a.settings a.bytes.now os es before last.0 k a.problem.index a.at last.2 ok
+    ∙ ap (λ ys. container_in g.T.Texts.made a.settings a.bytes.now shape.Object os es ys a.at) (sym popped)))

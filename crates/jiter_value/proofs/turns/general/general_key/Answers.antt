@@ -1,16 +1,15 @@
-use Rattle.std.proofs.Common.{◌≡◌, ◌++◌, ◌∷◌, [], ◌∙◌, ap, arith, length, reverse}
+use Rattle.std.proofs.Common.{◌≡◌, ◌∙◌, refl, ap, arith, length, reverse, false}
 use Rattle.std.proofs.lemmas.List.{length-reverse}
 use Rattle.jiter_scan.specs.Kind.{fault_kind}
 use Rattle.jiter_steps.specs.StringDecoder.{text_view}
-use Rattle.jiter_value.specs.declared.stacks.Slot.TheVariants as slot
-use Rattle.jiter_value.specs.declared.value.JsonValue.TheVariants.{Null}
 use Rattle.jiter_value.proofs.Placed.{key-at}
-use Rattle.jiter_value.proofs.StackTurns.{key-opens, limit-reached, key-fails, colon-fails, key-above}
+use Rattle.jiter_value.proofs.LentTexts.{string-lent}
+use Rattle.jiter_value.proofs.StackTurns.{key-begins, key-limit, key-fails, colon-fails, scalar-taken}
 use Rattle.jiter_value.proofs.TurnOutcomes.{leads-weaker}
 use Rattle.jiter_value.proofs.turns.general.general_key.Goals as goal
 
 pub returns-then-len-gt-NESTING_LIMIT : goal.returns-then-len-gt-NESTING_LIMIT
-returns-then-len-gt-NESTING_LIMIT c =
+returns-then-len-gt-NESTING_LIMIT g c =
     let p = c.args.settings in
     let t = c.args.bytes.now in
     let s = c.args.stacks.now in
@@ -28,24 +27,34 @@ returns-then-len-gt-NESTING_LIMIT c =
       leads = record {
         within = (omega (arith, c.in-Ok.ensures.ahead, read.moves.forward), omega (arith, rw same at read.inside));
         reaches = rw c.too_deep.ensures.error
-            (key-opens p t os es ms c.args.at key c.string.new.self.index m c.requires.stands c.requires.within
-            c.in-Ok.ensures.value (rw same at read.value)
-            ∙ limit-reached p t slot.Member os es (ms ++ (key, Null) ∷ []) m
-            (key-above os (length es) ms (key, Null) c.requires.stands) full);
+            (key-begins g.T.Texts.made p t os es ms c.args.at (text_view key) c.string.new.self.index m
+            c.requires.stands c.requires.within c.in-Ok.ensures.value (rw same at read.value)
+            ∙ key-limit g.T.Texts.made p t (g.T.Texts.made (text_view key)) os es ms m c.requires.stands full);
         left = tt;
         held = tt;
       };
     })
 
-pub returns-in-Ok-make_room : goal.returns-in-Ok-make_room
-returns-in-Ok-make_room c =
+pub push_key-requires : goal.push_key-requires
+push_key-requires g c =
+    λ k. (
+      (refl, tt),
+      (
+        c.requires.texts,
+        string-lent c.args.bytes.now false c.args.at (text_view c.in-Ok.key) c.string.new.self.index c.requires.within
+            (scalar-taken c.args.at _ (text_view c.in-Ok.key) c.string.new.self.index c.in-Ok.ensures.value),
+      ),
+    )
+
+pub returns-in-Ok-push_key : goal.returns-in-Ok-push_key
+returns-in-Ok-push_key g c =
     let same = ap (λ b. b.now) c.in-Ok.ensures.moves.same in
     let read = c.in-Ok-object_colon.ensures in
-    let pushed = c.push_reserved.ensures.items ∙ ap (λ ys. ys ++ (c.in-Ok.key, Null) ∷ []) c.make_room.ensures.same in
-    let put = key-at c.args.bytes.now c.args.stacks.now c.push_reserved.new.self c.args.at c.string.new.self.index
-    c.object_colon.new.self.index c.in-Ok.key c.requires.stands c.requires.within c.in-Ok.ensures.value
-    (rw same at read.value) pushed (omega (arith, c.in-Ok.ensures.ahead, read.moves.forward))
-    (rw same at read.inside) in
+    let pushed = c.in-Ok-push_key.ensures in
+    let put = key-at g.T.Texts.made c.args.bytes.now c.args.stacks.now c.push_key.new.members c.args.at
+    c.string.new.self.index c.object_colon.new.self.index (text_view c.in-Ok.key) pushed.0 c.requires.stands
+    c.requires.within c.in-Ok.ensures.value pushed.1 (rw same at read.value) pushed.2
+    (omega (arith, c.in-Ok.ensures.ahead, read.moves.forward)) (rw same at read.inside) in
     let few = c.if-len-gt-NESTING_LIMIT.false in
     record {
       leads = record {
@@ -57,7 +66,7 @@ returns-in-Ok-make_room c =
     }
 
 pub returns-in-Err : goal.returns-in-Err
-returns-in-Err c =
+returns-in-Err g c =
     let p = c.args.settings in
     let t = c.args.bytes.now in
     let s = c.args.stacks.now in
@@ -68,13 +77,14 @@ returns-in-Err c =
     record {
       leads = leads-weaker c.fault_at_key.ensures.leads (omega (arith, forward, onward))
           (omega (arith, forward, onward)) (omega arith)
-          (colon-fails p t (reverse s.nest.items) s.items.items s.members.items c.args.at (text_view c.in-Ok.key)
+          (colon-fails g.T.Texts.made p t (reverse s.nest.items) s.items.items s.members.items c.args.at
+          (text_view c.in-Ok.key)
           c.string.new.self.index f.index c.object_colon.new.self.index (fault_kind f.kind) c.requires.stands
           c.requires.within c.in-Ok.ensures.value (rw same at c.in-Err.ensures.value));
     }
 
 pub returns-in-Err-Fault : goal.returns-in-Err-Fault
-returns-in-Err-Fault c =
+returns-in-Err-Fault g c =
     let p = c.args.settings in
     let t = c.args.bytes.now in
     let s = c.args.stacks.now in
@@ -82,8 +92,10 @@ returns-in-Err-Fault c =
     let read = rw c.in-Err-Fault.field-0-is at c.in-Err-Fault.ensures.value in
     let forward = c.in-Err-Fault.ensures.moves.forward in
     record {
-      leads = leads-weaker c.fault_at_key-in-Err-Fault.ensures.leads (omega (arith, forward)) (omega (arith, forward))
+      leads = leads-weaker (rw c.in-Err-Fault.field-0-is at c.fault_at_key-in-Err-Fault.ensures.leads)
+          (omega (arith, forward)) (omega (arith, forward))
           (omega arith)
-          (key-fails p t (reverse s.nest.items) s.items.items s.members.items c.args.at (fault_kind f.kind) f.index
+          (key-fails g.T.Texts.made p t (reverse s.nest.items) s.items.items s.members.items c.args.at
+          (fault_kind f.kind) f.index
           c.string.new.self.index c.requires.stands c.requires.within read);
     }

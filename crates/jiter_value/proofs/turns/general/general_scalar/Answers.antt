@@ -7,7 +7,7 @@ use Rattle.jiter_value.proofs.TurnOutcomes.{leads-weaker}
 use Rattle.jiter_value.proofs.turns.general.general_scalar.Goals as goal
 
 pub returns-in-Ok-put-clause-leads : goal.returns-in-Ok-put-clause-leads
-returns-in-Ok-put-clause-leads c =
+returns-in-Ok-put-clause-leads g c =
     let a = c.args in
     let e = c.scalar.new.parser.index in
     let put = c.in-Ok-put.ensures in
@@ -16,16 +16,18 @@ returns-in-Ok-put-clause-leads c =
     let nest = c.put.ensures.nest in
     leads-weaker c.after.ensures.leads (omega (arith, ahead)) (omega (arith, ahead, ap length (ap (λ n. n.items) nest)))
     (omega (arith, put.held, one))
-    (value-read a.settings a.bytes.now a.stacks.now a.slot c.requires.at_value.0 c.requires.at_value.1 a.at
+    (value-read g.T.Texts.made a.settings a.bytes.now a.stacks.now a.slot c.requires.at_value.0 c.requires.at_value.1
+    a.at
     (done (view c.in-Ok.value) e) c.in-Ok.ensures.value
-    ∙ put.value a.settings a.bytes.now e)
+    ∙ put.value g.T.Texts.made a.settings a.bytes.now e)
 
 pub returns-in-Err-Fault-clause-leads : goal.returns-in-Err-Fault-clause-leads
-returns-in-Err-Fault-clause-leads c =
+returns-in-Err-Fault-clause-leads g c =
     let a = c.args in
     let f = c.in-Err-Fault.fault in
     let read = rw c.in-Err-Fault.field-0-is at c.in-Err-Fault.ensures.value in
     let forward = c.in-Err-Fault.ensures.moves.forward in
     leads-weaker c.fault_at_value.ensures.leads (omega (arith, forward)) (omega (arith, forward)) (omega arith)
-    (value-read a.settings a.bytes.now a.stacks.now a.slot c.requires.at_value.0 c.requires.at_value.1 a.at
+    (value-read g.T.Texts.made a.settings a.bytes.now a.stacks.now a.slot c.requires.at_value.0 c.requires.at_value.1
+    a.at
     (fault (fault_kind f.kind) f.index c.scalar.new.parser.index) read)

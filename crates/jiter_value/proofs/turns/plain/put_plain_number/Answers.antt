@@ -4,18 +4,38 @@ use Rattle.jiter_scan.specs.Number.{integer, minus_of}
 use Rattle.jiter_scan.specs.Number as number
 use Rattle.jiter_scan.proofs.NumberBytes.{IsAscii-decimal, IsMinusTo-le}
 use Rattle.jiter_steps.specs.Tree.{int, float}
+use Rattle.jiter_value.proofs.LentTexts.{range-lies}
 use Rattle.jiter_value.proofs.Placed.{put-at, number-read, short-signed, short-signed_float}
 use Rattle.jiter_value.proofs.Views.{view_float}
 use Rattle.jiter_value.proofs.turns.plain.put_plain_number.Goals as goal
 
-pub ascii_text-text-requires : goal.ascii_text-text-requires
-ascii_text-text-requires c =
+pub ascii_text-requires : goal.ascii_text-requires
+ascii_text-requires g c =
     IsAscii-decimal c.args.bytes.now c.args.at c.minus_end-from.result c.in-Float.end
     c.minus_end-from.ensures.minus
     c.in-Float.ensures.decimal
 
+pub keep_lent-requires : goal.keep_lent-requires
+keep_lent-requires g c =
+    let a = c.args in
+    let found = c.in-Float.ensures in
+    λ k. (
+      (refl, tt),
+      (
+        c.requires.texts,
+        range-lies a.bytes.now a.at c.in-Float.end _
+            (omega (
+              arith,
+              found.some,
+              IsMinusTo-le a.bytes.now a.at c.minus_end-from.result
+                  c.minus_end-from.ensures.minus,
+            ))
+            found.within c.ascii_text.ensures,
+      ),
+    )
+
 pub returns-in-Int-clause-put : goal.returns-in-Int-clause-put
-returns-in-Int-clause-put c =
+returns-in-Int-clause-put g c =
     let a = c.args in
     let t = a.bytes.now in
     let from = c.minus_end-from.result in
@@ -25,11 +45,11 @@ returns-in-Int-clause-put c =
     let z = if nat_lt a.at from then minus_of c.in-Int.magnitude else pos c.in-Int.magnitude in
     put-at _ (int z) c.signed.ensures c.requires.at_value.0 c.requires.at_value.1 n.value n.stands n.nest n.held refl
     (omega (arith, found.some, IsMinusTo-le t a.at from minus)) found.within
-    (λ p levels. number-read p t a.at c.in-Int.end levels (integer z) c.requires.begins
+    (λ p levels. number-read g.T.Texts.made p t a.at c.in-Int.end levels (integer z) c.requires.begins
     (short-signed t p.allow_inf_nan a.at c.in-Int.end from c.in-Int.magnitude minus found))
 
-pub returns-in-Float-clause-put : goal.returns-in-Float-clause-put
-returns-in-Float-clause-put c =
+pub returns-in_ok-text-in-Float-clause-put : goal.returns-in_ok-text-in-Float-clause-put
+returns-in_ok-text-in-Float-clause-put g c =
     let a = c.args in
     let t = a.bytes.now in
     let e = c.in-Float.end in
@@ -37,9 +57,12 @@ returns-in-Float-clause-put c =
     let minus = c.minus_end-from.ensures.minus in
     let found = c.in-Float.ensures in
     let n = c.put_reserved-in-Float.ensures in
-    put-at _ (float (record { owned = false; bytes = slice_range t a.at e }))
-    (view_float _ ∙ ap (λ w. float (record { owned = false; bytes = w })) c.ascii_text-text.ensures)
+    let made = g.T.Texts.made in
+    put-at _ (float (made (record { owned = false; bytes = slice_range t a.at e })))
+    (view_float _
+    ∙ ap float (c.in_ok-text-in-Float.ensures ∙ ap (λ w. made (record { owned = false; bytes = w }))
+    c.ascii_text.ensures))
     c.requires.at_value.0 c.requires.at_value.1 n.value n.stands n.nest n.held refl
     (omega (arith, found.some, IsMinusTo-le t a.at from minus)) found.within
-    (λ p levels. number-read p t a.at e levels (number.float (slice_range t a.at e)) c.requires.begins
+    (λ p levels. number-read g.T.Texts.made p t a.at e levels (number.float (slice_range t a.at e)) c.requires.begins
     (short-signed_float t p.allow_inf_nan a.at e from minus found))

@@ -1,20 +1,36 @@
 use Rattle.std.proofs.Common.{◌+◌, ◌∙◌, false, refl, ap, arith}
 use Rattle.jiter_steps.specs.StringReading.{between}
 use Rattle.jiter_steps.specs.Tree.{string}
+use Rattle.jiter_value.proofs.LentTexts.{range-lies}
 use Rattle.jiter_value.proofs.Placed.{put-at, text-read}
 use Rattle.jiter_value.proofs.Views.{view_str}
 use Rattle.jiter_value.proofs.turns.plain.put_plain_text.Goals as goal
 
+pub keep_lent-requires : goal.keep_lent-requires
+keep_lent-requires g c =
+    let a = c.args in
+    let scanned = c.scan_string-to in
+    λ k. (
+      (refl, tt),
+      (
+        c.requires.texts,
+        range-lies a.bytes.now (a.at + 1) scanned.result.0 _ (omega (arith, scanned.ensures.within.0))
+            (omega (arith, c.if-to-bytes.false)) c.ascii_between.ensures.text,
+      ),
+    )
+
 pub returns-clause-put : goal.returns-clause-put
-returns-clause-put c =
+returns-clause-put g c =
     let a = c.args in
     let t = a.bytes.now in
+    let made = g.T.Texts.made in
     let scanned = c.scan_string-to in
     let to = scanned.result.0 in
-    let text = c.ascii_between-text.ensures in
+    let text = c.ascii_between.ensures in
     let n = c.put_reserved.ensures in
-    put-at _ (string (between t (a.at + 1) to))
-    (view_str _ ∙ ap (λ w. string (record { owned = false; bytes = w })) text.text)
+    put-at _ (string (made (between t (a.at + 1) to)))
+    (view_str _
+    ∙ ap string (c.in_ok-text.ensures ∙ ap (λ w. made (record { owned = false; bytes = w })) text.text))
     c.requires.at_value.0 c.requires.at_value.1 n.value n.stands n.nest n.held
     refl (omega (arith, scanned.ensures.within.0)) (omega (arith, c.if-to-bytes.false))
-    (λ p levels. text-read p t a.at (to + 1) levels (between t (a.at + 1) to) c.requires.begins text.value)
+    (λ p levels. text-read made p t a.at (to + 1) levels (between t (a.at + 1) to) c.requires.begins text.value)

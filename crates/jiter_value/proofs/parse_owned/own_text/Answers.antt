@@ -1,0 +1,15 @@
+use Rattle.std.proofs.Common.{refl}
+use Rattle.jiter_steps.specs.Blank.{past_blanks}
+use Rattle.jiter_value.specs.Owned.{owned_tree}
+use Rattle.jiter_value.specs.Value.{MayGrow}
+use Rattle.jiter_value.proofs.ParsedDocuments.{parses-same}
+use Rattle.jiter_value.proofs.TurnOutcomes.{grows-container}
+use Rattle.jiter_value.proofs.parse_owned.own_text.Goals as goal
+
+pub returns : goal.returns
+returns c =
+    let p = c.args.settings in
+    let t = c.args.bytes.now in
+    parses-same owned_tree owned_tree (λ v. refl) _ (MayGrow t)
+    (grows-container t (past_blanks t 0) (Unit {0}) c.requires.container) p.allow_inf_nan p.mode t
+    c.read_text_as.result c.read_text_as.ensures

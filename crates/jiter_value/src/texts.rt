@@ -1,0 +1,102 @@
+//! What becomes of a text that is read: it is lent where it lies, or owned.
+ghost use Rattle.std.specs.Prelude.{◌≡◌, ℕ, List, false, true, IfOk, IfSome, OnErr};
+ghost use Rattle.jiter_steps.specs.StringDecoder.{text_view};
+ghost use Rattle.jiter_steps.specs.Tree.{Text};
+ghost use Rattle.jiter_value.specs.Owned.{as_it_is, owned_text};
+ghost use Rattle.jiter_value.specs.Texts.{IsLentAt, LieAt};
+
+use crate::copies::own_cow;
+use jiter_scan::memory::Refused;
+use jiter_scan::text::utf8_text;
+use std::alloc::Global;
+use std::borrow::CowStr;
+
+/// What becomes of each text that is read.
+pub trait Texts<'s>: Copy {
+    // Whether it is made for these bytes.
+    ghost of: { Self → List ℕ → Type 0 };
+
+    // What a text becomes.
+    ghost made: { Text → Text };
+
+    // Holds where memory may be wanted for it.
+    ghost wants: { Type 0 };
+
+    /// A text that was read of the bytes, as it is kept; one that is lent stands there from `from` on.
+    fn keep(self, bytes: &[u8], from: usize, text: CowStr<'_>) -> Result<CowStr<'s>, Refused>
+        requires of { of self bytes.now }
+        requires lent { IsLentAt bytes.now from (text_view text) }
+        ensures value { IfOk result (λ kept. text_view kept ≡ made (text_view text.entry)) }
+        ensures memory { OnErr result wants };
+}
+
+/// A text without a backslash is lent where it lies in the bytes.
+#[derive(Clone, Copy)]
+pub struct Borrowing<'s> {
+    /// The bytes.
+    pub bytes: &'s [u8],
+}
+
+// A text, where it stands from `from` on.
+#[inline(always)]
+fn lend<'s>(bytes: &'s [u8], from: usize, text: &str) -> &'s str
+    requires { LieAt bytes.now from text.now }
+    ensures { result.now ≡ text.now }
+{
+    utf8_text(&bytes[from..from + text.len()])
+}
+
+impl<'s> Texts<'s> for Borrowing<'s> {
+    ghost of = { λ b t. b.bytes.now ≡ t };
+
+    ghost made = { as_it_is };
+
+    ghost wants = { ⊥ };
+
+    #[inline(always)]
+    fn keep(self, _bytes: &[u8], from: usize, text: CowStr<'_>) -> Result<CowStr<'s>, Refused> {
+        match text {
+            CowStr::Borrowed(lent) => Ok(CowStr::Borrowed(lend(self.bytes, from, lent))),
+            CowStr::Owned(owned) => Ok(CowStr::Owned(owned)),
+        }
+    }
+}
+
+/// Each text is owned: one that is lent is copied, by one request of its exact length.
+#[derive(Clone, Copy)]
+pub struct Owning {
+    /// Where memory is asked for.
+    pub alloc: Global,
+}
+
+impl<'s> Texts<'s> for Owning {
+    ghost of = { λ o t. Unit {0} };
+
+    ghost made = { owned_text };
+
+    ghost wants = { Unit {0} };
+
+    #[inline(always)]
+    fn keep(self, _bytes: &[u8], _from: usize, text: CowStr<'_>) -> Result<CowStr<'s>, Refused> {
+        own_cow(self.alloc, text)
+    }
+}
+
+/// A text of the bytes that stands from `from` on, as it is kept; none where memory was refused.
+#[inline(always)]
+pub fn keep_lent<'s, T: Texts<'s>>(
+    texts: T,
+    bytes: &[u8],
+    from: usize,
+    text: &str,
+) -> Option<CowStr<'s>>
+    requires of { T.of texts bytes.now }
+    requires lent { LieAt bytes.now from text.now }
+    ensures { IfSome result (λ kept.
+        text_view kept ≡ T.made (record { owned = false; bytes = text.now })) }
+{
+    match texts.keep(bytes, from, CowStr::Borrowed(text)) {
+        Ok(kept) => Some(kept),
+        Err(_) => None,
+    }
+}
