@@ -12,6 +12,7 @@ pub mod DecodeSteps
 pub mod Decoded
 pub mod PlainAnswers
 pub mod PlainRuns
+pub mod PlainSkips
 pub mod RawStrings
 pub mod Resumed
 pub mod SkipLaw

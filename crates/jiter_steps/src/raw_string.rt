@@ -74,6 +74,21 @@ fn fault_of(bytes: &[u8], at: usize) -> Fault
     }
 }
 
+/// The byte index behind the closing quote of the string whose opening quote is at `at`, if it has one and its
+/// escapes are whole; its UTF-8 is not tested (RFC 8259, 7).
+#[inline(always)]
+pub fn closed_end(bytes: &[u8], at: usize) -> Option<usize>
+    requires { at < length bytes.now }
+    ensures value { IfSome result (λ e. seen_as (λ s k. tt {0}) (string_at raw bytes.now at) ≡ taken tt e) }
+    ensures within { IfSome result (λ e. (at < e) × (e ≤ length bytes.now)) }
+{
+    let end = content_end(bytes, at + 1);
+    match byte_at(bytes, end) {
+        Some(b'"') => Some(end + 1),
+        _ => None,
+    }
+}
+
 /// The byte index behind the closing quote of the string whose opening quote is at `at`. Its escapes are
 /// checked, its UTF-8 is not; the faults are those of [`string_at`](crate::string_decoder::string_at) but for
 /// that of UTF-8 (RFC 8259, 7).
