@@ -13,6 +13,7 @@ pub mod Decoded
 pub mod PlainAnswers
 pub mod PlainRuns
 pub mod PlainSkips
+pub mod RawEscapes
 pub mod RawStrings
 pub mod Resumed
 pub mod SkipLaw
