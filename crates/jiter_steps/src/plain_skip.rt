@@ -1,11 +1,16 @@
 //! The plain way of skipping, by the bytes and a place, with answers that come back in registers. What is not plain
 //! is told and no more: the general way goes on there.
 ghost use Rattle.std.specs.Prelude.{◌≡◌, ◌+◌, ◌<◌, ◌≤◌, IfSome, length, slice_index, true, false};
+ghost use Rattle.jiter_scan.specs.Scan.{is_plain};
+ghost use Rattle.jiter_scan.specs.Scanned.{taken};
+ghost use Rattle.jiter_scan.specs.Simd.{failing};
+ghost use Rattle.jiter_steps.specs.Answer.{seen_as};
 ghost use Rattle.jiter_steps.specs.Blank.{past_blanks};
 ghost use Rattle.jiter_steps.specs.Literal.{start_of};
 ghost use Rattle.jiter_steps.specs.Read.{done};
 ghost use Rattle.jiter_steps.specs.Skip.{value_inside, first_inside, next_inside, IsPlainEnd, LeadsBehind};
 ghost use Rattle.jiter_steps.specs.Step.{opening};
+ghost use Rattle.jiter_steps.specs.StringReading.{string_at, raw};
 ghost use Rattle.jiter_steps.specs.declared.parse.Start.{Start};
 
 use crate::blank::past_blanks;
@@ -13,18 +18,20 @@ use crate::parse::{Literal, Shape};
 use crate::plain::{plain_colon, plain_literal_end};
 use crate::raw_string::closed_end;
 use jiter_scan::number_extent::plain_number_end;
+use std::simd::prelude::*;
 
-// The first place from `from` on that has no blank, where a byte stands at `from`.
+// The first place from `from` on that has no blank, if there is one; a byte stands at `from`.
 #[inline(always)]
-fn solid(bytes: &[u8], from: usize) -> usize
+fn solid(bytes: &[u8], from: usize) -> Option<usize>
     requires { from < length bytes.now }
-    ensures value { result ≡ past_blanks bytes.now from }
-    ensures place { (from ≤ result) × (result ≤ length bytes.now) }
+    ensures value { IfSome result (λ at. at ≡ past_blanks bytes.now from) }
+    ensures place { IfSome result (λ at. (from ≤ at) × (at < length bytes.now)) }
 {
     if bytes[from] > b' ' {
-        return from;
+        return Some(from);
     }
-    past_blanks(bytes, from)
+    let at = past_blanks(bytes, from);
+    if at < bytes.len() { Some(at) } else { None }
 }
 
 // Behind the container at `at`, if its closer stands right behind its bracket.
@@ -42,6 +49,57 @@ fn empty_end(bytes: &[u8], at: usize, shape: Shape) -> Option<usize>
     }
 }
 
+// A bit for each byte that ends a string's plain bytes.
+#[inline(always)]
+fn stops(v: u8x16) -> u64
+    ensures { result ≡ failing is_plain v }
+{
+    (v.simd_eq(u8x16::splat(b'"'))
+        | v.simd_eq(u8x16::splat(b'\\'))
+        | v.simd_lt(u8x16::splat(b' '))).to_bitmask()
+}
+
+// Behind the closing quote of the string at `at`, if it has no escape and fewer than sixteen bytes.
+#[inline(always)]
+fn near_end(bytes: &[u8], at: usize) -> Option<usize>
+    requires { at < length bytes.now }
+    ensures value { IfSome result (λ e. seen_as (λ s k. tt {0}) (string_at raw bytes.now at) ≡ taken tt e) }
+    ensures within { IfSome result (λ e. (at < e) × (e ≤ length bytes.now)) }
+{
+    if bytes.len() - at < 18 {
+        return None;
+    }
+    let found = stops(u8x16::from_slice(&bytes[at + 1..]));
+    if found == 0 {
+        return None;
+    }
+    let to = at + 1 + found.trailing_zeros() as usize;
+    if bytes[to] == b'"' { Some(to + 1) } else { None }
+}
+
+// Behind the closing quote of any string.
+#[inline(never)]
+fn far_end(bytes: &[u8], at: usize) -> Option<usize>
+    requires { at < length bytes.now }
+    ensures value { IfSome result (λ e. seen_as (λ s k. tt {0}) (string_at raw bytes.now at) ≡ taken tt e) }
+    ensures within { IfSome result (λ e. (at < e) × (e ≤ length bytes.now)) }
+{
+    closed_end(bytes, at)
+}
+
+// Behind the closing quote of the string at `at`, if it has one.
+#[inline(always)]
+fn quoted_end(bytes: &[u8], at: usize) -> Option<usize>
+    requires { at < length bytes.now }
+    ensures value { IfSome result (λ e. seen_as (λ s k. tt {0}) (string_at raw bytes.now at) ≡ taken tt e) }
+    ensures within { IfSome result (λ e. (at < e) × (e ≤ length bytes.now)) }
+{
+    match near_end(bytes, at) {
+        Some(end) => Some(end),
+        None => far_end(bytes, at),
+    }
+}
+
 // Behind the string at `at`, if it is closed.
 #[inline(always)]
 fn plain_string_end(bytes: &[u8], at: usize) -> Option<usize>
@@ -50,7 +108,7 @@ fn plain_string_end(bytes: &[u8], at: usize) -> Option<usize>
     ensures value { IfSome result (λ e. IsPlainEnd bytes.now at e) }
     ensures within { IfSome result (λ e. (at < e) × (e ≤ length bytes.now)) }
 {
-    closed_end(bytes, at)
+    quoted_end(bytes, at)
 }
 
 // Behind the number at `at`, if it is short.
@@ -104,7 +162,7 @@ fn plain_inside(bytes: &[u8], at: usize, shape: Shape) -> Option<usize>
     match shape {
         Shape::Array => Some(at),
         Shape::Object => {
-            let end = closed_end(bytes, at)?;
+            let end = quoted_end(bytes, at)?;
             plain_colon(bytes, end)
         }
     }
@@ -120,11 +178,10 @@ pub fn plain_first_inside(bytes: &[u8], at: usize, shape: Shape) -> Option<usize
     if bytes.len() - at < 2 {
         return None;
     }
-    let next = solid(bytes, at + 1);
-    if next >= bytes.len() || !shape.begins_part(bytes[next]) {
-        return None;
+    match solid(bytes, at + 1) {
+        Some(next) if shape.begins_part(bytes[next]) => plain_inside(bytes, next, shape),
+        _ => None,
     }
-    plain_inside(bytes, next, shape)
 }
 
 // From behind a part, past a comma, to the value of the next part.
@@ -137,11 +194,10 @@ fn plain_next_inside(bytes: &[u8], from: usize, shape: Shape) -> Option<usize>
     if bytes.len() - from < 2 || bytes[from] != b',' {
         return None;
     }
-    let next = solid(bytes, from + 1);
-    if next >= bytes.len() || !shape.begins_part(bytes[next]) {
-        return None;
+    match solid(bytes, from + 1) {
+        Some(next) if shape.begins_part(bytes[next]) => plain_inside(bytes, next, shape),
+        _ => None,
     }
-    plain_inside(bytes, next, shape)
 }
 
 // The same, past all plain values, by a shape that is known where it is inlined.
@@ -187,10 +243,8 @@ pub fn plain_end(bytes: &[u8], from: usize, shape: Shape) -> Option<usize>
     if from == bytes.len() {
         return None;
     }
-    let at = solid(bytes, from);
-    if at < bytes.len() && bytes[at] == shape.closer() {
-        Some(at + 1)
-    } else {
-        None
+    match solid(bytes, from) {
+        Some(at) if bytes[at] == shape.closer() => Some(at + 1),
+        _ => None,
     }
 }

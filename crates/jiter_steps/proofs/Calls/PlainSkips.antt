@@ -1,9 +1,10 @@
 -- The plain way of skipping, as what its open containers complete the reading to.
-use Rattle.std.proofs.Common.{◌≡◌, ℕ, ◌+◌, ◌-◌, ◌<◌, ◌≤◌, Bool, true, false, List, ◌∷◌, length, refl, sym}
+use Rattle.std.proofs.Common.{◌≡◌, ◌≢◌, ℕ, ◌+◌, ◌-◌, ◌<◌, ◌≤◌, Bool, true, false, List, ◌∷◌, length, refl, sym}
 use Rattle.std.proofs.Common.{ap, subst, ◌∙◌, arith}
 use Rattle.std.specs.Prelude.{slice_get, slice_index, slice_index_or, slice_set, IfSome, Option, Some, None}
 use Rattle.std.specs.Prelude.{Ok}
 use Rattle.jiter_scan.specs.NumberReading.{number_extent}
+use Rattle.jiter_scan.specs.Scan.{scan_stop}
 use Rattle.jiter_scan.specs.Scanned.{taken}
 use Rattle.jiter_steps.specs.Answer.{only_ends, seen_as}
 use Rattle.jiter_steps.specs.Blank.{past_blanks}
@@ -19,6 +20,7 @@ use Rattle.jiter_steps.specs.declared.parse.Literal.{Literal}
 use Rattle.jiter_steps.specs.declared.parse.Shape.{Shape}
 use Rattle.jiter_steps.specs.declared.parse.Shape.TheVariants as shape
 use Rattle.jiter_steps.specs.declared.parse.Start.TheVariants as start
+use Rattle.jiter_steps.proofs.Calls.RawStrings.{raw-closed, raw-over_run}
 use Rattle.jiter_steps.proofs.Calls.Resumed.{value_in-levels}
 use Rattle.jiter_steps.proofs.Calls.Skipping.{led_on, next_inside-is, first_inside-is, open_frames-opens}
 use Rattle.jiter_steps.proofs.Calls.Skipping.{length-open_frames, number_at-end, open_frames-innermost}
@@ -140,6 +142,14 @@ module _ (t : List ℕ) (b : Shape) where
 pub some-as : {A : Type 0} {P Q : A → Type 0} (r : Option A) → ((x : A) → P x → Q x) → IfSome r P → IfSome r Q
 some-as None f h = tt
 some-as (Some x) f h = f x h
+
+-- a string with no backslash
+pub near-closed : (t : List ℕ) (i to : ℕ) → i + 1 ≤ length t → to ≡ scan_stop t (i + 1) → slice_get t to ≡ Some 34
+    → seen_as (λ s k. tt {0}) (string_at raw t i) ≡ taken tt (to + 1)
+near-closed t i to within stop quote =
+    let other : slice_get t to ≢ Some 92 = λ e. cc (quote, e) in
+    ap (seen_as (λ s k. tt {0}))
+    (raw-closed t false (i + 1) to (raw-over_run t (i + 1) to within stop other) quote)
 
 module _ (t : List ℕ) (i : ℕ) where
   pub string-ends : (e : ℕ) → start_of (slice_index t i) ≡ start.String
