@@ -9,7 +9,7 @@ ghost use Rattle.jiter_steps.specs.Blank.{past_blanks};
 ghost use Rattle.jiter_steps.specs.Literal.{start_of};
 ghost use Rattle.jiter_steps.specs.Read.{done};
 ghost use Rattle.jiter_steps.specs.Skip.{value_inside, first_inside, next_inside, IsPlainEnd, LeadsBehind};
-ghost use Rattle.jiter_steps.specs.Step.{opening};
+ghost use Rattle.jiter_steps.specs.Step.{opening, object_colon};
 ghost use Rattle.jiter_steps.specs.StringReading.{string_at, raw};
 ghost use Rattle.jiter_steps.specs.declared.parse.Start.{Start};
 
@@ -49,6 +49,19 @@ fn empty_end(bytes: &[u8], at: usize, shape: Shape) -> Option<usize>
     }
 }
 
+// Behind the closing quote of a string that begins near the input's end.
+#[inline(always)]
+fn near_end(bytes: &[u8], at: usize) -> Option<usize>
+    requires { at < length bytes.now }
+    ensures value { IfSome result (λ e. seen_as (λ s k. tt {0}) (string_at raw bytes.now at) ≡ taken tt e) }
+    ensures within { IfSome result (λ e. (at < e) × (e ≤ length bytes.now)) }
+{
+    if bytes.len() - at < 2 {
+        return None;
+    }
+    closed_end(bytes, at, at + 1)
+}
+
 // A bit for each byte that ends a string's plain bytes.
 #[inline(always)]
 fn stops(v: u8x16) -> u64
@@ -59,44 +72,26 @@ fn stops(v: u8x16) -> u64
         | v.simd_lt(u8x16::splat(b' '))).to_bitmask()
 }
 
-// Behind the closing quote of the string at `at`, if it has no escape and fewer than sixteen bytes.
-#[inline(always)]
-fn near_end(bytes: &[u8], at: usize) -> Option<usize>
-    requires { at < length bytes.now }
-    ensures value { IfSome result (λ e. seen_as (λ s k. tt {0}) (string_at raw bytes.now at) ≡ taken tt e) }
-    ensures within { IfSome result (λ e. (at < e) × (e ≤ length bytes.now)) }
-{
-    if bytes.len() - at < 18 {
-        return None;
-    }
-    let found = stops(u8x16::from_slice(&bytes[at + 1..]));
-    if found == 0 {
-        return None;
-    }
-    let to = at + 1 + found.trailing_zeros() as usize;
-    if bytes[to] == b'"' { Some(to + 1) } else { None }
-}
-
-// Behind the closing quote of any string.
-#[inline(never)]
-fn far_end(bytes: &[u8], at: usize) -> Option<usize>
-    requires { at < length bytes.now }
-    ensures value { IfSome result (λ e. seen_as (λ s k. tt {0}) (string_at raw bytes.now at) ≡ taken tt e) }
-    ensures within { IfSome result (λ e. (at < e) × (e ≤ length bytes.now)) }
-{
-    closed_end(bytes, at)
-}
-
-// Behind the closing quote of the string at `at`, if it has one.
+// Behind the closing quote of the string at `at`, if it has one: at once where it stands within sixteen bytes and
+// no escape before it.
 #[inline(always)]
 fn quoted_end(bytes: &[u8], at: usize) -> Option<usize>
     requires { at < length bytes.now }
     ensures value { IfSome result (λ e. seen_as (λ s k. tt {0}) (string_at raw bytes.now at) ≡ taken tt e) }
     ensures within { IfSome result (λ e. (at < e) × (e ≤ length bytes.now)) }
 {
-    match near_end(bytes, at) {
-        Some(end) => Some(end),
-        None => far_end(bytes, at),
+    if bytes.len() - at < 18 {
+        return near_end(bytes, at);
+    }
+    let found = stops(u8x16::from_slice(&bytes[at + 1..]));
+    if found == 0 {
+        return closed_end(bytes, at, at + 1 + 16);
+    }
+    let to = at + 1 + found.trailing_zeros() as usize;
+    if bytes[to] == b'"' {
+        Some(to + 1)
+    } else {
+        closed_end(bytes, at, to)
     }
 }
 
@@ -152,6 +147,19 @@ pub fn plain_value_end(bytes: &[u8], at: usize) -> Option<usize>
     }
 }
 
+// From behind a key to the place where its value begins, by one look where a colon and the value stand there.
+#[inline(always)]
+fn near_colon(bytes: &[u8], from: usize) -> Option<usize>
+    requires { from ≤ length bytes.now }
+    ensures value { IfSome result (λ v. object_colon bytes.now from ≡ taken tt v) }
+    ensures within { IfSome result (λ v. (from ≤ v) × (v < length bytes.now)) }
+{
+    if bytes.len() - from > 1 && bytes[from] == b':' && bytes[from + 1] > b' ' {
+        return Some(from + 1);
+    }
+    plain_colon(bytes, from)
+}
+
 // Where the value of a part at `at` begins: behind its key and colon in an object.
 #[inline(always)]
 fn plain_inside(bytes: &[u8], at: usize, shape: Shape) -> Option<usize>
@@ -163,7 +171,7 @@ fn plain_inside(bytes: &[u8], at: usize, shape: Shape) -> Option<usize>
         Shape::Array => Some(at),
         Shape::Object => {
             let end = quoted_end(bytes, at)?;
-            plain_colon(bytes, end)
+            near_colon(bytes, end)
         }
     }
 }

@@ -5,7 +5,7 @@ ghost use Rattle.std.specs.Prelude.{true, Bool, IsTrue, List, None};
 ghost use Rattle.std.specs.Char.{IsScalar};
 ghost use Rattle.jiter_scan.specs.Ascii as ascii;
 ghost use Rattle.jiter_scan.specs.Kind.{fault_kind};
-ghost use Rattle.jiter_scan.specs.Scan.{is_stop};
+ghost use Rattle.jiter_scan.specs.Scan.{is_stop, scan_stop};
 ghost use Rattle.jiter_scan.specs.Scanned.{Scans, taken, failed, with_end};
 ghost use Rattle.jiter_steps.specs.Answer.{seen_as};
 ghost use Rattle.jiter_steps.specs.Escape.{is_hex, short_escape};
@@ -137,6 +137,20 @@ fn content_end(bytes: &[u8], from: usize) -> usize
     }
 }
 
+// The same, where the bytes before `from` have been looked at.
+#[inline(always)]
+fn rest_end(bytes: &[u8], from: usize) -> usize
+    requires { from < length bytes.now }
+    ensures over { EndsAt bytes.now from result }
+    ensures place { (from ≤ result) × (result ≤ length bytes.now) }
+{
+    if bytes[from] == b'\\' {
+        escaped_end(bytes, from)
+    } else {
+        content_end(bytes, from)
+    }
+}
+
 // The fault of a string whose content is over at `at` without a closing quote.
 #[cold]
 fn fault_of(bytes: &[u8], at: usize) -> Fault
@@ -157,14 +171,15 @@ fn fault_of(bytes: &[u8], at: usize) -> Fault
 }
 
 /// The byte index behind the closing quote of the string whose opening quote is at `at`, if it has one and its
-/// escapes are whole; its UTF-8 is not tested (RFC 8259, 7).
-#[inline(always)]
-pub fn closed_end(bytes: &[u8], at: usize) -> Option<usize>
-    requires { at < length bytes.now }
+/// escapes are whole; its UTF-8 is not tested. The bytes up to `from` are known to be plain (RFC 8259, 7).
+#[inline(never)]
+pub fn closed_end(bytes: &[u8], at: usize, from: usize) -> Option<usize>
+    requires within { (at + 1 ≤ from) × (from < length bytes.now) }
+    requires plain { scan_stop bytes.now (at + 1) ≡ scan_stop bytes.now from }
     ensures value { IfSome result (λ e. seen_as (λ s k. tt {0}) (string_at raw bytes.now at) ≡ taken tt e) }
     ensures within { IfSome result (λ e. (at < e) × (e ≤ length bytes.now)) }
 {
-    let end = content_end(bytes, at + 1);
+    let end = rest_end(bytes, from);
     match byte_at(bytes, end) {
         Some(b'"') => Some(end + 1),
         _ => None,

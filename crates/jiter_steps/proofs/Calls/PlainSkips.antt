@@ -3,8 +3,8 @@ use Rattle.std.proofs.Common.{◌≡◌, ◌≢◌, ℕ, ◌+◌, ◌-◌, ◌<�
 use Rattle.std.proofs.Common.{ap, subst, ◌∙◌, arith}
 use Rattle.std.specs.Prelude.{slice_get, slice_index, slice_index_or, slice_set, IfSome, Option, Some, None}
 use Rattle.std.specs.Prelude.{Ok}
-use Rattle.jiter_scan.specs.NumberReading.{number_extent}
-use Rattle.jiter_scan.specs.Scan.{scan_stop}
+use Rattle.jiter_scan.specs.NumberReading.{number_extent, extent_then}
+use Rattle.jiter_scan.specs.Scan.{is_plain, scan_stop}
 use Rattle.jiter_scan.specs.Scanned.{taken}
 use Rattle.jiter_steps.specs.Answer.{only_ends, seen_as}
 use Rattle.jiter_steps.specs.Blank.{past_blanks}
@@ -14,12 +14,13 @@ use Rattle.jiter_steps.specs.Read.{Reading, done, follow, inside_at, scalar_at, 
 use Rattle.jiter_steps.specs.Skip.{value_inside, first_inside, next_inside, frame_of, shape_of, open_frames, Continues}
 use Rattle.jiter_steps.specs.Skip.{inside, IsPlainEnd, LeadsBehind}
 use Rattle.jiter_steps.specs.Step.{opening, more, closed, step, begins_part, closer_of, container_first, container_step}
-use Rattle.jiter_steps.specs.Step.{container_comma}
+use Rattle.jiter_steps.specs.Step.{container_comma, colon, value_first, object_colon}
 use Rattle.jiter_steps.specs.StringReading.{raw, string_at}
 use Rattle.jiter_steps.specs.declared.parse.Literal.{Literal}
 use Rattle.jiter_steps.specs.declared.parse.Shape.{Shape}
 use Rattle.jiter_steps.specs.declared.parse.Shape.TheVariants as shape
 use Rattle.jiter_steps.specs.declared.parse.Start.TheVariants as start
+use Rattle.jiter_scan.proofs.Runs.{run_end-stopping, run_end-stops}
 use Rattle.jiter_steps.proofs.Calls.RawStrings.{raw-closed, raw-over_run}
 use Rattle.jiter_steps.proofs.Calls.Resumed.{value_in-levels}
 use Rattle.jiter_steps.proofs.Calls.Skipping.{led_on, next_inside-is, first_inside-is, open_frames-opens}
@@ -138,10 +139,26 @@ module _ (t : List ℕ) (b : Shape) where
       ap (λ k. container_first b k (slice_get t k)) here
       ∙ ap (container_first b j) (got t j lt ∙ ap Some closer) ∙ first-closes b j
 
+-- a colon, and a value right behind it
+pub colon-stands : (t : List ℕ) (i : ℕ) → i + 1 < length t → slice_index t i ≡ 58 → 32 < slice_index t (i + 1)
+    → object_colon t i ≡ taken tt (i + 1)
+colon-stands t i lt sign above =
+    let here : past_blanks t i ≡ i = past_blanks-above t i (omega arith) (omega (arith, sign)) in
+    let next : past_blanks t (i + 1) ≡ i + 1 = past_blanks-above t (i + 1) lt above in
+    ap (λ k. extent_then (colon k (slice_get t k)) (step t value_first)) here
+    ∙ ap (λ o. extent_then (colon i o) (step t value_first)) (got t i (omega arith) ∙ ap Some sign)
+    ∙ ap (λ k. value_first k (slice_get t k)) next ∙ ap (value_first (i + 1)) (got t (i + 1) lt)
+
 -- Values that end so wherever they stand: scalars, by what their reading gives, and empty containers.
 pub some-as : {A : Type 0} {P Q : A → Type 0} (r : Option A) → ((x : A) → P x → Q x) → IfSome r P → IfSome r Q
 some-as None f h = tt
 some-as (Some x) f h = f x h
+
+-- where a run of plain bytes ends it ends from there too
+pub stop-stands : (t : List ℕ) (i to : ℕ) → to < length t → to ≡ scan_stop t i → scan_stop t i ≡ scan_stop t to
+stop-stands t i to lt e =
+    let byte : slice_get t (scan_stop t i) ≡ Some (slice_index t to) = ap (slice_get t) (sym e) ∙ got t to lt in
+    sym e ∙ sym (run_end-stopping is_plain t to lt (run_end-stops is_plain t i (slice_index t to) byte))
 
 -- a string with no backslash
 pub near-closed : (t : List ℕ) (i to : ℕ) → i + 1 ≤ length t → to ≡ scan_stop t (i + 1) → slice_get t to ≡ Some 34
