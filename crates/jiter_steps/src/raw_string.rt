@@ -170,10 +170,10 @@ fn fault_of(bytes: &[u8], at: usize) -> Fault
     }
 }
 
-/// The byte index behind the closing quote of the string whose opening quote is at `at`, if it has one and its
-/// escapes are whole; its UTF-8 is not tested. The bytes up to `from` are known to be plain (RFC 8259, 7).
+// The byte index behind the closing quote of the string whose opening quote is at `at`, if it has one and its
+// escapes are whole; its UTF-8 is not tested. The bytes up to `from` are known to be plain (RFC 8259, 7).
 #[inline(never)]
-pub fn closed_end(bytes: &[u8], at: usize, from: usize) -> Option<usize>
+pub(crate) fn closed_end(bytes: &[u8], at: usize, from: usize) -> Option<usize>
     requires within { (at + 1 ≤ from) × (from < length bytes.now) }
     requires plain { scan_stop bytes.now (at + 1) ≡ scan_stop bytes.now from }
     ensures value { IfSome result (λ e. seen_as (λ s k. tt {0}) (string_at raw bytes.now at) ≡ taken tt e) }

@@ -14,7 +14,10 @@ closing-preserved c =
     let p = c.plain_run-place in
     let some : 0 < l.open = omega arith in
     record {
-      place = (omega (arith, l.invariant.place.0, p.ensures.place.0, c.in-Some.ensures.within.0), c.in-Some.ensures.within.1);
+      place = (
+        omega (arith, l.invariant.place.0, p.ensures.place.0, c.in-Some.ensures.within.0),
+        c.in-Some.ensures.within.1,
+      );
       few = omega (arith, l.invariant.few);
       same = λ names. l.invariant.same names
           ∙ run-leads names t b o l.open l.invariant.few some c.shape_of-shape.ensures l.end p.result.0 p.result.1 false

@@ -14,8 +14,8 @@ returns-then-not-more-clause-leads c = λ names.
     let fs = open_frames l.nest.objects l.depth in
     let r = c.plain_after-next.result in
     l.invariant.same names
-    ∙ plain-passed names t fs l.at c.in-Some.end (omega (arith, length-open_frames l.nest.objects l.depth, l.invariant.few))
-    c.in-Some.ensures.value
+    ∙ plain-passed names t fs l.at c.in-Some.end
+    (omega (arith, length-open_frames l.nest.objects l.depth, l.invariant.few)) c.in-Some.ensures.value
     ∙ continues-told names t (open_frames l.nest.objects r.1) r.2 false r.0 _ c.if-not-more.true
     (c.plain_after-next.ensures.leads names)
 
@@ -25,7 +25,8 @@ turns-preserved-in-Some c =
     let l = c.turns in
     let fs = open_frames l.nest.objects l.depth in
     let a = c.plain_after-next in
-    let told = λ (names : Bool). continues-told names t (open_frames l.nest.objects a.result.1) a.result.2 true a.result.0 _
+    let gs = open_frames l.nest.objects a.result.1 in
+    let told = λ (names : Bool). continues-told names t gs a.result.2 true a.result.0 _
     c.if-not-more.false (a.ensures.leads names) in
     record {
       place = (omega (arith, l.invariant.place.0, a.ensures.place.0, c.in-Some.ensures.within.0), (told false).1);
