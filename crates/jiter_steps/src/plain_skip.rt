@@ -147,22 +147,15 @@ pub fn plain_value_end(bytes: &[u8], at: usize) -> Option<usize>
     }
 }
 
-// From behind a key to the place where its value begins, by one look where a colon, one space or none and the value
-// stand there.
+// From behind a key to the place where its value begins, by one look where a colon and the value stand there.
 #[inline(always)]
 fn near_colon(bytes: &[u8], from: usize) -> Option<usize>
     requires { from ≤ length bytes.now }
     ensures value { IfSome result (λ v. object_colon bytes.now from ≡ taken tt v) }
     ensures within { IfSome result (λ v. (from ≤ v) × (v < length bytes.now)) }
 {
-    if bytes.len() - from < 3 || bytes[from] != b':' {
-        return plain_colon(bytes, from);
-    }
-    if bytes[from + 1] > b' ' {
+    if bytes.len() - from > 1 && bytes[from] == b':' && bytes[from + 1] > b' ' {
         return Some(from + 1);
-    }
-    if bytes[from + 1] == b' ' && bytes[from + 2] > b' ' {
-        return Some(from + 2);
     }
     plain_colon(bytes, from)
 }

@@ -7,7 +7,7 @@ use Rattle.jiter_scan.specs.NumberReading.{number_extent, extent_then}
 use Rattle.jiter_scan.specs.Scan.{is_plain, scan_stop}
 use Rattle.jiter_scan.specs.Scanned.{taken}
 use Rattle.jiter_steps.specs.Answer.{only_ends, seen_as}
-use Rattle.jiter_steps.specs.Blank.{is_blank, past_blanks}
+use Rattle.jiter_steps.specs.Blank.{past_blanks}
 use Rattle.jiter_steps.specs.Frames.{Frame, resume, value_from}
 use Rattle.jiter_steps.specs.Literal.{start_of, literal_at}
 use Rattle.jiter_steps.specs.Read.{Reading, done, follow, inside_at, scalar_at, value_with}
@@ -25,7 +25,7 @@ use Rattle.jiter_steps.proofs.Calls.RawStrings.{raw-closed, raw-over_run}
 use Rattle.jiter_steps.proofs.Calls.Resumed.{value_in-levels}
 use Rattle.jiter_steps.proofs.Calls.Skipping.{led_on, next_inside-is, first_inside-is, open_frames-opens}
 use Rattle.jiter_steps.proofs.Calls.Skipping.{length-open_frames, number_at-end, open_frames-innermost}
-use Rattle.jiter_steps.proofs.Grammar.Blanks.{past_blanks-above, past_blanks-blank}
+use Rattle.jiter_steps.proofs.Grammar.Blanks.{past_blanks-above}
 use Rattle.jiter_steps.proofs.Grammar.Places.{got}
 
 abbrev Frames : Type 0
@@ -139,28 +139,15 @@ module _ (t : List ℕ) (b : Shape) where
       ap (λ k. container_first b k (slice_get t k)) here
       ∙ ap (container_first b j) (got t j lt ∙ ap Some closer) ∙ first-closes b j
 
--- a colon, and behind it a value
-colon-leads : (t : List ℕ) (i j : ℕ) → i < length t → slice_index t i ≡ 58 → past_blanks t (i + 1) ≡ j → j < length t
-    → object_colon t i ≡ taken tt j
-colon-leads t i j lt sign next within =
-    let here : past_blanks t i ≡ i = past_blanks-above t i lt (omega (arith, sign)) in
-    ap (λ k. extent_then (colon k (slice_get t k)) (step t value_first)) here
-    ∙ ap (λ o. extent_then (colon i o) (step t value_first)) (got t i lt ∙ ap Some sign)
-    ∙ ap (λ k. value_first k (slice_get t k)) next ∙ ap (value_first j) (got t j within)
-
+-- a colon, and a value right behind it
 pub colon-stands : (t : List ℕ) (i : ℕ) → i + 1 < length t → slice_index t i ≡ 58 → 32 < slice_index t (i + 1)
     → object_colon t i ≡ taken tt (i + 1)
 colon-stands t i lt sign above =
-    colon-leads t i (i + 1) (omega arith) sign (past_blanks-above t (i + 1) lt above) lt
-
-pub colon-spaced : (t : List ℕ) (i : ℕ) → i + 2 < length t → slice_index t i ≡ 58 → slice_index t (i + 1) ≡ 32
-    → 32 < slice_index t (i + 2) → object_colon t i ≡ taken tt (i + 2)
-colon-spaced t i lt sign blank above =
-    let at : i + 1 + 1 ≡ i + 2 = omega arith in
-    let next : past_blanks t (i + 1) ≡ i + 2 =
-    past_blanks-blank t (i + 1) (omega arith) (ap is_blank blank) ∙ ap (past_blanks t) at
-    ∙ past_blanks-above t (i + 2) lt above in
-    colon-leads t i (i + 2) (omega arith) sign next lt
+    let here : past_blanks t i ≡ i = past_blanks-above t i (omega arith) (omega (arith, sign)) in
+    let next : past_blanks t (i + 1) ≡ i + 1 = past_blanks-above t (i + 1) lt above in
+    ap (λ k. extent_then (colon k (slice_get t k)) (step t value_first)) here
+    ∙ ap (λ o. extent_then (colon i o) (step t value_first)) (got t i (omega arith) ∙ ap Some sign)
+    ∙ ap (λ k. value_first k (slice_get t k)) next ∙ ap (value_first (i + 1)) (got t (i + 1) lt)
 
 -- Values that end so wherever they stand: scalars, by what their reading gives, and empty containers.
 pub some-as : {A : Type 0} {P Q : A → Type 0} (r : Option A) → ((x : A) → P x → Q x) → IfSome r P → IfSome r Q
