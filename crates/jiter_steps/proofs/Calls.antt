@@ -4,14 +4,15 @@
 -- cites one equation. Strings: runs of plain bytes (PlainRuns), the steps of the decoder (DecodeSteps), what is
 -- answered by what stands where the plain bytes end, of a text that is kept or not (StringAnswers) and of a raw
 -- string (RawStrings), of what the plain way takes (PlainAnswers), and of what was decoded (Decoded). Skipping: a
--- skip's open containers complete the rest of the text to a reading of ends (Skipping), and that ends where reading
--- the value does, or meets its fault, but for that of UTF-8 (SkipLaw). The machine: what its open containers, as
--- frames, complete the reading of a
--- value to (Resumed).
+-- skip's open containers complete the rest of the text to a reading of ends (Skipping), the plain way through them
+-- (PlainSkips, RawEscapes), and that it ends where reading the value does, or meets its fault, but for that of UTF-8
+-- (SkipLaw). The machine: what its open containers, as frames, complete the reading of a value to (Resumed).
 pub mod DecodeSteps
 pub mod Decoded
 pub mod PlainAnswers
 pub mod PlainRuns
+pub mod PlainSkips
+pub mod RawEscapes
 pub mod RawStrings
 pub mod Resumed
 pub mod SkipLaw

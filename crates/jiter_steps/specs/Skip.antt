@@ -5,7 +5,8 @@ use Rattle.jiter_scan.specs.Kind.{fault_kind}
 use Rattle.jiter_scan.specs.declared.errors.Fault.{Fault}
 use Rattle.jiter_steps.specs.Answer.{seen_as, only_ends}
 use Rattle.jiter_steps.specs.Frames.{Frame, items_frame, members_frame, resume, value_from}
-use Rattle.jiter_steps.specs.Read.{Reading, done, fault, behind_key}
+use Rattle.jiter_steps.specs.Node.{nesting_limit}
+use Rattle.jiter_steps.specs.Read.{Reading, done, fault, behind_key, value_at}
 use Rattle.jiter_steps.specs.Step.{Step, more, closed, stuck, step, container_first, container_step}
 use Rattle.jiter_steps.specs.StringReading.{raw, string_at}
 use Rattle.jiter_steps.specs.declared.parse.Shape.{Shape}
@@ -61,3 +62,14 @@ abbrev pub Continues : Bool → List ℕ → List (Frame (Unit {0}) (Unit {0})) 
 Continues names t fs (Ok true) i x = (x ≡ value_from (only_ends names) t fs i) × (i < length t)
 Continues names t fs (Ok false) i x = x ≡ resume (only_ends names) t fs (done tt i)
 Continues names t fs (Err f) i x = x ≡ fault (fault_kind f.kind) f.index i
+
+-- The value at i ends at e, whatever names are allowed and however many levels are left.
+abbrev pub IsPlainEnd : List ℕ → ℕ → ℕ → Type 0
+IsPlainEnd t i e = (names : Bool) → (levels : ℕ) → value_at (only_ends names) t levels i ≡ done tt e
+
+-- Behind a part that ends at i, in a container of this shape that stands in any others: a value is awaited at j, or one
+-- has ended there.
+abbrev pub LeadsBehind : Shape → List ℕ → ℕ → Bool → ℕ → Type 0
+LeadsBehind b t i awaited j =
+    (names : Bool) → (fs : List (Frame (Unit {0}) (Unit {0}))) → length fs < nesting_limit
+    → Continues names t (frame_of b ∷ fs) (Ok awaited) j (resume (only_ends names) t (frame_of b ∷ fs) (done tt i))

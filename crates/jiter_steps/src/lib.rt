@@ -5,6 +5,7 @@
 pub mod blank;
 pub mod parse;
 pub mod plain;
+mod plain_skip;
 pub mod raw_string;
 pub mod read_error;
 pub mod skip;

@@ -1,21 +1,103 @@
 //! Strings as they stand in the source (RFC 8259, 7): the bytes between the quotes, their escapes checked but not
 //! decoded and their UTF-8 not tested; and where a string ends. Nothing here takes memory.
 ghost use Rattle.std.specs.Prelude.{◌≡◌, ◌≢◌, ◌+◌, ◌<◌, ◌≤◌, ℕ, length, slice_get, IfOk, IfSome, OnOk, OnErr, Some};
-ghost use Rattle.std.specs.Prelude.{true, Bool, IsTrue};
+ghost use Rattle.std.specs.Prelude.{true, Bool, IsTrue, List, None};
+ghost use Rattle.std.specs.Char.{IsScalar};
 ghost use Rattle.jiter_scan.specs.Ascii as ascii;
 ghost use Rattle.jiter_scan.specs.Kind.{fault_kind};
-ghost use Rattle.jiter_scan.specs.Scan.{is_stop};
+ghost use Rattle.jiter_scan.specs.Scan.{is_stop, scan_stop};
 ghost use Rattle.jiter_scan.specs.Scanned.{Scans, taken, failed, with_end};
 ghost use Rattle.jiter_steps.specs.Answer.{seen_as};
+ghost use Rattle.jiter_steps.specs.Escape.{is_hex, short_escape};
 ghost use Rattle.jiter_steps.specs.RawString.{EndsAt, raw_view};
 ghost use Rattle.jiter_steps.specs.Read.{scalar_at};
 ghost use Rattle.jiter_steps.specs.StringReading.{content_at, string_at, raw, raw_form};
+ghost use Rattle.jiter_steps.specs.StringReading.{Stop, part, over, portion_at, number, unit_at, hex_digits_at};
 
 use crate::parse::Parser;
 use crate::string_decoder::{AtStop, Ending, cut_short, portion_at};
 use jiter_scan::errors::Fault;
 use jiter_scan::simd::scan_string;
 use jiter_scan::word::byte_at;
+
+// Whether a backslash and this byte are an escape.
+#[inline(always)]
+fn is_short_escape(byte: u8) -> bool
+    ensures { IsTrue result → short_escape byte ≢ None }
+{
+    matches!(byte, b'"' | b'\\' | b'/' | b'b' | b'f' | b'n' | b'r' | b't')
+}
+
+fn is_hex(byte: u8) -> bool
+    ensures { result ≡ is_hex byte }
+{
+    matches!(byte, b'0'..=b'9' | b'A'..=b'F' | b'a'..=b'f')
+}
+
+// Whether four hex digits stand at `at` that spell a character, and do not begin with a D.
+#[inline(always)]
+fn is_plain_unit(bytes: &[u8], at: usize) -> bool
+    requires { at + 4 ≤ length bytes.now }
+    ensures digits { IsTrue result → hex_digits_at bytes.now at ≡ number (unit_at bytes.now at) }
+    ensures scalar { IsTrue result → IsScalar (unit_at bytes.now at) }
+{
+    let first = bytes[at];
+    if !is_hex(first) || first == b'd' || first == b'D' {
+        return false;
+    }
+    if !is_hex(bytes[at + 1]) || !is_hex(bytes[at + 2]) {
+        return false;
+    }
+    is_hex(bytes[at + 3])
+}
+
+// Behind the escape at `at`, where it is at once seen to be whole and no pair.
+#[inline(always)]
+fn plain_escape_end(bytes: &[u8], at: usize) -> Option<usize>
+    requires { slice_get bytes.now at ≡ Some ascii.backslash }
+    ensures { IfSome result (λ e. (bs : List ℕ) × (part bs true e ≡ portion_at bytes.now at)) }
+{
+    if bytes.len() - at < 6 {
+        return None;
+    }
+    let sign = bytes[at + 1];
+    if is_short_escape(sign) {
+        return Some(at + 2);
+    }
+    if sign == b'u' && is_plain_unit(bytes, at + 2) {
+        return Some(at + 6);
+    }
+    None
+}
+
+// Behind the escape at `at`, by all that stands there.
+#[inline(never)]
+fn general_escape_end(bytes: &[u8], at: usize) -> Option<usize>
+    requires { IfSome (slice_get bytes.now at) (λ b. is_stop b ≡ true) }
+    ensures escape { IfSome result (λ e. (bs : List ℕ) × (part bs true e ≡ portion_at bytes.now at)) }
+    ensures over { result ≡ None → (s : Stop) × (over s ≡ portion_at bytes.now at) }
+{
+    match portion_at(bytes, at) {
+        AtStop::Escape(_, end) => Some(end),
+        AtStop::End(_) => None,
+    }
+}
+
+// Behind the escape that stands where a run of plain bytes ends; none where the string is over.
+#[inline(always)]
+fn escape_end(bytes: &[u8], at: usize) -> Option<usize>
+    requires { IfSome (slice_get bytes.now at) (λ b. is_stop b ≡ true) }
+    ensures escape { IfSome result (λ e. (bs : List ℕ) × (part bs true e ≡ portion_at bytes.now at)) }
+    ensures over { result ≡ None → (s : Stop) × (over s ≡ portion_at bytes.now at) }
+{
+    match byte_at(bytes, at) {
+        Some(b'\\') => match plain_escape_end(bytes, at) {
+            Some(end) => Some(end),
+            None => general_escape_end(bytes, at),
+        },
+        _ => general_escape_end(bytes, at),
+    }
+}
 
 // The place at which a content is over that goes on at `from` with a backslash.
 #[inline(never)]
@@ -28,12 +110,12 @@ fn escaped_end(bytes: &[u8], from: usize) -> usize
 {
     let mut at = from;
     loop {
-        match portion_at(bytes, at) {
-            AtStop::Escape(_, end) => {
+        match escape_end(bytes, at) {
+            Some(end) => {
                 let (to, _) = scan_string(bytes, end);
                 at = to;
             }
-            AtStop::End(_) => return at,
+            None => return at,
         }
     }
 }
@@ -55,6 +137,20 @@ fn content_end(bytes: &[u8], from: usize) -> usize
     }
 }
 
+// The same, where the bytes before `from` have been looked at.
+#[inline(always)]
+fn rest_end(bytes: &[u8], from: usize) -> usize
+    requires { from < length bytes.now }
+    ensures over { EndsAt bytes.now from result }
+    ensures place { (from ≤ result) × (result ≤ length bytes.now) }
+{
+    if bytes[from] == b'\\' {
+        escaped_end(bytes, from)
+    } else {
+        content_end(bytes, from)
+    }
+}
+
 // The fault of a string whose content is over at `at` without a closing quote.
 #[cold]
 fn fault_of(bytes: &[u8], at: usize) -> Fault
@@ -71,6 +167,22 @@ fn fault_of(bytes: &[u8], at: usize) -> Fault
         AtStop::End(Ending::Cut) => cut_short(bytes),
         AtStop::End(Ending::Closed(_)) => unreachable!(),
         AtStop::Escape(_, _) => unreachable!(),
+    }
+}
+
+// The byte index behind the closing quote of the string whose opening quote is at `at`, if it has one and its
+// escapes are whole; its UTF-8 is not tested. The bytes up to `from` are known to be plain (RFC 8259, 7).
+#[inline(never)]
+pub(crate) fn closed_end(bytes: &[u8], at: usize, from: usize) -> Option<usize>
+    requires within { (at + 1 ≤ from) × (from < length bytes.now) }
+    requires plain { scan_stop bytes.now (at + 1) ≡ scan_stop bytes.now from }
+    ensures value { IfSome result (λ e. seen_as (λ s k. tt {0}) (string_at raw bytes.now at) ≡ taken tt e) }
+    ensures within { IfSome result (λ e. (at < e) × (e ≤ length bytes.now)) }
+{
+    let end = rest_end(bytes, from);
+    match byte_at(bytes, end) {
+        Some(b'"') => Some(end + 1),
+        _ => None,
     }
 }
 

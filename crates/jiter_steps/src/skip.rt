@@ -1,6 +1,6 @@
 //! Skipping a value: its end alone, with no value made, no text decoded and no memory taken.
-ghost use Rattle.std.specs.Prelude.{◌≡◌, ◌≢◌, ℕ, Bool, true, false, ◌+◌, ◌<◌, ◌≤◌, ◌∷◌, IfOk, OnOk, length};
-ghost use Rattle.std.specs.Prelude.{slice_index};
+ghost use Rattle.std.specs.Prelude.{◌≡◌, ◌≢◌, ℕ, Bool, true, false, ◌+◌, ◌<◌, ◌≤◌, ◌∷◌, IfOk, OnOk, Ok, length};
+ghost use Rattle.std.specs.Prelude.{slice_index, IfSome, None};
 ghost use Rattle.jiter_steps.specs.Answer.{only_ends, skip_at};
 ghost use Rattle.jiter_steps.specs.Frames.{resume, value_from};
 ghost use Rattle.jiter_steps.specs.Literal.{start_of};
@@ -12,6 +12,7 @@ ghost use Rattle.jiter_steps.specs.Skip.{open_frames, Continues};
 ghost use Rattle.jiter_steps.specs.Step.{opening};
 
 use crate::parse::{NESTING_LIMIT, Parser, Shape, Start, start_of};
+use crate::plain_skip::{plain_end, plain_first_inside, plain_run, plain_value_end};
 use crate::raw_string::string_end;
 use jiter_scan::errors::{Fault, FaultKind};
 use jiter_scan::number_extent::number_end;
@@ -239,6 +240,104 @@ fn end_value(parser: &mut Parser<'_>, nest: &mut Nest) -> Result<bool, Fault>
     }
 }
 
+// From behind a value past all that is plain: the place, how many containers are open there, and whether a value
+// begins there, which is not plain; else one has ended there.
+#[inline(always)]
+fn plain_after(bytes: &[u8], from: usize, nest: &Nest, depth: usize) -> (usize, usize, bool)
+    requires within { from ≤ length bytes.now }
+    requires few { depth ≤ nesting_limit }
+    ensures leads { (names : Bool) → Continues names bytes.now (open_frames nest.now.objects result.1)
+        (Ok result.2) result.0 (resume (only_ends names) bytes.now
+        (open_frames nest.now.objects depth) (done tt from)) }
+    ensures place { (from ≤ result.0) × (result.0 ≤ length bytes.now) }
+    ensures few { result.1 ≤ nesting_limit }
+{
+    let mut end = from;
+    let mut open = depth;
+    'closing: loop {
+        if open == 0 {
+            return (end, open, false);
+        }
+        let shape = shape_of(nest.objects[open - 1]);
+        let (place, more) = plain_run(bytes, end, shape);
+        if more {
+            return (place, open, true);
+        }
+        match plain_end(bytes, place, shape) {
+            None => return (place, open, false),
+            Some(behind) => end = behind,
+        }
+        open -= 1;
+    }
+}
+
+// From the container at `at` to the first value inside, which is one level deeper.
+#[inline(always)]
+fn plain_open(bytes: &[u8], at: usize, nest: &mut Nest, depth: usize) -> Option<usize>
+    requires within { at < length bytes.now }
+    requires few { depth ≤ nesting_limit }
+    ensures leads { IfSome result (λ next. (names : Bool)
+        → value_from (only_ends names) bytes.now (open_frames nest.old.objects depth) at
+        ≡ value_from (only_ends names) bytes.now (open_frames nest.new.objects (depth + 1)) next) }
+    ensures within { IfSome result (λ next. (at < next) × (next < length bytes.now)) }
+    ensures few { IfSome result (λ next. depth < nesting_limit) }
+    ensures same { result ≡ None → nest.new ≡ nest.old }
+{
+    if depth == NESTING_LIMIT {
+        return None;
+    }
+    match bytes[at] {
+        b'[' => {
+            let next = plain_first_inside(bytes, at, Shape::Array)?;
+            nest.objects[depth] = false;
+            Some(next)
+        }
+        b'{' => {
+            let next = plain_first_inside(bytes, at, Shape::Object)?;
+            nest.objects[depth] = true;
+            Some(next)
+        }
+        _ => None,
+    }
+}
+
+// From a value past all that is plain: to a value that is not, or else, with `false`, behind one.
+#[inline(never)]
+fn plain_turns(bytes: &[u8], from: usize, nest: &mut Nest) -> (usize, bool)
+    requires { from < length bytes.now }
+    ensures leads { (names : Bool) → Continues names bytes.now
+        (open_frames nest.new.objects nest.new.depth) (Ok result.1) result.0 (value_from (only_ends names)
+        bytes.now (open_frames nest.old.objects nest.old.depth) from) }
+    ensures place { (from ≤ result.0) × (result.0 ≤ length bytes.now) }
+    ensures ahead { result.1 ≡ false → from < result.0 }
+{
+    let mut at = from;
+    let mut depth = nest.depth;
+    'turns: loop {
+        match plain_value_end(bytes, at) {
+            Some(end) => {
+                let (next, open, more) = plain_after(bytes, end, nest, depth);
+                if !more {
+                    nest.depth = open;
+                    return (next, false);
+                }
+                at = next;
+                depth = open;
+            }
+            None => match plain_open(bytes, at, nest, depth) {
+                Some(next) => {
+                    at = next;
+                    depth += 1;
+                }
+                None => {
+                    nest.depth = depth;
+                    return (at, true);
+                }
+            },
+        }
+    }
+}
+
 // The container that begins where the reader stands.
 fn skip_container(parser: &mut Parser<'_>, allow_inf_nan: bool) -> Result<(), Fault>
     requires { parser.old.index < length parser.old.bytes.now }
@@ -252,7 +351,9 @@ fn skip_container(parser: &mut Parser<'_>, allow_inf_nan: bool) -> Result<(), Fa
         depth: 0,
     };
     'skipping: loop {
-        if begin_value(parser, &mut nest, allow_inf_nan)? {
+        let (at, more) = plain_turns(parser.bytes, parser.index, &mut nest);
+        parser.index = at;
+        if more && begin_value(parser, &mut nest, allow_inf_nan)? {
             continue 'skipping;
         }
         if !end_value(parser, &mut nest)? {

@@ -85,6 +85,13 @@ module _ (t : List ℕ) where
       let o = over-unless to run.3 ne in
       raw-over_here i to o.0 run.0 (sym o.1)
 
+  -- where it goes on behind some plain bytes, it is over at the same place
+  pub raw-over_behind : (i from j : ℕ) → i ≤ length t → from ≤ length t → scan_stop t i ≡ scan_stop t from
+      → EndsAt t from j → EndsAt t i j
+  raw-over_behind i from j h w same o =
+      let stop = scan_stop t from in
+      raw-over_again i from j ((raw-run i stop h (sym same)).0 ∙ sym (raw-run from stop w refl).0) o
+
   -- what a form makes of a content that is over at j, by what stands there
   pub raw-by : (form : Form) (i j : ℕ) (s : Stop) → EndsAt t i j → over s ≡ portion_at t j
       → content_at form t i ≡ text_in_form form t i (body_at t i).bytes (body_at t i).owned s

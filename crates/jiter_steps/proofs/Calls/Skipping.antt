@@ -158,7 +158,7 @@ module _ (names : Bool) (t : List ℕ) where
   parts-led b fs parts i (stuck k j) h = fault-passes fs k j j
 
   -- Behind a value inside a container: the next one, or the container's end.
-  next_inside-is : (b : Shape) (fs : Frames) (e : ℕ) → e ≤ length t
+  pub next_inside-is : (b : Shape) (fs : Frames) (e : ℕ) → e ≤ length t
       → resumed (frame_of b ∷ fs) (done tt e) ≡ led_on b fs (next_inside b t e)
   next_inside-is shape.Array fs e h =
       parts-led shape.Array fs (tt ∷ []) e (step t (container_step shape.Array t) e)

@@ -1,30 +1,29 @@
-use Rattle.std.proofs.Common.{◌∙◌, arith}
-use Rattle.jiter_steps.specs.StringDecoder.{stop_view}
+use Rattle.std.proofs.Common.{◌∙◌, refl, arith}
 use Rattle.jiter_steps.proofs.Calls.RawStrings.{raw-escape_ahead, raw-escape, raw-over_here}
 use Rattle.jiter_steps.proofs.raw_string.escaped_end.Goals as goal
 
 pub scan_string-to-requires : goal.scan_string-to-requires
 scan_string-to-requires c =
-    let ahead = raw-escape_ahead c.args.bytes.now c.loop-end.at c.in-Escape.end _ c.in-Escape.ensures in ahead.1
+    let ahead = raw-escape_ahead c.args.bytes.now c.loop-end.at c.in-Some.end _ c.in-Some.ensures.escape.1 in ahead.1
 
 pub loop-end-smaller : goal.loop-end-smaller
 loop-end-smaller c =
-    let go = raw-escape c.args.bytes.now c.loop-end.at c.scan_string-to.result.0 c.in-Escape.end _
-    c.in-Escape.ensures c.scan_string-to.ensures.stop in
+    let go = raw-escape c.args.bytes.now c.loop-end.at c.scan_string-to.result.0 c.in-Some.end _
+    c.in-Some.ensures.escape.1 c.scan_string-to.ensures.stop in
     omega (arith, go.1, go.2)
 
 pub loop-end-preserved : goal.loop-end-preserved
 loop-end-preserved c =
     let l = c.loop-end in
-    let go = raw-escape c.args.bytes.now l.at c.scan_string-to.result.0 c.in-Escape.end _
-    c.in-Escape.ensures c.scan_string-to.ensures.stop in
+    let go = raw-escape c.args.bytes.now l.at c.scan_string-to.result.0 c.in-Some.end _
+    c.in-Some.ensures.escape.1 c.scan_string-to.ensures.stop in
     record {
       rest = l.invariant.rest ∙ go.0;
       place = (omega (arith, l.invariant.place.0, go.1), go.2);
       stop = go.3;
     }
 
-pub returns-in-End-clause-over : goal.returns-in-End-clause-over
-returns-in-End-clause-over c =
-    raw-over_here c.args.bytes.now c.args.from c.loop-end.at (stop_view c.in-End.field-0) c.loop-end.invariant.rest
-    c.in-End.ensures
+pub returns-in-None-clause-over : goal.returns-in-None-clause-over
+returns-in-None-clause-over c =
+    let over = c.in-None.ensures.over refl in
+    raw-over_here c.args.bytes.now c.args.from c.loop-end.at over.0 c.loop-end.invariant.rest over.1

@@ -1,0 +1,258 @@
+//! The plain way of skipping, by the bytes and a place, with answers that come back in registers. What is not plain
+//! is told and no more: the general way goes on there.
+ghost use Rattle.std.specs.Prelude.{◌≡◌, ◌+◌, ◌<◌, ◌≤◌, IfSome, length, slice_index, true, false};
+ghost use Rattle.jiter_scan.specs.Scan.{is_plain};
+ghost use Rattle.jiter_scan.specs.Scanned.{taken};
+ghost use Rattle.jiter_scan.specs.Simd.{failing};
+ghost use Rattle.jiter_steps.specs.Answer.{seen_as};
+ghost use Rattle.jiter_steps.specs.Blank.{past_blanks};
+ghost use Rattle.jiter_steps.specs.Literal.{start_of};
+ghost use Rattle.jiter_steps.specs.Read.{done};
+ghost use Rattle.jiter_steps.specs.Skip.{value_inside, first_inside, next_inside, IsPlainEnd, LeadsBehind};
+ghost use Rattle.jiter_steps.specs.Step.{opening, object_colon};
+ghost use Rattle.jiter_steps.specs.StringReading.{string_at, raw};
+ghost use Rattle.jiter_steps.specs.declared.parse.Start.{Start};
+
+use crate::blank::past_blanks;
+use crate::parse::{Literal, Shape};
+use crate::plain::{plain_colon, plain_literal_end};
+use crate::raw_string::closed_end;
+use jiter_scan::number_extent::plain_number_end;
+use std::simd::prelude::*;
+
+// The first place from `from` on that has no blank, if there is one; a byte stands at `from`.
+#[inline(always)]
+fn solid(bytes: &[u8], from: usize) -> Option<usize>
+    requires { from < length bytes.now }
+    ensures value { IfSome result (λ at. at ≡ past_blanks bytes.now from) }
+    ensures place { IfSome result (λ at. (from ≤ at) × (at < length bytes.now)) }
+{
+    if bytes[from] > b' ' {
+        return Some(from);
+    }
+    let at = past_blanks(bytes, from);
+    if at < bytes.len() { Some(at) } else { None }
+}
+
+// Behind the container at `at`, if its closer stands right behind its bracket.
+#[inline(always)]
+fn empty_end(bytes: &[u8], at: usize, shape: Shape) -> Option<usize>
+    requires within { at < length bytes.now }
+    requires bracket { start_of (slice_index bytes.now at) ≡ opening shape }
+    ensures value { IfSome result (λ e. IsPlainEnd bytes.now at e) }
+    ensures within { IfSome result (λ e. (at < e) × (e ≤ length bytes.now)) }
+{
+    if bytes.len() - at > 1 && bytes[at + 1] == shape.closer() {
+        Some(at + 2)
+    } else {
+        None
+    }
+}
+
+// Behind the closing quote of a string that begins near the input's end.
+#[inline(always)]
+fn near_end(bytes: &[u8], at: usize) -> Option<usize>
+    requires { at < length bytes.now }
+    ensures value { IfSome result (λ e. seen_as (λ s k. tt {0}) (string_at raw bytes.now at) ≡ taken tt e) }
+    ensures within { IfSome result (λ e. (at < e) × (e ≤ length bytes.now)) }
+{
+    if bytes.len() - at < 2 {
+        return None;
+    }
+    closed_end(bytes, at, at + 1)
+}
+
+// A bit for each byte that ends a string's plain bytes.
+#[inline(always)]
+fn stops(v: u8x16) -> u64
+    ensures { result ≡ failing is_plain v }
+{
+    (v.simd_eq(u8x16::splat(b'"'))
+        | v.simd_eq(u8x16::splat(b'\\'))
+        | v.simd_lt(u8x16::splat(b' '))).to_bitmask()
+}
+
+// Behind the closing quote of the string at `at`, if it has one: at once where it stands within sixteen bytes and
+// no escape before it.
+#[inline(always)]
+fn quoted_end(bytes: &[u8], at: usize) -> Option<usize>
+    requires { at < length bytes.now }
+    ensures value { IfSome result (λ e. seen_as (λ s k. tt {0}) (string_at raw bytes.now at) ≡ taken tt e) }
+    ensures within { IfSome result (λ e. (at < e) × (e ≤ length bytes.now)) }
+{
+    if bytes.len() - at < 18 {
+        return near_end(bytes, at);
+    }
+    let found = stops(u8x16::from_slice(&bytes[at + 1..]));
+    if found == 0 {
+        return closed_end(bytes, at, at + 1 + 16);
+    }
+    let to = at + 1 + found.trailing_zeros() as usize;
+    if bytes[to] == b'"' {
+        Some(to + 1)
+    } else {
+        closed_end(bytes, at, to)
+    }
+}
+
+// Behind the string at `at`, if it is closed.
+#[inline(always)]
+fn plain_string_end(bytes: &[u8], at: usize) -> Option<usize>
+    requires within { at < length bytes.now }
+    requires begins { start_of (slice_index bytes.now at) ≡ Start.String }
+    ensures value { IfSome result (λ e. IsPlainEnd bytes.now at e) }
+    ensures within { IfSome result (λ e. (at < e) × (e ≤ length bytes.now)) }
+{
+    quoted_end(bytes, at)
+}
+
+// Behind the number at `at`, if it is short.
+#[inline(always)]
+fn short_number_end(bytes: &[u8], at: usize) -> Option<usize>
+    requires within { at < length bytes.now }
+    requires begins { start_of (slice_index bytes.now at) ≡ Start.Number }
+    ensures value { IfSome result (λ e. IsPlainEnd bytes.now at e) }
+    ensures within { IfSome result (λ e. (at < e) × (e ≤ length bytes.now)) }
+{
+    plain_number_end(bytes, at)
+}
+
+// Behind the literal at `at`, if it stands there and not at the input's end.
+#[inline(always)]
+fn whole_literal_end(bytes: &[u8], at: usize, literal: Literal) -> Option<usize>
+    requires within { at < length bytes.now }
+    requires begins { start_of (slice_index bytes.now at) ≡ Start.Literal literal }
+    ensures value { IfSome result (λ e. IsPlainEnd bytes.now at e) }
+    ensures within { IfSome result (λ e. (at < e) × (e ≤ length bytes.now)) }
+{
+    plain_literal_end(bytes, at, literal)
+}
+
+/// Behind the value at `at`, if it is a plain scalar, or a container whose closer stands right behind its bracket.
+#[inline(always)]
+pub fn plain_value_end(bytes: &[u8], at: usize) -> Option<usize>
+    requires { at < length bytes.now }
+    ensures value { IfSome result (λ e. IsPlainEnd bytes.now at e) }
+    ensures within { IfSome result (λ e. (at < e) × (e ≤ length bytes.now)) }
+{
+    match bytes[at] {
+        b'"' => plain_string_end(bytes, at),
+        b'0'..=b'9' | b'-' => short_number_end(bytes, at),
+        b'n' => whole_literal_end(bytes, at, Literal::Null),
+        b't' => whole_literal_end(bytes, at, Literal::True),
+        b'f' => whole_literal_end(bytes, at, Literal::False),
+        b'[' => empty_end(bytes, at, Shape::Array),
+        b'{' => empty_end(bytes, at, Shape::Object),
+        _ => None,
+    }
+}
+
+// From behind a key to the place where its value begins, by one look where a colon and the value stand there.
+#[inline(always)]
+fn near_colon(bytes: &[u8], from: usize) -> Option<usize>
+    requires { from ≤ length bytes.now }
+    ensures value { IfSome result (λ v. object_colon bytes.now from ≡ taken tt v) }
+    ensures within { IfSome result (λ v. (from ≤ v) × (v < length bytes.now)) }
+{
+    if bytes.len() - from > 1 && bytes[from] == b':' && bytes[from + 1] > b' ' {
+        return Some(from + 1);
+    }
+    plain_colon(bytes, from)
+}
+
+// Where the value of a part at `at` begins: behind its key and colon in an object.
+#[inline(always)]
+fn plain_inside(bytes: &[u8], at: usize, shape: Shape) -> Option<usize>
+    requires { at < length bytes.now }
+    ensures value { IfSome result (λ v. value_inside shape bytes.now at ≡ done true v) }
+    ensures within { IfSome result (λ v. (at ≤ v) × (v < length bytes.now)) }
+{
+    match shape {
+        Shape::Array => Some(at),
+        Shape::Object => {
+            let end = quoted_end(bytes, at)?;
+            near_colon(bytes, end)
+        }
+    }
+}
+
+/// From the bracket of a container at `at` to the first value inside.
+#[inline(always)]
+pub fn plain_first_inside(bytes: &[u8], at: usize, shape: Shape) -> Option<usize>
+    requires { at < length bytes.now }
+    ensures value { IfSome result (λ v. first_inside shape bytes.now at ≡ done true v) }
+    ensures within { IfSome result (λ v. (at < v) × (v < length bytes.now)) }
+{
+    if bytes.len() - at < 2 {
+        return None;
+    }
+    match solid(bytes, at + 1) {
+        Some(next) if shape.begins_part(bytes[next]) => plain_inside(bytes, next, shape),
+        _ => None,
+    }
+}
+
+// From behind a part, past a comma, to the value of the next part.
+#[inline(always)]
+fn plain_next_inside(bytes: &[u8], from: usize, shape: Shape) -> Option<usize>
+    requires { from ≤ length bytes.now }
+    ensures value { IfSome result (λ v. next_inside shape bytes.now from ≡ done true v) }
+    ensures within { IfSome result (λ v. (from < v) × (v < length bytes.now)) }
+{
+    if bytes.len() - from < 2 || bytes[from] != b',' {
+        return None;
+    }
+    match solid(bytes, from + 1) {
+        Some(next) if shape.begins_part(bytes[next]) => plain_inside(bytes, next, shape),
+        _ => None,
+    }
+}
+
+// The same, past all plain values, by a shape that is known where it is inlined.
+#[inline(always)]
+fn known_plain_run(bytes: &[u8], from: usize, shape: Shape) -> (usize, bool)
+    requires { from ≤ length bytes.now }
+    ensures leads { LeadsBehind shape bytes.now from result.1 result.0 }
+    ensures place { (from ≤ result.0) × (result.0 ≤ length bytes.now) }
+{
+    let mut end = from;
+    'parts: loop {
+        match plain_next_inside(bytes, end, shape) {
+            None => return (end, false),
+            Some(at) => match plain_value_end(bytes, at) {
+                None => return (at, true),
+                Some(behind) => end = behind,
+            },
+        }
+    }
+}
+
+/// From behind a part of a container past all parts with plain values: to a value that is not plain, or else,
+/// with `false`, behind the last of them.
+#[inline(always)]
+pub fn plain_run(bytes: &[u8], from: usize, shape: Shape) -> (usize, bool)
+    requires { from ≤ length bytes.now }
+    ensures leads { LeadsBehind shape bytes.now from result.1 result.0 }
+    ensures place { (from ≤ result.0) × (result.0 ≤ length bytes.now) }
+{
+    match shape {
+        Shape::Array => known_plain_run(bytes, from, Shape::Array),
+        Shape::Object => known_plain_run(bytes, from, Shape::Object),
+    }
+}
+
+/// From behind a part to behind the container's closer, if it stands there.
+#[inline(always)]
+pub fn plain_end(bytes: &[u8], from: usize, shape: Shape) -> Option<usize>
+    requires { from ≤ length bytes.now }
+    ensures value { IfSome result (λ e. next_inside shape bytes.now from ≡ done false e) }
+    ensures within { IfSome result (λ e. (from < e) × (e ≤ length bytes.now)) }
+{
+    if from == bytes.len() {
+        return None;
+    }
+    match solid(bytes, from) {
+        Some(at) if bytes[at] == shape.closer() => Some(at + 1),
+        _ => None,
+    }
+}
