@@ -24,9 +24,9 @@ ghost use Rattle.jiter_steps.specs.declared.string_decoder.Ending.TheVariants as
 use crate::read_error::ReadError;
 use jiter_scan::errors::{Fault, FaultKind, fault_at};
 use jiter_scan::memory::{Refused, copy_text};
-use jiter_scan::simd::scan_string;
-use jiter_scan::tape::{put_char, put_plain};
-use jiter_scan::text::ascii_text;
+use jiter_scan::simd::{both, scan_string};
+use jiter_scan::tape::{make_room, put_char, put_plain};
+use jiter_scan::text::utf8_text;
 use jiter_scan::word::byte_at;
 use simdutf8::compat::Utf8Error;
 use std::alloc::Global;
@@ -273,43 +273,54 @@ fn next_portion(bytes: &[u8], at: usize) -> AtStop
     }
 }
 
-// Decodes what stands from `from` on to the front of the tape, a run of plain bytes and an escape at a time,
-// and gives how many bytes that makes.
+// Decodes what stands from `from` on to the front of the tape, at most sixteen plain bytes and an escape at a time,
+// and gives how many bytes that makes, and whether they are known to be UTF-8 with no test: as they are where all
+// plain ones are below 80 hex.
 #[inline(always)]
-#[tactic(auto, using(crate::proofs::Calls::PlainRuns::plain_run_stops))]
-fn decode(tape: &mut Vec<u8>, bytes: &[u8], from: usize) -> Result<(usize, Ending), Refused>
+fn decode(
+    tape: &mut Vec<u8>,
+    bytes: &[u8],
+    from: usize,
+) -> Result<(usize, bool, Ending), Refused>
     requires { from ≤ length bytes.now }
     ensures text { IfOk result (λ r. take r.0 tape.new.items ≡ (body_at bytes.now from).bytes) }
+    ensures utf8 { IfOk result (λ r. IsTrue r.1 → IsUtf8 (take r.0 tape.new.items)) }
     ensures within { IfOk result (λ r. r.0 ≤ vec_len tape.new) }
-    ensures stop { IfOk result (λ r. stop_view r.1 ≡ (body_at bytes.now from).stop) }
+    ensures stop { IfOk result (λ r. stop_view r.2 ≡ (body_at bytes.now from).stop) }
 {
     let mut at = from;
     let mut count = 0;
+    let mut known = true;
     loop {
-        let to = put_plain(tape, count, bytes, at)?;
-        let plain = count + (to - at);
-        match next_portion(bytes, to) {
-            AtStop::Escape(c, end) => {
-                count = put_char(tape, plain, c);
-                at = end;
+        make_room(tape, count)?;
+        let (many, low) = put_plain(tape, count, bytes, at);
+        known = both(known, low);
+        count += many;
+        at += many;
+        if many < 16 {
+            match next_portion(bytes, at) {
+                AtStop::Escape(c, end) => {
+                    count = put_char(tape, count, c);
+                    at = end;
+                }
+                AtStop::End(ending) => return Ok((count, known, ending)),
             }
-            AtStop::End(ending) => return Ok((plain, ending)),
         }
     }
 }
 
-// The bytes as a text: with no look at them where all are known to be below 80 hex, else tested.
+// The bytes as a text: with no look at them where they are known to be UTF-8, else tested.
 #[inline(always)]
-fn text_of(bytes: &[u8], ascii: bool) -> Result<&str, Utf8Error>
-    requires { IsTrue ascii → AllPass is_ascii bytes.now }
+fn text_of(bytes: &[u8], known: bool) -> Result<&str, Utf8Error>
+    requires { IsTrue known → IsUtf8 bytes.now }
     ensures cases { MatchResult result (λ text. (text.now ≡ bytes.now) × IsUtf8 bytes.now)
         (λ e. ¬ (IsUtf8 bytes.now) × IsValidUpTo bytes.now (valid_up_to e)) }
     ensures valid { IfErr result (λ e. valid_up_to e ≡ utf8_valid_len bytes.now) }
     ensures rest { IfErr result
         (λ e. error_len e ≡ utf8_error_len (drop (valid_up_to e) bytes.now)) }
 {
-    if ascii {
-        Ok(ascii_text(bytes))
+    if known {
+        Ok(utf8_text(bytes))
     } else {
         simdutf8::compat::from_utf8(bytes)
     }
@@ -317,15 +328,15 @@ fn text_of(bytes: &[u8], ascii: bool) -> Result<&str, Utf8Error>
 
 // The bytes as a text; of one that is kept, without an unfinished character at their end. Or how many are right
 // before one that is wrong.
-fn checked_text(content: &[u8], ascii: bool, keep: bool) -> Result<&str, usize>
-    requires { IsTrue ascii → AllPass is_ascii content.now }
+fn checked_text(content: &[u8], known: bool, keep: bool) -> Result<&str, usize>
+    requires { IsTrue known → IsUtf8 content.now }
     ensures value { (i e : ℕ) → (owned : Bool) → MatchResult result
         (λ text. checked keep i owned content.now e
         ≡ taken (record { owned = owned; bytes = text.now }) e)
         (λ n. checked keep i owned content.now e ≡ failed invalid_code_point (i + n)) }
     ensures within { IfErr result (λ n. n ≤ length content.now) }
 {
-    match text_of(content, ascii) {
+    match text_of(content, known) {
         Ok(text) => Ok(text),
         Err(e) => match e.error_len() {
             Some(_) => Err(e.valid_up_to()),
@@ -360,18 +371,21 @@ fn borrow_text<'j>(
 }
 
 // The decoded bytes, of a content that begins at `from`, as a text of their own.
+#[inline(always)]
 fn own_text<'j>(
     alloc: Global,
     bytes: &[u8],
+    known: bool,
     from: usize,
     end: usize,
     keep: bool,
 ) -> Result<(CowStr<'j>, usize), ReadError>
-    requires { from + length bytes.now < 2 ^ 64 }
+    requires within { from + length bytes.now < 2 ^ 64 }
+    requires known { IsTrue known → IsUtf8 bytes.now }
     ensures { UnlessRefused result (λ r. Scans (with_end text_view) r
         (checked keep from true bytes.now end)) }
 {
-    match checked_text(bytes, false, keep) {
+    match checked_text(bytes, known, keep) {
         Ok(text) => {
             let own = copy_text(alloc, text)?;
             Ok((CowStr::Owned(own), end))
@@ -429,14 +443,16 @@ fn decode_text<'j>(
     ensures { UnlessRefused result (λ r. Scans (with_end text_view) r
         (string_at (text_form keep) bytes.now at)) }
 {
-    let (count, ending) = decode(tape, bytes, at + 1)?;
+    let (count, known, ending) = decode(tape, bytes, at + 1)?;
     let end = text_end(bytes, ending, keep)?;
-    own_text(alloc, &tape.as_slice()[..count], at + 1, end, keep)
+    own_text(alloc, &tape.as_slice()[..count], known, at + 1, end, keep)
 }
 
 // How many bytes of a decoded content are its text: of one that is kept, without an unfinished character at their
 // end. Or how many are right before one that is wrong.
-fn checked_count(content: &[u8], keep: bool) -> Result<usize, usize>
+#[inline(always)]
+fn checked_count(content: &[u8], known: bool, keep: bool) -> Result<usize, usize>
+    requires { IsTrue known → IsUtf8 content.now }
     ensures value { (i e : ℕ) → MatchResult result
         (λ n. checked keep i true content.now e
         ≡ taken (record { owned = true; bytes = take n content.now }) e)
@@ -445,7 +461,7 @@ fn checked_count(content: &[u8], keep: bool) -> Result<usize, usize>
     ensures front { IfOk result (λ n. n ≤ length content.now) }
     ensures within { IfErr result (λ n. n ≤ length content.now) }
 {
-    if content.is_ascii() {
+    if known {
         return Ok(content.len());
     }
     match simdutf8::compat::from_utf8(content) {
@@ -476,9 +492,9 @@ pub fn decode_to(
     ensures text { IfOk result (λ r. IsUtf8 (take r.0 tape.new.items)) }
     ensures front { IfOk result (λ r. r.0 ≤ vec_len tape.new) }
 {
-    let (count, ending) = decode(tape, bytes, at + 1)?;
+    let (count, known, ending) = decode(tape, bytes, at + 1)?;
     let end = text_end(bytes, ending, keep)?;
-    match checked_count(&tape.as_slice()[..count], keep) {
+    match checked_count(&tape.as_slice()[..count], known, keep) {
         Ok(fit) => Ok((fit, end)),
         Err(right) => {
             let fault = fault_at(FaultKind::InvalidUnicodeCodePoint, at + 1 + right);
