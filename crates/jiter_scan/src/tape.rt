@@ -2,7 +2,9 @@
 ghost use Rattle.std.specs.Prelude.{◌≡◌, ◌+◌, ◌-◌, ◌<◌, ◌≤◌, ◌∷◌, ◌++◌, [], IfOk, IsTrue, OnOk, length, slice_range, take};
 ghost use Rattle.std.specs.Prelude.{vec_len};
 ghost use Rattle.std.specs.Char.{encode_utf8};
-ghost use Rattle.jiter_scan.specs.Scan.{scan_stop, IsAsciiTo};
+ghost use Rattle.std.specs.Simd.Lanes.{chunk};
+ghost use Rattle.jiter_scan.specs.Scan.{is_plain, is_ascii, scan_stop, IsAsciiTo};
+ghost use Rattle.jiter_scan.specs.Simd.{failing};
 
 use crate::memory::{Refused, lengthen};
 use crate::simd::{highs, is_clear_below, scan_string, stops};
@@ -79,6 +81,23 @@ fn put_last(tape: &mut Vec<u8>, count: usize, bytes: &[u8], from: usize) -> (usi
     (to - from, low)
 }
 
+/// Writes the sixteen bytes of a text at the byte index `from` behind the first ones of the tape, and gives a bit
+/// for each that ends a string's plain bytes, and a bit for each above 7F hex.
+#[inline(always)]
+pub fn put_chunk(tape: &mut Vec<u8>, count: usize, bytes: &[u8], from: usize) -> (u64, u64)
+    requires room { count + 16 ≤ vec_len tape.old }
+    requires within { from + 16 ≤ length bytes.now }
+    ensures stops { result.0 ≡ failing is_plain (chunk from 16 bytes.now) }
+    ensures highs { result.1 ≡ failing is_ascii (chunk from 16 bytes.now) }
+    ensures text { take (count + 16) tape.new.items
+        ≡ take count tape.old.items ++ chunk from 16 bytes.now }
+    ensures len { vec_len tape.new ≡ vec_len tape.old }
+{
+    let v = u8x16::from_slice(&bytes[from..]);
+    put_sixteen(tape, count, v);
+    (stops(v), highs(v))
+}
+
 /// Writes the plain bytes of a string that stand at the byte index `from`, sixteen at most, behind the first
 /// ones of the tape, and gives how many they are, and whether all of them are below 80 hex. Where they are fewer
 /// than sixteen, a stop or the end of the input follows.
@@ -97,10 +116,7 @@ pub fn put_plain(tape: &mut Vec<u8>, count: usize, bytes: &[u8], from: usize) ->
     if bytes.len() - from < 16 {
         return put_last(tape, count, bytes, from);
     }
-    let v = u8x16::from_slice(&bytes[from..]);
-    put_sixteen(tape, count, v);
-    let found = stops(v);
-    let high = highs(v);
+    let (found, high) = put_chunk(tape, count, bytes, from);
     if found == 0 {
         return (16, high == 0);
     }

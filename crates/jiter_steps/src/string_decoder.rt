@@ -1,5 +1,5 @@
 //! Reading a string (RFC 8259, 7 and 8.1): its own bytes where it has no backslash, or else its text decoded.
-ghost use Rattle.std.specs.Prelude.{◌≡◌, ℕ, Bool, ◌+◌, ◌^◌, ◌<◌, ◌≤◌, ◌++◌, length, true, false, slice_get};
+ghost use Rattle.std.specs.Prelude.{◌≡◌, ◌≢◌, ℕ, Bool, ◌+◌, ◌^◌, ◌<◌, ◌≤◌, ◌++◌, length, true, false, slice_get};
 ghost use Rattle.std.specs.Prelude.{List, slice_range, IfOk, IfErr, IfSome, IsTrue, MatchResult, Some, None, take};
 ghost use Rattle.std.specs.Prelude.{drop};
 ghost use Rattle.std.specs.Prelude.{vec_len};
@@ -25,7 +25,7 @@ use crate::read_error::ReadError;
 use jiter_scan::errors::{Fault, FaultKind, fault_at};
 use jiter_scan::memory::{Refused, copy_text};
 use jiter_scan::simd::{both, scan_string};
-use jiter_scan::tape::{make_room, put_char, put_plain};
+use jiter_scan::tape::{make_room, put_char, put_chunk, put_plain};
 use jiter_scan::text::utf8_text;
 use jiter_scan::word::byte_at;
 use simdutf8::compat::Utf8Error;
@@ -273,24 +273,99 @@ fn next_portion(bytes: &[u8], at: usize) -> AtStop
     }
 }
 
-// Decodes what stands from `from` on to the front of the tape, at most sixteen plain bytes and an escape at a time,
-// and gives how many bytes that makes, and whether they are known to be UTF-8 with no test: as they are where all
-// plain ones are below 80 hex.
+// What the letter of an escape stands for, or 0 where it is no escape of one letter.
 #[inline(always)]
-fn decode(
+fn sign_of(letter: u8) -> u8
+    ensures value { result ≢ 0 → short_escape letter ≡ Some result }
+    ensures ascii { result < 128 }
+{
+    match letter {
+        b'"' => b'"',
+        b'\\' => b'\\',
+        b'/' => b'/',
+        b'b' => 8,
+        b'f' => 12,
+        b'n' => b'\n',
+        b'r' => b'\r',
+        b't' => b'\t',
+        _ => 0,
+    }
+}
+
+// What the escape of one letter at `at` stands for, or 0 where none stands there.
+#[inline(always)]
+fn sign_at(bytes: &[u8], at: usize) -> u8
+    requires { at + 2 ≤ length bytes.now }
+    ensures value { result ≢ 0
+        → part (encode_utf8 result) true (at + 2) ≡ portion_at bytes.now at }
+    ensures ascii { result < 128 }
+{
+    if bytes[at] != b'\\' {
+        return 0;
+    }
+    sign_of(bytes[at + 1])
+}
+
+// Decodes what stands from `from` on to the front of the tape, as far as plain bytes and escapes of one letter go
+// with room on the tape and bytes ahead. Gives the place that it has come to, how many bytes that makes, and
+// whether they are known to be UTF-8 with no test.
+#[inline(always)]
+fn decode_plain(tape: &mut Vec<u8>, bytes: &[u8], from: usize) -> (usize, usize, bool)
+    requires { from ≤ length bytes.now }
+    ensures text { (body_at bytes.now from).bytes
+        ≡ take result.1 tape.new.items ++ (body_at bytes.now result.0).bytes }
+    ensures stop { (body_at bytes.now from).stop ≡ (body_at bytes.now result.0).stop }
+    ensures within { (result.0 ≤ length bytes.now) × (result.1 ≤ vec_len tape.new) }
+    ensures utf8 { IsTrue result.2 → IsUtf8 (take result.1 tape.new.items) }
+{
+    let mut at = from;
+    let mut count = 0;
+    let mut known = true;
+    while bytes.len() - at >= 18 && tape.len() - count >= 32 {
+        let (found, high) = put_chunk(tape, count, bytes, at);
+        known = both(known, high == 0);
+        if found == 0 {
+            at += 16;
+            count += 16;
+        } else {
+            let many = found.trailing_zeros() as usize;
+            at += many;
+            count += many;
+            let sign = sign_at(bytes, at);
+            if sign == 0 {
+                break;
+            }
+            tape[count] = sign;
+            at += 2;
+            count += 1;
+        }
+    }
+    (at, count, known)
+}
+
+// Decodes what stands from `from` on behind the first bytes of the tape, at most sixteen plain bytes and an escape
+// at a time, and gives how many bytes count then, and whether they are known to be UTF-8 with no test, where that
+// was so of the first ones.
+#[inline(never)]
+fn decode_rest(
     tape: &mut Vec<u8>,
     bytes: &[u8],
     from: usize,
+    first: usize,
+    utf8: bool,
 ) -> Result<(usize, bool, Ending), Refused>
-    requires { from ≤ length bytes.now }
-    ensures text { IfOk result (λ r. take r.0 tape.new.items ≡ (body_at bytes.now from).bytes) }
+    requires within { from ≤ length bytes.now }
+    requires first { first ≤ vec_len tape.old }
+    requires utf8 { IsTrue utf8 → IsUtf8 (take first tape.old.items) }
+    ensures text { IfOk result (λ r. take r.0 tape.new.items
+        ≡ take first tape.old.items ++ (body_at bytes.now from).bytes) }
     ensures utf8 { IfOk result (λ r. IsTrue r.1 → IsUtf8 (take r.0 tape.new.items)) }
     ensures within { IfOk result (λ r. r.0 ≤ vec_len tape.new) }
     ensures stop { IfOk result (λ r. stop_view r.2 ≡ (body_at bytes.now from).stop) }
 {
     let mut at = from;
-    let mut count = 0;
-    let mut known = true;
+    let mut count = first;
+    let mut known = utf8;
     loop {
         make_room(tape, count)?;
         let (many, low) = put_plain(tape, count, bytes, at);
@@ -429,8 +504,34 @@ fn text_end(bytes: &[u8], ending: Ending, keep: bool) -> Result<usize, Fault>
     }
 }
 
-// The text of a string with a backslash.
+// The text of a string with a backslash whose content begins at `from` and is decoded up to `at`, which makes the
+// first bytes of the tape.
 #[inline(never)]
+fn decode_text_on<'j>(
+    alloc: Global,
+    tape: &mut Vec<u8>,
+    bytes: &'j [u8],
+    from: usize,
+    decoded: (usize, usize, bool),
+    keep: bool,
+) -> Result<(CowStr<'j>, usize), ReadError>
+    requires within { decoded.0 ≤ length bytes.now }
+    requires begin { from ≤ length bytes.now }
+    requires first { decoded.1 ≤ vec_len tape.old }
+    requires utf8 { IsTrue decoded.2 → IsUtf8 (take decoded.1 tape.old.items) }
+    ensures { UnlessRefused result (λ r. Scans (with_end text_view) r
+        (text_in_form (text_form keep) bytes.now from
+        (take decoded.1 tape.old.items ++ (body_at bytes.now decoded.0).bytes) true
+        (body_at bytes.now decoded.0).stop)) }
+{
+    let (at, first, utf8) = decoded;
+    let (count, known, ending) = decode_rest(tape, bytes, at, first, utf8)?;
+    let end = text_end(bytes, ending, keep)?;
+    own_text(alloc, &tape.as_slice()[..count], known, from, end, keep)
+}
+
+// The text of a string with a backslash.
+#[inline(always)]
 fn decode_text<'j>(
     alloc: Global,
     tape: &mut Vec<u8>,
@@ -443,9 +544,12 @@ fn decode_text<'j>(
     ensures { UnlessRefused result (λ r. Scans (with_end text_view) r
         (string_at (text_form keep) bytes.now at)) }
 {
-    let (count, known, ending) = decode(tape, bytes, at + 1)?;
-    let end = text_end(bytes, ending, keep)?;
-    own_text(alloc, &tape.as_slice()[..count], known, at + 1, end, keep)
+    let (next, count, known) = decode_plain(tape, bytes, at + 1);
+    if known && next < bytes.len() && bytes[next] == b'"' {
+        let own = copy_text(alloc, utf8_text(&tape.as_slice()[..count]))?;
+        return Ok((CowStr::Owned(own), next + 1));
+    }
+    decode_text_on(alloc, tape, bytes, at + 1, (next, count, known), keep)
 }
 
 // How many bytes of a decoded content are its text: of one that is kept, without an unfinished character at their
@@ -474,6 +578,40 @@ fn checked_count(content: &[u8], known: bool, keep: bool) -> Result<usize, usize
     }
 }
 
+// The same of a content that begins at `from` and is decoded up to a place, which makes the first bytes of the tape;
+// with the index behind the string.
+#[inline(never)]
+fn decode_on(
+    tape: &mut Vec<u8>,
+    bytes: &[u8],
+    from: usize,
+    decoded: (usize, usize, bool),
+    keep: bool,
+) -> Result<(usize, usize), ReadError>
+    requires within { decoded.0 ≤ length bytes.now }
+    requires begin { from ≤ length bytes.now }
+    requires first { decoded.1 ≤ vec_len tape.old }
+    requires utf8 { IsTrue decoded.2 → IsUtf8 (take decoded.1 tape.old.items) }
+    ensures value { UnlessRefused result (λ r. Scans
+        (with_end (λ n. record { owned = true; bytes = take n tape.new.items })) r
+        (text_in_form (text_form keep) bytes.now from
+        (take decoded.1 tape.old.items ++ (body_at bytes.now decoded.0).bytes) true
+        (body_at bytes.now decoded.0).stop)) }
+    ensures text { IfOk result (λ r. IsUtf8 (take r.0 tape.new.items)) }
+    ensures front { IfOk result (λ r. r.0 ≤ vec_len tape.new) }
+{
+    let (at, first, utf8) = decoded;
+    let (count, known, ending) = decode_rest(tape, bytes, at, first, utf8)?;
+    let end = text_end(bytes, ending, keep)?;
+    match checked_count(&tape.as_slice()[..count], known, keep) {
+        Ok(fit) => Ok((fit, end)),
+        Err(right) => {
+            let fault = fault_at(FaultKind::InvalidUnicodeCodePoint, from + right);
+            Err(ReadError::Fault(fault))
+        }
+    }
+}
+
 /// Decodes the string with a backslash whose opening quote is at the byte index `at` to the front of the tape,
 /// and gives how many bytes its text has there, with the index behind its closing quote. The faults, and what
 /// `keep` keeps, are those of [`string_at`].
@@ -492,15 +630,11 @@ pub fn decode_to(
     ensures text { IfOk result (λ r. IsUtf8 (take r.0 tape.new.items)) }
     ensures front { IfOk result (λ r. r.0 ≤ vec_len tape.new) }
 {
-    let (count, known, ending) = decode(tape, bytes, at + 1)?;
-    let end = text_end(bytes, ending, keep)?;
-    match checked_count(&tape.as_slice()[..count], known, keep) {
-        Ok(fit) => Ok((fit, end)),
-        Err(right) => {
-            let fault = fault_at(FaultKind::InvalidUnicodeCodePoint, at + 1 + right);
-            Err(ReadError::Fault(fault))
-        }
+    let (next, first, utf8) = decode_plain(tape, bytes, at + 1);
+    if utf8 && next < bytes.len() && bytes[next] == b'"' {
+        return Ok((first, next + 1));
     }
+    decode_on(tape, bytes, at + 1, (next, first, utf8), keep)
 }
 
 /// Reads the string whose opening quote is at the byte index `at`, and gives its text with the index behind

@@ -29,7 +29,10 @@ fn sixteen_plain_bytes_are_copied_or_those_before_a_stop(rt: HostRuntime) {
         for from in 0..=stop {
             let many = (stop - from).min(16);
             assert_eq!(rt; copied(rt.alloc(), &source, from), Some((many, true)));
-            assert_eq!(rt; copied(rt.alloc(), &plain[..stop], from), Some((many, true)));
+            assert_eq!(rt;
+                copied(rt.alloc(), &plain[..stop], from),
+                Some((many, true))
+            );
         }
     }
 }
@@ -44,7 +47,10 @@ fn bytes_above_ascii_are_told_where_they_are_copied(rt: HostRuntime) {
             source[stop] = b'\\';
             let many = stop.min(16);
             assert_eq!(rt; copied(rt.alloc(), &source, 0), Some((many, many <= high)));
-            assert_eq!(rt; copied(rt.alloc(), &source[..=stop], 0), Some((many, many <= high)));
+            assert_eq!(rt;
+                copied(rt.alloc(), &source[..=stop], 0),
+                Some((many, many <= high))
+            );
         }
     }
 }

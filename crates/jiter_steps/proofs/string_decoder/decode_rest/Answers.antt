@@ -4,7 +4,7 @@ use Rattle.std.specs.Char.{encode_utf8}
 use Rattle.jiter_steps.specs.StringDecoder.{stop_view}
 use Rattle.jiter_steps.proofs.Calls.DecodeSteps.{decode-run, decode-more, decode-over, known-run, known-escape}
 use Rattle.jiter_steps.proofs.Calls.PlainRuns.{plain_stop}
-use Rattle.jiter_steps.proofs.string_decoder.decode.Goals as goal
+use Rattle.jiter_steps.proofs.string_decoder.decode_rest.Goals as goal
 
 pub next_portion-requires-clause-stop : goal.next_portion-requires-clause-stop
 next_portion-requires-clause-stop c =
@@ -16,9 +16,10 @@ loop-tape-smaller-in-Escape c =
     let l = c.loop-tape in
     let i = l.invariant in
     let p = c.put_plain-many in
-    let run = decode-run t (take l.count l.tape.items) _ c.args.from l.at p.result.0 (i.text, i.stop) i.within
-    p.ensures.run (p.ensures.text ∙ ap (λ w. w ++ slice_range t l.at (l.at + p.result.0)) c.in_ok-make_room.ensures.kept) in
-    let m = decode-more t _ _ (encode_utf8 c.in-Escape.c) c.args.from (l.at + p.result.0) c.in-Escape.end run
+    let added = p.ensures.text ∙ ap (λ w. w ++ slice_range t l.at (l.at + p.result.0)) c.in_ok-make_room.ensures.kept in
+    let run = decode-run t _ _ (take l.count l.tape.items) l.at (i.text, i.stop) _ p.result.0 i.within p.ensures.run
+    added in
+    let m = decode-more t _ _ _ (l.at + p.result.0) run _ (encode_utf8 c.in-Escape.c) c.in-Escape.end
     c.in-Escape.ensures c.put_char-count.ensures.text in
     omega (arith, m.1, m.2)
 
@@ -29,9 +30,9 @@ loop-tape-preserved-in-Escape c =
     let i = l.invariant in
     let p = c.put_plain-many in
     let added = p.ensures.text ∙ ap (λ w. w ++ slice_range t l.at (l.at + p.result.0)) c.in_ok-make_room.ensures.kept in
-    let run = decode-run t (take l.count l.tape.items) _ c.args.from l.at p.result.0 (i.text, i.stop) i.within
-    p.ensures.run added in
-    let m = decode-more t _ _ (encode_utf8 c.in-Escape.c) c.args.from (l.at + p.result.0) c.in-Escape.end run
+    let run = decode-run t _ _ (take l.count l.tape.items) l.at (i.text, i.stop) _ p.result.0 i.within p.ensures.run
+    added in
+    let m = decode-more t _ _ _ (l.at + p.result.0) run _ (encode_utf8 c.in-Escape.c) c.in-Escape.end
     c.in-Escape.ensures c.put_char-count.ensures.text in
     record {
       text = m.0.0;
@@ -50,9 +51,9 @@ returns-in-End c =
     let i = l.invariant in
     let p = c.put_plain-many in
     let added = p.ensures.text ∙ ap (λ w. w ++ slice_range t l.at (l.at + p.result.0)) c.in_ok-make_room.ensures.kept in
-    let run = decode-run t (take l.count l.tape.items) _ c.args.from l.at p.result.0 (i.text, i.stop) i.within
-    p.ensures.run added in
-    let m = decode-over t _ c.args.from (l.at + p.result.0) (stop_view c.in-End.ending) run c.in-End.ensures in
+    let run = decode-run t _ _ (take l.count l.tape.items) l.at (i.text, i.stop) _ p.result.0 i.within p.ensures.run
+    added in
+    let m = decode-over t _ _ _ (l.at + p.result.0) run (stop_view c.in-End.ending) c.in-End.ensures in
     record {
       text = m.0;
       utf8 = known-run l.known p.result.1 c.both-known.result _ _ _ i.utf8 p.ensures.ascii c.both-known.ensures added;
@@ -67,8 +68,8 @@ loop-tape-preserved c =
     let i = l.invariant in
     let p = c.put_plain-many in
     let added = p.ensures.text ∙ ap (λ w. w ++ slice_range t l.at (l.at + p.result.0)) c.in_ok-make_room.ensures.kept in
-    let run = decode-run t (take l.count l.tape.items) _ c.args.from l.at p.result.0 (i.text, i.stop) i.within
-    p.ensures.run added in
+    let run = decode-run t _ _ (take l.count l.tape.items) l.at (i.text, i.stop) _ p.result.0 i.within p.ensures.run
+    added in
     record {
       text = run.0;
       stop = run.1;
