@@ -63,62 +63,6 @@ fn decodes_escapes(rt: HostRuntime) {
     assert!(rt; reads(alloc, b"\"\\ud83d\\ude00\"", true, "\u{1F600}"));
 }
 
-// Whether a text of so many letters is decoded that has this escape at a place, with so many bytes on the tape
-// before and with other bytes of the input behind it.
-fn decodes_at(
-    alloc: Global,
-    letter: u8,
-    sign: u8,
-    place: usize,
-    length: usize,
-    room: usize,
-) -> bool {
-    if length < place || 60 < length {
-        return false;
-    }
-    let mut source = [b'a'; 128];
-    source[0] = b'"';
-    source[place + 1] = b'\\';
-    source[place + 2] = letter;
-    source[length + 3] = b'"';
-    let mut text = [b'a'; 128];
-    text[place] = sign;
-    let mut tape = Vec::new(alloc);
-    if tape.resize(room, b'x').is_err() {
-        return false;
-    }
-    let Ok((seen, end)) = string_at(alloc, &mut tape, &source, 0, false) else {
-        return false;
-    };
-    match &seen {
-        CowStr::Owned(s) => s.as_str().as_bytes() == &text[..length + 1] && end == length + 4,
-        CowStr::Borrowed(_) => false,
-    }
-}
-
-#[test]
-fn decodes_an_escape_at_each_place(rt: HostRuntime) {
-    let alloc = rt.alloc();
-    for (letter, sign) in [
-        (b'"', b'"'),
-        (b'\\', b'\\'),
-        (b'/', b'/'),
-        (b'b', 8),
-        (b'f', 12),
-        (b'n', b'\n'),
-        (b'r', b'\r'),
-        (b't', b'\t'),
-    ] {
-        for length in [0, 1, 5, 14, 15, 16, 17, 40] {
-            for place in 0..=length {
-                for room in [0, 40, 256] {
-                    assert!(rt; decodes_at(alloc, letter, sign, place, length, room));
-                }
-            }
-        }
-    }
-}
-
 #[test]
 fn decodes_with_room_and_bytes_ahead(rt: HostRuntime) {
     let alloc = rt.alloc();
