@@ -8,35 +8,19 @@ use Rattle.std.proofs.lemmas.Bool.{lt-ltb, le-ltb}
 use Rattle.std.proofs.lemmas.Grind.{take-set_at}
 use Rattle.std.proofs.lemmas.List.{length-set, length-take}
 use lib.Lanes.{chunk}
-use Rattle.jiter_scan.proofs.Standing.{slice_range-on, slice_range-split}
 
-module _ (t : List ℕ) (i j : ℕ) (ahead : i ≤ j) where
-  -- so many bytes of a chunk are the text's
-  slice_range-chunk : (k : ℕ) → k ≤ 16 → slice_range t i (j + k) ≡ slice_range t i j ++ take k (chunk j 16 t)
-  slice_range-chunk k few =
-      slice_range-on t i j ahead k ∙ ap (λ l. slice_range t i j ++ l) (sym (take-take k 16 (drop j t) few))
-
-  -- where the text's bytes stand on a tape, and its next ones are written behind them
-  pub put-range : (front tape next : List ℕ) (n m e : ℕ) → j ≤ e → m ≡ n + (e - j)
-      → take n tape ≡ front ++ slice_range t i j → take m next ≡ take n tape ++ slice_range t j e
-      → take m next ≡ front ++ slice_range t i e
-  put-range front tape next n m e on count text put =
-      put ∙ ap (λ l. l ++ slice_range t j e) text ∙ append_assoc front (slice_range t i j) (slice_range t j e)
-      ∙ ap (λ l. front ++ l) (sym (slice_range-split t i j ahead e on))
-
-  -- the same of so many bytes of a chunk
-  pub put-chunk : (front tape next : List ℕ) (n k : ℕ) → n ≤ length tape → k ≤ 16
-      → take n tape ≡ front ++ slice_range t i j → take (n + 16) next ≡ take n tape ++ chunk j 16 t
-      → take (n + k) next ≡ front ++ slice_range t i (j + k)
-  put-chunk front tape next n k within few text put =
-      let long : length (take n tape) ≡ n = omega (arith, length-take n tape) in
-      sym (take-take (n + k) (n + 16) next (omega arith))
-      ∙ ap (take (n + k)) put
-      ∙ ap (λ m. take (m + k) (take n tape ++ chunk j 16 t)) (sym long)
-      ∙ take-append-add (take n tape) (chunk j 16 t) k
-      ∙ ap (λ l. l ++ take k (chunk j 16 t)) text
-      ∙ append_assoc front (slice_range t i j) (take k (chunk j 16 t))
-      ∙ ap (λ l. front ++ l) (sym (slice_range-chunk k few))
+-- where a chunk of the text is written behind the first bytes, so many of its bytes stand behind them
+pub put-front : (t tape next : List ℕ) (i n k : ℕ) → n ≤ length tape → k ≤ 16
+    → take (n + 16) next ≡ take n tape ++ chunk i 16 t → take (n + k) next ≡ take n tape ++ slice_range t i (i + k)
+put-front t tape next i n k within few put =
+    let long : length (take n tape) ≡ n = omega (arith, length-take n tape) in
+    let count : k ≡ i + k - i = omega arith in
+    sym (take-take (n + k) (n + 16) next (omega arith))
+    ∙ ap (take (n + k)) put
+    ∙ ap (λ m. take (m + k) (take n tape ++ chunk i 16 t)) (sym long)
+    ∙ take-append-add (take n tape) (chunk i 16 t) k
+    ∙ ap (λ l. take n tape ++ l) (take-take k 16 (drop i t) few)
+    ∙ ap (λ m. take n tape ++ take m (drop i t)) count
 
 -- a byte more
 put-byte : (l : List ℕ) (n a : ℕ) → n < length l → take (n + 1) (slice_set l n a) ≡ take n l ++ a ∷ []

@@ -24,7 +24,7 @@ pub(crate) fn stops(v: u8x16) -> u64
 
 // A bit for each byte above 7F hex.
 #[inline(always)]
-fn highs(v: u8x16) -> u64
+pub(crate) fn highs(v: u8x16) -> u64
     ensures { result ≡ failing is_ascii v }
 {
     v.simd_ge(u8x16::splat(0x80)).to_bitmask()
@@ -49,15 +49,15 @@ fn is_stop(byte: u8) -> bool
 
 // Whether no bit below the count is set.
 #[inline(always)]
-fn is_clear_below(mask: u64, count: u32) -> bool
+pub(crate) fn is_clear_below(mask: u64, count: u32) -> bool
     ensures { result ≡ nat_le count (trailing_zeros w64 mask) }
 {
     mask.trailing_zeros() >= count
 }
 
-// Both, with no branch.
+/// Both, with no branch.
 #[inline(always)]
-fn both(a: bool, b: bool) -> bool
+pub fn both(a: bool, b: bool) -> bool
     ensures { result ≡ (a && b) }
 {
     a & b

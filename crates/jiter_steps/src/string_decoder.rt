@@ -1,5 +1,5 @@
 //! Reading a string (RFC 8259, 7 and 8.1): its own bytes where it has no backslash, or else its text decoded.
-ghost use Rattle.std.specs.Prelude.{◌≡◌, ℕ, Bool, ◌+◌, ◌^◌, ◌<◌, ◌≤◌, ◌++◌, length, true, false, slice_get};
+ghost use Rattle.std.specs.Prelude.{◌≡◌, ◌≢◌, ℕ, Bool, ◌+◌, ◌^◌, ◌<◌, ◌≤◌, ◌++◌, length, true, false, slice_get};
 ghost use Rattle.std.specs.Prelude.{List, slice_range, IfOk, IfErr, IfSome, IsTrue, MatchResult, Some, None, take};
 ghost use Rattle.std.specs.Prelude.{drop};
 ghost use Rattle.std.specs.Prelude.{vec_len};
@@ -24,9 +24,9 @@ ghost use Rattle.jiter_steps.specs.declared.string_decoder.Ending.TheVariants as
 use crate::read_error::ReadError;
 use jiter_scan::errors::{Fault, FaultKind, fault_at};
 use jiter_scan::memory::{Refused, copy_text};
-use jiter_scan::simd::scan_string;
-use jiter_scan::tape::{put_char, put_plain};
-use jiter_scan::text::ascii_text;
+use jiter_scan::simd::{both, scan_string};
+use jiter_scan::tape::{make_room, put_char, put_chunk, put_plain};
+use jiter_scan::text::utf8_text;
 use jiter_scan::word::byte_at;
 use simdutf8::compat::Utf8Error;
 use std::alloc::Global;
@@ -273,43 +273,129 @@ fn next_portion(bytes: &[u8], at: usize) -> AtStop
     }
 }
 
-// Decodes what stands from `from` on to the front of the tape, a run of plain bytes and an escape at a time,
-// and gives how many bytes that makes.
+// What the letter of an escape stands for, or 0 where it is no escape of one letter.
 #[inline(always)]
-#[tactic(auto, using(crate::proofs::Calls::PlainRuns::plain_run_stops))]
-fn decode(tape: &mut Vec<u8>, bytes: &[u8], from: usize) -> Result<(usize, Ending), Refused>
+fn sign_of(letter: u8) -> u8
+    ensures value { result ≢ 0 → short_escape letter ≡ Some result }
+    ensures ascii { result < 128 }
+{
+    match letter {
+        b'"' => b'"',
+        b'\\' => b'\\',
+        b'/' => b'/',
+        b'b' => 8,
+        b'f' => 12,
+        b'n' => b'\n',
+        b'r' => b'\r',
+        b't' => b'\t',
+        _ => 0,
+    }
+}
+
+// What the escape of one letter at `at` stands for, or 0 where none stands there.
+#[inline(always)]
+fn sign_at(bytes: &[u8], at: usize) -> u8
+    requires { at + 2 ≤ length bytes.now }
+    ensures value { result ≢ 0
+        → part (encode_utf8 result) true (at + 2) ≡ portion_at bytes.now at }
+    ensures ascii { result < 128 }
+{
+    if bytes[at] != b'\\' {
+        return 0;
+    }
+    sign_of(bytes[at + 1])
+}
+
+// Decodes what stands from `from` on to the front of the tape, as far as plain bytes and escapes of one letter go
+// with room on the tape and bytes ahead. Gives the place that it has come to, how many bytes that makes, and
+// whether they are known to be UTF-8 with no test.
+#[inline(always)]
+fn decode_plain(tape: &mut Vec<u8>, bytes: &[u8], from: usize) -> (usize, usize, bool)
     requires { from ≤ length bytes.now }
-    ensures text { IfOk result (λ r. take r.0 tape.new.items ≡ (body_at bytes.now from).bytes) }
-    ensures within { IfOk result (λ r. r.0 ≤ vec_len tape.new) }
-    ensures stop { IfOk result (λ r. stop_view r.1 ≡ (body_at bytes.now from).stop) }
+    ensures text { (body_at bytes.now from).bytes
+        ≡ take result.1 tape.new.items ++ (body_at bytes.now result.0).bytes }
+    ensures stop { (body_at bytes.now from).stop ≡ (body_at bytes.now result.0).stop }
+    ensures within { (result.0 ≤ length bytes.now) × (result.1 ≤ vec_len tape.new) }
+    ensures utf8 { IsTrue result.2 → IsUtf8 (take result.1 tape.new.items) }
 {
     let mut at = from;
     let mut count = 0;
-    loop {
-        let to = put_plain(tape, count, bytes, at)?;
-        let plain = count + (to - at);
-        match next_portion(bytes, to) {
-            AtStop::Escape(c, end) => {
-                count = put_char(tape, plain, c);
-                at = end;
+    let mut known = true;
+    while bytes.len() - at >= 18 && tape.len() - count >= 32 {
+        let (found, high) = put_chunk(tape, count, bytes, at);
+        known = both(known, high == 0);
+        if found == 0 {
+            at += 16;
+            count += 16;
+        } else {
+            let many = found.trailing_zeros() as usize;
+            at += many;
+            count += many;
+            let sign = sign_at(bytes, at);
+            if sign == 0 {
+                break;
             }
-            AtStop::End(ending) => return Ok((plain, ending)),
+            tape[count] = sign;
+            at += 2;
+            count += 1;
+        }
+    }
+    (at, count, known)
+}
+
+// Decodes what stands from `from` on behind the first bytes of the tape, at most sixteen plain bytes and an escape
+// at a time, and gives how many bytes count then, and whether they are known to be UTF-8 with no test, where that
+// was so of the first ones.
+#[inline(never)]
+fn decode_rest(
+    tape: &mut Vec<u8>,
+    bytes: &[u8],
+    from: usize,
+    first: usize,
+    utf8: bool,
+) -> Result<(usize, bool, Ending), Refused>
+    requires within { from ≤ length bytes.now }
+    requires first { first ≤ vec_len tape.old }
+    requires utf8 { IsTrue utf8 → IsUtf8 (take first tape.old.items) }
+    ensures text { IfOk result (λ r. take r.0 tape.new.items
+        ≡ take first tape.old.items ++ (body_at bytes.now from).bytes) }
+    ensures utf8 { IfOk result (λ r. IsTrue r.1 → IsUtf8 (take r.0 tape.new.items)) }
+    ensures within { IfOk result (λ r. r.0 ≤ vec_len tape.new) }
+    ensures stop { IfOk result (λ r. stop_view r.2 ≡ (body_at bytes.now from).stop) }
+{
+    let mut at = from;
+    let mut count = first;
+    let mut known = utf8;
+    loop {
+        make_room(tape, count)?;
+        let (many, low) = put_plain(tape, count, bytes, at);
+        known = both(known, low);
+        count += many;
+        at += many;
+        if many < 16 {
+            match next_portion(bytes, at) {
+                AtStop::Escape(c, end) => {
+                    count = put_char(tape, count, c);
+                    at = end;
+                }
+                AtStop::End(ending) => return Ok((count, known, ending)),
+            }
         }
     }
 }
 
-// The bytes as a text: with no look at them where all are known to be below 80 hex, else tested.
+// The bytes as a text: with no look at them where they are known to be UTF-8, else tested.
 #[inline(always)]
-fn text_of(bytes: &[u8], ascii: bool) -> Result<&str, Utf8Error>
-    requires { IsTrue ascii → AllPass is_ascii bytes.now }
+fn text_of(bytes: &[u8], known: bool) -> Result<&str, Utf8Error>
+    requires { IsTrue known → IsUtf8 bytes.now }
     ensures cases { MatchResult result (λ text. (text.now ≡ bytes.now) × IsUtf8 bytes.now)
         (λ e. ¬ (IsUtf8 bytes.now) × IsValidUpTo bytes.now (valid_up_to e)) }
     ensures valid { IfErr result (λ e. valid_up_to e ≡ utf8_valid_len bytes.now) }
     ensures rest { IfErr result
         (λ e. error_len e ≡ utf8_error_len (drop (valid_up_to e) bytes.now)) }
 {
-    if ascii {
-        Ok(ascii_text(bytes))
+    if known {
+        Ok(utf8_text(bytes))
     } else {
         simdutf8::compat::from_utf8(bytes)
     }
@@ -317,15 +403,15 @@ fn text_of(bytes: &[u8], ascii: bool) -> Result<&str, Utf8Error>
 
 // The bytes as a text; of one that is kept, without an unfinished character at their end. Or how many are right
 // before one that is wrong.
-fn checked_text(content: &[u8], ascii: bool, keep: bool) -> Result<&str, usize>
-    requires { IsTrue ascii → AllPass is_ascii content.now }
+fn checked_text(content: &[u8], known: bool, keep: bool) -> Result<&str, usize>
+    requires { IsTrue known → IsUtf8 content.now }
     ensures value { (i e : ℕ) → (owned : Bool) → MatchResult result
         (λ text. checked keep i owned content.now e
         ≡ taken (record { owned = owned; bytes = text.now }) e)
         (λ n. checked keep i owned content.now e ≡ failed invalid_code_point (i + n)) }
     ensures within { IfErr result (λ n. n ≤ length content.now) }
 {
-    match text_of(content, ascii) {
+    match text_of(content, known) {
         Ok(text) => Ok(text),
         Err(e) => match e.error_len() {
             Some(_) => Err(e.valid_up_to()),
@@ -360,18 +446,21 @@ fn borrow_text<'j>(
 }
 
 // The decoded bytes, of a content that begins at `from`, as a text of their own.
+#[inline(always)]
 fn own_text<'j>(
     alloc: Global,
     bytes: &[u8],
+    known: bool,
     from: usize,
     end: usize,
     keep: bool,
 ) -> Result<(CowStr<'j>, usize), ReadError>
-    requires { from + length bytes.now < 2 ^ 64 }
+    requires within { from + length bytes.now < 2 ^ 64 }
+    requires known { IsTrue known → IsUtf8 bytes.now }
     ensures { UnlessRefused result (λ r. Scans (with_end text_view) r
         (checked keep from true bytes.now end)) }
 {
-    match checked_text(bytes, false, keep) {
+    match checked_text(bytes, known, keep) {
         Ok(text) => {
             let own = copy_text(alloc, text)?;
             Ok((CowStr::Owned(own), end))
@@ -415,8 +504,34 @@ fn text_end(bytes: &[u8], ending: Ending, keep: bool) -> Result<usize, Fault>
     }
 }
 
-// The text of a string with a backslash.
+// The text of a string with a backslash whose content begins at `from` and is decoded up to `at`, which makes the
+// first bytes of the tape.
 #[inline(never)]
+fn decode_text_on<'j>(
+    alloc: Global,
+    tape: &mut Vec<u8>,
+    bytes: &'j [u8],
+    from: usize,
+    decoded: (usize, usize, bool),
+    keep: bool,
+) -> Result<(CowStr<'j>, usize), ReadError>
+    requires within { decoded.0 ≤ length bytes.now }
+    requires begin { from ≤ length bytes.now }
+    requires first { decoded.1 ≤ vec_len tape.old }
+    requires utf8 { IsTrue decoded.2 → IsUtf8 (take decoded.1 tape.old.items) }
+    ensures { UnlessRefused result (λ r. Scans (with_end text_view) r
+        (text_in_form (text_form keep) bytes.now from
+        (take decoded.1 tape.old.items ++ (body_at bytes.now decoded.0).bytes) true
+        (body_at bytes.now decoded.0).stop)) }
+{
+    let (at, first, utf8) = decoded;
+    let (count, known, ending) = decode_rest(tape, bytes, at, first, utf8)?;
+    let end = text_end(bytes, ending, keep)?;
+    own_text(alloc, &tape.as_slice()[..count], known, from, end, keep)
+}
+
+// The text of a string with a backslash.
+#[inline(always)]
 fn decode_text<'j>(
     alloc: Global,
     tape: &mut Vec<u8>,
@@ -429,14 +544,19 @@ fn decode_text<'j>(
     ensures { UnlessRefused result (λ r. Scans (with_end text_view) r
         (string_at (text_form keep) bytes.now at)) }
 {
-    let (count, ending) = decode(tape, bytes, at + 1)?;
-    let end = text_end(bytes, ending, keep)?;
-    own_text(alloc, &tape.as_slice()[..count], at + 1, end, keep)
+    let (next, count, known) = decode_plain(tape, bytes, at + 1);
+    if known && next < bytes.len() && bytes[next] == b'"' {
+        let own = copy_text(alloc, utf8_text(&tape.as_slice()[..count]))?;
+        return Ok((CowStr::Owned(own), next + 1));
+    }
+    decode_text_on(alloc, tape, bytes, at + 1, (next, count, known), keep)
 }
 
 // How many bytes of a decoded content are its text: of one that is kept, without an unfinished character at their
 // end. Or how many are right before one that is wrong.
-fn checked_count(content: &[u8], keep: bool) -> Result<usize, usize>
+#[inline(always)]
+fn checked_count(content: &[u8], known: bool, keep: bool) -> Result<usize, usize>
+    requires { IsTrue known → IsUtf8 content.now }
     ensures value { (i e : ℕ) → MatchResult result
         (λ n. checked keep i true content.now e
         ≡ taken (record { owned = true; bytes = take n content.now }) e)
@@ -445,7 +565,7 @@ fn checked_count(content: &[u8], keep: bool) -> Result<usize, usize>
     ensures front { IfOk result (λ n. n ≤ length content.now) }
     ensures within { IfErr result (λ n. n ≤ length content.now) }
 {
-    if content.is_ascii() {
+    if known {
         return Ok(content.len());
     }
     match simdutf8::compat::from_utf8(content) {
@@ -455,6 +575,40 @@ fn checked_count(content: &[u8], keep: bool) -> Result<usize, usize>
             None if keep => Ok(e.valid_up_to()),
             None => Err(e.valid_up_to()),
         },
+    }
+}
+
+// The same of a content that begins at `from` and is decoded up to a place, which makes the first bytes of the tape;
+// with the index behind the string.
+#[inline(never)]
+fn decode_on(
+    tape: &mut Vec<u8>,
+    bytes: &[u8],
+    from: usize,
+    decoded: (usize, usize, bool),
+    keep: bool,
+) -> Result<(usize, usize), ReadError>
+    requires within { decoded.0 ≤ length bytes.now }
+    requires begin { from ≤ length bytes.now }
+    requires first { decoded.1 ≤ vec_len tape.old }
+    requires utf8 { IsTrue decoded.2 → IsUtf8 (take decoded.1 tape.old.items) }
+    ensures value { UnlessRefused result (λ r. Scans
+        (with_end (λ n. record { owned = true; bytes = take n tape.new.items })) r
+        (text_in_form (text_form keep) bytes.now from
+        (take decoded.1 tape.old.items ++ (body_at bytes.now decoded.0).bytes) true
+        (body_at bytes.now decoded.0).stop)) }
+    ensures text { IfOk result (λ r. IsUtf8 (take r.0 tape.new.items)) }
+    ensures front { IfOk result (λ r. r.0 ≤ vec_len tape.new) }
+{
+    let (at, first, utf8) = decoded;
+    let (count, known, ending) = decode_rest(tape, bytes, at, first, utf8)?;
+    let end = text_end(bytes, ending, keep)?;
+    match checked_count(&tape.as_slice()[..count], known, keep) {
+        Ok(fit) => Ok((fit, end)),
+        Err(right) => {
+            let fault = fault_at(FaultKind::InvalidUnicodeCodePoint, from + right);
+            Err(ReadError::Fault(fault))
+        }
     }
 }
 
@@ -476,15 +630,11 @@ pub fn decode_to(
     ensures text { IfOk result (λ r. IsUtf8 (take r.0 tape.new.items)) }
     ensures front { IfOk result (λ r. r.0 ≤ vec_len tape.new) }
 {
-    let (count, ending) = decode(tape, bytes, at + 1)?;
-    let end = text_end(bytes, ending, keep)?;
-    match checked_count(&tape.as_slice()[..count], keep) {
-        Ok(fit) => Ok((fit, end)),
-        Err(right) => {
-            let fault = fault_at(FaultKind::InvalidUnicodeCodePoint, at + 1 + right);
-            Err(ReadError::Fault(fault))
-        }
+    let (next, first, utf8) = decode_plain(tape, bytes, at + 1);
+    if utf8 && next < bytes.len() && bytes[next] == b'"' {
+        return Ok((first, next + 1));
     }
+    decode_on(tape, bytes, at + 1, (next, first, utf8), keep)
 }
 
 /// Reads the string whose opening quote is at the byte index `at`, and gives its text with the index behind

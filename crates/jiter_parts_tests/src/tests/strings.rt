@@ -64,6 +64,37 @@ fn decodes_escapes(rt: HostRuntime) {
 }
 
 #[test]
+fn decodes_with_room_and_bytes_ahead(rt: HostRuntime) {
+    let alloc = rt.alloc();
+    for (bytes, text) in [
+        (
+            b"\"a\\n\\u00e9\\tb\", and more bytes behind it".as_slice(),
+            Some("a\n\u{e9}\tb"),
+        ),
+        (
+            b"\"\\n\xc3\xa9\", and more bytes behind it",
+            Some("\n\u{e9}"),
+        ),
+        (
+            b"\"a\\nb\", \"\xc3\xa9\", and more bytes behind it",
+            Some("a\nb"),
+        ),
+        (b"\"\\n\xff\", and more bytes behind it", None),
+        (b"\"a\\n\x1f\", and more bytes behind it", None),
+        (b"\"a\\x\", and more bytes behind it", None),
+    ] {
+        let mut tape = Vec::new(alloc);
+        assert!(rt; tape.resize(64, b'x').is_ok());
+        let seen = match string_at(alloc, &mut tape, bytes, 0, false) {
+            Ok((CowStr::Owned(seen), _)) => text == Some(seen.as_str()),
+            Ok((CowStr::Borrowed(_), _)) => false,
+            Err(_) => text.is_none(),
+        };
+        assert!(rt; seen);
+    }
+}
+
+#[test]
 fn keeps_what_there_is_of_a_cut_text(rt: HostRuntime) {
     let alloc = rt.alloc();
     for (bytes, owned, text) in [

@@ -1,16 +1,27 @@
 -- Steps of the decoder: a run of plain bytes, and the escape behind it.
 use Rattle.std.proofs.Common.{◌≡◌, ℕ, ◌+◌, ◌<◌, ◌≤◌, true, false, List, ◌++◌, length, sym, arith, append_assoc}
-use Rattle.std.proofs.Common.{◌≢◌, Bool, subst, append-nil}
-use Rattle.std.specs.Prelude.{slice_get, slice_range, Some}
+use Rattle.std.proofs.Common.{◌≢◌, ◌-◌, Bool, subst, append-nil, ◌&&◌, ◌∙◌, refl, ap, zero, suc, [], ◌∷◌, take, drop}
+use Rattle.std.proofs.Common.{take-take}
+use Rattle.std.specs.Prelude.{slice_get, slice_range, Some, IsTrue, nat_eq, nat_lt}
+use Rattle.std.specs.List.{AllPass, list_all}
+use Rattle.std.proofs.lemmas.List.Sums.{AllPass-from_list_all}
+use lib.Lanes.{chunk}
+use Rattle.jiter_scan.specs.Simd.{failing}
+use Rattle.jiter_scan.proofs.Chunks.{none_fails}
+use Rattle.jiter_scan.proofs.Tapes.{put-front}
+use Rattle.std.specs.Str.{IsUtf8}
+use Rattle.std.proofs.lemmas.Str.{IsUtf8-append, IsUtf8-encode}
 use Rattle.std.proofs.lemmas.Bool.Decides.{nat_tests}
-use Rattle.jiter_scan.specs.Scan.{scan_stop}
+use Rattle.jiter_scan.specs.Scan.{scan_stop, is_ascii}
 use Rattle.jiter_steps.specs.StringReading.{part, over, portion_at, Stop, body_at, number, hex_digits_at}
-use Rattle.std.proofs.lemmas.Bool.{ne_eqb}
+use Rattle.std.proofs.lemmas.Bool.{ne_eqb, lt-ltb, false≢true}
+use Rattle.jiter_scan.proofs.Choices.{if-true}
 use Rattle.jiter_steps.proofs.Grammar.Places.{portion_at-explains, Explains}
 use Rattle.jiter_steps.proofs.Reading.Bodies.{body_at-portion_by, part-ahead}
 use Rattle.std.specs.Char.{encode_utf8, IsScalar}
 use Rattle.jiter_steps.specs.Escape.{short_escape, is_high, is_low}
-use Rattle.jiter_steps.proofs.Calls.PlainRuns.{plain_run_to, plain_run-within}
+use Rattle.jiter_steps.proofs.Calls.PlainRuns.{plain_run_front}
+use Rattle.jiter_steps.proofs.Calls.PlainAnswers.{plain-utf8}
 
 -- Escapes that one look shows to be whole, and no pair.
 module _ (t : List ℕ) (i : ℕ) (backslash : slice_get t i ≡ Some 92) where
@@ -31,42 +42,86 @@ module _ (t : List ℕ) (i : ℕ) (backslash : slice_get t i ≡ Some 92) where
       let end : i + 1 + 1 ≡ i + 2 = omega arith in
       rw (backslash, letter, ne_eqb b 117 other, sign, end)
 
--- of the string read from a place, the bytes decoded up to another stand on the tape, and the rest is read from there
-abbrev pub Decoded : List ℕ → List ℕ → ℕ → ℕ → Type 0
-Decoded t tape from at =
-    ((body_at t from).bytes ≡ tape ++ (body_at t at).bytes) × ((body_at t from).stop ≡ (body_at t at).stop)
+-- of these bytes, which end so, those up to a place stand on the tape, and the rest is read from there
+abbrev pub Decoded : List ℕ → List ℕ → Stop → List ℕ → ℕ → Type 0
+Decoded t whole s tape at = (whole ≡ tape ++ (body_at t at).bytes) × (s ≡ (body_at t at).stop)
 
--- a part is added
-part_more : (t tape bs : List ℕ) (from at j : ℕ) (o : Bool) → Decoded t tape from at → portion_at t at ≡ part bs o j
-    → Decoded t (tape ++ bs) from j × (at < j) × (j ≤ length t)
-part_more t tape bs from at j o d e =
-    let b = body_at-portion_by t at (part bs o j) e in
-    let ahead = part-ahead t at j bs o (subst (Explains t at) e (portion_at-explains t at)) in
-    ((rw (d.0, b, append_assoc), rw (d.1, b)), ahead.0, ahead.1)
-
--- the end
-part_over : (t tape : List ℕ) (from at : ℕ) (x : Stop) → Decoded t tape from at → portion_at t at ≡ over x
-    → (tape ≡ (body_at t from).bytes) × ((body_at t from).stop ≡ x)
-part_over t tape from at x d e =
-    let b = body_at-portion_by t at (over x) e in (rw (d.0, b, append-nil), rw (d.1, b))
-
--- a run of plain bytes is added
-module _ (t tape next : List ℕ) (from at to : ℕ) (so_far : Decoded t tape from at) (within : at ≤ length t)
-    (stop : to ≡ scan_stop t at) (added : next ≡ tape ++ slice_range t at to) where
-  run_more : Decoded t next from to
-  run_more =
-      let b = plain_run_to t at to within stop in
+module _ (t whole : List ℕ) (s : Stop) (tape : List ℕ) (at : ℕ) (so_far : Decoded t whole s tape at) where
+  -- so many plain bytes are added
+  pub decode-run : (next : List ℕ) (n : ℕ) → at ≤ length t → at + n ≤ scan_stop t at
+      → next ≡ tape ++ slice_range t at (at + n) → Decoded t whole s next (at + n)
+  decode-run next n within run added =
+      let b = plain_run_front t at n within run in
       (rw (so_far.0, b, added, append_assoc), rw (so_far.1, b))
 
-  -- and the character of an escape
-  pub decode-more : (after bs : List ℕ) (end : ℕ) → part bs true end ≡ portion_at t to → after ≡ next ++ bs
-      → Decoded t after from end × (at < end) × (end ≤ length t)
-  decode-more after bs end f a =
-      let m = part_more t next bs from to end true run_more (sym f) in
-      let ahead = plain_run-within t at within in
-      (rw a m.0, omega (arith, m.1, ahead.0, stop), m.2)
+  -- an escape
+  pub decode-more : (after bs : List ℕ) (end : ℕ) → part bs true end ≡ portion_at t at → after ≡ tape ++ bs
+      → Decoded t whole s after end × (at < end) × (end ≤ length t)
+  decode-more after bs end f added =
+      let b = body_at-portion_by t at (part bs true end) (sym f) in
+      let ahead = part-ahead t at end bs true (subst (Explains t at) (sym f) (portion_at-explains t at)) in
+      ((rw (so_far.0, b, added, append_assoc), rw (so_far.1, b)), ahead.0, ahead.1)
 
   -- or the string is over
-  pub decode-over : (x : Stop) → over x ≡ portion_at t to
-      → (next ≡ (body_at t from).bytes) × (x ≡ (body_at t from).stop)
-  decode-over x f = let m = part_over t next from to x run_more (sym f) in (m.0, sym m.1)
+  pub decode-over : (x : Stop) → over x ≡ portion_at t at → (tape ≡ whole) × (x ≡ s)
+  decode-over x f =
+      let b = body_at-portion_by t at (over x) (sym f) in (rw (so_far.0, b, append-nil), rw (so_far.1, b))
+
+-- What is known to be UTF-8 stays so, where plain bytes below 80 hex are added.
+pub known-run : (known low now : Bool) (tape run next : List ℕ) → (IsTrue known → IsUtf8 tape)
+    → (IsTrue low → AllPass is_ascii run) → now ≡ (known && low) → next ≡ tape ++ run → IsTrue now → IsUtf8 next
+known-run true true now tape run next k l both added h =
+    subst IsUtf8 (sym added) (IsUtf8-append tape run (k refl) (plain-utf8 run (l refl)))
+known-run true false now tape run next k l both added h = absurd (false≢true (sym both ∙ h))
+known-run false low now tape run next k l both added h = absurd (false≢true (sym both ∙ h))
+
+-- and the character of an escape
+pub known-escape : (t tape after bs : List ℕ) (at end : ℕ) → IsUtf8 tape → part bs true end ≡ portion_at t at
+    → after ≡ tape ++ bs → IsUtf8 after
+known-escape t tape after bs at end u f added =
+    let e = subst (Explains t at) (sym f) (portion_at-explains t at) in
+    let utf8 : IsUtf8 bs = subst IsUtf8 (sym e.is) (IsUtf8-encode e.character e.scalar) in
+    subst IsUtf8 (sym added) (IsUtf8-append tape bs u utf8)
+
+-- those before a place pass where all do
+front-passes : (test : ℕ → Bool) (n : ℕ) (w : List ℕ) → list_all test w ≡ true → list_all test (take n w) ≡ true
+front-passes test zero w h = refl
+front-passes test (suc n) [] h = refl
+front-passes test (suc n) (c ∷ w) h = by (test c) h (front-passes test n w) where
+  by : (b : Bool) → (b && list_all test w) ≡ true → (list_all test w ≡ true → list_all test (take n w) ≡ true)
+      → (b && list_all test (take n w)) ≡ true
+  by true h go = go h
+  by false h go = absurd (false≢true h)
+
+-- a byte of ASCII is its UTF-8
+pub encode-sign : (c : ℕ) → c < 128 → c ∷ [] ≡ encode_utf8 c
+unfolding encode_utf8
+encode-sign c h = sym (if-true (nat_lt c 128) _ _ (lt-ltb c 128 h))
+
+-- Behind the first bytes of the tape a chunk of the text is written, of which so many bytes are plain.
+module _ (t tape next : List ℕ) (at count n : ℕ) (room : count ≤ length tape) (few : n ≤ 16)
+    (put : take (count + 16) next ≡ take count tape ++ chunk at 16 t) where
+  chunk-added : take (count + n) next ≡ take count tape ++ slice_range t at (at + n)
+  chunk-added = put-front t tape next at count n room few put
+
+  pub chunk-decoded : (whole : List ℕ) (s : Stop) → Decoded t whole s (take count tape) at → at ≤ length t
+      → at + n ≤ scan_stop t at → Decoded t whole s (take (count + n) next) (at + n)
+  chunk-decoded whole s so_far within run =
+      decode-run t whole s (take count tape) at so_far (take (count + n) next) n within run chunk-added
+
+  -- known to be UTF-8 where the whole chunk is below 80 hex
+  pub chunk-known : (known now : Bool) (high : ℕ) → (IsTrue known → IsUtf8 (take count tape))
+      → now ≡ (known && nat_eq high 0) → high ≡ failing is_ascii (chunk at 16 t) → IsTrue now
+      → IsUtf8 (take (count + n) next)
+  chunk-known known now high k both is h =
+      let size : n ≡ at + n - at = omega arith in
+      let same : take n (chunk at 16 t) ≡ slice_range t at (at + n) =
+      take-take n 16 (drop at t) few ∙ ap (λ m. take m (drop at t)) size in
+      let ascii : IsTrue (nat_eq high 0) → AllPass is_ascii (slice_range t at (at + n)) =
+      λ low.
+      let none : high ≡ 0 = grind (arith, nat_tests, low) in
+      subst (AllPass is_ascii) same
+      (AllPass-from_list_all is_ascii (take n (chunk at 16 t))
+      (front-passes is_ascii n (chunk at 16 t) (none_fails is_ascii t at 16 (sym is ∙ none)))) in
+      known-run known (nat_eq high 0) now (take count tape) (slice_range t at (at + n)) (take (count + n) next) k ascii
+      both chunk-added h

@@ -1,7 +1,7 @@
 -- The plain bytes of a string stand for themselves, up to the first stop.
 use Rattle.std.proofs.Common.{◌≡◌, ℕ, zero, suc, ◌+◌, ◌<◌, ◌≤◌, true, false, List, [], length, drop, sym, ap, ◌∙◌}
-use Rattle.std.proofs.Common.{arith, ◌∷◌}
-use Rattle.std.specs.Prelude.{slice_get, slice_range, Some, slice_index}
+use Rattle.std.proofs.Common.{arith, ◌∷◌, refl}
+use Rattle.std.specs.Prelude.{slice_get, slice_range, slice_index, Option, Some, None, IfSome}
 use Rattle.std.specs.List.{prefix_len}
 use Rattle.std.proofs.lemmas.Bool.Decides.{nat_tests}
 use Rattle.std.proofs.lemmas.List.Edits.{between_none, between_more}
@@ -42,23 +42,30 @@ module _ (t : List ℕ) where
   pub plain_run_stops : (i b : ℕ) → slice_get t (scan_stop t i) ≡ Some b → is_stop b ≡ true
   plain_run_stops i b e = stop-again b (run_end-stops is_plain t i b e)
 
+  -- of the place where a run ends
+  pub plain_stop : (i to : ℕ) → to ≡ scan_stop t i → IfSome (slice_get t to) (λ b. is_stop b ≡ true)
+  plain_stop i to e = by (slice_get t to) refl where
+    by : (o : Option ℕ) → slice_get t to ≡ o → IfSome o (λ b. is_stop b ≡ true)
+    by None h = tt
+    by (Some b) h = plain_run_stops i b (ap (slice_get t) (sym e) ∙ h)
+
   -- so many plain bytes
-  run : (i k : ℕ) → i ≤ length t → i + k ≤ scan_stop t i
+  pub plain_run_front : (i k : ℕ) → i ≤ length t → i + k ≤ scan_stop t i
       → body_at t i ≡ before (slice_range t i (i + k)) false (body_at t (i + k))
-  run i zero w h =
+  plain_run_front i zero w h =
       let none : slice_range t i i ≡ [] = between_none t i in
       let at : i ≡ i + 0 = omega arith in
       ap (λ l. before l false (body_at t i)) (sym none) ∙ ap (λ j. before (slice_range t i j) false (body_at t j)) at
-  run i (suc k) w h =
+  plain_run_front i (suc k) w h =
       let plain = run_end-passes is_plain t i (i + k) (omega arith) (omega arith) in
       let at : i + k + 1 ≡ i + suc k = omega arith in
-      plain_more t i (i + k) (run i k w (omega arith)) (omega arith) (omega (arith, run_end-within is_plain t i w))
+      plain_more t i (i + k) (plain_run_front i k w (omega arith)) (omega arith) (omega (arith, run_end-within is_plain t i w))
       (plain-printed _ plain)
       ∙ ap (λ j. before (slice_range t i j) false (body_at t j)) at
 
   pub plain_run : (i : ℕ) → i ≤ length t
       → body_at t i ≡ before (slice_range t i (scan_stop t i)) false (body_at t (scan_stop t i))
-  plain_run i h = run i (prefix_len is_plain (drop i t)) h (omega arith)
+  plain_run i h = plain_run_front i (prefix_len is_plain (drop i t)) h (omega arith)
 
   pub plain_run_to : (i to : ℕ) → i ≤ length t → to ≡ scan_stop t i
       → body_at t i ≡ before (slice_range t i to) false (body_at t to)

@@ -1,44 +1,25 @@
-use Rattle.std.proofs.Common.{◌+◌, ◌∙◌, true, refl, ap, take}
-use Rattle.std.proofs.lemmas.Result.{err_from_is_err_and}
-use Rattle.jiter_scan.specs.Scanned.{taken}
-use Rattle.jiter_steps.specs.StringReading.{text_form, body_at}
-use Rattle.jiter_steps.proofs.Calls.Decoded.{decoded, front-front}
+use Rattle.std.proofs.Common.{◌∙◌, refl, ap}
+use Rattle.std.specs.Prelude.{Some}
+use Rattle.std.proofs.lemmas.Option.{slice_get-get_or}
+use Rattle.jiter_steps.specs.StringReading.{text_form}
+use Rattle.jiter_steps.proofs.Calls.Decoded.{decoded-closed}
 use Rattle.jiter_steps.proofs.Calls.StringAnswers.{string-escaped}
 use Rattle.jiter_steps.proofs.string_decoder.decode_to.Goals as goal
 
-pub returns-in_err-end-clause-value : goal.returns-in_err-end-clause-value
-returns-in_err-end-clause-value c =
+pub returns-then-bytes-next-eq34-clause-value : goal.returns-then-bytes-next-eq34-clause-value
+returns-then-bytes-next-eq34-clause-value c =
     let t = c.args.bytes.now in
     let r = c.requires in
-    let d = c.in_ok-count.ensures in
-    let p = err_from_is_err_and c.from_residual-in_err-end.result c.from_residual-in_err-end.ensures.1 in
-    let here = string-escaped t c.args.at r.within _ refl (text_form c.args.keep) r.backslash in
-    rw (p.1, p.2) (rw (here, ← d.stop) (c.in_err-end.ensures (c.args.at + 1) _ _))
+    let p = c.decode_plain-next in
+    let next = p.result.0 in
+    let quote = slice_get-get_or t next 0 c.if-next-bytes.true ∙ ap Some c.if-bytes-next-eq34.true in
+    decoded-closed t c.args.at r.within c.args.keep r.backslash _ next p.ensures.text p.ensures.stop quote
+    (p.ensures.utf8 c.if-utf8.true)
 
-pub returns-in-Ok-clause-value : goal.returns-in-Ok-clause-value
-returns-in-Ok-clause-value c =
+pub returns-clause-value : goal.returns-clause-value
+returns-clause-value c =
     let t = c.args.bytes.now in
-    let i = c.args.at + 1 in
     let r = c.requires in
-    let d = c.in_ok-count.ensures in
-    let count = c.in_ok-count.count in
-    let items = c.as_slice.ensures.value in
-    let over = c.in_ok-end.ensures i (body_at t i).bytes true in
-    decoded t c.args.at r.within c.args.keep r.backslash _ c.in_ok-end.end _ (ap (take count) items ∙ d.text) d.stop
-    over
-    ∙ c.in-Ok.ensures.value i c.in_ok-end.end
-    ∙ ap (λ w. taken (record { owned = true; bytes = w }) c.in_ok-end.end)
-    (front-front _ count c.in-Ok.fit c.in-Ok.ensures.front ∙ ap (take c.in-Ok.fit) items)
-
-pub returns-in-Err-clause-value : goal.returns-in-Err-clause-value
-returns-in-Err-clause-value c =
-    let t = c.args.bytes.now in
-    let i = c.args.at + 1 in
-    let r = c.requires in
-    let d = c.in_ok-count.ensures in
-    let count = c.in_ok-count.count in
-    let items = c.as_slice.ensures.value in
-    let over = c.in_ok-end.ensures i (body_at t i).bytes true in
-    rw c.fault_at-fault.ensures
-    (decoded t c.args.at r.within c.args.keep r.backslash _ c.in_ok-end.end _ (ap (take count) items ∙ d.text) d.stop
-    over ∙ c.in-Err.ensures.value i c.in_ok-end.end)
+    let p = c.decode_plain-next.ensures in
+    rw (string-escaped t c.args.at r.within _ refl (text_form c.args.keep) r.backslash, p.text, p.stop)
+    c.decode_on.ensures.value

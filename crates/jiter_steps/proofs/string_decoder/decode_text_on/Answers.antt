@@ -1,0 +1,19 @@
+use Rattle.std.proofs.Common.{◌++◌, ◌∙◌, true, ap, take}
+use Rattle.std.proofs.lemmas.Result.{err_from_is_err_and}
+use Rattle.jiter_steps.specs.StringReading.{body_at}
+use Rattle.jiter_steps.proofs.string_decoder.decode_text_on.Goals as goal
+
+pub returns-in_err-end : goal.returns-in_err-end
+returns-in_err-end c =
+    let d = c.in_ok-count.ensures in
+    let p = err_from_is_err_and c.from_residual-in_err-end.result c.from_residual-in_err-end.ensures.1 in
+    rw (p.1, p.2) (rw (← d.stop) (c.in_err-end.ensures c.args.from _ _))
+
+pub returns : goal.returns
+returns c =
+    let t = c.args.bytes.now in
+    let d = c.in_ok-count.ensures in
+    let text = ap (take c.in_ok-count.count) c.as_slice.ensures.value ∙ d.text in
+    let over = c.in_ok-end.ensures c.args.from
+    (take c.args.decoded.1 c.args.tape.now.items ++ (body_at t c.args.decoded.0).bytes) true in
+    rw (← d.stop, over, ← text) c.own_text.ensures
