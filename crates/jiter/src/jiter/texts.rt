@@ -146,6 +146,36 @@ impl<'j> Jiter<'j> {
         self.read_str(alloc, start)
     }
 
+    // The text that comes next, whatever it is.
+    #[inline(always)]
+    fn general_str(&mut self, alloc: Global) -> JiterResult<&str>
+        ensures text { IfOk result (λ x. (e : ℕ)
+            × (reply_seen text_bytes (next self.old (str_read self.old)) ≡ gave x.now e)) }
+        ensures refusal { RefusesAs result (next self.old (str_read self.old)) }
+        ensures index { IndexWithin self.old.text result }
+        ensures memory { WhereMemory result (λ _.
+            BeginsAt self.old.text (value_place self.old) Start.String
+            × WantsMemory self.old.text (value_place self.old)) }
+        ensures place { WhereMemory result (λ e. e.index ≡ value_place self.old) }
+        ensures* after { sem 𝓛 (LeavesReader (λ x. x.now) result self.entry
+            (reply_seen text_bytes (next self.old (str_read self.old)))) }
+    {
+        let mut tape = self.take_tape(alloc);
+        let (bytes, keep) = self.source();
+        match decode_next(&mut tape, bytes, self.current_index(), keep) {
+            Some((count, end)) => {
+                self.tape = Some(tape);
+                self.parser.index = end;
+                Ok(text_on(&self.tape, count))
+            }
+            None => {
+                self.put_tape(tape);
+                self.text = self.take_str(alloc)?;
+                Ok(self.text.as_str())
+            }
+        }
+    }
+
     /// Reads a string, and lends its text, decoded (RFC 8259, 7). The text lies in the reader's bytes where
     /// its source has no backslash.
     pub fn next_str(&mut self, alloc: Global) -> JiterResult<&str>
@@ -163,20 +193,7 @@ impl<'j> Jiter<'j> {
         if let Some(text) = self.plain_str() {
             return Ok(text);
         }
-        let mut tape = self.take_tape(alloc);
-        let (bytes, keep) = self.source();
-        match decode_next(&mut tape, bytes, self.current_index(), keep) {
-            Some((count, end)) => {
-                self.tape = Some(tape);
-                self.parser.index = end;
-                Ok(text_on(&self.tape, count))
-            }
-            None => {
-                self.put_tape(tape);
-                self.text = self.take_str(alloc)?;
-                Ok(self.text.as_str())
-            }
-        }
+        self.general_str(alloc)
     }
 
     /// The same where its opening quote stands.
