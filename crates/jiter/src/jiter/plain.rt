@@ -1,18 +1,19 @@
 //! The plain way of the pull reader: what comes next where one look tells it, with answers that stay in registers. Of
 //! what is not plain nothing is read, and the reader stays where it stands.
-ghost use Rattle.std.specs.Prelude.{◌≡◌, ◌+◌, ◌<◌, ◌≤◌, Bool, IfSome, None, Some, false, true, length, option_map};
-ghost use Rattle.std.specs.Prelude.{slice_get, slice_index};
+ghost use Rattle.std.specs.Prelude.{◌≡◌, ◌+◌, ◌<◌, ◌≤◌, Bool, IfErr, IfOk, IfSome, None, Some, false, true};
+ghost use Rattle.std.specs.Prelude.{length, option_map, slice_get, slice_index};
 ghost use Rattle.jiter_scan.specs.Ascii as ascii;
 ghost use Rattle.jiter_scan.specs.Scanned.{taken};
 ghost use Rattle.jiter_steps.specs.Blank.{past_blanks};
 ghost use Rattle.jiter_steps.specs.Plain.{IsNext};
 ghost use Rattle.jiter_steps.specs.Step.{Step, step, array_first, array_step, object_first, object_step, container_comma};
+ghost use Rattle.jiter_steps.specs.StringDecoder.{WantsMemory};
 ghost use Rattle.jiter_steps.specs.StringReading.{string_at, text_form, whole};
 ghost use Rattle.jiter_steps.specs.declared.parse.Literal.{Literal};
 ghost use Rattle.jiter_steps.specs.declared.parse.Shape.{Shape};
 ghost use Rattle.jiter_steps.specs.declared.parse.Start.{Start};
 ghost use Rattle.jiter_steps.specs.Literal.{literal_at, start_of};
-ghost use Rattle.jiter.specs.Reader.{next, gave, null_read, bool_read, number_bytes_read, str_read};
+ghost use Rattle.jiter.specs.Reader.{value_place, next, gave, null_read, bool_read, number_bytes_read, str_read};
 ghost use Rattle.jiter.specs.Reader.{item_reply, array_read, key_reply, member_reply, object_read, key_step};
 ghost use Rattle.jiter.specs.Jiter.{MovesOn, StandsAt, StandsBefore, byte_of, reply_seen, text_bytes, key_bytes};
 
@@ -174,7 +175,31 @@ fn next_member(bytes: &[u8], from: usize) -> (usize, Next)
     }
 }
 
-// The text of the string at a place, if it has no backslash and is UTF-8.
+// The text of the string at a place, if it has no backslash and is UTF-8; and whether it has one before all else that is
+// no plain byte.
+#[inline(always)]
+fn text_look<'j>(bytes: &'j [u8], at: usize) -> (Option<&'j str>, bool)
+    requires { at < length bytes.now }
+    ensures value { IfSome result.0 (λ text. (keep : Bool) → string_at (text_form keep) bytes.now at
+        ≡ taken (record { owned = false; bytes = text.now }) (at + length text.now + 2)) }
+    ensures within { IfSome result.0 (λ text. at + length text.now + 2 ≤ length bytes.now) }
+    ensures escaped { result.1 ≡ true → WantsMemory bytes.now at }
+{
+    let (to, low) = scan_string(bytes, at + 1);
+    if to >= bytes.len() {
+        return (None, false);
+    }
+    if bytes[to] != b'"' {
+        return (None, bytes[to] == b'\\');
+    }
+    if low {
+        (Some(ascii_between(bytes, at, to)), false)
+    } else {
+        (text_between(bytes, at, to), false)
+    }
+}
+
+// The text alone.
 #[inline(always)]
 fn plain_text<'j>(bytes: &'j [u8], at: usize) -> Option<&'j str>
     requires { at < length bytes.now }
@@ -182,15 +207,7 @@ fn plain_text<'j>(bytes: &'j [u8], at: usize) -> Option<&'j str>
         ≡ taken (record { owned = false; bytes = text.now }) (at + length text.now + 2)) }
     ensures within { IfSome result (λ text. at + length text.now + 2 ≤ length bytes.now) }
 {
-    let (to, low) = scan_string(bytes, at + 1);
-    if to >= bytes.len() || bytes[to] != b'"' {
-        return None;
-    }
-    if low {
-        Some(ascii_between(bytes, at, to))
-    } else {
-        text_between(bytes, at, to)
-    }
+    text_look(bytes, at).0
 }
 
 impl<'j> Jiter<'j> {
@@ -270,31 +287,43 @@ impl<'j> Jiter<'j> {
         }
     }
 
-    // The text of the string at a place, if it is plain, to whose end the reader moves.
+    // The text of the string at a place, if it is plain, to whose end the reader moves; else whether it has a backslash.
     #[inline(always)]
-    pub(super) fn plain_text_at(&mut self, at: usize) -> Option<&'j str>
+    fn plain_text_at(&mut self, at: usize) -> Result<&'j str, bool>
         requires within { (self.old.position ≤ at) × (at < length self.old.text) }
         ensures moves { MovesOn self.old self.new }
-        ensures value { IfSome result (λ text. (keep : Bool) → string_at (text_form keep) self.old.text at
+        ensures value { IfOk result (λ text. (keep : Bool) → string_at (text_form keep) self.old.text at
             ≡ taken (record { owned = false; bytes = text.now }) self.new.position) }
-        ensures same { result ≡ None → self.new ≡ self.old }
+        ensures escaped { IfErr result (λ e. e ≡ true → WantsMemory self.old.text at) }
+        ensures same { IfErr result (λ _. self.new ≡ self.old) }
     {
-        let text = plain_text(self.parser.bytes, at)?;
-        self.parser.index = at + text.len() + 2;
-        Some(text)
+        match text_look(self.parser.bytes, at) {
+            (Some(text), _) => {
+                self.parser.index = at + text.len() + 2;
+                Ok(text)
+            }
+            (None, escaped) => Err(escaped),
+        }
     }
 
-    // The text that comes next, if it is plain.
+    // The text that comes next, if it is plain; else the place of the string with a backslash that comes next, if one does.
     #[inline(always)]
-    pub(super) fn plain_str(&mut self) -> Option<&'j str>
+    pub(super) fn plain_str(&mut self) -> Result<&'j str, Option<usize>>
         ensures moves { MovesOn self.old self.new }
-        ensures value { IfSome result (λ text. reply_seen text_bytes (next self.old (str_read self.old))
+        ensures value { IfOk result (λ text. reply_seen text_bytes (next self.old (str_read self.old))
             ≡ gave text.now self.new.position) }
-        ensures same { result ≡ None → self.new ≡ self.old }
+        ensures place { IfErr result (λ o. IfSome o (λ at. at ≡ value_place self.old)) }
+        ensures quote { IfErr result (λ o. IfSome o (λ at. slice_get self.old.text at ≡ Some ascii.quote)) }
+        ensures escaped { IfErr result (λ o. IfSome o (WantsMemory self.old.text)) }
+        ensures same { IfErr result (λ _. self.new ≡ self.old) }
     {
         match look(self.parser.bytes, self.parser.index) {
-            (at, Some(b'"')) => self.plain_text_at(at),
-            _ => None,
+            (at, Some(b'"')) => match self.plain_text_at(at) {
+                Ok(text) => Ok(text),
+                Err(true) => Err(Some(at)),
+                Err(false) => Err(None),
+            },
+            _ => Err(None),
         }
     }
 
