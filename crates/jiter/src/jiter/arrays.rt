@@ -100,7 +100,7 @@ impl<'j> Jiter<'j> {
         ensures here { TellsHere result self.new }
         ensures refusal { RefusesBytes self.old.text result }
     {
-        self.read_array(Start::Array)
+        self.next_array()
     }
 
     // The step behind an item, whatever it leads to.

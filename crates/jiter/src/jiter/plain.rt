@@ -27,7 +27,7 @@ use jiter_steps::plain::{Next, ascii_between, peek, plain_literal_end, text_betw
 // The first byte from a place on that is no blank, if there is one, with its place; where it stands there already, with
 // one look.
 #[inline(always)]
-fn look(bytes: &[u8], from: usize) -> (usize, Option<u8>)
+pub(super) fn look(bytes: &[u8], from: usize) -> (usize, Option<u8>)
     requires { from ≤ length bytes.now }
     ensures place { result.0 ≡ past_blanks bytes.now from }
     ensures byte { result.1 ≡ slice_get bytes.now result.0 }

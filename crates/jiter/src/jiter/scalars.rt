@@ -94,7 +94,7 @@ impl<'j> Jiter<'j> {
         ensures value { Replies (λ u. u) result self.new (known self.old (null_read self.old)) }
         ensures refusal { RefusesBytes self.old.text result }
     {
-        self.read_null(Start::Literal(Literal::Null))
+        self.next_null()
     }
 
     // `true` or `false`, at a value that begins so.
@@ -154,7 +154,12 @@ impl<'j> Jiter<'j> {
         ensures value { Replies (λ b. b) result self.new (known self.old (bool_read self.old)) }
         ensures refusal { RefusesBytes self.old.text result }
     {
-        self.read_bool(start_of(peek.into_inner()))
+        let byte = peek.into_inner();
+        if byte > b' ' {
+            self.next_bool()
+        } else {
+            self.read_bool(start_of(byte))
+        }
     }
 
     // A number, at a value that begins so.
@@ -312,6 +317,11 @@ impl<'j> Jiter<'j> {
             (known self.old (number_bytes_read self.old)) }
         ensures refusal { RefusesBytes self.old.text result }
     {
-        self.read_number_bytes(start_of(peek.into_inner()))
+        let byte = peek.into_inner();
+        if byte > b' ' {
+            self.next_number_bytes()
+        } else {
+            self.read_number_bytes(start_of(byte))
+        }
     }
 }
