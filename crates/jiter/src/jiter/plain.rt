@@ -137,6 +137,9 @@ pub(super) fn next_item(bytes: &[u8], from: usize) -> (usize, Next)
     ensures within { (from ≤ result.0) × (result.0 ≤ length bytes.now) }
     ensures part { result.1 ≡ Next.Part → result.0 < length bytes.now }
 {
+    if from < bytes.len() && bytes[from] == b',' {
+        return item_behind_comma(bytes, from + 1);
+    }
     let (at, byte) = look(bytes, from);
     match byte {
         None => (at, Next::Stuck),
@@ -160,6 +163,9 @@ fn next_member(bytes: &[u8], from: usize) -> (usize, Next)
     ensures within { (from ≤ result.0) × (result.0 ≤ length bytes.now) }
     ensures part { result.1 ≡ Next.Part → result.0 < length bytes.now }
 {
+    if from < bytes.len() && bytes[from] == b',' {
+        return member_behind_comma(bytes, from + 1);
+    }
     let (at, byte) = look(bytes, from);
     match byte {
         None => (at, Next::Stuck),
