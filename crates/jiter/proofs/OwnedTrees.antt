@@ -12,21 +12,13 @@ use Rattle.jiter_steps.specs.Answer.{seen_as, whole_trees}
 use Rattle.jiter_steps.specs.declared.parse.Literal.{Literal}
 use Rattle.jiter_steps.specs.declared.parse.Literal.TheVariants as literal
 use Rattle.jiter_steps.proofs.Reading.Fused.{AllTold, Leads, mapped, scanned_as, pairs, value_at-mapped}
-use Rattle.jiter_value.specs.Owned.{owned_text, owned_tree, owned_items, owned_members}
+use Rattle.jiter_value.specs.Owned.{owned_text, owned_tree}
+use Rattle.jiter_value.proofs.Owning.{owned_items-of, owned_members-of}
 use Rattle.jiter.specs.Client.{owned_trees, built}
 use Rattle.jiter.specs.Jiter.{MovesOn, LeavesAt, Replies, UnlessMemory, StandsAt, reply_seen}
 use Rattle.jiter.specs.Reader.{ReaderState, with_position, value_place, if_byte, next, value_reply, value_read}
 use Rattle.jiter.specs.declared.errors.JiterError.{JiterError}
 use Rattle.jiter.proofs.Building.{known-first}
-
-items_of-owned : (vs : List Tree) → owned_items (items_of vs) ≡ items_of (map owned_tree vs)
-items_of-owned [] = refl
-items_of-owned (v ∷ vs) = ap (item (owned_tree v)) (items_of-owned vs)
-
-members_of-owned : (ms : List (Text × Tree))
-    → owned_members (members_of ms) ≡ members_of (pairs owned_text owned_tree ms)
-members_of-owned [] = refl
-members_of-owned (m ∷ ms) = ap (member (owned_text m.0) (owned_tree m.1)) (members_of-owned ms)
 
 owned-literal : (l : Literal) → owned_tree (literal_tree l) ≡ literal_tree l
 owned-literal literal.Null = refl
@@ -51,8 +43,8 @@ module _ (names : Bool) (t : List ℕ) where
     number = λ i lt begins told. seen-owned owned_tree _ _ (number_at names t i) (λ n e. refl);
     text = λ i quote told. seen-owned owned_tree _ _ (string_at whole t i) (λ s e. refl);
     key = λ i quote told. key-owned (string_at whole t i);
-    array = λ b e items. ap tree.array (items_of-owned items);
-    object = λ b e members. ap tree.object (members_of-owned members);
+    array = λ b e items. ap tree.array (owned_items-of items);
+    object = λ b e members. ap tree.object (owned_members-of members);
   }
 
   value_at-owned : (levels i : ℕ)

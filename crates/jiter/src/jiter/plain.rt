@@ -6,7 +6,8 @@ ghost use Rattle.jiter_scan.specs.Ascii as ascii;
 ghost use Rattle.jiter_scan.specs.Scanned.{taken};
 ghost use Rattle.jiter_steps.specs.Blank.{past_blanks};
 ghost use Rattle.jiter_steps.specs.Plain.{IsNext};
-ghost use Rattle.jiter_steps.specs.Step.{Step, step, array_first, array_step, object_first, object_step, container_comma};
+ghost use Rattle.jiter_steps.specs.Step.{Step, step, array_first, array_step, object_first, object_step};
+ghost use Rattle.jiter_steps.specs.Step.{container_comma};
 ghost use Rattle.jiter_steps.specs.StringDecoder.{WantsMemory};
 ghost use Rattle.jiter_steps.specs.StringReading.{string_at, text_form, whole};
 ghost use Rattle.jiter_steps.specs.declared.parse.Literal.{Literal};
@@ -181,8 +182,8 @@ fn next_member(bytes: &[u8], from: usize) -> (usize, Next)
     }
 }
 
-// The text of the string at a place, if it has no backslash and is UTF-8; and whether it has one before all else that is
-// no plain byte.
+// The text of the string at a place, if it has no backslash and is UTF-8; and whether it has one before all else that
+// is no plain byte.
 #[inline(always)]
 fn text_look<'j>(bytes: &'j [u8], at: usize) -> (Option<&'j str>, bool)
     requires { at < length bytes.now }
@@ -293,7 +294,8 @@ impl<'j> Jiter<'j> {
         }
     }
 
-    // The text of the string at a place, if it is plain, to whose end the reader moves; else whether it has a backslash.
+    // The text of the string at a place, if it is plain, to whose end the reader moves; else whether it has a
+    // backslash.
     #[inline(always)]
     fn plain_text_at(&mut self, at: usize) -> Result<&'j str, bool>
         requires within { (self.old.position ≤ at) × (at < length self.old.text) }
@@ -312,7 +314,8 @@ impl<'j> Jiter<'j> {
         }
     }
 
-    // The text that comes next, if it is plain; else the place of the string with a backslash that comes next, if one does.
+    // The text that comes next, if it is plain; else the place of the string with a backslash that comes next, if
+    // one does.
     #[inline(always)]
     pub(super) fn plain_str(&mut self) -> Result<&'j str, Option<usize>>
         ensures moves { MovesOn self.old self.new }

@@ -1,4 +1,4 @@
-use Rattle.std.proofs.Common.{◌≡◌, ◌∙◌, ap, sym, arith}
+use Rattle.std.proofs.Common.{◌≡◌, ◌∙◌, ◌<◌, ap, sym, arith}
 use Rattle.std.specs.Prelude.{slice_index}
 use Rattle.std.proofs.lemmas.Option.{get_or_from_slice_get}
 use Rattle.jiter_steps.specs.Literal.{start_of}
@@ -9,8 +9,8 @@ use Rattle.jiter.proofs.jiter.Jiter.known_number_bytes.Goals as goal
 pub returns-then-byte-gt32-clause-value : goal.returns-then-byte-gt32-clause-value
 returns-then-byte-gt32-clause-value c =
     let s = c.args.self.now in
-    rw (known-above s (number_bytes_read s) c.args.peek.0 c.requires (omega (arith, c.if-byte-gt32.true, c.into_inner-byte.ensures)))
-    c.next_number_bytes.ensures.value
+    let above : 32 < c.args.peek.0 = omega (arith, c.if-byte-gt32.true, c.into_inner-byte.ensures) in
+    rw (known-above s (number_bytes_read s) c.args.peek.0 c.requires above) c.next_number_bytes.ensures.value
 
 pub returns-else-byte-gt32-clause-value : goal.returns-else-byte-gt32-clause-value
 returns-else-byte-gt32-clause-value c =
