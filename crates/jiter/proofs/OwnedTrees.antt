@@ -1,17 +1,17 @@
 -- What the client builds is the value that is read, each of its texts owned.
-use Rattle.std.proofs.Common.{◌≡◌, ◌∙◌, refl, sym, ap, ℕ, Bool, List, [], ◌∷◌, map, subst, Result}
+use Rattle.std.proofs.Common.{◌≡◌, ◌∙◌, refl, sym, ap, ℕ, Bool, List, subst, Result}
 use Rattle.jiter_scan.specs.Scanned.{Scanned, taken, failed}
 use Rattle.jiter_scan.specs.NumberReading.{number_at}
 use Rattle.jiter_steps.specs.Literal.{literal_at, literal_tree, start_of}
 use Rattle.jiter_steps.specs.Node.{nesting_limit}
 use Rattle.jiter_steps.specs.StringReading.{whole, string_at}
-use Rattle.jiter_steps.specs.Tree.{Text, Tree, item, member, items_of, members_of}
+use Rattle.jiter_steps.specs.Tree.{Text, Tree}
 use Rattle.jiter_steps.specs.Tree as tree
 use Rattle.jiter_steps.specs.Read.{Reading, done, fault, value_at}
 use Rattle.jiter_steps.specs.Answer.{seen_as, whole_trees}
 use Rattle.jiter_steps.specs.declared.parse.Literal.{Literal}
 use Rattle.jiter_steps.specs.declared.parse.Literal.TheVariants as literal
-use Rattle.jiter_steps.proofs.Reading.Fused.{AllTold, Leads, mapped, scanned_as, pairs, value_at-mapped}
+use Rattle.jiter_steps.proofs.Reading.Fused.{AllTold, Leads, mapped, scanned_as, value_at-mapped}
 use Rattle.jiter_value.specs.Owned.{owned_text, owned_tree}
 use Rattle.jiter_value.proofs.Owning.{owned_items-of, owned_members-of}
 use Rattle.jiter.specs.Client.{owned_trees, built}
