@@ -1,7 +1,8 @@
 -- A second peek replies as the first, a known_ call as the next_ call, and a refused read of a scalar leaves the reader
 -- where the value begins.
 use Rattle.std.proofs.Common.{◌≡◌, ℕ, true, false, refl, ap, sym, subst, Option, Some, None, List, slice_get}
-use Rattle.std.proofs.Common.{slice_index, slice_range}
+use Rattle.std.proofs.Common.{slice_index, slice_range, ◌<◌, arith}
+use Rattle.std.proofs.lemmas.Bool.Decides.{nat_tests}
 use Rattle.std.proofs.lemmas.Option.{get_or_from_slice_get}
 use Rattle.jiter_scan.proofs.Runs.{run_end-here}
 use Rattle.jiter_steps.proofs.Grammar.Blanks.{no_blank-behind}
@@ -115,3 +116,8 @@ known-next s read c e other =
     let here : value_place s ≡ s.position = run_end-here is_blank s.text s.position (Some c) e other in
     let peeked = known-peeked s read c (subst (λ i. slice_get s.text i ≡ Some c) (sym here) e) in
     subst (λ i. known (with_position s i) read ≡ next s read) here peeked
+
+-- where such a byte stands above the blank
+pub known-above : {A : Type 0} (s : ReaderState) (read : ℕ → Start → Reply A) (c : ℕ)
+    → StandsAt s c → 32 < c → known s read ≡ next s read
+known-above s read c here above = known-next s read c here (grind (arith, nat_tests, above))

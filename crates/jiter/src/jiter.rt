@@ -10,12 +10,11 @@ ghost use Rattle.jiter.specs.Jiter.{at_start, MovesOn, Replies, RefusesBytes, Is
 ghost use Rattle.jiter.specs.Jiter.{StandsAt, BeginsAs, byte_of};
 
 use crate::errors::{JiterError, JiterErrorType, JiterResult, JsonType};
+use crate::jiter::plain::look;
 use crate::peek::Peek;
 use jiter_scan::errors::{Fault, FaultKind, fault_at};
 use jiter_scan::number_decoder::number_at;
-use jiter_scan::word::byte_at;
 use jiter_scan::{JsonError, NumberAny};
-use jiter_steps::blank::past_blanks;
 use jiter_steps::parse::{Literal, Parser, Start, start_of};
 use jiter_steps::read_error::ReadError;
 use jiter_value::reading::error_at;
@@ -184,8 +183,9 @@ impl<'j> Jiter<'j> {
         ensures place { self.new.position ≡ value_place self.old }
         ensures value { result ≡ slice_get self.old.text self.new.position }
     {
-        self.parser.index = past_blanks(self.parser.bytes, self.parser.index);
-        byte_at(self.parser.bytes, self.parser.index)
+        let (at, byte) = look(self.parser.bytes, self.parser.index);
+        self.parser.index = at;
+        byte
     }
 
     /// Moves over blanks to the next byte, whatever it is, and tells it (RFC 8259, 2). At the end of input it

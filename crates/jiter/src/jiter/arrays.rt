@@ -7,11 +7,11 @@ ghost use Rattle.jiter.specs.Reader.{next, known, array_read, item_reply, item_s
 ghost use Rattle.jiter.specs.Jiter.{MovesOn, Replies, RefusesBytes, BeginsAs, StandsAt, TellsHere, byte_of};
 
 use crate::errors::{JiterResult, JsonType};
+use crate::jiter::plain::next_item;
 use crate::jiter::{Jiter, refusal};
 use crate::peek::Peek;
 use jiter_scan::errors::Fault;
 use jiter_steps::parse::{Shape, Start};
-use jiter_steps::plain::plain_step;
 
 impl<'j> Jiter<'j> {
     // Where a step led: an item's first byte, or None behind the closer.
@@ -52,7 +52,7 @@ impl<'j> Jiter<'j> {
     // The same of what comes next, whatever it is.
     #[cold]
     #[inline(never)]
-    fn general_array(&mut self) -> JiterResult<Option<Peek>>
+    fn outlined_array(&mut self) -> JiterResult<Option<Peek>>
         ensures moves { MovesOn self.old self.new }
         ensures value { Replies (option_map byte_of) result self.new
             (next self.old (array_read self.old)) }
@@ -63,8 +63,21 @@ impl<'j> Jiter<'j> {
         self.read_array(start)
     }
 
+    // The same, with room for what it returns made here alone.
+    #[inline(always)]
+    fn general_array(&mut self) -> JiterResult<Option<Peek>>
+        ensures moves { MovesOn self.old self.new }
+        ensures value { Replies (option_map byte_of) result self.new
+            (next self.old (array_read self.old)) }
+        ensures here { TellsHere result self.new }
+        ensures refusal { RefusesBytes self.old.text result }
+    {
+        self.outlined_array()
+    }
+
     /// The first byte of an array's first item, which is not consumed; None where the array is empty, and
     /// then its bracket is consumed (RFC 8259, 5).
+    #[inline(always)]
     pub fn next_array(&mut self) -> JiterResult<Option<Peek>>
         ensures moves { MovesOn self.old self.new }
         ensures value { Replies (option_map byte_of) result self.new
@@ -87,13 +100,13 @@ impl<'j> Jiter<'j> {
         ensures here { TellsHere result self.new }
         ensures refusal { RefusesBytes self.old.text result }
     {
-        self.read_array(Start::Array)
+        self.next_array()
     }
 
     // The step behind an item, whatever it leads to.
     #[cold]
     #[inline(never)]
-    fn general_step(&mut self) -> JiterResult<Option<Peek>>
+    fn outlined_step(&mut self) -> JiterResult<Option<Peek>>
         ensures moves { MovesOn self.old self.new }
         ensures value { Replies (option_map byte_of) result self.new (item_step self.old) }
         ensures here { TellsHere result self.new }
@@ -103,15 +116,27 @@ impl<'j> Jiter<'j> {
         self.item(led)
     }
 
+    // The same, with room for what it returns made here alone.
+    #[inline(always)]
+    fn general_step(&mut self) -> JiterResult<Option<Peek>>
+        ensures moves { MovesOn self.old self.new }
+        ensures value { Replies (option_map byte_of) result self.new (item_step self.old) }
+        ensures here { TellsHere result self.new }
+        ensures refusal { RefusesBytes self.old.text result }
+    {
+        self.outlined_step()
+    }
+
     /// Behind an item: the first byte of the next one, which is not consumed; None where the array ends, and
     /// then its bracket is consumed (RFC 8259, 5).
+    #[inline(always)]
     pub fn array_step(&mut self) -> JiterResult<Option<Peek>>
         ensures moves { MovesOn self.old self.new }
         ensures value { Replies (option_map byte_of) result self.new (item_step self.old) }
         ensures here { TellsHere result self.new }
         ensures refusal { RefusesBytes self.old.text result }
     {
-        let (at, what) = plain_step(self.parser.bytes, self.parser.index, Shape::Array);
+        let (at, what) = next_item(self.parser.bytes, self.parser.index);
         match self.plain_item(at, what) {
             Some(told) => Ok(told),
             None => self.general_step(),

@@ -210,6 +210,33 @@ impl<'j> Jiter<'j> {
         self.key_bytes_there(led)
     }
 
+    // The first key of the object that comes next, whatever it is.
+    #[inline(always)]
+    fn general_object(&mut self, alloc: Global) -> JiterResult<Option<&str>>
+        ensures key { IfOk result (λ key. (e : ℕ)
+            × (reply_seen key_bytes (next self.old (object_read whole self.old))
+            ≡ gave (option_map (λ x. x.now) key) e)) }
+        ensures colon { EndsWithColon result self.old.text
+            (position_after (next self.old (object_read whole self.old))) }
+        ensures refusal { RefusesAs result (next self.old (object_read whole self.old)) }
+        ensures index { IndexWithin self.old.text result }
+        ensures memory { WhereMemory result (λ e.
+            BeginsAt self.old.text (value_place self.old) Start.Object
+            × WantsMemory self.old.text e.index
+            × (step self.old.text object_first (value_place self.old + 1) ≡ more e.index)) }
+        ensures* after { sem 𝓛 (LeavesReader (option_map (λ x. x.now)) result self.entry
+            (reply_seen key_bytes (next self.old (object_read whole self.old)))) }
+    {
+        let key = self.take_first_key(alloc)?;
+        match key {
+            Some(text) => {
+                self.text = text;
+                Ok(Some(self.text.as_str()))
+            }
+            None => Ok(None),
+        }
+    }
+
     /// An object's first key, decoded, with its colon consumed; None where the object is empty, and then its
     /// bracket is consumed (RFC 8259, 4). The key lies in the reader's bytes where its source has no
     /// backslash.
@@ -231,14 +258,7 @@ impl<'j> Jiter<'j> {
         if let Some(key) = self.plain_object() {
             return Ok(key);
         }
-        let key = self.take_first_key(alloc)?;
-        match key {
-            Some(text) => {
-                self.text = text;
-                Ok(Some(self.text.as_str()))
-            }
-            None => Ok(None),
-        }
+        self.general_object(alloc)
     }
 
     /// The same where its bracket stands.
@@ -266,6 +286,31 @@ impl<'j> Jiter<'j> {
         }
     }
 
+    // Behind a member: the next key, whatever it is.
+    #[inline(always)]
+    fn general_key(&mut self, alloc: Global) -> JiterResult<Option<&str>>
+        ensures key { IfOk result (λ key. (e : ℕ)
+            × (reply_seen key_bytes (key_step whole self.old)
+            ≡ gave (option_map (λ x. x.now) key) e)) }
+        ensures colon { EndsWithColon result self.old.text
+            (position_after (key_step whole self.old)) }
+        ensures refusal { RefusesAs result (key_step whole self.old) }
+        ensures index { IndexWithin self.old.text result }
+        ensures memory { WhereMemory result (λ e. WantsMemory self.old.text e.index
+            × (step self.old.text (object_step self.old.text) self.old.position ≡ more e.index)) }
+        ensures* after { sem 𝓛 (LeavesReader (option_map (λ x. x.now)) result self.entry
+            (reply_seen key_bytes (key_step whole self.old))) }
+    {
+        let key = self.take_key(alloc)?;
+        match key {
+            Some(text) => {
+                self.text = text;
+                Ok(Some(self.text.as_str()))
+            }
+            None => Ok(None),
+        }
+    }
+
     /// Behind a member: the next key, decoded, with its colon consumed; None where the object ends, and then
     /// its bracket is consumed. The key lies in the reader's bytes where its source has no backslash.
     pub fn next_key(&mut self, alloc: Global) -> JiterResult<Option<&str>>
@@ -284,13 +329,6 @@ impl<'j> Jiter<'j> {
         if let Some(key) = self.plain_next_key() {
             return Ok(key);
         }
-        let key = self.take_key(alloc)?;
-        match key {
-            Some(text) => {
-                self.text = text;
-                Ok(Some(self.text.as_str()))
-            }
-            None => Ok(None),
-        }
+        self.general_key(alloc)
     }
 }

@@ -1,15 +1,20 @@
 //! The plain way of the pull reader: what comes next where one look tells it, with answers that stay in registers. Of
 //! what is not plain nothing is read, and the reader stays where it stands.
-ghost use Rattle.std.specs.Prelude.{◌≡◌, ◌+◌, ◌<◌, ◌≤◌, Bool, IfSome, None, Some, false, true, length, option_map};
+ghost use Rattle.std.specs.Prelude.{◌≡◌, ◌+◌, ◌<◌, ◌≤◌, Bool, IfErr, IfOk, IfSome, None, Some, false, true};
+ghost use Rattle.std.specs.Prelude.{length, option_map, slice_get, slice_index};
 ghost use Rattle.jiter_scan.specs.Ascii as ascii;
 ghost use Rattle.jiter_scan.specs.Scanned.{taken};
+ghost use Rattle.jiter_steps.specs.Blank.{past_blanks};
 ghost use Rattle.jiter_steps.specs.Plain.{IsNext};
-ghost use Rattle.jiter_steps.specs.Step.{Step};
+ghost use Rattle.jiter_steps.specs.Step.{Step, step, array_first, array_step, object_first, object_step};
+ghost use Rattle.jiter_steps.specs.Step.{container_comma};
+ghost use Rattle.jiter_steps.specs.StringDecoder.{WantsMemory};
 ghost use Rattle.jiter_steps.specs.StringReading.{string_at, text_form, whole};
 ghost use Rattle.jiter_steps.specs.declared.parse.Literal.{Literal};
+ghost use Rattle.jiter_steps.specs.declared.parse.Shape.{Shape};
 ghost use Rattle.jiter_steps.specs.declared.parse.Start.{Start};
-ghost use Rattle.jiter_steps.specs.Literal.{literal_at};
-ghost use Rattle.jiter.specs.Reader.{next, gave, null_read, bool_read, number_bytes_read, str_read};
+ghost use Rattle.jiter_steps.specs.Literal.{literal_at, start_of};
+ghost use Rattle.jiter.specs.Reader.{value_place, next, gave, null_read, bool_read, number_bytes_read, str_read};
 ghost use Rattle.jiter.specs.Reader.{item_reply, array_read, key_reply, member_reply, object_read, key_step};
 ghost use Rattle.jiter.specs.Jiter.{MovesOn, StandsAt, StandsBefore, byte_of, reply_seen, text_bytes, key_bytes};
 
@@ -17,12 +22,191 @@ use crate::jiter::Jiter;
 use crate::peek::Peek;
 use jiter_scan::number_extent::plain_number_end;
 use jiter_scan::simd::scan_string;
-use jiter_steps::parse::{Literal, Shape};
-use jiter_steps::plain::{
-    Next, ascii_between, peek, plain_first, plain_literal_end, plain_step, text_between,
-};
+use jiter_steps::parse::Literal;
+use jiter_steps::plain::{Next, ascii_between, peek, plain_literal_end, text_between};
 
-// The text of the string at a place, if it has no backslash and is UTF-8.
+// The first byte from a place on that is no blank, if there is one, with its place; where it stands there already, with
+// one look.
+#[inline(always)]
+pub(super) fn look(bytes: &[u8], from: usize) -> (usize, Option<u8>)
+    requires { from ≤ length bytes.now }
+    ensures place { result.0 ≡ past_blanks bytes.now from }
+    ensures byte { result.1 ≡ slice_get bytes.now result.0 }
+    ensures within { (from ≤ result.0) × (result.0 ≤ length bytes.now) }
+    ensures inside { IfSome result.1 (λ _. result.0 < length bytes.now) }
+{
+    if from < bytes.len() {
+        let byte = bytes[from];
+        if byte > b' ' {
+            return (from, Some(byte));
+        }
+    }
+    peek(bytes, from)
+}
+
+// Behind an array's bracket: its first item, or its end.
+#[inline(always)]
+fn first_item(bytes: &[u8], from: usize) -> (usize, Next)
+    requires { from ≤ length bytes.now }
+    ensures next { IsNext result.0 result.1 (step bytes.now array_first from) }
+    ensures within { (from ≤ result.0) × (result.0 ≤ length bytes.now) }
+    ensures part { result.1 ≡ Next.Part → result.0 < length bytes.now }
+{
+    let (at, byte) = look(bytes, from);
+    match byte {
+        None => (at, Next::Stuck),
+        Some(byte) => {
+            if byte == b']' {
+                (at + 1, Next::End)
+            } else {
+                (at, Next::Part)
+            }
+        }
+    }
+}
+
+// Behind an object's bracket: its first key, or its end.
+#[inline(always)]
+fn first_member(bytes: &[u8], from: usize) -> (usize, Next)
+    requires { from ≤ length bytes.now }
+    ensures next { IsNext result.0 result.1 (step bytes.now object_first from) }
+    ensures within { (from ≤ result.0) × (result.0 ≤ length bytes.now) }
+    ensures part { result.1 ≡ Next.Part → result.0 < length bytes.now }
+{
+    let (at, byte) = look(bytes, from);
+    match byte {
+        None => (at, Next::Stuck),
+        Some(byte) => {
+            if byte == b'"' {
+                (at, Next::Part)
+            } else if byte == b'}' {
+                (at + 1, Next::End)
+            } else {
+                (at, Next::Stuck)
+            }
+        }
+    }
+}
+
+// Behind a comma of an array: another item.
+#[inline(always)]
+fn item_behind_comma(bytes: &[u8], from: usize) -> (usize, Next)
+    requires { from ≤ length bytes.now }
+    ensures next { IsNext result.0 result.1 (step bytes.now (container_comma Shape.Array) from) }
+    ensures within { (from ≤ result.0) × (result.0 ≤ length bytes.now) }
+    ensures part { result.1 ≡ Next.Part → result.0 < length bytes.now }
+{
+    let (at, byte) = look(bytes, from);
+    match byte {
+        None => (at, Next::Stuck),
+        Some(byte) => {
+            if byte == b']' {
+                (at, Next::Stuck)
+            } else {
+                (at, Next::Part)
+            }
+        }
+    }
+}
+
+// Behind a comma of an object: another key.
+#[inline(always)]
+fn member_behind_comma(bytes: &[u8], from: usize) -> (usize, Next)
+    requires { from ≤ length bytes.now }
+    ensures next { IsNext result.0 result.1 (step bytes.now (container_comma Shape.Object) from) }
+    ensures within { (from ≤ result.0) × (result.0 ≤ length bytes.now) }
+    ensures part { result.1 ≡ Next.Part → result.0 < length bytes.now }
+{
+    let (at, byte) = look(bytes, from);
+    match byte {
+        None => (at, Next::Stuck),
+        Some(byte) => {
+            if byte == b'"' {
+                (at, Next::Part)
+            } else {
+                (at, Next::Stuck)
+            }
+        }
+    }
+}
+
+// Behind an item: another one, or the array's end.
+#[inline(always)]
+pub(super) fn next_item(bytes: &[u8], from: usize) -> (usize, Next)
+    requires { from ≤ length bytes.now }
+    ensures next { IsNext result.0 result.1 (step bytes.now (array_step bytes.now) from) }
+    ensures within { (from ≤ result.0) × (result.0 ≤ length bytes.now) }
+    ensures part { result.1 ≡ Next.Part → result.0 < length bytes.now }
+{
+    if from < bytes.len() && bytes[from] == b',' {
+        return item_behind_comma(bytes, from + 1);
+    }
+    let (at, byte) = look(bytes, from);
+    match byte {
+        None => (at, Next::Stuck),
+        Some(byte) => {
+            if byte == b',' {
+                item_behind_comma(bytes, at + 1)
+            } else if byte == b']' {
+                (at + 1, Next::End)
+            } else {
+                (at, Next::Stuck)
+            }
+        }
+    }
+}
+
+// Behind a member: another key, or the object's end.
+#[inline(always)]
+fn next_member(bytes: &[u8], from: usize) -> (usize, Next)
+    requires { from ≤ length bytes.now }
+    ensures next { IsNext result.0 result.1 (step bytes.now (object_step bytes.now) from) }
+    ensures within { (from ≤ result.0) × (result.0 ≤ length bytes.now) }
+    ensures part { result.1 ≡ Next.Part → result.0 < length bytes.now }
+{
+    if from < bytes.len() && bytes[from] == b',' {
+        return member_behind_comma(bytes, from + 1);
+    }
+    let (at, byte) = look(bytes, from);
+    match byte {
+        None => (at, Next::Stuck),
+        Some(byte) => {
+            if byte == b',' {
+                member_behind_comma(bytes, at + 1)
+            } else if byte == b'}' {
+                (at + 1, Next::End)
+            } else {
+                (at, Next::Stuck)
+            }
+        }
+    }
+}
+
+// The text of the string at a place, if it has no backslash and is UTF-8; and whether it has one before all else that
+// is no plain byte.
+#[inline(always)]
+fn text_look<'j>(bytes: &'j [u8], at: usize) -> (Option<&'j str>, bool)
+    requires { at < length bytes.now }
+    ensures value { IfSome result.0 (λ text. (keep : Bool) → string_at (text_form keep) bytes.now at
+        ≡ taken (record { owned = false; bytes = text.now }) (at + length text.now + 2)) }
+    ensures within { IfSome result.0 (λ text. at + length text.now + 2 ≤ length bytes.now) }
+    ensures escaped { result.1 ≡ true → WantsMemory bytes.now at }
+{
+    let (to, low) = scan_string(bytes, at + 1);
+    if to >= bytes.len() {
+        return (None, false);
+    }
+    if bytes[to] != b'"' {
+        return (None, bytes[to] == b'\\');
+    }
+    if low {
+        (Some(ascii_between(bytes, at, to)), false)
+    } else {
+        (text_between(bytes, at, to), false)
+    }
+}
+
+// The text alone.
 #[inline(always)]
 fn plain_text<'j>(bytes: &'j [u8], at: usize) -> Option<&'j str>
     requires { at < length bytes.now }
@@ -30,15 +214,7 @@ fn plain_text<'j>(bytes: &'j [u8], at: usize) -> Option<&'j str>
         ≡ taken (record { owned = false; bytes = text.now }) (at + length text.now + 2)) }
     ensures within { IfSome result (λ text. at + length text.now + 2 ≤ length bytes.now) }
 {
-    let (to, low) = scan_string(bytes, at + 1);
-    if to >= bytes.len() || bytes[to] != b'"' {
-        return None;
-    }
-    if low {
-        Some(ascii_between(bytes, at, to))
-    } else {
-        text_between(bytes, at, to)
-    }
+    text_look(bytes, at).0
 }
 
 impl<'j> Jiter<'j> {
@@ -66,7 +242,7 @@ impl<'j> Jiter<'j> {
         ensures value { result ≡ true → next self.old (null_read self.old) ≡ gave tt self.new.position }
         ensures same { result ≡ false → self.new ≡ self.old }
     {
-        match peek(self.parser.bytes, self.parser.index) {
+        match look(self.parser.bytes, self.parser.index) {
             (at, Some(b'n')) => self.plain_literal_at(at, Literal::Null),
             _ => false,
         }
@@ -80,7 +256,7 @@ impl<'j> Jiter<'j> {
             (λ b. next self.old (bool_read self.old) ≡ gave b self.new.position) }
         ensures same { result ≡ None → self.new ≡ self.old }
     {
-        match peek(self.parser.bytes, self.parser.index) {
+        match look(self.parser.bytes, self.parser.index) {
             (at, Some(b't')) if self.plain_literal_at(at, Literal::True) => Some(true),
             (at, Some(b'f')) if self.plain_literal_at(at, Literal::False) => Some(false),
             _ => None,
@@ -94,6 +270,8 @@ impl<'j> Jiter<'j> {
         ensures moves { MovesOn self.old self.new }
         ensures value { IfSome result (λ b. number_bytes_read self.old at Start.Number
             ≡ gave b.now self.new.position) }
+        ensures number { IfSome result
+            (λ _. start_of (slice_index self.old.text at) ≡ Start.Number) }
         ensures same { result ≡ None → self.new ≡ self.old }
     {
         let end = plain_number_end(self.parser.bytes, at)?;
@@ -109,37 +287,52 @@ impl<'j> Jiter<'j> {
             ≡ gave b.now self.new.position) }
         ensures same { result ≡ None → self.new ≡ self.old }
     {
-        match peek(self.parser.bytes, self.parser.index) {
-            (at, Some(b'0'..=b'9' | b'-')) => self.plain_number_bytes_at(at),
-            _ => None,
+        let (at, byte) = look(self.parser.bytes, self.parser.index);
+        match byte {
+            Some(_) => self.plain_number_bytes_at(at),
+            None => None,
         }
     }
 
-    // The text of the string at a place, if it is plain, to whose end the reader moves.
+    // The text of the string at a place, if it is plain, to whose end the reader moves; else whether it has a
+    // backslash.
     #[inline(always)]
-    pub(super) fn plain_text_at(&mut self, at: usize) -> Option<&'j str>
+    fn plain_text_at(&mut self, at: usize) -> Result<&'j str, bool>
         requires within { (self.old.position ≤ at) × (at < length self.old.text) }
         ensures moves { MovesOn self.old self.new }
-        ensures value { IfSome result (λ text. (keep : Bool) → string_at (text_form keep) self.old.text at
+        ensures value { IfOk result (λ text. (keep : Bool) → string_at (text_form keep) self.old.text at
             ≡ taken (record { owned = false; bytes = text.now }) self.new.position) }
-        ensures same { result ≡ None → self.new ≡ self.old }
+        ensures escaped { IfErr result (λ e. e ≡ true → WantsMemory self.old.text at) }
+        ensures same { IfErr result (λ _. self.new ≡ self.old) }
     {
-        let text = plain_text(self.parser.bytes, at)?;
-        self.parser.index = at + text.len() + 2;
-        Some(text)
+        match text_look(self.parser.bytes, at) {
+            (Some(text), _) => {
+                self.parser.index = at + text.len() + 2;
+                Ok(text)
+            }
+            (None, escaped) => Err(escaped),
+        }
     }
 
-    // The text that comes next, if it is plain.
+    // The text that comes next, if it is plain; else the place of the string with a backslash that comes next, if
+    // one does.
     #[inline(always)]
-    pub(super) fn plain_str(&mut self) -> Option<&'j str>
+    pub(super) fn plain_str(&mut self) -> Result<&'j str, Option<usize>>
         ensures moves { MovesOn self.old self.new }
-        ensures value { IfSome result (λ text. reply_seen text_bytes (next self.old (str_read self.old))
+        ensures value { IfOk result (λ text. reply_seen text_bytes (next self.old (str_read self.old))
             ≡ gave text.now self.new.position) }
-        ensures same { result ≡ None → self.new ≡ self.old }
+        ensures place { IfErr result (λ o. IfSome o (λ at. at ≡ value_place self.old)) }
+        ensures quote { IfErr result (λ o. IfSome o (λ at. slice_get self.old.text at ≡ Some ascii.quote)) }
+        ensures escaped { IfErr result (λ o. IfSome o (WantsMemory self.old.text)) }
+        ensures same { IfErr result (λ _. self.new ≡ self.old) }
     {
-        match peek(self.parser.bytes, self.parser.index) {
-            (at, Some(b'"')) => self.plain_text_at(at),
-            _ => None,
+        match look(self.parser.bytes, self.parser.index) {
+            (at, Some(b'"')) => match self.plain_text_at(at) {
+                Ok(text) => Ok(text),
+                Err(true) => Err(Some(at)),
+                Err(false) => Err(None),
+            },
+            _ => Err(None),
         }
     }
 
@@ -177,7 +370,7 @@ impl<'j> Jiter<'j> {
         ensures here { IfSome result (λ told. IfSome told (λ p. StandsAt self.new (byte_of p))) }
         ensures same { result ≡ None → self.new ≡ self.old }
     {
-        let (next, what) = plain_first(self.parser.bytes, at + 1, Shape::Array);
+        let (next, what) = first_item(self.parser.bytes, at + 1);
         self.plain_item(next, what)
     }
 
@@ -190,7 +383,7 @@ impl<'j> Jiter<'j> {
         ensures here { IfSome result (λ told. IfSome told (λ p. StandsAt self.new (byte_of p))) }
         ensures same { result ≡ None → self.new ≡ self.old }
     {
-        match peek(self.parser.bytes, self.parser.index) {
+        match look(self.parser.bytes, self.parser.index) {
             (at, Some(b'[')) => self.plain_first_item(at),
             _ => None,
         }
@@ -207,7 +400,7 @@ impl<'j> Jiter<'j> {
         ensures same { result ≡ None → self.new ≡ self.old }
     {
         let key = plain_text(self.parser.bytes, at)?;
-        match peek(self.parser.bytes, at + key.len() + 2) {
+        match look(self.parser.bytes, at + key.len() + 2) {
             (colon, Some(b':')) => {
                 self.parser.index = colon + 1;
                 Some(key)
@@ -253,7 +446,7 @@ impl<'j> Jiter<'j> {
             (λ key. IfSome key (λ _. StandsBefore self.old.text self.new.position ascii.colon)) }
         ensures same { result ≡ None → self.new ≡ self.old }
     {
-        let (next, what) = plain_first(self.parser.bytes, at + 1, Shape::Object);
+        let (next, what) = first_member(self.parser.bytes, at + 1);
         self.plain_member(next, what)
     }
 
@@ -268,7 +461,7 @@ impl<'j> Jiter<'j> {
             (λ key. IfSome key (λ _. StandsBefore self.old.text self.new.position ascii.colon)) }
         ensures same { result ≡ None → self.new ≡ self.old }
     {
-        match peek(self.parser.bytes, self.parser.index) {
+        match look(self.parser.bytes, self.parser.index) {
             (at, Some(b'{')) => self.plain_first_key(at),
             _ => None,
         }
@@ -284,7 +477,7 @@ impl<'j> Jiter<'j> {
             (λ key. IfSome key (λ _. StandsBefore self.old.text self.new.position ascii.colon)) }
         ensures same { result ≡ None → self.new ≡ self.old }
     {
-        let (at, what) = plain_step(self.parser.bytes, self.parser.index, Shape::Object);
+        let (at, what) = next_member(self.parser.bytes, self.parser.index);
         self.plain_member(at, what)
     }
 }

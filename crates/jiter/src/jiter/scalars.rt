@@ -54,7 +54,7 @@ impl<'j> Jiter<'j> {
     // The same of what comes next, whatever it is.
     #[cold]
     #[inline(never)]
-    fn general_null(&mut self) -> JiterResult<()>
+    fn outlined_null(&mut self) -> JiterResult<()>
         ensures moves { MovesOn self.old self.new }
         ensures value { Replies (λ u. u) result self.new (next self.old (null_read self.old)) }
         ensures refusal { RefusesBytes self.old.text result }
@@ -63,7 +63,18 @@ impl<'j> Jiter<'j> {
         self.read_null(start)
     }
 
+    // The same, with room for what it returns made here alone.
+    #[inline(always)]
+    fn general_null(&mut self) -> JiterResult<()>
+        ensures moves { MovesOn self.old self.new }
+        ensures value { Replies (λ u. u) result self.new (next self.old (null_read self.old)) }
+        ensures refusal { RefusesBytes self.old.text result }
+    {
+        self.outlined_null()
+    }
+
     /// Reads `null` (RFC 8259, 3).
+    #[inline(always)]
     pub fn next_null(&mut self) -> JiterResult<()>
         ensures moves { MovesOn self.old self.new }
         ensures value { Replies (λ u. u) result self.new (next self.old (null_read self.old)) }
@@ -83,7 +94,7 @@ impl<'j> Jiter<'j> {
         ensures value { Replies (λ u. u) result self.new (known self.old (null_read self.old)) }
         ensures refusal { RefusesBytes self.old.text result }
     {
-        self.read_null(Start::Literal(Literal::Null))
+        self.next_null()
     }
 
     // `true` or `false`, at a value that begins so.
@@ -104,7 +115,7 @@ impl<'j> Jiter<'j> {
     // The same of what comes next, whatever it is.
     #[cold]
     #[inline(never)]
-    fn general_bool(&mut self) -> JiterResult<bool>
+    fn outlined_bool(&mut self) -> JiterResult<bool>
         ensures moves { MovesOn self.old self.new }
         ensures value { Replies (λ b. b) result self.new (next self.old (bool_read self.old)) }
         ensures refusal { RefusesBytes self.old.text result }
@@ -113,7 +124,18 @@ impl<'j> Jiter<'j> {
         self.read_bool(start)
     }
 
+    // The same, with room for what it returns made here alone.
+    #[inline(always)]
+    fn general_bool(&mut self) -> JiterResult<bool>
+        ensures moves { MovesOn self.old self.new }
+        ensures value { Replies (λ b. b) result self.new (next self.old (bool_read self.old)) }
+        ensures refusal { RefusesBytes self.old.text result }
+    {
+        self.outlined_bool()
+    }
+
     /// Reads `true` or `false` (RFC 8259, 3).
+    #[inline(always)]
     pub fn next_bool(&mut self) -> JiterResult<bool>
         ensures moves { MovesOn self.old self.new }
         ensures value { Replies (λ b. b) result self.new (next self.old (bool_read self.old)) }
@@ -132,7 +154,12 @@ impl<'j> Jiter<'j> {
         ensures value { Replies (λ b. b) result self.new (known self.old (bool_read self.old)) }
         ensures refusal { RefusesBytes self.old.text result }
     {
-        self.read_bool(start_of(peek.into_inner()))
+        let byte = peek.into_inner();
+        if byte > b' ' {
+            self.next_bool()
+        } else {
+            self.read_bool(start_of(byte))
+        }
     }
 
     // A number, at a value that begins so.
@@ -247,7 +274,7 @@ impl<'j> Jiter<'j> {
     // The same of what comes next, whatever it is.
     #[cold]
     #[inline(never)]
-    fn general_number_bytes(&mut self) -> JiterResult<&'j [u8]>
+    fn outlined_number_bytes(&mut self) -> JiterResult<&'j [u8]>
         ensures moves { MovesOn self.old self.new }
         ensures value { Replies (λ b. b.now) result self.new
             (next self.old (number_bytes_read self.old)) }
@@ -257,7 +284,19 @@ impl<'j> Jiter<'j> {
         self.read_number_bytes(start)
     }
 
+    // The same, with room for what it returns made here alone.
+    #[inline(always)]
+    fn general_number_bytes(&mut self) -> JiterResult<&'j [u8]>
+        ensures moves { MovesOn self.old self.new }
+        ensures value { Replies (λ b. b.now) result self.new
+            (next self.old (number_bytes_read self.old)) }
+        ensures refusal { RefusesBytes self.old.text result }
+    {
+        self.outlined_number_bytes()
+    }
+
     /// Reads a number, and gives its own bytes.
+    #[inline(always)]
     pub fn next_number_bytes(&mut self) -> JiterResult<&'j [u8]>
         ensures moves { MovesOn self.old self.new }
         ensures value { Replies (λ b. b.now) result self.new
@@ -278,6 +317,11 @@ impl<'j> Jiter<'j> {
             (known self.old (number_bytes_read self.old)) }
         ensures refusal { RefusesBytes self.old.text result }
     {
-        self.read_number_bytes(start_of(peek.into_inner()))
+        let byte = peek.into_inner();
+        if byte > b' ' {
+            self.next_number_bytes()
+        } else {
+            self.read_number_bytes(start_of(byte))
+        }
     }
 }

@@ -16,20 +16,25 @@ ghost use Rattle.jiter.specs.Lending.{LeavesReader};
 
 use crate::errors::{JiterResult, JsonType};
 use crate::jiter::{Jiter, refusal, refusal_at};
-use jiter_scan::simd::scan_string;
 use jiter_scan::text::utf8_text;
-use jiter_scan::word::byte_at;
 use jiter_steps::parse::Start;
-use jiter_steps::plain::peek;
 use jiter_steps::string_decoder::decode_to;
 use std::alloc::Global;
 use std::borrow::CowStr;
 
-// The string with a backslash that comes next, decoded to the front of the tape: how many bytes its text has there, and
-// the place behind it. None where something else comes next, or the string is refused.
-#[inline(never)]
-fn decode_next(tape: &mut Vec<u8>, bytes: &[u8], from: usize, keep: bool) -> Option<(usize, usize)>
-    requires { from ≤ length bytes.now }
+// The string with a backslash that comes next, at a place behind the blanks, decoded to the front of the tape: how many
+// bytes its text has there, and the place behind it. None where the string is refused.
+#[inline(always)]
+fn decode_next(
+    tape: &mut Vec<u8>,
+    bytes: &[u8],
+    from: usize,
+    at: usize,
+    keep: bool,
+) -> Option<(usize, usize)>
+    requires place { at ≡ past_blanks bytes.now from }
+    requires quote { slice_get bytes.now at ≡ Some ascii.quote }
+    requires backslash { WantsMemory bytes.now at }
     ensures quote { IfSome result (λ _. slice_get bytes.now (past_blanks bytes.now from) ≡ Some ascii.quote) }
     ensures value { IfSome result (λ r. string_at (text_form keep) bytes.now (past_blanks bytes.now from)
         ≡ taken (record { owned = true; bytes = take r.0 tape.new.items }) r.1) }
@@ -37,16 +42,7 @@ fn decode_next(tape: &mut Vec<u8>, bytes: &[u8], from: usize, keep: bool) -> Opt
     ensures room { IfSome result (λ r. r.0 ≤ vec_len tape.new) }
     ensures within { IfSome result (λ r. (from ≤ r.1) × (r.1 ≤ length bytes.now)) }
 {
-    let (at, byte) = peek(bytes, from);
-    match byte {
-        Some(b'"') => {}
-        _ => return None,
-    }
-    let (to, _) = scan_string(bytes, at + 1);
-    match byte_at(bytes, to) {
-        Some(b'\\') => {}
-        _ => return None,
-    }
+    let _ = from;
     match decode_to(tape, bytes, at, keep) {
         Ok((count, end)) => Some((count, end)),
         Err(_) => None,
@@ -146,6 +142,56 @@ impl<'j> Jiter<'j> {
         self.read_str(alloc, start)
     }
 
+    // The text that comes next, whatever it is.
+    #[inline(always)]
+    fn general_str(&mut self, alloc: Global) -> JiterResult<&str>
+        ensures text { IfOk result (λ x. (e : ℕ)
+            × (reply_seen text_bytes (next self.old (str_read self.old)) ≡ gave x.now e)) }
+        ensures refusal { RefusesAs result (next self.old (str_read self.old)) }
+        ensures index { IndexWithin self.old.text result }
+        ensures memory { WhereMemory result (λ _.
+            BeginsAt self.old.text (value_place self.old) Start.String
+            × WantsMemory self.old.text (value_place self.old)) }
+        ensures place { WhereMemory result (λ e. e.index ≡ value_place self.old) }
+        ensures* after { sem 𝓛 (LeavesReader (λ x. x.now) result self.entry
+            (reply_seen text_bytes (next self.old (str_read self.old)))) }
+    {
+        self.text = self.take_str(alloc)?;
+        Ok(self.text.as_str())
+    }
+
+    // The text of the string with a backslash that comes next, whose quote stands at a place.
+    #[inline(always)]
+    fn escaped_str(&mut self, alloc: Global, at: usize) -> JiterResult<&str>
+        requires place { at ≡ value_place self.old }
+        requires quote { slice_get self.old.text at ≡ Some ascii.quote }
+        requires backslash { WantsMemory self.old.text at }
+        ensures text { IfOk result (λ x. (e : ℕ)
+            × (reply_seen text_bytes (next self.old (str_read self.old)) ≡ gave x.now e)) }
+        ensures refusal { RefusesAs result (next self.old (str_read self.old)) }
+        ensures index { IndexWithin self.old.text result }
+        ensures memory { WhereMemory result (λ _.
+            BeginsAt self.old.text (value_place self.old) Start.String
+            × WantsMemory self.old.text (value_place self.old)) }
+        ensures place { WhereMemory result (λ e. e.index ≡ value_place self.old) }
+        ensures* after { sem 𝓛 (LeavesReader (λ x. x.now) result self.entry
+            (reply_seen text_bytes (next self.old (str_read self.old)))) }
+    {
+        let mut tape = self.take_tape(alloc);
+        let (bytes, keep) = self.source();
+        match decode_next(&mut tape, bytes, self.current_index(), at, keep) {
+            Some((count, end)) => {
+                self.tape = Some(tape);
+                self.parser.index = end;
+                Ok(text_on(&self.tape, count))
+            }
+            None => {
+                self.put_tape(tape);
+                self.general_str(alloc)
+            }
+        }
+    }
+
     /// Reads a string, and lends its text, decoded (RFC 8259, 7). The text lies in the reader's bytes where
     /// its source has no backslash.
     pub fn next_str(&mut self, alloc: Global) -> JiterResult<&str>
@@ -160,22 +206,10 @@ impl<'j> Jiter<'j> {
         ensures* after { sem 𝓛 (LeavesReader (λ x. x.now) result self.entry
             (reply_seen text_bytes (next self.old (str_read self.old)))) }
     {
-        if let Some(text) = self.plain_str() {
-            return Ok(text);
-        }
-        let mut tape = self.take_tape(alloc);
-        let (bytes, keep) = self.source();
-        match decode_next(&mut tape, bytes, self.current_index(), keep) {
-            Some((count, end)) => {
-                self.tape = Some(tape);
-                self.parser.index = end;
-                Ok(text_on(&self.tape, count))
-            }
-            None => {
-                self.put_tape(tape);
-                self.text = self.take_str(alloc)?;
-                Ok(self.text.as_str())
-            }
+        match self.plain_str() {
+            Ok(text) => Ok(text),
+            Err(Some(at)) => self.escaped_str(alloc, at),
+            Err(None) => self.general_str(alloc),
         }
     }
 
