@@ -59,7 +59,8 @@ module _ (t : List ℕ) where
   plain_run_front i (suc k) w h =
       let plain = run_end-passes is_plain t i (i + k) (omega arith) (omega arith) in
       let at : i + k + 1 ≡ i + suc k = omega arith in
-      plain_more t i (i + k) (plain_run_front i k w (omega arith)) (omega arith) (omega (arith, run_end-within is_plain t i w))
+      plain_more t i (i + k) (plain_run_front i k w (omega arith)) (omega arith)
+      (omega (arith, run_end-within is_plain t i w))
       (plain-printed _ plain)
       ∙ ap (λ j. before (slice_range t i j) false (body_at t j)) at
 

@@ -26,7 +26,8 @@ returns-then-found-eq0-clause-ascii c = λ low.
     let none : c.put_chunk-found.result.1 ≡ 0 = grind (arith, nat_tests, low) in
     let count : 16 ≡ i + 16 - i = omega arith in
     subst (λ n. AllPass is_ascii (take n (drop i t))) count
-    (AllPass-from_list_all is_ascii (chunk i 16 t) (none_fails is_ascii t i 16 (sym c.put_chunk-found.ensures.highs ∙ none)))
+    (AllPass-from_list_all is_ascii (chunk i 16 t) (none_fails is_ascii t i 16
+    (sym c.put_chunk-found.ensures.highs ∙ none)))
 
 pub returns-clause-run : goal.returns-clause-run
 returns-clause-run c =
@@ -46,7 +47,8 @@ returns-clause-place c =
     let t = c.args.bytes.now in
     let i = c.args.from in
     let found = c.put_chunk-found in
-    let run = run_end-stopped is_plain t i 16 found.result.0 found.ensures.stops (omega arith) (omega arith) (omega arith) in
+    let run = run_end-stopped is_plain t i 16 found.result.0 found.ensures.stops (omega arith) (omega arith)
+    (omega arith) in
     let near = run_end-near is_plain t i 16 found.result.0 found.ensures.stops (omega arith) (omega arith) in
     (omega arith, omega arith)
 
@@ -55,7 +57,8 @@ returns-clause-text c =
     let t = c.args.bytes.now in
     let i = c.args.from in
     let found = c.put_chunk-found in
-    let run = run_end-stopped is_plain t i 16 found.result.0 found.ensures.stops (omega arith) (omega arith) (omega arith) in
+    let run = run_end-stopped is_plain t i 16 found.result.0 found.ensures.stops (omega arith) (omega arith)
+    (omega arith) in
     let near = run_end-near is_plain t i 16 found.result.0 found.ensures.stops (omega arith) (omega arith) in
     put-front t c.args.tape.now.items found.new.tape.items i c.args.count
     (count_trailing_zeros 64 found.result.0) (omega arith) (omega arith) found.ensures.text
@@ -65,8 +68,10 @@ returns-clause-ascii c =
     let t = c.args.bytes.now in
     let i = c.args.from in
     let found = c.put_chunk-found in
-    let run = run_end-stopped is_plain t i 16 found.result.0 found.ensures.stops (omega arith) (omega arith) (omega arith) in
-    let low = ascii_from-stopped t i 16 found.result.0 found.result.1 found.ensures.stops found.ensures.highs (omega arith) (omega arith)
+    let run = run_end-stopped is_plain t i 16 found.result.0 found.ensures.stops (omega arith) (omega arith)
+    (omega arith) in
+    let low = ascii_from-stopped t i 16 found.result.0 found.result.1 found.ensures.stops found.ensures.highs
+    (omega arith) (omega arith)
     (omega arith) in
     (IsAsciiTo-iff t i (i + count_trailing_zeros 64 found.result.0) c.is_clear_below.result (sym run)
     (c.is_clear_below.ensures ∙ sym low)).0

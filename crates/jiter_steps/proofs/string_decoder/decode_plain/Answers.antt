@@ -22,7 +22,8 @@ loop-at-preserved-then-found-eq0 c =
       stop = d.1;
       within = omega arith;
       levels = omega arith;
-      utf8 = chunk-known t l.tape.items p.new.tape.items l.at l.count 16 (omega arith) (omega arith) p.ensures.text l.known
+      utf8 = chunk-known t l.tape.items p.new.tape.items l.at l.count 16 (omega arith) (omega arith) p.ensures.text
+          l.known
           c.both-known.result p.result.1 i.utf8 c.both-known.ensures p.ensures.highs;
     }
 
@@ -31,7 +32,8 @@ sign_at-sign-requires c =
     let t = c.args.bytes.now in
     let l = c.loop-at in
     let p = c.put_chunk-found in
-    let stop = run_end-stopped is_plain t l.at 16 p.result.0 p.ensures.stops (omega arith) (omega arith) (omega arith) in
+    let stop = run_end-stopped is_plain t l.at 16 p.result.0 p.ensures.stops (omega arith) (omega arith) (omega arith)
+    in
     let near = run_end-near is_plain t l.at 16 p.result.0 p.ensures.stops (omega arith) (omega arith) in
     omega arith
 
@@ -40,7 +42,8 @@ index_mut-requires c =
     let t = c.args.bytes.now in
     let l = c.loop-at in
     let p = c.put_chunk-found in
-    let stop = run_end-stopped is_plain t l.at 16 p.result.0 p.ensures.stops (omega arith) (omega arith) (omega arith) in
+    let stop = run_end-stopped is_plain t l.at 16 p.result.0 p.ensures.stops (omega arith) (omega arith) (omega arith)
+    in
     let near = run_end-near is_plain t l.at 16 p.result.0 p.ensures.stops (omega arith) (omega arith) in
     omega arith
 
@@ -52,11 +55,13 @@ loop-at-preserved c =
     let p = c.put_chunk-found in
     let n = count_trailing_zeros 64 p.result.0 in
     let sign = c.sign_at-sign in
-    let stop = run_end-stopped is_plain t l.at 16 p.result.0 p.ensures.stops (omega arith) (omega arith) (omega arith) in
+    let stop = run_end-stopped is_plain t l.at 16 p.result.0 p.ensures.stops (omega arith) (omega arith) (omega arith)
+    in
     let near = run_end-near is_plain t l.at 16 p.result.0 p.ensures.stops (omega arith) (omega arith) in
     let d = chunk-decoded t l.tape.items p.new.tape.items l.at l.count n (omega arith) (omega arith) p.ensures.text _ _
     (i.text, i.stop) i.within (omega arith) in
-    let k = chunk-known t l.tape.items p.new.tape.items l.at l.count n (omega arith) (omega arith) p.ensures.text l.known
+    let k = chunk-known t l.tape.items p.new.tape.items l.at l.count n (omega arith) (omega arith) p.ensures.text
+    l.known
     c.both-known.result p.result.1 i.utf8 c.both-known.ensures p.ensures.highs in
     let added = take-set_at p.new.tape.items (l.count + n) (l.count + n + 1) sign.result (omega arith) (omega arith)
     ∙ ap (λ w. take (l.count + n) p.new.tape.items ++ w) (encode-sign sign.result sign.ensures.ascii) in
@@ -77,7 +82,8 @@ returns-then-sign-eq0 c =
     let i = l.invariant in
     let p = c.put_chunk-found in
     let n = count_trailing_zeros 64 p.result.0 in
-    let stop = run_end-stopped is_plain t l.at 16 p.result.0 p.ensures.stops (omega arith) (omega arith) (omega arith) in
+    let stop = run_end-stopped is_plain t l.at 16 p.result.0 p.ensures.stops (omega arith) (omega arith) (omega arith)
+    in
     let near = run_end-near is_plain t l.at 16 p.result.0 p.ensures.stops (omega arith) (omega arith) in
     let d = chunk-decoded t l.tape.items p.new.tape.items l.at l.count n (omega arith) (omega arith) p.ensures.text _ _
     (i.text, i.stop) i.within (omega arith) in
@@ -85,6 +91,7 @@ returns-then-sign-eq0 c =
       text = d.0;
       stop = d.1;
       within = (omega arith, omega arith);
-      utf8 = chunk-known t l.tape.items p.new.tape.items l.at l.count n (omega arith) (omega arith) p.ensures.text l.known
+      utf8 = chunk-known t l.tape.items p.new.tape.items l.at l.count n (omega arith) (omega arith) p.ensures.text
+          l.known
           c.both-known.result p.result.1 i.utf8 c.both-known.ensures p.ensures.highs;
     }
