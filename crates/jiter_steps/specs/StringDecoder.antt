@@ -12,12 +12,12 @@ use Rattle.jiter_steps.specs.Tree.{Text}
 use Rattle.jiter_steps.specs.StringReading.{HexDigits, number, bad, few, Portion, part, over, Stop, closed, unclosed}
 use Rattle.jiter_steps.specs.StringReading.{cut}
 use Rattle.jiter_steps.specs.StringReading.{wrong}
-use Rattle.jiter_steps.specs.declared.string_decoder.Hex.{Hex}
-use Rattle.jiter_steps.specs.declared.string_decoder.Hex.TheVariants as hex
-use Rattle.jiter_steps.specs.declared.string_decoder.AtStop.{AtStop}
-use Rattle.jiter_steps.specs.declared.string_decoder.AtStop.TheVariants as at_stop
-use Rattle.jiter_steps.specs.declared.string_decoder.Ending.{Ending}
-use Rattle.jiter_steps.specs.declared.string_decoder.Ending.TheVariants as ending
+use Rattle.jiter_steps.specs.declared.escape.Hex.{Hex}
+use Rattle.jiter_steps.specs.declared.escape.Hex.TheVariants as hex
+use Rattle.jiter_steps.specs.declared.escape.AtStop.{AtStop}
+use Rattle.jiter_steps.specs.declared.escape.AtStop.TheVariants as at_stop
+use Rattle.jiter_steps.specs.declared.escape.Ending.{Ending}
+use Rattle.jiter_steps.specs.declared.escape.Ending.TheVariants as ending
 
 -- the text lies in memory of its own
 abbrev pub is_owned : CowStr Global → Bool

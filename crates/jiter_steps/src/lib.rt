@@ -3,6 +3,7 @@
 #![tactic(auto)]
 
 pub mod blank;
+mod escape;
 pub mod parse;
 pub mod plain;
 mod plain_skip;

@@ -14,8 +14,9 @@ ghost use Rattle.jiter_steps.specs.Read.{scalar_at};
 ghost use Rattle.jiter_steps.specs.StringReading.{content_at, string_at, raw, raw_form};
 ghost use Rattle.jiter_steps.specs.StringReading.{Stop, part, over, portion_at, number, unit_at, hex_digits_at};
 
+use crate::escape::{AtStop, Ending, portion_at};
 use crate::parse::Parser;
-use crate::string_decoder::{AtStop, Ending, cut_short, portion_at};
+use crate::string_decoder::cut_short;
 use jiter_scan::errors::Fault;
 use jiter_scan::simd::scan_string;
 use jiter_scan::word::byte_at;

@@ -3,7 +3,7 @@ use Rattle.std.specs.Prelude.{Some}
 use Rattle.std.proofs.lemmas.Option.{slice_get-get_or, none-some}
 use Rattle.jiter_steps.specs.Escape.{short_escape}
 use Rattle.jiter_steps.proofs.Calls.DecodeSteps.{decode-letter}
-use Rattle.jiter_steps.proofs.string_decoder.sign_at.Goals as goal
+use Rattle.jiter_steps.proofs.escape.sign_at.Goals as goal
 
 pub returns-clause-value : goal.returns-clause-value
 returns-clause-value c = λ some.

@@ -4,7 +4,7 @@ use Rattle.std.proofs.lemmas.Option.{slice_get-get_or}
 use Rattle.std.specs.Char.{encode_utf8}
 use Rattle.jiter_steps.specs.StringReading.{part}
 use Rattle.jiter_steps.proofs.Calls.DecodeSteps.{decode-unit, decode-letter}
-use Rattle.jiter_steps.proofs.string_decoder.escape_at.Goals as goal
+use Rattle.jiter_steps.proofs.escape.escape_at.Goals as goal
 
 pub returns-then-letter-eq117 : goal.returns-then-letter-eq117
 returns-then-letter-eq117 c =

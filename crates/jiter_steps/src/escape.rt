@@ -1,0 +1,288 @@
+//! What ends a run of a string's plain bytes (RFC 8259, 7): an escape with its character, or the string's end.
+ghost use Rattle.std.specs.Prelude.{◌≡◌, ◌≢◌, ◌+◌, ◌<◌, ◌≤◌, length, true, false, slice_get};
+ghost use Rattle.std.specs.Prelude.{IfSome, Some, None};
+ghost use Rattle.std.specs.Char.{digit_value, encode_utf8};
+ghost use Rattle.jiter_scan.specs.Scan.{is_stop};
+ghost use Rattle.jiter_steps.specs.Escape.{short_escape, is_hex, is_high, is_low};
+ghost use Rattle.jiter_steps.specs.StringReading.{number, part, hex_digits_at, portion_at, unit_then, behind_backslash};
+ghost use Rattle.jiter_steps.specs.StringReading.{unicode_escape, behind_high, behind_high_backslash, surrogate_pair};
+ghost use Rattle.jiter_steps.specs.StringDecoder.{digits_view, IfNumber, portion_view};
+ghost use Rattle.jiter_steps.specs.declared.escape.AtStop.TheVariants as at_stop;
+ghost use Rattle.jiter_steps.specs.declared.escape.Ending.TheVariants as ending;
+
+use jiter_scan::errors::{Fault, FaultKind, fault_at};
+use jiter_scan::word::byte_at;
+
+// Four hex digits: the first byte that is none, or the number. `Short` where fewer than four bytes are left.
+#[derive(Clone, Copy, Debug)]
+enum Hex {
+    Short,
+    Bad(usize),
+    Number(u32),
+}
+
+// How a string ends: behind its quote, before a piece, within an escape, or at a fault.
+#[derive(Clone, Copy, Debug)]
+pub(crate) enum Ending {
+    Closed(usize),
+    Unclosed,
+    Cut,
+    Wrong(Fault),
+}
+
+// What ends a run of plain bytes: an escape's character with its end, or the end of the string.
+#[derive(Clone, Copy, Debug)]
+pub(crate) enum AtStop {
+    Escape(char, usize),
+    End(Ending),
+}
+
+fn digit(byte: u8) -> Option<u32>
+    ensures value { IfSome result (λ d. (d ≡ digit_value byte) × (d < 16) × (is_hex byte ≡ true)) }
+    ensures none { result ≡ None → is_hex byte ≡ false }
+{
+    match byte {
+        b'0'..=b'9' => Some((byte - b'0') as u32),
+        b'A'..=b'F' => Some((byte - b'A') as u32 + 10),
+        b'a'..=b'f' => Some((byte - b'a') as u32 + 10),
+        _ => None,
+    }
+}
+
+fn short_escape(byte: u8) -> Option<u8>
+    ensures value { result ≡ short_escape byte }
+    ensures ascii { IfSome result (λ c. c < 128) }
+{
+    match byte {
+        b'"' => Some(b'"'),
+        b'\\' => Some(b'\\'),
+        b'/' => Some(b'/'),
+        b'b' => Some(8),
+        b'f' => Some(12),
+        b'n' => Some(b'\n'),
+        b'r' => Some(b'\r'),
+        b't' => Some(b'\t'),
+        _ => None,
+    }
+}
+
+fn is_high(unit: u32) -> bool
+    ensures value { result ≡ is_high unit }
+{
+    0xd800 <= unit && unit < 0xdc00
+}
+
+fn is_low(unit: u32) -> bool
+    ensures value { result ≡ is_low unit }
+{
+    0xdc00 <= unit && unit < 0xe000
+}
+
+fn hex_at(bytes: &[u8], at: usize) -> Hex
+    requires { at ≤ length bytes.now }
+    ensures value { digits_view result ≡ hex_digits_at bytes.now at }
+    ensures within { IfNumber result (λ u. (u < 65536) × (at + 4 ≤ length bytes.now)) }
+{
+    if bytes.len() - at < 4 {
+        return Hex::Short;
+    }
+    let Some(a) = digit(bytes[at]) else {
+        return Hex::Bad(at);
+    };
+    let Some(b) = digit(bytes[at + 1]) else {
+        return Hex::Bad(at + 1);
+    };
+    let Some(c) = digit(bytes[at + 2]) else {
+        return Hex::Bad(at + 2);
+    };
+    let Some(d) = digit(bytes[at + 3]) else {
+        return Hex::Bad(at + 3);
+    };
+    Hex::Number(a * 4096 + b * 256 + c * 16 + d)
+}
+
+fn wrong(kind: FaultKind, index: usize) -> AtStop
+    ensures { result ≡ at_stop.End (ending.Wrong (record { kind = kind; index = index })) }
+{
+    AtStop::End(Ending::Wrong(Fault { kind, index }))
+}
+
+// The second number of a pair, whose digits begin at `at`.
+fn low_surrogate(bytes: &[u8], high: u32, at: usize) -> AtStop
+    requires high { is_high high ≡ true }
+    requires within { at ≤ length bytes.now }
+    ensures value { portion_view result ≡ unit_then bytes.now at (surrogate_pair high) }
+{
+    match hex_at(bytes, at) {
+        Hex::Short => AtStop::End(Ending::Cut),
+        Hex::Bad(index) => wrong(FaultKind::InvalidEscape, index),
+        Hex::Number(low) => {
+            if !is_low(low) {
+                return wrong(FaultKind::LoneLeadingSurrogateInHexEscape, at + 3);
+            }
+            match char::from_u32(0x10000 + (high - 0xd800) * 0x400 + (low - 0xdc00)) {
+                Some(c) => AtStop::Escape(c, at + 4),
+                None => unreachable!(),
+            }
+        }
+    }
+}
+
+// Behind the backslash that follows a high surrogate.
+fn behind_high_backslash(bytes: &[u8], high: u32, at: usize) -> AtStop
+    requires high { is_high high ≡ true }
+    ensures value { portion_view result ≡ behind_high_backslash bytes.now high at (slice_get bytes.now at) }
+{
+    match byte_at(bytes, at) {
+        None => AtStop::End(Ending::Cut),
+        Some(b'u') => low_surrogate(bytes, high, at + 1),
+        Some(_) => wrong(FaultKind::UnexpectedEndOfHexEscape, at),
+    }
+}
+
+// Behind the digits of a high surrogate.
+fn behind_high(bytes: &[u8], high: u32, at: usize) -> AtStop
+    requires high { is_high high ≡ true }
+    ensures value { portion_view result ≡ behind_high bytes.now high at (slice_get bytes.now at) }
+{
+    match byte_at(bytes, at) {
+        None => AtStop::End(Ending::Cut),
+        Some(b'\\') => behind_high_backslash(bytes, high, at + 1),
+        Some(_) => wrong(FaultKind::UnexpectedEndOfHexEscape, at),
+    }
+}
+
+// Behind `\u`.
+fn unicode_escape(bytes: &[u8], at: usize) -> AtStop
+    requires within { at ≤ length bytes.now }
+    ensures value { portion_view result ≡ unit_then bytes.now at (unicode_escape bytes.now) }
+{
+    match hex_at(bytes, at) {
+        Hex::Short => AtStop::End(Ending::Cut),
+        Hex::Bad(index) => wrong(FaultKind::InvalidEscape, index),
+        Hex::Number(unit) => {
+            if is_high(unit) {
+                return behind_high(bytes, unit, at + 4);
+            }
+            if is_low(unit) {
+                return wrong(FaultKind::LoneLeadingSurrogateInHexEscape, at + 3);
+            }
+            match char::from_u32(unit) {
+                Some(c) => AtStop::Escape(c, at + 4),
+                None => unreachable!(),
+            }
+        }
+    }
+}
+
+// Behind a backslash.
+fn behind_backslash(bytes: &[u8], at: usize) -> AtStop
+    ensures value { portion_view result ≡ behind_backslash bytes.now at (slice_get bytes.now at) }
+{
+    match byte_at(bytes, at) {
+        None => AtStop::End(Ending::Cut),
+        Some(b'u') => unicode_escape(bytes, at + 1),
+        Some(letter) => match short_escape(letter) {
+            Some(c) => AtStop::Escape(c as char, at + 1),
+            None => wrong(FaultKind::InvalidEscape, at),
+        },
+    }
+}
+
+// What stands where a run of plain bytes ends.
+#[tactic(auto, unfolding(crate::specs::StringReading::portion_at))]
+pub(crate) fn portion_at(bytes: &[u8], at: usize) -> AtStop
+    requires { IfSome (slice_get bytes.now at) (λ b. is_stop b ≡ true) }
+    ensures { portion_view result ≡ portion_at bytes.now at }
+{
+    match byte_at(bytes, at) {
+        None => AtStop::End(Ending::Unclosed),
+        Some(b'"') => AtStop::End(Ending::Closed(at + 1)),
+        Some(b'\\') => behind_backslash(bytes, at + 1),
+        Some(_) => wrong(FaultKind::ControlCharacterWhileParsingString, at),
+    }
+}
+
+// The number that the four hex digits at `at` spell, if they are there.
+#[inline(always)]
+fn unit_at(bytes: &[u8], at: usize) -> Option<u32>
+    requires { at + 4 ≤ length bytes.now }
+    ensures value { IfSome result (λ u. hex_digits_at bytes.now at ≡ number u) }
+    ensures bound { IfSome result (λ u. u < 65536) }
+{
+    let a = digit(bytes[at])?;
+    let b = digit(bytes[at + 1])?;
+    let c = digit(bytes[at + 2])?;
+    let d = digit(bytes[at + 3])?;
+    Some(a * 4096 + b * 256 + c * 16 + d)
+}
+
+// The character of the escape at `at`, and its end, where it is at once seen to be whole and no pair.
+#[inline(always)]
+#[tactic(auto, unfolding(crate::specs::StringReading::portion_at))]
+fn escape_at(bytes: &[u8], at: usize) -> Option<(char, usize)>
+    requires { at ≤ length bytes.now }
+    ensures { IfSome result (λ r. part (encode_utf8 r.0) true r.1 ≡ portion_at bytes.now at) }
+{
+    if bytes.len() - at < 6 || bytes[at] != b'\\' {
+        return None;
+    }
+    let letter = bytes[at + 1];
+    if letter == b'u' {
+        let unit = unit_at(bytes, at + 2)?;
+        let c = char::from_u32(unit)?;
+        return Some((c, at + 6));
+    }
+    let c = short_escape(letter)?;
+    Some((c as char, at + 2))
+}
+
+// What stands where a run of plain bytes ends, the closing quote and an escape at once.
+#[inline(always)]
+#[tactic(auto, unfolding(crate::specs::StringReading::portion_at))]
+pub(crate) fn next_portion(bytes: &[u8], at: usize) -> AtStop
+    requires within { at ≤ length bytes.now }
+    requires stop { IfSome (slice_get bytes.now at) (λ b. is_stop b ≡ true) }
+    ensures { portion_view result ≡ portion_at bytes.now at }
+{
+    if at < bytes.len() && bytes[at] == b'"' {
+        return AtStop::End(Ending::Closed(at + 1));
+    }
+    match escape_at(bytes, at) {
+        Some((c, end)) => AtStop::Escape(c, end),
+        None => portion_at(bytes, at),
+    }
+}
+
+// What the letter of an escape stands for, or 0 where it is no escape of one letter.
+#[inline(always)]
+fn sign_of(letter: u8) -> u8
+    ensures value { result ≢ 0 → short_escape letter ≡ Some result }
+    ensures ascii { result < 128 }
+{
+    match letter {
+        b'"' => b'"',
+        b'\\' => b'\\',
+        b'/' => b'/',
+        b'b' => 8,
+        b'f' => 12,
+        b'n' => b'\n',
+        b'r' => b'\r',
+        b't' => b'\t',
+        _ => 0,
+    }
+}
+
+// What the escape of one letter at `at` stands for, or 0 where none stands there.
+#[inline(always)]
+pub(crate) fn sign_at(bytes: &[u8], at: usize) -> u8
+    requires { at + 2 ≤ length bytes.now }
+    ensures value { result ≢ 0
+        → part (encode_utf8 result) true (at + 2) ≡ portion_at bytes.now at }
+    ensures ascii { result < 128 }
+{
+    if bytes[at] != b'\\' {
+        return 0;
+    }
+    sign_of(bytes[at + 1])
+}
