@@ -16,9 +16,12 @@ ghost use Rattle.jiter.specs.Jiter.{MovesOn, Replies, RefusesBytes, UnlessMemory
 ghost use Rattle.jiter.specs.Jiter.{reply_seen, StandsAt, byte_of, refusal_view};
 ghost use Rattle.jiter.specs.Reader.{value_place, with_position, next, known, value_read, object_read, key_step};
 
+mod fronts;
+
 use crate::errors::{JiterError, JiterErrorType, JiterResult};
 use crate::jiter::Jiter;
 use crate::peek::Peek;
+pub use fronts::{a_longer_front_extends_a_shorter, two_prefixes};
 use jiter_scan::memory::{copy_text, push};
 use jiter_scan::{JsonErrorType, NumberAny, NumberInt, Refused};
 use jiter_steps::parse::{Literal, NESTING_LIMIT, Start, start_of};

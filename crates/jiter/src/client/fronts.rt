@@ -1,0 +1,55 @@
+//! Two fronts of one document, as a viewer reads it while it arrives.
+ghost use Rattle.std.specs.Prelude.{◌≡◌, ◌≤◌, ◌⊎◌, IfOk, IfErr, length, take, true};
+ghost use Rattle.jiter_scan.specs.PartialMode.{is_active};
+ghost use Rattle.jiter_steps.specs.Cut.{IsBegunContainer};
+ghost use Rattle.jiter_steps.specs.Extends.{Extends};
+ghost use Rattle.jiter_value.specs.Owned.{owned_tree};
+ghost use Rattle.jiter_value.specs.Parses.{as_read};
+ghost use Rattle.jiter_value.specs.Value.{view, MayGrow};
+ghost use Rattle.jiter.specs.Fronts.{ParsesFront, OneThenOther, IsWholeStop, FrontsGrow};
+
+use jiter_scan::{JsonError, JsonErrorType, PartialMode};
+use jiter_value::JsonValue;
+use std::alloc::Global;
+
+/// The values of two fronts of the bytes, the first `shorter` of them and the first `longer`, each read as
+/// [`JsonValue::parse_with_config`] reads it; or the first fault: the shorter front's, else the longer's. It asks
+/// `shorter <= longer <= bytes.len()`.
+///
+/// In a partial mode, while an array or an object arrives, the longer front's value goes on where the shorter's
+/// stopped: but for the last text and the last open containers all is as it was. It does where the shorter front
+/// holds the first bracket and ends within no number. `OutOfMemory` is answered only where memory was refused.
+pub fn two_prefixes<'j>(
+    alloc: Global,
+    bytes: &'j [u8],
+    shorter: usize,
+    longer: usize,
+    allow_inf_nan: bool,
+    mode: PartialMode,
+) -> Result<(JsonValue<'j>, JsonValue<'j>), JsonError>
+    requires ordered { shorter ≤ longer }
+    requires within { longer ≤ length bytes.now }
+    // Each front is read as by `parse_with_config`, the longer one only where the shorter gave a value.
+    ensures answers { OneThenOther (ParsesFront allow_inf_nan mode bytes.now shorter)
+        (ParsesFront allow_inf_nan mode bytes.now longer) result }
+    // In a partial mode, of an array or an object that is there or still arrives: the second value extends the
+    // first, where the shorter front holds the first bracket and cuts no number.
+    ensures grows { is_active mode ≡ true
+        → (f : IsBegunContainer allow_inf_nan (take longer bytes.now)) → IsWholeStop f.node shorter
+        → IfOk result (λ p. Extends (view p.0) (view p.1)) }
+    // Memory is wanted only where one of the fronts may want it.
+    ensures memory { IfErr result (λ e. e.error_type ≡ JsonErrorType.OutOfMemory
+        → MayGrow (take shorter bytes.now) ⊎ MayGrow (take longer bytes.now)) }
+    ensures index { IfErr result (λ e. e.index ≤ longer) }
+{
+    let first = JsonValue::parse_with_config(alloc, &bytes[..shorter], allow_inf_nan, mode)?;
+    let second = JsonValue::parse_with_config(alloc, &bytes[..longer], allow_inf_nan, mode)?;
+    Ok((first, second))
+}
+
+/// What a viewer may rest on, for a caller to cite: in a partial mode the value of a longer front extends that of a
+/// shorter one, whichever calls read the two; and so where each text of both is owned.
+pub fn a_longer_front_extends_a_shorter()
+    ensures lent { FrontsGrow as_read }
+    ensures owned { FrontsGrow owned_tree }
+{}
