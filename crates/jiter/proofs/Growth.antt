@@ -16,7 +16,7 @@ use Rattle.jiter_value.specs.Owned.{owned_text, owned_tree, owned_items, owned_m
 use Rattle.jiter_value.specs.Parses.{reading_as}
 use Rattle.jiter_value.specs.Value.{view, Answers}
 use Rattle.jiter_value.specs.declared.value.JsonValue.{JsonValue}
-use Rattle.jiter.specs.Fronts.{IsWholeStop, FrontsGrow}
+use Rattle.jiter.specs.Fronts.{IsCleanCut, FrontsGrow}
 
 -- What is answered of a front is made of the document's cut there.
 front-cut : (names : Bool) (u : List ℕ) (mode : PartialMode) (f : IsBegunContainer names u) (made : Tree → Tree)
@@ -26,7 +26,7 @@ front-cut names u mode f made (done a e) v is h = let read = h.1 in (a, is, cc)
 front-cut names u mode f made (fault k i stop) v is h = absurd is
 
 -- the first bytes of a front are a front
-shorter-front : (names : Bool) (u : List ℕ) (f : IsBegunContainer names u) (k : ℕ) → IsWholeStop f.node k
+shorter-front : (names : Bool) (u : List ℕ) (f : IsBegunContainer names u) (k : ℕ) → IsCleanCut f.node k
     → k ≤ f.place → IsBegunContainer names (take k u)
 shorter-front names u f k stop le = record {
   text = f.text;
@@ -59,7 +59,7 @@ mutual
   extends-owned (tree.int z) w h = ap owned_tree h
   extends-owned (tree.big s) w h = ap owned_tree h
   extends-owned (tree.float s) w h = ap owned_tree h
-  extends-owned (tree.string s) (tree.string t) h = h
+  extends-owned (tree.string s) (tree.string t) h = (h.0, h.1, λ own. own)
   extends-owned (tree.array vs) (tree.array ws) h = items-owned vs ws h
   extends-owned (tree.object ms) (tree.object ns) h = members-owned ms ns h
   extends-owned v w h = absurd (cc)

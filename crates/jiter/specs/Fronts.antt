@@ -22,8 +22,8 @@ abbrev pub OneThenOther : (Result JsonValue JsonError → Type 0) → (Result Js
 OneThenOther One Other (Ok p) = One (Ok p.0) × Other (Ok p.1)
 OneThenOther One Other (Err e) = One (Err e) ⊎ ((v : JsonValue) × One (Ok v) × Other (Err e))
 
--- A place of a document behind its first bracket, and within none of its numbers.
-pub record IsWholeStop (n : Node) (k : ℕ) : Type 0 where
+-- A place of a document behind its first bracket and within none of its numbers.
+pub record IsCleanCut (n : Node) (k : ℕ) : Type 0 where
   pub begun : begin n < k
   pub numbers : CutsNoNumber k n
 
@@ -32,6 +32,6 @@ pub record IsWholeStop (n : Node) (k : ℕ) : Type 0 where
 abbrev pub FrontsGrow : (Tree → Tree) → Type 0
 FrontsGrow made =
     (names : Bool) (mode : PartialMode) (u : List ℕ) (f : IsBegunContainer names u) (k : ℕ) (v w : JsonValue)
-    → is_active mode ≡ true → IsWholeStop f.node k → k ≤ length u
+    → is_active mode ≡ true → IsCleanCut f.node k → k ≤ length u
     → Answers (Ok v) (reading_as made (answer_in names mode (take k u)))
     → Answers (Ok w) (reading_as made (answer_in names mode u)) → Extends (view v) (view w)

@@ -6,7 +6,7 @@ ghost use Rattle.jiter_steps.specs.Extends.{Extends};
 ghost use Rattle.jiter_value.specs.Owned.{owned_tree};
 ghost use Rattle.jiter_value.specs.Parses.{as_read};
 ghost use Rattle.jiter_value.specs.Value.{view, MayGrow};
-ghost use Rattle.jiter.specs.Fronts.{ParsesFront, OneThenOther, IsWholeStop, FrontsGrow};
+ghost use Rattle.jiter.specs.Fronts.{ParsesFront, OneThenOther, IsCleanCut, FrontsGrow};
 
 use jiter_scan::{JsonError, JsonErrorType, PartialMode};
 use jiter_value::JsonValue;
@@ -35,7 +35,7 @@ pub fn two_prefixes<'j>(
     // In a partial mode, of an array or an object that is there or still arrives: the second value extends the
     // first, where the shorter front holds the first bracket and cuts no number.
     ensures grows { is_active mode ≡ true
-        → (f : IsBegunContainer allow_inf_nan (take longer bytes.now)) → IsWholeStop f.node shorter
+        → (f : IsBegunContainer allow_inf_nan (take longer bytes.now)) → IsCleanCut f.node shorter
         → IfOk result (λ p. Extends (view p.0) (view p.1)) }
     // Memory is wanted only where one of the fronts may want it.
     ensures memory { IfErr result (λ e. e.error_type ≡ JsonErrorType.OutOfMemory
