@@ -28,13 +28,13 @@ front-cut names u mode f made (fault k i stop) v is h = absurd is
 -- the first bytes of a front are a front
 shorter-front : (names : Bool) (u : List ℕ) (f : IsBegunContainer names u) (k : ℕ) → IsCleanCut f.node k
     → k ≤ f.place → IsBegunContainer names (take k u)
-shorter-front names u f k stop le = record {
+shorter-front names u f k clean le = record {
   text = f.text;
   node = f.node;
   place = k;
   document = f.document;
   container = f.container;
-  begun = stop.begun;
+  begun = clean.begun;
   within = omega (arith, f.within);
   is = ap (take k) f.is ∙ take-take k f.place f.text le;
 }
@@ -42,13 +42,14 @@ shorter-front names u f k stop le = record {
 module _ (made : Tree → Tree) (more : (v w : Tree) → Extends v w → Extends (made v) (made w)) where
   pub fronts-grow : FrontsGrow made
   unfolding shorter-front
-  fronts-grow names mode u f k v w active stop within earlier later =
+  fronts-grow names mode u f k v w active clean within earlier later =
       let place : k ≤ f.place = omega (arith, ap length f.is, length-take f.place f.text, within, f.within) in
-      let g = shorter-front names u f k stop place in
+      let g = shorter-front names u f k clean place in
       let a = front-cut names (take k u) mode g made (answer_in names mode (take k u)) v
       (answer_in-cut names (take k u) mode g active) earlier in
       let b = front-cut names u mode f made (answer_in names mode u) w (answer_in-cut names u mode f active) later in
-      let extends = cut-extends names f.text mode f.node k f.place a.0 b.0 f.document.spelled stop.numbers place a.1 b.1 in
+      let extends = cut-extends names f.text mode f.node k f.place a.0 b.0 f.document.spelled clean.numbers place
+      a.1 b.1 in
       subst (Extends (view v)) b.2 (subst (λ x. Extends x (made b.0)) a.2 (more a.0 b.0 extends))
 
 -- A tree whose texts are made owned goes on as it did.

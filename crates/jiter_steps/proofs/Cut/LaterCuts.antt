@@ -1,7 +1,7 @@
 -- A later cut of a document goes on where an earlier one stopped.
 use Rattle.std.proofs.Common.{◌≡◌, ◌⊎◌, inl, inr, ℕ, zero, suc, ◌+◌, ◌<◌, ◌≤◌, Bool, Option, Some, None, List, []}
-use Rattle.std.proofs.Common.{◌∷◌, ◌++◌, ◌==◌, ◌||◌, true, refl, sym, ap, ap₂, ◌∙◌, subst, arith, nat_le, map, min, slice_range}
-use Rattle.std.proofs.Common.{append-nil}
+use Rattle.std.proofs.Common.{◌∷◌, ◌++◌, ◌==◌, ◌||◌, true, refl, sym, ap, ap₂, ◌∙◌, subst, arith, nat_le, map, min}
+use Rattle.std.proofs.Common.{slice_range, append-nil}
 use Rattle.std.specs.List.{cons_option, list_any}
 use Rattle.std.specs.Option.{option_map}
 use Rattle.std.specs.Str.{encode_utf8_all}
@@ -306,7 +306,8 @@ module _ (names : Bool) (t : List ℕ) (mode : PartialMode) where
           by : b < k → (k < e) ⊎ (e ≤ k) → NodeExtends (grammar.string ps b e)
           by lt (inr all) = whole-grows (grammar.string ps b e) h all
           by lt (inl cuts) =
-              along (grammar.string ps b e) _ _ (string-left names t k mode ps b e lt cuts) refl (kept-grows ps b e lt cuts)
+              along (grammar.string ps b e) _ _ (string-left names t k mode ps b e lt cuts) refl
+              (kept-grows ps b e lt cuts)
     grows-below (suc levels) (grammar.array b e ns) h d c =
         container-grows Extends (λ n. n) item_seen (λ n v w more. more) levels (grows-below levels)
         (grammar.array b e ns)
