@@ -27,8 +27,9 @@ pub record IsCleanCut (n : Node) (k : ℕ) : Type 0 where
   pub begun : begin n < k
   pub numbers : CutsNoNumber k n
 
--- What was shown stays, and grows: of a front u of a document, what a parse in a partial mode answers goes on where its
--- answer to the bytes of u before such a place stopped. What becomes of the trees that are read is the parse's own.
+-- What was shown stays, and grows: u is a front of a document that is an array or an object, cut cleanly at k; then in a
+-- partial mode the value that a parse answers of u extends the one that a parse answers of the bytes before k. `made`
+-- is what both make of the trees that they read.
 abbrev pub FrontsGrow : (Tree → Tree) → Type 0
 FrontsGrow made =
     (names : Bool) (mode : PartialMode) (u : List ℕ) (f : IsBegunContainer names u) (k : ℕ) (v w : JsonValue)

@@ -12,13 +12,13 @@ use jiter_scan::{JsonError, JsonErrorType, PartialMode};
 use jiter_value::JsonValue;
 use std::alloc::Global;
 
-/// The values of two fronts of the bytes, the first `shorter` of them and the first `longer`, each read as
-/// [`JsonValue::parse_with_config`] reads it; or the first fault: the shorter front's, else the longer's. It asks
-/// `shorter <= longer <= bytes.len()`.
+/// Reads the first `shorter` bytes and then the first `longer` bytes, each as [`JsonValue::parse_with_config`] does
+/// (RFC 8259, 2), and gives both values, or the first fault: the shorter front's, and else the longer's, with its byte
+/// index. It asks `shorter <= longer <= bytes.len()`. `OutOfMemory` is answered only where memory was refused.
 ///
-/// In a partial mode, while an array or an object arrives, the longer front's value goes on where the shorter's
-/// stopped: but for the last text and the last open containers all is as it was. It does where the shorter front
-/// holds the first bracket and ends within no number. `OutOfMemory` is answered only where memory was refused.
+/// In a partial mode, while an array or an object arrives, what the shorter front gave stays and grows: but for its
+/// last text and its last open containers all of it stands in the second value as it was. For that the shorter front
+/// has to hold the first bracket, and to end within no number.
 pub fn two_prefixes<'j>(
     alloc: Global,
     bytes: &'j [u8],
@@ -32,8 +32,8 @@ pub fn two_prefixes<'j>(
     // Each front is read as by `parse_with_config`, the longer one only where the shorter gave a value.
     ensures answers { OneThenOther (ParsesFront allow_inf_nan mode bytes.now shorter)
         (ParsesFront allow_inf_nan mode bytes.now longer) result }
-    // In a partial mode, of an array or an object that is there or still arrives: the second value extends the
-    // first, where the shorter front holds the first bracket and cuts no number.
+    // In a partial mode, where the longer front is one of an array or an object (of `bytes`, say) that `shorter`
+    // cuts cleanly: the second value extends the first.
     ensures grows { is_active mode ≡ true
         → (f : IsBegunContainer allow_inf_nan (take longer bytes.now)) → IsCleanCut f.node shorter
         → IfOk result (λ p. Extends (view p.0) (view p.1)) }
@@ -47,8 +47,8 @@ pub fn two_prefixes<'j>(
     Ok((first, second))
 }
 
-/// What a viewer may rest on, for a caller to cite: in a partial mode the value of a longer front extends that of a
-/// shorter one, whichever calls read the two; and so where each text of both is owned.
+/// The law of growth, for a caller to cite that reads its fronts by calls of its own: in a partial mode the value of a
+/// longer front extends that of a shorter one, be their texts lent or owned.
 pub fn a_longer_front_extends_a_shorter()
     ensures lent { FrontsGrow as_read }
     ensures owned { FrontsGrow owned_tree }
