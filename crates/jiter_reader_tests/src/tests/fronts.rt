@@ -92,7 +92,22 @@ fn extends(
     }
 }
 
-// The same of items: the last one may go on, those before it stay.
+// The same of a part of a container: only the last one may go on.
+#[cycle(extends)]
+fn part_extends(
+    alloc: Global,
+    first: &JsonValue<'_>,
+    second: &JsonValue<'_>,
+    is_last: bool,
+) -> Result<bool, AllocError> {
+    if is_last {
+        extends(alloc, first, second)
+    } else {
+        same(alloc, first, second)
+    }
+}
+
+// The same of items.
 #[cycle(extends)]
 fn items_extend(
     alloc: Global,
@@ -100,22 +115,15 @@ fn items_extend(
     second: &[JsonValue<'_>],
 ) -> Result<bool, AllocError> {
     for i in 0..first.len() {
-        if i >= second.len() {
-            return Ok(false);
-        }
-        let stays = if i + 1 < first.len() {
-            same(alloc, &first[i], &second[i])?
-        } else {
-            extends(alloc, &first[i], &second[i])?
-        };
-        if !stays {
+        let is_last = i + 1 == first.len();
+        if i >= second.len() || !part_extends(alloc, &first[i], &second[i], is_last)? {
             return Ok(false);
         }
     }
     Ok(true)
 }
 
-// The same of members: the last value may go on; those before it stay, and each key.
+// The same of members, whose keys stay.
 #[cycle(extends)]
 fn members_extend(
     alloc: Global,
@@ -123,15 +131,11 @@ fn members_extend(
     second: &[(CowStr<'_>, JsonValue<'_>)],
 ) -> Result<bool, AllocError> {
     for i in 0..first.len() {
+        let is_last = i + 1 == first.len();
         if i >= second.len() || first[i].0.as_str() != second[i].0.as_str() {
             return Ok(false);
         }
-        let stays = if i + 1 < first.len() {
-            same(alloc, &first[i].1, &second[i].1)?
-        } else {
-            extends(alloc, &first[i].1, &second[i].1)?
-        };
-        if !stays {
+        if !part_extends(alloc, &first[i].1, &second[i].1, is_last)? {
             return Ok(false);
         }
     }
@@ -190,6 +194,21 @@ fn longer_fronts_agree(
     Ok(true)
 }
 
+// The same of every shorter front.
+fn all_fronts_agree(
+    alloc: Global,
+    bytes: &[u8],
+    numbers: &[(usize, usize)],
+    mode: PartialMode,
+) -> Result<bool, AllocError> {
+    for shorter in 0..bytes.len() + 1 {
+        if !longer_fronts_agree(alloc, bytes, shorter, numbers, mode)? {
+            return Ok(false);
+        }
+    }
+    Ok(true)
+}
+
 #[test]
 fn each_longer_front_extends_each_shorter_one(rt: HostRuntime) -> Result<(), Fail> {
     // Where the numbers of a document begin and end.
@@ -206,12 +225,9 @@ fn each_longer_front_extends_each_shorter_one(rt: HostRuntime) -> Result<(), Fai
     ];
     let alloc = rt.alloc();
     for &(text, numbers) in &DOCUMENTS {
-        let bytes = text.as_bytes();
-        for shorter in 0..bytes.len() + 1 {
-            for mode in [PartialMode::On, PartialMode::TrailingStrings] {
-                let agree = longer_fronts_agree(alloc, bytes, shorter, numbers, mode)?;
-                assert!(rt; agree, "{text} from {shorter}");
-            }
+        for mode in [PartialMode::On, PartialMode::TrailingStrings] {
+            let agree = all_fronts_agree(alloc, text.as_bytes(), numbers, mode)?;
+            assert!(rt; agree, "{text}");
         }
     }
     Ok(())
