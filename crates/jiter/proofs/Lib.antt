@@ -1,6 +1,7 @@
 pub mod Building
 pub mod Containers
 pub mod Copies
+pub mod Growth
 pub mod OwnedTrees
 pub mod Peeking
 pub mod PlainReplies

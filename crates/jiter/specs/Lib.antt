@@ -1,6 +1,7 @@
 pub mod Cause
 pub mod Client
 pub mod Errors
+pub mod Fronts
 pub mod Jiter
 pub mod Lending
 pub mod Peek

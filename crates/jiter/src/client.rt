@@ -1,4 +1,5 @@
-//! A client of the pull reader: it builds a value by peeks, steps and scalar reads alone.
+//! A client of the pull reader, which builds a value by peeks, steps and scalar reads alone; and two fronts of one
+//! document in one call.
 ghost use Rattle.std.specs.Prelude.{◌≡◌, ◌≤◌, ◌+◌, IfOk, OnErr, IsSome, false, option_map};
 ghost use Rattle.jiter_scan.specs.Ascii as ascii;
 ghost use Rattle.jiter_scan.specs.Kind.{out_of_memory};
@@ -25,6 +26,10 @@ use jiter_steps::parse::{Literal, NESTING_LIMIT, Start, start_of};
 use jiter_value::JsonValue;
 use std::alloc::Global;
 use std::borrow::CowStr;
+
+mod fronts;
+
+pub use fronts::{a_longer_front_extends_a_shorter, two_prefixes};
 
 // What a refused request for memory becomes, where the reader stands.
 #[cold]

@@ -1,6 +1,7 @@
 //! Calls of the pull reader, its client, its texts and skips, what it keeps, and the examples of the documents.
 mod client;
 mod expect;
+mod fronts;
 mod kept;
 mod reader;
 mod readme;

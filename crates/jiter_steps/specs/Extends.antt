@@ -1,13 +1,14 @@
 -- One tree goes on where another stopped, as a longer front of a document does.
-use Rattle.std.specs.Prelude.{◌≡◌, ◌⊎◌, ℕ, ◌≤◌, List, ◌++◌}
+use Rattle.std.specs.Prelude.{◌≡◌, ◌⊎◌, ℕ, ◌≤◌, true, List, ◌++◌}
 use Rattle.jiter_steps.specs.Tree.{Text, Tree, string, array, object, Items, no_items, item, Members, no_members}
 use Rattle.jiter_steps.specs.Tree.{member}
 use Rattle.jiter_steps.specs.Node.{Node, Nodes, no_nodes, node, NodeMembers}
 use Rattle.jiter_steps.specs.Node as grammar
 
--- the first text's characters begin the second's; both are UTF-8, so that their bytes say it
+-- The first text's characters begin the second's; both are UTF-8, so that their bytes say it. A text with memory of its
+-- own goes on as one.
 abbrev pub BeginsText : Text → Text → Type 0
-BeginsText a b = (rest : List ℕ) × (b.bytes ≡ a.bytes ++ rest)
+BeginsText a b = (rest : List ℕ) × (b.bytes ≡ a.bytes ++ rest) × (a.owned ≡ true → b.owned ≡ true)
 
 -- Strings and containers go on; other scalars are equal, and so is what stands before a
 -- container's last item or value. Keys are equal.

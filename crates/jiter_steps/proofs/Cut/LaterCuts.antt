@@ -1,24 +1,26 @@
 -- A later cut of a document goes on where an earlier one stopped.
 use Rattle.std.proofs.Common.{◌≡◌, ◌⊎◌, inl, inr, ℕ, zero, suc, ◌+◌, ◌<◌, ◌≤◌, Bool, Option, Some, None, List, []}
-use Rattle.std.proofs.Common.{◌∷◌, ◌++◌, refl, sym, ap, ap₂, ◌∙◌, subst, arith, nat_le, map, min, slice_range}
-use Rattle.std.proofs.Common.{append-nil}
-use Rattle.std.specs.List.{cons_option}
+use Rattle.std.proofs.Common.{◌∷◌, ◌++◌, ◌==◌, ◌||◌, true, refl, sym, ap, ap₂, ◌∙◌, subst, arith, nat_le, map, min}
+use Rattle.std.proofs.Common.{slice_range, append-nil}
+use Rattle.std.specs.List.{cons_option, list_any}
 use Rattle.std.specs.Option.{option_map}
 use Rattle.std.specs.Str.{encode_utf8_all}
 use Rattle.std.proofs.lemmas.Bool.{cases_lt, le-leb, leb-true}
 use Rattle.std.proofs.lemmas.List.{map-append}
+use Rattle.std.proofs.lemmas.List.Folds.{list_any-append}
 use Rattle.std.proofs.lemmas.Str.{encodes-append}
 use Rattle.jiter_scan.specs.NumberTests.{is_number_text}
 use Rattle.jiter_scan.specs.PartialMode.{allows_trailing_strings}
 use Rattle.jiter_scan.specs.declared.partial_mode.PartialMode.{PartialMode}
 use Rattle.jiter_scan.proofs.Choices.{if_case, if-true}
 use Rattle.jiter_scan.proofs.NumberTests.{number_text-decides}
+use Rattle.jiter_scan.proofs.Standing.{slice_range-split}
 use Rattle.jiter_steps.specs.Literal.{literal_tree}
 use Rattle.jiter_steps.specs.Piece.{Piece, characters, text_of, pieces_to}
 use Rattle.jiter_steps.specs.Tree.{Text, Tree, Items, Members, items_of, members_of}
 use Rattle.jiter_steps.specs.Tree as tree
 use Rattle.jiter_steps.specs.Node.{Node, Nodes, no_nodes, node, NodeMembers, no_members, member, begin, end, Spells}
-use Rattle.jiter_steps.specs.Node.{nesting, text_at, value_of}
+use Rattle.jiter_steps.specs.Node.{nesting, has_backslash, text_at, value_of}
 use Rattle.jiter_steps.specs.Node as grammar
 use Rattle.jiter_steps.specs.Cut.{cut, cut_number, cut_string}
 use Rattle.jiter_steps.specs.Extends.{Extends, ExtendsItems, ExtendsMembers, CutsNoNumber, CutsNoNumberOf}
@@ -46,7 +48,7 @@ mutual
   extends-same (tree.int z) = refl
   extends-same (tree.big w) = refl
   extends-same (tree.float w) = refl
-  extends-same (tree.string w) = ([], sym (append-nil w.bytes))
+  extends-same (tree.string w) = ([], sym (append-nil w.bytes), λ own. own)
   extends-same (tree.array vs) = items-same vs
   extends-same (tree.object ms) = members-same ms
 
@@ -78,6 +80,13 @@ text-front : (ps qs : List Piece) (rest : List Piece) → qs ≡ ps ++ rest → 
 text-front ps qs rest e =
     ap text_of e ∙ ap encode_utf8_all (map-append (λ (p : Piece). p.character) ps rest)
     ∙ encodes-append (characters ps) (characters rest)
+
+-- a backslash before a place stands before a later one
+backslash-stays : (t : List ℕ) (i k l : ℕ) → i ≤ k → k ≤ l → has_backslash t i k ≡ true → has_backslash t i l ≡ true
+backslash-stays t i k l ahead later h =
+    ap (list_any (λ c. c == 92)) (slice_range-split t i k ahead l later)
+    ∙ list_any-append (λ c. c == 92) (slice_range t i k) (slice_range t k l)
+    ∙ ap (λ b. b || has_backslash t k l) h
 
 -- What there is goes on; and so does a list, where its last one may and others come behind it.
 abbrev Grows : {A : Type 0} → (A → A → Type 0) → Option A → Option A → Type 0
@@ -262,18 +271,23 @@ module _ (names : Bool) (t : List ℕ) (mode : PartialMode) where
           (grow (left k ps) (left l ps) (parts-grow i e ps order c)))
 
     -- what is kept of a string that k cuts
-    kept-grows : (ps : List Piece) (b e : ℕ) → b < k
+    kept-grows : (ps : List Piece) (b e : ℕ) → b < k → k < e
         → Grows Extends (cut_string_if names t k mode ps b (allows_trailing_strings mode))
         (cut names t (grammar.string ps b e) l mode)
-    kept-grows ps b e lt =
+    kept-grows ps b e lt cuts =
         if_case (λ x. Grows Extends x (cut names t (grammar.string ps b e) l mode)) (allows_trailing_strings mode)
         (Some (cut_string t ps b k)) None
         (λ kept. subst Kept (sym (begun b l _ (omega arith)))
         (if_case Kept (nat_le e l) (Some (tree.string (text_at t ps b e)))
         (cut_string_if names t l mode ps b (allows_trailing_strings mode))
-        (λ y. let f = pieces-all k ps in (text_of f.0, text-front (pieces_to k ps) ps f.0 f.1))
+        (λ y. let f = pieces-all k ps in
+        (text_of f.0, text-front (pieces_to k ps) ps f.0 f.1, backslash-stays t b k e (omega arith) (omega arith)))
         (λ y. subst Kept (sym (if-true (allows_trailing_strings mode) (Some (cut_string t ps b l)) None kept))
-        (let f = pieces-front k l later ps in (text_of f.0, text-front (pieces_to k ps) (pieces_to l ps) f.0 f.1)))))
+        (let f = pieces-front k l later ps in (
+          text_of f.0,
+          text-front (pieces_to k ps) (pieces_to l ps) f.0 f.1,
+          backslash-stays t b k l (omega arith) later,
+        )))))
         (λ none. tt) where
           Kept : Option Tree → Type 0
           Kept y = Grows Extends (Some (cut_string t ps b k)) y
@@ -292,7 +306,8 @@ module _ (names : Bool) (t : List ℕ) (mode : PartialMode) where
           by : b < k → (k < e) ⊎ (e ≤ k) → NodeExtends (grammar.string ps b e)
           by lt (inr all) = whole-grows (grammar.string ps b e) h all
           by lt (inl cuts) =
-              along (grammar.string ps b e) _ _ (string-left names t k mode ps b e lt cuts) refl (kept-grows ps b e lt)
+              along (grammar.string ps b e) _ _ (string-left names t k mode ps b e lt cuts) refl
+              (kept-grows ps b e lt cuts)
     grows-below (suc levels) (grammar.array b e ns) h d c =
         container-grows Extends (λ n. n) item_seen (λ n v w more. more) levels (grows-below levels)
         (grammar.array b e ns)
