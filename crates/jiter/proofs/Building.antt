@@ -3,6 +3,7 @@ use Rattle.std.proofs.Common.{◌≡◌, ◌∙◌, refl, sym, ap, ℕ, ◌+◌,
 use Rattle.std.proofs.Common.{arith}
 use Rattle.std.specs.Prelude.{slice_get, slice_index, Option, Some, None, option_map, IfSome}
 use Rattle.std.proofs.lemmas.Option.{get_or_from_slice_get, slice_get-get_or, slice_get_within}
+use Rattle.std.proofs.lemmas.Option.{none-some}
 use Rattle.jiter_scan.specs.Scanned.{Scanned, taken, failed}
 use Rattle.jiter_scan.specs.Word.{Extent}
 use Rattle.jiter_scan.specs.NumberReading.{number_at, extent_then}
@@ -45,6 +46,7 @@ module _ (names : Bool) (t : List ℕ) where
     number = λ i h. seen-within _ t i (number_at names t i) (number_at-within names t i h);
     text = λ i h. seen-within _ t i (string_at whole t i) (string_at-within whole t i h);
     key = λ i h. seen-within _ t i (string_at whole t i) (string_at-within whole t i h);
+    refuses = λ members i j k h e. absurd (none-some _ e);
   }
 
   pub built_inside-within : (levels : ℕ) → AllWithin t (inside_at (owned_trees names) t levels)
@@ -105,6 +107,7 @@ module _ {K P : Type 0} (s0 : ReaderState) (w : Walk K P) where
 -- The steps lead on, each reply that tells of a part tells what it is, and each part that was built ends further on.
 pub record WalkLaws {K P : Type 0} (s0 : ReaderState) (w : Walk K P) : Type 0 where
   pub goes : Goes w.container s0.text
+  pub free : (parts : List P) (i : ℕ) → w.container.refuses parts i ≡ None
   pub begins : (i : ℕ) → i < length s0.text → Begins s0 w (value_reply (w.container.part i)) (w.told i)
   pub steps : (i : ℕ) → w.stepped (with_position s0 i) ≡ part_reply w.told (step s0.text w.container.next i)
   pub ahead : (k : K) (i : ℕ) (v : Tree) (e : ℕ) → ToldAt s0 w (Some k) i → w.asked (with_position s0 i) ≡ gave v e
@@ -128,7 +131,8 @@ module _ {K P : Type 0} (s0 : ReaderState) (w : Walk K P) (laws : WalkLaws s0 w)
       → LeadsTo s0 w parts (led s0 w parts s) (part_reply w.told s)
   leads parts m (more i) a =
       begun-leads parts (value_reply (parts_from s0 w parts i)) (value_reply (w.container.part i)) (w.told i)
-      (ap value_reply (parts_at_is (owned_trees s0.names) s0.text w.container laws.goes parts i a.1)
+      (ap value_reply (parts_at_is (owned_trees s0.names) s0.text w.container laws.goes parts i a.1
+      (laws.free parts i))
       ∙ behind-part parts (w.container.part i))
       (laws.begins i a.1)
   leads parts m (closed e) a = (refl, tt)
@@ -166,6 +170,7 @@ module _ (s0 : ReaderState) (levels : ℕ) where
     goes =
         array_of-goes (owned_trees s0.names) s0.text (owned-advances s0.names s0.text) inner
         (built_inside-within s0.names s0.text levels) s0.position;
+    free = λ parts i. refl;
     begins = λ i lt. (seen-same (value_reply (inner i)), slice_get-get_or s0.text i 0 lt);
     steps = λ i. refl;
     ahead = λ k i v e at h. gave-ahead s0.text i (inner i)
@@ -225,6 +230,7 @@ module _ (s0 : ReaderState) (levels : ℕ) where
     goes =
         object_of-goes (owned_trees s0.names) s0.text (owned-advances s0.names s0.text) inner
         (built_inside-within s0.names s0.text levels) s0.position;
+    free = λ parts i. refl;
     begins = λ i lt. key-begins i (string_at whole s0.text i);
     steps = λ i. seen-part owned_text (λ j. key_reply s0.text j (string_at whole s0.text j))
         (step s0.text (object_step s0.text) i);

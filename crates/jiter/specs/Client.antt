@@ -1,5 +1,5 @@
 -- What the client builds of a text: the value that is read, each of its texts owned.
-use Rattle.std.specs.Prelude.{ℕ, Bool, true, List, ◌⊎◌}
+use Rattle.std.specs.Prelude.{ℕ, Bool, true, List, ◌⊎◌, None}
 use Rattle.jiter_scan.specs.NumberReading.{number_at}
 use Rattle.jiter_steps.specs.Literal.{literal_at, literal_tree}
 use Rattle.jiter_steps.specs.StringReading.{whole, string_at}
@@ -23,6 +23,7 @@ owned_trees names = record {
   number = λ t i. seen_as (λ n e. owned_tree (number_tree n)) (number_at names t i);
   text = λ t i. seen_as (λ s e. tree.string (owned_text s)) (string_at whole t i);
   key = λ t i. seen_as (λ s e. owned_text s) (string_at whole t i);
+  refuses = λ members t i. None;
   array = λ b e items. tree.array (items_of items);
   object = λ b e members. tree.object (members_of members);
 }

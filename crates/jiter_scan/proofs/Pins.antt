@@ -6,7 +6,7 @@ use Rattle.jiter_scan.specs.Kind.{eof_value, expected_colon, expected_list_comma
 use Rattle.jiter_scan.specs.Kind.{expected_ident, expected_value, invalid_escape, invalid_number, number_out_of_range}
 use Rattle.jiter_scan.specs.Kind.{invalid_code_point, control_character, key_must_be_a_string, lone_surrogate}
 use Rattle.jiter_scan.specs.Kind.{trailing_comma, trailing_characters, end_of_hex_escape, recursion_limit}
-use Rattle.jiter_scan.specs.Kind.{out_of_memory}
+use Rattle.jiter_scan.specs.Kind.{out_of_memory, duplicate_key}
 use Rattle.jiter_scan.specs.Scanned.{Scanned, failed, Scans, AnswersAlone}
 use Rattle.jiter_scan.specs.declared.errors.Fault.{Fault}
 use Rattle.jiter_scan.specs.declared.errors.FaultKind.{FaultKind}
@@ -15,7 +15,7 @@ use Rattle.jiter_scan.specs.declared.errors.JsonError.{JsonError}
 use Rattle.jiter_scan.specs.declared.errors.JsonErrorType.{JsonErrorType}
 use Rattle.jiter_scan.specs.declared.errors.JsonErrorType.TheVariants as code
 
--- the code's kind that stands for a kind
+-- the code's kind that stands for a kind; any one for that of a repeated key, which no call answers
 abbrev code_of : Kind → JsonErrorType
 code_of float_expecting_int = code.FloatExpectingInt
 code_of eof_list = code.EofWhileParsingList
@@ -39,6 +39,7 @@ code_of trailing_characters = code.TrailingCharacters
 code_of end_of_hex_escape = code.UnexpectedEndOfHexEscape
 code_of recursion_limit = code.RecursionLimitExceeded
 code_of out_of_memory = code.OutOfMemory
+code_of (duplicate_key key) = code.OutOfMemory
 
 code_back : (k : JsonErrorType) → code_of (kind_of k) ≡ k
 code_back code.FloatExpectingInt = refl

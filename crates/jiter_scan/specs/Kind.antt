@@ -1,5 +1,6 @@
 -- The kinds of refusal and their texts.
-use Rattle.std.specs.Prelude.{ℕ, Bool, true, false, List, codes}
+use Rattle.std.specs.Prelude.{ℕ, Bool, true, false, List, ◌++◌, codes}
+use Rattle.jiter_scan.specs.Quoted.{quoted}
 use Rattle.jiter_scan.specs.declared.errors.JsonErrorType.{JsonErrorType}
 use Rattle.jiter_scan.specs.declared.errors.JsonErrorType.TheVariants as code
 use Rattle.jiter_scan.specs.declared.errors.FaultKind.{FaultKind}
@@ -29,6 +30,8 @@ pub data Kind : Type 0 where
   end_of_hex_escape : Kind
   recursion_limit : Kind
   out_of_memory : Kind
+  -- of a key that its object has already, with its bytes
+  duplicate_key : List ℕ → Kind
 
 -- what a kind prints
 abbrev pub kind_text : Kind → List ℕ
@@ -54,6 +57,7 @@ kind_text trailing_characters = codes "trailing characters"
 kind_text end_of_hex_escape = codes "unexpected end of hex escape"
 kind_text recursion_limit = codes "recursion limit exceeded"
 kind_text out_of_memory = codes "out of memory"
+kind_text (duplicate_key key) = codes "Detected duplicate key " ++ quoted key
 
 -- the kind that the code's variant stands for
 abbrev pub kind_of : JsonErrorType → Kind

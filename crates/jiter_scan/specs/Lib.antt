@@ -1,4 +1,5 @@
 pub mod Ascii
+pub mod Quoted
 pub mod Kind
 pub mod Position
 pub mod PartialMode

@@ -5,4 +5,5 @@ pub mod Fault
 pub mod Grammar
 pub mod Pins
 pub mod Reading
+pub mod Unique
 mod Rows

@@ -13,3 +13,4 @@ mod Skips
 mod LaterCuts
 mod Escapes
 mod Edges
+mod UniqueKeys

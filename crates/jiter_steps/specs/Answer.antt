@@ -1,5 +1,5 @@
 -- The readings that the calls answer with: of a whole document, of a cut one, and of the end alone.
-use Rattle.std.specs.Prelude.{ℕ, Bool, false, if◌then◌else◌, List}
+use Rattle.std.specs.Prelude.{ℕ, Bool, false, if◌then◌else◌, List, None}
 use Rattle.jiter_scan.specs.Kind.{Kind, is_forgiven}
 use Rattle.jiter_scan.specs.Scanned.{Scanned, taken, failed}
 use Rattle.jiter_scan.specs.NumberReading.{number_at}
@@ -28,6 +28,7 @@ trees forgives form names = record {
   number = λ t i. seen_as (λ n e. number_tree n) (number_at names t i);
   text = λ t i. seen_as (λ s e. tree.string s) (string_at form t i);
   key = λ t i. string_at whole t i;
+  refuses = λ members t i. None;
   array = λ b e items. tree.array (items_of items);
   object = λ b e members. tree.object (members_of members);
 }
@@ -40,6 +41,7 @@ only_ends names = record {
   number = λ t i. seen_as (λ n e. tt) (number_at names t i);
   text = λ t i. seen_as (λ s e. tt) (string_at raw t i);
   key = λ t i. seen_as (λ s e. tt) (string_at raw t i);
+  refuses = λ members t i. None;
   array = λ b e items. tt;
   object = λ b e members. tt;
 }

@@ -18,3 +18,4 @@ pub mod Frames
 pub mod FirstFault
 pub mod Skip
 pub mod Plain
+pub mod Unique

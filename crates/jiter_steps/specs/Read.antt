@@ -25,15 +25,18 @@ pub record Rules (K A : Type 0) : Type 0 where
   pub number : List ℕ → ℕ → Scanned A
   pub text : List ℕ → ℕ → Scanned A
   pub key : List ℕ → ℕ → Scanned K
+  -- the fault of a key at this place that these members before it forbid
+  pub refuses : List (K × A) → List ℕ → ℕ → Option (Kind × ℕ)
   pub array : ℕ → ℕ → List A → A
   pub object : ℕ → ℕ → List (K × A) → A
 
--- A container: what may stand behind its bracket, what behind a part, a part at a place, and what is built of the
--- parts.
+-- A container: what may stand behind its bracket, what behind a part, a part at a place, the fault there that the parts
+-- before it make, and what is built of the parts.
 pub record Container (P A : Type 0) : Type 0 where
   pub first : ℕ → Option ℕ → Step
   pub next : ℕ → Option ℕ → Step
   pub part : ℕ → Reading P
+  pub refuses : List P → ℕ → Option (Kind × ℕ)
   pub build : ℕ → List P → A
 
 -- a scalar at i; its fault leaves the reading there
@@ -53,6 +56,11 @@ behind_colon k inner (failed kind j) = fault kind j j
 abbrev pub behind_key : {K A : Type 0} → (ℕ → Reading A) → List ℕ → ℕ → Scanned K → Reading (K × A)
 behind_key inner t i (taken k e) = behind_colon k inner (object_colon t e)
 behind_key inner t i (failed kind j) = fault kind j i
+
+-- a part, unless those before it refuse it: it is not looked at then
+abbrev pub unless_refused : {P : Type 0} → Option (Kind × ℕ) → Reading P → Reading P
+unless_refused None x = x
+unless_refused (Some f) x = fault f.0 f.1 f.1
 
 -- behind a whole text's value nothing may stand
 abbrev pub if_last : {A : Type 0} → A → ℕ → ℕ → Option ℕ → Reading A
@@ -85,7 +93,9 @@ module _ {K A : Type 0} where
     -- The parts from i on, behind those so far. The number bounds the rounds; the text's length is always enough.
     unfoldable pub parts_at : Rules K A → Container P A → List ℕ → ℕ → List P → ℕ → Reading A
     parts_at r c t zero parts i = fault eof_value i i
-    parts_at r c t (suc n) parts i = behind_part r c t (λ more_parts j. parts_at r c t n more_parts j) parts (c.part i)
+    parts_at r c t (suc n) parts i =
+        behind_part r c t (λ more_parts j. parts_at r c t n more_parts j) parts
+        (unless_refused (c.refuses parts i) (c.part i))
 
     -- the container whose bracket is at i
     abbrev pub container_at : Rules K A → Container P A → List ℕ → ℕ → Reading A
@@ -93,7 +103,14 @@ module _ {K A : Type 0} where
 
   -- the array that begins at i, and the object, where inner reads the values inside
   abbrev pub array_of : Rules K A → (ℕ → Reading A) → List ℕ → ℕ → Container A A
-  array_of r inner t i = record { first = array_first; next = array_step t; part = inner; build = r.array i }
+  array_of r inner t i =
+      record {
+        first = array_first;
+        next = array_step t;
+        part = inner;
+        refuses = λ items j. None;
+        build = r.array i;
+      }
 
   abbrev pub object_of : Rules K A → (ℕ → Reading A) → List ℕ → ℕ → Container (K × A) A
   object_of r inner t i =
@@ -101,6 +118,7 @@ module _ {K A : Type 0} where
         first = object_first;
         next = object_step t;
         part = λ j. behind_key inner t j (r.key t j);
+        refuses = λ members j. r.refuses members t j;
         build = r.object i;
       }
 

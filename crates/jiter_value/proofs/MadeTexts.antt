@@ -1,5 +1,6 @@
 -- Readings whose texts are made so: what is read then is made of what is read.
 use Rattle.std.proofs.Common.{◌≡◌, ◌∙◌, refl, sym, ap, ap₂, ℕ, List, [], ◌∷◌, map, arith}
+use Rattle.std.proofs.lemmas.Option.{none-some}
 use Rattle.jiter_scan.specs.NumberReading.{number_at}
 use Rattle.jiter_scan.specs.Scanned.{Scanned, taken, failed}
 use Rattle.jiter_scan.proofs.NumberLaws.{number_at-within}
@@ -55,6 +56,7 @@ module _ (made : Text → Text) where
       number = λ i h. seen-within _ t i (number_at p.allow_inf_nan t i) (number_at-within p.allow_inf_nan t i h);
       text = λ i h. seen-within _ t i (string_at (value_form p.mode) t i) (string_at-within (value_form p.mode) t i h);
       key = λ i h. seen-within _ t i (string_at whole t i) (string_at-within whole t i h);
+      refuses = λ members i j k h e. absurd (none-some _ e);
     }
 
     made-leads : Leads AllTold (rules p) (rules_as made p) made (tree_as made) t
@@ -65,6 +67,7 @@ module _ (made : Text → Text) where
       number = λ i lt begins told. seen-made (tree_as made) _ _ (number_at p.allow_inf_nan t i) (λ n e. refl);
       text = λ i quote told. seen-made (tree_as made) _ _ (string_at (value_form p.mode) t i) (λ s e. refl);
       key = λ i quote told. key-made (string_at whole t i);
+      refuses = λ members i quote. refl;
       array = λ b e items. ap tree.array (items_as-of items);
       object = λ b e members. ap tree.object (members_as-of members);
     }

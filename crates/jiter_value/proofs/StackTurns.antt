@@ -327,7 +327,7 @@ module _ (made : Text → Text) (p : Settings) (t : List ℕ) where
   key-begins (o ∷ os) es ms j k e m b h v s =
       key-value (rules_as made p) t good (frames o.outer os es (take o.base ms)) (map member_view (drop o.base ms)) j
       e m
-      (made k) h (ap (seen_as (λ s e. made s)) (scalar-taken j (string_at whole t j) k e v)) s
+      (made k) h refl (ap (seen_as (λ s e. made s)) (scalar-taken j (string_at whole t j) k e v)) s
 
   -- and is the last member's.
   pub key-opens : (os : List Open) (es : List JsonValue) (ms : List Member) (j : ℕ) (k : Text) (kept : CowStr Global)
@@ -350,7 +350,7 @@ module _ (made : Text → Text) (p : Settings) (t : List ℕ) where
       let key = scalar-failed j (string_at whole t j) k x stop v in
       rw key.1
       (key-failed (rules_as made p) t good (frames o.outer os es (take o.base ms)) (map member_view (drop o.base ms))
-      j x k h
+      j x k h refl
       (ap (seen_as (λ s e. made s)) key.0))
 
   pub colon-fails : (os : List Open) (es : List JsonValue) (ms : List Member) (j : ℕ) (key : Text) (e x stop : ℕ)
@@ -361,7 +361,7 @@ module _ (made : Text → Text) (p : Settings) (t : List ℕ) where
   colon-fails (o ∷ os) es ms j key e x stop k b h v s =
       colon-failed (rules_as made p) t good (frames o.outer os es (take o.base ms)) (map member_view (drop o.base ms))
       j e x
-      (made key) k h (ap (seen_as (λ s e. made s)) (scalar-taken j (string_at whole t j) key e v)) s.0 ∙ ap
+      (made key) k h refl (ap (seen_as (λ s e. made s)) (scalar-taken j (string_at whole t j) key e v)) s.0 ∙ ap
       (key_fault_in made p t (o ∷ os) es ms k x) (sym s.1)
 
   pub key-kept : (os : List Open) (es : List JsonValue) (ms : List Member) (k : Kind) (x stop : ℕ)

@@ -1,5 +1,5 @@
 -- How a document is read, and what its reading answers.
-use Rattle.std.specs.Prelude.{ℕ, Bool, if◌then◌else◌, List}
+use Rattle.std.specs.Prelude.{ℕ, Bool, if◌then◌else◌, List, None}
 use Rattle.jiter_scan.specs.Kind.{Kind, is_forgiven}
 use Rattle.jiter_scan.specs.PartialMode.{is_active}
 use Rattle.jiter_scan.specs.declared.partial_mode.PartialMode.{PartialMode}
@@ -29,6 +29,7 @@ rules_as made p = record {
   number = λ t i. seen_as (λ n e. tree_as made (number_tree n)) (number_at p.allow_inf_nan t i);
   text = λ t i. seen_as (λ s e. tree.string (made s)) (string_at (value_form p.mode) t i);
   key = λ t i. seen_as (λ s e. made s) (string_at whole t i);
+  refuses = λ members t i. None;
   array = λ b e items. tree.array (items_of items);
   object = λ b e members. tree.object (members_of members);
 }

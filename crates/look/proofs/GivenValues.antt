@@ -1,6 +1,7 @@
 -- What holds of each value that a reading may give.
 use Rattle.std.proofs.Common.{ℕ, zero, suc, ◌+◌, ◌++◌, List, [], ◌∷◌, length}
 use Rattle.std.specs.Prelude.{slice_get, slice_index, Option, Some, None}
+use Rattle.jiter_steps.proofs.Reading.Values.{part_behind}
 use Rattle.jiter_scan.specs.Kind.{Kind}
 use Rattle.jiter_scan.specs.Scanned.{Scanned, taken, failed}
 use Rattle.jiter_scan.specs.Word.{Extent}
@@ -10,7 +11,7 @@ use Rattle.jiter_steps.specs.Node.{nesting_limit}
 use Rattle.jiter_steps.specs.Read.{Reading, done, fault, Rules, Container, scalar_at, with_key, behind_colon}
 use Rattle.jiter_steps.specs.Read.{behind_key, if_forgiven, follow, behind_part, parts_at, container_at, array_of}
 use Rattle.jiter_steps.specs.Read.{object_of, value_with, inside_at, value_at, if_last, to_end, if_begun}
-use Rattle.jiter_steps.specs.Read.{front_answer, whole_answer}
+use Rattle.jiter_steps.specs.Read.{front_answer, unless_refused, whole_answer}
 use Rattle.jiter_steps.specs.Step.{Step, more, closed, stuck, step, object_colon}
 use Rattle.jiter_steps.specs.declared.parse.Literal.{Literal}
 use Rattle.jiter_steps.specs.declared.parse.Start.{Start}
@@ -83,7 +84,11 @@ module _ {K A : Type 0} (r : Rules K A) (t : List ℕ) where
     unfolding parts_at
     parts_at-gives zero ps all i = tt
     parts_at-gives (suc n) ps all i =
-        behind_part-gives (λ more_parts j. parts_at r c t n more_parts j) (parts_at-gives n) ps all (c.part i) (part i)
+        behind_part-gives (λ more_parts j. parts_at r c t n more_parts j) (parts_at-gives n) ps all
+        (part_behind c ps i) (by (c.refuses ps i)) where
+          by : (o : Option (Kind × ℕ)) → Gives IsPart (unless_refused o (c.part i))
+          by None = part i
+          by (Some f) = tt
 
     container_at-gives : (i : ℕ) → Gives Is (container_at r c t i)
     container_at-gives i =

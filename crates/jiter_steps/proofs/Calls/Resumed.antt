@@ -1,6 +1,6 @@
 -- The turns of the machine, as what the open containers complete a reading to.
 use Rattle.std.proofs.Common.{◌≡◌, ℕ, suc, ◌+◌, ◌-◌, ◌<◌, ◌≤◌, true, false, List, [], ◌∷◌, length, refl, ap, ◌∙◌, arith}
-use Rattle.std.specs.Prelude.{slice_index}
+use Rattle.std.specs.Prelude.{slice_index, None}
 use Rattle.jiter_scan.specs.Kind.{Kind, recursion_limit}
 use Rattle.jiter_scan.specs.Scanned.{taken, failed}
 use Rattle.jiter_scan.proofs.Choices.{if_case}
@@ -37,7 +37,8 @@ module _ {K A : Type 0} (r : Rules K A) (t : List ℕ) where
 
   -- a container of the same parts that is built so
   abbrev rebuilt : {P : Type 0} → Container P A → (ℕ → List P → A) → Container P A
-  rebuilt c build = record { first = c.first; next = c.next; part = c.part; build = build }
+  rebuilt c build =
+      record { first = c.first; next = c.next; part = c.part; refuses = c.refuses; build = build }
 
   -- what closes a container before the value that it awaits
   abbrev pub build_of : Frame K A → ℕ → A
@@ -114,37 +115,39 @@ module _ {K A : Type 0} (r : Rules K A) (t : List ℕ) where
         → resume r t fs (parts_from r t (array_in r t (length fs)) items j) ≡ value_from r t (items_frame items ∷ fs) j
     items-value fs items j h =
         ap (resume r t fs)
-        (parts_at_is r t (array_in r t (length fs)) (container_in-goes shape.Array (length fs)) items j h)
+        (parts_at_is r t (array_in r t (length fs)) (container_in-goes shape.Array (length fs)) items j h refl)
 
     -- The rest of an object is its next key, the colon and its value, and what follows that.
-    pub key-value : (fs : Frames) (members : List (K × A)) (j e m : ℕ) (k : K) → j < length t → r.key t j ≡ taken k e
-        → object_colon t e ≡ taken tt m
+    pub key-value : (fs : Frames) (members : List (K × A)) (j e m : ℕ) (k : K) → j < length t
+        → r.refuses members t j ≡ None → r.key t j ≡ taken k e → object_colon t e ≡ taken tt m
         → key_from r t fs members j ≡ value_from r t (members_frame members k ∷ fs) m
-    key-value fs members j e m k h v w =
+    key-value fs members j e m k h free v w =
         let c = object_in r t (length fs) in
-        ap (resume r t fs) (parts_at_is r t c (container_in-goes shape.Object (length fs)) members j h
+        ap (resume r t fs) (parts_at_is r t c (container_in-goes shape.Object (length fs)) members j h free
         ∙ ap (behind_part r c t (parts_from r t c) members)
         (member-value r t (value_in r t (suc (length fs))) j e m k _ v w refl))
 
     -- a fault of the key or of the colon
     key-fault : (fs : Frames) (members : List (K × A)) (j x stop : ℕ) (k : Kind) → j < length t
+        → r.refuses members t j ≡ None
         → (object_in r t (length fs)).part j ≡ fault k x stop
         → key_from r t fs members j ≡ resume r t fs (if_forgiven r (λ e. r.object 0 e members) k x stop)
-    key-fault fs members j x stop k h v =
+    key-fault fs members j x stop k h free v =
         ap (resume r t fs)
         (parts-fault r t (object_in r t (length fs)) (container_in-goes shape.Object (length fs)) j x stop members
-        k h v)
+        k h free v)
 
-    pub key-failed : (fs : Frames) (members : List (K × A)) (j x : ℕ) (k : Kind) → j < length t → r.key t j ≡ failed k x
+    pub key-failed : (fs : Frames) (members : List (K × A)) (j x : ℕ) (k : Kind) → j < length t
+        → r.refuses members t j ≡ None → r.key t j ≡ failed k x
         → key_from r t fs members j ≡ resume r t fs (if_forgiven r (λ e. r.object 0 e members) k x j)
-    key-failed fs members j x k h v =
-        key-fault fs members j x j k h (member-key r t (value_in r t (suc (length fs))) j x k v)
+    key-failed fs members j x k h free v =
+        key-fault fs members j x j k h free (member-key r t (value_in r t (suc (length fs))) j x k v)
 
     pub colon-failed : (fs : Frames) (members : List (K × A)) (j e x : ℕ) (key : K) (k : Kind) → j < length t
-        → r.key t j ≡ taken key e → object_colon t e ≡ failed k x
+        → r.refuses members t j ≡ None → r.key t j ≡ taken key e → object_colon t e ≡ failed k x
         → key_from r t fs members j ≡ resume r t fs (if_forgiven r (λ e. r.object 0 e members) k x x)
-    colon-failed fs members j e x key k h v w =
-        key-fault fs members j x x k h (member-colon r t (value_in r t (suc (length fs))) j e x key k v w)
+    colon-failed fs members j e x key k h free v w =
+        key-fault fs members j x x k h free (member-colon r t (value_in r t (suc (length fs))) j e x key k v w)
 
     -- A container begins.
     module _ (any : IgnoresBegin r) (fs : Frames) (i : ℕ) (u : Step) (few : length fs ≤ 200) where

@@ -57,6 +57,7 @@ module _ (names : Bool) (t : List ℕ) where
     text = λ i quote.
         seen-alike _ _ _ seen_end seen_end (λ s e. refl) (strings-alike i (string_at whole t i) refl);
     key = λ i quote. strings-alike i (string_at whole t i) refl;
+    refuses = λ members i quote. refl;
     array = λ b e items. refl;
     object = λ b e members. refl;
   }

@@ -1,5 +1,5 @@
 -- The turns of a skip, as what its open containers complete the reading to.
-use Rattle.std.proofs.Common.{◌≡◌, ◌≢◌, ℕ, zero, suc, ◌+◌, ◌-◌, ◌<◌, ◌≤◌, Bool, true, false, List, [], ◌∷◌, ◌++◌}
+use Rattle.std.proofs.Common.{◌≡◌, ◌≢◌, ℕ, zero, suc, ◌+◌, ◌-◌, ◌<◌, ◌≤◌, Bool, true, false, List, [], ◌∷◌, ◌++◌, None}
 use Rattle.std.proofs.Common.{length, refl, sym, ap, ap₂, ◌∙◌, arith}
 use Rattle.std.specs.Prelude.{slice_index, slice_index_or, slice_set, Result, Ok}
 use Rattle.std.proofs.lemmas.List.{get_or-set_same, get_or-set_other}
@@ -23,7 +23,7 @@ use Rattle.jiter_steps.proofs.Reading.Bounds.{Ahead, container_first-ahead, cont
 use Rattle.jiter_steps.proofs.Reading.Instances.{only_ends-advances}
 use Rattle.jiter_steps.proofs.Calls.Resumed.{IgnoresBegin, value_in-levels, value_in-limit, resume-fault, Part}
 use Rattle.jiter_steps.proofs.Calls.Resumed.{container_in, container-begins, container_in-goes}
-use Rattle.jiter_steps.proofs.Reading.Values.{Advances, parts_at_is}
+use Rattle.jiter_steps.proofs.Reading.Values.{Advances, parts_at_is, part-free}
 use Rattle.jiter_scan.specs.NumberReading.{with_value, number_extent, number_at}
 
 -- The end of a number alone, in the words of the reading that gives ends alone.
@@ -87,7 +87,8 @@ module _ (names : Bool) (t : List ℕ) where
 
   -- Which parts a container has makes no difference.
   module _ {P : Type 0} (c : Container P (Unit {0}))
-      (same : (e : ℕ) (ps qs : List P) → c.build e ps ≡ c.build e qs) where
+      (same : (e : ℕ) (ps qs : List P) → c.build e ps ≡ c.build e qs)
+      (free : (ps : List P) (i : ℕ) → c.refuses ps i ≡ None) where
     behind_part-any : (go : List P → ℕ → Reading (Unit {0}))
         → ((ps qs : List P) (j : ℕ) → go ps j ≡ go qs j) → (ps qs : List P) (x : Reading P)
         → behind_part (only_ends names) c t go ps x ≡ behind_part (only_ends names) c t go qs x
@@ -102,7 +103,10 @@ module _ (names : Bool) (t : List ℕ) where
     unfolding parts_at
     parts_at-any zero ps qs i = refl
     parts_at-any (suc n) ps qs i =
-        behind_part-any (parts_at (only_ends names) c t n) (λ us vs j. parts_at-any n us vs j) ps qs (c.part i)
+        let go = parts_at (only_ends names) c t n in
+        ap (behind_part (only_ends names) c t go ps) (part-free c ps i (free ps i))
+        ∙ behind_part-any go (λ us vs j. parts_at-any n us vs j) ps qs (c.part i)
+        ∙ sym (ap (behind_part (only_ends names) c t go qs) (part-free c qs i (free qs i)))
 
     behind-any : (fs : Frames) (ps qs : List P) (x : Reading P) → behind c fs ps x ≡ behind c fs qs x
     behind-any fs ps qs x =
@@ -130,7 +134,8 @@ module _ (names : Bool) (t : List ℕ) where
         → behind_member (behind_colon u inner x)
         ≡ led_on shape.Object fs (awaits_value (behind_colon u (λ j. done tt j) x))
     colon-step u (taken v j) =
-        behind-any (innermost shape.Object fs) (λ e ps qs. refl) fs members [] (with_key tt (inner j))
+        behind-any (innermost shape.Object fs) (λ e ps qs. refl) (λ ps j. refl) fs members []
+        (with_key tt (inner j))
     colon-step u (failed k j) = fault-passes fs k j j
 
     key-step : (i : ℕ) (x : Scanned (Unit {0}))
@@ -143,16 +148,21 @@ module _ (names : Bool) (t : List ℕ) where
   part-led : (b : Shape) (fs : Frames) (parts : List (Part (only_ends names) t b)) (j : ℕ)
       → behind (innermost b fs) fs parts ((innermost b fs).part j) ≡ led_on b fs (value_inside b t j)
   part-led shape.Array fs items j =
-      behind-any (innermost shape.Array fs) (λ e ps qs. refl) fs items []
+      behind-any (innermost shape.Array fs) (λ e ps qs. refl) (λ ps j. refl) fs items []
       (value_in (only_ends names) t (suc (length fs)) j)
   part-led shape.Object fs members j = key-step fs members j (seen_as (λ s e. tt) (string_at raw t j))
+
+  innermost-free : (b : Shape) (fs : Frames) (parts : List (Part (only_ends names) t b)) (i : ℕ)
+      → (innermost b fs).refuses parts i ≡ None
+  innermost-free shape.Array fs parts i = refl
+  innermost-free shape.Object fs parts i = refl
 
   parts-led : (b : Shape) (fs : Frames) (parts : List (Part (only_ends names) t b)) (i : ℕ) (s : Step) → Ahead t i s
       → resumed fs (parts_step (only_ends names) t (innermost b fs) parts s) ≡ led_on b fs (inside b t s)
   parts-led b fs parts i (more j) h =
       ap (resumed fs)
       (parts_at_is (only_ends names) t (innermost b fs) (container_in-goes (only_ends names) t good b (length fs))
-      parts j h.1)
+      parts j h.1 (innermost-free b fs parts j))
       ∙ part-led b fs parts j
   parts-led b fs parts i (closed e) h = refl
   parts-led b fs parts i (stuck k j) h = fault-passes fs k j j

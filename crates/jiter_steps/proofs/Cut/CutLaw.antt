@@ -151,7 +151,7 @@ module _ (names : Bool) (t : List ℕ) (k : ℕ) (within : k ≤ length t) (mode
 
   -- Containers whose reading sticks where it halts behind a part, and whose part that k cuts leaves its cut.
   module _ {P Q : Type 0} (c : Container Q Tree) (value : P → Node) (seen : P → Tree → Q)
-      (IsCut : P → Reading Q → Type 0) (goes : Goes c front)
+      (IsCut : P → Reading Q → Type 0) (free : (qs : List Q) (i : ℕ) → c.refuses qs i ≡ None) (goes : Goes c front)
       (sticks : (p : ℕ) → Halts front p → StuckAt p (step front c.next p))
       (leaves : (p : P) (x : Reading Q) → Spells names t (value p) → IsCut p x
       → Leaves front (part_left names t k mode value seen p) x) where
@@ -195,14 +195,14 @@ module _ (names : Bool) (t : List ℕ) (k : ℕ) (within : k ≤ length t) (mode
     part-closes : (qs : List Q) (ps : List P) (j : ℕ) (o : Option Q) (x : Reading Q) → j < length front
         → left ps ≡ [] → c.part j ≡ x → Leaves front o x → Closes (qs ++ cons_option o (left ps)) (At qs j)
     part-closes qs ps j (Some v) (done q e) lt none is h =
-        let read = parts-part rules front c goes j e qs q (step front c.next e) lt is refl in
+        let read = parts-part rules front c goes j e qs q (step front c.next e) lt (free qs j) is refl in
         subst (λ l. Closes (qs ++ l) (At qs j)) (ap₂ (λ a l. a ∷ l) h.0 (sym none))
         (along (qs ++ q ∷ []) (At qs j) (Behind (qs ++ q ∷ []) (step front c.next e)) read
         (stuck-closes (qs ++ q ∷ []) e (step front c.next e) (sticks e h.1) h.1))
     part-closes qs ps j None (fault kind i stop) lt none is h =
         subst (λ l. Closes l (At qs j)) (sym (ap (λ l. qs ++ l) none ∙ append-nil qs))
         (along qs (At qs j) (if_forgiven rules (λ e. c.build e qs) kind i stop)
-        (parts-fault rules front c goes j i stop qs kind lt is) (fault-closes qs kind i stop h.0 h.1))
+        (parts-fault rules front c goes j i stop qs kind lt (free qs j) is) (fault-closes qs kind i stop h.0 h.1))
     part-closes qs ps j o x lt none is h = absurd h
 
     inside : (j : ℕ) → j < k → j < length front
@@ -224,7 +224,7 @@ module _ (names : Bool) (t : List ℕ) (k : ℕ) (within : k ≤ length t) (mode
         (leaves p (c.part j) order.1 cuts))
     parts-close levels i e (p ∷ ps) row m qs order (inr (j, begins, lt, inr (ends, f, is, more_parts))) =
         let q = as_whole p in
-        let read = parts-part rules front c goes j f qs q (step front c.next f) (inside j lt) is refl in
+        let read = parts-part rules front c goes j f qs q (step front c.next f) (inside j lt) (free qs j) is refl in
         let behind = Behind (qs ++ q ∷ []) (step front c.next f) in
         let rest = parts-close levels (end (value p)) e ps c.next f (qs ++ q ∷ []) order.3 more_parts in
         let same = ap (option_map (seen p)) (node-whole names t mode k (value p) order.1 ends) in
@@ -277,18 +277,19 @@ module _ (names : Bool) (t : List ℕ) (k : ℕ) (within : k ≤ length t) (mode
     text = text-reads;
     key = λ key h le. (string_at-before t k within key.begin key.end key.pieces h le).0;
     key-cut = λ key h lt gt. (string_at-cut_whole t k within key.begin key.end key.pieces h lt gt).0;
+    free = λ members i. refl;
     array = λ b e ns. ap tree.array (values-listed t ns);
     object = λ b e ms. ap tree.object (member_values-listed t ms);
     array-cut = λ inner b e ns h lt goes parts.
         let levels = nesting_round ns in
         let order = items-order names t levels ns (b + 1) e h.1 (omega arith) in
-        container-leaves (array_of rules inner front b) (λ n. n) item_seen IsCut goes
+        container-leaves (array_of rules inner front b) (λ n. n) item_seen IsCut (λ qs j. refl) goes
         (container-halts front shape.Array) (λ n x h cuts. item-leaves (cut names t n k mode) x cuts) b (b + 1) e levels
         (nodes_list ns) _ order parts (λ p. array-left names t k mode b e ns lt);
     object-cut = λ inner b e ms h lt goes parts.
         let levels = nesting_round_members ms in
         let order = members-order names t levels ms (b + 1) e h.1 (omega arith) in
-        container-leaves (object_of rules inner front b) (λ m. m.1) (member_seen t) CutsMember goes
+        container-leaves (object_of rules inner front b) (λ m. m.1) (member_seen t) CutsMember (λ qs j. refl) goes
         (container-halts front shape.Object) member-leaves b (b + 1) e levels (members_list ms) _ order parts
         (λ p. object-left names t k mode b e ms lt);
   }

@@ -1,6 +1,6 @@
 -- A container in a front of the text: its parts before the cut are read, and then the input ends, between two parts or
 -- in one.
-use Rattle.std.proofs.Common.{◌≡◌, ◌⊎◌, inl, inr, ℕ, ◌+◌, ◌<◌, ◌≤◌, true, List, [], ◌∷◌, ◌++◌, length, map, take}
+use Rattle.std.proofs.Common.{◌≡◌, ◌⊎◌, inl, inr, ℕ, ◌+◌, ◌<◌, ◌≤◌, true, List, [], ◌∷◌, ◌++◌, length, map, take, None}
 use Rattle.std.proofs.Common.{refl, sym, ap, ◌∙◌, arith, append-nil, append_assoc}
 use Rattle.std.specs.Prelude.{Option}
 use Rattle.std.proofs.lemmas.Bool.{cases_lt}
@@ -118,46 +118,48 @@ module _ (t : List ℕ) (k : ℕ) (within : k ≤ length t) where
           let order = front.ahead x.begin p x.end x.is in
           omega (arith, behind-ahead t i 44 h.0 h.1, x.blanks.ordered, more-ahead ps x.end e x.rest)
 
-      module _ {K : Type 0} (r : Rules K A) (goes : Goes c u) where
-        abbrev At : List Q → ℕ → Reading A
-        At qs i = parts_at r c u (length u) qs i
+      module _ {K : Type 0} (r : Rules K A) (free : (qs : List Q) (i : ℕ) → c.refuses qs i ≡ None) (goes : Goes c u)
+        where
+          abbrev At : List Q → ℕ → Reading A
+          At qs i = parts_at r c u (length u) qs i
 
-        abbrev Behind : List Q → Step → Reading A
-        Behind qs s = follow r (At qs) (λ e. c.build e qs) s
+          abbrev Behind : List Q → Step → Reading A
+          Behind qs s = follow r (At qs) (λ e. c.build e qs) s
 
-        before : (m e : ℕ) (p : P) (ps : List P) (x : First m p ps e) → e ≤ k → (x.begin < k) × (x.end ≤ k)
-        before m e p ps x le =
-            let order = front.ahead x.begin p x.end x.is in
-            let rest = more-ahead ps x.end e x.rest in
-            (omega arith, omega arith)
+          before : (m e : ℕ) (p : P) (ps : List P) (x : First m p ps e) → e ≤ k → (x.begin < k) × (x.end ≤ k)
+          before m e p ps x le =
+              let order = front.ahead x.begin p x.end x.is in
+              let rest = more-ahead ps x.end e x.rest in
+              (omega arith, omega arith)
 
-        first-whole : (so_far : List Q) (m e : ℕ) (p : P) (ps : List P) (x : First m p ps e) → e ≤ k
-            → Behind (so_far ++ seen p ∷ []) (step u c.next x.end)
-            ≡ done (c.build e ((so_far ++ seen p ∷ []) ++ map seen ps)) e
-            → At so_far x.begin ≡ done (c.build e (so_far ++ map seen (p ∷ ps))) e
-        first-whole so_far m e p ps x le rest =
-            let order = before m e p ps x le in
-            let read = (front.reads x.begin p x.end x.is order.0).0 order.1 in
-            parts-part r u c goes x.begin x.end so_far (seen p) _ (omega (arith, front-length t k within)) read refl
-            ∙ rest ∙ ap (λ l. done (c.build e l) e) (append_assoc so_far (seen p ∷ []) (map seen ps))
+          first-whole : (so_far : List Q) (m e : ℕ) (p : P) (ps : List P) (x : First m p ps e) → e ≤ k
+              → Behind (so_far ++ seen p ∷ []) (step u c.next x.end)
+              ≡ done (c.build e ((so_far ++ seen p ∷ []) ++ map seen ps)) e
+              → At so_far x.begin ≡ done (c.build e (so_far ++ map seen (p ∷ ps))) e
+          first-whole so_far m e p ps x le rest =
+              let order = before m e p ps x le in
+              let read = (front.reads x.begin p x.end x.is order.0).0 order.1 in
+              parts-part r u c goes x.begin x.end so_far (seen p) _ (omega (arith, front-length t k within))
+              (free so_far x.begin) read refl
+              ∙ rest ∙ ap (λ l. done (c.build e l) e) (append_assoc so_far (seen p ∷ []) (map seen ps))
 
-        more-whole : (so_far : List Q) (ps : List P) (i e : ℕ) → More ps i e → e ≤ k
-            → Behind so_far (step u c.next i) ≡ done (c.build e (so_far ++ map seen ps)) e
-        more-whole so_far [] i e h le =
-            ap (Behind so_far) (front.delimits.next-closed i e (front-behind t k within i closer e h le))
-            ∙ ap (λ l. done (c.build e l) e) (sym (append-nil so_far))
-        more-whole so_far (p ∷ ps) i e h le =
-            let x = h.2 in
-            ap (Behind so_far) (more-next i h.0 e p ps x h.1 (before h.0 e p ps x le).0)
-            ∙ first-whole so_far h.0 e p ps x le (more-whole (so_far ++ seen p ∷ []) ps x.end e x.rest le)
+          more-whole : (so_far : List Q) (ps : List P) (i e : ℕ) → More ps i e → e ≤ k
+              → Behind so_far (step u c.next i) ≡ done (c.build e (so_far ++ map seen ps)) e
+          more-whole so_far [] i e h le =
+              ap (Behind so_far) (front.delimits.next-closed i e (front-behind t k within i closer e h le))
+              ∙ ap (λ l. done (c.build e l) e) (sym (append-nil so_far))
+          more-whole so_far (p ∷ ps) i e h le =
+              let x = h.2 in
+              ap (Behind so_far) (more-next i h.0 e p ps x h.1 (before h.0 e p ps x le).0)
+              ∙ first-whole so_far h.0 e p ps x le (more-whole (so_far ++ seen p ∷ []) ps x.end e x.rest le)
 
-        pub container-whole : (ps : List P) (b e : ℕ) → Parts t closer (Begins t) IsPart ps (b + 1) e → e ≤ k
-            → container_at r c u b ≡ done (c.build e (map seen ps)) e
-        container-whole [] b e h le =
-            ap (Behind []) (front.delimits.first-closed (b + 1) e (front-behind t k within (b + 1) closer e h le))
-        container-whole (p ∷ ps) b e h le =
-            ap (Behind []) (more-first (b + 1) e p ps h (before (b + 1) e p ps h le).0)
-            ∙ first-whole [] (b + 1) e p ps h le (more-whole (seen p ∷ []) ps h.end e h.rest le)
+          pub container-whole : (ps : List P) (b e : ℕ) → Parts t closer (Begins t) IsPart ps (b + 1) e → e ≤ k
+              → container_at r c u b ≡ done (c.build e (map seen ps)) e
+          container-whole [] b e h le =
+              ap (Behind []) (front.delimits.first-closed (b + 1) e (front-behind t k within (b + 1) closer e h le))
+          container-whole (p ∷ ps) b e h le =
+              ap (Behind []) (more-first (b + 1) e p ps h (before (b + 1) e p ps h le).0)
+              ∙ first-whole [] (b + 1) e p ps h le (more-whole (seen p ∷ []) ps h.end e h.rest le)
 
       -- Of one that k cuts as much is read as stands before k.
       first-cut : (row : ℕ → Option ℕ → Step) (i m e : ℕ) (p : P) (ps : List P) (x : First m p ps e)

@@ -1,6 +1,7 @@
 -- The front of a text, read as nodes: what ends before the cut is read as its node, and where a value is cut the input
 -- ends too early.
 use Rattle.std.proofs.Common.{◌≡◌, inl, inr, ℕ, ◌+◌, ◌<◌, ◌≤◌, Bool, true, false, List, [], ◌∷◌, ◌++◌, length, take}
+use Rattle.std.proofs.Common.{None}
 use Rattle.std.proofs.Common.{refl, sym, ap, ◌∙◌, subst, arith}
 use Rattle.std.specs.Prelude.{slice_range, Option}
 use Rattle.std.specs.Str.{chars}
@@ -53,7 +54,7 @@ module _ (t : List ℕ) (k : ℕ) (within : k ≤ length t) where
 
   -- A container whose front goes so, and which forgives nothing.
   module _ {K P Q A : Type 0} (r : Rules K A) (strict : (kind : Kind) → r.forgives kind ≡ false) (c : Container Q A)
-      (goes : Goes c u)
+      (free : (qs : List Q) (i : ℕ) → c.refuses qs i ≡ None) (goes : Goes c u)
       (value : P → Node) (seen : P → Q) (IsCut : P → Reading Q → Type 0)
       (short : (p : P) (x : Reading Q) → IsCut p x → CutShort k x)
       (ends : Cuts t k within c.first c.next) where
@@ -77,10 +78,10 @@ module _ (t : List ℕ) (k : ℕ) (within : k ≤ length t) where
     part-early : (qs : List Q) (j : ℕ) (x : Reading Q) → j < k → c.part j ≡ x → CutShort k x → EndsEarly (At qs j)
     part-early qs j (done q e) lt is h =
         let last = ends.next-cut e e (no-blanks t e e refl (omega arith)) (omega arith) (omega arith) in
-        subst EndsEarly (sym (parts-part r u c goes j e qs q (stuck last.0 k) (in-front j lt) is last.1))
+        subst EndsEarly (sym (parts-part r u c goes j e qs q (stuck last.0 k) (in-front j lt) (free qs j) is last.1))
         (fault-early (λ e. c.build e (qs ++ q ∷ [])) last.0 k k last.2)
     part-early qs j (fault kind x stop) lt is h =
-        subst EndsEarly (sym (parts-fault r u c goes j x stop qs kind (in-front j lt) is))
+        subst EndsEarly (sym (parts-fault r u c goes j x stop qs kind (in-front j lt) (free qs j) is))
         (fault-early (λ e. c.build e qs) kind x stop h)
 
     -- so the rest of a container does, and all of it
@@ -92,7 +93,8 @@ module _ (t : List ℕ) (k : ℕ) (within : k ≤ length t) where
       | inl x ↦ part-early qs h.0 (c.part h.0) h.2 refl (short p (c.part h.0) x.1)
       | inr x ↦
           subst EndsEarly
-          (sym (parts-part r u c goes h.0 x.1 qs (seen p) (step u c.next x.1) (in-front h.0 h.2) x.2 refl))
+          (sym (parts-part r u c goes h.0 x.1 qs (seen p) (step u c.next x.1) (in-front h.0 h.2) (free qs h.0)
+          x.2 refl))
           (parts-early ps c.next x.1 (qs ++ seen p ∷ []) x.3)
     ])
 
@@ -177,16 +179,19 @@ module _ (names : Bool) (t : List ℕ) (k : ℕ) (within : k ≤ length t) where
     key = λ key h le. key-taken names front key (string-still t k within key.begin key.end key.pieces h le);
     key-cut = λ key h lt gt.
         ap (seen_as (key_of front key.begin)) (whole-cut t k within key.begin key.end key.pieces h lt gt).0;
+    free = λ members i. refl;
     array = λ b e ns.
         ap (λ l. grammar.array b e (nodes_of l)) (map-id (nodes_list ns)) ∙ ap (grammar.array b e) (nodes-listed ns);
     object = λ b e ms.
         ap (λ l. grammar.object b e (node_members_of l)) (map-id (members_list ms))
         ∙ ap (grammar.object b e) (members-listed ms);
     array-cut = λ inner b e ns h lt goes parts.
-        parts-early t k within (nodes names) (λ kind. refl) (array_of (nodes names) inner front b) goes (λ n. n)
+        parts-early t k within (nodes names) (λ kind. refl) (array_of (nodes names) inner front b)
+        (λ qs j. refl) goes (λ n. n)
         (λ n. n) IsCut cut-short (cuts t k within shape.Array) (nodes_list ns) array_first (b + 1) [] parts;
     object-cut = λ inner b e ms h lt goes parts.
-        parts-early t k within (nodes names) (λ kind. refl) (object_of (nodes names) inner front b) goes (λ m. m.1)
+        parts-early t k within (nodes names) (λ kind. refl) (object_of (nodes names) inner front b)
+        (λ qs j. refl) goes (λ m. m.1)
         (see_member (nodes names) names t k within (λ key. key) (λ n. n) IsCut)
         (IsCutMember (nodes names) names t k within (λ key. key) (λ n. n) IsCut) member-short
         (cuts t k within shape.Object) (members_list ms) object_first (b + 1) [] parts;

@@ -1,6 +1,7 @@
 -- The front of a text is read along the node that the whole text spells, by any rules: what ends before the cut is read
 -- whole, and what the cut falls into is cut.
 use Rattle.std.proofs.Common.{◌≡◌, ◌⊎◌, inl, inr, ℕ, zero, suc, ◌+◌, ◌<◌, ◌≤◌, Bool, true, List, length, map, take}
+use Rattle.std.proofs.Common.{None}
 use Rattle.std.proofs.Common.{refl, sym, ap, ◌∙◌, subst, arith}
 use Rattle.std.specs.Prelude.{slice_get, Some}
 use Rattle.std.proofs.lemmas.Bool.{cases_lt}
@@ -67,6 +68,7 @@ module _ {K A : Type 0} (r : Rules K A) (names : Bool) (t : List ℕ) (k : ℕ) 
         → r.key u key.begin ≡ taken (see_key key) key.end
     pub key-cut : (key : Key) → SpellsString t key.begin key.pieces key.end → key.begin < k → k < key.end
         → r.key u key.begin ≡ failed eof_string k
+    pub free : (members : List (K × A)) (i : ℕ) → r.refuses members u i ≡ None
     pub array : (b e : ℕ) (ns : Nodes) → r.array b e (map see (nodes_list ns)) ≡ see (grammar.array b e ns)
     pub object : (b e : ℕ) (ms : NodeMembers)
         → r.object b e (map see_member (members_list ms)) ≡ see (grammar.object b e ms)
@@ -227,14 +229,15 @@ module _ {K A : Type 0} (r : Rules K A) (names : Bool) (t : List ℕ) (k : ℕ) 
       -- a container of these parts
       container-reads : {P Q : Type 0} (c : Container Q A) (value : P → Node) (seen : P → Q)
           (Cut : P → Reading Q → Type 0) {closer : ℕ} {Begins : List ℕ → ℕ → Type 0} {IsPart : ℕ → P → ℕ → Type 0}
-          → ReadsFront t k within c value seen Cut closer Begins IsPart → Goes c u
+          → ReadsFront t k within c value seen Cut closer Begins IsPart
+          → ((qs : List Q) (i : ℕ) → c.refuses qs i ≡ None) → Goes c u
           → (n : Node) (ps : List P) → Parts t closer (Begins t) IsPart ps (begin n + 1) (end n) → begin n < k
           → c.build (end n) (map seen ps) ≡ see n
           → (CutParts t k within c value seen Cut c.first (begin n + 1) ps → IsCut n (container_at r c u (begin n)))
           → Reads n (container_at r c u (begin n))
-      container-reads c value seen Cut reads goes n ps parts lt build cut = (
+      container-reads c value seen Cut reads free goes n ps parts lt build cut = (
         λ le.
-            container-whole t k within c value seen Cut reads r goes ps (begin n) (end n) parts le
+            container-whole t k within c value seen Cut reads r free goes ps (begin n) (end n) parts le
             ∙ ap (λ a. done a (end n)) build,
         λ gt.
             let before : begin n + 1 ≤ k = omega arith in
@@ -249,12 +252,14 @@ module _ {K A : Type 0} (r : Rules K A) (names : Bool) (t : List ℕ) (k : ℕ) 
       value-reads all (grammar.string ps b e) h d q lt = rules.text ps b e h lt
       value-reads all (grammar.array b e ns) h d q lt =
           let goes = array_of-goes r u good inner inner-within b in
-          container-reads (array b) (λ n. n) see IsCut (items-front all b) goes (grammar.array b e ns) (nodes_list ns)
+          container-reads (array b) (λ n. n) see IsCut (items-front all b) (λ qs j. refl) goes (grammar.array b e ns)
+          (nodes_list ns)
           (items-parts names t levels ns (b + 1) e h.1 d) lt
           (rules.array b e ns) (rules.array-cut inner b e ns h lt goes)
       value-reads all (grammar.object b e ms) h d q lt =
           let goes = object_of-goes r u good inner inner-within b in
-          container-reads (object b) (λ m. m.1) see_member IsCutMember (members-front all b) goes
+          container-reads (object b) (λ m. m.1) see_member IsCutMember (members-front all b)
+          (λ qs j. rules.free qs j) goes
           (grammar.object b e ms) (members_list ms) (members-parts names t levels ms (b + 1) e h.1 d) lt
           (rules.object b e ms) (rules.object-cut inner b e ms h lt goes)
 

@@ -2,7 +2,7 @@
 use Rattle.std.proofs.Common.{◌≡◌, ◌≢◌, ℕ, ◌+◌, Bool, false, List, ◌++◌, take, refl, sym, ap, ◌∙◌, subst, arith}
 use Rattle.std.specs.Prelude.{Some}
 use Rattle.std.proofs.lemmas.List.{get_or-take, length-take}
-use Rattle.std.proofs.lemmas.Option.{slice_get_within, slice_get-get_or, get_or_from_slice_get}
+use Rattle.std.proofs.lemmas.Option.{slice_get_within, slice_get-get_or, get_or_from_slice_get, none-some}
 use Rattle.jiter_scan.specs.Kind.{Kind, is_end_kind, invalid_code_point}
 use Rattle.jiter_scan.specs.NumberReading.{number_at}
 use Rattle.jiter_scan.specs.Scanned.{Scanned, taken, failed}
@@ -32,7 +32,7 @@ module _ (t u : List ℕ) (m : ℕ) (same : SameBefore t u m) where
   kept i (taken a e) y h shown = let at = h shown in (at.0, at.2)
   kept i (failed k j) y h shown = let at = h shown in (at.0, subst IsRefused (sym at.2) tt)
 
-  trees-keep : (names : Bool) → KeepsScalars (whole_trees names) t u m
+  pub trees-keep : (names : Bool) → KeepsScalars (whole_trees names) t u m
   trees-keep names = record {
     literal = λ l i lt. seen-same _ i _ _ (kept i (literal_at t l i) (literal_at u l i)
         (word-same IsOfByte late-byte t u m same (word_of l) i));
@@ -40,6 +40,8 @@ module _ (t u : List ℕ) (m : ℕ) (same : SameBefore t u m) where
         (number-same IsOfByte late-byte t u m same names i lt));
     text = λ i lt. seen-same _ i (string_at whole t i) (string_at whole u i) (string-same t u m same i);
     key = λ i lt. string-same t u m same i;
+    refuses = λ members i f lt h shown. absurd (none-some f h);
+    frees = λ members i e j k lt key colon le l h. refl;
   }
 
 -- A fault of a byte before m is a fault of the other text.
@@ -50,7 +52,7 @@ answer-stays names t u m same =
     (trees-advances u nothing_forgiven whole names) (trees-keep t u m same names)
 
 -- a front of a text, with whatever follows it
-front-same : (t : List ℕ) (k : ℕ) (rest : List ℕ) → SameBefore t (take k t ++ rest) k
+pub front-same : (t : List ℕ) (k : ℕ) (rest : List ℕ) → SameBefore t (take k t ++ rest) k
 front-same t k rest j c le e =
     let lt = slice_get_within t j c e in
     let here = slice_get-get_or (take k t) j 0 (omega (arith, length-take k t)) in

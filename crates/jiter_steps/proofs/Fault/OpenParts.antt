@@ -1,6 +1,7 @@
 -- A container that is not read to its end can be closed behind the parts before the fault.
 use Rattle.std.proofs.Common.{◌≡◌, inl, inr, ℕ, zero, suc, ◌+◌, ◌<◌, ◌≤◌, true, false, List, [], ◌∷◌, ◌++◌, length}
 use Rattle.std.proofs.Common.{take, refl, sym, ap, ◌∙◌, subst, arith, append-nil, append_assoc}
+use Rattle.std.specs.Prelude.{None}
 use Rattle.jiter_scan.specs.Kind.{Kind}
 use Rattle.jiter_scan.proofs.Choices.{if-false}
 use Rattle.jiter_steps.specs.Blank.{IsBlank}
@@ -17,7 +18,7 @@ use Rattle.jiter_steps.proofs.Reading.Parts.{MoreParts, Parts}
 use Rattle.jiter_steps.proofs.Grammar.RowSteps.{PartBehind, Behind, StepIs, Delimits}
 use Rattle.jiter_steps.proofs.Fault.SameSpelling.{SameBefore, same-sooner, blanks-too, behind-too}
 use Rattle.jiter_steps.proofs.Fault.StuckSteps.{BlanksOrComma, Sticks}
-use Rattle.jiter_steps.proofs.Reading.Values.{Goes}
+use Rattle.jiter_steps.proofs.Reading.Values.{Goes, part-free}
 
 -- a part may begin anywhere
 abbrev pub Anywhere : ℕ → Type 0
@@ -55,7 +56,8 @@ module _ {P : Type 0} (closer : ℕ) (IsPart : List ℕ → ℕ → P → ℕ �
         → (p : P) × IsPart (take x t ++ (filler ++ [])) x p (x + length filler)
 
 module _ {K P A : Type 0} (r : Rules K A) (strict : (k : Kind) → r.forgives k ≡ false) (t : List ℕ) (c : Container P A)
-    (closer : ℕ) (Begins : ℕ → Type 0) (IsPart : List ℕ → ℕ → P → ℕ → Type 0)
+    (free : (ps : List P) (i : ℕ) → c.refuses ps i ≡ None) (closer : ℕ) (Begins : ℕ → Type 0)
+    (IsPart : List ℕ → ℕ → P → ℕ → Type 0)
     (delimits : Delimits t c.first c.next closer Begins) (sticks : Sticks t c.first c.next) (goes : Goes c t)
     (fillable : Fillable closer IsPart t c Begins) where
   -- behind these parts from b on the next one is to begin at i; so it is in each text with the same bytes before i
@@ -195,7 +197,8 @@ module _ {K P A : Type 0} (r : Rules K A) (strict : (k : Kind) → r.forgives k 
   unfolding parts_at
   parts-open b zero ps i at so = no_live
   parts-open b (suc n) ps i at so =
-      part-open b i ps (parts_at r c t n) (parts-open b n) at so (c.part i) refl (goes.part i (delimits.within i at))
+      subst (λ x. Open b (behind_part r c t (parts_at r c t n) ps x)) (sym (part-free c ps i (free ps i)))
+      (part-open b i ps (parts_at r c t n) (parts-open b n) at so (c.part i) refl (goes.part i (delimits.within i at)))
 
   bracket-open : (b : ℕ) → b ≤ length t → (s : Step) → step t c.first b ≡ s
       → StepIs t b closer (PartBehind t Begins b) s

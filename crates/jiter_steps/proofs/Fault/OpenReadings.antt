@@ -229,14 +229,14 @@ module _ (names : Bool) where
     -- A container whose grammar is so, from its bracket on: the parts and the closer make a value.
     container-open : {P : Type 0} {closer : ℕ} {Begins : ℕ → Type 0} {IsPart : List ℕ → ℕ → P → ℕ → Type 0}
         (Are MoreAre : List ℕ → List P → ℕ → ℕ → Type 0) (c : Container P Node)
-        → Delimits t c.first c.next closer Begins → Sticks t c.first c.next → Goes c t
-        → Fillable closer IsPart t c Begins
+        → ((ps : List P) (i : ℕ) → c.refuses ps i ≡ None) → Delimits t c.first c.next closer Begins
+        → Sticks t c.first c.next → Goes c t → Fillable closer IsPart t c Begins
         → ((u : List ℕ) → Grammar u closer Anywhere (IsPart u) (Are u) (MoreAre u))
         → (i b : ℕ) → slice_get t i ≡ Some b
         → ((u : List ℕ) (ps : List P) → slice_get u i ≡ Some b → Are u ps (i + 1) (length u)
         → (n : Node) × IsValue levels u i n (length u))
         → OpenAs (IsValue levels) t i (container_at (nodes names) c t i)
-    container-open Are MoreAre c delimits sticks goes fillable are i b here build =
+    container-open Are MoreAre c free delimits sticks goes fillable are i b here build =
         open-map _ (CanEndHere (IsValue levels) t i)
         (λ x ends. (
           omega (arith, ends.0),
@@ -248,7 +248,7 @@ module _ (names : Bool) where
               ends.1,
         ))
         (container_at (nodes names) c t i)
-        (container_at-open (nodes names) (λ k. refl) t c _ _ _ delimits sticks goes fillable i
+        (container_at-open (nodes names) (λ k. refl) t c free _ _ _ delimits sticks goes fillable i
         (slice_get_within t i b here))
 
     -- scalars
@@ -295,12 +295,14 @@ module _ (names : Bool) where
         → OpenAs (IsValue levels) t i (value_with (nodes names) inner t i s)
     value_with-open i h start.Array e =
         container-open (λ u. ItemsAre names u levels) (λ u. MoreItemsAre names u levels) (array names t levels i)
+        (λ ps j. refl)
         (delimits t shape.Array) (sticks t shape.Array) (array-goes names t levels i) (items-fillable i)
         (λ u. items-grammar names u levels Anywhere (IsItem levels u) (λ j n m at is. is))
         i 91 (byte-here names t levels i 91 h (array-byte _ e))
         (λ u ps opens are. value-here u (grammar.array i (length u) (nodes_of ps)) (opens, are.0) refl are.1)
     value_with-open i h start.Object e =
         container-open (λ u. MembersAre names u levels) (λ u. MoreMembersAre names u levels) (object names t levels i)
+        (λ ps j. refl)
         (delimits t shape.Object) (sticks t shape.Object) (object-goes names t levels i) (members-fillable i)
         (λ u. members-grammar names u levels Anywhere (IsMember levels u) (λ j m e at is. is))
         i 123 (byte-here names t levels i 123 h (object-byte _ e))

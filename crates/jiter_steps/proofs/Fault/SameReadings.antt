@@ -14,7 +14,8 @@ use Rattle.jiter_steps.specs.Literal.{start_of}
 use Rattle.jiter_steps.specs.Node.{nesting_limit}
 use Rattle.jiter_steps.specs.Step.{Step, more, closed, stuck, step, object_colon}
 use Rattle.jiter_steps.specs.Read.{Reading, done, fault, Rules, Container, scalar_at, with_key, behind_colon}
-use Rattle.jiter_steps.specs.Read.{behind_key, if_last, to_end, follow, behind_part, parts_at, container_at, array_of}
+use Rattle.jiter_steps.specs.Read.{behind_key, unless_refused, if_last, to_end, follow, behind_part, parts_at}
+use Rattle.jiter_steps.specs.Read.{container_at, array_of}
 use Rattle.jiter_steps.specs.Read.{object_of, value_with, inside_at, value_at, if_begun, front_answer, whole_answer}
 use Rattle.jiter_steps.specs.declared.parse.Shape.TheVariants as shape
 use Rattle.jiter_steps.specs.declared.parse.Literal.{Literal}
@@ -27,8 +28,9 @@ use Rattle.jiter_steps.proofs.Fault.SameSteps.{ShownStep, SameStep, first-same, 
 use Rattle.jiter_steps.proofs.Fault.SameStrings.{SameScalar}
 use Rattle.jiter_steps.proofs.Grammar.Blanks.{past_blanks-after}
 use Rattle.jiter_steps.proofs.Reading.Bounds.{Ahead, ExtentAhead, Within, object_colon-ahead}
-use Rattle.jiter_steps.proofs.Reading.Values.{Advances, AllWithin, Goes, parts-fault, parts-part, array_of-goes}
-use Rattle.jiter_steps.proofs.Reading.Values.{object_of-goes, inside_at-within}
+use Rattle.jiter_steps.proofs.Reading.Values.{Advances, AllWithin, Goes, array_of-goes}
+use Rattle.jiter_steps.proofs.Reading.Values.{object_of-goes, inside_at-within, part_behind, part-within}
+use Rattle.jiter_steps.proofs.Reading.Values.{next_part-fault, next_part-done}
 
 -- an end before m, where the text goes on; or a fault of a byte there
 abbrev pub ShownReading : {A : Type 0} → List ℕ → ℕ → Reading A → Type 0
@@ -55,6 +57,12 @@ pub record KeepsScalars {K A : Type 0} (r : Rules K A) (t u : List ℕ) (m : ℕ
   pub number : (i : ℕ) → i < length t → SameScalar t m i (r.number t i) (r.number u i)
   pub text : (i : ℕ) → i < length t → SameScalar t m i (r.text t i) (r.text u i)
   pub key : (i : ℕ) → i < length t → SameScalar t m i (r.key t i) (r.key u i)
+  -- a key that is refused, and one that is not and whose value begins
+  pub refuses : (members : List (K × A)) (i : ℕ) (f : Kind × ℕ) → i < length t → r.refuses members t i ≡ Some f
+      → f.1 < m → (i < m) × (r.refuses members u i ≡ Some f)
+  pub frees : (members : List (K × A)) (i e j : ℕ) (k : K) → i < length t → r.key t i ≡ taken k e
+      → object_colon t e ≡ taken tt j → j < m → j < length t → r.refuses members t i ≡ None
+      → r.refuses members u i ≡ None
 
 module _ (t u : List ℕ) (m : ℕ) (same : SameBefore t u m) where
   -- what is shown of the reading x, which begins at i, the reading y of the other text meets
@@ -69,7 +77,7 @@ module _ (t u : List ℕ) (m : ℕ) (same : SameBefore t u m) where
   pub record Keeps {P A : Type 0} (c d : Container P A) : Type 0 where
     pub first : (i : ℕ) → SameStep t u m same (ShownStep m) i (step t c.first i) (step u d.first i)
     pub next : (i : ℕ) → SameStep t u m same (ShownStep m) i (step t c.next i) (step u d.next i)
-    pub part : (i : ℕ) → i < length t → Stays i (c.part i) (d.part i)
+    pub part : (parts : List P) (i : ℕ) → i < length t → Stays i (part_behind c parts i) (part_behind d parts i)
     pub build : (e : ℕ) (ps : List P) → d.build e ps ≡ c.build e ps
 
   module _ {K A : Type 0} (r : Rules K A) (strict : (k : Kind) → r.forgives k ≡ false) where
@@ -78,11 +86,11 @@ module _ (t u : List ℕ) (m : ℕ) (same : SameBefore t u m) where
       abbrev PartsToo : List P → ℕ → Reading A
       PartsToo parts i = parts_at r d u (length u) parts i
 
-      fault-too : (parts : List P) (i : ℕ) → i < length u → (y : Reading P) → d.part i ≡ y → IsFault y
+      fault-too : (parts : List P) (i : ℕ) → i < length u → (y : Reading P) → part_behind d parts i ≡ y → IsFault y
           → IsFault (PartsToo parts i)
       fault-too parts i lt (done p e) is h = absurd h
       fault-too parts i lt (fault k j stop) is h =
-          subst IsFault (sym (parts-fault r u d goes_too i j stop parts k lt is ∙ if-false _ _ _ (strict k))) tt
+          subst IsFault (sym (next_part-fault r u d goes_too i j stop parts k lt is ∙ if-false _ _ _ (strict k))) tt
 
       -- behind these parts
       next-stays : (go : List P → ℕ → Reading A) (parts : List P) (i : ℕ) (s z : Step)
@@ -111,20 +119,21 @@ module _ (t u : List ℕ) (m : ℕ) (same : SameBefore t u m) where
 
       behind_part-stays : (go : List P → ℕ → Reading A)
           → ((parts : List P) (j : ℕ) → j < length t → Stays j (go parts j) (PartsToo parts j))
-          → (parts : List P) (i : ℕ) → i < length t → (x : Reading P) → Within t i x → Stays i x (d.part i)
+          → (parts : List P) (i : ℕ) → i < length t → (x : Reading P) → Within t i x
+          → Stays i x (part_behind d parts i)
           → Stays i (behind_part r c t go parts x) (PartsToo parts i)
       behind_part-stays go all parts i lt (fault k j stop) within stays =
           subst (λ x. Stays i x (PartsToo parts i)) (sym (if-false _ (done _ stop) _ (strict k)))
           (λ shown.
           let at = stays shown in
-          (at.0, fault-too parts i (within-too t u m same i at.0 lt) (d.part i) refl at.1))
+          (at.0, fault-too parts i (within-too t u m same i at.0 lt) (part_behind d parts i) refl at.1))
       behind_part-stays go all parts i lt (done p e) within stays = λ shown.
           let more_parts = parts ++ p ∷ [] in
           let s = step t c.next e in
           let z = step u d.next e in
           let rest = next-stays go more_parts e s z (all more_parts) (goes.next e within.1) (keeps.next e) shown in
           let at = stays (rest.0, rest.1) in
-          let is = parts-part r u d goes_too i e parts p z (within-too t u m same i at.0 lt) at.1 refl in
+          let is = next_part-done r u d goes_too i e parts p z (within-too t u m same i at.0 lt) at.1 refl in
           (at.0, subst (Meets (follow r (go more_parts) (λ e. c.build e more_parts) s)) (sym is) rest.2)
 
       parts-stays : (n : ℕ) (parts : List P) (i : ℕ) → i < length t
@@ -132,7 +141,8 @@ module _ (t u : List ℕ) (m : ℕ) (same : SameBefore t u m) where
       unfolding parts_at
       parts-stays zero parts i lt = λ shown. absurd (true≢false shown.1.0)
       parts-stays (suc n) parts i lt =
-          behind_part-stays (parts_at r c t n) (parts-stays n) parts i lt (c.part i) (goes.part i lt) (keeps.part i lt)
+          behind_part-stays (parts_at r c t n) (parts-stays n) parts i lt (part_behind c parts i)
+          (part-within r t c goes parts i lt) (keeps.part parts i lt)
 
       container-stays : (i : ℕ) → i < length t → Stays i (container_at r c t i) (container_at r d u i)
       container-stays i lt shown =
@@ -187,15 +197,67 @@ module _ (t u : List ℕ) (m : ℕ) (same : SameBefore t u m) where
         items-keep = record {
           first = first-same t u m same shape.Array;
           next = next-same t u m same shape.Array;
-          part = all;
+          part = λ ps j lt. all j lt;
           build = λ e ps. refl;
         }
+
+        abbrev here_part : ℕ → Reading (K × A)
+        here_part j = (object_of r inner t i).part j
+
+        abbrev other_part : ℕ → Reading (K × A)
+        other_part j = (object_of r inner_too u i).part j
+
+        -- a member that is read begins its value at a byte of the text
+        value-here : (ms : List (K × A)) (j e b : ℕ) (k : K) (p : K × A) → j < length t → r.key t j ≡ taken k e
+            → (x : Extent) → object_colon t e ≡ x → ExtentAhead t e 0 x → behind_colon k inner x ≡ done p b → b < m
+            → r.refuses ms t j ≡ None → r.refuses ms u j ≡ None
+        value-here ms j e b k p lt key (failed kind v) colon ahead is before free = absurd (cc)
+        value-here ms j e b k p lt key (taken w v) colon ahead is before free =
+            let inside : v < length t = omega (arith, ahead.1) in
+            let grown = by (inner v) (within v inside) is in
+            kept.frees ms j e v k lt key colon (omega arith) inside free where
+              by : (x : Reading A) → Within t v x → with_key k x ≡ done p b → v < b
+              by (done a d) far same = let e : d ≡ b = cc in omega (arith, far.0)
+              by (fault kind q stop) far same = absurd (cc)
+
+        free-stays : (ms : List (K × A)) (j b : ℕ) (p : K × A) → j < length t → (x : Scanned K) → r.key t j ≡ x
+            → ScalarWithin t j x → behind_key inner t j x ≡ done p b → b < m → r.refuses ms t j ≡ None
+            → r.refuses ms u j ≡ None
+        free-stays ms j b p lt (taken k e) key far is before free =
+            value-here ms j e b k p lt key (object_colon t e) refl (object_colon-ahead t e far.1) is before free
+        free-stays ms j b p lt (failed kind v) key far is before free = absurd (cc)
+
+        fault-either : (o : Option (Kind × ℕ)) (y : Reading (K × A)) → IsFault y → IsFault (unless_refused o y)
+        fault-either None y h = h
+        fault-either (Some f) y h = tt
+
+        read-stays : (ms : List (K × A)) (j : ℕ) → j < length t → r.refuses ms t j ≡ None
+            → (x : Reading (K × A)) → here_part j ≡ x → Stays j x (other_part j)
+            → Stays j x (unless_refused (r.refuses ms u j) (other_part j))
+        read-stays ms j lt free (done p e) is stays = λ shown.
+            let at = stays shown in
+            let none = free-stays ms j e p lt (r.key t j) refl (good.key j lt) is shown.0 free in
+            (at.0, ap (λ o. unless_refused o (other_part j)) none ∙ at.1)
+        read-stays ms j lt free (fault k v stop) is stays = λ shown.
+            let at = stays shown in (at.0, fault-either (r.refuses ms u j) (other_part j) at.1)
+
+        member-stays : (ms : List (K × A)) (j : ℕ) → j < length t
+            → Stays j (part_behind (object_of r inner t i) ms j) (part_behind (object_of r inner_too u i) ms j)
+        member-stays ms j lt = by (r.refuses ms t j) refl where
+          by : (o : Option (Kind × ℕ)) → r.refuses ms t j ≡ o
+              → Stays j (unless_refused o (here_part j)) (unless_refused (r.refuses ms u j) (other_part j))
+          by (Some f) refuses = λ shown.
+              let at = kept.refuses ms j f lt refuses shown.0 in
+              (at.0, subst (λ o. IsFault (unless_refused o (other_part j))) (sym at.1) tt)
+          by None free =
+              read-stays ms j lt free (here_part j) refl
+              (key-stays inner inner_too all j (r.key t j) (r.key u j) (good.key j lt) (kept.key j lt))
 
         members-keep : Keeps (object_of r inner t i) (object_of r inner_too u i)
         members-keep = record {
           first = first-same t u m same shape.Object;
           next = next-same t u m same shape.Object;
-          part = λ j lt. key-stays inner inner_too all j (r.key t j) (r.key u j) (good.key j lt) (kept.key j lt);
+          part = λ ms j lt. member-stays ms j lt;
           build = λ e ps. refl;
         }
 

@@ -89,6 +89,7 @@ module _ (names : Bool) (t : List ℕ) where
         scalar-leads (λ s e. grammar.string (pieces_from t (i + 1) (chars s.bytes)) i e) (λ s e. tree.string s)
         (string_at whole t i) (λ s e is. ap tree.string (sym (laws.string-sound i e s quote is).1));
     key = λ i quote told. key-leads i quote (string_at whole t i) refl;
+    refuses = λ members i quote. refl;
     array = λ b e items. ap tree.array (values-of t items);
     object = λ b e members. ap tree.object (members-of t members);
   }

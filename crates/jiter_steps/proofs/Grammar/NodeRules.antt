@@ -1,5 +1,5 @@
 -- The reading that builds the derivation itself.
-use Rattle.std.specs.Prelude.{ℕ, ◌+◌, Bool, List, [], ◌∷◌, true, false, length}
+use Rattle.std.specs.Prelude.{ℕ, ◌+◌, Bool, List, [], ◌∷◌, true, false, length, None}
 use Rattle.std.specs.Str.{chars}
 use Rattle.jiter_scan.specs.NumberReading.{number_at}
 use Rattle.jiter_steps.specs.Literal.{literal_at}
@@ -43,6 +43,7 @@ nodes names = record {
   number = λ t i. seen_as (λ n e. grammar.number i e) (number_at names t i);
   text = λ t i. seen_as (λ s e. grammar.string (pieces_from t (i + 1) (chars s.bytes)) i e) (string_at whole t i);
   key = λ t i. seen_as (key_of t i) (string_at whole t i);
+  refuses = λ members t i. None;
   array = λ b e items. grammar.array b e (nodes_of items);
   object = λ b e members. grammar.object b e (node_members_of members);
 }

@@ -1,5 +1,6 @@
 -- What is read is spelled so.
 use Rattle.std.proofs.Common.{◌≡◌, ℕ, zero, suc, ◌+◌, ◌<◌, ◌≤◌, Bool, List, length, refl, sym, ap, ◌∙◌, subst, arith}
+use Rattle.std.proofs.Common.{None}
 use Rattle.std.specs.Prelude.{slice_get, slice_index, Some}
 use Rattle.std.specs.Str.{chars}
 use Rattle.std.proofs.lemmas.Option.{slice_get-get_or, slice_get_within}
@@ -208,13 +209,13 @@ module _ (names : Bool) (t : List ℕ) where
     -- values
     container-sound : {P : Type 0} (c : Container P Node) (closer : ℕ) (Begins : ℕ → Type 0)
         (Are MoreAre : List P → ℕ → ℕ → Type 0)
-        → Delimits t c.first c.next closer Begins → Goes c t
+        → ((ps : List P) (i : ℕ) → c.refuses ps i ≡ None) → Delimits t c.first c.next closer Begins → Goes c t
         → Grammar t closer Begins (Reads c) Are MoreAre
         → (b : ℕ) → b < length t
         → ((ps : List P) (e : ℕ) → Are ps (b + 1) e → e ≤ length t → Sound names t levels b (done (c.build e ps) e))
         → Sound names t levels b (container_at (nodes names) c t b)
-    container-sound c closer Begins Are MoreAre delimits goes grammar b h all =
-        by _ (container_at-built (nodes names) t c closer Begins (λ k. refl) delimits goes b h)
+    container-sound c closer Begins Are MoreAre free delimits goes grammar b h all =
+        by _ (container_at-built (nodes names) t c closer Begins (λ k. refl) free delimits goes b h)
         (container_at-within (nodes names) t c goes b h) where
           by : (x : Reading Node) → BuiltOf (nodes names) t c closer Begins (b + 1) x → Within t b x
               → Sound names t levels b x
@@ -230,13 +231,15 @@ module _ (names : Bool) (t : List ℕ) where
         → Sound names t levels i (value_with (nodes names) inner t i s)
     value_with-sound all i h start.Array e =
         let here = byte-here i 91 h (array-byte _ e) in
-        container-sound (array i) 93 (PartAt shape.Array t) ItemsAre MoreItemsAre (delimits t shape.Array)
+        container-sound (array i) 93 (PartAt shape.Array t) ItemsAre MoreItemsAre (λ ps j. refl)
+        (delimits t shape.Array)
         (array-goes i)
         (items-grammar (PartAt shape.Array t) (Reads (array i)) (item-read all)) i h
         (λ ns f x le. sound-at levels (grammar.array i f (nodes_of ns)) (here, x.0) le x.1)
     value_with-sound all i h start.Object e =
         let here = byte-here i 123 h (object-byte _ e) in
-        container-sound (object i) 125 (PartAt shape.Object t) MembersAre MoreMembersAre (delimits t shape.Object)
+        container-sound (object i) 125 (PartAt shape.Object t) MembersAre MoreMembersAre (λ ps j. refl)
+        (delimits t shape.Object)
         (object-goes i)
         (members-grammar (PartAt shape.Object t) (Reads (object i)) (member-read all i)) i h
         (λ ms f x le. sound-at levels (grammar.object i f (node_members_of ms)) (here, x.0) le x.1)

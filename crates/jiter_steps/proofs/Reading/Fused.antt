@@ -1,7 +1,7 @@
 -- What is built of one reading of a text maps to what is built of another; where some faults of the one aren't told,
 -- with every other fault.
 use Rattle.std.proofs.Common.{◌≡◌, ℕ, zero, suc, ◌+◌, ◌<◌, Bool, true, false, cond, List, [], ◌∷◌, ◌++◌, length, map}
-use Rattle.std.proofs.Common.{refl, sym, ap, ◌∙◌}
+use Rattle.std.proofs.Common.{refl, sym, ap, ◌∙◌, subst}
 use Rattle.std.specs.Prelude.{slice_index, slice_get, Option, Some, None}
 use Rattle.std.proofs.lemmas.List.{map_push}
 use Rattle.jiter_scan.specs.Kind.{Kind}
@@ -14,12 +14,13 @@ use Rattle.jiter_steps.specs.Step.{Step, more, closed, stuck, step, object_colon
 use Rattle.jiter_steps.specs.Read.{Reading, done, fault, Rules, Container, scalar_at, with_key, behind_colon}
 use Rattle.jiter_steps.specs.Read.{behind_key, if_forgiven, follow, behind_part, parts_at, container_at, array_of}
 use Rattle.jiter_steps.specs.Read.{object_of, value_with, inside_at, value_at, if_last, to_end, if_begun}
-use Rattle.jiter_steps.specs.Read.{front_answer, whole_answer}
+use Rattle.jiter_steps.specs.Read.{front_answer, unless_refused, whole_answer}
 use Rattle.jiter_steps.specs.declared.parse.Literal.{Literal}
 use Rattle.jiter_steps.specs.declared.parse.Start.{Start}
 use Rattle.jiter_steps.specs.declared.parse.Start.TheVariants as start
 use Rattle.jiter_steps.specs.declared.parse.Shape.TheVariants as shape
 use Rattle.jiter_steps.proofs.Reading.Bounds.{both}
+use Rattle.jiter_steps.proofs.Reading.Values.{part_behind}
 use Rattle.jiter_steps.proofs.Reading.FirstBytes.{begins-within, string-begins, GoesTo, BeginsAt, key-quote}
 use Rattle.jiter_steps.proofs.Reading.FirstBytes.{container_first-begins, container_step-begins}
 
@@ -65,6 +66,8 @@ module _ (Told : Kind → Type 0) where
         → ScansTo h (p.number t i) (q.number t i)
     pub text : (i : ℕ) → slice_get t i ≡ Some 34 → ScansTo h (p.text t i) (q.text t i)
     pub key : (i : ℕ) → slice_get t i ≡ Some 34 → ScansTo g (p.key t i) (q.key t i)
+    pub refuses : (members : List (K × A)) (i : ℕ) → slice_get t i ≡ Some 34
+        → p.refuses members t i ≡ q.refuses (pairs g h members) t i
     pub array : (b e : ℕ) (items : List A) → h (p.array b e items) ≡ q.array b e (map h items)
     pub object : (b e : ℕ) (members : List (K × A)) → h (p.object b e members) ≡ q.object b e (pairs g h members)
 
@@ -76,6 +79,7 @@ module _ (Told : Kind → Type 0) where
     pub first-begins : (i : ℕ) → GoesTo Begins (step t c.first i)
     pub next-begins : (i : ℕ) → GoesTo Begins (step t c.next i)
     pub part : (i : ℕ) → Begins i → MapsTo m (c.part i) (d.part i)
+    pub refuses : (parts : List P) (i : ℕ) → Begins i → c.refuses parts i ≡ d.refuses (map m parts) i
     pub build : (e : ℕ) (parts : List P) → h (c.build e parts) ≡ d.build e (map m parts)
 
   module _ {K L A B : Type 0} (p : Rules K A) (q : Rules L B) (g : K → L) (h : A → B) (t : List ℕ)
@@ -121,13 +125,22 @@ module _ (Told : Kind → Type 0) where
           if_forgiven-mapped _ _ (λ e. maps.build e parts) k i stop
           ∙ ap (behind_part q d t n' (map m parts)) (same (fault-told (λ e. c.build e parts) k i stop told))
 
+      part-mapped : (parts : List P) (i : ℕ) → Begins i
+          → MapsTo m (part_behind c parts i) (part_behind d (map m parts) i)
+      part-mapped parts i b =
+          subst (λ o. MapsTo m (part_behind c parts i) (unless_refused o (d.part i))) (maps.refuses parts i b)
+          (by (c.refuses parts i)) where
+            by : (o : Option (Kind × ℕ)) → MapsTo m (unless_refused o (c.part i)) (unless_refused o (d.part i))
+            by None = maps.part i b
+            by (Some f) = λ told. refl
+
       parts_at-mapped : (n : ℕ) (parts : List P) (i : ℕ) → Begins i
           → MapsTo h (parts_at p c t n parts i) (parts_at q d t n (map m parts) i)
       unfolding parts_at
       parts_at-mapped zero parts i b = λ told. refl
       parts_at-mapped (suc n) parts i b =
-          behind_part-mapped (parts_at p c t n) (parts_at q d t n) (parts_at-mapped n) parts (c.part i) (d.part i)
-          (maps.part i b)
+          behind_part-mapped (parts_at p c t n) (parts_at q d t n) (parts_at-mapped n) parts (part_behind c parts i)
+          (part_behind d (map m parts) i) (part-mapped parts i b)
 
       container_at-mapped : (i : ℕ) → MapsTo h (container_at p c t i) (container_at q d t i)
       container_at-mapped i told =
@@ -159,6 +172,7 @@ module _ (Told : Kind → Type 0) where
         first-begins = container_first-begins shape.Array t;
         next-begins = container_step-begins shape.Array t;
         part = λ j b. same j;
+        refuses = λ items j b. refl;
         build = leads.array i;
       }
 
@@ -169,6 +183,7 @@ module _ (Told : Kind → Type 0) where
         first-begins = container_first-begins shape.Object t;
         next-begins = container_step-begins shape.Object t;
         part = λ j b. behind_key-mapped j (p.key t j) (q.key t j) (leads.key j (key-quote t j b));
+        refuses = λ members j b. leads.refuses members j (key-quote t j b);
         build = leads.object i;
       }
 

@@ -1,6 +1,7 @@
 -- The readings that calls answer with stay within the text; so do their faults, and one of the input's end stands at
 -- its length.
 use Rattle.std.proofs.Common.{ℕ, ◌<◌, ◌≤◌, Bool, List, length, arith}
+use Rattle.std.proofs.lemmas.Option.{none-some}
 use Rattle.jiter_scan.specs.Kind.{Kind}
 use Rattle.jiter_scan.specs.Scanned.{Scanned, taken, failed}
 use Rattle.jiter_scan.specs.Word.{Extent}
@@ -44,6 +45,7 @@ module _ (t : List ℕ) where
     number = λ i h. seen-within _ t i (number_at names t i) (number_at-within names t i h);
     text = λ i h. seen-within _ t i (string_at form t i) (string_at-within form t i h);
     key = λ i h. string_at-within whole t i h;
+    refuses = λ members i j k h e. absurd (none-some _ e);
   }
 
   pub only_ends-advances : (names : Bool) → Advances (only_ends names) t
@@ -52,6 +54,7 @@ module _ (t : List ℕ) where
     number = λ i h. seen-within _ t i (number_at names t i) (number_at-within names t i h);
     text = λ i h. seen-within _ t i (string_at raw t i) (string_at-within raw t i h);
     key = λ i h. seen-within _ t i (string_at raw t i) (string_at-within raw t i h);
+    refuses = λ members i j k h e. absurd (none-some _ e);
   }
 
   pub nodes-advances : (names : Bool) → Advances (nodes names) t
@@ -60,6 +63,7 @@ module _ (t : List ℕ) where
     number = λ i h. seen-within _ t i (number_at names t i) (number_at-within names t i h);
     text = λ i h. seen-within _ t i (string_at whole t i) (string_at-within whole t i h);
     key = λ i h. seen-within _ t i (string_at whole t i) (string_at-within whole t i h);
+    refuses = λ members i j k h e. absurd (none-some _ e);
   }
 
   -- the value at a place, and its end

@@ -1,6 +1,7 @@
 -- The parts of a container, one behind another: a container that is read is built of such parts.
 use Rattle.std.proofs.Common.{◌≡◌, ℕ, zero, suc, ◌+◌, ◌<◌, false, List, [], ◌∷◌, ◌++◌, length, refl, sym, subst}
 use Rattle.std.proofs.Common.{arith, append_assoc}
+use Rattle.std.specs.Prelude.{None}
 use Rattle.jiter_scan.specs.Kind.{Kind}
 use Rattle.jiter_scan.proofs.Choices.{if-false}
 use Rattle.jiter_steps.specs.Blank.{IsBlank}
@@ -10,7 +11,7 @@ use Rattle.jiter_steps.specs.Read.{container_at}
 use Rattle.jiter_steps.specs.Step.{Step, more, closed, stuck, step}
 use Rattle.jiter_steps.proofs.Reading.Bounds.{Within}
 use Rattle.jiter_steps.proofs.Grammar.RowSteps.{PartBehind, Behind, StepIs, Delimits}
-use Rattle.jiter_steps.proofs.Reading.Values.{Goes}
+use Rattle.jiter_steps.proofs.Reading.Values.{Goes, part-free}
 
 pub behind-ahead : (t : List ℕ) (i c e : ℕ) → StandsBehind t i c e → i < e
 behind-ahead t i c e h = omega (arith, h.blanks.ordered, h.ends)
@@ -68,7 +69,8 @@ module _ {K P A : Type 0} (r : Rules K A) (t : List ℕ) (c : Container P A) (cl
   BuiltOf b (done a e) = (ps : List P) × (a ≡ c.build e ps) × ReadParts ps b e
   BuiltOf b (fault k x stop) = Unit {0}
 
-  module _ (strict : (k : Kind) → r.forgives k ≡ false) (delimits : Delimits t c.first c.next closer Begins)
+  module _ (strict : (k : Kind) → r.forgives k ≡ false) (free : (ps : List P) (i : ℕ) → c.refuses ps i ≡ None)
+      (delimits : Delimits t c.first c.next closer Begins)
       (goes : Goes c t) where
     -- these parts are read from b on, and the next one is to begin at i
     abbrev SoFar : ℕ → ℕ → List P → Type 0
@@ -110,7 +112,8 @@ module _ {K P A : Type 0} (r : Rules K A) (t : List ℕ) (c : Container P A) (cl
     unfolding parts_at
     parts-built b zero ps i at so = tt
     parts-built b (suc n) ps i at so =
-        part-built b i ps (parts_at r c t n) (parts-built b n) so (c.part i) refl (goes.part i (delimits.within i at))
+        subst (λ x. BuiltOf b (behind_part r c t (parts_at r c t n) ps x)) (sym (part-free c ps i (free ps i)))
+        (part-built b i ps (parts_at r c t n) (parts-built b n) so (c.part i) refl (goes.part i (delimits.within i at)))
 
     bracket-built : (b : ℕ) (s : Step) → StepIs t b closer (PartBehind t Begins b) s
         → BuiltOf b (follow r (parts_at r c t (length t) []) (λ e. c.build e []) s)

@@ -1,7 +1,8 @@
 -- The equations of reading.
 use Rattle.std.proofs.Common.{◌≡◌, ℕ, zero, suc, ◌+◌, ◌<◌, ◌≤◌, length, List, [], ◌∷◌, ◌++◌, refl, sym, ap, ◌∙◌, ◌-◌}
 use Rattle.std.proofs.Common.{arith}
-use Rattle.std.specs.Prelude.{slice_index}
+use Rattle.std.specs.Prelude.{slice_index, Option, Some, None}
+use Rattle.std.proofs.lemmas.Option.{none-some}
 use Rattle.jiter_scan.specs.Kind.{Kind, recursion_limit, expected_value}
 use Rattle.jiter_scan.specs.Scanned.{Scanned, taken, failed}
 use Rattle.jiter_scan.specs.Word.{Extent}
@@ -10,7 +11,7 @@ use Rattle.jiter_steps.specs.Literal.{start_of}
 use Rattle.jiter_steps.specs.Step.{Step, more, closed, stuck, step, object_colon}
 use Rattle.jiter_steps.specs.Read.{Reading, done, fault, Rules, Container, scalar_at, with_key, behind_colon}
 use Rattle.jiter_steps.specs.Read.{behind_key, if_forgiven, follow, behind_part, parts_at, container_at, array_of}
-use Rattle.jiter_steps.specs.Read.{object_of, value_with, inside_at, value_at}
+use Rattle.jiter_steps.specs.Read.{object_of, unless_refused, value_with, inside_at, value_at}
 use Rattle.jiter_steps.specs.declared.parse.Shape.TheVariants as shape
 use Rattle.jiter_steps.specs.declared.parse.Literal.{Literal}
 use Rattle.jiter_steps.specs.declared.parse.Start.{Start}
@@ -24,6 +25,8 @@ pub record Advances {K A : Type 0} (r : Rules K A) (t : List ℕ) : Type 0 where
   pub number : (i : ℕ) → i < length t → ScalarWithin t i (r.number t i)
   pub text : (i : ℕ) → i < length t → ScalarWithin t i (r.text t i)
   pub key : (i : ℕ) → i < length t → ScalarWithin t i (r.key t i)
+  pub refuses : (members : List (K × A)) (i j : ℕ) (k : Kind) → i < length t → r.refuses members t i ≡ Some (k, j)
+      → (i < j) × FaultAt t k j
 
 abbrev pub AllWithin : {A : Type 0} → List ℕ → (ℕ → Reading A) → Type 0
 AllWithin t inner = (i : ℕ) → i < length t → Within t i (inner i)
@@ -33,6 +36,16 @@ pub record Goes {P A : Type 0} (c : Container P A) (t : List ℕ) : Type 0 where
   pub first : (i : ℕ) → i ≤ length t → Ahead t i (step t c.first i)
   pub next : (i : ℕ) → i ≤ length t → Ahead t i (step t c.next i)
   pub part : (i : ℕ) → i < length t → Within t i (c.part i)
+  pub refuses : (parts : List P) (i j : ℕ) (k : Kind) → i < length t → c.refuses parts i ≡ Some (k, j)
+      → (i < j) × FaultAt t k j
+
+-- what stands at i behind these parts: a part, unless it is refused
+abbrev pub part_behind : {P A : Type 0} → Container P A → List P → ℕ → Reading P
+part_behind c parts i = unless_refused (c.refuses parts i) (c.part i)
+
+pub part-free : {P A : Type 0} (c : Container P A) (parts : List P) (i : ℕ) → c.refuses parts i ≡ None
+    → part_behind c parts i ≡ c.part i
+part-free c parts i e = ap (λ o. unless_refused o (c.part i)) e
 
 module _ {K A : Type 0} (r : Rules K A) (t : List ℕ) where
   -- Where readings end.
@@ -65,12 +78,18 @@ module _ {K A : Type 0} (r : Rules K A) (t : List ℕ) where
     behind_part-within b i parts next (fault k x stop) lt h go =
         if_forgiven-within b (λ e. c.build e parts) k x stop (omega (arith, h.0)) h.1 h.2
 
+    pub part-within : (parts : List P) (i : ℕ) → i < length t → Within t i (part_behind c parts i)
+    part-within parts i h = by (c.refuses parts i) refl where
+      by : (o : Option (Kind × ℕ)) → c.refuses parts i ≡ o → Within t i (unless_refused o (c.part i))
+      by None e = goes.part i h
+      by (Some f) e = let at = goes.refuses parts i f.1 f.0 h e in (omega (arith, at.0), at.1.within, at.1)
+
     pub parts_at-within : (b n : ℕ) (parts : List P) (i : ℕ) → b < i → i < length t → length t ≤ i + n
         → Within t b (parts_at r c t n parts i)
     unfolding parts_at
     parts_at-within b zero parts i lt h p = absurd (omega arith)
     parts_at-within b (suc n) parts i lt h p =
-        behind_part-within b i parts _ (c.part i) lt (goes.part i h)
+        behind_part-within b i parts _ (part_behind c parts i) lt (part-within parts i h)
         (λ ps j lj h'. parts_at-within b n ps j (omega arith) h' (omega arith))
 
     pub container_at-within : (i : ℕ) → i < length t → Within t i (container_at r c t i)
@@ -93,28 +112,49 @@ module _ {K A : Type 0} (r : Rules K A) (t : List ℕ) where
     parts_at-turns zero m parts i h p q = absurd (omega arith)
     parts_at-turns (suc n) zero parts i h p q = absurd (omega arith)
     parts_at-turns (suc n) (suc m) parts i h p q =
-        behind_part-same _ _ i parts (c.part i) (goes.part i h)
+        behind_part-same _ _ i parts (part_behind c parts i) (part-within parts i h)
         (λ ps j lj h'. parts_at-turns n m ps j h' (omega arith) (omega arith))
 
     -- One part, and then the step behind it. After this no proof speaks of turns.
-    pub parts_at_is : (parts : List P) (i : ℕ) → i < length t
-        → parts_at r c t (length t) parts i ≡ behind_part r c t (parts_at r c t (length t)) parts (c.part i)
+    next_part_is : (parts : List P) (i : ℕ) → i < length t
+        → parts_at r c t (length t) parts i
+        ≡ behind_part r c t (parts_at r c t (length t)) parts (part_behind c parts i)
     unfolding parts_at
-    parts_at_is parts i h = parts_at-turns (length t) (suc (length t)) parts i h (omega arith) (omega arith)
+    next_part_is parts i h = parts_at-turns (length t) (suc (length t)) parts i h (omega arith) (omega arith)
 
-    pub parts-fault : (i x stop : ℕ) (parts : List P) (k : Kind) → i < length t → c.part i ≡ fault k x stop
+    pub next_part-fault : (i x stop : ℕ) (parts : List P) (k : Kind) → i < length t
+        → part_behind c parts i ≡ fault k x stop
         → parts_at r c t (length t) parts i ≡ if_forgiven r (λ e. c.build e parts) k x stop
-    parts-fault i x stop parts k h v =
-        parts_at_is parts i h ∙ ap (behind_part r c t (parts_at r c t (length t)) parts) v
+    next_part-fault i x stop parts k h v =
+        next_part_is parts i h ∙ ap (behind_part r c t (parts_at r c t (length t)) parts) v
 
-    pub parts-part : (i e : ℕ) (parts : List P) (p : P) (s : Step) → i < length t → c.part i ≡ done p e
+    pub next_part-done : (i e : ℕ) (parts : List P) (p : P) (s : Step) → i < length t
+        → part_behind c parts i ≡ done p e
         → step t c.next e ≡ s
         → parts_at r c t (length t) parts i ≡ follow r (parts_at r c t (length t) (parts ++ p ∷ []))
         (λ e. c.build e (parts ++ p ∷ [])) s
-    parts-part i e parts p s h v w =
+    next_part-done i e parts p s h v w =
         let next = parts_at r c t (length t) in
-        parts_at_is parts i h ∙ ap (behind_part r c t next parts) v
+        next_part_is parts i h ∙ ap (behind_part r c t next parts) v
         ∙ ap (follow r (next (parts ++ p ∷ [])) (λ e. c.build e (parts ++ p ∷ []))) w
+
+    -- the same of a part that is not refused
+    pub parts_at_is : (parts : List P) (i : ℕ) → i < length t → c.refuses parts i ≡ None
+        → parts_at r c t (length t) parts i ≡ behind_part r c t (parts_at r c t (length t)) parts (c.part i)
+    parts_at_is parts i h free =
+        next_part_is parts i h ∙ ap (behind_part r c t (parts_at r c t (length t)) parts) (part-free c parts i free)
+
+    pub parts-fault : (i x stop : ℕ) (parts : List P) (k : Kind) → i < length t → c.refuses parts i ≡ None
+        → c.part i ≡ fault k x stop
+        → parts_at r c t (length t) parts i ≡ if_forgiven r (λ e. c.build e parts) k x stop
+    parts-fault i x stop parts k h free v = next_part-fault i x stop parts k h (part-free c parts i free ∙ v)
+
+    pub parts-part : (i e : ℕ) (parts : List P) (p : P) (s : Step) → i < length t → c.refuses parts i ≡ None
+        → c.part i ≡ done p e
+        → step t c.next e ≡ s
+        → parts_at r c t (length t) parts i ≡ follow r (parts_at r c t (length t) (parts ++ p ∷ []))
+        (λ e. c.build e (parts ++ p ∷ [])) s
+    parts-part i e parts p s h free v w = next_part-done i e parts p s h (part-free c parts i free ∙ v) w
 
   -- the value of a key, behind what stands for its colon
   behind_colon-within : (i e : ℕ) (k : K) (inner : ℕ → Reading A) (x : Extent) → i < e → ExtentAhead t e 0 x
@@ -135,7 +175,12 @@ module _ {K A : Type 0} (r : Rules K A) (t : List ℕ) where
   module _ (good : Advances r t) (inner : ℕ → Reading A) (all : AllWithin t inner) (i : ℕ) where
     pub array_of-goes : Goes (array_of r inner t i) t
     array_of-goes =
-        record { first = container_first-ahead t shape.Array; next = container_step-ahead t shape.Array; part = all }
+        record {
+          first = container_first-ahead t shape.Array;
+          next = container_step-ahead t shape.Array;
+          part = all;
+          refuses = λ items j x k h e. absurd (none-some _ e);
+        }
 
     pub object_of-goes : Goes (object_of r inner t i) t
     object_of-goes =
@@ -144,6 +189,7 @@ module _ {K A : Type 0} (r : Rules K A) (t : List ℕ) where
           next = container_step-ahead t shape.Object;
           part = λ j h.
               behind_key-within j inner (r.key t j) h (good.key j h) all (object_colon-ahead t);
+          refuses = λ members j x k h e. good.refuses members j x k h e;
         }
 
     scalar_at-within : (x : Scanned A) → i < length t → ScalarWithin t i x → Within t i (scalar_at i x)

@@ -1,0 +1,129 @@
+-- With partial reading off, the reading that refuses repeated keys answers exactly the documents in which no object has
+-- two keys of the same characters.
+use Rattle.std.proofs.Common.{◌≡◌, inl, inr, ℕ, Bool, List, [], ◌∷◌, map, refl, sym, ap, ◌∙◌, subst}
+use Rattle.std.specs.Prelude.{slice_get, Option, Some, None, if◌then◌else◌}
+use Rattle.jiter_scan.specs.Scanned.{Scanned, taken, failed}
+use Rattle.jiter_steps.specs.Answer.{seen_as, whole_trees}
+use Rattle.jiter_steps.specs.Blank.{past_blanks}
+use Rattle.jiter_steps.specs.Node.{Key, Node, end, value_of, nesting_limit}
+use Rattle.jiter_steps.specs.Read.{Reading, done, fault, if_last, to_end, if_begun, front_answer, whole_answer}
+use Rattle.jiter_steps.specs.Step.{step, colon}
+use Rattle.jiter_steps.specs.StringReading.{whole, string_at}
+use Rattle.jiter_steps.specs.Tree.{Text, Tree}
+use Rattle.jiter_steps.specs.Unique.{HasUniqueKeys, IsUniqueDocument, is_among, behind_its_colon, repeated_key}
+use Rattle.jiter_steps.specs.Unique.{without_repeats, own_bytes, unique_answer}
+use Rattle.jiter_steps.proofs.Grammar.Documents.{key_text, Fits, nodes-lead, answer-sound, front-complete}
+use Rattle.jiter_steps.proofs.Grammar.Documents.{answer-complete}
+use Rattle.jiter_steps.proofs.Grammar.NodeRules.{nodes, key_of}
+use Rattle.jiter_steps.proofs.Grammar.ScalarLaws.{scalar-laws}
+use Rattle.jiter_steps.proofs.Reading.Fused.{mapped, pairs, AllTold, Leads, whole_answer-mapped}
+use Rattle.jiter_steps.proofs.Unique.Agreeing.{IsRepeat, Agrees, front_answer-agrees}
+use Rattle.jiter_steps.proofs.Unique.Distinct.{Tells}
+use Rattle.jiter_steps.proofs.Unique.Keys.{characters, all_characters}
+use Rattle.jiter_steps.proofs.Unique.Nodes.{strictest, value_at-tells}
+
+module _ (names : Bool) (t : List ℕ) where
+  abbrev TellsOf : Reading Node → Reading Node → Type 0
+  TellsOf = Tells HasUniqueKeys
+
+  if_begun-tells : (i : ℕ) (o : Option ℕ)
+      → TellsOf (if_begun (strictest names t) t i o) (if_begun (nodes names) t i o)
+  if_begun-tells i None = tt
+  if_begun-tells i (Some c) = value_at-tells names t nesting_limit i
+
+  front-tells : TellsOf (front_answer (strictest names t) t) (front_answer (nodes names) t)
+  unfolding front_answer
+  front-tells = if_begun-tells (past_blanks t 0) (slice_get t (past_blanks t 0))
+
+  front-agrees : Agrees (front_answer (strictest names t) t) (front_answer (nodes names) t)
+  front-agrees = front_answer-agrees characters (nodes names) (λ ms u j. refl) (λ k h. refl) t
+
+  -- a value that nothing follows was read
+  last-is : (m n : Node) (d e j : ℕ) (o : Option ℕ) → if_last m d j o ≡ done n e → done m d ≡ done n e
+  last-is m n d e j None is = is
+  last-is m n d e j (Some c) is = absurd (cc)
+
+  front-is : (x : Reading Node) (n : Node) (e : ℕ) → to_end t x ≡ done n e → x ≡ done n e
+  front-is (done m d) n e is = last-is m n d e (past_blanks t d) (slice_get t (past_blanks t d)) is
+  front-is (fault k i stop) n e is = absurd (cc)
+
+  -- A document with unique keys is read.
+  nodes-complete : (n : Node) → IsUniqueDocument names t n
+      → whole_answer (strictest names t) t ≡ done n (end n)
+  unfolding whole_answer
+  nodes-complete n d =
+      ap (to_end t) (elim front-agrees [
+        | inl same ↦ same
+        | inr repeat ↦
+            absurd ((subst (TellsOf (front_answer (strictest names t) t)) (front-complete names t n d.document)
+            front-tells).1 repeat d.unique)
+      ]) ∙ answer-complete names t n d.document
+
+  -- What is read is a document with unique keys.
+  nodes-sound : (n : Node) (e : ℕ) → whole_answer (strictest names t) t ≡ done n e → IsUniqueDocument names t n
+  unfolding whole_answer
+  nodes-sound n e is =
+      let front = front-is (front_answer (strictest names t) t) n e is in
+      elim front-agrees [
+        | inl same ↦
+            let read = sym same ∙ front in
+            let whole = ap (to_end t) read ∙ sym (ap (to_end t) front) ∙ is in
+            record {
+              document = (subst (Fits names t) whole (answer-sound names t)).0;
+              unique = (subst (TellsOf (front_answer (strictest names t) t)) read front-tells).0 front;
+            }
+        | inr repeat ↦ absurd (subst IsRepeat front repeat)
+      ]
+
+  -- The same of the values. Seen as a node's key or as its text, a key has the same characters.
+  key-fault : (ms : List (Key × Node)) (i : ℕ) → slice_get t i ≡ Some 34 → (x : Scanned Text) → string_at whole t i ≡ x
+      → repeated_key characters (all_characters ms) t (seen_as (key_of t i) x)
+      ≡ repeated_key own_bytes (all_characters ms) t x
+  key-fault ms i quote (taken s e) is =
+      let same = ap (λ s. s.bytes) ((scalar-laws names t).string-sound i e s quote is).1 in
+      ap (λ k. if is_among k (all_characters ms) then behind_its_colon k (step t colon e) else None) (sym same)
+  key-fault ms i quote (failed k j) is = refl
+
+  keys-same : (ms : List (Key × Node))
+      → all_characters ms ≡ map (λ m. own_bytes m.0) (pairs (key_text t) (value_of t) ms)
+  keys-same [] = refl
+  keys-same (m ∷ ms) = ap (λ ks. characters m.0 ∷ ks) (keys-same ms)
+
+  strictest-leads : Leads AllTold (strictest names t) (without_repeats own_bytes (whole_trees names)) (key_text t)
+      (value_of t) t
+  strictest-leads =
+      let plain = nodes-lead names t in
+      record {
+        forgives = plain.forgives;
+        told = plain.told;
+        literal = plain.literal;
+        number = plain.number;
+        text = plain.text;
+        key = plain.key;
+        refuses = λ ms i quote.
+            key-fault ms i quote (string_at whole t i) refl
+            ∙ ap (λ ks. repeated_key own_bytes ks t (string_at whole t i)) (keys-same ms);
+        array = plain.array;
+        object = plain.object;
+      }
+
+  answer-mapped : mapped (value_of t) (whole_answer (strictest names t) t) ≡ unique_answer names t
+  answer-mapped =
+      whole_answer-mapped (strictest names t) (without_repeats own_bytes (whole_trees names)) (key_text t)
+      (value_of t) t strictest-leads
+
+  -- A document with unique keys is answered with its value.
+  pub unique-complete : (n : Node) → IsUniqueDocument names t n → unique_answer names t ≡ done (value_of t n) (end n)
+  unique-complete n d = sym answer-mapped ∙ ap (mapped (value_of t)) (nodes-complete n d)
+
+  -- What is answered is the value of a document with unique keys.
+  unmapped : (x : Reading Node) (v : Tree) (e : ℕ) → mapped (value_of t) x ≡ done v e
+      → (n : Node) × (x ≡ done n e) × (value_of t n ≡ v)
+  unmapped (done n d) v e is = (n, ap (λ e. done n e) (cc), cc)
+  unmapped (fault k i stop) v e is = absurd (cc)
+
+  pub unique-sound : (v : Tree) (e : ℕ) → unique_answer names t ≡ done v e
+      → (n : Node) × IsUniqueDocument names t n × (value_of t n ≡ v)
+  unique-sound v e is =
+      let read = unmapped (whole_answer (strictest names t) t) v e (answer-mapped ∙ is) in
+      (read.0, nodes-sound read.0 e read.1, read.2)

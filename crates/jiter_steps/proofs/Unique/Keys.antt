@@ -1,0 +1,84 @@
+-- Unique keys of a list of members: what one more member adds.
+use Rattle.std.proofs.Common.{◌≡◌, ◌≢◌, Bool, true, false, ◌||◌, List, [], ◌∷◌, ◌++◌, ℕ, map, refl, sym, ◌∙◌}
+use Rattle.std.proofs.lemmas.Bool.{true≢false}
+use Rattle.std.proofs.lemmas.Slice.Eq.{bytes_eq-Decides}
+use Rattle.std.specs.Str.{bytes_eq}
+use Rattle.jiter_steps.specs.Node.{Key, Node}
+use Rattle.jiter_steps.specs.Piece.{text_of}
+use Rattle.jiter_steps.specs.Unique.{HasNoKey, HasUniqueKeys, ItemsHaveUniqueKeys, MembersHaveUniqueKeys, is_among}
+use Rattle.jiter_steps.proofs.Grammar.NodeRules.{nodes_of, node_members_of}
+
+-- a key's characters
+abbrev pub characters : Key → List ℕ
+characters k = text_of k.pieces
+
+abbrev pub all_characters : List (Key × Node) → List (List ℕ)
+all_characters ms = map (λ m. characters m.0) ms
+
+-- items
+pub items-front : (ns ms : List Node) → ItemsHaveUniqueKeys (nodes_of (ns ++ ms)) → ItemsHaveUniqueKeys (nodes_of ns)
+items-front [] ms h = tt
+items-front (n ∷ ns) ms h = (h.0, items-front ns ms h.1)
+
+pub items-last : (ns : List Node) (n : Node) → ItemsHaveUniqueKeys (nodes_of (ns ++ n ∷ [])) → HasUniqueKeys n
+items-last [] n h = h.0
+items-last (m ∷ ns) n h = items-last ns n h.1
+
+pub items-push : (ns : List Node) (n : Node) → ItemsHaveUniqueKeys (nodes_of ns) → HasUniqueKeys n
+    → ItemsHaveUniqueKeys (nodes_of (ns ++ n ∷ []))
+items-push [] n h is = (is, tt)
+items-push (m ∷ ns) n h is = (h.0, items-push ns n h.1 is)
+
+-- members
+no_key-front : (key : List ℕ) (ms ns : List (Key × Node)) → HasNoKey key (node_members_of (ms ++ ns))
+    → HasNoKey key (node_members_of ms)
+no_key-front key [] ns h = tt
+no_key-front key (m ∷ ms) ns h = (h.0, no_key-front key ms ns h.1)
+
+no_key-last : (key : List ℕ) (ms : List (Key × Node)) (m : Key × Node)
+    → HasNoKey key (node_members_of (ms ++ m ∷ [])) → characters m.0 ≢ key
+no_key-last key [] m h = h.0
+no_key-last key (n ∷ ms) m h = no_key-last key ms m h.1
+
+no_key-push : (key : List ℕ) (ms : List (Key × Node)) (m : Key × Node) → HasNoKey key (node_members_of ms)
+    → characters m.0 ≢ key → HasNoKey key (node_members_of (ms ++ m ∷ []))
+no_key-push key [] m h other = (other, tt)
+no_key-push key (n ∷ ms) m h other = (h.0, no_key-push key ms m h.1 other)
+
+pub members-front : (ms ns : List (Key × Node)) → MembersHaveUniqueKeys (node_members_of (ms ++ ns))
+    → MembersHaveUniqueKeys (node_members_of ms)
+members-front [] ns h = tt
+members-front (m ∷ ms) ns h = (no_key-front (characters m.0) ms ns h.0, h.1, members-front ms ns h.2)
+
+pub members-last : (ms : List (Key × Node)) (m : Key × Node)
+    → MembersHaveUniqueKeys (node_members_of (ms ++ m ∷ [])) → HasUniqueKeys m.1
+members-last [] m h = h.1
+members-last (n ∷ ms) m h = members-last ms m h.2
+
+-- a test that fails, or one that passes
+neither : (b c : Bool) → (b || c) ≡ false → (b ≡ false) × (c ≡ false)
+neither false c h = (refl, h)
+neither true c h = absurd (true≢false h)
+
+pub members-push : (ms : List (Key × Node)) (m : Key × Node) → is_among (characters m.0) (all_characters ms) ≡ false
+    → MembersHaveUniqueKeys (node_members_of ms) → HasUniqueKeys m.1
+    → MembersHaveUniqueKeys (node_members_of (ms ++ m ∷ []))
+members-push [] m new h is = (tt, is, tt)
+members-push (n ∷ ms) m new h is =
+    let b = bytes_eq (characters m.0) (characters n.0) in
+    let split = neither b (is_among (characters m.0) (all_characters ms)) new in
+    let other : characters m.0 ≢ characters n.0 =
+    λ e. true≢false (sym ((bytes_eq-Decides (characters m.0) (characters n.0)).1 e) ∙ split.0) in
+    (no_key-push (characters n.0) ms m h.0 other, h.1, members-push ms m split.1 h.2 is)
+
+pub members-clash : (ms : List (Key × Node)) (m : Key × Node) → is_among (characters m.0) (all_characters ms) ≡ true
+    → MembersHaveUniqueKeys (node_members_of (ms ++ m ∷ [])) → ⊥
+members-clash [] m old h = true≢false (sym old)
+members-clash (n ∷ ms) m old h =
+    by (bytes_eq (characters m.0) (characters n.0)) refl old (λ also. members-clash ms m also h.2) where
+      by : (b : Bool) → bytes_eq (characters m.0) (characters n.0) ≡ b
+          → (b || is_among (characters m.0) (all_characters ms)) ≡ true
+          → (is_among (characters m.0) (all_characters ms) ≡ true → ⊥) → ⊥
+      by true e also later =
+          no_key-last (characters n.0) ms m h.0 ((bytes_eq-Decides (characters m.0) (characters n.0)).0 e)
+      by false e also later = later also
