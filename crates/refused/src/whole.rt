@@ -1,7 +1,7 @@
 //! Readings of a whole text.
 use crate::asking::Whole;
 use crate::outcome::Outcome;
-use jiter::{JsonError, JsonValue, JsonValueScratch, Machine, PartialMode, Turn};
+use jiter::{JsonValue, JsonValueScratch, Machine, PartialMode, Turn};
 use std::alloc::{AllocError, Global};
 
 /// What a reading of a whole text comes to.
