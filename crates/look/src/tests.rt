@@ -7,7 +7,6 @@ use counted::{Calls, CountedReader, CountedWriter};
 use std::alloc::{AllocError, Global};
 
 mod counted;
-mod memory;
 mod printing;
 mod reading;
 mod reads;

@@ -101,26 +101,62 @@ fn refusals_are_those_of_the_value_read_whole(rt: HostRuntime) {
     }
 }
 
-// This text 201 times, and what ends it.
-fn nest(alloc: Global, text: &str, end: &str) -> Result<String, AllocError> {
-    let opened = text.repeat(alloc, 201)?;
-    format!(in alloc; "{opened}{end}")
+// The front so many times, the middle, and the back as often.
+fn nested(
+    alloc: Global,
+    front: &str,
+    times: usize,
+    middle: &str,
+    back: &str,
+) -> Result<String, AllocError> {
+    let opened = front.repeat(alloc, times)?;
+    let closed = back.repeat(alloc, times)?;
+    format!(in alloc; "{opened}{middle}{closed}")
 }
 
 #[test]
 fn the_limit_of_nesting_is_kept(rt: HostRuntime) -> Result<(), Fail> {
-    const ROWS: [(&str, &str, usize); 2] = [
-        ("[", "recursion limit exceeded at index 201", 201),
-        ("{\"a\":", "recursion limit exceeded at index 1005", 1005),
+    const ROWS: [(&str, usize, &str, &str, &str, usize); 4] = [
+        (
+            "[",
+            201,
+            "1",
+            "",
+            "recursion limit exceeded at index 201",
+            201,
+        ),
+        (
+            "[",
+            300,
+            "",
+            "]",
+            "recursion limit exceeded at index 201",
+            201,
+        ),
+        (
+            "{\"a\":",
+            201,
+            "1",
+            "",
+            "recursion limit exceeded at index 1005",
+            1005,
+        ),
+        (
+            "{\"a\":",
+            201,
+            "1",
+            "}",
+            "recursion limit exceeded at index 1005",
+            1005,
+        ),
     ];
     let alloc = rt.alloc();
-    let closed = "]".repeat(alloc, 201)?;
-    let deepest = nest(alloc, "[", closed.as_str())?;
+    let deepest = nested(alloc, "[", 201, "", "]")?;
     let deepest = deepest.as_str();
     expect_stop(&rt, built(alloc, deepest.as_bytes()), deepest, 402, "[");
-    for &(text, wanted, place) in &ROWS {
-        let deep = nest(alloc, text, "1")?;
-        expect_stop(&rt, built(alloc, deep.as_bytes()), wanted, place, text);
+    for &(front, times, middle, back, wanted, place) in &ROWS {
+        let deep = nested(alloc, front, times, middle, back)?;
+        expect_stop(&rt, built(alloc, deep.as_bytes()), wanted, place, front);
     }
     Ok(())
 }

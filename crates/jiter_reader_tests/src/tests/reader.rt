@@ -28,6 +28,8 @@ enum Call {
     ObjectBytes,
     KeyBytes,
     Finish,
+    // The call for the value that stands there, of a caller that has looked.
+    Known,
 }
 
 fn error_text(alloc: Global, error: &JiterError) -> Result<String, AllocError> {
@@ -136,6 +138,7 @@ fn reply_text(alloc: Global, jiter: &mut Jiter<'_>, call: Call) -> Result<String
         Call::ObjectBytes => raw_key_text(alloc, jiter.next_object_bytes()),
         Call::KeyBytes => raw_key_text(alloc, jiter.next_key_bytes()),
         Call::Finish => unit_text(alloc, jiter.finish()),
+        Call::Known => places::known_text(alloc, jiter),
     }
 }
 

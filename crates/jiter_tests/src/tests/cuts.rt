@@ -1,10 +1,10 @@
-//! Documents cut at each byte, beside what a plain cutter leaves of them.
+//! Documents cut at each byte, as each reading of a whole text answers them, beside what a plain cutter leaves of them.
 //!
 //! A document is a list of parts here. The cutter reads nothing: it knows where each part begins and ends.
-use crate::told::answer_text;
-use jiter::PartialMode;
+use crate::tests::turns::answer_by_turns;
+use crate::told::{answer_text, outcome_text};
+use jiter::{JsonValue, JsonValueScratch, PartialMode};
 use std::alloc::{AllocError, Global};
-use std::process::Abort;
 use std::test::*;
 
 // A part of a document, by its source.
@@ -19,6 +19,8 @@ enum Part {
     Word(&'static str),
     // A number, and the lengths of its fronts that are numbers, with how each is told.
     Number(&'static str, &'static [(usize, &'static str)]),
+    // A string that has no escape and no character of two bytes, by what stands between its quotes.
+    Plain(&'static str),
     // A string by its characters, each with what it stands for.
     Text(&'static [(&'static str, &'static str)]),
     // A key, and how it is told.
@@ -39,6 +41,7 @@ fn append_quoted(
 
 fn append_source(part: Part, out: &mut String) -> Result<(), AllocError> {
     match part {
+        Part::Plain(text) => append_quoted(&[(text, text)], out),
         Part::Gap(source) => out.push_str(source),
         Part::Open(source) => out.push_str(source),
         Part::Close(source) => out.push_str(source),
@@ -49,12 +52,21 @@ fn append_source(part: Part, out: &mut String) -> Result<(), AllocError> {
     }
 }
 
-fn source_of(alloc: Global, parts: &[Part]) -> Result<String, AllocError> {
-    let mut out = String::new(alloc);
-    for part in parts {
-        append_source(*part, &mut out)?;
+// A document: its parts, and its source.
+#[derive(Drop)]
+struct Document {
+    parts: Vec<Part>,
+    source: String,
+}
+
+impl Document {
+    fn new(alloc: Global, parts: Vec<Part>) -> Result<Document, AllocError> {
+        let mut source = String::new(alloc);
+        for part in &parts {
+            append_source(*part, &mut source)?;
+        }
+        Ok(Document { parts, source })
     }
-    Ok(out)
 }
 
 // How many bytes of a part that begins at `begin` stand before the place.
@@ -133,6 +145,18 @@ impl Cutter {
         Ok(())
     }
 
+    // The bytes between the quotes that stand before the place.
+    fn plain(&mut self, text: &str, reached: usize) -> Result<(), AllocError> {
+        let alloc = *self.line.allocator();
+        let kept = reached.saturating_sub(1).min(text.len());
+        let whole = reached > text.len().saturating_add(1);
+        if reached > 0 && (whole || self.keeps_strings) {
+            let front = text.get(..kept).unwrap_or(text);
+            self.tell(format!(in alloc; "'{front}'")?.as_str())?;
+        }
+        Ok(())
+    }
+
     // The characters that end at or before the place; the text owns its bytes where a backslash stands before it.
     fn text(
         &mut self,
@@ -170,6 +194,7 @@ impl Cutter {
             Part::Word(word) if reached == word.len() => self.tell(word)?,
             Part::Word(_) => {}
             Part::Number(_, fronts) => self.number(fronts, reached)?,
+            Part::Plain(text) => self.plain(text, reached)?,
             Part::Text(characters) => self.text(characters, reached)?,
         }
         self.key = "";
@@ -195,106 +220,123 @@ fn cut(
     cutter.line.clone()
 }
 
-// The first place behind the first bracket, which stands at this index, at which a parse does not answer the cut,
-// with what it answers.
-fn first_miss(
+// The text without the mark of texts that are owned.
+fn unmarked(alloc: Global, text: &str) -> Result<String, AllocError> {
+    let mut out = String::new(alloc);
+    for part in text.split("owned ") {
+        out.push_str(part)?;
+    }
+    Ok(out)
+}
+
+// Scratches that serve each cut of each document.
+#[derive(Drop)]
+struct Scratches<'j> {
+    lending: JsonValueScratch<'j>,
+    owning: JsonValueScratch<'static>,
+}
+
+impl<'j> Scratches<'j> {
+    fn new(alloc: Global) -> Scratches<'j> {
+        Scratches {
+            lending: JsonValueScratch::new(alloc),
+            owning: JsonValueScratch::new(alloc),
+        }
+    }
+
+    // Whether each reading answers this line of a front, but for the marks where it owns each text. By turns it takes
+    // no more of them than three a byte and three more.
+    fn answer_so(
+        &mut self,
+        alloc: Global,
+        front: &'j [u8],
+        mode: PartialMode,
+        wanted: &str,
+    ) -> Result<bool, Fail> {
+        let parsed = answer_text(alloc, front, true, mode)?;
+        let (turned, _) = answer_by_turns(alloc, front, mode)?;
+        let lent = outcome_text(alloc, &self.lending.parse(front, true, mode))?;
+        let owned = outcome_text(alloc, &JsonValue::parse_owned(alloc, front, true, mode))?;
+        let kept = outcome_text(alloc, &self.owning.parse_owned(front, true, mode))?;
+        let bare = unmarked(alloc, wanted)?;
+        let alike = parsed.as_str() == wanted && turned.as_str() == wanted;
+        Ok(
+            alike
+                && lent.as_str() == wanted
+                && unmarked(alloc, owned.as_str())?.as_str() == bare.as_str()
+                && unmarked(alloc, kept.as_str())?.as_str() == bare.as_str(),
+        )
+    }
+}
+
+// The first place behind the first bracket at which some reading does not answer the cut.
+fn first_miss<'j>(
     alloc: Global,
     parts: &[Part],
-    bracket: usize,
+    source: &'j [u8],
+    scratches: &mut Scratches<'j>,
     mode: PartialMode,
-) -> Result<Option<(usize, String)>, AllocError> {
-    let source = source_of(alloc, parts)?;
+) -> Result<Option<usize>, Fail> {
+    let bracket = match parts.first() {
+        Some(Part::Gap(blanks)) => blanks.len(),
+        _ => 0,
+    };
     let keeps_strings = mode == PartialMode::TrailingStrings;
     for place in bracket.saturating_add(1)..=source.len() {
-        let front = &source.as_bytes()[..place];
-        let seen = answer_text(alloc, front, true, mode)?;
+        let front = &source[..place];
         let wanted = cut(alloc, parts, place, keeps_strings)?;
-        if seen.as_str() != wanted.as_str() {
-            return Ok(Some((place, seen)));
+        if !scratches.answer_so(alloc, front, mode, wanted.as_str())? {
+            return Ok(Some(place));
         }
     }
     Ok(None)
 }
 
-// Where a parse first misses, in the one partial mode or else in the other.
-fn first_miss_in_either(
-    alloc: Global,
-    parts: &[Part],
-    bracket: usize,
-) -> Result<Option<(usize, String)>, AllocError> {
-    match first_miss(alloc, parts, bracket, PartialMode::On)? {
-        None => first_miss(alloc, parts, bracket, PartialMode::TrailingStrings),
-        miss => Ok(miss),
-    }
-}
-
-// Asserts that a parse answers the cut at each place behind the first bracket, in both partial modes.
-fn expect_cuts(rt: &impl Abort, alloc: Global, parts: &[Part], bracket: usize) {
-    match first_miss_in_either(alloc, parts, bracket) {
-        Ok(miss) => assert_eq!(*rt; miss, None),
-        Err(_) => assert!(*rt; false, "no memory"),
-    }
-}
-
-#[test]
-fn literals_and_empty_containers_are_cut(rt: HostRuntime) {
-    use Part::{Close, Gap, Open, Word};
-    const PARTS: [Part; 22] = [
-        Gap(" \t"),
-        Open("["),
-        Gap("\n "),
-        Word("null"),
-        Gap(" ,\r"),
-        Open("["),
-        Gap(" "),
-        Close("]"),
-        Gap(","),
-        Open("{"),
-        Close("}"),
-        Gap(" , "),
-        Word("true"),
-        Gap(","),
-        Open("["),
-        Open("["),
-        Word("false"),
-        Close("]"),
-        Close("]"),
-        Gap("\t"),
-        Close("]"),
-        Gap(" \n"),
-    ];
-    expect_cuts(&rt, rt.alloc(), &PARTS, 2);
-}
-
-#[test]
-fn strings_are_cut(rt: HostRuntime) {
-    use Part::{Close, Gap, Open, Text};
-    const PARTS: [Part; 13] = [
-        Open("["),
-        Text(&[]),
-        Gap(" ,"),
-        Text(&[("a", "a"), ("b", "b"), (" ", " ")]),
-        Gap(", "),
-        Text(&[("é", "é"), ("€", "€"), ("😀", "😀")]),
-        Gap(","),
-        Text(&[("x", "x"), (r"\n", "\n"), (r"\u00e9", "é"), ("y", "y")]),
-        Gap(","),
-        Text(&[(r"\ud83d\ude00", "😀"), (r#"\""#, "\""), (r"\\", "\\")]),
-        Gap(","),
-        Text(&[("€", "€"), (r"\/", "/"), ("😀", "😀")]),
-        Close("]"),
-    ];
-    expect_cuts(&rt, rt.alloc(), &PARTS, 0);
-}
-
-#[test]
-fn numbers_are_cut(rt: HostRuntime) {
-    use Part::{Close, Gap, Number, Open};
-    const PARTS: [Part; 11] = [
-        Open("["),
-        Number("0", &[(1, "0")]),
-        Gap(","),
-        Number(
+const DOCUMENTS: [&[Part]; 13] = [
+    &[
+        Part::Gap(" \t"),
+        Part::Open("["),
+        Part::Gap("\n "),
+        Part::Word("null"),
+        Part::Gap(" ,\r"),
+        Part::Open("["),
+        Part::Gap(" "),
+        Part::Close("]"),
+        Part::Gap(","),
+        Part::Open("{"),
+        Part::Close("}"),
+        Part::Gap(" , "),
+        Part::Word("true"),
+        Part::Gap(","),
+        Part::Open("["),
+        Part::Open("["),
+        Part::Word("false"),
+        Part::Close("]"),
+        Part::Close("]"),
+        Part::Gap("\t"),
+        Part::Close("]"),
+        Part::Gap(" \n"),
+    ],
+    &[
+        Part::Open("["),
+        Part::Text(&[]),
+        Part::Gap(" ,"),
+        Part::Text(&[("a", "a"), ("b", "b"), (" ", " ")]),
+        Part::Gap(", "),
+        Part::Text(&[("é", "é"), ("€", "€"), ("😀", "😀")]),
+        Part::Gap(","),
+        Part::Text(&[("x", "x"), (r"\n", "\n"), (r"\u00e9", "é"), ("y", "y")]),
+        Part::Gap(","),
+        Part::Text(&[(r"\ud83d\ude00", "😀"), (r#"\""#, "\""), (r"\\", "\\")]),
+        Part::Gap(","),
+        Part::Text(&[("€", "€"), (r"\/", "/"), ("😀", "😀")]),
+        Part::Close("]"),
+    ],
+    &[
+        Part::Open("["),
+        Part::Number("0", &[(1, "0")]),
+        Part::Gap(","),
+        Part::Number(
             "-12.50",
             &[
                 (2, "-1"),
@@ -303,106 +345,240 @@ fn numbers_are_cut(rt: HostRuntime) {
                 (6, "float '-12.50'"),
             ],
         ),
-        Gap("\n,"),
-        Number(
+        Part::Gap("\n,"),
+        Part::Number(
             "3e+10",
             &[(1, "3"), (4, "float '3e+1'"), (5, "float '3e+10'")],
         ),
-        Gap(" , "),
-        Number(
+        Part::Gap(" , "),
+        Part::Number(
             "-0.1E-2",
             &[(2, "0"), (4, "float '-0.1'"), (7, "float '-0.1E-2'")],
         ),
-        Gap(","),
-        Number("7E2", &[(1, "7"), (3, "float '7E2'")]),
-        Close("]"),
-    ];
-    expect_cuts(&rt, rt.alloc(), &PARTS, 0);
+        Part::Gap(","),
+        Part::Number("7E2", &[(1, "7"), (3, "float '7E2'")]),
+        Part::Close("]"),
+    ],
+    &[
+        Part::Gap("\r"),
+        Part::Open("{"),
+        Part::Gap(" "),
+        Part::Key("\"n\"", "'n':"),
+        Part::Gap(": "),
+        Part::Number("NaN", &[(3, "float 'NaN'")]),
+        Part::Gap(","),
+        Part::Key("\"i\"", "'i':"),
+        Part::Gap(":"),
+        Part::Open("["),
+        Part::Number("Infinity", &[(8, "float 'Infinity'")]),
+        Part::Gap(","),
+        Part::Number("-Infinity", &[(9, "float '-Infinity'")]),
+        Part::Gap(","),
+        Part::Number("90", &[(1, "9"), (2, "90")]),
+        Part::Close("]"),
+        Part::Gap(" "),
+        Part::Close("}"),
+    ],
+    &[
+        Part::Open("{"),
+        Part::Key("\"a\"", "'a':"),
+        Part::Gap(" :\t"),
+        Part::Open("{"),
+        Part::Key(r#""\u0062é""#, "owned 'bé':"),
+        Part::Gap(":"),
+        Part::Text(&[("c", "c"), (r"\t", "\t")]),
+        Part::Gap(" ,\n"),
+        Part::Key("\"\"", "'':"),
+        Part::Gap(":"),
+        Part::Word("null"),
+        Part::Gap(" "),
+        Part::Close("}"),
+        Part::Gap(","),
+        Part::Key("\"a\"", "'a':"),
+        Part::Gap(":"),
+        Part::Open("{"),
+        Part::Close("}"),
+        Part::Close("}"),
+        Part::Gap("\t"),
+    ],
+    &[
+        Part::Open("["),
+        Part::Open("{"),
+        Part::Key("\"k\"", "'k':"),
+        Part::Gap(":"),
+        Part::Open("["),
+        Part::Open("["),
+        Part::Number("12", &[(1, "1"), (2, "12")]),
+        Part::Gap(" "),
+        Part::Close("]"),
+        Part::Gap(","),
+        Part::Open("{"),
+        Part::Key("\"m\"", "'m':"),
+        Part::Gap(": "),
+        Part::Text(&[("é", "é")]),
+        Part::Close("}"),
+        Part::Close("]"),
+        Part::Gap(" ,"),
+        Part::Key("\"w\"", "'w':"),
+        Part::Gap(":"),
+        Part::Word("false"),
+        Part::Close("}"),
+        Part::Gap(","),
+        Part::Open("["),
+        Part::Close("]"),
+        Part::Close("]"),
+    ],
+    &[
+        Part::Gap("\n"),
+        Part::Open("{"),
+        Part::Key("\"name\"", "'name':"),
+        Part::Gap(": "),
+        Part::Plain("John Doe"),
+        Part::Gap(", "),
+        Part::Key("\"age\"", "'age':"),
+        Part::Gap(": "),
+        Part::Number("43", &[(1, "4"), (2, "43")]),
+        Part::Gap(", "),
+        Part::Key("\"phones\"", "'phones':"),
+        Part::Gap(": "),
+        Part::Open("["),
+        Part::Plain("+44 1234567"),
+        Part::Gap(", "),
+        Part::Plain("+44 2345678"),
+        Part::Close("]"),
+        Part::Close("}"),
+    ],
+    &[
+        Part::Open("["),
+        Part::Text(&[("o", "o"), ("k", "k"), (r"\n", "\n")]),
+        Part::Gap(", "),
+        Part::Open("{"),
+        Part::Key("\"d\"", "'d':"),
+        Part::Gap(": "),
+        Part::Number("4", &[(1, "4")]),
+        Part::Close("}"),
+        Part::Close("]"),
+    ],
+    &[
+        Part::Open("{"),
+        Part::Key("\"a\"", "'a':"),
+        Part::Gap(":"),
+        Part::Number("1", &[(1, "1")]),
+        Part::Gap(","),
+        Part::Key(r#""\u0061""#, "owned 'a':"),
+        Part::Gap(":"),
+        Part::Number("2", &[(1, "2")]),
+        Part::Close("}"),
+    ],
+    &[
+        Part::Open("["),
+        Part::Plain("string"),
+        Part::Gap(", "),
+        Part::Text(&[(r"\u00a3", "£")]),
+        Part::Gap(", "),
+        Part::Word("true"),
+        Part::Gap(", "),
+        Part::Word("false"),
+        Part::Gap(", "),
+        Part::Word("null"),
+        Part::Gap(", "),
+        Part::Number("NaN", &[(3, "float 'NaN'")]),
+        Part::Gap(", "),
+        Part::Number("Infinity", &[(8, "float 'Infinity'")]),
+        Part::Gap(", "),
+        Part::Number("-Infinity", &[(9, "float '-Infinity'")]),
+        Part::Close("]"),
+    ],
+    &[
+        Part::Open("{"),
+        Part::Key("\"a\"", "'a':"),
+        Part::Gap(": "),
+        Part::Open("["),
+        Part::Number("1", &[(1, "1")]),
+        Part::Gap(", "),
+        Part::Number("2.50", &[(1, "2"), (3, "float '2.5'"), (4, "float '2.50'")]),
+        Part::Gap(", "),
+        Part::Text(&[(r"\n", "\n")]),
+        Part::Close("]"),
+        Part::Close("}"),
+    ],
+    &[
+        Part::Open("["),
+        Part::Number("12", &[(1, "1"), (2, "12")]),
+        Part::Gap(","),
+        Part::Text(&[("a", "a"), ("é", "é")]),
+        Part::Gap(","),
+        Part::Open("{"),
+        Part::Key("\"k\"", "'k':"),
+        Part::Gap(":"),
+        Part::Word("true"),
+        Part::Close("}"),
+        Part::Close("]"),
+    ],
+    &[
+        Part::Open("["),
+        Part::Open("["),
+        Part::Number("1", &[(1, "1")]),
+        Part::Gap(","),
+        Part::Open("["),
+        Part::Number("2", &[(1, "2")]),
+        Part::Gap(","),
+        Part::Number("3", &[(1, "3")]),
+        Part::Close("]"),
+        Part::Close("]"),
+        Part::Gap(","),
+        Part::Open("{"),
+        Part::Key("\"a\"", "'a':"),
+        Part::Gap(":"),
+        Part::Open("["),
+        Part::Number("4", &[(1, "4")]),
+        Part::Gap(","),
+        Part::Open("{"),
+        Part::Key("\"b\"", "'b':"),
+        Part::Gap(":"),
+        Part::Number("5", &[(1, "5")]),
+        Part::Close("}"),
+        Part::Close("]"),
+        Part::Gap(","),
+        Part::Key("\"c\"", "'c':"),
+        Part::Gap(":"),
+        Part::Open("["),
+        Part::Close("]"),
+        Part::Close("}"),
+        Part::Gap(","),
+        Part::Number("6", &[(1, "6")]),
+        Part::Close("]"),
+    ],
+];
+
+// So many arrays, one in another.
+fn nested(alloc: Global, levels: usize) -> Result<Vec<Part>, AllocError> {
+    let mut parts = Vec::new(alloc);
+    for _ in 0..levels {
+        parts.push(Part::Open("["))?;
+    }
+    for _ in 0..levels {
+        parts.push(Part::Close("]"))?;
+    }
+    Ok(parts)
 }
 
 #[test]
-fn names_are_cut(rt: HostRuntime) {
-    use Part::{Close, Gap, Key, Number, Open};
-    const PARTS: [Part; 18] = [
-        Gap("\r"),
-        Open("{"),
-        Gap(" "),
-        Key("\"n\"", "'n':"),
-        Gap(": "),
-        Number("NaN", &[(3, "float 'NaN'")]),
-        Gap(","),
-        Key("\"i\"", "'i':"),
-        Gap(":"),
-        Open("["),
-        Number("Infinity", &[(8, "float 'Infinity'")]),
-        Gap(","),
-        Number("-Infinity", &[(9, "float '-Infinity'")]),
-        Gap(","),
-        Number("90", &[(1, "9"), (2, "90")]),
-        Close("]"),
-        Gap(" "),
-        Close("}"),
-    ];
-    expect_cuts(&rt, rt.alloc(), &PARTS, 1);
-}
-
-#[test]
-fn keys_and_members_are_cut(rt: HostRuntime) {
-    use Part::{Close, Gap, Key, Open, Text, Word};
-    const PARTS: [Part; 20] = [
-        Open("{"),
-        Key("\"a\"", "'a':"),
-        Gap(" :\t"),
-        Open("{"),
-        Key(r#""\u0062é""#, "owned 'bé':"),
-        Gap(":"),
-        Text(&[("c", "c"), (r"\t", "\t")]),
-        Gap(" ,\n"),
-        Key("\"\"", "'':"),
-        Gap(":"),
-        Word("null"),
-        Gap(" "),
-        Close("}"),
-        Gap(","),
-        Key("\"a\"", "'a':"),
-        Gap(":"),
-        Open("{"),
-        Close("}"),
-        Close("}"),
-        Gap("\t"),
-    ];
-    expect_cuts(&rt, rt.alloc(), &PARTS, 0);
-}
-
-#[test]
-fn nested_containers_are_cut(rt: HostRuntime) {
-    use Part::{Close, Gap, Key, Number, Open, Text, Word};
-    const PARTS: [Part; 25] = [
-        Open("["),
-        Open("{"),
-        Key("\"k\"", "'k':"),
-        Gap(":"),
-        Open("["),
-        Open("["),
-        Number("12", &[(1, "1"), (2, "12")]),
-        Gap(" "),
-        Close("]"),
-        Gap(","),
-        Open("{"),
-        Key("\"m\"", "'m':"),
-        Gap(": "),
-        Text(&[("é", "é")]),
-        Close("}"),
-        Close("]"),
-        Gap(" ,"),
-        Key("\"w\"", "'w':"),
-        Gap(":"),
-        Word("false"),
-        Close("}"),
-        Gap(","),
-        Open("["),
-        Close("]"),
-        Close("]"),
-    ];
-    expect_cuts(&rt, rt.alloc(), &PARTS, 0);
+fn each_reading_answers_the_cut_of_each_document(rt: HostRuntime) -> Result<(), Fail> {
+    let alloc = rt.alloc();
+    let mut documents = Vec::new(alloc);
+    for parts in DOCUMENTS {
+        documents.push(Document::new(alloc, Vec::from_slice(alloc, parts)?)?)?;
+    }
+    documents.push(Document::new(alloc, nested(alloc, 201)?)?)?;
+    let mut scratches = Scratches::new(alloc);
+    for number in 0..documents.len() {
+        let parts = documents[number].parts.as_slice();
+        let source = documents[number].source.as_bytes();
+        for mode in [PartialMode::On, PartialMode::TrailingStrings] {
+            let miss = first_miss(alloc, parts, source, &mut scratches, mode)?;
+            assert!(rt; miss.is_none(), "{miss:?} {mode:?} of document {number}");
+        }
+    }
+    Ok(())
 }

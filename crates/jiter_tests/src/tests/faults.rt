@@ -81,8 +81,13 @@ fn objects_are_refused(rt: HostRuntime) {
 
 #[test]
 fn bytes_that_are_no_text_are_refused(rt: HostRuntime) {
-    const ROWS: [(&[u8], Kind, usize); 3] = [
+    const ROWS: [(&[u8], Kind, usize); 4] = [
         (b"\"\\n\xff\"", Kind::InvalidUnicodeCodePoint, 2),
+        (
+            b"\"aaaaaaaaaaaaaaa\x80\"",
+            Kind::InvalidUnicodeCodePoint,
+            16,
+        ),
         (b"{\"\xff\":1}", Kind::InvalidUnicodeCodePoint, 2),
         (b"\xef\xbb\xbf1", Kind::ExpectedSomeValue, 0),
     ];
@@ -143,7 +148,8 @@ fn description_of(alloc: Global, bytes: &[u8]) -> Result<String, AllocError> {
 
 #[test]
 fn faults_are_described(rt: HostRuntime) {
-    const ROWS: [(&str, &str); 2] = [
+    const ROWS: [(&str, &str); 3] = [
+        ("", "EOF while parsing a value at line 1 column 0"),
         ("[\ntrue\nx", "expected `,` or `]` at line 3 column 1"),
         ("[1, 2] extra", "trailing characters at line 1 column 8"),
     ];

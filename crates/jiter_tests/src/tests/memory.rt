@@ -1,73 +1,10 @@
-//! What calls answer where memory is refused.
+//! How much memory a scratch asks for that has grown, and what is read with none left.
 use crate::held::Held;
 use crate::told::text_of;
-use jiter::{JsonErrorType as Kind, JsonValue, JsonValueScratch, PartialMode};
+use jiter::{JsonValue, JsonValueScratch, PartialMode};
 use std::alloc::{AllocError, Global};
 use std::borrow::CowStr;
 use std::test::*;
-
-// Whether a parse of these bytes is asked with more and more memory until it answers, and answers this value; and
-// whether one request was refused behind the item that begins at `last`.
-fn refusals_are_told(
-    alloc: Global,
-    bytes: &[u8],
-    mode: PartialMode,
-    wanted: &str,
-    last: usize,
-) -> Result<bool, Fail> {
-    let mut held = Held::all(alloc)?;
-    let mut refused_in_last = false;
-    for steps in 0..128usize {
-        held.leave(alloc, 16 * steps)?;
-        let answer = JsonValue::parse_with_config(alloc, bytes, false, mode);
-        held.give_back(alloc);
-        match &answer {
-            Ok(value) => {
-                return Ok(refused_in_last && text_of(alloc, value)?.as_str() == wanted);
-            }
-            Err(error) if error.error_type == Kind::OutOfMemory => {
-                refused_in_last = refused_in_last || error.index >= last;
-            }
-            Err(_) => return Ok(false),
-        }
-    }
-    Ok(false)
-}
-
-#[test]
-fn each_refused_request_is_told(rt: HostRuntime) -> Result<(), Fail> {
-    let alloc = rt.alloc();
-    let whole = br#"[1,["a\nb"],{"k":"\u0061"}]"#.as_slice();
-    let front = br#"[1,["a\nb"],{"k":"\u0061","l":["\n"#.as_slice();
-    for (bytes, mode, wanted) in [
-        (
-            whole,
-            PartialMode::Off,
-            "[1,[owned 'a\nb'],{'k':owned 'a'}]",
-        ),
-        (whole, PartialMode::On, "[1,[owned 'a\nb'],{'k':owned 'a'}]"),
-        (
-            whole,
-            PartialMode::TrailingStrings,
-            "[1,[owned 'a\nb'],{'k':owned 'a'}]",
-        ),
-        (
-            front,
-            PartialMode::On,
-            "[1,[owned 'a\nb'],{'k':owned 'a','l':[]}]",
-        ),
-        (
-            front,
-            PartialMode::TrailingStrings,
-            "[1,[owned 'a\nb'],{'k':owned 'a','l':[owned '\n']}]",
-        ),
-    ] {
-        // The third item begins at index 12.
-        let told = refusals_are_told(alloc, bytes, mode, wanted, 12)?;
-        assert!(rt; told, "{bytes:?}");
-    }
-    Ok(())
-}
 
 // Asks for one vector for each container of a document that has a part, and one text for each decoded string.
 fn ask_for_value(alloc: Global) -> Result<(), AllocError> {
@@ -138,18 +75,5 @@ fn some_values_want_no_memory(rt: HostRuntime) -> Result<(), Fail> {
     for (answer, wanted) in answers {
         assert_eq!(rt; text_of(alloc, &answer?)?.as_str(), wanted);
     }
-    Ok(())
-}
-
-#[test]
-fn a_description_tells_of_want_of_memory(rt: HostRuntime) -> Result<(), Fail> {
-    let alloc = rt.alloc();
-    let error = JsonValue::parse(alloc, b"[1,]", false)
-        .err()
-        .ok_or("a value")?;
-    let held = Held::all(alloc)?;
-    let described = error.description(alloc, b"[1,]");
-    drop(held);
-    assert!(rt; described.is_err());
     Ok(())
 }

@@ -3,6 +3,7 @@ use crate::tests::expect::expect_text;
 use crate::told::{outcome_text, text_of};
 use jiter::{JsonErrorType as Kind, JsonValue, JsonValueScratch, PartialMode};
 use std::alloc::{AllocError, Global};
+use std::process::Abort;
 use std::test::*;
 
 #[test]
@@ -81,7 +82,7 @@ fn values_are_equal_where_they_hold_the_same(rt: HostRuntime) -> Result<(), Fail
 }
 
 // A document of each kind, or a text that is refused.
-const TEXTS: [&[u8]; 11] = [
+const TEXTS: [&[u8]; 17] = [
     b"{\"a\": \"escaped\\nvalue\", \"b\": [1, 2, {\"c\": [3, ",
     b"[\"ok\\n\", {\"d\": 4}]",
     b"[1] x",
@@ -93,30 +94,87 @@ const TEXTS: [&[u8]; 11] = [
     b"{\"k\":{\"k\":[\"a\",null]}}",
     b"",
     b"[9223372036854775808,true,{\"a\":1,\"a\":2}]",
+    b"{\"a\": [1, {\"b\": \"x",
+    b"[{\"a\":[1}, 2]",
+    b"[[1,[2,3]],{\"a\":[4,{\"b\":5}],\"c\":[]},6]",
+    b"[{\"a\":[1},{\"b\":2}]",
+    b"{\"a\":{\"b\":[1},\"c\":2}",
+    b"[{\"a\":1],2]",
 ];
+
+const MODES: [PartialMode; 3] = [
+    PartialMode::Off,
+    PartialMode::On,
+    PartialMode::TrailingStrings,
+];
+
+// The front so many times, the middle, and the back as often.
+fn nested(
+    alloc: Global,
+    front: &str,
+    times: usize,
+    middle: &str,
+    back: &str,
+) -> Result<String, AllocError> {
+    let opened = front.repeat(alloc, times)?;
+    let closed = back.repeat(alloc, times)?;
+    format!(in alloc; "{opened}{middle}{closed}")
+}
+
+// Scratches that serve each document in each mode.
+#[derive(Drop)]
+struct Scratches<'j> {
+    lending: JsonValueScratch<'j>,
+    owning: JsonValueScratch<'static>,
+}
+
+// Asserts that both scratches answer a text as fresh parses do.
+fn expect_as_fresh<'j>(
+    rt: &impl Abort,
+    alloc: Global,
+    scratches: &mut Scratches<'j>,
+    bytes: &'j [u8],
+    mode: PartialMode,
+) {
+    let fresh = JsonValue::parse_with_config(alloc, bytes, false, mode);
+    let answer = scratches.lending.parse(bytes, false, mode);
+    let answer = outcome_text(alloc, &answer);
+    match outcome_text(alloc, &fresh) {
+        Ok(wanted) => expect_text(rt, answer, wanted.as_str(), &bytes),
+        Err(_) => assert!(*rt; false, "no memory"),
+    }
+    let fresh = JsonValue::parse_owned(alloc, bytes, false, mode);
+    let answer = scratches.owning.parse_owned(bytes, false, mode);
+    let answer = outcome_text(alloc, &answer);
+    match outcome_text(alloc, &fresh) {
+        Ok(wanted) => expect_text(rt, answer, wanted.as_str(), &bytes),
+        Err(_) => assert!(*rt; false, "no memory"),
+    }
+}
 
 #[test]
 fn a_scratch_answers_each_document_as_a_fresh_parse(rt: HostRuntime) -> Result<(), Fail> {
     let alloc = rt.alloc();
-    let mut scratch = JsonValueScratch::new(alloc);
-    let mut owning = JsonValueScratch::new(alloc);
-    for document in 0..121usize {
+    let nested = [
+        nested(alloc, "[", 201, "", "]")?,
+        nested(alloc, "[", 300, "", "]")?,
+        nested(alloc, "{\"a\":", 201, "1", "}")?,
+    ];
+    let mut scratches = Scratches {
+        lending: JsonValueScratch::new(alloc),
+        owning: JsonValueScratch::new(alloc),
+    };
+    for document in 0..400usize {
         // The texts in turn, from another one on in each round.
-        let bytes = TEXTS[(document + document / 11) % 11];
-        let mode = match document % 3 {
-            0 => PartialMode::Off,
-            1 => PartialMode::On,
-            _ => PartialMode::TrailingStrings,
+        let number = (document + document / 20) % 20;
+        let bytes = if number < 17 {
+            TEXTS[number]
+        } else {
+            nested[number - 17].as_bytes()
         };
-        let fresh = outcome_text(
-            alloc,
-            &JsonValue::parse_with_config(alloc, bytes, false, mode),
-        )?;
-        let answer = outcome_text(alloc, &scratch.parse(bytes, false, mode));
-        expect_text(&rt, answer, fresh.as_str(), &bytes);
-        let owned = outcome_text(alloc, &JsonValue::parse_owned(alloc, bytes, false, mode))?;
-        let owned_answer = outcome_text(alloc, &owning.parse_owned(bytes, false, mode));
-        expect_text(&rt, owned_answer, owned.as_str(), &bytes);
+        for mode in MODES {
+            expect_as_fresh(&rt, alloc, &mut scratches, bytes, mode);
+        }
     }
     Ok(())
 }

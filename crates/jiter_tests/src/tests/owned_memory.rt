@@ -1,11 +1,8 @@
-//! What the calls that answer values of their own tell where memory is refused, and how much of it they take.
+//! How much memory the calls take that answer values of their own.
 use crate::held::Held;
-use crate::told::{outcome_text, text_of};
+use crate::told::text_of;
 use jiter::client::value_by_steps;
-use jiter::{
-    Jiter, JiterError, JiterErrorType, JiterResult, JsonError, JsonErrorType as Kind, JsonValue,
-    JsonValueScratch, PartialMode,
-};
+use jiter::{Jiter, JsonValue, JsonValueScratch, PartialMode};
 use std::alloc::{AllocError, Global};
 use std::borrow::CowStr;
 use std::mem::size_of;
@@ -30,136 +27,25 @@ enum Reading {
     BySteps,
 }
 
-// What such a call of the pull reader replies, and where it stands then.
-fn reply(
-    alloc: Global,
-    bytes: &[u8],
-    reading: Reading,
-) -> (JiterResult<JsonValue<'static>>, usize) {
+// The value that a call of the pull reader reads, or nothing.
+fn read_by_reader(alloc: Global, bytes: &[u8], reading: Reading) -> Option<JsonValue<'static>> {
     let mut jiter = Jiter::new(bytes);
-    let answer = match reading {
-        Reading::Parsed | Reading::Next => jiter.next_value_owned(alloc),
-        Reading::Known => match jiter.peek() {
-            Ok(peek) => jiter.known_value_owned(alloc, peek),
-            Err(error) => Err(error),
-        },
-        Reading::BySteps => value_by_steps(alloc, &mut jiter),
-    };
-    (answer, jiter.current_index())
-}
-
-// What a call replies, and where it stands then: behind all bytes, where it keeps no place.
-fn read(alloc: Global, bytes: &[u8], reading: Reading) -> (JiterResult<JsonValue<'static>>, usize) {
     match reading {
-        Reading::Parsed => {
-            let answer = JsonValue::parse_owned(alloc, bytes, false, PartialMode::Off);
-            match answer {
-                Ok(value) => (Ok(value), bytes.len()),
-                Err(error) => {
-                    let index = error.index;
-                    (Err(JiterError::from(error)), index)
-                }
-            }
-        }
-        _ => reply(alloc, bytes, reading),
+        Reading::Parsed | Reading::Next => jiter.next_value_owned(alloc).ok(),
+        Reading::Known => match jiter.peek() {
+            Ok(peek) => jiter.known_value_owned(alloc, peek).ok(),
+            Err(_) => None,
+        },
+        Reading::BySteps => value_by_steps(alloc, &mut jiter).ok(),
     }
 }
 
-// Whether a reading tells want of memory where it stands, with more and more left, and then answers this value.
-fn refusals_are_told(
-    alloc: Global,
-    bytes: &[u8],
-    reading: Reading,
-    wanted: &str,
-) -> Result<bool, Fail> {
-    let mut held = Held::all(alloc)?;
-    for units in 0..MOST {
-        held.leave(alloc, 16 * units)?;
-        let (answer, place) = read(alloc, bytes, reading);
-        held.give_back(alloc);
-        match &answer {
-            Ok(value) => {
-                return Ok(units > 0 && text_of(alloc, value)?.as_str() == wanted);
-            }
-            Err(error) => {
-                let memory = error.error_type == JiterErrorType::JsonError(Kind::OutOfMemory);
-                if !memory || error.index != place {
-                    return Ok(false);
-                }
-            }
-        }
+// The value that a call reads, or nothing.
+fn read(alloc: Global, bytes: &[u8], reading: Reading) -> Option<JsonValue<'static>> {
+    match reading {
+        Reading::Parsed => JsonValue::parse_owned(alloc, bytes, false, PartialMode::Off).ok(),
+        _ => read_by_reader(alloc, bytes, reading),
     }
-    Ok(false)
-}
-
-// A document whose keys and texts have escapes, and its value.
-const NESTED: &[u8] = br#"[1,{"k\n":["a\nb"]},2.50,[],"\u0061c"]"#;
-
-const NESTED_VALUE: &str = "[1,{owned 'k\n':[owned 'a\nb']},float owned '2.50',[],owned 'ac']";
-
-#[test]
-fn each_refused_request_of_an_owned_reading_is_told(rt: HostRuntime) -> Result<(), Fail> {
-    let alloc = rt.alloc();
-    for reading in [
-        Reading::Parsed,
-        Reading::Next,
-        Reading::Known,
-        Reading::BySteps,
-    ] {
-        let told = refusals_are_told(alloc, NESTED, reading, NESTED_VALUE)?;
-        assert!(rt; told, "{reading:?}");
-    }
-    Ok(())
-}
-
-// A document that makes each buffer grow, in few units of memory.
-const SMALL: &[u8] = br#"["\n"]"#;
-
-// What a scratch answers.
-fn parse_on(
-    scratch: &mut JsonValueScratch<'static>,
-    bytes: &'static [u8],
-    is_owned: bool,
-) -> Result<JsonValue<'static>, JsonError> {
-    if is_owned {
-        scratch.parse_owned(bytes, false, PartialMode::Off)
-    } else {
-        scratch.parse(bytes, false, PartialMode::Off)
-    }
-}
-
-// Whether a scratch tells want of memory, with more and more left, and then answers this value; and whether it
-// answers it behind each refused call too.
-fn a_scratch_goes_on(
-    alloc: Global,
-    bytes: &'static [u8],
-    is_owned: bool,
-    wanted: &str,
-) -> Result<bool, Fail> {
-    for units in 0..MOST {
-        let mut scratch = JsonValueScratch::new(alloc);
-        let held = all_but(alloc, units)?;
-        let answer = parse_on(&mut scratch, bytes, is_owned);
-        drop(held);
-        let later = outcome_text(alloc, &parse_on(&mut scratch, bytes, is_owned))?;
-        if later.as_str() != wanted {
-            return Ok(false);
-        }
-        match &answer {
-            Ok(value) => return Ok(units > 0 && text_of(alloc, value)?.as_str() == wanted),
-            Err(error) if error.error_type == Kind::OutOfMemory => {}
-            Err(_) => return Ok(false),
-        }
-    }
-    Ok(false)
-}
-
-#[test]
-fn a_scratch_goes_on_behind_each_refused_request(rt: HostRuntime) -> Result<(), Fail> {
-    let alloc = rt.alloc();
-    assert!(rt; a_scratch_goes_on(alloc, SMALL, false, "[owned '\n']")?);
-    assert!(rt; a_scratch_goes_on(alloc, SMALL, true, "[owned '\n']")?);
-    Ok(())
 }
 
 // A call that copies a value and leaves it.
@@ -221,13 +107,6 @@ fn units_of_moving(
         }
     }
     Ok(None)
-}
-
-#[test]
-fn a_value_is_made_its_own_unless_memory_is_refused(rt: HostRuntime) -> Result<(), Fail> {
-    let taken = units_of_moving(rt.alloc(), SMALL, "[owned '\n']")?;
-    assert!(rt; taken.is_some() && taken != Some(0));
-    Ok(())
 }
 
 // A request for memory: a vector of so many items or members, or a text of so many bytes.
@@ -389,24 +268,23 @@ fn copies_of_what_is_empty_take_no_memory(rt: HostRuntime) -> Result<(), Fail> {
 
 // Whether a call answers this value.
 fn is_read(alloc: Global, bytes: &[u8], reading: Reading, wanted: &JsonValue<'static>) -> bool {
-    match read(alloc, bytes, reading).0 {
+    match read(alloc, bytes, reading) {
+        Some(value) => value == *wanted,
+        None => false,
+    }
+}
+
+// Whether a scratch that is new answers this value.
+fn is_parsed(alloc: Global, bytes: &[u8], wanted: &JsonValue<'static>) -> bool {
+    let mut scratch: JsonValueScratch<'static> = JsonValueScratch::new(alloc);
+    match scratch.parse_owned(bytes, false, PartialMode::Off) {
         Ok(value) => value == *wanted,
         Err(_) => false,
     }
 }
 
-// Whether a scratch that is new answers this value.
-fn is_parsed(alloc: Global, bytes: &'static [u8], wanted: &JsonValue<'static>) -> bool {
-    let mut scratch: JsonValueScratch<'static> = JsonValueScratch::new(alloc);
-    let answer: Result<JsonValue<'static>, JsonError> = parse_on(&mut scratch, bytes, true);
-    match &answer {
-        Ok(value) => *value == *wanted,
-        Err(_) => false,
-    }
-}
-
 // Whether each owned reading answers this value.
-fn are_read(alloc: Global, bytes: &'static [u8], wanted: &JsonValue<'static>) -> bool {
+fn are_read(alloc: Global, bytes: &[u8], wanted: &JsonValue<'static>) -> bool {
     is_parsed(alloc, bytes, wanted)
         && is_read(alloc, bytes, Reading::Parsed, wanted)
         && is_read(alloc, bytes, Reading::Next, wanted)
@@ -431,7 +309,7 @@ fn some_owned_readings_and_all_skips_take_no_memory(rt: HostRuntime) -> Result<(
             answered = answered.min(4) + 1;
         }
     }
-    let skipped = Jiter::new(NESTED).next_skip();
+    let skipped = Jiter::new(MANY).next_skip();
     drop(held);
     assert!(rt; letter.is_err());
     assert_eq!(rt; answered, 5);

@@ -126,8 +126,10 @@ fn cut_names_are_dropped(rt: HostRuntime) {
 
 #[test]
 fn nesting_is_limited_in_partial_modes(rt: HostRuntime) -> Result<(), Fail> {
-    const ROWS: [(&str, usize, &str, &str, &str); 2] = [
+    const ROWS: [(&str, usize, &str, &str, &str); 4] = [
         ("[", 300, "", "]", "recursion limit exceeded at 201"),
+        ("[", 202, "", "", "recursion limit exceeded at 201"),
+        ("[{\"a\":", 150, "", "", "recursion limit exceeded at 601"),
         ("{\"a\":", 201, "1", "}", "recursion limit exceeded at 1005"),
     ];
     let alloc = rt.alloc();

@@ -11,7 +11,7 @@ const MODES: [PartialMode; 3] = [
 ];
 
 // What a machine answers within three turns a byte and three more; it goes on `More` so often before.
-fn answer_by_turns(
+pub(super) fn answer_by_turns(
     alloc: Global,
     bytes: &[u8],
     mode: PartialMode,

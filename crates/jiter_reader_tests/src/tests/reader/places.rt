@@ -100,7 +100,7 @@ fn peeks_are_told_by_their_names(rt: HostRuntime) {
 }
 
 // What the call for a value that begins so replies to a caller that has looked.
-fn known_text(alloc: Global, jiter: &mut Jiter<'_>) -> Result<String, AllocError> {
+pub(super) fn known_text(alloc: Global, jiter: &mut Jiter<'_>) -> Result<String, AllocError> {
     match jiter.peek() {
         Ok(peek) => match peek.into_inner() {
             b'n' => super::unit_text(alloc, jiter.known_null()),

@@ -1,0 +1,133 @@
+//! The words behind the program's name: a call and a mode.
+use jiter::PartialMode;
+
+/// A call that reads a whole text.
+#[derive(Debug, Clone, Copy)]
+pub enum Whole {
+    /// `JsonValue::parse`
+    Parse,
+    /// `JsonValue::parse_with_config`
+    Config,
+    /// A `Machine` through its turns.
+    Turns,
+    /// `JsonValue::parse_owned`
+    Owned,
+    /// `JsonValueScratch::parse`
+    Scratch,
+    /// `JsonValueScratch::parse_owned`
+    OwnedByScratch,
+}
+
+/// A call that reads a whole value where a reader stands.
+#[derive(Debug, Clone, Copy)]
+pub enum Reading {
+    /// `Jiter::next_value`
+    Next,
+    /// `Jiter::known_value`
+    Known,
+    /// `Jiter::next_value_owned`
+    NextOwned,
+    /// `Jiter::known_value_owned`
+    KnownOwned,
+    /// `value_by_steps`
+    BySteps,
+}
+
+/// A call that copies a value, or tells of a fault or a place.
+#[derive(Debug, Clone, Copy)]
+pub enum Copying {
+    /// `JsonValue::clone`
+    Clone,
+    /// `JsonValue::to_static`
+    ToStatic,
+    /// `JsonValue::into_static`
+    IntoStatic,
+    /// `JsonError::description`
+    Describe,
+    /// `JiterError::description`
+    DescribeRefusal,
+    /// `LinePosition::short`
+    Short,
+}
+
+/// A call.
+#[derive(Debug, Clone, Copy)]
+pub enum Call {
+    /// One that reads a whole text.
+    Whole(Whole),
+    /// One that reads a whole value where a reader stands.
+    Reading(Reading),
+    /// The text and key reads of a reader: those of a caller that has looked, or the others.
+    Texts(bool),
+    /// One that copies or tells.
+    Copy(Copying),
+}
+
+/// A call and the mode of its reading.
+#[derive(Debug, Clone, Copy)]
+pub struct Asked {
+    /// The call.
+    pub call: Call,
+    /// How much of a cut document is read, by the calls that take a mode.
+    pub mode: PartialMode,
+}
+
+/// What two words ask for; any other list asks for nothing.
+pub fn read_words(list: &[String]) -> Option<Asked> {
+    match list {
+        [call, mode] => Some(Asked {
+            call: call_named(call.as_str())?,
+            mode: mode_named(mode.as_str())?,
+        }),
+        _ => None,
+    }
+}
+
+fn call_named(word: &str) -> Option<Call> {
+    match word {
+        "parse" => Some(Call::Whole(Whole::Parse)),
+        "config" => Some(Call::Whole(Whole::Config)),
+        "turns" => Some(Call::Whole(Whole::Turns)),
+        "owned" => Some(Call::Whole(Whole::Owned)),
+        "scratch" => Some(Call::Whole(Whole::Scratch)),
+        "scratch-owned" => Some(Call::Whole(Whole::OwnedByScratch)),
+        "next-str" => Some(Call::Texts(false)),
+        "known-str" => Some(Call::Texts(true)),
+        _ => match reading_named(word) {
+            Some(reading) => Some(Call::Reading(reading)),
+            None => Some(Call::Copy(copying_named(word)?)),
+        },
+    }
+}
+
+fn reading_named(word: &str) -> Option<Reading> {
+    match word {
+        "next-value" => Some(Reading::Next),
+        "known-value" => Some(Reading::Known),
+        "next-value-owned" => Some(Reading::NextOwned),
+        "known-value-owned" => Some(Reading::KnownOwned),
+        "value-by-steps" => Some(Reading::BySteps),
+        _ => None,
+    }
+}
+
+fn copying_named(word: &str) -> Option<Copying> {
+    match word {
+        "clone" => Some(Copying::Clone),
+        "to-static" => Some(Copying::ToStatic),
+        "into-static" => Some(Copying::IntoStatic),
+        "description" => Some(Copying::Describe),
+        "refusal-description" => Some(Copying::DescribeRefusal),
+        "short" => Some(Copying::Short),
+        _ => None,
+    }
+}
+
+fn mode_named(word: &str) -> Option<PartialMode> {
+    match word {
+        "off" => Some(PartialMode::Off),
+        "on" => Some(PartialMode::On),
+        "trailing-strings" => Some(PartialMode::TrailingStrings),
+        _ => None,
+    }
+}

@@ -1,0 +1,85 @@
+//! Copies of a value, and what is told of a fault and of a place.
+use crate::asking::Copying;
+use crate::outcome::Outcome;
+use jiter::{Jiter, JsonError, JsonErrorType as Kind, JsonValue, PartialMode};
+use jiter_tests::told::text_of;
+use std::alloc::{AllocError, Global};
+
+/// What a copy of the text's value comes to, or of its fault a description, or the place's text.
+pub fn outcome(
+    alloc: Global,
+    bytes: &[u8],
+    mode: PartialMode,
+    call: Copying,
+) -> Result<Outcome, AllocError> {
+    if let Copying::DescribeRefusal = call {
+        return refusal_told(alloc, bytes);
+    }
+    let answer = JsonValue::parse_with_config(alloc, bytes, true, mode);
+    match answer {
+        Ok(value) => copied(alloc, value, call),
+        Err(error) if error.error_type == Kind::OutOfMemory => Outcome::refused(alloc),
+        Err(error) => told(alloc, bytes, &error, call),
+    }
+}
+
+// A copy, which leaves the value as it was, made or refused.
+fn copied(alloc: Global, value: JsonValue<'_>, call: Copying) -> Result<Outcome, AllocError> {
+    let before = text_of(alloc, &value)?;
+    let copy = match call {
+        Copying::Clone => match value.clone(alloc) {
+            Ok(copy) => Some(text_of(alloc, &copy)?),
+            Err(_) => None,
+        },
+        Copying::ToStatic => match value.to_static(alloc) {
+            Ok(copy) => Some(text_of(alloc, &copy)?),
+            Err(_) => None,
+        },
+        _ => return moved(alloc, value),
+    };
+    let after = text_of(alloc, &value)?;
+    if before.as_str() != after.as_str() {
+        return Ok(Outcome::Broken(after));
+    }
+    match copy {
+        Some(line) => Ok(Outcome::Answered(line)),
+        None => Outcome::refused(alloc),
+    }
+}
+
+fn moved(alloc: Global, value: JsonValue<'_>) -> Result<Outcome, AllocError> {
+    match value.into_static(alloc) {
+        Ok(own) => Outcome::value(alloc, &own),
+        Err(_) => Outcome::refused(alloc),
+    }
+}
+
+// What is told of a fault.
+fn told(
+    alloc: Global,
+    bytes: &[u8],
+    error: &JsonError,
+    call: Copying,
+) -> Result<Outcome, AllocError> {
+    let line = match call {
+        Copying::Short => error.get_position(bytes).short(alloc),
+        _ => error.description(alloc, bytes),
+    };
+    told_line(alloc, line)
+}
+
+// What is told of a refusal of the pull reader.
+fn refusal_told(alloc: Global, bytes: &[u8]) -> Result<Outcome, AllocError> {
+    let mut jiter = Jiter::new(bytes).with_allow_inf_nan();
+    match jiter.next_null() {
+        Ok(()) => Outcome::value(alloc, &JsonValue::Null),
+        Err(error) => told_line(alloc, error.description(alloc, &jiter)),
+    }
+}
+
+fn told_line(alloc: Global, line: Result<String, AllocError>) -> Result<Outcome, AllocError> {
+    match line {
+        Ok(line) => Ok(Outcome::Answered(line)),
+        Err(_) => Outcome::refused(alloc),
+    }
+}
