@@ -311,26 +311,25 @@ fn plain_turns(bytes: &[u8], from: usize, nest: &mut Nest) -> (usize, bool)
     let mut at = from;
     let mut depth = nest.depth;
     'turns: loop {
-        match plain_open(bytes, at, nest, depth) {
-            Some(next) => {
+        if let Some(next) = plain_open(bytes, at, nest, depth) {
+            at = next;
+            depth += 1;
+            continue 'turns;
+        }
+        match plain_value_end(bytes, at) {
+            Some(end) => {
+                let (next, open, more) = plain_after(bytes, end, nest, depth);
+                if !more {
+                    nest.depth = open;
+                    return (next, false);
+                }
                 at = next;
-                depth += 1;
+                depth = open;
             }
-            None => match plain_value_end(bytes, at) {
-                Some(end) => {
-                    let (next, open, more) = plain_after(bytes, end, nest, depth);
-                    if !more {
-                        nest.depth = open;
-                        return (next, false);
-                    }
-                    at = next;
-                    depth = open;
-                }
-                None => {
-                    nest.depth = depth;
-                    return (at, true);
-                }
-            },
+            None => {
+                nest.depth = depth;
+                return (at, true);
+            }
         }
     }
 }
