@@ -12,7 +12,7 @@ use Rattle.std.proofs.lemmas.Slice.Eq.{bytes_eq-Decides}
 use Rattle.jiter_scan.specs.Ascii as ascii
 use Rattle.jiter_scan.specs.Digits.{is_digit}
 use Rattle.jiter_scan.specs.Stands.{Stands}
-use Rattle.jiter_scan.specs.Number.{AreDigits, IsDigits, IsMinus, IsIntPart, IsFraction, IsSign, IsPower, IsExponent}
+use Rattle.jiter_scan.specs.Number.{AreDigits, IsDigits, IsMinus, IsIntPart, IsFraction, IsSign, IsExponent}
 use Rattle.jiter_scan.specs.Number.{digit_limit, IsDecimal, IsName, IsNumberText}
 use Rattle.jiter_scan.specs.NumberReading.{number_extent}
 use Rattle.jiter_scan.specs.NumberTests.{is_parted, are_some_digits, is_minus, is_int_part, is_fraction, is_sign}

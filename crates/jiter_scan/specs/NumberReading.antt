@@ -1,5 +1,5 @@
 -- Reading a number from the left, a byte at a time.
-use Rattle.std.specs.Prelude.{ℕ, ◌+◌, ◌==◌, ◌||◌, Bool, false, if◌then◌else◌, List, codes, slice_get, slice_range}
+use Rattle.std.specs.Prelude.{ℕ, ◌+◌, ◌==◌, ◌||◌, Bool, if◌then◌else◌, List, codes, slice_get, slice_range}
 use Rattle.std.specs.Prelude.{Option, Some, None, nat_le, length}
 use Rattle.jiter_scan.specs.Ascii as ascii
 use Rattle.jiter_scan.specs.Kind.{eof_value, expected_value, invalid_number, number_out_of_range}

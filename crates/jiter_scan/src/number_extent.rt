@@ -8,9 +8,12 @@ ghost use Rattle.jiter_scan.specs.NumberDecoder.{IsMinusTo};
 ghost use Rattle.jiter_scan.specs.Scanned.{Scans, taken};
 
 use crate::errors::{Fault, FaultKind, fault_at};
-use crate::plain_number::{PlainNumber, plain_number_at};
+use crate::plain_number::{PlainNumber, roomy_number_at};
 use crate::simd::{digit_run_end, digits_end, is_digit};
 use crate::word::{byte_at, word_end};
+
+/// How many bytes are looked at for a short number: a minus, and 65 from its first digit on.
+pub const NUMBER_REACH: usize = 66;
 
 // The longest integer part that is read, in digits.
 const DIGIT_LIMIT: usize = 4300;
@@ -223,11 +226,27 @@ pub fn minus_end(bytes: &[u8], at: usize) -> usize
     requires { at < length bytes.now }
     ensures minus { IsMinusTo bytes.now at result }
     ensures place { (at ≤ result) × (result ≤ length bytes.now) }
+    ensures near { result ≤ at + 1 }
 {
     if bytes[at] == b'-' { at + 1 } else { at }
 }
 
-/// The byte index behind the number at a byte index, if it is short.
+/// The byte index behind the number at a byte index, 66 bytes before the input's end or more, if it is short.
+#[inline(always)]
+pub fn roomy_number_end(bytes: &[u8], at: usize) -> Option<usize>
+    requires { at + 66 ≤ length bytes.now }
+    ensures end { IfSome result
+        (λ e. (names : Bool) → number_extent names bytes.now at ≡ taken tt e) }
+    ensures place { IfSome result (λ e. (at < e) × (e ≤ length bytes.now)) }
+{
+    match roomy_number_at(bytes, minus_end(bytes, at)) {
+        PlainNumber::Int(_, end) => Some(end),
+        PlainNumber::Float(end) => Some(end),
+        PlainNumber::Other => None,
+    }
+}
+
+/// The byte index behind the number at a byte index, if it is short and not near the input's end.
 #[inline(always)]
 pub fn plain_number_end(bytes: &[u8], at: usize) -> Option<usize>
     requires { at < length bytes.now }
@@ -235,11 +254,10 @@ pub fn plain_number_end(bytes: &[u8], at: usize) -> Option<usize>
         (λ e. (names : Bool) → number_extent names bytes.now at ≡ taken tt e) }
     ensures place { IfSome result (λ e. (at < e) × (e ≤ length bytes.now)) }
 {
-    match plain_number_at(bytes, minus_end(bytes, at)) {
-        PlainNumber::Int(_, end) => Some(end),
-        PlainNumber::Float(end) => Some(end),
-        PlainNumber::Other => None,
+    if bytes.len() - at < NUMBER_REACH {
+        return None;
     }
+    roomy_number_end(bytes, at)
 }
 
 /// The byte index behind the number that begins at `at`, with no value made: where

@@ -152,15 +152,12 @@ fn two_chunks_at(bytes: &[u8], at: usize) -> PlainNumber
     PlainNumber::Int(magnitude, end)
 }
 
-/// The number whose first digit stands at a byte index, if it is short: a minus is read before.
+// The number whose first digit stands at `at`, as many bytes before the input's end as are looked at, if it is short.
 #[inline(always)]
-pub fn plain_number_at(bytes: &[u8], at: usize) -> PlainNumber
-    requires { at ≤ length bytes.now }
+pub(crate) fn roomy_number_at(bytes: &[u8], at: usize) -> PlainNumber
+    requires { at + 65 ≤ length bytes.now }
     ensures { IsPlainNumber bytes.now at result }
 {
-    if bytes.len() - at < REACH {
-        return PlainNumber::Other;
-    }
     let chunk = full_chunk_at(bytes, at);
     let count = digit_count(chunk);
     if count > 15 {
@@ -177,4 +174,16 @@ pub fn plain_number_at(bytes: &[u8], at: usize) -> PlainNumber
         Some(behind) => PlainNumber::Float(behind),
         None => PlainNumber::Other,
     }
+}
+
+/// The number whose first digit stands at a byte index, if it is short: a minus is read before.
+#[inline(always)]
+pub fn plain_number_at(bytes: &[u8], at: usize) -> PlainNumber
+    requires { at ≤ length bytes.now }
+    ensures { IsPlainNumber bytes.now at result }
+{
+    if bytes.len() - at < REACH {
+        return PlainNumber::Other;
+    }
+    roomy_number_at(bytes, at)
 }

@@ -1,6 +1,6 @@
 //! Strings and digits sixteen bytes at a time: where plain bytes end, where digits end, and what they write.
 ghost use Rattle.std.specs.Prelude.{◌≡◌, ◌↔◌, ℕ, List, ◌+◌, ◌*◌, ◌^◌, ◌<◌, ◌≤◌, ◌&&◌, IsTrue, length, take, drop, map};
-ghost use Rattle.std.specs.Prelude.{nat_le, slice_range};
+ghost use Rattle.std.specs.Prelude.{nat_le, slice_range, true};
 ghost use Rattle.std.specs.Int.{w64, trailing_zeros};
 ghost use Rattle.std.specs.Int.Digits.{number_from_digits, AllBelowBase};
 ghost use Rattle.std.specs.List.{list_all};
@@ -181,8 +181,8 @@ fn is_plain_chunk(bytes: &[u8], i: usize) -> (bool, bool)
 }
 
 // The same 64 bytes at a time.
-#[inline(never)]
-fn scan_far(bytes: &[u8], from: usize, ascii: bool) -> (usize, bool)
+#[inline(always)]
+fn scan_wide(bytes: &[u8], from: usize, ascii: bool) -> (usize, bool)
     requires { from ≤ length bytes.now }
     ensures stop { result.0 ≡ scan_stop bytes.now from }
     ensures ascii { result.1 ≡ (ascii && ascii_from bytes.now from) }
@@ -200,17 +200,50 @@ fn scan_far(bytes: &[u8], from: usize, ascii: bool) -> (usize, bool)
     scan_chunks(bytes, i, clean)
 }
 
-/// The first quote, backslash or control byte from a byte index on, or the length; and whether all bytes
-/// before it, from that index on, are below 80 hex.
+// The same, in one place for all callers.
+#[inline(never)]
+fn scan_far(bytes: &[u8], from: usize, ascii: bool) -> (usize, bool)
+    requires { from ≤ length bytes.now }
+    ensures stop { result.0 ≡ scan_stop bytes.now from }
+    ensures ascii { result.1 ≡ (ascii && ascii_from bytes.now from) }
+{
+    scan_wide(bytes, from, ascii)
+}
+
+// The first stop alone.
+#[inline(never)]
+fn stop_far(bytes: &[u8], from: usize) -> usize
+    requires { from ≤ length bytes.now }
+    ensures { result ≡ scan_stop bytes.now from }
+{
+    let (stop, _) = scan_wide(bytes, from, true);
+    stop
+}
+
+// The scan from `from` on; without `wants_ascii` the first stop alone.
 #[inline(always)]
-pub fn scan_string(bytes: &[u8], from: usize) -> (usize, bool)
+fn scan_rest(bytes: &[u8], from: usize, ascii: bool, wants_ascii: bool) -> (usize, bool)
+    requires { from ≤ length bytes.now }
+    ensures stop { result.0 ≡ scan_stop bytes.now from }
+    ensures ascii { wants_ascii ≡ true → result.1 ≡ (ascii && ascii_from bytes.now from) }
+{
+    if wants_ascii {
+        scan_far(bytes, from, ascii)
+    } else {
+        (stop_far(bytes, from), false)
+    }
+}
+
+// The same, where the first stop is likely near.
+#[inline(always)]
+fn scan_first(bytes: &[u8], from: usize, wants_ascii: bool) -> (usize, bool)
     requires { from ≤ length bytes.now }
     ensures stop { result.0 ≡ scan_stop bytes.now from }
     ensures within { (from ≤ result.0) × (result.0 ≤ length bytes.now) }
-    ensures ascii { IsTrue result.1 ↔ IsAsciiTo bytes.now from result.0 }
+    ensures ascii { wants_ascii ≡ true → IsTrue result.1 ↔ IsAsciiTo bytes.now from result.0 }
 {
     if bytes.len() - from < 64 {
-        return scan_far(bytes, from, true);
+        return scan_rest(bytes, from, true, wants_ascii);
     }
     let mut i = from;
     let mut clean = true;
@@ -224,7 +257,30 @@ pub fn scan_string(bytes: &[u8], from: usize) -> (usize, bool)
         clean = both(clean, high == 0);
         i += 16;
     }
-    scan_far(bytes, i, clean)
+    scan_rest(bytes, i, clean, wants_ascii)
+}
+
+/// The first quote, backslash or control byte from a byte index on, or the length; and whether all bytes
+/// before it, from that index on, are below 80 hex.
+#[inline(always)]
+pub fn scan_string(bytes: &[u8], from: usize) -> (usize, bool)
+    requires { from ≤ length bytes.now }
+    ensures stop { result.0 ≡ scan_stop bytes.now from }
+    ensures within { (from ≤ result.0) × (result.0 ≤ length bytes.now) }
+    ensures ascii { IsTrue result.1 ↔ IsAsciiTo bytes.now from result.0 }
+{
+    scan_first(bytes, from, true)
+}
+
+/// The first quote, backslash or control byte from a byte index on, or the length.
+#[inline(always)]
+pub fn string_stop(bytes: &[u8], from: usize) -> usize
+    requires { from ≤ length bytes.now }
+    ensures stop { result ≡ scan_stop bytes.now from }
+    ensures within { (from ≤ result) × (result ≤ length bytes.now) }
+{
+    let (stop, _) = scan_first(bytes, from, false);
+    stop
 }
 
 #[inline(always)]

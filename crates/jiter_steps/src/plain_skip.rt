@@ -17,8 +17,12 @@ use crate::blank::past_blanks;
 use crate::parse::{Literal, Shape};
 use crate::plain::{plain_colon, plain_literal_end};
 use crate::raw_string::closed_end;
-use jiter_scan::number_extent::plain_number_end;
+use jiter_scan::number_extent::{NUMBER_REACH, roomy_number_end};
 use std::simd::prelude::*;
+
+// How many bytes the plain way looks at behind a part or a key with one test of the length: two up to a value, and
+// those of a number.
+const REACH: usize = 68;
 
 // The first place from `from` on that has no blank, if there is one; a byte stands at `from`.
 #[inline(always)]
@@ -73,16 +77,13 @@ fn stops(v: u8x16) -> u64
 }
 
 // Behind the closing quote of the string at `at`, if it has one: at once where it stands within sixteen bytes and
-// no escape before it.
+// no escape before it. Eighteen bytes stand there.
 #[inline(always)]
-fn quoted_end(bytes: &[u8], at: usize) -> Option<usize>
-    requires { at < length bytes.now }
+fn roomy_quoted_end(bytes: &[u8], at: usize) -> Option<usize>
+    requires { at + 18 ≤ length bytes.now }
     ensures value { IfSome result (λ e. seen_as (λ s k. tt {0}) (string_at raw bytes.now at) ≡ taken tt e) }
     ensures within { IfSome result (λ e. (at < e) × (e ≤ length bytes.now)) }
 {
-    if bytes.len() - at < 18 {
-        return near_end(bytes, at);
-    }
     let found = stops(u8x16::from_slice(&bytes[at + 1..]));
     if found == 0 {
         return closed_end(bytes, at, at + 1 + 16);
@@ -92,6 +93,20 @@ fn quoted_end(bytes: &[u8], at: usize) -> Option<usize>
         Some(to + 1)
     } else {
         closed_end(bytes, at, to)
+    }
+}
+
+// The same, wherever the string begins.
+#[inline(always)]
+fn quoted_end(bytes: &[u8], at: usize) -> Option<usize>
+    requires { at < length bytes.now }
+    ensures value { IfSome result (λ e. seen_as (λ s k. tt {0}) (string_at raw bytes.now at) ≡ taken tt e) }
+    ensures within { IfSome result (λ e. (at < e) × (e ≤ length bytes.now)) }
+{
+    if bytes.len() - at < 18 {
+        near_end(bytes, at)
+    } else {
+        roomy_quoted_end(bytes, at)
     }
 }
 
@@ -106,17 +121,6 @@ fn plain_string_end(bytes: &[u8], at: usize) -> Option<usize>
     quoted_end(bytes, at)
 }
 
-// Behind the number at `at`, if it is short.
-#[inline(always)]
-fn short_number_end(bytes: &[u8], at: usize) -> Option<usize>
-    requires within { at < length bytes.now }
-    requires begins { start_of (slice_index bytes.now at) ≡ Start.Number }
-    ensures value { IfSome result (λ e. IsPlainEnd bytes.now at e) }
-    ensures within { IfSome result (λ e. (at < e) × (e ≤ length bytes.now)) }
-{
-    plain_number_end(bytes, at)
-}
-
 // Behind the literal at `at`, if it stands there and not at the input's end.
 #[inline(always)]
 fn whole_literal_end(bytes: &[u8], at: usize, literal: Literal) -> Option<usize>
@@ -128,6 +132,72 @@ fn whole_literal_end(bytes: &[u8], at: usize, literal: Literal) -> Option<usize>
     plain_literal_end(bytes, at, literal)
 }
 
+// Behind the literal or the empty container at `at`.
+#[inline(always)]
+fn word_or_empty_end(bytes: &[u8], at: usize) -> Option<usize>
+    requires { at < length bytes.now }
+    ensures value { IfSome result (λ e. IsPlainEnd bytes.now at e) }
+    ensures within { IfSome result (λ e. (at < e) × (e ≤ length bytes.now)) }
+{
+    match bytes[at] {
+        b'n' => whole_literal_end(bytes, at, Literal::Null),
+        b't' => whole_literal_end(bytes, at, Literal::True),
+        b'f' => whole_literal_end(bytes, at, Literal::False),
+        b'[' => empty_end(bytes, at, Shape::Array),
+        b'{' => empty_end(bytes, at, Shape::Object),
+        _ => None,
+    }
+}
+
+// Behind the value at `at`, if it is plain and no number, which the general way reads near the input's end.
+#[inline(never)]
+fn near_value_end(bytes: &[u8], at: usize) -> Option<usize>
+    requires { at < length bytes.now }
+    ensures value { IfSome result (λ e. IsPlainEnd bytes.now at e) }
+    ensures within { IfSome result (λ e. (at < e) × (e ≤ length bytes.now)) }
+{
+    match bytes[at] {
+        b'"' => plain_string_end(bytes, at),
+        _ => word_or_empty_end(bytes, at),
+    }
+}
+
+// Behind the string at `at`, if it is closed, where there is room.
+#[inline(always)]
+fn roomy_string_end(bytes: &[u8], at: usize) -> Option<usize>
+    requires room { at + 66 ≤ length bytes.now }
+    requires begins { start_of (slice_index bytes.now at) ≡ Start.String }
+    ensures value { IfSome result (λ e. IsPlainEnd bytes.now at e) }
+    ensures within { IfSome result (λ e. (at < e) × (e ≤ length bytes.now)) }
+{
+    roomy_quoted_end(bytes, at)
+}
+
+// Behind the number at `at`, if it is short, where there is room.
+#[inline(always)]
+fn roomy_short_end(bytes: &[u8], at: usize) -> Option<usize>
+    requires room { at + 66 ≤ length bytes.now }
+    requires begins { start_of (slice_index bytes.now at) ≡ Start.Number }
+    ensures value { IfSome result (λ e. IsPlainEnd bytes.now at e) }
+    ensures within { IfSome result (λ e. (at < e) × (e ≤ length bytes.now)) }
+{
+    roomy_number_end(bytes, at)
+}
+
+// Behind the value at `at`, if it is plain, where there is room.
+#[inline(always)]
+fn roomy_value_end(bytes: &[u8], at: usize) -> Option<usize>
+    requires { at + 66 ≤ length bytes.now }
+    ensures value { IfSome result (λ e. IsPlainEnd bytes.now at e) }
+    ensures within { IfSome result (λ e. (at < e) × (e ≤ length bytes.now)) }
+{
+    match bytes[at] {
+        b'"' => roomy_string_end(bytes, at),
+        b'0'..=b'9' | b'-' => roomy_short_end(bytes, at),
+        _ => word_or_empty_end(bytes, at),
+    }
+}
+
 /// Behind the value at `at`, if it is a plain scalar, or a container whose closer stands right behind its bracket.
 #[inline(always)]
 pub fn plain_value_end(bytes: &[u8], at: usize) -> Option<usize>
@@ -135,15 +205,10 @@ pub fn plain_value_end(bytes: &[u8], at: usize) -> Option<usize>
     ensures value { IfSome result (λ e. IsPlainEnd bytes.now at e) }
     ensures within { IfSome result (λ e. (at < e) × (e ≤ length bytes.now)) }
 {
-    match bytes[at] {
-        b'"' => plain_string_end(bytes, at),
-        b'0'..=b'9' | b'-' => short_number_end(bytes, at),
-        b'n' => whole_literal_end(bytes, at, Literal::Null),
-        b't' => whole_literal_end(bytes, at, Literal::True),
-        b'f' => whole_literal_end(bytes, at, Literal::False),
-        b'[' => empty_end(bytes, at, Shape::Array),
-        b'{' => empty_end(bytes, at, Shape::Object),
-        _ => None,
+    if bytes.len() - at < NUMBER_REACH {
+        near_value_end(bytes, at)
+    } else {
+        roomy_value_end(bytes, at)
     }
 }
 
@@ -208,9 +273,9 @@ fn plain_next_inside(bytes: &[u8], from: usize, shape: Shape) -> Option<usize>
     }
 }
 
-// The same, past all plain values, by a shape that is known where it is inlined.
-#[inline(always)]
-fn known_plain_run(bytes: &[u8], from: usize, shape: Shape) -> (usize, bool)
+// The same, past all plain values, near the input's end.
+#[inline(never)]
+fn near_run(bytes: &[u8], from: usize, shape: Shape) -> (usize, bool)
     requires { from ≤ length bytes.now }
     ensures leads { LeadsBehind shape bytes.now from result.1 result.0 }
     ensures place { (from ≤ result.0) × (result.0 ≤ length bytes.now) }
@@ -219,12 +284,108 @@ fn known_plain_run(bytes: &[u8], from: usize, shape: Shape) -> (usize, bool)
     'parts: loop {
         match plain_next_inside(bytes, end, shape) {
             None => return (end, false),
-            Some(at) => match plain_value_end(bytes, at) {
+            Some(at) => match near_value_end(bytes, at) {
                 None => return (at, true),
                 Some(behind) => end = behind,
             },
         }
     }
+}
+
+// The first place from `from` on that has no blank, if it is not behind `last + 1`.
+#[inline(always)]
+fn roomy_solid(bytes: &[u8], from: usize, last: usize) -> Option<usize>
+    requires room { last + 68 ≤ length bytes.now }
+    requires within { from ≤ last + 1 }
+    ensures value { IfSome result (λ at. at ≡ past_blanks bytes.now from) }
+    ensures place { IfSome result (λ at. (from ≤ at) × (at ≤ last + 1)) }
+{
+    if bytes[from] > b' ' {
+        return Some(from);
+    }
+    let at = past_blanks(bytes, from);
+    if at <= last { Some(at) } else { None }
+}
+
+// From behind a key to the place where its value begins: at once where a colon and perhaps one space stand before it.
+#[inline(always)]
+fn roomy_colon(bytes: &[u8], from: usize, last: usize) -> Option<usize>
+    requires room { last + 68 ≤ length bytes.now }
+    requires within { from ≤ last }
+    ensures value { IfSome result (λ v. object_colon bytes.now from ≡ taken tt v) }
+    ensures within { IfSome result (λ v. (from ≤ v) × (v ≤ last + 2)) }
+{
+    if bytes[from] == b':' && bytes[from + 1] > b' ' {
+        return Some(from + 1);
+    }
+    if bytes[from] == b':' && bytes[from + 1] == b' ' && bytes[from + 2] > b' ' {
+        return Some(from + 2);
+    }
+    match plain_colon(bytes, from) {
+        Some(at) if at <= last => Some(at),
+        _ => None,
+    }
+}
+
+// Where the value of a part at `at` begins: behind its key and colon in an object.
+#[inline(always)]
+fn roomy_inside(bytes: &[u8], at: usize, shape: Shape, last: usize) -> Option<usize>
+    requires room { last + 68 ≤ length bytes.now }
+    requires within { at ≤ last + 1 }
+    ensures value { IfSome result (λ v. value_inside shape bytes.now at ≡ done true v) }
+    ensures within { IfSome result (λ v. (at ≤ v) × (v ≤ last + 2)) }
+{
+    match shape {
+        Shape::Array => Some(at),
+        Shape::Object => {
+            let end = roomy_quoted_end(bytes, at)?;
+            if end > last {
+                return None;
+            }
+            roomy_colon(bytes, end, last)
+        }
+    }
+}
+
+// From behind a part, past a comma, to the value of the next part, where that has room.
+#[inline(always)]
+fn roomy_next_inside(bytes: &[u8], from: usize, shape: Shape, last: usize) -> Option<usize>
+    requires room { last + 68 ≤ length bytes.now }
+    requires within { from ≤ last }
+    ensures value { IfSome result (λ v. next_inside shape bytes.now from ≡ done true v) }
+    ensures within { IfSome result (λ v. (from < v) × (v ≤ last + 2)) }
+{
+    if bytes[from] != b',' {
+        return None;
+    }
+    match roomy_solid(bytes, from + 1, last) {
+        Some(next) if shape.begins_part(bytes[next]) => roomy_inside(bytes, next, shape, last),
+        _ => None,
+    }
+}
+
+// The run past all plain values by a shape that is known where it is inlined.
+#[inline(always)]
+fn known_plain_run(bytes: &[u8], from: usize, shape: Shape) -> (usize, bool)
+    requires { from ≤ length bytes.now }
+    ensures leads { LeadsBehind shape bytes.now from result.1 result.0 }
+    ensures place { (from ≤ result.0) × (result.0 ≤ length bytes.now) }
+{
+    if bytes.len() < REACH {
+        return near_run(bytes, from, shape);
+    }
+    let last = bytes.len() - REACH;
+    let mut end = from;
+    'parts: while end <= last {
+        match roomy_next_inside(bytes, end, shape, last) {
+            None => return (end, false),
+            Some(at) => match roomy_value_end(bytes, at) {
+                None => return (at, true),
+                Some(behind) => end = behind,
+            },
+        }
+    }
+    near_run(bytes, end, shape)
 }
 
 /// From behind a part of a container past all parts with plain values: to a value that is not plain, or else,

@@ -18,7 +18,7 @@ use crate::escape::{AtStop, Ending, portion_at};
 use crate::parse::Parser;
 use crate::string_decoder::cut_short;
 use jiter_scan::errors::Fault;
-use jiter_scan::simd::scan_string;
+use jiter_scan::simd::string_stop;
 use jiter_scan::word::byte_at;
 
 // Whether a backslash and this byte are an escape.
@@ -112,10 +112,7 @@ fn escaped_end(bytes: &[u8], from: usize) -> usize
     let mut at = from;
     loop {
         match escape_end(bytes, at) {
-            Some(end) => {
-                let (to, _) = scan_string(bytes, end);
-                at = to;
-            }
+            Some(end) => at = string_stop(bytes, end),
             None => return at,
         }
     }
@@ -130,7 +127,7 @@ fn content_end(bytes: &[u8], from: usize) -> usize
     ensures place { (from ≤ result) × (result ≤ length bytes.now) }
     ensures stop { IfSome (slice_get bytes.now result) (λ b. is_stop b ≡ true) }
 {
-    let (to, _) = scan_string(bytes, from);
+    let to = string_stop(bytes, from);
     match byte_at(bytes, to) {
         None => to,
         Some(b'\\') => escaped_end(bytes, to),

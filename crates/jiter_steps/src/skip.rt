@@ -283,16 +283,13 @@ fn plain_open(bytes: &[u8], at: usize, nest: &mut Nest, depth: usize) -> Option<
     ensures few { IfSome result (λ next. depth < nesting_limit) }
     ensures same { result ≡ None → nest.new ≡ nest.old }
 {
-    if depth == NESTING_LIMIT {
-        return None;
-    }
     match bytes[at] {
-        b'[' => {
+        b'[' if depth < NESTING_LIMIT => {
             let next = plain_first_inside(bytes, at, Shape::Array)?;
             nest.objects[depth] = false;
             Some(next)
         }
-        b'{' => {
+        b'{' if depth < NESTING_LIMIT => {
             let next = plain_first_inside(bytes, at, Shape::Object)?;
             nest.objects[depth] = true;
             Some(next)
@@ -314,6 +311,11 @@ fn plain_turns(bytes: &[u8], from: usize, nest: &mut Nest) -> (usize, bool)
     let mut at = from;
     let mut depth = nest.depth;
     'turns: loop {
+        if let Some(next) = plain_open(bytes, at, nest, depth) {
+            at = next;
+            depth += 1;
+            continue 'turns;
+        }
         match plain_value_end(bytes, at) {
             Some(end) => {
                 let (next, open, more) = plain_after(bytes, end, nest, depth);
@@ -324,16 +326,10 @@ fn plain_turns(bytes: &[u8], from: usize, nest: &mut Nest) -> (usize, bool)
                 at = next;
                 depth = open;
             }
-            None => match plain_open(bytes, at, nest, depth) {
-                Some(next) => {
-                    at = next;
-                    depth += 1;
-                }
-                None => {
-                    nest.depth = depth;
-                    return (at, true);
-                }
-            },
+            None => {
+                nest.depth = depth;
+                return (at, true);
+            }
         }
     }
 }

@@ -8,6 +8,7 @@ ghost use Rattle.look.specs.Print.{needs_escape, hex_digit};
 
 use jiter::{JsonArray, JsonObject, JsonValue};
 use jiter_scan::memory::{Refused, extend, push};
+use jiter_scan::simd::string_stop;
 use std::alloc::Global;
 
 /// The compact text of a value: no blanks; numbers other than 64-bit integers by their source text; in
@@ -105,30 +106,22 @@ fn append_digits(number: u64, line: &mut Vec<u8>) -> Result<(), Refused>
     extend(line, &digits[begin..])
 }
 
-// A text between quotes: runs of bytes that stay as they are, and escapes between them.
+// A text between quotes: runs of bytes that stay as they are, and escapes between them (RFC 8259, 7).
 fn append_text(text: &str, line: &mut Vec<u8>) -> Result<(), Refused>
     ensures { OnOk result (line.new.items ≡ line.old.items ++ print_text text.now) }
 {
     push(line, b'"')?;
     let bytes = text.as_bytes();
     let mut begin = 0;
-    for i in 0..bytes.len() {
-        let byte = bytes[i];
-        if needs_escape(byte) {
-            extend(line, &bytes[begin..i])?;
-            append_escape(byte, line)?;
-            begin = i + 1;
+    loop {
+        let stop = string_stop(bytes, begin);
+        extend(line, &bytes[begin..stop])?;
+        if stop == bytes.len() {
+            return push(line, b'"');
         }
+        append_escape(bytes[stop], line)?;
+        begin = stop + 1;
     }
-    extend(line, &bytes[begin..])?;
-    push(line, b'"')
-}
-
-// Whether a byte of a text can't stand as it is (RFC 8259, 7).
-fn needs_escape(byte: u8) -> bool
-    ensures { result ≡ needs_escape byte }
-{
-    byte == b'"' || byte == b'\\' || byte < 0x20
 }
 
 // The escape of a byte that needs one.

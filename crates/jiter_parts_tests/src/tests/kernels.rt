@@ -1,7 +1,7 @@
 //! Rows of the kernels: each length, each stop, each place of a byte above 7F hex, and runs of digits.
 ghost use Rattle.std.specs.Prelude.{◌≤◌};
 
-use jiter_scan::simd::{digit_count, digit_word, digits_end, scan_string};
+use jiter_scan::simd::{digit_count, digit_word, digits_end, scan_string, string_stop};
 use std::test::*;
 
 // So many times the byte `a`.
@@ -32,7 +32,8 @@ fn is_scanned(length: usize, from: usize, stop: usize, stop_byte: u8, high: usiz
         length
     };
     let ascii = high == stop || high < from || high >= end;
-    scan_string(&text[..length], from) == (end, ascii)
+    let bytes = &text[..length];
+    scan_string(bytes, from) == (end, ascii) && string_stop(bytes, from) == end
 }
 
 #[test]

@@ -7,7 +7,7 @@ use Rattle.jiter_scan.specs.NumberReading.{number_extent, extent_then}
 use Rattle.jiter_scan.specs.Scan.{is_plain, scan_stop}
 use Rattle.jiter_scan.specs.Scanned.{taken}
 use Rattle.jiter_steps.specs.Answer.{only_ends, seen_as}
-use Rattle.jiter_steps.specs.Blank.{past_blanks}
+use Rattle.jiter_steps.specs.Blank.{is_blank, past_blanks}
 use Rattle.jiter_steps.specs.Frames.{Frame, resume, value_from}
 use Rattle.jiter_steps.specs.Literal.{start_of, literal_at}
 use Rattle.jiter_steps.specs.Read.{Reading, done, follow, inside_at, scalar_at, value_with}
@@ -25,7 +25,7 @@ use Rattle.jiter_steps.proofs.Calls.RawStrings.{raw-closed, raw-over_run}
 use Rattle.jiter_steps.proofs.Calls.Resumed.{value_in-levels}
 use Rattle.jiter_steps.proofs.Calls.Skipping.{led_on, next_inside-is, first_inside-is, open_frames-opens}
 use Rattle.jiter_steps.proofs.Calls.Skipping.{length-open_frames, number_at-end, open_frames-innermost}
-use Rattle.jiter_steps.proofs.Grammar.Blanks.{past_blanks-above}
+use Rattle.jiter_steps.proofs.Grammar.Blanks.{past_blanks-above, past_blanks-blank}
 use Rattle.jiter_steps.proofs.Grammar.Places.{got}
 
 abbrev Frames : Type 0
@@ -43,6 +43,11 @@ module _ (names : Bool) (t : List ℕ) where
   pub continues-told : (fs : Frames) (m k : Bool) (j : ℕ) (x : Reading (Unit {0})) → m ≡ k
       → Continues names t fs (Ok m) j x → Continues names t fs (Ok k) j x
   continues-told fs m k j x same h = subst (λ n. Continues names t fs (Ok n) j x) same h
+
+  -- what is led to from j is led to from i, where both go on alike
+  pub leads-from : (fs : Frames) (m : Bool) (k : ℕ) (x y : Reading (Unit {0})) → x ≡ y
+      → Continues names t fs (Ok m) k y → Continues names t fs (Ok m) k x
+  leads-from fs m k x y same h = subst (λ z. Continues names t fs (Ok m) k z) (sym same) h
 
   -- behind a part: the value of the next one, and the container's end
   pub plain-next : (b : Shape) (fs : Frames) (i v : ℕ) → i ≤ length t → next_inside b t i ≡ done true v
@@ -148,6 +153,19 @@ colon-stands t i lt sign above =
     ap (λ k. extent_then (colon k (slice_get t k)) (step t value_first)) here
     ∙ ap (λ o. extent_then (colon i o) (step t value_first)) (got t i (omega arith) ∙ ap Some sign)
     ∙ ap (λ k. value_first k (slice_get t k)) next ∙ ap (value_first (i + 1)) (got t (i + 1) lt)
+
+-- a colon, a space, and a value right behind it
+pub colon-spaced : (t : List ℕ) (i : ℕ) → i + 2 < length t → slice_index t i ≡ 58 → slice_index t (i + 1) ≡ 32
+    → 32 < slice_index t (i + 2) → object_colon t i ≡ taken tt (i + 2)
+colon-spaced t i lt sign space above =
+    let here : past_blanks t i ≡ i = past_blanks-above t i (omega arith) (omega (arith, sign)) in
+    let two : i + 1 + 1 ≡ i + 2 = omega arith in
+    let blank : is_blank (slice_index t (i + 1)) ≡ true = ap is_blank space in
+    let next : past_blanks t (i + 1) ≡ i + 2 =
+    past_blanks-blank t (i + 1) (omega arith) blank ∙ ap (past_blanks t) two ∙ past_blanks-above t (i + 2) lt above in
+    ap (λ k. extent_then (colon k (slice_get t k)) (step t value_first)) here
+    ∙ ap (λ o. extent_then (colon i o) (step t value_first)) (got t i (omega arith) ∙ ap Some sign)
+    ∙ ap (λ k. value_first k (slice_get t k)) next ∙ ap (value_first (i + 2)) (got t (i + 2) lt)
 
 -- Values that end so wherever they stand: scalars, by what their reading gives, and empty containers.
 pub some-as : {A : Type 0} {P Q : A → Type 0} (r : Option A) → ((x : A) → P x → Q x) → IfSome r P → IfSome r Q

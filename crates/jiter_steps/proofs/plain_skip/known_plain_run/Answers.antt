@@ -1,6 +1,6 @@
 use Rattle.std.proofs.Common.{◌∷◌, ◌∙◌, refl, arith}
 use Rattle.jiter_steps.specs.Skip.{frame_of}
-use Rattle.jiter_steps.proofs.Calls.PlainSkips.{plain-next, plain-passed}
+use Rattle.jiter_steps.proofs.Calls.PlainSkips.{plain-next, plain-passed, leads-from}
 use Rattle.jiter_steps.proofs.plain_skip.known_plain_run.Goals as goal
 
 pub parts-init : goal.parts-init
@@ -12,9 +12,9 @@ parts-preserved c =
     let t = c.args.bytes.now in
     let b = c.args.shape in
     let at = c.in-Some.at in
-    let e = c.in-Some-plain_value_end.behind in
+    let e = c.in-Some-roomy_value_end.behind in
     let next = c.in-Some.ensures in
-    let plain = c.in-Some-plain_value_end.ensures in
+    let plain = c.in-Some-roomy_value_end.ensures in
     record {
       place = (omega arith, plain.within.1);
       same = λ names fs few. l.invariant.same names fs few
@@ -25,11 +25,18 @@ parts-preserved c =
 pub returns-in-None-clause-leads : goal.returns-in-None-clause-leads
 returns-in-None-clause-leads c = λ names fs few. c.parts.invariant.same names fs few
 
-pub returns-in-None-plain_value_end-clause-leads : goal.returns-in-None-plain_value_end-clause-leads
-returns-in-None-plain_value_end-clause-leads c = λ names fs few.
+pub returns-in-None-roomy_value_end-clause-leads : goal.returns-in-None-roomy_value_end-clause-leads
+returns-in-None-roomy_value_end-clause-leads c = λ names fs few.
     let l = c.parts in
     let at = c.in-Some.at in (
       l.invariant.same names fs few
           ∙ plain-next names c.args.bytes.now c.args.shape fs l.end at l.invariant.place.1 c.in-Some.ensures.value,
-      c.in-Some.ensures.within.1,
+      omega (arith, c.in-Some.ensures.within.1),
     )
+
+pub returns-clause-leads : goal.returns-clause-leads
+returns-clause-leads c = λ names fs few.
+    let l = c.parts in
+    let near = c.near_run-2 in
+    leads-from names c.args.bytes.now (frame_of c.args.shape ∷ fs) near.result.1 near.result.0 _ _
+    (l.invariant.same names fs few) (near.ensures.leads names fs few)

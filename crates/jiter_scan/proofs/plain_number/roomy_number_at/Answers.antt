@@ -8,10 +8,10 @@ use Rattle.jiter_scan.proofs.NumberExtents.{decimal_at-tail}
 use Rattle.jiter_scan.proofs.NumberValues.{number_value-tail}
 use Rattle.jiter_scan.proofs.PlainNumbers.{digits-counted, digits-of_chunk, int_part_at-counted, decimal_at-int_part}
 use Rattle.jiter_scan.proofs.PlainNumbers.{tail-place}
-use Rattle.jiter_scan.proofs.plain_number.plain_number_at.Goals as goal
-use Rattle.jiter_scan.proofs.plain_number.plain_number_at.Goals.{then-count-eq0-via-then-count-eq0}
-use Rattle.jiter_scan.proofs.plain_number.plain_number_at.Goals.{then-count-eq0-via-else-count-eq0+then-count-ne1}
-use Rattle.jiter_scan.proofs.plain_number.plain_number_at.Goals.{then-bytes-at-eq48, else-bytes-at-eq48}
+use Rattle.jiter_scan.proofs.plain_number.roomy_number_at.Goals as goal
+use Rattle.jiter_scan.proofs.plain_number.roomy_number_at.Goals.{then-count-eq0-via-then-count-eq0}
+use Rattle.jiter_scan.proofs.plain_number.roomy_number_at.Goals.{then-count-eq0-via-else-count-eq0+then-count-ne1}
+use Rattle.jiter_scan.proofs.plain_number.roomy_number_at.Goals.{then-bytes-at-eq48, else-bytes-at-eq48}
 
 pub returns-then-not-goes_on : goal.returns-then-not-goes_on
 returns-then-not-goes_on c =

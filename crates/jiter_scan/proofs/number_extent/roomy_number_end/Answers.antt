@@ -1,5 +1,5 @@
 use Rattle.jiter_scan.proofs.NumberExtents.{extent-signed}
-use Rattle.jiter_scan.proofs.number_extent.plain_number_end.Goals as goal
+use Rattle.jiter_scan.proofs.number_extent.roomy_number_end.Goals as goal
 
 pub returns-in-Int-clause-end : goal.returns-in-Int-clause-end
 returns-in-Int-clause-end c names =

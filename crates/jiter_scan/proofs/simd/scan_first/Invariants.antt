@@ -1,7 +1,7 @@
 use Rattle.std.proofs.Common.{◌≡◌, ◌-◌, ◌≤◌, ◌&&◌, length}
 use Rattle.jiter_scan.specs.Scan.{scan_stop}
 use Rattle.jiter_scan.specs.Simd.{ascii_from}
-use Rattle.jiter_scan.proofs.simd.scan_string.Given as goal
+use Rattle.jiter_scan.proofs.simd.scan_first.Given as goal
 
 abbrev pub invariant-loop-i : goal.invariant-loop-i
 invariant-loop-i l = record {

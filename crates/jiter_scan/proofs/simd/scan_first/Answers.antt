@@ -3,7 +3,7 @@ use Rattle.jiter_scan.specs.Scan.{is_plain}
 use Rattle.jiter_scan.proofs.Chunks.{run_end-clear, run_end-stopped}
 use Rattle.jiter_scan.proofs.Runs.{run_end-within}
 use Rattle.jiter_scan.proofs.PlainRuns.{ascii_from-clear, ascii_from-stopped, still-ascii, IsAsciiTo-iff}
-use Rattle.jiter_scan.proofs.simd.scan_string.Goals as goal
+use Rattle.jiter_scan.proofs.simd.scan_first.Goals as goal
 
 pub first_stop-requires : goal.first_stop-requires
 first_stop-requires c =
@@ -25,7 +25,7 @@ returns-then-found-ne0 c =
     record {
       stop = omega arith;
       within = (omega arith, omega arith);
-      ascii = IsAsciiTo-iff t c.args.from _ c.first_stop.result.1 (omega arith)
+      ascii = λ _. IsAsciiTo-iff t c.args.from _ c.first_stop.result.1 (omega arith)
           (c.first_stop.ensures.ascii ∙ ap (λ b. c.loop-i.clean && b) (sym low) ∙ sym c.loop-i.invariant.ascii);
     }
 
@@ -46,11 +46,12 @@ loop-i-preserved c =
 
 pub returns-clause-ascii : goal.returns-clause-ascii
 returns-clause-ascii c =
-    let far = c.scan_far-2 in
-    IsAsciiTo-iff c.args.bytes.now c.args.from far.result.0 far.result.1 (omega (arith, far.ensures.stop))
-    (far.ensures.ascii ∙ sym c.loop-i.invariant.ascii)
+    let far = c.scan_rest-2 in
+    λ wanted. IsAsciiTo-iff c.args.bytes.now c.args.from far.result.0 far.result.1 (omega (arith, far.ensures.stop))
+    (far.ensures.ascii wanted ∙ sym c.loop-i.invariant.ascii)
 
 pub returns-then-bytes-from-lt64-clause-ascii : goal.returns-then-bytes-from-lt64-clause-ascii
 returns-then-bytes-from-lt64-clause-ascii c =
-    let far = c.scan_far in
-    IsAsciiTo-iff c.args.bytes.now c.args.from far.result.0 far.result.1 far.ensures.stop far.ensures.ascii
+    let far = c.scan_rest in
+    λ wanted. IsAsciiTo-iff c.args.bytes.now c.args.from far.result.0 far.result.1 far.ensures.stop
+    (far.ensures.ascii wanted)

@@ -3,7 +3,7 @@ use Rattle.jiter_scan.specs.Scan.{is_plain}
 use Rattle.jiter_scan.specs.Simd.{ascii_from}
 use Rattle.jiter_scan.proofs.Chunks.{prefix_len-through}
 use Rattle.jiter_scan.proofs.PlainRuns.{ascii_from-through, still-ascii}
-use Rattle.jiter_scan.proofs.simd.scan_far.Goals as goal
+use Rattle.jiter_scan.proofs.simd.scan_wide.Goals as goal
 
 pub loop-i-preserved : goal.loop-i-preserved
 loop-i-preserved c =
