@@ -42,14 +42,11 @@ fn few_digits_end(bytes: &[u8], at: usize) -> Option<usize>
 // Behind the digits at `at`, if there are 16 to 31 of them.
 #[inline(always)]
 fn more_digits_end(bytes: &[u8], at: usize) -> Option<usize>
-    requires within { at + 16 ≤ length bytes.now }
+    requires reach { at + 32 ≤ length bytes.now }
     requires digits { at + 16 ≤ digit_run_end bytes.now at }
     ensures { IfSome result
-        (λ e. (digit_run_end bytes.now at ≡ e) × (at < e) × (e < length bytes.now)) }
+        (λ e. (digit_run_end bytes.now at ≡ e) × (at < e) × (e < at + 32)) }
 {
-    if bytes.len() - at < 32 {
-        return None;
-    }
     let back = full_chunk_at(bytes, at + 16);
     let more = digit_count(back);
     if more > 15 {
@@ -61,7 +58,7 @@ fn more_digits_end(bytes: &[u8], at: usize) -> Option<usize>
 // Behind a fraction of up to 31 digits, or where none stands.
 #[inline(always)]
 fn plain_fraction_end(bytes: &[u8], at: usize) -> Option<usize>
-    requires { at + 17 ≤ length bytes.now }
+    requires { at + 33 ≤ length bytes.now }
     ensures end { IfSome result (λ e. fraction_at bytes.now at ≡ taken tt e) }
     ensures place { IfSome result (λ e. (at ≤ e) × (e < length bytes.now)) }
 {
@@ -132,7 +129,7 @@ fn plain_float_end(bytes: &[u8], at: usize) -> Option<usize>
     ensures { IfSome result
         (λ e. extent_then (fraction_at bytes.now at) (exponent_at bytes.now) ≡ taken tt e) }
 {
-    if bytes.len() - at < 17 {
+    if bytes.len() - at < 33 {
         return None;
     }
     match plain_fraction_end(bytes, at) {

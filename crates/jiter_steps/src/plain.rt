@@ -12,7 +12,7 @@ ghost use Rattle.jiter_steps.specs.Plain.{IsNext};
 ghost use Rattle.jiter_steps.specs.Step.{step, container_first, container_comma, container_step, object_colon};
 ghost use Rattle.jiter_steps.specs.StringReading.{string_at, text_form, between};
 
-use crate::blank::past_blanks;
+use crate::blank::blanks_end;
 use crate::parse::{Literal, Shape};
 use jiter_scan::simd::scan_string;
 use jiter_scan::text::ascii_text;
@@ -38,7 +38,13 @@ pub fn peek(bytes: &[u8], from: usize) -> (usize, Option<u8>)
     ensures within { (from ≤ result.0) × (result.0 ≤ length bytes.now) }
     ensures inside { IfSome result.1 (λ _. result.0 < length bytes.now) }
 {
-    let at = past_blanks(bytes, from);
+    if from < bytes.len() {
+        let byte = bytes[from];
+        if byte > b' ' {
+            return (from, Some(byte));
+        }
+    }
+    let at = blanks_end(bytes, from);
     (at, byte_at(bytes, at))
 }
 

@@ -37,10 +37,14 @@ fn decode_plain(tape: &mut Vec<u8>, bytes: &[u8], from: usize) -> (usize, usize,
     ensures within { (result.0 ≤ length bytes.now) × (result.1 ≤ vec_len tape.new) }
     ensures utf8 { IsTrue result.2 → IsUtf8 (take result.1 tape.new.items) }
 {
+    if bytes.len() - from < 18 || tape.len() < 32 {
+        return (from, 0, true);
+    }
+    let last = from + (bytes.len() - from - 18).min(tape.len() - 32);
     let mut at = from;
     let mut count = 0;
     let mut known = true;
-    while bytes.len() - at >= 18 && tape.len() - count >= 32 {
+    while at <= last {
         let (found, high) = put_chunk(tape, count, bytes, at);
         known = both(known, high == 0);
         if found == 0 {
