@@ -229,6 +229,6 @@ pub fn put_plain_key<'s, T: Texts<'s>>(
     let to = plain_text_end(bytes, at)?;
     let next = plain_colon(bytes, to + 1)?;
     let key = keep_lent(texts, bytes, at + 1, ascii_text(&bytes[at + 1..to]))?;
-    stacks.members.push_reserved((key, JsonValue::Null));
+    stacks.members.push_reserved((key, JsonValue::Int(0)));
     Some(next)
 }
