@@ -14,7 +14,7 @@ ghost use Rattle.jiter_steps.specs.StringReading.{string_at, text_form, between}
 
 use crate::blank::blanks_end;
 use crate::parse::{Literal, Shape};
-use jiter_scan::simd::scan_string;
+use jiter_scan::short_scan::scan_short;
 use jiter_scan::text::ascii_text;
 use jiter_scan::word::byte_at;
 
@@ -162,7 +162,7 @@ pub fn plain_text_end(bytes: &[u8], at: usize) -> Option<usize>
     ensures ascii { IfSome result (λ to. IsAscii (slice_range bytes.now (at + 1) to)) }
     ensures within { IfSome result (λ to. (at < to) × (to < length bytes.now)) }
 {
-    let (to, ascii) = scan_string(bytes, at + 1);
+    let (to, ascii) = scan_short(bytes, at + 1);
     if ascii && to < bytes.len() && bytes[to] == b'"' {
         Some(to)
     } else {

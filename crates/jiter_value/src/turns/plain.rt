@@ -18,7 +18,7 @@ use crate::texts::{Texts, keep_decoded, keep_lent};
 use crate::value::JsonValue;
 use jiter_scan::number_extent::minus_end;
 use jiter_scan::plain_number::{PlainNumber, plain_number_at};
-use jiter_scan::simd::scan_string;
+use jiter_scan::short_scan::scan_short;
 use jiter_scan::text::{ascii_text, utf8_text};
 use jiter_steps::parse::Literal;
 use jiter_steps::plain::{
@@ -98,7 +98,7 @@ fn put_plain_text<'s, T: Texts<'s>>(
     ensures put { IfSome result (λ e. IsPutAt T.made bytes.now stacks.old at slot stacks.new e) }
     ensures same { result ≡ None → stacks.new ≡ stacks.old }
 {
-    let (to, low) = scan_string(bytes, at + 1);
+    let (to, low) = scan_short(bytes, at + 1);
     if to >= bytes.len() {
         return None;
     }
