@@ -125,7 +125,8 @@ pub fn general_scalar<'s, T: Texts<'s>>(
     }
 }
 
-// A key whose bytes begin at `from`, kept so, is the last member's, whose value is awaited.
+// A key whose bytes begin at `from`, kept so, is the last member's, whose value is awaited: a number stands for it
+// until then, since all its bytes are written at once.
 #[inline(always)]
 fn push_key<'s, T: Texts<'s>>(
     texts: T,
