@@ -27,7 +27,7 @@ pub record IsPlainFloat (t : List ℕ) (i e : ℕ) : Type 0 where
 
 -- an integer of one to fifteen digits, the first no zero, with as many bytes behind its first digit as are looked at
 pub record IsFewDigits (t : List ℕ) (i : ℕ) : Type 0 where
-  pub reach : i + 65 ≤ length t
+  pub reach : i + 16 ≤ length t
   pub some : i < digit_run_end t i
   pub few : digit_run_end t i ≤ i + 15
   pub first : slice_index t i ≢ ascii.digit_zero

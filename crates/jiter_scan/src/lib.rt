@@ -8,6 +8,7 @@ pub mod number_decoder;
 pub mod number_extent;
 pub mod partial_mode;
 pub mod plain_number;
+pub mod short_scan;
 pub mod simd;
 pub mod tape;
 pub mod text;

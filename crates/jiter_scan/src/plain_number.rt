@@ -1,5 +1,5 @@
-//! Plain numbers: short ones that do not stand near the end of the input, sixteen bytes at a time, with the answer
-//! in registers.
+//! Plain numbers: short ones with as many bytes ahead as are looked at, sixteen at a time, with the answer in
+//! registers.
 ghost use Rattle.std.specs.Prelude.{◌≡◌, ◌==◌, ◌||◌, ◌<◌, ◌≤◌, ◌+◌, IfSome, length, slice_get};
 ghost use Rattle.jiter_scan.specs.Ascii as ascii;
 ghost use Rattle.jiter_scan.specs.Digits.{digit_run_end};
@@ -11,8 +11,8 @@ ghost use Rattle.jiter_scan.specs.PlainNumber.{IsPlainNumber};
 use crate::number_decoder::{digits_magnitude, is_float_sign};
 use crate::simd::{digit_count, digit_word, full_chunk_at};
 
-// From a number's first digit on: fifteen digits, a point and 31 more, a letter and a sign, and a chunk of digits.
-const REACH: usize = 65;
+// The bytes from a number's first digit on that are looked at at once.
+const REACH: usize = 16;
 
 /// What stands at a number's first digit.
 #[derive(Debug, Clone, Copy, PartialEq, Eq)]
@@ -21,7 +21,7 @@ pub enum PlainNumber {
     Int(u64, usize),
     /// A number with a point or an exponent: the place behind it.
     Float(usize),
-    /// Anything else: a long number, one near the end of the input, or a fault.
+    /// Anything else: a long number, one at the end of the input, or a fault.
     Other,
 }
 
@@ -60,7 +60,7 @@ fn more_digits_end(bytes: &[u8], at: usize) -> Option<usize>
 fn plain_fraction_end(bytes: &[u8], at: usize) -> Option<usize>
     requires { at + 33 ≤ length bytes.now }
     ensures end { IfSome result (λ e. fraction_at bytes.now at ≡ taken tt e) }
-    ensures place { IfSome result (λ e. (at ≤ e) × (e ≤ at + 32)) }
+    ensures place { IfSome result (λ e. (at ≤ e) × (e < length bytes.now)) }
 {
     if bytes[at] != b'.' {
         return Some(at);
@@ -110,11 +110,14 @@ fn sign_end(bytes: &[u8], at: usize) -> usize
 // Behind an exponent of up to fifteen digits, or where none stands.
 #[inline(always)]
 fn plain_exponent_end(bytes: &[u8], at: usize) -> Option<usize>
-    requires { at + 18 ≤ length bytes.now }
+    requires { at < length bytes.now }
     ensures { IfSome result (λ e. exponent_at bytes.now at ≡ taken tt e) }
 {
     if !is_exponent_letter(bytes[at]) {
         return Some(at);
+    }
+    if bytes.len() - at < 18 {
+        return None;
     }
     few_digits_end(bytes, sign_end(bytes, at + 1))
 }
@@ -122,10 +125,13 @@ fn plain_exponent_end(bytes: &[u8], at: usize) -> Option<usize>
 // Behind the fraction and the exponent that stand at `at`, or where none stands, if they are short.
 #[inline(always)]
 fn plain_float_end(bytes: &[u8], at: usize) -> Option<usize>
-    requires { at + 50 ≤ length bytes.now }
+    requires { at ≤ length bytes.now }
     ensures { IfSome result
         (λ e. extent_then (fraction_at bytes.now at) (exponent_at bytes.now) ≡ taken tt e) }
 {
+    if bytes.len() - at < 33 {
+        return None;
+    }
     match plain_fraction_end(bytes, at) {
         Some(end) => plain_exponent_end(bytes, end),
         None => None,
@@ -135,10 +141,13 @@ fn plain_float_end(bytes: &[u8], at: usize) -> Option<usize>
 // The integer of sixteen to eighteen digits at `at`.
 #[inline(always)]
 fn two_chunks_at(bytes: &[u8], at: usize) -> PlainNumber
-    requires reach { at + 32 ≤ length bytes.now }
+    requires within { at + 16 ≤ length bytes.now }
     requires digits { at + 16 ≤ digit_run_end bytes.now at }
     ensures { IsPlainNumber bytes.now at result }
 {
+    if bytes.len() - at < 32 {
+        return PlainNumber::Other;
+    }
     let back = full_chunk_at(bytes, at + 16);
     let more = digit_count(back);
     if more > 2 || bytes[at] <= b'0' {

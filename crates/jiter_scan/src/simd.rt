@@ -65,7 +65,7 @@ pub fn both(a: bool, b: bool) -> bool
 
 // The answer where the first of these stops, in a chunk at `i`, ends the scan.
 #[inline(always)]
-fn first_stop(i: usize, found: u64, high: u64, clean: bool) -> (usize, bool)
+pub(crate) fn first_stop(i: usize, found: u64, high: u64, clean: bool) -> (usize, bool)
     requires { i + trailing_zeros w64 found < 2 ^ 64 }
     ensures stop { result.0 ≡ i + trailing_zeros w64 found }
     ensures ascii { result.1

@@ -39,7 +39,7 @@ fn blank_bytes_end(bytes: &[u8], from: usize) -> usize
 
 // The same sixteen bytes at a time, but where one blank alone stands.
 #[inline(never)]
-fn blanks_end(bytes: &[u8], from: usize) -> usize
+pub(crate) fn blanks_end(bytes: &[u8], from: usize) -> usize
     requires { from ≤ length bytes.now }
     ensures value { result ≡ past_blanks bytes.now from }
     ensures bound { result ≤ length bytes.now }

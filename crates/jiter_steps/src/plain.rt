@@ -12,9 +12,9 @@ ghost use Rattle.jiter_steps.specs.Plain.{IsNext};
 ghost use Rattle.jiter_steps.specs.Step.{step, container_first, container_comma, container_step, object_colon};
 ghost use Rattle.jiter_steps.specs.StringReading.{string_at, text_form, between};
 
-use crate::blank::past_blanks;
+use crate::blank::blanks_end;
 use crate::parse::{Literal, Shape};
-use jiter_scan::simd::scan_string;
+use jiter_scan::short_scan::scan_short;
 use jiter_scan::text::ascii_text;
 use jiter_scan::word::byte_at;
 
@@ -38,7 +38,13 @@ pub fn peek(bytes: &[u8], from: usize) -> (usize, Option<u8>)
     ensures within { (from ≤ result.0) × (result.0 ≤ length bytes.now) }
     ensures inside { IfSome result.1 (λ _. result.0 < length bytes.now) }
 {
-    let at = past_blanks(bytes, from);
+    if from < bytes.len() {
+        let byte = bytes[from];
+        if byte > b' ' {
+            return (from, Some(byte));
+        }
+    }
+    let at = blanks_end(bytes, from);
     (at, byte_at(bytes, at))
 }
 
@@ -156,7 +162,7 @@ pub fn plain_text_end(bytes: &[u8], at: usize) -> Option<usize>
     ensures ascii { IfSome result (λ to. IsAscii (slice_range bytes.now (at + 1) to)) }
     ensures within { IfSome result (λ to. (at < to) × (to < length bytes.now)) }
 {
-    let (to, ascii) = scan_string(bytes, at + 1);
+    let (to, ascii) = scan_short(bytes, at + 1);
     if ascii && to < bytes.len() && bytes[to] == b'"' {
         Some(to)
     } else {

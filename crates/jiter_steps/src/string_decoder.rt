@@ -1,6 +1,6 @@
 //! Reading a string (RFC 8259, 7 and 8.1): its own bytes where it has no backslash, or else its text decoded.
 ghost use Rattle.std.specs.Prelude.{◌≡◌, ℕ, Bool, ◌+◌, ◌^◌, ◌<◌, ◌≤◌, ◌++◌, length, true, false};
-ghost use Rattle.std.specs.Prelude.{List, slice_range, IfOk, IfErr, IsTrue, MatchResult, Some, None, take};
+ghost use Rattle.std.specs.Prelude.{List, slice_range, IfOk, IfErr, IfSome, IsTrue, MatchResult, Some, None, take};
 ghost use Rattle.std.specs.Prelude.{drop};
 ghost use Rattle.std.specs.Prelude.{vec_len};
 ghost use Rattle.std.specs.Str.{IsUtf8, IsValidUpTo};
@@ -10,7 +10,7 @@ ghost use Rattle.jiter_scan.specs.Scan.{IsAsciiTo};
 ghost use Rattle.jiter_scan.specs.Kind.{fault_kind, invalid_code_point};
 ghost use Rattle.jiter_scan.specs.Scanned.{Scans, with_end, taken, failed};
 ghost use Rattle.jiter_steps.specs.ReadError.{UnlessRefused, WhereRefused};
-ghost use Rattle.jiter_steps.specs.StringReading.{body_at, text_form, text_in_form, checked, string_at};
+ghost use Rattle.jiter_steps.specs.StringReading.{body_at, text_form, text_in_form, checked, string_at, whole};
 ghost use Rattle.jiter_steps.specs.StringDecoder.{text_view, stop_view};
 ghost use Rattle.jiter_steps.specs.StringDecoder.{WantsMemory};
 
@@ -37,10 +37,14 @@ fn decode_plain(tape: &mut Vec<u8>, bytes: &[u8], from: usize) -> (usize, usize,
     ensures within { (result.0 ≤ length bytes.now) × (result.1 ≤ vec_len tape.new) }
     ensures utf8 { IsTrue result.2 → IsUtf8 (take result.1 tape.new.items) }
 {
+    if bytes.len() - from < 18 || tape.len() < 32 {
+        return (from, 0, true);
+    }
+    let last = from + (bytes.len() - from - 18).min(tape.len() - 32);
     let mut at = from;
     let mut count = 0;
     let mut known = true;
-    while bytes.len() - at >= 18 && tape.len() - count >= 32 {
+    while at <= last {
         let (found, high) = put_chunk(tape, count, bytes, at);
         known = both(known, high == 0);
         if found == 0 {
@@ -354,6 +358,53 @@ pub fn decode_to(
         return Ok((first, next + 1));
     }
     decode_on(tape, bytes, at + 1, (next, first, utf8), keep)
+}
+
+// The same as far as it is read whole, in registers where it is not.
+#[inline(never)]
+fn decoded_on(
+    tape: &mut Vec<u8>,
+    bytes: &[u8],
+    from: usize,
+    next: usize,
+    first: usize,
+    utf8: bool,
+) -> Option<(usize, usize)>
+    requires within { next ≤ length bytes.now }
+    requires begin { from ≤ length bytes.now }
+    requires first { first ≤ vec_len tape.old }
+    requires utf8 { IsTrue utf8 → IsUtf8 (take first tape.old.items) }
+    ensures value { IfSome result (λ r. text_in_form whole bytes.now from
+        (take first tape.old.items ++ (body_at bytes.now next).bytes) true
+        (body_at bytes.now next).stop
+        ≡ taken (record { owned = true; bytes = take r.0 tape.new.items }) r.1) }
+    ensures text { IfSome result (λ r. IsUtf8 (take r.0 tape.new.items)) }
+    ensures front { IfSome result (λ r. r.0 ≤ vec_len tape.new) }
+{
+    match decode_on(tape, bytes, from, (next, first, utf8), false) {
+        Ok((count, end)) => Some((count, end)),
+        Err(_) => None,
+    }
+}
+
+/// Decodes the string with a backslash whose opening quote is at the byte index `at` to the front of the tape,
+/// and gives how many bytes its text has there, with the index behind its closing quote. None where it has a
+/// fault, where the input ends within it, or where memory for the tape was refused (RFC 8259, 7 and 8.1).
+#[inline(always)]
+pub fn decode_whole(tape: &mut Vec<u8>, bytes: &[u8], at: usize) -> Option<(usize, usize)>
+    requires within { at < length bytes.now }
+    requires backslash { WantsMemory bytes.now at }
+    ensures value { IfSome result (λ r. (keep : Bool) → string_at (text_form keep) bytes.now at
+        ≡ taken (record { owned = true; bytes = take r.0 tape.new.items }) r.1) }
+    ensures text { IfSome result (λ r. IsUtf8 (take r.0 tape.new.items)) }
+    ensures front { IfSome result (λ r. r.0 ≤ vec_len tape.new) }
+    ensures advances { IfSome result (λ r. (at < r.1) × (r.1 ≤ length bytes.now)) }
+{
+    let (next, count, low) = decode_plain(tape, bytes, at + 1);
+    if low && next < bytes.len() && bytes[next] == b'"' {
+        return Some((count, next + 1));
+    }
+    decoded_on(tape, bytes, at + 1, next, count, low)
 }
 
 /// Reads the string whose opening quote is at the byte index `at`, and gives its text with the index behind

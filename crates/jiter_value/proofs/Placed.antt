@@ -29,7 +29,6 @@ use Rattle.jiter_value.specs.declared.settings.Settings.{Settings}
 use Rattle.jiter_value.specs.declared.stacks.Slot.{Slot}
 use Rattle.jiter_value.specs.declared.stacks.Stacks.{Stacks}
 use Rattle.jiter_value.specs.declared.value.JsonValue.{JsonValue}
-use Rattle.jiter_value.specs.declared.value.JsonValue.TheVariants.{Null}
 use Rattle.std.specs.declared.alloc.Global.{Global}
 use Rattle.std.specs.declared.borrow.CowStr.{CowStr}
 use Rattle.jiter_steps.specs.Step.{object_colon}
@@ -99,18 +98,18 @@ module _ (t : List ℕ) (names : Bool) (i e : ℕ) where
 
 -- a key that was read so, kept so and put so
 pub key-at : (made : Text → Text) (t : List ℕ) (s : Stacks) (ms : Vec Member Global) (i e j : ℕ) (k : Text)
-    (kept : CowStr Global) → StandsAtKey s → i < length t → scalar_at i (string_at whole t i) ≡ done k e
-    → text_view kept ≡ made k → object_colon t e ≡ taken tt j → ms.items ≡ s.members.items ++ (kept, Null) ∷ []
+    (kept : CowStr Global) (v : JsonValue) → StandsAtKey s → i < length t → scalar_at i (string_at whole t i) ≡ done k e
+    → text_view kept ≡ made k → object_colon t e ≡ taken tt j → ms.items ≡ s.members.items ++ (kept, v) ∷ []
     → i < j → j < length t → IsKeyAt made t s i (record
     { items = s.items; members = ms; nest = s.nest; root = s.root; error = s.error; reused = s.reused }) j
-key-at made t s ms i e j k kept b inside read is colon pushed ahead within =
+key-at made t s ms i e j k kept v b inside read is colon pushed ahead within =
     let os = reverse s.nest.items in
     let es = s.items.items in
     record {
-      value = λ p. rw pushed (key-opens made p t os es s.members.items i k kept e j b inside read is colon);
-      stands = rw pushed (key-above os (length es) s.members.items (kept, Null) b);
+      value = λ p. rw pushed (key-opens made p t os es s.members.items i k kept v e j b inside read is colon);
+      stands = rw pushed (key-above os (length es) s.members.items (kept, v) b);
       nest = refl;
-      held = rw pushed (key-size os es s.members.items (kept, Null) b);
+      held = rw pushed (key-size os es s.members.items (kept, v) b);
       ahead = ahead;
       within = within;
     }

@@ -41,7 +41,6 @@ use Rattle.jiter_value.specs.declared.stacks.Slot.TheVariants as slot
 use Rattle.jiter_value.specs.declared.stacks.Open.{Open}
 use Rattle.jiter_value.specs.declared.stacks.Stacks.{Stacks}
 use Rattle.jiter_value.specs.declared.value.JsonValue.{JsonValue}
-use Rattle.jiter_value.specs.declared.value.JsonValue.TheVariants.{Null}
 use Rattle.jiter_value.proofs.MadeTexts.{rules_as-advances}
 
 -- a list's last, set
@@ -331,15 +330,15 @@ module _ (made : Text → Text) (p : Settings) (t : List ℕ) where
 
   -- and is the last member's.
   pub key-opens : (os : List Open) (es : List JsonValue) (ms : List Member) (j : ℕ) (k : Text) (kept : CowStr Global)
-      (e m : ℕ) → HaveKeyBase os (length es) (length ms) → j < length t
+      (v : JsonValue) (e m : ℕ) → HaveKeyBase os (length es) (length ms) → j < length t
       → scalar_at j (string_at whole t j) ≡ done k e → text_view kept ≡ made k → object_colon t e ≡ taken tt m
       → key_in made p t os es ms j
-      ≡ value_from (rules_as made p) t (frames slot.Member os es (ms ++ (kept, Null) ∷ [])) m
-  key-opens [] es ms j k kept e m b h v is s = absurd b
-  key-opens (o ∷ os) es ms j k kept e m b h v is s =
-      key-begins (o ∷ os) es ms j k e m b h v s
+      ≡ value_from (rules_as made p) t (frames slot.Member os es (ms ++ (kept, v) ∷ [])) m
+  key-opens [] es ms j k kept v e m b h read is s = absurd b
+  key-opens (o ∷ os) es ms j k kept v e m b h read is s =
+      key-begins (o ∷ os) es ms j k e m b h read s
       ∙ ap (λ x. value_from (rules_as made p) t (frames_at_key x (o ∷ os) es ms) m) (sym is)
-      ∙ ap (λ fs. value_from (rules_as made p) t fs m) (sym (value-frames o os es ms (kept, Null) b.0))
+      ∙ ap (λ fs. value_from (rules_as made p) t fs m) (sym (value-frames o os es ms (kept, v) b.0))
 
   -- a fault of the key, and of its colon
   pub key-fails : (os : List Open) (es : List JsonValue) (ms : List Member) (j : ℕ) (k : Kind) (x stop : ℕ)

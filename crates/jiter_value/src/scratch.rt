@@ -1,5 +1,5 @@
 //! Buffers that are kept from document to document.
-ghost use Rattle.std.specs.Prelude.{◌≡◌, []};
+ghost use Rattle.std.specs.Prelude.{◌≡◌, [], true};
 ghost use Rattle.jiter_value.specs.Owned.{owned_tree, OwnedMayGrow};
 ghost use Rattle.jiter_value.specs.Parses.{Parses, as_read};
 ghost use Rattle.jiter_value.specs.Scratch.{IsCleared};
@@ -108,8 +108,30 @@ impl JsonValueScratch<'static> {
     }
 }
 
+// Whether the stacks hold nothing, and no value stays beside them.
+#[inline(always)]
+fn is_cleared<'j>(stacks: &Stacks<'j>) -> bool
+    ensures { result ≡ true → IsCleared stacks.now }
+{
+    stacks.items.is_empty()
+        && stacks.members.is_empty()
+        && stacks.nest.is_empty()
+        && matches!(stacks.root, JsonValue::Null)
+}
+
 // Drops what the stacks hold; their buffers stay.
+#[inline(always)]
 fn clear<'j>(stacks: &mut Stacks<'j>)
+    ensures { IsCleared stacks.new }
+{
+    if !is_cleared(stacks) {
+        drop_held(stacks);
+    }
+}
+
+// The same where they may hold something.
+#[inline(never)]
+fn drop_held<'j>(stacks: &mut Stacks<'j>)
     ensures { IsCleared stacks.new }
 {
     stacks.items.clear();

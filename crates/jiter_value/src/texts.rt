@@ -6,7 +6,7 @@ ghost use Rattle.jiter_value.specs.Owned.{as_it_is, owned_text};
 ghost use Rattle.jiter_value.specs.Texts.{IsLentAt, LieAt};
 
 use crate::copies::own_cow;
-use jiter_scan::memory::Refused;
+use jiter_scan::memory::{Refused, copy_text};
 use jiter_scan::text::utf8_text;
 use std::alloc::Global;
 use std::borrow::CowStr;
@@ -96,6 +96,29 @@ pub fn keep_lent<'s, T: Texts<'s>>(
         text_view kept ≡ T.made (record { owned = false; bytes = text.now })) }
 {
     match texts.keep(bytes, from, CowStr::Borrowed(text)) {
+        Ok(kept) => Some(kept),
+        Err(_) => None,
+    }
+}
+
+/// A text that was decoded, as it is kept: in memory of its own, by one request of its exact length; none where
+/// that was refused.
+#[inline(always)]
+pub fn keep_decoded<'s, T: Texts<'s>>(
+    alloc: Global,
+    texts: T,
+    bytes: &[u8],
+    from: usize,
+    decoded: &str,
+) -> Option<CowStr<'s>>
+    requires { T.of texts bytes.now }
+    ensures { IfSome result (λ kept.
+        text_view kept ≡ T.made (record { owned = true; bytes = decoded.now })) }
+{
+    let Ok(own) = copy_text(alloc, decoded) else {
+        return None;
+    };
+    match texts.keep(bytes, from, CowStr::Owned(own)) {
         Ok(kept) => Some(kept),
         Err(_) => None,
     }

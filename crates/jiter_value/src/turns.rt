@@ -50,7 +50,7 @@ fn value_turn<'s, T: Texts<'s>>(
     match bytes[at] {
         b'[' => begin::<T>(alloc, stacks, bytes, at, settings, slot, Shape::Array),
         b'{' => begin::<T>(alloc, stacks, bytes, at, settings, slot, Shape::Object),
-        _ => match put_plain_scalar(texts, stacks, bytes, at, slot) {
+        _ => match put_plain_scalar(alloc, texts, tape, stacks, bytes, at, slot) {
             Some(end) => after::<T>(alloc, stacks, bytes, end, settings, slot),
             None => general_scalar(alloc, texts, tape, stacks, bytes, at, settings, slot),
         },

@@ -74,13 +74,22 @@ fn drop_owned(text: String) {
 #[cycle(drop)]
 #[inline(never)]
 fn drop_items(items: JsonArray<'_>) {
-    drop(items);
+    let mut rest = items;
+    while let Some(item) = rest.pop() {
+        drop(item);
+    }
+    drop(rest);
 }
 
 #[cycle(drop)]
 #[inline(never)]
 fn drop_members(members: JsonObject<'_>) {
-    drop(members);
+    let mut rest = members;
+    while let Some((key, value)) = rest.pop() {
+        drop_text(key);
+        drop(value);
+    }
+    drop(rest);
 }
 
 impl<'j> JsonValue<'j> {

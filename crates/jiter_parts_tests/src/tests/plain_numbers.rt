@@ -124,17 +124,22 @@ fn floats_of_one_part_are_short_up_to_its_limit(rt: HostRuntime) -> Result<(), F
 }
 
 #[test]
-fn near_the_end_no_number_is_short(rt: HostRuntime) -> Result<(), Fail> {
-    let text = spelled(rt.alloc(), &[("7.5e-7", 0)], FAR)?;
-    for length in 6..text.len() + 1 {
-        let part = &text[..length];
-        let wanted = if length < 65 {
-            PlainNumber::Other
-        } else {
-            PlainNumber::Float(6)
-        };
-        assert_eq!(rt; plain_number_at(part, 0), wanted);
-        assert_eq!(rt; number_end(part), Some(6));
+fn at_the_end_no_number_is_short(rt: HostRuntime) -> Result<(), Fail> {
+    for (number, end, enough, short) in [
+        ("7.5e-7", 6, 34, PlainNumber::Float(6)),
+        ("7", 1, 16, PlainNumber::Int(7, 1)),
+    ] {
+        let text = spelled(rt.alloc(), &[(number, 0)], FAR)?;
+        for length in end..text.len() + 1 {
+            let part = &text[..length];
+            let wanted = if length < enough {
+                PlainNumber::Other
+            } else {
+                short
+            };
+            assert_eq!(rt; plain_number_at(part, 0), wanted);
+            assert_eq!(rt; number_end(part), Some(end));
+        }
     }
     Ok(())
 }

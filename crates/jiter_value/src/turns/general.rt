@@ -1,6 +1,6 @@
 //! The general way: any scalar and any key, and their faults.
 ghost use Rattle.std.specs.Prelude.{◌≡◌, ◌≢◌, ◌+◌, ◌≤◌, ◌<◌, ◌++◌, ◌∷◌, [], OnOk, length};
-ghost use Rattle.std.specs.Prelude.{slice_index};
+ghost use Rattle.std.specs.Prelude.{pos, slice_index};
 ghost use Rattle.std.specs.declared.alloc.Global.{Global};
 ghost use Rattle.std.specs.declared.borrow.CowStr.{CowStr as CowStrView};
 ghost use Rattle.jiter_scan.specs.Kind.{fault_kind};
@@ -15,7 +15,7 @@ ghost use Rattle.jiter_value.specs.Stacks.{resume_with, from_value, from_key, ke
 ghost use Rattle.jiter_value.specs.Texts.{IsLentAt};
 ghost use Rattle.jiter_value.specs.Turns.{IsAtValue, Proceeds, MayGrowFor, left, outcome};
 ghost use Rattle.jiter_value.specs.Value.{MayGrowBy};
-ghost use Rattle.jiter_value.specs.declared.value.JsonValue.TheVariants.{Null};
+ghost use Rattle.jiter_value.specs.declared.value.JsonValue.TheVariants.{Int};
 
 use crate::settings::{Settings, forgives};
 use crate::stacks::{Slot, Stacks, State, give_up, no_memory, put, too_deep};
@@ -125,7 +125,8 @@ pub fn general_scalar<'s, T: Texts<'s>>(
     }
 }
 
-// A key whose bytes begin at `from`, kept so, is the last member's, whose value is awaited.
+// A key whose bytes begin at `from`, kept so, is the last member's, whose value is awaited: a number stands for it
+// until then, since all its bytes are written at once.
 #[inline(always)]
 fn push_key<'s, T: Texts<'s>>(
     texts: T,
@@ -138,11 +139,11 @@ fn push_key<'s, T: Texts<'s>>(
     requires lent { IsLentAt bytes.now from (text_view key) }
     ensures { OnOk result ((kept : CowStrView Global)
         × (text_view kept ≡ T.made (text_view key.entry))
-        × (members.new.items ≡ members.old.items ++ (kept, Null) ∷ [])) }
+        × (members.new.items ≡ members.old.items ++ (kept, Int (pos 0)) ∷ [])) }
 {
     let kept = texts.keep(bytes, from, key)?;
     make_room(members)?;
-    members.push_reserved((kept, JsonValue::Null));
+    members.push_reserved((kept, JsonValue::Int(0)));
     Ok(())
 }
 

@@ -6,6 +6,7 @@ ghost use Rattle.jiter_scan.specs.Number.{minus_of};
 ghost use Rattle.jiter_scan.specs.Scan.{scan_stop};
 ghost use Rattle.jiter_steps.specs.Literal.{start_of};
 ghost use Rattle.jiter_steps.specs.Node.{nesting_limit};
+ghost use Rattle.jiter_steps.specs.StringDecoder.{WantsMemory};
 ghost use Rattle.jiter_steps.specs.Tree.{int};
 ghost use Rattle.jiter_steps.specs.declared.parse.Start.{Start};
 ghost use Rattle.jiter_value.specs.Stacks.{Stands, StandsAtKey, HasRoom};
@@ -13,16 +14,18 @@ ghost use Rattle.jiter_value.specs.Turns.{IsAtValue, IsPutAt, IsKeyAt};
 ghost use Rattle.jiter_value.specs.Value.{view};
 
 use crate::stacks::{Slot, Stacks, has_room, put_reserved};
-use crate::texts::{Texts, keep_lent};
+use crate::texts::{Texts, keep_decoded, keep_lent};
 use crate::value::JsonValue;
 use jiter_scan::number_extent::minus_end;
 use jiter_scan::plain_number::{PlainNumber, plain_number_at};
-use jiter_scan::simd::scan_string;
-use jiter_scan::text::ascii_text;
+use jiter_scan::short_scan::scan_short;
+use jiter_scan::text::{ascii_text, utf8_text};
 use jiter_steps::parse::Literal;
 use jiter_steps::plain::{
     ascii_between, plain_colon, plain_literal_end, plain_text_end, text_between,
 };
+use jiter_steps::string_decoder::decode_whole;
+use std::alloc::Global;
 
 // A string with no backslash and with characters beyond ASCII goes where it belongs, if it is UTF-8: the place
 // behind it.
@@ -51,10 +54,38 @@ fn put_plain_utf8<'s, T: Texts<'s>>(
     Some(to + 1)
 }
 
-// A string with no backslash goes where it belongs, if it is UTF-8: the place behind it.
+// A string with a backslash goes where it belongs, decoded, if that is whole: the place behind it.
+#[inline(never)]
+fn put_decoded_text<'s, T: Texts<'s>>(
+    alloc: Global,
+    texts: T,
+    tape: &mut Vec<u8>,
+    stacks: &mut Stacks<'s>,
+    bytes: &[u8],
+    at: usize,
+    slot: Slot,
+) -> Option<usize>
+    requires texts { T.of texts bytes.now }
+    requires at_value { IsAtValue bytes.now stacks.old slot at }
+    requires room { HasRoom stacks.old slot }
+    requires begins { start_of (slice_index bytes.now at) ≡ Start.String }
+    requires backslash { WantsMemory bytes.now at }
+    ensures put { IfSome result (λ e. IsPutAt T.made bytes.now stacks.old at slot stacks.new e) }
+    ensures same { result ≡ None → stacks.new ≡ stacks.old }
+{
+    let (count, end) = decode_whole(tape, bytes, at)?;
+    let decoded = utf8_text(&tape.as_slice()[..count]);
+    let text = keep_decoded(alloc, texts, bytes, at + 1, decoded)?;
+    put_reserved(stacks, slot, JsonValue::Str(text));
+    Some(end)
+}
+
+// A string goes where it belongs, if it is whole: the place behind it.
 #[inline(always)]
 fn put_plain_text<'s, T: Texts<'s>>(
+    alloc: Global,
     texts: T,
+    tape: &mut Vec<u8>,
     stacks: &mut Stacks<'s>,
     bytes: &[u8],
     at: usize,
@@ -67,9 +98,15 @@ fn put_plain_text<'s, T: Texts<'s>>(
     ensures put { IfSome result (λ e. IsPutAt T.made bytes.now stacks.old at slot stacks.new e) }
     ensures same { result ≡ None → stacks.new ≡ stacks.old }
 {
-    let (to, low) = scan_string(bytes, at + 1);
-    if to >= bytes.len() || bytes[to] != b'"' {
+    let (to, low) = scan_short(bytes, at + 1);
+    if to >= bytes.len() {
         return None;
+    }
+    if bytes[to] != b'"' {
+        if bytes[to] != b'\\' {
+            return None;
+        }
+        return put_decoded_text(alloc, texts, tape, stacks, bytes, at, slot);
     }
     if !low {
         return put_plain_utf8(texts, stacks, bytes, at, to, slot);
@@ -144,10 +181,12 @@ fn put_plain_literal<'s, T: Texts<'s>>(
     Some(end)
 }
 
-/// A plain scalar goes where it belongs, if there is room for it: the place behind it.
+/// A plain scalar, or any whole string, goes where it belongs, if there is room for it: the place behind it.
 #[inline(always)]
 pub fn put_plain_scalar<'s, T: Texts<'s>>(
+    alloc: Global,
     texts: T,
+    tape: &mut Vec<u8>,
     stacks: &mut Stacks<'s>,
     bytes: &[u8],
     at: usize,
@@ -162,7 +201,7 @@ pub fn put_plain_scalar<'s, T: Texts<'s>>(
         return None;
     }
     match bytes[at] {
-        b'"' => put_plain_text(texts, stacks, bytes, at, slot),
+        b'"' => put_plain_text(alloc, texts, tape, stacks, bytes, at, slot),
         b'0'..=b'9' | b'-' => put_plain_number(texts, stacks, bytes, at, slot),
         b'n' => put_plain_literal::<T>(stacks, bytes, at, slot, Literal::Null),
         b't' => put_plain_literal::<T>(stacks, bytes, at, slot, Literal::True),
@@ -190,6 +229,6 @@ pub fn put_plain_key<'s, T: Texts<'s>>(
     let to = plain_text_end(bytes, at)?;
     let next = plain_colon(bytes, to + 1)?;
     let key = keep_lent(texts, bytes, at + 1, ascii_text(&bytes[at + 1..to]))?;
-    stacks.members.push_reserved((key, JsonValue::Null));
+    stacks.members.push_reserved((key, JsonValue::Int(0)));
     Some(next)
 }

@@ -9,7 +9,7 @@ digits_magnitude-magnitude-requires-clause-digits c =
     let run =
     digits-in_two c.args.bytes.now c.full_chunk_at-back.result c.args.at
     c.digit_count-more.result c.digit_count-more.ensures
-    (omega arith) c.requires.reach c.full_chunk_at-back.ensures c.requires.digits in
+    (omega arith) (omega arith) c.full_chunk_at-back.ensures c.requires.digits in
     (omega arith, omega arith)
 
 pub returns : goal.returns
@@ -18,7 +18,7 @@ returns c =
     let i = c.args.at in
     let n = c.digit_count-more.result in
     let e = i + 16 + n in
-    let run = digits-in_two t c.full_chunk_at-back.result i n c.digit_count-more.ensures (omega arith) c.requires.reach
+    let run = digits-in_two t c.full_chunk_at-back.result i n c.digit_count-more.ensures (omega arith) (omega arith)
     c.full_chunk_at-back.ensures c.requires.digits in
     let first : get_or t i 0 ≢ 48 = λ (zero : get_or t i 0 ≡ 48). omega arith in
     let int_part = int_part_at-run t i e run (omega arith) (omega arith) (omega arith) (inr first) in

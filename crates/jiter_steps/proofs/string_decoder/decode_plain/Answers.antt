@@ -21,7 +21,9 @@ loop-at-preserved-then-found-eq0 c =
       text = d.0;
       stop = d.1;
       within = omega arith;
+      len = omega arith;
       levels = omega arith;
+      few = omega arith;
       utf8 = chunk-known t l.tape.items p.new.tape.items l.at l.count 16 (omega arith) (omega arith) p.ensures.text
           l.known
           c.both-known.result p.result.1 i.utf8 c.both-known.ensures p.ensures.highs;
@@ -71,7 +73,9 @@ loop-at-preserved c =
       text = m.0.0;
       stop = m.0.1;
       within = m.2;
+      len = omega arith;
       levels = omega arith;
+      few = omega arith;
       utf8 = λ h. known-escape t _ _ (encode_utf8 sign.result) (l.at + n) (l.at + n + 2) (k h) means added;
     }
 

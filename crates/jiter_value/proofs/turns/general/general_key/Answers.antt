@@ -52,7 +52,7 @@ returns-in-Ok-push_key g c =
     let read = c.in-Ok-object_colon.ensures in
     let pushed = c.in-Ok-push_key.ensures in
     let put = key-at g.T.Texts.made c.args.bytes.now c.args.stacks.now c.push_key.new.members c.args.at
-    c.string.new.self.index c.object_colon.new.self.index (text_view c.in-Ok.key) pushed.0 c.requires.stands
+    c.string.new.self.index c.object_colon.new.self.index (text_view c.in-Ok.key) pushed.0 _ c.requires.stands
     c.requires.within c.in-Ok.ensures.value pushed.1 (rw same at read.value) pushed.2
     (omega (arith, c.in-Ok.ensures.ahead, read.moves.forward)) (rw same at read.inside) in
     let few = c.if-len-gt-NESTING_LIMIT.false in

@@ -27,6 +27,6 @@ returns-clause-put g c =
     let found = c.in_ok-to.ensures in
     let colon = c.in_ok-next.ensures in
     let kept = c.in_ok-key.ensures ∙ ap (λ w. made (record { owned = false; bytes = w })) c.ascii_text.ensures in
-    key-at made t a.stacks.now c.push_reserved.new.self i (to + 1) c.in_ok-next.next (between t (i + 1) to) _
+    key-at made t a.stacks.now c.push_reserved.new.self i (to + 1) c.in_ok-next.next (between t (i + 1) to) _ _
     c.requires.stands c.requires.within (ap (scalar_at i) (found.value false)) kept colon.value
     c.push_reserved.ensures.items (omega (arith, found.within.0, colon.within.0)) colon.within.1
