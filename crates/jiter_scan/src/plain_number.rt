@@ -164,7 +164,7 @@ fn two_chunks_at(bytes: &[u8], at: usize) -> PlainNumber
 // The number whose first digit stands at `at`, as many bytes before the input's end as are looked at, if it is short.
 #[inline(always)]
 pub(crate) fn roomy_number_at(bytes: &[u8], at: usize) -> PlainNumber
-    requires { at + 65 ≤ length bytes.now }
+    requires { at + 16 ≤ length bytes.now }
     ensures { IsPlainNumber bytes.now at result }
 {
     let chunk = full_chunk_at(bytes, at);
