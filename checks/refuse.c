@@ -1,9 +1,10 @@
 /* Loaded before the C library by checks/refused. Of a run's requests for memory it refuses the one whose number the
    environment variable REFUSE has, counted from 1, and tells of it by the byte `r` on the descriptor 3. Where the very
    next request asks for as many bytes in the same way, it tells of that by `a`, and refuses it too where the variable
-   REFUSE_AGAIN is set. */
+   REFUSE_AGAIN is set. Where the variable COUNT is set it tells, at the run's end, how many bytes were asked for. */
 #include <errno.h>
 #include <stddef.h>
+#include <stdio.h>
 #include <stdlib.h>
 #include <unistd.h>
 
@@ -12,12 +13,17 @@ extern void *__libc_realloc(void *old, size_t size);
 
 static long left;
 static int again, just_refused, old_way;
-static size_t old_size;
+static size_t old_size, asked;
 
 __attribute__((constructor)) static void begin(void) {
   const char *number = getenv("REFUSE");
   left = number ? atol(number) : 0;
   again = getenv("REFUSE_AGAIN") != NULL;
+}
+
+__attribute__((destructor)) static void end(void) {
+  if (getenv("COUNT"))
+    dprintf(3, "%zu\n", asked);
 }
 
 static int tell(const char *what) {
@@ -28,6 +34,7 @@ static int tell(const char *what) {
 }
 
 static int is_refused(int way, size_t size) {
+  asked += size;
   if (just_refused) {
     just_refused = 0;
     return way == old_way && size == old_size && tell("a") && again;
