@@ -1,6 +1,7 @@
 -- Why a call of the pull reader refuses, and its texts.
-use Rattle.std.specs.Prelude.{ℕ, ◌++◌, List, codes}
+use Rattle.std.specs.Prelude.{ℕ, Bool, false, ◌++◌, List, codes}
 use Rattle.jiter_scan.specs.Kind.{Kind, kind_text}
+use Rattle.jiter_scan.specs.WantOfMemory.{is_memory}
 use Rattle.jiter_scan.specs.Position.{at_index, position_of, position_text}
 
 -- the types of values
@@ -27,6 +28,11 @@ type_text object = codes "object"
 pub data Cause : Type 0 where
   json_error : Kind → Cause
   wrong_type : ValueType → ValueType → Cause
+
+-- memory was refused
+abbrev pub is_memory_cause : Cause → Bool
+is_memory_cause (json_error k) = is_memory k
+is_memory_cause (wrong_type wanted actual) = false
 
 -- what a cause prints
 abbrev pub cause_text : Cause → List ℕ

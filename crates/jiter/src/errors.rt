@@ -2,7 +2,7 @@
 ghost use Rattle.std.specs.Prelude.{◌≡◌, Some, IfOk, string_bytes};
 ghost use Rattle.jiter_scan.specs.Kind.{kind_of};
 ghost use Rattle.jiter_scan.specs.Position.{position_of};
-ghost use Rattle.jiter.specs.Cause.{json_error, type_text, cause_text, error_text, error_description};
+ghost use Rattle.jiter.specs.Cause.{json_error, is_memory_cause, type_text, cause_text, error_text, error_description};
 ghost use Rattle.jiter.specs.Errors.{type_of, cause_of};
 
 use crate::jiter::Jiter;
@@ -140,6 +140,16 @@ impl From<JsonError> for JiterError {
 }
 
 impl JiterError {
+    /// Whether memory was refused. If not, it is a fault of the bytes, or another type of value stands there.
+    pub fn is_memory(&self) -> bool
+        ensures { result ≡ is_memory_cause (cause_of self.now.error_type) }
+    {
+        matches!(
+            &self.error_type,
+            JiterErrorType::JsonError(JsonErrorType::OutOfMemory)
+        )
+    }
+
     /// The line and column of the error in the bytes of the reader that answered it.
     pub fn get_position(&self, jiter: &Jiter<'_>) -> LinePosition
         ensures { result ≡ position_of jiter.now.text self.now.index }

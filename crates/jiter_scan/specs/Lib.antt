@@ -1,6 +1,7 @@
 pub mod Ascii
 pub mod Quoted
 pub mod Kind
+pub mod WantOfMemory
 pub mod Position
 pub mod PartialMode
 pub mod Scanned

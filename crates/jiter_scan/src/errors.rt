@@ -1,6 +1,7 @@
 //! The kinds of fault, where a fault stands, and their texts.
 ghost use Rattle.std.specs.Prelude.{◌≡◌, ◌++◌, Some, IfOk, OnOk, codes, string_bytes};
 ghost use Rattle.jiter_scan.specs.Kind.{kind_of, fault_kind, kind_text};
+ghost use Rattle.jiter_scan.specs.WantOfMemory.{is_memory};
 ghost use Rattle.jiter_scan.specs.Position.{at_index, position_of, position_text, short_text, description_text};
 
 use crate::memory::{Refused, copy_text, push_number, push_text};
@@ -226,6 +227,13 @@ impl From<Fault> for JsonError {
 }
 
 impl JsonError {
+    /// Whether memory was refused. If not, it is a fault of the bytes.
+    pub fn is_memory(&self) -> bool
+        ensures { result ≡ is_memory (kind_of self.now.error_type) }
+    {
+        matches!(&self.error_type, JsonErrorType::OutOfMemory)
+    }
+
     /// The line and column of the fault in the bytes that it was found in.
     pub fn get_position(&self, bytes: &[u8]) -> LinePosition
         ensures { result ≡ position_of bytes.now self.now.index }

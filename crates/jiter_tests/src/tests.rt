@@ -6,6 +6,7 @@ use crate::told::outcome_text;
 use jiter::JsonValue;
 use std::alloc::{AllocError, Global};
 
+mod access;
 mod alike;
 mod copies;
 mod cuts;

@@ -12,6 +12,7 @@ pub mod OwnedAnswers
 pub mod Owning
 pub mod Codes
 pub mod Equal
+pub mod Looking
 pub mod Shapes
 pub mod Placed
 mod Rows

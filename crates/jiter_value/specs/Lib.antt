@@ -1,3 +1,4 @@
+pub mod Access
 pub mod Value
 pub mod Settings
 pub mod Stacks

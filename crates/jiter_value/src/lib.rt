@@ -1,6 +1,7 @@
 //! JSON as a tree whose unescaped texts borrow from the input.
 #![tactic(auto)]
 
+pub mod access;
 pub mod copies;
 pub mod equality;
 pub mod machine;

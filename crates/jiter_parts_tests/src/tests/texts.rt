@@ -338,6 +338,21 @@ fn an_error_prints_its_kind_and_index(rt: HostRuntime) -> Result<(), Fail> {
 }
 
 #[test]
+fn want_of_memory_is_no_fault_of_the_bytes(rt: HostRuntime) {
+    for (error_type, is_memory) in [
+        (JsonErrorType::OutOfMemory, true),
+        (JsonErrorType::NumberOutOfRange, false),
+        (JsonErrorType::EofWhileParsingValue, false),
+    ] {
+        let error = JsonError {
+            error_type,
+            index: 0,
+        };
+        assert_eq!(rt; error.is_memory(), is_memory);
+    }
+}
+
+#[test]
 fn a_short_position_has_a_colon(rt: HostRuntime) -> Result<(), Fail> {
     for (line, column, text) in [(1, 8, "1:8"), (1, 0, "1:0"), (12, 1_234_567, "12:1234567")] {
         let position = LinePosition::new(line, column);

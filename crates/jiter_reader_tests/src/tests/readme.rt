@@ -163,13 +163,15 @@ fn a_position_is_told(rt: HostRuntime) {
     expect_text(&rt, told, "line 2 column 2", &position);
 }
 
-// The values of the lines that are documents; each owns its texts, and the scratch serves all lines.
+// The values of the lines that are documents; each owns its texts, and the scratch serves all lines. Want of memory ends
+// it.
 fn values_of(alloc: Global, lines: &[&[u8]]) -> Result<Vec<JsonValue<'static>>, AllocError> {
     let mut scratch = JsonValueScratch::new(alloc);
     let mut values = Vec::new(alloc);
     for line in lines {
         match scratch.parse_owned(line, false, PartialMode::Off) {
             Ok(value) => values.push(value)?,
+            Err(error) if error.is_memory() => return Err(AllocError),
             Err(_) => {}
         }
     }

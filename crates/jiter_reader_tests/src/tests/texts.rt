@@ -164,3 +164,27 @@ fn errors_of_a_reader_are_described(rt: HostRuntime) -> Result<(), Fail> {
     expect_text(&rt, position.short(alloc), "3:1", &comma);
     Ok(())
 }
+
+#[test]
+fn want_of_memory_is_neither_fault_nor_wrong_type(rt: HostRuntime) {
+    for (error_type, is_memory) in [
+        (JiterErrorType::JsonError(JsonErrorType::OutOfMemory), true),
+        (
+            JiterErrorType::JsonError(JsonErrorType::TrailingComma),
+            false,
+        ),
+        (
+            JiterErrorType::WrongType {
+                expected: JsonType::Int,
+                actual: JsonType::Float,
+            },
+            false,
+        ),
+    ] {
+        let error = JiterError {
+            error_type,
+            index: 1,
+        };
+        assert_eq!(rt; error.is_memory(), is_memory);
+    }
+}
