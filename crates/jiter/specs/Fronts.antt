@@ -27,8 +27,8 @@ pub record IsCleanCut (n : Node) (k : ℕ) : Type 0 where
   pub begun : begin n < k
   pub numbers : CutsNoNumber k n
 
--- What was shown stays, and grows: u is a front of a document that is an array or an object, cut cleanly at k; then in a
--- partial mode the value that a parse answers of u extends the one that a parse answers of the bytes before k. `made`
+-- What was shown stays, and grows: u is a front of a document that is an array or an object, cut cleanly at k; then in
+-- a partial mode the value that a parse answers of u extends the one that a parse answers of the bytes before k. `made`
 -- is what both make of the trees that they read.
 abbrev pub FrontsGrow : (Tree → Tree) → Type 0
 FrontsGrow made =

@@ -11,7 +11,8 @@ use Rattle.jiter_value.specs.Stacks.{Member, member_view}
 use Rattle.jiter_value.specs.Value.{view, views, member_views}
 use Rattle.jiter_value.specs.declared.value.JsonValue.{JsonValue}
 
-item-there : (i : ℕ) (vs : List JsonValue) (v : JsonValue) → slice_get vs i ≡ Some v → Some (view v) ≡ item_of i (views vs)
+item-there : (i : ℕ) (vs : List JsonValue) (v : JsonValue) → slice_get vs i ≡ Some v
+    → Some (view v) ≡ item_of i (views vs)
 item-there zero (w ∷ vs) v e = ap (option_map view) (sym e)
 item-there (suc i) (w ∷ vs) v e = item-there i vs v e
 item-there zero [] v e = absurd (cc)

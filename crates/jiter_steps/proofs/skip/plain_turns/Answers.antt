@@ -18,7 +18,8 @@ returns-then-not-more-clause-leads c = λ names.
     let r = c.plain_after-next.result in
     let e = c.in-Some-plain_value_end in
     l.invariant.same names
-    ∙ ap (λ n. value_from (only_ends names) t (open_frames n.objects l.depth) l.at) (sym (c.in_default.ensures.same refl))
+    ∙ ap (λ n. value_from (only_ends names) t (open_frames n.objects l.depth) l.at)
+    (sym (c.in_default.ensures.same refl))
     ∙ plain-passed names t fs l.at e.end
     (omega (arith, length-open_frames nest.objects l.depth, l.invariant.few)) e.ensures.value
     ∙ continues-told names t (open_frames nest.objects r.1) r.2 false r.0 _ c.if-not-more.true
