@@ -178,3 +178,57 @@ fn a_scratch_answers_each_document_as_a_fresh_parse(rt: HostRuntime) -> Result<(
     }
     Ok(())
 }
+
+// Documents whose fronts one scratch reads by both of its calls.
+const SERVED: [&[u8]; 5] = [
+    b"\n{\"name\": \"John Doe\", \"age\": 43, \"phones\": [\"+44 1234567\", \"+44 2345678\"]}",
+    b"[\"ok\\n\", {\"d\": 4}]",
+    b"{\"a\":1,\"\\u0061\":2}",
+    b"[12,\"a\xc3\xa9\",{\"k\":true}]",
+    b"[[1,[2,3]],{\"a\":[4,{\"b\":5}],\"c\":[]},6]",
+];
+
+// Whether both calls of the scratch answer of these bytes what a fresh parse answers.
+fn is_served(
+    alloc: Global,
+    scratch: &mut JsonValueScratch<'static>,
+    bytes: &'static [u8],
+    mode: PartialMode,
+) -> bool {
+    let fresh = JsonValue::parse_with_config(alloc, bytes, true, mode);
+    let lent = scratch.parse(bytes, true, mode);
+    let owned = scratch.parse_owned(bytes, true, mode);
+    lent == fresh && owned == fresh
+}
+
+// The length of the first front of which they do not.
+fn first_unserved(
+    alloc: Global,
+    scratch: &mut JsonValueScratch<'static>,
+    bytes: &'static [u8],
+    mode: PartialMode,
+) -> Option<usize> {
+    for end in 0..=bytes.len() {
+        if !is_served(alloc, scratch, &bytes[..end], mode) {
+            return Some(end);
+        }
+    }
+    None
+}
+
+#[test]
+fn one_scratch_serves_both_of_its_calls(rt: HostRuntime) -> Result<(), Fail> {
+    let alloc = rt.alloc();
+    let mut scratch = JsonValueScratch::new(alloc);
+    for bytes in SERVED {
+        for mode in [
+            PartialMode::Off,
+            PartialMode::On,
+            PartialMode::TrailingStrings,
+        ] {
+            let unserved = first_unserved(alloc, &mut scratch, bytes, mode);
+            assert_eq!(rt; unserved, None, "{mode:?} of {bytes:?}");
+        }
+    }
+    Ok(())
+}
