@@ -110,14 +110,14 @@ fn first_leaking(alloc: Global, bytes: &[u8]) -> Result<Option<Call>, AllocError
     // Once before, so that the stack has grown.
     let _ = is_call_short(alloc, bytes, Call::BySteps);
     let reserves = (
-        Vec::<u8>::with_capacity(alloc, 100_000)?,
-        Vec::<u8>::with_capacity(alloc, 100_000)?,
-        Vec::<u8>::with_capacity(alloc, 100_000)?,
+        Vec::<u8>::with_capacity(alloc, 130_000)?,
+        Vec::<u8>::with_capacity(alloc, 130_000)?,
+        Vec::<u8>::with_capacity(alloc, 130_000)?,
     );
     let held = Held::all(alloc)?;
     drop(reserves);
     let mut leaking = None;
-    for turn in 0..CALLS.len().saturating_mul(64) {
+    for turn in 0..CALLS.len().saturating_mul(90) {
         let call = CALLS[turn % 12];
         if leaking.is_none() && is_call_short(alloc, bytes, call) {
             leaking = Some(call);
