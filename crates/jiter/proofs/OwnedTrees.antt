@@ -8,6 +8,7 @@ use Rattle.jiter_steps.specs.Read.{Reading, done, fault, value_at}
 use Rattle.jiter_steps.specs.Tree.{Tree}
 use Rattle.jiter_value.specs.Owned.{owned_text, owned_tree}
 use Rattle.jiter_value.specs.Parses.{reading_as}
+use Rattle.jiter_value.specs.Settings.{each}
 use Rattle.jiter_value.proofs.MadeTexts.{value_at-as}
 use Rattle.jiter.specs.Client.{owned_trees, built}
 use Rattle.jiter.specs.Jiter.{MovesOn, LeavesAt, Replies, UnlessMemory, StandsAt, reply_seen}
@@ -24,7 +25,8 @@ value-owned : (names : Bool) (t : List ℕ) (levels i : ℕ)
     → reply_seen owned_tree (value_reply (value_at (whole_trees names) t levels i))
     ≡ value_reply (value_at (owned_trees names) t levels i)
 value-owned names t levels i = reply-owned (value_at (whole_trees names) t levels i)
-    ∙ ap value_reply (sym (value_at-as owned_text (record { allow_inf_nan = names; mode = Off }) t levels i))
+    ∙ ap value_reply (sym (value_at-as (each owned_text) refl
+    (record { allow_inf_nan = names; mode = Off }) t levels i))
 
 -- What is built where a value begins, at the place that a peek moves to, is the value that is read.
 pub built_as_read : {X : Type 0} (view : X → Tree) (result : Result X JiterError) (s0 s end : ReaderState) (c : ℕ)

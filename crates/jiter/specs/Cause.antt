@@ -1,7 +1,6 @@
 -- Why a call of the pull reader refuses, and its texts.
 use Rattle.std.specs.Prelude.{ℕ, Bool, false, ◌++◌, List, codes}
-use Rattle.jiter_scan.specs.Kind.{Kind, kind_text}
-use Rattle.jiter_scan.specs.WantOfMemory.{is_memory}
+use Rattle.jiter_scan.specs.Kind.{Kind, kind_text, is_memory}
 use Rattle.jiter_scan.specs.Position.{at_index, position_of, position_text}
 
 -- the types of values

@@ -1,3 +1,4 @@
+pub mod Caller
 pub mod Cause
 pub mod Client
 pub mod Errors
@@ -7,3 +8,4 @@ pub mod Lending
 pub mod Peek
 pub mod Reader
 pub mod Skipping
+pub mod Telling

@@ -37,7 +37,18 @@ mod values;
 ///
 /// Its calls answer what stands at the place, or why it is refused. A refused scalar leaves the reader at the
 /// value's first byte, so that another type may be tried. Any other refusal leaves it where its fault was met,
-/// and what further steps read then is no document any more: stop at the first refusal of a step.
+/// and what further steps read then is no document any more: stop at the first refusal of a step. Each `known_` call
+/// is its `next_` call for who has peeked, and asks that the byte of that peek still stands there.
+///
+/// ```
+/// let mut jiter = Jiter::new(br#"{"name": "John Doe", "age": 43}"#);
+/// assert_eq!(rt; jiter.next_object(alloc)?, Some("name"));
+/// assert_eq!(rt; jiter.next_str(alloc)?, "John Doe");
+/// assert_eq!(rt; jiter.next_key(alloc)?, Some("age"));
+/// assert_eq!(rt; jiter.next_int()?, NumberInt::Int(43));
+/// assert_eq!(rt; jiter.next_key(alloc)?, None);
+/// jiter.finish()?;
+/// ```
 #[derive(Debug, Drop)]
 pub struct Jiter<'j> {
     parser: Parser<'j>,

@@ -1,4 +1,12 @@
-//! JSON that people can trust with hostile bytes and half-arrived documents.
+//! JSON that people can trust with hostile bytes and half-arrived documents. A document is read whole, as a
+//! [`JsonValue`], or step by step, by a [`Jiter`]:
+//!
+//! ```
+//! let value = JsonValue::parse(alloc, br#"{"ports": [80, 443]}"#, false)?;
+//! assert_eq!(rt; value.pointer("/ports/0").and_then(|port| port.as_i64()), Some(80));
+//! ```
+//!
+//! docs/CALLING.md has an example of each interface.
 #![tactic(auto)]
 
 pub mod client;
@@ -11,5 +19,7 @@ pub use jiter::Jiter;
 pub use jiter_scan::{
     JsonError, JsonErrorType, JsonResult, LinePosition, NumberAny, NumberInt, PartialMode, simd,
 };
-pub use jiter_value::{JsonArray, JsonObject, JsonValue, JsonValueScratch, Machine, Turn};
+pub use jiter_value::{
+    JsonArray, JsonObject, JsonValue, JsonValueScratch, Machine, NumberText, ShortText, Turn,
+};
 pub use peek::Peek;

@@ -1,8 +1,11 @@
-//! Rows of each part: sizes and errors, positions and texts, numbers, kernels, blanks, strings, steps and skips.
+//! Rows of each part: sizes and errors, positions and texts, numbers, kernels, blanks, strings, steps and skips, and of
+//! what arrives in parts.
 mod blanks;
 mod kernels;
 mod number_ends;
 mod numbers;
+mod open_escapes;
+mod open_texts;
 mod plain;
 mod plain_numbers;
 mod raw_strings;

@@ -12,6 +12,8 @@ pub mod NumberBounds
 pub mod NumberValues
 pub mod NumberExtents
 pub mod NumberTests
+pub mod OpenNumbers
+pub mod OpenValues
 pub mod NumberLaws
 pub mod Pins
 pub mod Computed
@@ -24,3 +26,4 @@ pub mod Magnitudes
 pub mod PlainNumbers
 pub mod Tapes
 pub mod PlainNumberValues
+pub mod OverlaidTexts

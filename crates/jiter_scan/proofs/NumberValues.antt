@@ -51,7 +51,7 @@ negative_value-min w n =
     choice-min (λ m. nat_le m (2 ^ 63)) (λ m. integer (minus_of m)) (big w) (λ m h. grind (arith, nat_tests)) n
 
 -- digits alone
-number_value-digits : (w : List ℕ) → IsIntPart w → number_value w ≡ positive_value w (magnitude_of w)
+pub number_value-digits : (w : List ℕ) → IsIntPart w → number_value w ≡ positive_value w (magnitude_of w)
 unfolding number_value
 number_value-digits [] h = absurd h
 number_value-digits (c ∷ cs) h =
@@ -63,7 +63,7 @@ number_value-digits (c ∷ cs) h =
     ∙ sym (positive_value-min (c ∷ cs) (decimal_of (c ∷ cs)))
 
 -- a minus and digits
-number_value-minus : (w : List ℕ) → IsIntPart w → number_value (45 ∷ w) ≡ negative_value (45 ∷ w) (magnitude_of w)
+pub number_value-minus : (w : List ℕ) → IsIntPart w → number_value (45 ∷ w) ≡ negative_value (45 ∷ w) (magnitude_of w)
 unfolding number_value
 number_value-minus [] h = absurd h
 number_value-minus (c ∷ cs) h =
@@ -71,7 +71,7 @@ number_value-minus (c ∷ cs) h =
     (digits-no_float (c ∷ cs) h.0)
     ∙ sym (negative_value-min (45 ∷ c ∷ cs) (decimal_of (c ∷ cs)))
 
-any-float : (u v : List ℕ) (c : ℕ) → is_float_byte c ≡ true → list_any is_float_byte (u ++ c ∷ v) ≡ true
+pub any-float : (u v : List ℕ) (c : ℕ) → is_float_byte c ≡ true → list_any is_float_byte (u ++ c ∷ v) ≡ true
 any-float [] v c h = ap (λ b. b || list_any is_float_byte v) h
 any-float (d ∷ u) v c h = or_right (is_float_byte d) (list_any is_float_byte (u ++ c ∷ v)) (any-float u v c h)
 
@@ -82,11 +82,11 @@ number_value-float u v c h =
     ap (λ (b : Bool). cond (cond b false true) (integral_value (u ++ c ∷ v)) (float (u ++ c ∷ v))) (any-float u v c h)
 
 -- a fraction or an exponent shows a float
-data Tail (w : List ℕ) : Type 0 where
+pub data Tail (w : List ℕ) : Type 0 where
   no_tail : w ≡ [] → Tail w
   a_tail : (c : ℕ) (v : List ℕ) → w ≡ c ∷ v → is_float_byte c ≡ true → Tail w
 
-tail : (f x : List ℕ) → IsFraction f → IsExponent x → Tail (f ++ x)
+pub tail : (f x : List ℕ) → IsFraction f → IsExponent x → Tail (f ++ x)
 tail [] x p (inl e) = no_tail e
 tail [] x p (inr e) = a_tail e.letter (e.sign ++ e.digits) e.is (by e.is_letter) where
   by : (e.letter ≡ 101) ⊎ (e.letter ≡ 69) → is_float_byte e.letter ≡ true

@@ -3,6 +3,7 @@ mod Positions
 mod Descriptions
 mod NumbersAtAPlace
 mod NumbersAlone
+mod OpenNumbers
 mod IntegersAlone
 mod IntegersAtAPlace
 mod NumberTexts

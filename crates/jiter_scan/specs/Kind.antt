@@ -120,3 +120,8 @@ abbrev pub is_forgiven : Kind → Bool
 is_forgiven expected_list_comma_or_end = true
 is_forgiven expected_object_comma_or_end = true
 is_forgiven k = is_end_kind k
+
+-- memory was refused: it says nothing of the bytes
+abbrev pub is_memory : Kind → Bool
+is_memory out_of_memory = true
+is_memory k = false

@@ -1,7 +1,6 @@
 pub mod Ascii
 pub mod Quoted
 pub mod Kind
-pub mod WantOfMemory
 pub mod Position
 pub mod PartialMode
 pub mod Scanned
@@ -13,5 +12,7 @@ pub mod Number
 pub mod NumberTests
 pub mod NumberReading
 pub mod NumberDecoder
+pub mod OpenNumber
+pub mod OpenWord
 pub mod Simd
 pub mod PlainNumber

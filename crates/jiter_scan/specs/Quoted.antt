@@ -1,6 +1,7 @@
 -- A key as its fault prints it: between quotes, its quotes, backslashes and controls escaped as Rust's debug form has
 -- them, and all other bytes as they are.
-use Rattle.std.specs.Prelude.{ℕ, ◌+◌, ◌/◌, ◌%◌, ◌==◌, ◌||◌, if◌then◌else◌, List, [], ◌∷◌, ◌++◌, codes, nat_lt}
+use Rattle.std.specs.Prelude.{ℕ, ◌+◌, ◌/◌, ◌%◌, ◌==◌, ◌||◌, if◌then◌else◌, List, [], ◌∷◌, ◌++◌, codes}
+use Rattle.std.specs.Prelude.{flat_map, nat_lt}
 use Rattle.jiter_scan.specs.Ascii as ascii
 
 -- a hexadecimal digit, in small letters
@@ -22,9 +23,5 @@ quoted_byte c =
     else (if nat_lt c ascii.space || (c == 127) then codes "\\u{" ++ (hex_digits c ++ codes "}")
     else c ∷ []))))))
 
-abbrev pub quoted_bytes : List ℕ → List ℕ
-quoted_bytes [] = []
-quoted_bytes (c ∷ cs) = quoted_byte c ++ quoted_bytes cs
-
 abbrev pub quoted : List ℕ → List ℕ
-quoted key = codes "\"" ++ (quoted_bytes key ++ codes "\"")
+quoted key = codes "\"" ++ (flat_map quoted_byte key ++ codes "\"")

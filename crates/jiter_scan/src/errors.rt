@@ -1,7 +1,6 @@
 //! The kinds of fault, where a fault stands, and their texts.
 ghost use Rattle.std.specs.Prelude.{◌≡◌, ◌++◌, Some, IfOk, OnOk, codes, string_bytes};
-ghost use Rattle.jiter_scan.specs.Kind.{kind_of, fault_kind, kind_text};
-ghost use Rattle.jiter_scan.specs.WantOfMemory.{is_memory};
+ghost use Rattle.jiter_scan.specs.Kind.{kind_of, fault_kind, kind_text, is_memory};
 ghost use Rattle.jiter_scan.specs.Position.{at_index, position_of, position_text, short_text, description_text};
 
 use crate::memory::{Refused, copy_text, push_number, push_text};

@@ -2,11 +2,13 @@
 //! the evidence of it, and nothing outside this module can make that evidence.
 ghost use Rattle.std.specs.Prelude.{◌≡◌, ◌+◌, ◌^◌, ◌<◌, ◌≤◌, ◌∷◌, ◌++◌, [], take, drop, IfOk, OnOk, OnErr, decimal};
 ghost use Rattle.std.specs.Prelude.{length, replicate, string_bytes, string_capacity, string_len, vec_capacity};
-ghost use Rattle.std.specs.Prelude.{vec_len};
+ghost use Rattle.std.specs.Prelude.{false, not, true, vec_len};
+ghost use Rattle.std.specs.BTreeSet.{contains, insert_key};
 ghost use Rattle.smallvec.specs.SmallVec.{HasRoomFor};
 
 use smallvec::SmallVec;
 use std::alloc::{AllocError, Global};
+use std::collections::BTreeSet;
 
 /// The evidence that a request for memory was refused.
 #[derive(Debug, PartialEq, Eq, Drop)]
@@ -108,6 +110,20 @@ pub fn lengthen(bytes: &mut Vec<u8>, more: usize) -> Result<(), Refused>
     match bytes.resize(bytes.len() + more, 0) {
         Ok(()) => Ok(()),
         Err(error) => Err(Refused { error }),
+    }
+}
+
+/// Puts a key into a set: whether it is new. One that the set has already needs no memory.
+pub fn insert<K: Ord + Drop>(set: &mut BTreeSet<K>, key: K) -> Result<bool, Refused>
+    ensures new { IfOk result (λ new. new ≡ not (contains K.cmp set.old key)) }
+    ensures keys { OnOk result (set.new.keys ≡ insert_key K.cmp set.old.keys key) }
+    ensures has { OnOk result (contains K.cmp set.new key ≡ true) }
+    ensures same { OnErr result (set.new.keys ≡ set.old.keys) }
+    ensures absent { OnErr result (contains K.cmp set.old key ≡ false) }
+{
+    match set.insert(key) {
+        Ok(new) => Ok(new),
+        Err(_) => Err(Refused { error: AllocError }),
     }
 }
 

@@ -3,6 +3,8 @@ pub mod Computed
 pub mod Cut
 pub mod Fault
 pub mod Grammar
+pub mod OpenEscapes
+pub mod OpenTexts
 pub mod Pins
 pub mod Reading
 pub mod Unique

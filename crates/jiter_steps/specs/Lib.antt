@@ -6,6 +6,8 @@ pub mod Escape
 pub mod Piece
 pub mod StringReading
 pub mod StringDecoder
+pub mod OpenText
+pub mod OpenEscape
 pub mod RawString
 pub mod Read
 pub mod ReadError

@@ -4,6 +4,9 @@
 
 pub mod blank;
 mod escape;
+mod held;
+pub mod open_escape;
+pub mod open_text;
 pub mod parse;
 pub mod plain;
 mod plain_skip;

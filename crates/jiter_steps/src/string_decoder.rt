@@ -1,6 +1,6 @@
 //! Reading a string (RFC 8259, 7 and 8.1): its own bytes where it has no backslash, or else its text decoded.
 ghost use Rattle.std.specs.Prelude.{◌≡◌, ℕ, Bool, ◌+◌, ◌^◌, ◌<◌, ◌≤◌, ◌++◌, length, true, false};
-ghost use Rattle.std.specs.Prelude.{List, slice_range, IfOk, IfErr, IfSome, IsTrue, MatchResult, Some, None, take};
+ghost use Rattle.std.specs.Prelude.{List, slice_range, IfOk, IfErr, IsTrue, MatchResult, Some, None, take};
 ghost use Rattle.std.specs.Prelude.{drop};
 ghost use Rattle.std.specs.Prelude.{vec_len};
 ghost use Rattle.std.specs.Str.{IsUtf8, IsValidUpTo};
@@ -360,7 +360,7 @@ pub fn decode_to(
     decode_on(tape, bytes, at + 1, (next, first, utf8), keep)
 }
 
-// The same as far as it is read whole, in registers where it is not.
+// The same as far as it is read whole. Where it is not, the refusal of memory, if it was that.
 #[inline(never)]
 fn decoded_on(
     tape: &mut Vec<u8>,
@@ -369,40 +369,46 @@ fn decoded_on(
     next: usize,
     first: usize,
     utf8: bool,
-) -> Option<(usize, usize)>
+) -> Result<(usize, usize), Option<Refused>>
     requires within { next ≤ length bytes.now }
     requires begin { from ≤ length bytes.now }
     requires first { first ≤ vec_len tape.old }
     requires utf8 { IsTrue utf8 → IsUtf8 (take first tape.old.items) }
-    ensures value { IfSome result (λ r. text_in_form whole bytes.now from
+    ensures value { IfOk result (λ r. text_in_form whole bytes.now from
         (take first tape.old.items ++ (body_at bytes.now next).bytes) true
         (body_at bytes.now next).stop
         ≡ taken (record { owned = true; bytes = take r.0 tape.new.items }) r.1) }
-    ensures text { IfSome result (λ r. IsUtf8 (take r.0 tape.new.items)) }
-    ensures front { IfSome result (λ r. r.0 ≤ vec_len tape.new) }
+    ensures text { IfOk result (λ r. IsUtf8 (take r.0 tape.new.items)) }
+    ensures front { IfOk result (λ r. r.0 ≤ vec_len tape.new) }
 {
     match decode_on(tape, bytes, from, (next, first, utf8), false) {
-        Ok((count, end)) => Some((count, end)),
-        Err(_) => None,
+        Ok((count, end)) => Ok((count, end)),
+        Err(ReadError::Fault(_)) => Err(None),
+        Err(ReadError::Memory(refused)) => Err(Some(refused)),
     }
 }
 
 /// Decodes the string with a backslash whose opening quote is at the byte index `at` to the front of the tape,
-/// and gives how many bytes its text has there, with the index behind its closing quote. None where it has a
-/// fault, where the input ends within it, or where memory for the tape was refused (RFC 8259, 7 and 8.1).
+/// and gives how many bytes its text has there, with the index behind its closing quote. Where it has a fault,
+/// or the input ends within it, it is not told why, with no refusal; where memory for the tape was refused, that
+/// is told (RFC 8259, 7 and 8.1).
 #[inline(always)]
-pub fn decode_whole(tape: &mut Vec<u8>, bytes: &[u8], at: usize) -> Option<(usize, usize)>
+pub fn decode_whole(
+    tape: &mut Vec<u8>,
+    bytes: &[u8],
+    at: usize,
+) -> Result<(usize, usize), Option<Refused>>
     requires within { at < length bytes.now }
     requires backslash { WantsMemory bytes.now at }
-    ensures value { IfSome result (λ r. (keep : Bool) → string_at (text_form keep) bytes.now at
+    ensures value { IfOk result (λ r. (keep : Bool) → string_at (text_form keep) bytes.now at
         ≡ taken (record { owned = true; bytes = take r.0 tape.new.items }) r.1) }
-    ensures text { IfSome result (λ r. IsUtf8 (take r.0 tape.new.items)) }
-    ensures front { IfSome result (λ r. r.0 ≤ vec_len tape.new) }
-    ensures advances { IfSome result (λ r. (at < r.1) × (r.1 ≤ length bytes.now)) }
+    ensures text { IfOk result (λ r. IsUtf8 (take r.0 tape.new.items)) }
+    ensures front { IfOk result (λ r. r.0 ≤ vec_len tape.new) }
+    ensures advances { IfOk result (λ r. (at < r.1) × (r.1 ≤ length bytes.now)) }
 {
     let (next, count, low) = decode_plain(tape, bytes, at + 1);
     if low && next < bytes.len() && bytes[next] == b'"' {
-        return Some((count, next + 1));
+        return Ok((count, next + 1));
     }
     decoded_on(tape, bytes, at + 1, next, count, low)
 }

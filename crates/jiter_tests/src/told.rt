@@ -1,16 +1,21 @@
 //! What calls answer, as text on one line.
-use jiter::{JsonError, JsonErrorType as Kind, JsonValue, PartialMode};
+use jiter::{JsonError, JsonErrorType as Kind, JsonValue, NumberText, PartialMode};
 use std::alloc::{AllocError, Global};
 use std::borrow::CowStr;
 
 // A text in quotes, behind the word `owned` where it is not borrowed.
-fn append_text(text: &CowStr<'_>, out: &mut String) -> Result<(), AllocError> {
-    match text {
-        CowStr::Borrowed(_) => out.push_str("'")?,
-        CowStr::Owned(_) => out.push_str("owned '")?,
-    }
-    out.push_str(text.as_str())?;
+fn append_quoted(text: &str, borrowed: bool, out: &mut String) -> Result<(), AllocError> {
+    out.push_str(if borrowed { "'" } else { "owned '" })?;
+    out.push_str(text)?;
     out.push_str("'")
+}
+
+fn append_text(text: &CowStr<'_>, out: &mut String) -> Result<(), AllocError> {
+    append_quoted(text.as_str(), matches!(text, CowStr::Borrowed(_)), out)
+}
+
+fn append_number(text: &NumberText<'_>, out: &mut String) -> Result<(), AllocError> {
+    append_quoted(text.as_str(), matches!(text, NumberText::Borrowed(_)), out)
 }
 
 // The value on one line; a number that is kept as its text stands behind a word.
@@ -26,11 +31,11 @@ fn append(value: &JsonValue<'_>, out: &mut String) -> Result<(), AllocError> {
         }
         JsonValue::BigInt(text) => {
             out.push_str("big ")?;
-            append_text(text, out)
+            append_number(text, out)
         }
         JsonValue::Float(text) => {
             out.push_str("float ")?;
-            append_text(text, out)
+            append_number(text, out)
         }
         JsonValue::Str(text) => append_text(text, out),
         JsonValue::Array(items) => append_items(items.as_slice(), out),

@@ -13,6 +13,11 @@ pub mod Owning
 pub mod Codes
 pub mod Equal
 pub mod Looking
+pub mod Pointing
 pub mod Shapes
 pub mod Placed
+pub mod Repeats
+pub mod KeptKeys
+pub mod Spines
+pub mod KeySets
 mod Rows

@@ -1,24 +1,37 @@
 -- Readings whose texts are made so: what is read then is made of what is read.
-use Rattle.std.proofs.Common.{◌≡◌, ◌∙◌, refl, sym, ap, ap₂, ℕ, List, [], ◌∷◌, map, arith}
+use Rattle.std.proofs.Common.{◌≡◌, ◌∙◌, refl, sym, ap, ap₂, ℕ, ◌<◌, Bool, false, List, [], ◌∷◌, length, map, arith}
+use Rattle.std.specs.Prelude.{Option, Some, None, slice_get}
 use Rattle.std.proofs.lemmas.Option.{none-some}
+use Rattle.jiter_scan.specs.Kind.{Kind}
 use Rattle.jiter_scan.specs.NumberReading.{number_at}
-use Rattle.jiter_scan.specs.Scanned.{Scanned, taken, failed}
+use Rattle.jiter_scan.specs.PartialMode.{is_active}
+use Rattle.jiter_scan.specs.declared.partial_mode.PartialMode.{PartialMode}
+use Rattle.jiter_scan.specs.declared.partial_mode.PartialMode.TheVariants.{Off, On, TrailingStrings}
+use Rattle.jiter_scan.specs.Scanned.{Scanned, FaultAt, taken, failed}
+use Rattle.jiter_scan.proofs.Choices.{if_both}
 use Rattle.jiter_scan.proofs.NumberLaws.{number_at-within}
-use Rattle.jiter_steps.specs.Answer.{seen_as, value_form}
+use Rattle.jiter_steps.specs.Answer.{seen_as, value_form, whole_trees, nothing_forgiven, answer_in}
+use Rattle.jiter_steps.specs.Blank.{past_blanks}
 use Rattle.jiter_steps.specs.Literal.{literal_at, literal_tree}
-use Rattle.jiter_steps.specs.Read.{Reading, done, fault, value_at}
+use Rattle.jiter_steps.specs.Read.{Reading, Rules, done, fault, value_at, if_begun, if_last, to_end}
+use Rattle.jiter_steps.specs.Read.{front_answer, whole_answer}
 use Rattle.jiter_steps.specs.StringReading.{whole, string_at}
 use Rattle.jiter_steps.specs.Tree.{Text, Tree, Items, no_items, item, Members, no_members, member, items_of, members_of}
 use Rattle.jiter_steps.specs.Tree as tree
+use Rattle.jiter_steps.specs.Unique.{own_bytes, repeated_key, unique_answer_in}
 use Rattle.jiter_steps.specs.declared.parse.Literal.{Literal}
 use Rattle.jiter_steps.specs.declared.parse.Literal.TheVariants as literal
 use Rattle.jiter_steps.proofs.Grammar.StringLaws.{string_at-within}
 use Rattle.jiter_steps.proofs.Reading.Fused.{AllTold, Leads, mapped, scanned_as, pairs, value_at-mapped}
-use Rattle.jiter_steps.proofs.Reading.Instances.{seen-within, literal_at-within}
+use Rattle.jiter_steps.proofs.Reading.Instances.{seen-within, literal_at-within, trees-advances}
+use Rattle.jiter_steps.proofs.Reading.Bounds.{either}
+use Rattle.jiter_steps.proofs.Reading.WholeTexts.{whole-is}
+use Rattle.jiter_steps.proofs.Unique.Within.{repeats-advance}
 use Rattle.jiter_steps.proofs.Reading.Values.{Advances}
 use Rattle.jiter_value.specs.Owned.{as_it_is, tree_as, items_as, members_as}
 use Rattle.jiter_value.specs.Parses.{reading_as}
-use Rattle.jiter_value.specs.Settings.{rules, rules_as}
+use Rattle.jiter_value.specs.Settings.{Keeping, lent, lent_unique, rules, refused_as, rules_as, answer_with, answer_as}
+use Rattle.jiter_value.specs.Settings.{answer_by}
 use Rattle.jiter_value.specs.declared.settings.Settings.{Settings}
 
 module _ (made : Text → Text) where
@@ -49,34 +62,150 @@ module _ (made : Text → Text) where
   mapped-is (done v e) = refl
   mapped-is (fault k i stop) = refl
 
-  module _ (p : Settings) (t : List ℕ) where
-    pub rules_as-advances : Advances (rules_as made p) t
-    rules_as-advances = record {
-      literal = λ l i h. seen-within _ t i (literal_at t l i) (literal_at-within t l i (omega arith));
-      number = λ i h. seen-within _ t i (number_at p.allow_inf_nan t i) (number_at-within p.allow_inf_nan t i h);
-      text = λ i h. seen-within _ t i (string_at (value_form p.mode) t i) (string_at-within (value_form p.mode) t i h);
-      key = λ i h. seen-within _ t i (string_at whole t i) (string_at-within whole t i h);
-      refuses = λ members i j k h e. absurd (none-some _ e);
-    }
+-- what was read by any rules for repeated keys
+abbrev Refusing : Type 0
+Refusing = List (Text × Tree) → List ℕ → ℕ → Option (Kind × ℕ)
 
-    made-leads : Leads AllTold (rules p) (rules_as made p) made (tree_as made) t
+abbrev rules_refusing : Refusing → Settings → Rules Text Tree
+rules_refusing f p = record {
+  forgives = (rules p).forgives;
+  literal = (rules p).literal;
+  number = (rules p).number;
+  text = (rules p).text;
+  key = (rules p).key;
+  refuses = f;
+  array = (rules p).array;
+  object = (rules p).object;
+}
+
+module _ (made : Keeping) (p : Settings) (t : List ℕ) where
+  abbrev Refused : ℕ → Option (Kind × ℕ) → Type 0
+  Refused i o = (j : ℕ) (k : Kind) → o ≡ Some (k, j) → (i < j) × FaultAt t k j
+
+  -- a key that is refused
+  refused-behind : (members : List (Text × Tree)) (i : ℕ) → i < length t → Refused i (refused_as made members t i)
+  refused-behind members i lt =
+      either (Refused i) made.unique
+      (repeated_key own_bytes (map (λ m. own_bytes m.0) members) t (string_at whole t i)) None
+      (λ j k h. (repeats-advance t own_bytes (whole_trees false)
+      (trees-advances t nothing_forgiven whole false)).refuses members i j k lt h)
+      (λ j k h. absurd (none-some _ h))
+
+  pub rules_as-advances : Advances (rules_as made p) t
+  rules_as-advances = record {
+    literal = λ l i h. seen-within _ t i (literal_at t l i) (literal_at-within t l i (omega arith));
+    number = λ i h. seen-within _ t i (number_at p.allow_inf_nan t i) (number_at-within p.allow_inf_nan t i h);
+    text = λ i h. seen-within _ t i (string_at (value_form p.mode) t i) (string_at-within (value_form p.mode) t i h);
+    key = λ i h. seen-within _ t i (string_at whole t i) (string_at-within whole t i h);
+    refuses = λ members i j k lt h. refused-behind members i lt j k h;
+  }
+
+  abbrev Made : Reading Tree → Reading Tree
+  Made = reading_as (tree_as made.text)
+
+  if_last-as : (v : Tree) (e j : ℕ) (o : Option ℕ) → if_last (tree_as made.text v) e j o ≡ Made (if_last v e j o)
+  if_last-as v e j None = refl
+  if_last-as v e j (Some c) = refl
+
+  to_end-as : (x : Reading Tree) → to_end t (Made x) ≡ Made (to_end t x)
+  to_end-as (done v e) = if_last-as v e (past_blanks t e) (slice_get t (past_blanks t e))
+  to_end-as (fault k i stop) = refl
+
+  -- the same keys are refused
+  module _ (f : Refusing)
+      (same : (members : List (Text × Tree)) (i : ℕ)
+      → f members t i ≡ refused_as made (pairs made.text (tree_as made.text) members) t i) where
+    made-leads : Leads AllTold (rules_refusing f p) (rules_as made p) made.text (tree_as made.text) t
     made-leads = record {
       forgives = λ k. refl;
       told = λ k h. tt;
-      literal = λ l i lt begins told. seen-made (tree_as made) _ _ (literal_at t l i) (λ u e. literal-as l);
-      number = λ i lt begins told. seen-made (tree_as made) _ _ (number_at p.allow_inf_nan t i) (λ n e. refl);
-      text = λ i quote told. seen-made (tree_as made) _ _ (string_at (value_form p.mode) t i) (λ s e. refl);
-      key = λ i quote told. key-made (string_at whole t i);
-      refuses = λ members i quote. refl;
-      array = λ b e items. ap tree.array (items_as-of items);
-      object = λ b e members. ap tree.object (members_as-of members);
+      literal = λ l i lt begins told.
+          seen-made made.text (tree_as made.text) _ _ (literal_at t l i) (λ u e. literal-as made.text l);
+      number = λ i lt begins told.
+          seen-made made.text (tree_as made.text) _ _ (number_at p.allow_inf_nan t i) (λ n e. refl);
+      text = λ i quote told.
+          seen-made made.text (tree_as made.text) _ _ (string_at (value_form p.mode) t i) (λ s e. refl);
+      key = λ i quote told. key-made made.text (string_at whole t i);
+      refuses = λ members i quote. same members i;
+      array = λ b e items. ap tree.array (items_as-of made.text items);
+      object = λ b e members. ap tree.object (members_as-of made.text members);
     }
 
-    pub value_at-as : (levels i : ℕ)
-        → value_at (rules_as made p) t levels i ≡ reading_as (tree_as made) (value_at (rules p) t levels i)
-    value_at-as levels i =
-        sym (value_at-mapped (rules p) (rules_as made p) made (tree_as made) t made-leads levels i)
-        ∙ mapped-is (value_at (rules p) t levels i)
+    value_at-given : (levels i : ℕ)
+        → value_at (rules_as made p) t levels i ≡ Made (value_at (rules_refusing f p) t levels i)
+    value_at-given levels i =
+        sym (value_at-mapped (rules_refusing f p) (rules_as made p) made.text (tree_as made.text) t made-leads levels i)
+        ∙ mapped-is made.text (value_at (rules_refusing f p) t levels i)
+
+    front-begun : (i : ℕ) (o : Option ℕ)
+        → if_begun (rules_as made p) t i o ≡ Made (if_begun (rules_refusing f p) t i o)
+    front-begun i None = refl
+    front-begun i (Some c) = value_at-given 200 i
+
+    front-given : front_answer (rules_as made p) t ≡ Made (front_answer (rules_refusing f p) t)
+    unfolding front_answer
+    front-given = front-begun (past_blanks t 0) (slice_get t (past_blanks t 0))
+
+    whole-given : whole_answer (rules_as made p) t ≡ Made (whole_answer (rules_refusing f p) t)
+    whole-given =
+        whole-is (rules_as made p) t ∙ ap (to_end t) front-given
+        ∙ to_end-as (front_answer (rules_refusing f p) t)
+        ∙ ap Made (sym (whole-is (rules_refusing f p) t))
+
+    answer-given : answer_as made p t ≡ Made (answer_with p.mode (rules_refusing f p) t)
+    answer-given =
+        if_both (λ x y. x ≡ Made y) (is_active p.mode) (front_answer (rules_as made p) t)
+        (whole_answer (rules_as made p) t) (front_answer (rules_refusing f p) t)
+        (whole_answer (rules_refusing f p) t) (λ on. front-given) (λ off. whole-given)
+
+-- Where repeated keys are kept,
+abbrev none_refused : Refusing
+none_refused members t i = None
+
+module _ (made : Keeping) (off : made.unique ≡ false) (p : Settings) (t : List ℕ) where
+  none-same : (members : List (Text × Tree)) (i : ℕ) → none_refused members t i ≡ refused_as made members t i
+  none-same members i = rw off refl
+
+  pub value_at-as : (levels i : ℕ)
+      → value_at (rules_as made p) t levels i ≡ reading_as (tree_as made.text) (value_at (rules p) t levels i)
+  value_at-as levels i =
+      value_at-given made p t none_refused
+      (λ members i. none-same (pairs made.text (tree_as made.text) members) i) levels i
+
+  pub answer_as-kept : answer_as made p t ≡ reading_as (tree_as made.text) (answer_with p.mode (rules p) t)
+  answer_as-kept =
+      answer-given made p t none_refused (λ members i. none-same (pairs made.text (tree_as made.text) members) i)
+
+answer_with-in : (names : Bool) (mode : PartialMode) (t : List ℕ)
+    → answer_with mode (rules (record { allow_inf_nan = names; mode = mode })) t ≡ answer_in names mode t
+answer_with-in names Off t = refl
+answer_with-in names On t = refl
+answer_with-in names TrailingStrings t = refl
+
+pub answer_as-is : (made : Keeping) → made.unique ≡ false → (p : Settings) (t : List ℕ)
+    → answer_as made p t ≡ reading_as (tree_as made.text) (answer_by p t)
+answer_as-is made off p t =
+    answer_as-kept made off p t ∙ ap (reading_as (tree_as made.text)) (answer_with-in p.allow_inf_nan p.mode t)
+
+-- and where they are refused.
+abbrev repeats_refused : Refusing
+repeats_refused members t i = repeated_key own_bytes (map (λ m. own_bytes m.0) members) t (string_at whole t i)
+
+keys-same : (members : List (Text × Tree))
+    → map (λ m. own_bytes m.0) members ≡ map (λ m. own_bytes m.0) (pairs as_it_is (tree_as as_it_is) members)
+keys-same [] = refl
+keys-same (m ∷ ms) = ap (λ ks. own_bytes m.0 ∷ ks) (keys-same ms)
+
+unique-same : (t : List ℕ) (members : List (Text × Tree)) (i : ℕ)
+    → repeats_refused members t i ≡ refused_as lent_unique (pairs as_it_is (tree_as as_it_is) members) t i
+unique-same t members i = ap (λ ks. repeated_key own_bytes ks t (string_at whole t i)) (keys-same members)
+
+unique_with-in : (names : Bool) (mode : PartialMode) (t : List ℕ)
+    → answer_with mode (rules_refusing repeats_refused (record { allow_inf_nan = names; mode = mode })) t
+    ≡ unique_answer_in names mode t
+unique_with-in names Off t = refl
+unique_with-in names On t = refl
+unique_with-in names TrailingStrings t = refl
 
 -- texts that are lent as they lie
 abbrev mutual
@@ -103,5 +232,13 @@ reading_as-it_is (done v e) = ap (λ w. done w e) (tree_as-it_is v)
 reading_as-it_is (fault k i stop) = refl
 
 pub value_at-it_is : (p : Settings) (t : List ℕ) (levels i : ℕ)
-    → value_at (rules_as as_it_is p) t levels i ≡ value_at (rules p) t levels i
-value_at-it_is p t levels i = value_at-as as_it_is p t levels i ∙ reading_as-it_is (value_at (rules p) t levels i)
+    → value_at (rules_as lent p) t levels i ≡ value_at (rules p) t levels i
+value_at-it_is p t levels i = value_at-as lent refl p t levels i ∙ reading_as-it_is (value_at (rules p) t levels i)
+
+-- What a text answers where repeated keys are refused.
+pub answer_as-unique : (p : Settings) (t : List ℕ)
+    → answer_as lent_unique p t ≡ unique_answer_in p.allow_inf_nan p.mode t
+answer_as-unique p t =
+    answer-given lent_unique p t repeats_refused (unique-same t)
+    ∙ reading_as-it_is (answer_with p.mode (rules_refusing repeats_refused p) t)
+    ∙ unique_with-in p.allow_inf_nan p.mode t

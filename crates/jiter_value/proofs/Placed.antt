@@ -20,9 +20,9 @@ use Rattle.jiter_steps.specs.declared.parse.Literal.{Literal}
 use Rattle.jiter_steps.specs.declared.parse.Start.{Start}
 use Rattle.jiter_steps.specs.declared.parse.Start.TheVariants as start
 use Rattle.jiter_value.specs.Owned.{tree_as}
-use Rattle.jiter_value.specs.Settings.{rules_as}
+use Rattle.jiter_value.specs.Settings.{Keeping, rules_as}
 use Rattle.jiter_value.specs.Size.{size, value_size, behind_size}
-use Rattle.jiter_value.specs.Stacks.{Member, resume_with, behind, Stands, StandsAtKey}
+use Rattle.jiter_value.specs.Stacks.{Member, resume_with, behind, Stands, StandsAtKey, IsFree}
 use Rattle.jiter_value.specs.Turns.{IsPutAt, IsKeyAt}
 use Rattle.jiter_value.specs.Value.{view}
 use Rattle.jiter_value.specs.declared.settings.Settings.{Settings}
@@ -36,7 +36,7 @@ use Rattle.jiter_steps.specs.StringDecoder.{text_view}
 use Rattle.jiter_value.proofs.StackTurns.{value-read, key-opens, key-above}
 use Rattle.jiter_value.proofs.Sizes.{key-size}
 
-module _ (made : Text → Text) (p : Settings) (t : List ℕ) (i e levels : ℕ) where
+module _ (made : Keeping) (p : Settings) (t : List ℕ) (i e levels : ℕ) where
   begins : (s : Start) → start_of (slice_index t i) ≡ s
       → value_at (rules_as made p) t levels i ≡ value_with (rules_as made p) (inside_at (rules_as made p) t levels) t
       i s
@@ -44,15 +44,16 @@ module _ (made : Text → Text) (p : Settings) (t : List ℕ) (i e levels : ℕ)
 
   pub text-read : (s : Text) → start_of (slice_index t i) ≡ start.String
       → ((keep : Bool) → string_at (text_form keep) t i ≡ taken s e) → value_at (rules_as made p) t levels i ≡ done
-      (string (made s)) e
+      (string (made.text s)) e
   text-read s h is =
       begins start.String h
-      ∙ ap (λ x. scalar_at i (seen_as (λ s e. string (made s)) x)) (is (allows_trailing_strings p.mode))
+      ∙ ap (λ x. scalar_at i (seen_as (λ s e. string (made.text s)) x)) (is (allows_trailing_strings p.mode))
 
   pub number-read : (n : Number) → start_of (slice_index t i) ≡ start.Number
       → number_at p.allow_inf_nan t i ≡ taken n e → value_at (rules_as made p) t levels i ≡ done
-      (tree_as made (number_tree n)) e
-  number-read n h is = begins start.Number h ∙ ap (λ x. scalar_at i (seen_as (λ n e. tree_as made (number_tree n)) x))
+      (tree_as made.text (number_tree n)) e
+  number-read n h is = begins start.Number h
+      ∙ ap (λ x. scalar_at i (seen_as (λ n e. tree_as made.text (number_tree n)) x))
       is
 
   pub literal-read : (l : Literal) → start_of (slice_index t i) ≡ start.Literal l → literal_at t l i ≡ taken tt e
@@ -60,9 +61,9 @@ module _ (made : Text → Text) (p : Settings) (t : List ℕ) (i e levels : ℕ)
   literal-read l h is = begins (start.Literal l) h ∙ ap (λ x. scalar_at i (seen_as (λ u e. literal_tree l) x)) is
 
 -- a scalar that was read so, and put so
-module _ {made : Text → Text} {t : List ℕ} {old new : Stacks} {a : Slot} {i e : ℕ} (v : JsonValue) (x : Tree) where
+module _ {made : Keeping} {t : List ℕ} {old new : Stacks} {a : Slot} {i e : ℕ} (v : JsonValue) (x : Tree) where
   pub put-at : view v ≡ x → Stands old a → length old.nest.items ≤ 200
-      → ((made : Text → Text) (p : Settings) (u : List ℕ) (j : ℕ)
+      → ((made : Keeping) (p : Settings) (u : List ℕ) (j : ℕ)
       → resume_with made p u old a (done (view v) j) ≡ behind made p u new a j)
       → Stands new a → new.nest ≡ old.nest → behind_size new a ≡ value_size old a + size (view v) → size x ≡ 1
       → i < e → e ≤ length t → ((p : Settings) (levels : ℕ) → value_at (rules_as made p) t levels i ≡ done x e)
@@ -97,16 +98,17 @@ module _ (t : List ℕ) (names : Bool) (i e : ℕ) where
   short-signed_float j (inr (next, minus)) s = plain-negative_float t names e i minus (rw next at s)
 
 -- a key that was read so, kept so and put so
-pub key-at : (made : Text → Text) (t : List ℕ) (s : Stacks) (ms : Vec Member Global) (i e j : ℕ) (k : Text)
-    (kept : CowStr Global) (v : JsonValue) → StandsAtKey s → i < length t → scalar_at i (string_at whole t i) ≡ done k e
-    → text_view kept ≡ made k → object_colon t e ≡ taken tt j → ms.items ≡ s.members.items ++ (kept, v) ∷ []
+pub key-at : (made : Keeping) (t : List ℕ) (s : Stacks) (ms : Vec Member Global) (i e j : ℕ) (k : Text)
+    (kept : CowStr Global) (v : JsonValue) → StandsAtKey s → IsFree made t s i → i < length t
+    → scalar_at i (string_at whole t i) ≡ done k e
+    → text_view kept ≡ made.text k → object_colon t e ≡ taken tt j → ms.items ≡ s.members.items ++ (kept, v) ∷ []
     → i < j → j < length t → IsKeyAt made t s i (record
     { items = s.items; members = ms; nest = s.nest; root = s.root; error = s.error; reused = s.reused }) j
-key-at made t s ms i e j k kept v b inside read is colon pushed ahead within =
+key-at made t s ms i e j k kept v b free inside read is colon pushed ahead within =
     let os = reverse s.nest.items in
     let es = s.items.items in
     record {
-      value = λ p. rw pushed (key-opens made p t os es s.members.items i k kept v e j b inside read is colon);
+      value = λ p. rw pushed (key-opens made p t os es s.members.items i k kept v e j b free inside read is colon);
       stands = rw pushed (key-above os (length es) s.members.items (kept, v) b);
       nest = refl;
       held = rw pushed (key-size os es s.members.items (kept, v) b);

@@ -11,10 +11,10 @@ use Rattle.jiter_steps.specs.Literal.{start_of}
 use Rattle.jiter_steps.specs.Step.{container_first, opening}
 use Rattle.jiter_steps.specs.Read.{Reading, fault}
 use Rattle.jiter_steps.specs.Step.{more, step, array_first}
-use Rattle.jiter_steps.specs.Tree.{Text, Tree}
+use Rattle.jiter_steps.specs.Tree.{Tree}
 use Rattle.jiter_steps.specs.declared.parse.Shape.{Shape}
 use Rattle.jiter_steps.specs.declared.parse.Shape.TheVariants as shape
-use Rattle.jiter_value.specs.Settings.{forgives, rules_as}
+use Rattle.jiter_value.specs.Settings.{Keeping, forgives, rules_as}
 use Rattle.jiter_value.specs.Stacks.{from_value, Stands}
 use Rattle.jiter_value.specs.Stacks.{StandsInside, HavePartBase, frames, parts_above, frames_below, member_view}
 use Rattle.jiter_value.specs.Stacks.{slot_in, base_of, part_of}
@@ -28,7 +28,7 @@ use Rattle.jiter_value.specs.declared.stacks.Stacks.{Stacks}
 use Rattle.jiter_value.proofs.StackTurns.{begins, next-part, part_in, container_of, key-base, limit-reached}
 
 -- A part begins; an object's key may stand one deeper than an array's item.
-pub reaches-part : (made : Text → Text) (p : Settings) (t : List ℕ) (s : Stacks) (h : Shape) (j : ℕ) (x : Reading Tree)
+pub reaches-part : (made : Keeping) (p : Settings) (t : List ℕ) (s : Stacks) (h : Shape) (j : ℕ) (x : Reading Tree)
     → x ≡ part_in made p t h (reverse s.nest.items) s.items.items s.members.items j → StandsInside h s
     → (h ≡ shape.Array → length s.nest.items ≤ 200) → length s.nest.items ≤ 201 → j < length t
     → Reaches made p t s j (outcome s (part_of h)) x
@@ -67,7 +67,7 @@ turned : (s : Stacks) (a : Slot) (h : Shape) (n : SmallVec Open) → n.items ≡
     → reverse n.items ≡ opened s a h ∷ reverse s.nest.items
 turned s a h n pushed = ap reverse pushed ∙ reverse-append s.nest.items (opened s a h ∷ [])
 
-module _ (made : Text → Text) (p : Settings) (t : List ℕ) (s : Stacks) (a : Slot) (b : Stands s a)
+module _ (made : Keeping) (p : Settings) (t : List ℕ) (s : Stacks) (a : Slot) (b : Stands s a)
     (few : length s.nest.items ≤ 200)
     (i : ℕ) where
   -- a container begins with a part

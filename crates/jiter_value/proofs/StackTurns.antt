@@ -1,7 +1,7 @@
 -- The turns of the machine, over its stacks.
 use Rattle.std.proofs.Common.{◌≡◌, ℕ, suc, ◌+◌, ◌-◌, ◌<◌, ◌≤◌, true, false, cond, List, [], ◌∷◌, ◌++◌, length, take}
 use Rattle.std.proofs.Common.{drop, map, get_or, refl, sym, ap, ap₂, ◌∙◌, arith, length-append}
-use Rattle.std.specs.Prelude.{reverse, slice_set, slice_index}
+use Rattle.std.specs.Prelude.{reverse, slice_set, slice_index, None}
 use Rattle.std.specs.declared.alloc.Global.{Global}
 use Rattle.std.specs.declared.borrow.CowStr.{CowStr}
 use Rattle.std.proofs.Math.Seq.{set-append_seam, get_or-append_seam}
@@ -29,9 +29,10 @@ use Rattle.jiter_steps.proofs.Calls.Resumed.{IgnoresBegin, value_in-levels, valu
 use Rattle.jiter_steps.proofs.Calls.Resumed.{resume-fault}
 use Rattle.jiter_steps.proofs.Calls.Resumed.{resume-forgiven, step-to, step-stuck, items-value, key-value, key-failed}
 use Rattle.jiter_steps.proofs.Calls.Resumed.{colon-failed, container-begins}
-use Rattle.jiter_value.specs.Settings.{forgives, rules_as}
+use Rattle.jiter_value.specs.Settings.{Keeping, forgives, rules_as}
 use Rattle.jiter_value.specs.Stacks.{Member, member_view, last_key_of, last_key, but_last, frames, PartTree, built}
 use Rattle.jiter_value.specs.Stacks.{parts_above, frames_below, HaveBases, HaveKeyBase, key_in, key_fault_in}
+use Rattle.jiter_value.specs.Stacks.{refused_in}
 use Rattle.jiter_value.specs.Stacks.{behind_in, container_in, slot_in, empty_tree, Stands}
 use Rattle.jiter_value.specs.Turns.{Fails, IsResolved}
 use Rattle.jiter_value.specs.Value.{view}
@@ -126,7 +127,7 @@ scalar-failed : {A : Type 0} (i : ℕ) (x : Scanned A) (k : Kind) (j stop : ℕ)
 scalar-failed i (taken b d) k j stop h = absurd (cc)
 scalar-failed i (failed l m) k j stop h = (cc, cc)
 
-module _ (made : Text → Text) (p : Settings) (t : List ℕ) where
+module _ (made : Keeping) (p : Settings) (t : List ℕ) where
   good : Advances (rules_as made p) t
   good = rules_as-advances made p t
 
@@ -319,48 +320,51 @@ module _ (made : Text → Text) (p : Settings) (t : List ℕ) where
 
   -- A key begins: what is made of it awaits its value,
   pub key-begins : (os : List Open) (es : List JsonValue) (ms : List Member) (j : ℕ) (k : Text) (e m : ℕ)
-      → HaveKeyBase os (length es) (length ms) → j < length t
+      → HaveKeyBase os (length es) (length ms) → refused_in made t os ms j ≡ None → j < length t
       → scalar_at j (string_at whole t j) ≡ done k e → object_colon t e ≡ taken tt m
-      → key_in made p t os es ms j ≡ value_from (rules_as made p) t (frames_at_key (made k) os es ms) m
-  key-begins [] es ms j k e m b h v s = absurd b
-  key-begins (o ∷ os) es ms j k e m b h v s =
+      → key_in made p t os es ms j ≡ value_from (rules_as made p) t (frames_at_key (made.text k) os es ms) m
+  key-begins [] es ms j k e m b free h v s = absurd b
+  key-begins (o ∷ os) es ms j k e m b free h v s =
       key-value (rules_as made p) t good (frames o.outer os es (take o.base ms)) (map member_view (drop o.base ms)) j
       e m
-      (made k) h refl (ap (seen_as (λ s e. made s)) (scalar-taken j (string_at whole t j) k e v)) s
+      (made.text k) h free (ap (seen_as (λ s e. made.text s)) (scalar-taken j (string_at whole t j) k e v)) s
 
   -- and is the last member's.
   pub key-opens : (os : List Open) (es : List JsonValue) (ms : List Member) (j : ℕ) (k : Text) (kept : CowStr Global)
-      (v : JsonValue) (e m : ℕ) → HaveKeyBase os (length es) (length ms) → j < length t
-      → scalar_at j (string_at whole t j) ≡ done k e → text_view kept ≡ made k → object_colon t e ≡ taken tt m
+      (v : JsonValue) (e m : ℕ) → HaveKeyBase os (length es) (length ms) → refused_in made t os ms j ≡ None
+      → j < length t
+      → scalar_at j (string_at whole t j) ≡ done k e → text_view kept ≡ made.text k → object_colon t e ≡ taken tt m
       → key_in made p t os es ms j
       ≡ value_from (rules_as made p) t (frames slot.Member os es (ms ++ (kept, v) ∷ [])) m
-  key-opens [] es ms j k kept v e m b h read is s = absurd b
-  key-opens (o ∷ os) es ms j k kept v e m b h read is s =
-      key-begins (o ∷ os) es ms j k e m b h read s
+  key-opens [] es ms j k kept v e m b free h read is s = absurd b
+  key-opens (o ∷ os) es ms j k kept v e m b free h read is s =
+      key-begins (o ∷ os) es ms j k e m b free h read s
       ∙ ap (λ x. value_from (rules_as made p) t (frames_at_key x (o ∷ os) es ms) m) (sym is)
       ∙ ap (λ fs. value_from (rules_as made p) t fs m) (sym (value-frames o os es ms (kept, v) b.0))
 
   -- a fault of the key, and of its colon
   pub key-fails : (os : List Open) (es : List JsonValue) (ms : List Member) (j : ℕ) (k : Kind) (x stop : ℕ)
-      → HaveKeyBase os (length es) (length ms) → j < length t → scalar_at j (string_at whole t j) ≡ fault k x stop
+      → HaveKeyBase os (length es) (length ms) → refused_in made t os ms j ≡ None → j < length t
+      → scalar_at j (string_at whole t j) ≡ fault k x stop
       → key_in made p t os es ms j ≡ key_fault_in made p t os es ms k x stop
-  key-fails [] es ms j k x stop b h v = absurd b
-  key-fails (o ∷ os) es ms j k x stop b h v =
+  key-fails [] es ms j k x stop b free h v = absurd b
+  key-fails (o ∷ os) es ms j k x stop b free h v =
       let key = scalar-failed j (string_at whole t j) k x stop v in
       rw key.1
       (key-failed (rules_as made p) t good (frames o.outer os es (take o.base ms)) (map member_view (drop o.base ms))
-      j x k h refl
-      (ap (seen_as (λ s e. made s)) key.0))
+      j x k h free
+      (ap (seen_as (λ s e. made.text s)) key.0))
 
   pub colon-fails : (os : List Open) (es : List JsonValue) (ms : List Member) (j : ℕ) (key : Text) (e x stop : ℕ)
-      (k : Kind) → HaveKeyBase os (length es) (length ms) → j < length t
+      (k : Kind) → HaveKeyBase os (length es) (length ms) → refused_in made t os ms j ≡ None → j < length t
       → scalar_at j (string_at whole t j) ≡ done key e → (object_colon t e ≡ failed k x) × (stop ≡ x)
       → key_in made p t os es ms j ≡ key_fault_in made p t os es ms k x stop
-  colon-fails [] es ms j key e x stop k b h v s = absurd b
-  colon-fails (o ∷ os) es ms j key e x stop k b h v s =
+  colon-fails [] es ms j key e x stop k b free h v s = absurd b
+  colon-fails (o ∷ os) es ms j key e x stop k b free h v s =
       colon-failed (rules_as made p) t good (frames o.outer os es (take o.base ms)) (map member_view (drop o.base ms))
       j e x
-      (made key) k h refl (ap (seen_as (λ s e. made s)) (scalar-taken j (string_at whole t j) key e v)) s.0 ∙ ap
+      (made.text key) k h free (ap (seen_as (λ s e. made.text s)) (scalar-taken j
+      (string_at whole t j) key e v)) s.0 ∙ ap
       (key_fault_in made p t (o ∷ os) es ms k x) (sym s.1)
 
   pub key-kept : (os : List Open) (es : List JsonValue) (ms : List Member) (k : Kind) (x stop : ℕ)
@@ -372,6 +376,12 @@ module _ (made : Text → Text) (p : Settings) (t : List ℕ) where
       (if_forgiven-no (rules_as made p) t (λ e. (rules_as made p).object 0 e (map member_view (drop o.base ms))) k x
       stop bad)
       ∙ resume-fault (rules_as made p) t fs k x stop bad
+
+-- No key is refused where repeated ones are kept.
+pub free-kept : (made : Keeping) (t : List ℕ) (os : List Open) (ms : List Member) (j : ℕ) → made.unique ≡ false
+    → refused_in made t os ms j ≡ None
+free-kept made t [] ms j off = refl
+free-kept made t (o ∷ os) ms j off = rw off refl
 
 -- a value that is there needs no key any more
 pub key-base : (os : List Open) (n m : ℕ) → HaveBases slot.Member os n m → HaveKeyBase os n m
@@ -390,7 +400,7 @@ pub root-stands : (nest : List Open) (es : List JsonValue) (ms : List Member) �
 root-stands nest es ms a b c =
     rw (a, b, c) (refl, refl)
 
-pub root-from : (made : Text → Text) (p : Settings) (t : List ℕ) (os : List Open) (es : List JsonValue)
+pub root-from : (made : Keeping) (p : Settings) (t : List ℕ) (os : List Open) (es : List JsonValue)
     (ms : List Member) (n m i : ℕ)
     → HaveBases slot.Root os n m
     → value_at (rules_as made p) t 200 i ≡ value_from (rules_as made p) t (frames slot.Root os es ms) i

@@ -7,7 +7,8 @@ use Rattle.jiter_steps.specs.declared.read_error.ReadError.{ReadError}
 use Rattle.jiter_steps.specs.declared.read_error.ReadError.TheVariants as error
 use Rattle.jiter_steps.specs.ReadError.{WhereRefused}
 use Rattle.jiter_steps.specs.Read.{Reading}
-use Rattle.jiter_steps.specs.Tree.{Text, Tree}
+use Rattle.jiter_steps.specs.Tree.{Tree}
+use Rattle.jiter_value.specs.Settings.{Keeping}
 use Rattle.jiter_value.specs.Turns.{Proceeds, MayGrowFor, outcome}
 use Rattle.jiter_value.specs.Value.{BeginsContainer, MayGrowAt, MayGrowBy}
 use Rattle.jiter_value.specs.declared.settings.Settings.{Settings}
@@ -16,7 +17,7 @@ use Rattle.jiter_value.specs.declared.stacks.State.{State}
 use Rattle.jiter_value.specs.declared.stacks.State.TheVariants as state
 
 -- from a place before it, with more that is left and more that may be held
-pub leads-weaker : {made : Text → Text} {p : Settings} {t : List ℕ} {i j l m h n : ℕ} {x y : Reading Tree}
+pub leads-weaker : {made : Keeping} {p : Settings} {t : List ℕ} {i j l m h n : ℕ} {x y : Reading Tree}
     {s : Stacks} {r : ℕ × State}
     → Proceeds made p t j m n y s r → i ≤ j → m ≤ l → n ≤ h → x ≡ y → Proceeds made p t i l h x s r
 leads-weaker {s = s} {r = r} a forward more room is =

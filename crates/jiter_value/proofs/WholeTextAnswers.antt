@@ -4,16 +4,17 @@ use Rattle.std.proofs.Common.{arith}
 use Rattle.std.proofs.lemmas.List.{length-reverse}
 use Rattle.std.specs.Prelude.{reverse, slice_get, Option, Some, None, Err, if◌then◌else◌}
 use Rattle.jiter_scan.specs.Kind.{Kind, fault_kind}
-use Rattle.jiter_scan.proofs.Choices.{if_case, if-true, if-false}
+use Rattle.jiter_scan.proofs.Choices.{if_case, if_both, if-true, if-false}
 use Rattle.jiter_scan.specs.PartialMode.{is_active}
 use Rattle.jiter_scan.specs.Scanned.{taken, failed}
 use Rattle.jiter_scan.specs.declared.errors.JsonError.{JsonError}
 use Rattle.jiter_scan.specs.declared.partial_mode.PartialMode.{PartialMode}
 use Rattle.jiter_scan.specs.declared.partial_mode.PartialMode.TheVariants.{Off, On, TrailingStrings}
-use Rattle.jiter_steps.specs.Answer.{trees, value_form, answer_in}
+use Rattle.jiter_steps.specs.Answer.{answer_in}
 use Rattle.jiter_steps.specs.Blank.{past_blanks}
 use Rattle.jiter_steps.specs.Parse.{Gives}
 use Rattle.jiter_steps.specs.Read.{Reading, done, fault, Rules, value_at, if_begun, if_last, to_end, front_answer}
+use Rattle.jiter_steps.specs.Read.{whole_answer}
 use Rattle.jiter_steps.specs.ReadError.{WhereRefused}
 use Rattle.jiter_steps.specs.Step.{step, value_first, document_end}
 use Rattle.jiter_steps.specs.Tree.{Text, Tree}
@@ -22,9 +23,8 @@ use Rattle.jiter_steps.specs.declared.read_error.ReadError.TheVariants as error
 use Rattle.jiter_steps.proofs.Reading.WholeTexts.{front-begins, whole-is}
 use Rattle.jiter_steps.proofs.Reading.Bounds.{Within}
 use Rattle.jiter_steps.proofs.Reading.Instances.{answer-within, partial_answer-within}
-use Rattle.jiter_value.specs.Owned.{as_it_is}
 use Rattle.jiter_value.specs.Reading.{GivesWhole, IsErrorOf}
-use Rattle.jiter_value.specs.Settings.{forgives, rules, answer_by}
+use Rattle.jiter_value.specs.Settings.{lent, answer_with}
 use Rattle.jiter_value.specs.Value.{view, Answers, MayGrowAt, MayGrowBy, MayGrow}
 use Rattle.jiter_value.specs.Machine.{HasBegun}
 use Rattle.jiter_value.specs.Size.{held, held_in}
@@ -67,61 +67,62 @@ something-left : (a : Tree) (e i j : ℕ) (k : Kind) (o : Option ℕ) → docume
 something-left a e i j k None h = absurd (cc)
 something-left a e i j k (Some c) h = cc
 
-module _ (names : Bool) (t : List ℕ) where
-  answer_in-is : (mode : PartialMode) (x : Reading Tree)
-      → front_answer (trees (forgives mode) (value_form mode) names) t ≡ x
-      → answer_in names mode t ≡ (if is_active mode then x else to_end t x)
-  answer_in-is Off x is = whole-is (trees (forgives Off) (value_form Off) names) t ∙ ap (to_end t) is
-  answer_in-is On x is = is
-  answer_in-is TrailingStrings x is = is
+-- an answer stays within the text, in every mode
+pub answer_in-within : (names : Bool) (t : List ℕ) (mode : PartialMode) → Within t 0 (answer_in names mode t)
+answer_in-within names t Off = answer-within t names
+answer_in-within names t On = partial_answer-within t names On
+answer_in-within names t TrailingStrings = partial_answer-within t names TrailingStrings
 
-  -- an answer stays within the text, in every mode
-  pub answer_in-within : (mode : PartialMode) → Within t 0 (answer_in names mode t)
-  answer_in-within Off = answer-within t names
-  answer_in-within On = partial_answer-within t names On
-  answer_in-within TrailingStrings = partial_answer-within t names TrailingStrings
+-- by any rules
+module _ (r : Rules Text Tree) (mode : PartialMode) (t : List ℕ) where
+  answer-is : (x : Reading Tree) → front_answer r t ≡ x
+      → answer_with mode r t ≡ (if is_active mode then x else to_end t x)
+  answer-is x is =
+      if_both (λ x y. x ≡ y) (is_active mode) (front_answer r t) (whole_answer r t) x (to_end t x) (λ on. is)
+      (λ off. whole-is r t ∙ ap (to_end t) is)
 
-module _ (p : Settings) (t : List ℕ) where
-  fault-is : (k : Kind) (x i : ℕ) → front_answer (rules p) t ≡ fault k x i → answer_by p t ≡ fault k x i
+  fault-is : (k : Kind) (x i : ℕ) → front_answer r t ≡ fault k x i → answer_with mode r t ≡ fault k x i
   fault-is k x i is =
-      answer_in-is p.allow_inf_nan t p.mode (fault k x i) is
-      ∙ if_case (λ y. y ≡ fault k x i) (is_active p.mode) _ _ (λ on. refl) (λ off. refl)
+      answer-is (fault k x i) is ∙ if_case (λ y. y ≡ fault k x i) (is_active mode) _ _ (λ on. refl) (λ off. refl)
 
   -- where no value begins
-  pub answer_by-none : (k : Kind) (x i : ℕ) → (step t value_first 0 ≡ failed k x) × (i ≡ x)
-      → answer_by p t ≡ fault k x i
-  answer_by-none k x i h = fault-is k x i (front-none (rules p) t k x h.0 ∙ ap (fault k x) (sym h.1))
+  pub answer-none : (k : Kind) (x i : ℕ) → (step t value_first 0 ≡ failed k x) × (i ≡ x)
+      → answer_with mode r t ≡ fault k x i
+  answer-none k x i h = fault-is k x i (front-none r t k x h.0 ∙ ap (fault k x) (sym h.1))
 
   module _ (begun : past_blanks t 0 < length t) where
     abbrev pub value_here : Reading Tree
-    value_here = value_at (rules p) t 200 (past_blanks t 0)
+    value_here = value_at r t 200 (past_blanks t 0)
 
-    begins : front_answer (rules p) t ≡ value_here
-    begins = front-begins (rules p) t (past_blanks t 0) refl begun
+    begins : front_answer r t ≡ value_here
+    begins = front-begins r t (past_blanks t 0) refl begun
 
     -- where the value is refused
-    pub answer_by-refused : (e : ReadError) (j : ℕ) → Gives view (Err e) j value_here
-        → GivesWhole (Err e) j (answer_by p t)
-    answer_by-refused (error.Memory m) j h = tt
-    answer_by-refused (error.Fault f) j h = fault-is (fault_kind f.kind) f.index j (begins ∙ h)
+    pub answer-fault : (k : Kind) (x i : ℕ) → value_here ≡ fault k x i → answer_with mode r t ≡ fault k x i
+    answer-fault k x i h = fault-is k x i (begins ∙ h)
+
+    pub answer-refused : (e : ReadError) (j : ℕ) → Gives view (Err e) j value_here
+        → GivesWhole (Err e) j (answer_with mode r t)
+    answer-refused (error.Memory m) j h = tt
+    answer-refused (error.Fault f) j h = answer-fault (fault_kind f.kind) f.index j h
 
     module _ (v : Tree) (e : ℕ) (is : value_here ≡ done v e) where
-      value-is : answer_by p t ≡ (if is_active p.mode then done v e else to_end t (done v e))
-      value-is = answer_in-is p.allow_inf_nan t p.mode (done v e) (begins ∙ is)
+      value-is : answer_with mode r t ≡ (if is_active mode then done v e else to_end t (done v e))
+      value-is = answer-is (done v e) (begins ∙ is)
 
-      pub answer_by-front : is_active p.mode ≡ true → answer_by p t ≡ done v e
-      answer_by-front on = value-is ∙ if-true (is_active p.mode) (done v e) (to_end t (done v e)) on
+      pub answer-front : is_active mode ≡ true → answer_with mode r t ≡ done v e
+      answer-front on = value-is ∙ if-true (is_active mode) (done v e) (to_end t (done v e)) on
 
-      whole-value : is_active p.mode ≡ false → answer_by p t ≡ to_end t (done v e)
-      whole-value off = value-is ∙ if-false (is_active p.mode) (done v e) (to_end t (done v e)) off
+      whole-value : is_active mode ≡ false → answer_with mode r t ≡ to_end t (done v e)
+      whole-value off = value-is ∙ if-false (is_active mode) (done v e) (to_end t (done v e)) off
 
-      pub answer_by-end : (j : ℕ) → is_active p.mode ≡ false → step t document_end e ≡ taken tt j
-          → answer_by p t ≡ done v e
-      answer_by-end j off h = whole-value off ∙ nothing-left v e j (past_blanks t e) (slice_get t (past_blanks t e)) h
+      pub answer-end : (j : ℕ) → is_active mode ≡ false → step t document_end e ≡ taken tt j
+          → answer_with mode r t ≡ done v e
+      answer-end j off h = whole-value off ∙ nothing-left v e j (past_blanks t e) (slice_get t (past_blanks t e)) h
 
-      pub answer_by-trailing : (k : Kind) (x j : ℕ) → is_active p.mode ≡ false
-          → (step t document_end e ≡ failed k x) × (j ≡ x) → answer_by p t ≡ fault k x j
-      answer_by-trailing k x j off h =
+      pub answer-trailing : (k : Kind) (x j : ℕ) → is_active mode ≡ false
+          → (step t document_end e ≡ failed k x) × (j ≡ x) → answer_with mode r t ≡ fault k x j
+      answer-trailing k x j off h =
           whole-value off ∙ something-left v e x (past_blanks t e) k (slice_get t (past_blanks t e)) h.0
           ∙ ap (fault k x) (sym h.1)
 
@@ -145,7 +146,7 @@ begins-at-value p t s i b h lt =
     let none : length s.nest.items ≡ 0 = sym (length-reverse s.nest.items)
     ∙ root-alone os (length s.items.items) (length s.members.items) b in
     record {
-      value = rw at (root-from as_it_is p t os s.items.items s.members.items (length s.items.items)
+      value = rw at (root-from lent p t os s.items.items s.members.items (length s.items.items)
           (length s.members.items) i b);
       within = (b, omega (arith, none), lt);
       goes_on = λ e. cc;

@@ -46,11 +46,12 @@ abbrev pub item_at : ℕ → Tree → Option Tree
 item_at i (array is) = item_of i is
 item_at i v = None
 
--- the value of the last member of this name; with none, what those before it gave
-abbrev pub last_named : List ℕ → Option Tree → Members → Option Tree
-last_named name found no_members = found
-last_named name found (member k v ms) = last_named name (if bytes_eq k.bytes name then Some v else found) ms
+-- the value of the last member whose name passes the test; with none, what those before it gave
+abbrev pub last_such : (List ℕ → Bool) → Option Tree → Members → Option Tree
+last_such test found no_members = found
+last_such test found (member k v ms) = last_such test (if test k.bytes then Some v else found) ms
 
+-- the value of the last member of this name
 abbrev pub member_named : List ℕ → Tree → Option Tree
-member_named name (object ms) = last_named name None ms
+member_named name (object ms) = last_such (λ key. bytes_eq key name) None ms
 member_named name v = None

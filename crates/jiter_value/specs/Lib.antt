@@ -1,4 +1,6 @@
+pub mod NumberText
 pub mod Access
+pub mod UniqueKeys
 pub mod Value
 pub mod Settings
 pub mod Stacks
@@ -9,7 +11,10 @@ pub mod Parses
 pub mod Machine
 pub mod TurnsTo
 pub mod Owned
+pub mod Pointer
 pub mod Texts
 pub mod Scratch
 pub mod Equality
+pub mod Spine
 pub mod ValueCode
+pub mod KeySets

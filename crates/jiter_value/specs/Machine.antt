@@ -4,8 +4,7 @@ use Rattle.jiter_steps.specs.Blank.{past_blanks}
 use Rattle.jiter_steps.specs.Node.{nesting_limit}
 use Rattle.jiter_steps.specs.Read.{value_at}
 use Rattle.jiter_steps.specs.declared.parse.Parser.{Parser}
-use Rattle.jiter_value.specs.Owned.{as_it_is}
-use Rattle.jiter_value.specs.Settings.{rules_as}
+use Rattle.jiter_value.specs.Settings.{lent, rules_as}
 use Rattle.jiter_value.specs.Size.{held_in, left_at}
 use Rattle.jiter_value.specs.Stacks.{Member, meaning, Stands}
 use Rattle.jiter_value.specs.Turns.{IsWithin}
@@ -55,7 +54,7 @@ held m = held_in m.state (reverse m.nest) m.elements m.members 0
 -- The reading has begun: what is held and what is left of the text are its value, which is not whole yet. Unless it is
 -- still to be read from its first byte, it may want memory.
 pub record HasBegun (t : List ℕ) (p : Settings) (i : ℕ) (a : State) (s : Stacks) : Type 0 where
-  pub value : value_at (rules_as as_it_is p) t nesting_limit (past_blanks t 0) ≡ meaning as_it_is p t s a i
+  pub value : value_at (rules_as lent p) t nesting_limit (past_blanks t 0) ≡ meaning lent p t s a i
   pub within : IsWithin t s a i
   pub goes_on : a ≢ state.Done
   pub begins : past_blanks t 0 < length t

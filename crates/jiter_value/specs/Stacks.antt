@@ -1,9 +1,11 @@
 -- What the two stacks hold, and what the rest of a text completes them to, where each text that is read is made so.
-use Rattle.std.specs.Prelude.{◌≡◌, ℕ, ◌-◌, ◌≤◌, ◌<◌, false, List, [], ◌∷◌, length, take, drop, reverse, map, vec_len}
-use Rattle.std.specs.Prelude.{vec_capacity}
+use Rattle.std.specs.Prelude.{◌≡◌, ℕ, ◌-◌, ◌≤◌, ◌<◌, false, List, [], ◌∷◌, ◌++◌, length, take, drop, reverse, map}
+use Rattle.std.specs.Prelude.{vec_len, vec_capacity, Option, None}
 use Rattle.std.specs.declared.alloc.Global.{Global}
 use Rattle.std.specs.declared.borrow.CowStr.{CowStr}
 use Rattle.jiter_scan.specs.Kind.{Kind, eof_object}
+use Rattle.jiter_scan.specs.Scanned.{Scanned, taken, failed}
+use Rattle.jiter_steps.specs.StringReading.{string_at, whole}
 use Rattle.jiter_steps.specs.Tree.{Text, Tree, array, object, items_of, members_of}
 use Rattle.jiter_steps.specs.Read.{Reading, done, fault, if_forgiven}
 use Rattle.jiter_steps.specs.Step.{end_kind_of}
@@ -12,7 +14,7 @@ use Rattle.jiter_steps.specs.declared.parse.Shape.{Shape}
 use Rattle.jiter_steps.specs.declared.parse.Shape.TheVariants as shape
 use Rattle.jiter_steps.specs.Frames.{Frame, items_frame, members_frame, resume, value_from, key_from, items_from}
 use Rattle.jiter_steps.specs.Frames.{members_from}
-use Rattle.jiter_value.specs.Settings.{rules_as}
+use Rattle.jiter_value.specs.Settings.{Keeping, refused_as, rules_as}
 use Rattle.jiter_value.specs.Value.{view}
 use Rattle.jiter_value.specs.declared.settings.Settings.{Settings}
 use Rattle.jiter_value.specs.declared.stacks.Open.{Open}
@@ -38,6 +40,33 @@ last_key_of m (n ∷ ms) = last_key_of n ms
 abbrev pub last_key : List Member → Text
 last_key [] = record { owned = false; bytes = [] }
 last_key (m ∷ ms) = last_key_of m ms
+
+-- the characters of the members' keys
+abbrev pub keys_of : List Member → List (List ℕ)
+keys_of ms = map (λ m. (text_view m.0).bytes) ms
+
+-- The members that are left have the first of the keys that there were.
+pub record LeavesKeys (old new : List Member) : Type 0 where
+  pub keys : keys_of new ≡ take (length new) (keys_of old)
+
+-- the key at j, as it is kept, if one is read there
+abbrev pub key_seen : Keeping → Scanned Text → List (List ℕ)
+key_seen made (taken k e) = (made.text k).bytes ∷ []
+key_seen made (failed k x) = []
+
+-- the members' keys, and the key at j where one is awaited there
+abbrev pub keys_then : Keeping → List ℕ → List Member → State → ℕ → List (List ℕ)
+keys_then made t ms state.Key j = keys_of ms ++ key_seen made (string_at whole t j)
+keys_then made t ms state.Root j = keys_of ms
+keys_then made t ms state.Item j = keys_of ms
+keys_then made t ms state.Member j = keys_of ms
+keys_then made t ms state.Done j = keys_of ms
+keys_then made t ms state.GivenUp j = keys_of ms
+
+-- The members that are left have the first of the keys that there were, and of the key at j where one is awaited there.
+pub record KeepsKeys (made : Keeping) (t : List ℕ) (old : List Member) (a : State) (j : ℕ) (new : List Member) : Type 0
+  where
+    pub keys : keys_of new ≡ take (length new) (keys_then made t old a j)
 
 -- all members but the last
 abbrev pub but_last : List Member → List Member
@@ -73,6 +102,11 @@ abbrev pub frames_below : Shape → Open → List Open → List JsonValue → Li
 frames_below shape.Array o os items members = frames o.outer os (take o.base items) members
 frames_below shape.Object o os items members = frames o.outer os items (take o.base members)
 
+-- the fault of the key at j that the members of the innermost object make
+abbrev pub refused_in : Keeping → List ℕ → List Open → List Member → ℕ → Option (Kind × ℕ)
+refused_in made t [] members j = None
+refused_in made t (o ∷ os) members j = refused_as made (map member_view (drop o.base members)) t j
+
 -- the bases lie within the stacks, and below the outermost there is nothing
 abbrev pub HaveBases : Slot → List Open → ℕ → ℕ → Type 0
 HaveBases slot.Root [] n m = (n ≡ 0) × (m ≡ 0)
@@ -92,7 +126,7 @@ abbrev pub HavePartBase : Shape → List Open → ℕ → ℕ → Type 0
 HavePartBase shape.Array os n m = HaveBases slot.Item os n m
 HavePartBase shape.Object os n m = HaveKeyBase os n m
 
-module _ (made : Text → Text) (p : Settings) (t : List ℕ) where
+module _ (made : Keeping) (p : Settings) (t : List ℕ) where
   -- where the innermost object awaits a key at j
   abbrev pub key_in : List Open → List JsonValue → List Member → ℕ → Reading Tree
   key_in [] items members j = fault eof_object j j
@@ -162,6 +196,10 @@ StandsAtKey s = HaveKeyBase (reverse s.nest.items) (length s.items.items) (lengt
 -- the innermost container is of this shape, and awaits no value
 abbrev pub StandsInside : Shape → Stacks → Type 0
 StandsInside h s = HavePartBase h (reverse s.nest.items) (length s.items.items) (length s.members.items)
+
+-- the key at j is not refused for the members before it
+abbrev pub IsFree : Keeping → List ℕ → Stacks → ℕ → Type 0
+IsFree made t s j = refused_in made t (reverse s.nest.items) s.members.items j ≡ None
 
 -- where a value of a container goes, and what is awaited where a part of it begins
 abbrev pub slot_in : Shape → Slot

@@ -3,12 +3,13 @@ use Rattle.std.specs.Prelude.{◌≡◌, ℕ, ◌+◌, ◌≤◌, ◌<◌, Resul
 use Rattle.std.specs.Prelude.{length}
 use Rattle.jiter_scan.specs.Kind.{fault_kind}
 use Rattle.jiter_scan.specs.declared.errors.Fault.{Fault}
+use Rattle.jiter_scan.specs.declared.memory.Refused.{Refused}
 use Rattle.jiter_steps.specs.Frames.{resolve_step}
 use Rattle.jiter_steps.specs.Node.{nesting_limit}
 use Rattle.jiter_steps.specs.Read.{Reading, fault}
 use Rattle.jiter_steps.specs.Step.{Step, closed, stuck, step, container_first, container_step}
-use Rattle.jiter_steps.specs.Tree.{Text, Tree}
-use Rattle.jiter_value.specs.Settings.{forgives}
+use Rattle.jiter_steps.specs.Tree.{Tree}
+use Rattle.jiter_value.specs.Settings.{Keeping, forgives}
 use Rattle.jiter_steps.specs.declared.parse.Shape.{Shape}
 use Rattle.jiter_steps.specs.declared.read_error.ReadError.{ReadError}
 use Rattle.jiter_steps.specs.declared.read_error.ReadError.TheVariants as error
@@ -51,7 +52,7 @@ Fails (error.Fault f) j x = x ≡ fault (fault_kind f.kind) f.index j
 Fails (error.Memory m) j x = Unit {0}
 
 -- what was returned, and the stacks and the place j then, lead on to the reading x
-abbrev pub Reaches : (Text → Text) → Settings → List ℕ → Stacks → ℕ → Result State ReadError → Reading Tree → Type 0
+abbrev pub Reaches : Keeping → Settings → List ℕ → Stacks → ℕ → Result State ReadError → Reading Tree → Type 0
 Reaches made p t s j (Ok a) x = (x ≡ meaning made p t s a j) × IsWithin t s a j
 Reaches made p t s j (Err e) x = Fails e j x
 
@@ -67,7 +68,7 @@ MayGrowFor (Err (error.Fault f)) P = Unit {0}
 MayGrowFor (Err (error.Memory m)) P = P
 
 -- From the place i a turn proceeds to these stacks, to this place and to this state.
-pub record Proceeds (made : Text → Text) (p : Settings) (t : List ℕ) (i l h : ℕ) (x : Reading Tree) (s : Stacks)
+pub record Proceeds (made : Keeping) (p : Settings) (t : List ℕ) (i l h : ℕ) (x : Reading Tree) (s : Stacks)
     (r : ℕ × State) : Type 0 where
   -- The reader goes no step back, and stays within the text.
   pub within : (i ≤ r.0) × (r.0 ≤ length t)
@@ -79,7 +80,7 @@ pub record Proceeds (made : Text → Text) (p : Settings) (t : List ℕ) (i l h 
   pub held : IfOk (outcome s r.1) (λ a. held s a ≤ h)
 
 -- The value that is awaited at i is put where it belongs, and ends at e: a scalar.
-pub record IsPutAt (made : Text → Text) (t : List ℕ) (old : Stacks) (i : ℕ) (a : Slot) (new : Stacks) (e : ℕ) : Type 0
+pub record IsPutAt (made : Keeping) (t : List ℕ) (old : Stacks) (i : ℕ) (a : Slot) (new : Stacks) (e : ℕ) : Type 0
   where
     pub value : (p : Settings) → from_value made p t old a i ≡ behind made p t new a e
     pub stands : Stands new a
@@ -89,13 +90,18 @@ pub record IsPutAt (made : Text → Text) (t : List ℕ) (old : Stacks) (i : ℕ
     pub within : e ≤ length t
 
 -- The key at i is put where it belongs, and its value begins at j.
-pub record IsKeyAt (made : Text → Text) (t : List ℕ) (old : Stacks) (i : ℕ) (new : Stacks) (j : ℕ) : Type 0 where
+pub record IsKeyAt (made : Keeping) (t : List ℕ) (old : Stacks) (i : ℕ) (new : Stacks) (j : ℕ) : Type 0 where
   pub value : (p : Settings) → from_key made p t old i ≡ from_value made p t new slot.Member j
   pub stands : Stands new slot.Member
   pub nest : new.nest ≡ old.nest
   pub held : value_size new slot.Member ≡ key_size old + 1
   pub ahead : i < j
   pub within : j < length t
+
+-- From the place i on the reading is given up at e, since memory was refused.
+pub record IsRefusedAt (t : List ℕ) (i : ℕ) (s : Stacks) (e : ℕ) : Type 0 where
+  pub error : (m : Refused) × (s.error ≡ error.Memory m)
+  pub within : (i ≤ e) × (e ≤ length t)
 
 -- the step of a container whose bracket is at j, and behind a part that ends at j
 abbrev pub container_goes : Behind → Shape → List ℕ → ℕ → Step

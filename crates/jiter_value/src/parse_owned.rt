@@ -8,7 +8,7 @@ ghost use Rattle.jiter_steps.specs.ReadError.{WhereRefused};
 ghost use Rattle.jiter_value.specs.Owned.{owned_text, owned_tree, ReadHolds, IsOwnedAnswer, OwnedMayGrow};
 ghost use Rattle.jiter_value.specs.Parses.{Parses, reading_as};
 ghost use Rattle.jiter_value.specs.Scratch.{HoldsNothing};
-ghost use Rattle.jiter_value.specs.Settings.{rules, rules_as};
+ghost use Rattle.jiter_value.specs.Settings.{each, rules, rules_as};
 ghost use Rattle.jiter_value.specs.Value.{view, BeginsContainer, MayGrowAt, MayGrow};
 
 use crate::copies::move_value;
@@ -113,7 +113,7 @@ fn own_container<'s>(
     requires container { BeginsContainer parser.old.bytes.now parser.old.index }
     ensures moves { Moves parser.old parser.new }
     ensures value { Gives view result parser.new.index
-        (value_at (rules_as owned_text settings) parser.old.bytes.now nesting_limit parser.old.index) }
+        (value_at (rules_as (each owned_text) settings) parser.old.bytes.now nesting_limit parser.old.index) }
     ensures memory { WhereRefused result (MayGrowAt parser.old.bytes.now parser.old.index) }
 {
     let mut tape = Vec::new(alloc);

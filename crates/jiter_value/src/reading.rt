@@ -1,15 +1,15 @@
 //! The value of a whole text.
-ghost use Rattle.std.specs.Prelude.{◌≡◌, ◌≤◌, ◌<◌, IfOk, length};
+ghost use Rattle.std.specs.Prelude.{◌≡◌, ◌≤◌, ◌<◌, IfOk, length, false};
 ghost use Rattle.jiter_steps.specs.Blank.{past_blanks};
 ghost use Rattle.jiter_steps.specs.Node.{nesting_limit};
 ghost use Rattle.jiter_steps.specs.Parse.{Moves, Gives};
 ghost use Rattle.jiter_steps.specs.Read.{done, value_at};
 ghost use Rattle.jiter_steps.specs.ReadError.{WhereRefused};
 ghost use Rattle.jiter_value.specs.Owned.{tree_as};
-ghost use Rattle.jiter_value.specs.Parses.{Parses, as_read, reading_as};
+ghost use Rattle.jiter_value.specs.Parses.{Parses, as_read};
 ghost use Rattle.jiter_value.specs.Reading.{GivesWhole, IsErrorOf};
 ghost use Rattle.jiter_value.specs.Scratch.{HoldsNothing};
-ghost use Rattle.jiter_value.specs.Settings.{answer_by, rules, rules_as};
+ghost use Rattle.jiter_value.specs.Settings.{answer_as, rules, rules_as};
 ghost use Rattle.jiter_value.specs.Value.{view, MayGrowAt, MayGrowBy, MayGrow};
 
 use crate::settings::Settings;
@@ -47,7 +47,7 @@ pub(crate) fn finish_whole<'s, T: Texts<'s>>(
         (past_blanks parser.old.bytes.now 0) ≡ done (view value) parser.old.index }
     ensures moves { Moves parser.old parser.new }
     ensures value { GivesWhole result parser.new.index
-        (reading_as (tree_as T.made) (answer_by settings parser.old.bytes.now)) }
+        (answer_as T.made settings parser.old.bytes.now) }
     ensures same { IfOk result (λ v. v ≡ value.entry) }
     ensures memory { WhereRefused result ⊥ }
 {
@@ -89,11 +89,12 @@ fn read_whole<'s, T: Texts<'s>>(
     settings: Settings,
 ) -> Result<JsonValue<'s>, ReadError>
     requires texts { T.of texts parser.old.bytes.now }
+    requires repeats { T.made.unique ≡ false }
     requires begins { parser.old.index ≡ 0 }
     requires empty { HoldsNothing stacks.old }
     ensures moves { Moves parser.old parser.new }
     ensures value { GivesWhole result parser.new.index
-        (reading_as (tree_as T.made) (answer_by settings parser.old.bytes.now)) }
+        (answer_as T.made settings parser.old.bytes.now) }
     ensures memory { WhereRefused result
         (MayGrowBy T.wants parser.old.bytes.now (past_blanks parser.old.bytes.now 0)) }
     ensures place { WhereRefused result (past_blanks parser.old.bytes.now 0 ≤ parser.new.index) }
@@ -113,8 +114,9 @@ pub(crate) fn read_text_as<'s, T: Texts<'s>>(
     settings: Settings,
 ) -> Result<JsonValue<'s>, JsonError>
     requires texts { T.of texts bytes.now }
+    requires repeats { T.made.unique ≡ false }
     requires empty { HoldsNothing stacks.old }
-    ensures { Parses (tree_as T.made) (MayGrowBy T.wants bytes.now (past_blanks bytes.now 0))
+    ensures { Parses (tree_as T.made.text) (MayGrowBy T.wants bytes.now (past_blanks bytes.now 0))
         settings.allow_inf_nan settings.mode bytes.now result }
 {
     let mut parser = Parser::new(bytes);

@@ -17,6 +17,13 @@ use std::marker::Model;
 /// Buffers for reading one document after another: the elements of all open arrays, the members of all open
 /// objects, and a tape for strings. They are kept between the calls of `parse`, so that documents of one shape
 /// make them grow once, and a further one asks for its value alone. What was read before changes no answer.
+///
+/// ```
+/// let mut scratch = JsonValueScratch::new(alloc);
+/// for line in log.split(|byte| *byte == b'\n') {
+///     let value = scratch.parse_owned(line, false, PartialMode::Off)?;
+/// }
+/// ```
 #[derive(Drop)]
 pub struct JsonValueScratch<'j> {
     alloc: Global,

@@ -4,12 +4,13 @@ ghost use Rattle.std.specs.Prelude.{take, drop, false, map, vec_len};
 ghost use Rattle.std.specs.declared.alloc.Global.{Global};
 ghost use Rattle.std.specs.declared.borrow.CowStr.{CowStr as CowStrView};
 ghost use Rattle.jiter_steps.specs.Read.{done};
-ghost use Rattle.jiter_steps.specs.Tree.{Text, object, members_of};
+ghost use Rattle.jiter_steps.specs.Tree.{object, members_of};
 ghost use Rattle.jiter_steps.specs.declared.read_error.ReadError.TheVariants as error;
 ghost use Rattle.jiter_value.specs.Value.{view};
 ghost use Rattle.jiter_value.specs.Size.{size, value_size, inside_size, behind_size};
+ghost use Rattle.jiter_value.specs.Settings.{Keeping};
 ghost use Rattle.jiter_value.specs.Stacks.{Member, member_view, resume_with, behind, container_ends, Stands};
-ghost use Rattle.jiter_value.specs.Stacks.{StandsInside, HasRoom};
+ghost use Rattle.jiter_value.specs.Stacks.{StandsInside, HasRoom, LeavesKeys};
 ghost use Rattle.jiter_value.specs.declared.settings.Settings.{Settings as SettingsView};
 ghost use Rattle.jiter_value.specs.declared.value.JsonValue.{JsonValue as JsonValueView};
 
@@ -85,9 +86,10 @@ pub struct Stacks<'j> {
 #[inline(always)]
 fn set_last<'j>(members: &mut Vec<(CowStr<'j>, JsonValue<'j>)>, value: JsonValue<'j>)
     requires { 0 < vec_len members.old }
-    ensures { (before : List Member) → (key : CowStrView Global) → (old : JsonValueView)
+    ensures value { (before : List Member) → (key : CowStrView Global) → (old : JsonValueView)
         → members.old.items ≡ before ++ (key, old) ∷ []
         → members.new.items ≡ before ++ (key, value.entry) ∷ [] }
+    ensures keys { LeavesKeys members.old.items members.new.items }
 {
     let last = members.len() - 1;
     mem::forget(mem::replace(&mut members[last].1, value));
@@ -128,12 +130,13 @@ pub fn has_room<'j>(stacks: &Stacks<'j>, slot: Slot) -> bool
 pub fn put_reserved<'j>(stacks: &mut Stacks<'j>, slot: Slot, value: JsonValue<'j>)
     requires stands { Stands stacks.old slot }
     requires room { HasRoom stacks.old slot }
-    ensures value { (made : Text → Text) → (p : SettingsView) → (t : List ℕ) → (e : ℕ)
+    ensures value { (made : Keeping) → (p : SettingsView) → (t : List ℕ) → (e : ℕ)
         → resume_with made p t stacks.old slot (done (view value.entry) e) ≡ behind made p t stacks.new slot e }
     ensures stands { Stands stacks.new slot }
     ensures nest { stacks.new.nest ≡ stacks.old.nest }
     ensures held { behind_size stacks.new slot
         ≡ value_size stacks.old slot + size (view value.entry) }
+    ensures keys { LeavesKeys stacks.old.members.items stacks.new.members.items }
 {
     match slot {
         Slot::Item => stacks.items.push_reserved(value),
@@ -146,12 +149,13 @@ pub fn put_reserved<'j>(stacks: &mut Stacks<'j>, slot: Slot, value: JsonValue<'j
 #[inline(always)]
 pub fn put<'j>(stacks: &mut Stacks<'j>, slot: Slot, value: JsonValue<'j>) -> Result<(), Refused>
     requires { Stands stacks.old slot }
-    ensures value { OnOk result ((made : Text → Text) → (p : SettingsView) → (t : List ℕ) → (e : ℕ)
+    ensures value { OnOk result ((made : Keeping) → (p : SettingsView) → (t : List ℕ) → (e : ℕ)
         → resume_with made p t stacks.old slot (done (view value.entry) e) ≡ behind made p t stacks.new slot e) }
     ensures stands { OnOk result (Stands stacks.new slot) }
     ensures nest { stacks.new.nest ≡ stacks.old.nest }
     ensures held { OnOk result (behind_size stacks.new slot
         ≡ value_size stacks.old slot + size (view value.entry)) }
+    ensures keys { OnOk result (LeavesKeys stacks.old.members.items stacks.new.members.items) }
     ensures refused { OnErr result (slot ≢ Slot.Root) }
 {
     if !has_room(stacks, slot) {
@@ -173,11 +177,12 @@ pub fn object_of<'j>(members: JsonObject<'j>) -> JsonValue<'j>
 #[inline(never)]
 pub fn close<'j>(alloc: Global, stacks: &mut Stacks<'j>, shape: Shape) -> Result<Slot, Refused>
     requires { StandsInside shape stacks.old }
-    ensures value { IfOk result (λ a. (made : Text → Text) → (p : SettingsView) → (t : List ℕ) → (e : ℕ)
+    ensures value { IfOk result (λ a. (made : Keeping) → (p : SettingsView) → (t : List ℕ) → (e : ℕ)
         → container_ends made p t shape stacks.old e ≡ behind made p t stacks.new a e) }
     ensures stands { IfOk result (λ a. Stands stacks.new a) }
     ensures nest { length stacks.new.nest.items + 1 ≡ length stacks.old.nest.items }
     ensures held { IfOk result (λ a. behind_size stacks.new a ≡ inside_size shape stacks.old) }
+    ensures keys { OnOk result (LeavesKeys stacks.old.members.items stacks.new.members.items) }
 {
     match stacks.nest.pop() {
         None => unreachable!(),

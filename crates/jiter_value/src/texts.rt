@@ -1,11 +1,13 @@
 //! What becomes of a text that is read: it is lent where it lies, or owned.
-ghost use Rattle.std.specs.Prelude.{◌≡◌, ℕ, List, false, true, IfOk, IfSome, OnErr};
+ghost use Rattle.std.specs.Prelude.{◌≡◌, ℕ, List, false, true, IfOk, OnErr};
 ghost use Rattle.jiter_steps.specs.StringDecoder.{text_view};
-ghost use Rattle.jiter_steps.specs.Tree.{Text};
-ghost use Rattle.jiter_value.specs.Owned.{as_it_is, owned_text};
+ghost use Rattle.jiter_value.specs.NumberText.{number_text_view};
+ghost use Rattle.jiter_value.specs.Owned.{owned_text};
+ghost use Rattle.jiter_value.specs.Settings.{Keeping, each, lent, lent_unique};
 ghost use Rattle.jiter_value.specs.Texts.{IsLentAt, LieAt};
 
 use crate::copies::own_cow;
+use crate::number_text::NumberText;
 use jiter_scan::memory::{Refused, copy_text};
 use jiter_scan::text::utf8_text;
 use std::alloc::Global;
@@ -16,8 +18,8 @@ pub trait Texts<'s>: Copy {
     // Whether it is made for these bytes.
     ghost of: { Self → List ℕ → Type 0 };
 
-    // What a text becomes.
-    ghost made: { Text → Text };
+    // What a text becomes, and whether repeated keys are refused.
+    ghost made: { Keeping };
 
     // Holds where memory may be wanted for it.
     ghost wants: { Type 0 };
@@ -26,7 +28,15 @@ pub trait Texts<'s>: Copy {
     fn keep(self, bytes: &[u8], from: usize, text: CowStr<'_>) -> Result<CowStr<'s>, Refused>
         requires of { of self bytes.now }
         requires lent { IsLentAt bytes.now from (text_view text) }
-        ensures value { IfOk result (λ kept. text_view kept ≡ made (text_view text.entry)) }
+        ensures value { IfOk result (λ kept. text_view kept ≡ made.text (text_view text.entry)) }
+        ensures memory { OnErr result wants };
+
+    /// The text of a number that stands in the bytes from `from` on, as it is kept.
+    fn keep_number(self, bytes: &[u8], from: usize, text: &str) -> Result<NumberText<'s>, Refused>
+        requires of { of self bytes.now }
+        requires lent { LieAt bytes.now from text.now }
+        ensures value { IfOk result (λ kept.
+            number_text_view kept ≡ made.text (record { owned = false; bytes = text.now })) }
         ensures memory { OnErr result wants };
 }
 
@@ -49,7 +59,7 @@ fn lend<'s>(bytes: &'s [u8], from: usize, text: &str) -> &'s str
 impl<'s> Texts<'s> for Borrowing<'s> {
     ghost of = { λ b t. b.bytes.now ≡ t };
 
-    ghost made = { as_it_is };
+    ghost made = { lent };
 
     ghost wants = { ⊥ };
 
@@ -60,9 +70,47 @@ impl<'s> Texts<'s> for Borrowing<'s> {
             CowStr::Owned(owned) => Ok(CowStr::Owned(owned)),
         }
     }
+
+    #[inline(always)]
+    fn keep_number(
+        self,
+        _bytes: &[u8],
+        from: usize,
+        text: &str,
+    ) -> Result<NumberText<'s>, Refused> {
+        Ok(NumberText::Borrowed(lend(self.bytes, from, text)))
+    }
 }
 
-/// Each text is owned: one that is lent is copied, by one request of its exact length.
+/// The same, where repeated keys are refused.
+#[derive(Clone, Copy)]
+pub struct Distinct<'s> {
+    /// The bytes.
+    pub bytes: &'s [u8],
+}
+
+impl<'s> Texts<'s> for Distinct<'s> {
+    ghost of = { λ b t. b.bytes.now ≡ t };
+
+    ghost made = { lent_unique };
+
+    ghost wants = { ⊥ };
+
+    #[inline(always)]
+    fn keep(self, bytes: &[u8], from: usize, text: CowStr<'_>) -> Result<CowStr<'s>, Refused> {
+        let lending = Borrowing { bytes: self.bytes };
+        lending.keep(bytes, from, text)
+    }
+
+    #[inline(always)]
+    fn keep_number(self, bytes: &[u8], from: usize, text: &str) -> Result<NumberText<'s>, Refused> {
+        let lending = Borrowing { bytes: self.bytes };
+        lending.keep_number(bytes, from, text)
+    }
+}
+
+/// Each text is owned: one that is lent is copied, by one request of its exact length; the text of a number where it is
+/// not short.
 #[derive(Clone, Copy)]
 pub struct Owning {
     /// Where memory is asked for.
@@ -72,7 +120,7 @@ pub struct Owning {
 impl<'s> Texts<'s> for Owning {
     ghost of = { λ o t. Unit {0} };
 
-    ghost made = { owned_text };
+    ghost made = { each owned_text };
 
     ghost wants = { Unit {0} };
 
@@ -80,29 +128,36 @@ impl<'s> Texts<'s> for Owning {
     fn keep(self, _bytes: &[u8], _from: usize, text: CowStr<'_>) -> Result<CowStr<'s>, Refused> {
         own_cow(self.alloc, text)
     }
+
+    #[inline(always)]
+    fn keep_number(
+        self,
+        _bytes: &[u8],
+        _from: usize,
+        text: &str,
+    ) -> Result<NumberText<'s>, Refused> {
+        NumberText::owned(self.alloc, text)
+    }
 }
 
-/// A text of the bytes that stands from `from` on, as it is kept; none where memory was refused.
+/// A text of the bytes that stands from `from` on, as it is kept.
 #[inline(always)]
 pub fn keep_lent<'s, T: Texts<'s>>(
     texts: T,
     bytes: &[u8],
     from: usize,
     text: &str,
-) -> Option<CowStr<'s>>
+) -> Result<CowStr<'s>, Refused>
     requires of { T.of texts bytes.now }
     requires lent { LieAt bytes.now from text.now }
-    ensures { IfSome result (λ kept.
-        text_view kept ≡ T.made (record { owned = false; bytes = text.now })) }
+    ensures value { IfOk result (λ kept.
+        text_view kept ≡ T.made.text (record { owned = false; bytes = text.now })) }
+    ensures memory { OnErr result T.wants }
 {
-    match texts.keep(bytes, from, CowStr::Borrowed(text)) {
-        Ok(kept) => Some(kept),
-        Err(_) => None,
-    }
+    texts.keep(bytes, from, CowStr::Borrowed(text))
 }
 
-/// A text that was decoded, as it is kept: in memory of its own, by one request of its exact length; none where
-/// that was refused.
+/// A text that was decoded, as it is kept: in memory of its own, by one request of its exact length.
 #[inline(always)]
 pub fn keep_decoded<'s, T: Texts<'s>>(
     alloc: Global,
@@ -110,16 +165,28 @@ pub fn keep_decoded<'s, T: Texts<'s>>(
     bytes: &[u8],
     from: usize,
     decoded: &str,
-) -> Option<CowStr<'s>>
+) -> Result<CowStr<'s>, Refused>
     requires { T.of texts bytes.now }
-    ensures { IfSome result (λ kept.
-        text_view kept ≡ T.made (record { owned = true; bytes = decoded.now })) }
+    ensures { IfOk result (λ kept.
+        text_view kept ≡ T.made.text (record { owned = true; bytes = decoded.now })) }
 {
-    let Ok(own) = copy_text(alloc, decoded) else {
-        return None;
-    };
-    match texts.keep(bytes, from, CowStr::Owned(own)) {
-        Ok(kept) => Some(kept),
-        Err(_) => None,
-    }
+    let own = copy_text(alloc, decoded)?;
+    texts.keep(bytes, from, CowStr::Owned(own))
+}
+
+/// The text of a number that stands in the bytes from `from` on, as it is kept.
+#[inline(always)]
+pub fn keep_number<'s, T: Texts<'s>>(
+    texts: T,
+    bytes: &[u8],
+    from: usize,
+    text: &str,
+) -> Result<NumberText<'s>, Refused>
+    requires of { T.of texts bytes.now }
+    requires lent { LieAt bytes.now from text.now }
+    ensures value { IfOk result (λ kept.
+        number_text_view kept ≡ T.made.text (record { owned = false; bytes = text.now })) }
+    ensures memory { OnErr result T.wants }
+{
+    texts.keep_number(bytes, from, text)
 }

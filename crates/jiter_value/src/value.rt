@@ -7,6 +7,7 @@ ghost use Rattle.jiter_steps.specs.Node.{Node, IsDocument, value_of};
 ghost use Rattle.jiter_value.specs.Parses.{Parses, as_read};
 ghost use Rattle.jiter_value.specs.Value.{view, Answers, MayGrow};
 
+use crate::number_text::NumberText;
 use crate::reading::read_text;
 use crate::settings::Settings;
 use crate::stacks::Stacks;
@@ -21,6 +22,16 @@ pub type JsonArray<'s> = Vec<JsonValue<'s>>;
 pub type JsonObject<'s> = Vec<(CowStr<'s>, JsonValue<'s>)>;
 
 /// A JSON value (RFC 8259, 3). A text is borrowed from the input where its source has no backslash.
+///
+/// It has a `Drop` of its own, so no pattern moves a part out of it: a `match` looks at the value by reference, and
+/// [`JsonValue::into_array`], [`JsonValue::into_object`] and [`JsonValue::into_str`] take it apart.
+///
+/// ```
+/// match &JsonValue::parse(alloc, b"[1, 2]", false)? {
+///     JsonValue::Array(items) => assert_eq!(rt; items.len(), 2),
+///     _ => {}
+/// }
+/// ```
 #[derive(Debug)]
 pub enum JsonValue<'s> {
     /// `null`
@@ -30,9 +41,9 @@ pub enum JsonValue<'s> {
     /// An integer that 64 signed bits hold.
     Int(i64),
     /// Any other integer, by its source text.
-    BigInt(CowStr<'s>),
+    BigInt(NumberText<'s>),
     /// A number with a point, an exponent or a name, by its source text.
-    Float(CowStr<'s>),
+    Float(NumberText<'s>),
     /// A string, decoded.
     Str(CowStr<'s>),
     /// An array.
@@ -49,8 +60,8 @@ impl<'s> Drop for JsonValue<'s> {
             JsonValue::Null => {}
             JsonValue::Bool(_) => {}
             JsonValue::Int(_) => {}
-            JsonValue::BigInt(text) => drop_text(text),
-            JsonValue::Float(text) => drop_text(text),
+            JsonValue::BigInt(text) => drop(text),
+            JsonValue::Float(text) => drop(text),
             JsonValue::Str(text) => drop_text(text),
             JsonValue::Array(items) => drop_items(items),
             JsonValue::Object(members) => drop_members(members),

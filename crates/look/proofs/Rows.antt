@@ -1,4 +1,3 @@
 -- Worked rows on the definitions, by computation.
 mod Computed
-mod PrintedAgain
 mod Lines

@@ -1,7 +1,7 @@
 -- What the whole program writes, and its exit status.
 use Rattle.std.specs.Prelude.{◌≡◌, ◌⊎◌, ℕ, List, codes, Option, Some, None, IfSome}
 use Rattle.std.specs.Io.KnownBytes.{Keeps, Appends}
-use Rattle.look.specs.Print.{with_line_feed}
+use Rattle.jiter_print.specs.Print.{with_line_feed}
 use Rattle.look.specs.Run.{AppendsFront, Wrote, line_of, status_of}
 use Rattle.look.specs.declared.running.End.{End}
 use Rattle.look.specs.declared.words.Words.{Words}

@@ -6,7 +6,7 @@ use Rattle.jiter_steps.specs.Tree.{Tree}
 use Rattle.jiter_steps.specs.Read.{Reading, done, fault}
 use Rattle.jiter_scan.specs.declared.partial_mode.PartialMode.{PartialMode}
 use Rattle.jiter_steps.specs.Answer.{answer_in}
-use Rattle.look.specs.Print.{print_of, with_line_feed}
+use Rattle.jiter_print.specs.Print.{print_of, with_line_feed}
 use Rattle.look.specs.declared.running.End.{End}
 use Rattle.look.specs.declared.running.End.TheVariants.{Shown, Refused, Failed}
 use Rattle.jiter_scan.specs.declared.errors.JsonErrorType.TheVariants.{OutOfMemory}

@@ -3,7 +3,6 @@
 
 mod asking;
 mod looking;
-mod print;
 mod running;
 #[cfg(test)]
 mod tests;

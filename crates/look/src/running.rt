@@ -3,13 +3,13 @@ ghost use Rattle.std.specs.Prelude.{◌≡◌, IfOk, IfErr, OnOk, OnErr, IfSome}
 ghost use Rattle.std.specs.Option.{option_map};
 ghost use Rattle.std.specs.Io.KnownBytes.{Appends, IsAtEnd};
 ghost use Rattle.jiter_steps.specs.Answer.{answer_in};
-ghost use Rattle.look.specs.Printed.{PrintsAgain};
+ghost use Rattle.jiter_print.specs.Printed.{PrintsAgain};
 ghost use Rattle.look.specs.Run.{AppendsFront, IsOfMemory, IsUnread, line_of, line_view, status_of, Wrote};
 ghost use Rattle.look.specs.Run.{WroteNothing};
 ghost use Rattle.look.specs.Run.{WroteIfAny};
 
-use crate::print::print;
 use jiter::{JsonError, JsonErrorType, JsonValue, PartialMode};
+use jiter_print::print;
 use jiter_scan::memory::{Refused, push};
 use std::alloc::{AllocError, Global};
 use std::io;
@@ -95,7 +95,7 @@ impl From<Refused> for NoMemory {
 
 /// Reads all, parses it, makes one line whole, and then writes it: a value's compact text to `out`, or a
 /// fault's description to `err`. After a failed read or refused memory nothing is written.
-#[tactic(auto, using(crate::proofs::PrintLaw::prints_again_if_known))]
+#[tactic(auto, using(crate::proofs::PrintedAgain::prints_again_if_known))]
 pub fn run<R: Read, O: Write, E: Write>(
     alloc: Global,
     reader: &mut R,

@@ -75,8 +75,11 @@ impl<'j> Jiter<'j> {
         self.outlined_array()
     }
 
-    /// The first byte of an array's first item, which is not consumed; None where the array is empty, and
-    /// then its bracket is consumed (RFC 8259, 5).
+    /// Steps into an array: moves over blanks and its bracket, and tells the first byte of its first item, which is
+    /// not consumed; None where the array is empty, and then its closing bracket is consumed (RFC 8259, 5).
+    ///
+    /// A value of another type is `WrongType` at its first byte, where the reader stays. The input's end behind the
+    /// bracket is `EofWhileParsingList`, at the length.
     #[inline(always)]
     pub fn next_array(&mut self) -> JiterResult<Option<Peek>>
         ensures moves { MovesOn self.old self.new }
@@ -91,7 +94,8 @@ impl<'j> Jiter<'j> {
         }
     }
 
-    /// The same where its bracket stands.
+    /// [`Jiter::next_array`] where the caller knows that the bracket `[` stands where the reader does, as a peek told:
+    /// it asks for that.
     pub fn known_array(&mut self) -> JiterResult<Option<Peek>>
         requires { StandsAt self.old ascii.left_bracket }
         ensures moves { MovesOn self.old self.new }
@@ -127,8 +131,12 @@ impl<'j> Jiter<'j> {
         self.outlined_step()
     }
 
-    /// Behind an item: the first byte of the next one, which is not consumed; None where the array ends, and
-    /// then its bracket is consumed (RFC 8259, 5).
+    /// Behind an item: passes a comma, and tells the first byte of the next item, which is not consumed; None where
+    /// the array ends, and then its closing bracket is consumed (RFC 8259, 5).
+    ///
+    /// Another byte is `ExpectedListCommaOrEnd` at it, a closing bracket behind the comma `TrailingComma`; the input's
+    /// end is `EofWhileParsingList`, behind the comma `EofWhileParsingValue`. The reader then stands where the fault
+    /// does.
     #[inline(always)]
     pub fn array_step(&mut self) -> JiterResult<Option<Peek>>
         ensures moves { MovesOn self.old self.new }

@@ -184,9 +184,12 @@ impl<'j> Jiter<'j> {
         }
     }
 
-    /// The bytes of an object's first key, as they stand between its quotes, with its colon consumed; None
-    /// where the object is empty, and then its bracket is consumed (RFC 8259, 4). Escapes are checked and not
-    /// decoded, UTF-8 is not checked.
+    /// Steps into an object: moves over blanks and its bracket, and gives the bytes of its first key, as they stand
+    /// between its quotes, with its colon consumed; None where the object is empty, and then its closing bracket is
+    /// consumed (RFC 8259, 4). Escapes are checked and not decoded, UTF-8 is not checked, and no memory is taken.
+    ///
+    /// A value of another type is `WrongType` at its first byte, where the reader stays. The faults of the key and its
+    /// colon are those of [`Jiter::next_object`].
     pub fn next_object_bytes(&mut self) -> JiterResult<Option<&'j [u8]>>
         ensures moves { MovesOn self.old self.new }
         ensures value { Replies (option_map raw_view) result self.new
@@ -198,8 +201,9 @@ impl<'j> Jiter<'j> {
         self.first_key_bytes(start)
     }
 
-    /// Behind a member: the bytes of the next key, as they stand between its quotes, with its colon consumed;
-    /// None where the object ends, and then its bracket is consumed.
+    /// Behind a member: passes a comma, and gives the bytes of the next key, as they stand between its quotes, with
+    /// its colon consumed; None where the object ends, and then its closing bracket is consumed. No memory is taken.
+    /// The faults are those of [`Jiter::next_key`].
     pub fn next_key_bytes(&mut self) -> JiterResult<Option<&'j [u8]>>
         ensures moves { MovesOn self.old self.new }
         ensures value { Replies (option_map raw_view) result self.new (key_step raw self.old) }
@@ -237,9 +241,15 @@ impl<'j> Jiter<'j> {
         }
     }
 
-    /// An object's first key, decoded, with its colon consumed; None where the object is empty, and then its
-    /// bracket is consumed (RFC 8259, 4). The key lies in the reader's bytes where its source has no
-    /// backslash.
+    /// Steps into an object: moves over blanks and its bracket, and lends its first key, decoded, with its colon
+    /// consumed; None where the object is empty, and then its closing bracket is consumed (RFC 8259, 4). The key lies
+    /// in the reader's bytes where its source has no backslash.
+    ///
+    /// A value of another type is `WrongType` at its first byte, where the reader stays. A byte that begins no key is
+    /// `KeyMustBeAString`, one behind the key that is no colon `ExpectedColon`, and the input's end before either
+    /// `EofWhileParsingObject`; the reader then stands where the fault does. A fault of the key is that of its string,
+    /// and leaves the reader at its quote. So does want of memory for a key with a backslash: the bracket is passed by
+    /// then, and a caller who would try again clones the reader before the call.
     pub fn next_object(&mut self, alloc: Global) -> JiterResult<Option<&str>>
         ensures key { IfOk result (λ key. (e : ℕ)
             × (reply_seen key_bytes (next self.old (object_read whole self.old))
@@ -261,7 +271,8 @@ impl<'j> Jiter<'j> {
         self.general_object(alloc)
     }
 
-    /// The same where its bracket stands.
+    /// [`Jiter::next_object`] where the caller knows that the bracket `{` stands where the reader does, as a peek
+    /// told: it asks for that.
     pub fn known_object(&mut self, alloc: Global) -> JiterResult<Option<&str>>
         requires { StandsAt self.old ascii.left_brace }
         ensures key { IfOk result (λ key. (e : ℕ)
@@ -311,8 +322,13 @@ impl<'j> Jiter<'j> {
         }
     }
 
-    /// Behind a member: the next key, decoded, with its colon consumed; None where the object ends, and then
-    /// its bracket is consumed. The key lies in the reader's bytes where its source has no backslash.
+    /// Behind a member: passes a comma, and lends the next key, decoded, with its colon consumed; None where the
+    /// object ends, and then its closing bracket is consumed. The key lies in the reader's bytes where its source has
+    /// no backslash.
+    ///
+    /// Another byte is `ExpectedObjectCommaOrEnd` at it, a closing bracket behind the comma `TrailingComma`; the
+    /// input's end is `EofWhileParsingObject`, behind the comma `EofWhileParsingValue`; the reader then stands where
+    /// the fault does. A key and its colon are refused as by [`Jiter::next_object`], want of memory among that.
     pub fn next_key(&mut self, alloc: Global) -> JiterResult<Option<&str>>
         ensures key { IfOk result (λ key. (e : ℕ)
             × (reply_seen key_bytes (key_step whole self.old)

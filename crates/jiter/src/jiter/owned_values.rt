@@ -38,7 +38,8 @@ impl<'j> Jiter<'j> {
         ))
     }
 
-    /// What [`Jiter::next_value`] reads, each text owned.
+    /// What [`Jiter::next_value`] reads, each text owned, so that the value outlives the bytes. It is refused as that
+    /// is, or for want of memory, and the reader stands then where the reading stopped.
     pub fn next_value_owned(&mut self, alloc: Global) -> JiterResult<JsonValue<'static>>
         ensures moves { MovesOn self.old self.new }
         ensures value { UnlessMemory result (Replies view result self.new
@@ -53,7 +54,8 @@ impl<'j> Jiter<'j> {
         self.owned_value(alloc)
     }
 
-    /// The same where the caller has peeked.
+    /// [`Jiter::next_value_owned`] where the caller has peeked: it asks that the byte of `peek` stands where the
+    /// reader does.
     pub fn known_value_owned(
         &mut self,
         alloc: Global,

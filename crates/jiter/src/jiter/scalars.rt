@@ -73,7 +73,9 @@ impl<'j> Jiter<'j> {
         self.outlined_null()
     }
 
-    /// Reads `null` (RFC 8259, 3).
+    /// Moves over blanks and reads `null` (RFC 8259, 3). Another type is `WrongType`, other letters are
+    /// `ExpectedSomeIdent`, and the input's end is `EofWhileParsingValue`; the reader then stands at the value's first
+    /// byte.
     #[inline(always)]
     pub fn next_null(&mut self) -> JiterResult<()>
         ensures moves { MovesOn self.old self.new }
@@ -87,7 +89,8 @@ impl<'j> Jiter<'j> {
         }
     }
 
-    /// Reads `null` where its first byte stands.
+    /// [`Jiter::next_null`] where the caller knows that the byte `n` stands where the reader does, as a peek told: it
+    /// asks for that.
     pub fn known_null(&mut self) -> JiterResult<()>
         requires { StandsAt self.old ascii.small_n }
         ensures moves { MovesOn self.old self.new }
@@ -134,7 +137,9 @@ impl<'j> Jiter<'j> {
         self.outlined_bool()
     }
 
-    /// Reads `true` or `false` (RFC 8259, 3).
+    /// Moves over blanks and reads `true` or `false` (RFC 8259, 3). Another type is `WrongType`, other letters are
+    /// `ExpectedSomeIdent`, and the input's end is `EofWhileParsingValue`; the reader then stands at the value's first
+    /// byte.
     #[inline(always)]
     pub fn next_bool(&mut self) -> JiterResult<bool>
         ensures moves { MovesOn self.old self.new }
@@ -147,7 +152,7 @@ impl<'j> Jiter<'j> {
         }
     }
 
-    /// The same where the caller has peeked.
+    /// [`Jiter::next_bool`] where the caller has peeked: it asks that the byte of `peek` stands where the reader does.
     pub fn known_bool(&mut self, peek: Peek) -> JiterResult<bool>
         requires { StandsAt self.old (byte_of peek) }
         ensures moves { MovesOn self.old self.new }
@@ -176,7 +181,9 @@ impl<'j> Jiter<'j> {
         }
     }
 
-    /// Reads a number (RFC 8259, 6).
+    /// Moves over blanks and reads a number, a name where names are allowed (RFC 8259, 6). Another type is
+    /// `WrongType`, a number that goes wrong `InvalidNumber`, one of too many digits `NumberOutOfRange`, and one that
+    /// the input's end cuts `EofWhileParsingValue`; the reader then stands at the value's first byte.
     pub fn next_number(&mut self) -> JiterResult<NumberAny<'j>>
         ensures moves { MovesOn self.old self.new }
         ensures value { Replies number_view result self.new (next self.old (number_read self.old)) }
@@ -186,7 +193,8 @@ impl<'j> Jiter<'j> {
         self.read_number(start)
     }
 
-    /// The same where the caller has peeked.
+    /// [`Jiter::next_number`] where the caller has peeked: it asks that the byte of `peek` stands where the reader
+    /// does.
     pub fn known_number(&mut self, peek: Peek) -> JiterResult<NumberAny<'j>>
         requires { StandsAt self.old (byte_of peek) }
         ensures moves { MovesOn self.old self.new }
@@ -232,8 +240,9 @@ impl<'j> Jiter<'j> {
         }
     }
 
-    /// Reads an integer. A point, an exponent or a name makes the number a float, whatever follows it and
-    /// whether names are allowed, and that is another type.
+    /// Moves over blanks and reads an integer. A point, an exponent or a name makes the number a float, whatever
+    /// follows it and whether names are allowed, and that is another type. It is refused as by [`Jiter::next_number`],
+    /// and the reader then stands at the value's first byte.
     pub fn next_int(&mut self) -> JiterResult<NumberInt<'j>>
         ensures moves { MovesOn self.old self.new }
         ensures value { Replies int_view result self.new (next self.old (int_read self.old)) }
@@ -243,7 +252,7 @@ impl<'j> Jiter<'j> {
         self.read_int(start)
     }
 
-    /// The same where the caller has peeked.
+    /// [`Jiter::next_int`] where the caller has peeked: it asks that the byte of `peek` stands where the reader does.
     pub fn known_int(&mut self, peek: Peek) -> JiterResult<NumberInt<'j>>
         requires { StandsAt self.old (byte_of peek) }
         ensures moves { MovesOn self.old self.new }
@@ -295,7 +304,8 @@ impl<'j> Jiter<'j> {
         self.outlined_number_bytes()
     }
 
-    /// Reads a number, and gives its own bytes.
+    /// Moves over blanks and reads a number, and gives its own bytes. It is refused as by [`Jiter::next_number`], and
+    /// the reader then stands at the value's first byte.
     #[inline(always)]
     pub fn next_number_bytes(&mut self) -> JiterResult<&'j [u8]>
         ensures moves { MovesOn self.old self.new }
@@ -309,7 +319,8 @@ impl<'j> Jiter<'j> {
         }
     }
 
-    /// The same where the caller has peeked.
+    /// [`Jiter::next_number_bytes`] where the caller has peeked: it asks that the byte of `peek` stands where the
+    /// reader does.
     pub fn known_number_bytes(&mut self, peek: Peek) -> JiterResult<&'j [u8]>
         requires { StandsAt self.old (byte_of peek) }
         ensures moves { MovesOn self.old self.new }

@@ -32,8 +32,9 @@ impl<'j> Jiter<'j> {
         self.pass()
     }
 
-    /// Moves behind a value, whatever its type (RFC 8259, 3). No value is made, no escape is decoded, UTF-8 is
-    /// not tested, and no memory is taken.
+    /// Moves behind a value, whatever its type (RFC 8259, 3). No value is made, no escape is decoded, UTF-8 is not
+    /// tested, and no memory is taken. It is refused as by [`Jiter::next_value`], but for UTF-8; the reader then
+    /// stands where the reading stopped.
     pub fn next_skip(&mut self) -> JiterResult<()>
         ensures moves { MovesOn self.old self.new }
         ensures value { Replies (λ u. u) result self.new (next self.old (skip_read self.old)) }
@@ -45,7 +46,7 @@ impl<'j> Jiter<'j> {
         self.pass_next()
     }
 
-    /// The same where the caller has peeked.
+    /// [`Jiter::next_skip`] where the caller has peeked: it asks that the byte of `peek` stands where the reader does.
     pub fn known_skip(&mut self, peek: Peek) -> JiterResult<()>
         requires { StandsAt self.old (byte_of peek) }
         ensures moves { MovesOn self.old self.new }

@@ -11,19 +11,21 @@ ghost use Rattle.jiter_steps.specs.StringDecoder.{text_view, WantsMemory};
 ghost use Rattle.jiter_steps.specs.StringReading.{string_at, text_form, whole, kept, raw, raw_kept};
 ghost use Rattle.jiter.specs.Reader.{value_place, next, known, gave, scalar_reply, str_read, bytes_read};
 ghost use Rattle.jiter.specs.Jiter.{MovesOn, Replies, RefusesBytes, UnlessMemory, WhereMemory, IndexWithin, reply_seen};
-ghost use Rattle.jiter.specs.Jiter.{front, text_bytes, BeginsAs, BeginsAt, RefusesAs, StandsAt};
+ghost use Rattle.jiter.specs.Jiter.{front, text_bytes, BeginsAs, BeginsAt, IsMemory, RefusesAs, StandsAt};
 ghost use Rattle.jiter.specs.Lending.{LeavesReader};
 
-use crate::errors::{JiterResult, JsonType};
+use crate::errors::{JiterError, JiterResult, JsonType};
 use crate::jiter::{Jiter, refusal, refusal_at};
+use jiter_scan::memory::Refused;
 use jiter_scan::text::utf8_text;
 use jiter_steps::parse::Start;
+use jiter_steps::read_error::ReadError;
 use jiter_steps::string_decoder::decode_to;
 use std::alloc::Global;
 use std::borrow::CowStr;
 
 // The string with a backslash that comes next, at a place behind the blanks, decoded to the front of the tape: how many
-// bytes its text has there, and the place behind it. None where the string is refused.
+// bytes its text has there, and the place behind it.
 #[inline(always)]
 fn decode_next(
     tape: &mut Vec<u8>,
@@ -31,21 +33,21 @@ fn decode_next(
     from: usize,
     at: usize,
     keep: bool,
-) -> Option<(usize, usize)>
+) -> Result<(usize, usize), ReadError>
     requires place { at ≡ past_blanks bytes.now from }
     requires quote { slice_get bytes.now at ≡ Some ascii.quote }
     requires backslash { WantsMemory bytes.now at }
-    ensures quote { IfSome result (λ _. slice_get bytes.now (past_blanks bytes.now from) ≡ Some ascii.quote) }
-    ensures value { IfSome result (λ r. string_at (text_form keep) bytes.now (past_blanks bytes.now from)
+    ensures quote { IfOk result (λ _. slice_get bytes.now (past_blanks bytes.now from) ≡ Some ascii.quote) }
+    ensures value { IfOk result (λ r. string_at (text_form keep) bytes.now (past_blanks bytes.now from)
         ≡ taken (record { owned = true; bytes = take r.0 tape.new.items }) r.1) }
-    ensures text { IfSome result (λ r. IsUtf8 (take r.0 tape.new.items)) }
-    ensures room { IfSome result (λ r. r.0 ≤ vec_len tape.new) }
-    ensures within { IfSome result (λ r. (from ≤ r.1) × (r.1 ≤ length bytes.now)) }
+    ensures text { IfOk result (λ r. IsUtf8 (take r.0 tape.new.items)) }
+    ensures room { IfOk result (λ r. r.0 ≤ vec_len tape.new) }
+    ensures within { IfOk result (λ r. (from ≤ r.1) × (r.1 ≤ length bytes.now)) }
 {
     let _ = from;
     match decode_to(tape, bytes, at, keep) {
-        Ok((count, end)) => Some((count, end)),
-        Err(_) => None,
+        Ok((count, end)) => Ok((count, end)),
+        Err(error) => Err(error),
     }
 }
 
@@ -160,6 +162,68 @@ impl<'j> Jiter<'j> {
         Ok(self.text.as_str())
     }
 
+    // Memory for the text that comes next was refused, to whose place the reader moves.
+    #[cold]
+    fn refused_str(&mut self, refused: Refused) -> JiterError
+        ensures moves { MovesOn self.old self.new }
+        ensures memory { IsMemory result }
+        ensures place { (self.new.position ≡ result.index) × (result.index ≡ value_place self.old) }
+    {
+        let _ = self.next_byte();
+        refusal_at(ReadError::Memory(refused), self.parser.index)
+    }
+
+    // The text that comes next and was not decoded: if that was for want of memory, it is told; else the text is read
+    // as any other is.
+    #[cold]
+    #[inline(never)]
+    fn take_undecoded(
+        &mut self,
+        alloc: Global,
+        error: ReadError,
+        at: usize,
+    ) -> JiterResult<CowStr<'j>>
+        requires place { at ≡ value_place self.old }
+        requires quote { slice_get self.old.text at ≡ Some ascii.quote }
+        requires backslash { WantsMemory self.old.text at }
+        ensures moves { MovesOn self.old self.new }
+        ensures value { UnlessMemory result (Replies text_view result self.new
+            (next self.old (str_read self.old))) }
+        ensures index { IndexWithin self.old.text result }
+        ensures memory { WhereMemory result (λ _.
+            BeginsAt self.old.text (value_place self.old) Start.String
+            × WantsMemory self.old.text (value_place self.old)) }
+        ensures place { WhereMemory result (λ e. (self.new.position ≡ e.index)
+            × (e.index ≡ value_place self.old)) }
+    {
+        let _ = at;
+        match error {
+            ReadError::Memory(refused) => Err(self.refused_str(refused)),
+            ReadError::Fault(_) => self.take_str(alloc),
+        }
+    }
+
+    // The same, lent.
+    #[inline(always)]
+    fn undecoded_str(&mut self, alloc: Global, error: ReadError, at: usize) -> JiterResult<&str>
+        requires place { at ≡ value_place self.old }
+        requires quote { slice_get self.old.text at ≡ Some ascii.quote }
+        requires backslash { WantsMemory self.old.text at }
+        ensures text { IfOk result (λ x. (e : ℕ)
+            × (reply_seen text_bytes (next self.old (str_read self.old)) ≡ gave x.now e)) }
+        ensures refusal { RefusesAs result (next self.old (str_read self.old)) }
+        ensures index { IndexWithin self.old.text result }
+        ensures memory { WhereMemory result (λ _.
+            BeginsAt self.old.text (value_place self.old) Start.String
+            × WantsMemory self.old.text (value_place self.old)) }
+        ensures place { WhereMemory result (λ e. e.index ≡ value_place self.old) }
+        ensures* after { sem 𝓛 (LeavesReader (λ x. x.now) result self.entry
+            (reply_seen text_bytes (next self.old (str_read self.old)))) }
+    {
+        self.text = self.take_undecoded(alloc, error, at)?;
+        Ok(self.text.as_str())
+    }
+
     // The text of the string with a backslash that comes next, whose quote stands at a place.
     #[inline(always)]
     fn escaped_str(&mut self, alloc: Global, at: usize) -> JiterResult<&str>
@@ -180,20 +244,25 @@ impl<'j> Jiter<'j> {
         let mut tape = self.take_tape(alloc);
         let (bytes, keep) = self.source();
         match decode_next(&mut tape, bytes, self.current_index(), at, keep) {
-            Some((count, end)) => {
+            Ok((count, end)) => {
                 self.tape = Some(tape);
                 self.parser.index = end;
                 Ok(text_on(&self.tape, count))
             }
-            None => {
+            Err(error) => {
                 self.put_tape(tape);
-                self.general_str(alloc)
+                self.undecoded_str(alloc, error, at)
             }
         }
     }
 
-    /// Reads a string, and lends its text, decoded (RFC 8259, 7). The text lies in the reader's bytes where
-    /// its source has no backslash.
+    /// Moves over blanks and reads a string, and lends its text, decoded (RFC 8259, 7). The text lies in the reader's
+    /// bytes where its source has no backslash; else memory may be wanted.
+    ///
+    /// Another type is `WrongType`; a string that is not closed is `EofWhileParsingString`, unless cut strings are
+    /// allowed, and what is wrong within it `InvalidEscape`, `ControlCharacterWhileParsingString`,
+    /// `InvalidUnicodeCodePoint`, `LoneLeadingSurrogateInHexEscape` or `UnexpectedEndOfHexEscape`. Refused, for want
+    /// of memory too, the reader stands at the value's first byte, so that the string may be read again.
     pub fn next_str(&mut self, alloc: Global) -> JiterResult<&str>
         ensures text { IfOk result (λ x. (e : ℕ)
             × (reply_seen text_bytes (next self.old (str_read self.old)) ≡ gave x.now e)) }
@@ -213,7 +282,8 @@ impl<'j> Jiter<'j> {
         }
     }
 
-    /// The same where its opening quote stands.
+    /// [`Jiter::next_str`] where the caller knows that a quote stands where the reader does, as a peek told: it asks
+    /// for that.
     pub fn known_str(&mut self, alloc: Global) -> JiterResult<&str>
         requires { StandsAt self.old ascii.quote }
         ensures text { IfOk result (λ x. (e : ℕ)
@@ -255,8 +325,9 @@ impl<'j> Jiter<'j> {
         }
     }
 
-    /// Reads a string, and gives the bytes between its quotes: its escapes are checked and not decoded, its
-    /// UTF-8 is not checked (RFC 8259, 7).
+    /// Moves over blanks and reads a string, and gives the bytes between its quotes: its escapes are checked and not
+    /// decoded, its UTF-8 is not checked (RFC 8259, 7), and no memory is taken. It is refused as by
+    /// [`Jiter::next_str`], and the reader then stands at the value's first byte.
     pub fn next_bytes(&mut self) -> JiterResult<&'j [u8]>
         ensures moves { MovesOn self.old self.new }
         ensures value { Replies raw_view result self.new (next self.old (bytes_read self.old)) }
@@ -266,7 +337,8 @@ impl<'j> Jiter<'j> {
         self.read_bytes(start)
     }
 
-    /// The same where its opening quote stands.
+    /// [`Jiter::next_bytes`] where the caller knows that a quote stands where the reader does, as a peek told: it asks
+    /// for that.
     pub fn known_bytes(&mut self) -> JiterResult<&'j [u8]>
         requires { StandsAt self.old ascii.quote }
         ensures moves { MovesOn self.old self.new }

@@ -35,7 +35,9 @@ impl<'j> Jiter<'j> {
         ))
     }
 
-    /// Reads a value whole, whatever its type, with partial reading off (RFC 8259, 3).
+    /// Moves over blanks and reads a value whole, whatever its type, with partial reading off (RFC 8259, 3). What is
+    /// refused is what [`JsonValue::parse`] refuses, at its index in the reader's bytes; the reader then stands where
+    /// the reading stopped. Of what lies behind the value nothing is looked at.
     pub fn next_value(&mut self, alloc: Global) -> JiterResult<JsonValue<'j>>
         ensures moves { MovesOn self.old self.new }
         ensures value { UnlessMemory result (Replies view result self.new
@@ -49,7 +51,8 @@ impl<'j> Jiter<'j> {
         self.value(alloc)
     }
 
-    /// The same where the caller has peeked.
+    /// [`Jiter::next_value`] where the caller has peeked: it asks that the byte of `peek` stands where the reader
+    /// does.
     pub fn known_value(&mut self, alloc: Global, peek: Peek) -> JiterResult<JsonValue<'j>>
         requires { StandsAt self.old (byte_of peek) }
         ensures moves { MovesOn self.old self.new }

@@ -1,7 +1,8 @@
-//! The examples of README.md and docs/CALLING.md, with what each prints, and each name that `jiter` exports.
+//! The examples of README.md and docs/CALLING.md that are no part of a caller, with what each prints, and each name
+//! that `jiter` exports.
 use crate::tests::expect::expect_text;
 use jiter::{
-    Jiter, JiterResult, JsonArray, JsonError, JsonErrorType, JsonObject, JsonResult, JsonValue,
+    Jiter, JsonArray, JsonError, JsonErrorType, JsonObject, JsonResult, JsonValue,
     JsonValueScratch, LinePosition, Machine, NumberAny, NumberInt, PartialMode, Peek, Turn,
 };
 use jiter_tests::told::text_of;
@@ -95,41 +96,6 @@ fn another_type_may_be_tried(rt: HostRuntime) -> Result<(), Fail> {
         &error,
     );
     assert_eq!(rt; jiter.next_number_bytes()?, b"1.5".as_slice());
-    Ok(())
-}
-
-// The number and the text of a message, by their keys; all its other members are skipped.
-fn number_and_text(message: &[u8]) -> JiterResult<(Option<NumberInt<'_>>, Option<&[u8]>)> {
-    let mut jiter = Jiter::new(message);
-    let mut number = None;
-    let mut text = None;
-    let mut key = jiter.next_object_bytes()?;
-    for _ in 0..message.len() {
-        match key {
-            None => {}
-            Some(name) => {
-                if name == b"number".as_slice() {
-                    number = Some(jiter.next_int()?);
-                } else if name == b"text".as_slice() {
-                    text = Some(jiter.next_bytes()?);
-                } else {
-                    jiter.next_skip()?;
-                }
-                key = jiter.next_key_bytes()?;
-            }
-        }
-    }
-    jiter.finish()?;
-    Ok((number, text))
-}
-
-#[test]
-fn two_members_of_a_message_are_read(rt: HostRuntime) -> Result<(), Fail> {
-    let message =
-        br#"{"number": 7, "from": {"name": "Ann", "tags": ["a", {}]}, "text": "Hi", "seen": []}"#;
-    let (number, text) = number_and_text(message)?;
-    assert_eq!(rt; number, Some(NumberInt::Int(7)));
-    assert_eq!(rt; text, Some(b"Hi".as_slice()));
     Ok(())
 }
 

@@ -1,7 +1,7 @@
 -- A string with a backslash, by what was decoded of it.
 use Rattle.std.proofs.Common.{◌≡◌, ◌∙◌, ℕ, ◌+◌, ◌<◌, ◌≤◌, Bool, true, false, List, length, take, refl, sym, ap, arith}
 use Rattle.std.proofs.Common.{◌++◌, subst}
-use Rattle.std.specs.Prelude.{slice_get, Option, Some, None, IfSome}
+use Rattle.std.specs.Prelude.{slice_get, Some, Result, Ok, Err, IfOk}
 use Rattle.std.proofs.lemmas.List.{length-take, take-take}
 use Rattle.jiter_scan.specs.Scan.{scan_stop}
 use Rattle.std.specs.Str.{IsUtf8}
@@ -58,18 +58,18 @@ module _ (t : List ℕ) (at : ℕ) (items : List ℕ) where
   -- The rest is read whole, if at all.
   pub decoded-whole : at < length t → slice_get t (scan_stop t (at + 1)) ≡ Some 92 → (content : List ℕ) (next : ℕ)
       → (body_at t (at + 1)).bytes ≡ content ++ (body_at t next).bytes
-      → (body_at t (at + 1)).stop ≡ (body_at t next).stop → (r : Option (ℕ × ℕ))
-      → IfSome r (λ r. text_in_form whole t (at + 1) (content ++ (body_at t next).bytes) true (body_at t next).stop
-      ≡ taken (on_tape r.0) r.1) → IfSome r IsOnTape
-  decoded-whole inside backslash content next text stop None h = tt
-  decoded-whole inside backslash content next text stop (Some r) h =
+      → (body_at t (at + 1)).stop ≡ (body_at t next).stop → {E : Type 0} (r : Result (ℕ × ℕ) E)
+      → IfOk r (λ r. text_in_form whole t (at + 1) (content ++ (body_at t next).bytes) true (body_at t next).stop
+      ≡ taken (on_tape r.0) r.1) → IfOk r IsOnTape
+  decoded-whole inside backslash content next text stop (Err e) h = tt
+  decoded-whole inside backslash content next text stop (Ok r) h =
       read-whole r (string-escaped t at inside _ refl whole backslash ∙ (rw (text, stop) h))
 
   -- a text on the tape is one of the bytes
   pub on_tape-advances : at < length t → (r : ℕ × ℕ) → IsOnTape r → (at < r.1) × (r.1 ≤ length t)
   on_tape-advances inside r h = subst (ScalarWithin t at) (h false) (string_at-within whole t at inside)
 
-  pub decoded-advances : at < length t → (r : Option (ℕ × ℕ)) → IfSome r IsOnTape
-      → IfSome r (λ r. (at < r.1) × (r.1 ≤ length t))
-  decoded-advances inside None h = tt
-  decoded-advances inside (Some r) h = on_tape-advances inside r h
+  pub decoded-advances : at < length t → {E : Type 0} (r : Result (ℕ × ℕ) E) → IfOk r IsOnTape
+      → IfOk r (λ r. (at < r.1) × (r.1 ≤ length t))
+  decoded-advances inside (Err e) h = tt
+  decoded-advances inside (Ok r) h = on_tape-advances inside r h

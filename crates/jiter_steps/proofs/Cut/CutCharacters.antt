@@ -62,7 +62,7 @@ unfinished c (suc (suc (suc zero))) (of4 a b d g u v k l m f o r is) h =
     rw is (three-unfinished a b d (omega arith) m u v o)
 unfinished c (suc (suc (suc (suc n)))) (of4 a b d g u v k l m f o r is) h = absurd (omega (arith, ap length is))
 
-front-unfinished : (w : List ℕ) → IsFront w → utf8_error_len w ≡ None
+pub front-unfinished : (w : List ℕ) → IsFront w → utf8_error_len w ≡ None
 front-unfinished w f =
     let front : take (length w) (encode f.c) ≡ w = ap (take (length w)) f.is ∙ take-append_seam w f.more in
     subst (λ x. utf8_error_len x ≡ None) front

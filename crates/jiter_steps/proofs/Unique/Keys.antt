@@ -1,6 +1,6 @@
 -- Unique keys of a list of members: what one more member adds.
 use Rattle.std.proofs.Common.{◌≡◌, ◌≢◌, Bool, true, false, ◌||◌, List, [], ◌∷◌, ◌++◌, ℕ, map, refl, sym, ◌∙◌}
-use Rattle.std.proofs.lemmas.Bool.{true≢false}
+use Rattle.std.proofs.lemmas.Bool.{true≢false, or_parts}
 use Rattle.std.proofs.lemmas.Slice.Eq.{bytes_eq-Decides}
 use Rattle.std.specs.Str.{bytes_eq}
 use Rattle.jiter_steps.specs.Node.{Key, Node}
@@ -55,18 +55,13 @@ pub members-last : (ms : List (Key × Node)) (m : Key × Node)
 members-last [] m h = h.1
 members-last (n ∷ ms) m h = members-last ms m h.2
 
--- a test that fails, or one that passes
-neither : (b c : Bool) → (b || c) ≡ false → (b ≡ false) × (c ≡ false)
-neither false c h = (refl, h)
-neither true c h = absurd (true≢false h)
-
 pub members-push : (ms : List (Key × Node)) (m : Key × Node) → is_among (characters m.0) (all_characters ms) ≡ false
     → MembersHaveUniqueKeys (node_members_of ms) → HasUniqueKeys m.1
     → MembersHaveUniqueKeys (node_members_of (ms ++ m ∷ []))
 members-push [] m new h is = (tt, is, tt)
 members-push (n ∷ ms) m new h is =
     let b = bytes_eq (characters m.0) (characters n.0) in
-    let split = neither b (is_among (characters m.0) (all_characters ms)) new in
+    let split = or_parts b (is_among (characters m.0) (all_characters ms)) new in
     let other : characters m.0 ≢ characters n.0 =
     λ e. true≢false (sym ((bytes_eq-Decides (characters m.0) (characters n.0)).1 e) ∙ split.0) in
     (no_key-push (characters n.0) ms m h.0 other, h.1, members-push ms m split.1 h.2 is)

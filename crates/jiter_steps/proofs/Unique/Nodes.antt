@@ -3,6 +3,7 @@
 use Rattle.std.proofs.Common.{◌≡◌, ℕ, zero, suc, Bool, true, false, List}
 use Rattle.std.proofs.Common.{refl, sym, ap, ◌∙◌, subst}
 use Rattle.std.specs.Prelude.{slice_index, Some, None}
+use Rattle.std.proofs.lemmas.Bool.{false_from_ne_true}
 use Rattle.std.proofs.lemmas.Option.{none-some}
 use Rattle.jiter_scan.specs.Kind.{Kind, duplicate_key}
 use Rattle.jiter_scan.proofs.Choices.{if-false, if-true}
@@ -28,15 +29,6 @@ use Rattle.jiter_steps.proofs.Unique.Agreeing.{inside_at-agrees, key-agrees}
 use Rattle.jiter_steps.proofs.Unique.Distinct.{Tells, Distinguishes, container-tells}
 use Rattle.jiter_steps.proofs.Unique.Keys.{characters, all_characters, items-front, items-last, items-push}
 use Rattle.jiter_steps.proofs.Unique.Keys.{members-front, members-last, members-push, members-clash}
-
--- a test that does not pass, and one that neither passes nor fails
-not-true : (b : Bool) → (b ≡ true → ⊥) → b ≡ false
-not-true true h = absurd (h refl)
-not-true false h = refl
-
-neither : (b : Bool) → (b ≡ true → ⊥) → (b ≡ false → ⊥) → ⊥
-neither true h g = h refl
-neither false h g = g refl
 
 -- a member that was read: its key is refused exactly where it stands already
 record KeyRead (keys : List (List ℕ)) (t : List ℕ) (x : Scanned Key) (p : Key × Node) : Type 0 where
@@ -143,14 +135,15 @@ module _ (names : Bool) (t : List ℕ) where
         none = tt;
         push = λ ms m j e free is good one.
             let read = key-read t (all_characters ms) g m e j (plain.key t j) is in
-            members-push ms m (not-true (is_among (characters m.0) (all_characters ms))
+            members-push ms m (false_from_ne_true (is_among (characters m.0) (all_characters ms))
             (λ old. let z = read.refused old in none-some z.0 (sym free ∙ z.1))) good one;
         front = members-front;
         last = members-last;
         refused = λ ms m j e z refuses is good.
             let read = key-read t (all_characters ms) g m e j (plain.key t j) is in
-            neither (is_among (characters m.0) (all_characters ms)) (λ old. members-clash ms m old good)
-            (λ new. none-some z (sym (read.free new) ∙ refuses));
+            let new =
+            false_from_ne_true (is_among (characters m.0) (all_characters ms)) (λ old. members-clash ms m old good) in
+            none-some z (sym (read.free new) ∙ refuses);
         build = λ e ms good. good;
         built = λ e ms good. good;
       }

@@ -1,5 +1,5 @@
 //! Deep values, and what a copy takes. `rt try` builds with larger frames, and runs out of stack here.
-use jiter::JsonValue;
+use jiter::{JsonValue, NumberText};
 use std::alloc::{AllocError, Global};
 use std::borrow::CowStr;
 use std::test::*;
@@ -61,12 +61,21 @@ fn is_exact_text(text: &CowStr<'_>) -> bool {
     }
 }
 
+// The same of the text of a number.
+fn is_exact_number(text: &NumberText<'_>) -> bool {
+    match text {
+        NumberText::Borrowed(_) => true,
+        NumberText::Short(short) => short.as_str().len() <= 24,
+        NumberText::Long(long) => long.len() > 24 && long.capacity() == long.len(),
+    }
+}
+
 // Whether each vector and each owned text has no room to spare, as one request for the exact length gives.
 #[cycle(exact)]
 fn is_exact(value: &JsonValue<'_>) -> bool {
     match value {
-        JsonValue::BigInt(text) => is_exact_text(text),
-        JsonValue::Float(text) => is_exact_text(text),
+        JsonValue::BigInt(text) => is_exact_number(text),
+        JsonValue::Float(text) => is_exact_number(text),
         JsonValue::Str(text) => is_exact_text(text),
         JsonValue::Array(items) => are_exact_items(items),
         JsonValue::Object(members) => are_exact_members(members),
@@ -98,8 +107,8 @@ fn are_exact_members(members: &Vec<(CowStr<'_>, JsonValue<'_>)>) -> bool {
 #[test]
 fn copies_have_no_room_to_spare(rt: HostRuntime) -> Result<(), Fail> {
     let alloc = rt.alloc();
-    let bytes =
-        br#"[1,2.50,"abc","a\nb",[],{},["",[null]],{"k":1,"l\n":[true]},9223372036854775808]"#;
+    let bytes = br#"[1,2.50,"abc","a\nb",[],{},["",[null]],{"k":1,"l\n":[true]},9223372036854775808,
+        0.12345678901234567890123]"#;
     let value = JsonValue::parse(alloc, bytes, false)?;
     assert!(rt; is_exact(&value.clone(alloc)?));
     assert!(rt; is_exact(&value.to_static(alloc)?));

@@ -2,7 +2,7 @@
 use crate::held::Held;
 use crate::told::text_of;
 use jiter::client::value_by_steps;
-use jiter::{Jiter, JsonValue, JsonValueScratch, PartialMode};
+use jiter::{Jiter, JsonValue, JsonValueScratch, NumberText, PartialMode};
 use std::alloc::{AllocError, Global};
 use std::borrow::CowStr;
 use std::mem::size_of;
@@ -156,13 +156,14 @@ fn units_of_requests(alloc: Global, requests: &[Request]) -> Result<Option<usize
     Ok(None)
 }
 
-// A document of each kind of value, and the lengths of its containers and texts that are not empty.
+// A document of each kind of value, and the lengths of its containers and texts that are not empty, but for those of
+// numbers of up to 24 bytes.
 const MANY: &[u8] =
-    br#"[1,2.50,"abc","a\nb","",[],{},["",[null]],{"k":1,"l\n":[true]},9223372036854775808]"#;
+    br#"[1,2.50,"abc","a\nb","",[],{},["",[null]],{"k":1,"l\n":[true]},9223372036854775808,
+        -1.2345678901234567e-308,1000000000000000000000000]"#;
 
-const MANY_LENGTHS: [Request; 11] = [
-    Request::Items(10),
-    Request::Text(4),
+const MANY_LENGTHS: [Request; 10] = [
+    Request::Items(12),
     Request::Text(3),
     Request::Text(3),
     Request::Items(2),
@@ -171,25 +172,24 @@ const MANY_LENGTHS: [Request; 11] = [
     Request::Text(1),
     Request::Text(2),
     Request::Items(1),
-    Request::Text(19),
+    Request::Text(25),
 ];
 
 // The same of its borrowed texts alone, since those that are owned are moved.
-const MANY_BORROWED_LENGTHS: [Request; 9] = [
-    Request::Items(10),
-    Request::Text(4),
+const MANY_BORROWED_LENGTHS: [Request; 8] = [
+    Request::Items(12),
     Request::Text(3),
     Request::Items(2),
     Request::Items(1),
     Request::Members(2),
     Request::Text(1),
     Request::Items(1),
-    Request::Text(19),
+    Request::Text(25),
 ];
 
 // The same of its owned texts alone.
 const MANY_OWNED_LENGTHS: [Request; 7] = [
-    Request::Items(10),
+    Request::Items(12),
     Request::Text(3),
     Request::Items(2),
     Request::Items(1),
@@ -202,9 +202,11 @@ const MANY_OWNED_LENGTHS: [Request; 7] = [
 fn copies_take_one_request_for_each_container_and_text(rt: HostRuntime) -> Result<(), Fail> {
     let alloc = rt.alloc();
     let owned = "[1,float owned '2.50',owned 'abc',owned 'a\nb',owned '',[],{},[owned '',[null]],\
-        {owned 'k':1,owned 'l\n':[true]},big owned '9223372036854775808']";
+        {owned 'k':1,owned 'l\n':[true]},big owned '9223372036854775808',\
+        float owned '-1.2345678901234567e-308',big owned '1000000000000000000000000']";
     let same = "[1,float '2.50','abc',owned 'a\nb','',[],{},['',[null]],\
-        {'k':1,owned 'l\n':[true]},big '9223372036854775808']";
+        {'k':1,owned 'l\n':[true]},big '9223372036854775808',\
+        float '-1.2345678901234567e-308',big '1000000000000000000000000']";
     for (copying, wanted, requests) in [
         (Copying::ToStatic, owned, MANY_LENGTHS.as_slice()),
         (Copying::Clone, same, MANY_OWNED_LENGTHS.as_slice()),
@@ -222,7 +224,8 @@ fn a_value_is_made_its_own_by_one_request_for_each_container_and_borrowed_text(
 ) -> Result<(), Fail> {
     let alloc = rt.alloc();
     let owned = "[1,float owned '2.50',owned 'abc',owned 'a\nb',owned '',[],{},[owned '',[null]],\
-        {owned 'k':1,owned 'l\n':[true]},big owned '9223372036854775808']";
+        {owned 'k':1,owned 'l\n':[true]},big owned '9223372036854775808',\
+        float owned '-1.2345678901234567e-308',big owned '1000000000000000000000000']";
     let taken = units_of_moving(alloc, MANY, owned)?;
     assert!(rt; taken.is_some());
     assert_eq!(rt;
@@ -234,10 +237,11 @@ fn a_value_is_made_its_own_by_one_request_for_each_container_and_borrowed_text(
 
 #[test]
 fn copies_of_what_is_empty_take_no_memory(rt: HostRuntime) -> Result<(), Fail> {
-    const TO_STATIC: [(&[u8], &str); 6] = [
+    const TO_STATIC: [(&[u8], &str); 7] = [
         (b"null", "null"),
         (b"false", "false"),
         (b"12", "12"),
+        (b"2.50", "float owned '2.50'"),
         (b"\"\"", "owned ''"),
         (b"[ ]", "[]"),
         (b"{ }", "{}"),
@@ -302,17 +306,18 @@ fn some_owned_readings_and_all_skips_take_no_memory(rt: HostRuntime) -> Result<(
         (b" null".as_slice(), JsonValue::Null),
         (b"true", JsonValue::Bool(true)),
         (b"-12", JsonValue::Int(-12)),
+        (b"2.50", JsonValue::Float(NumberText::Borrowed("2.50"))),
         (b"[ ]", JsonValue::Array(Vec::new(alloc))),
         (b"{ }", JsonValue::Object(Vec::new(alloc))),
     ] {
         if are_read(alloc, bytes, &wanted) {
-            answered = answered.min(4) + 1;
+            answered = answered.min(5) + 1;
         }
     }
     let skipped = Jiter::new(MANY).next_skip();
     drop(held);
     assert!(rt; letter.is_err());
-    assert_eq!(rt; answered, 5);
+    assert_eq!(rt; answered, 6);
     assert!(rt; skipped.is_ok());
     Ok(())
 }

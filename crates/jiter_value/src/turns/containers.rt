@@ -8,10 +8,10 @@ ghost use Rattle.jiter_steps.specs.Plain.{IsNext, IsStuckAt};
 ghost use Rattle.jiter_steps.specs.Read.{done};
 ghost use Rattle.jiter_steps.specs.ReadError.{WhereRefused};
 ghost use Rattle.jiter_steps.specs.Step.{Step, step, more, container_first, opening};
-ghost use Rattle.jiter_steps.specs.Tree.{Text};
+ghost use Rattle.jiter_value.specs.Settings.{Keeping};
 ghost use Rattle.jiter_value.specs.Size.{value_size, inside_size, behind_size};
 ghost use Rattle.jiter_value.specs.Stacks.{resume_with, from_value, behind, container_ends, Stands, StandsInside};
-ghost use Rattle.jiter_value.specs.Stacks.{slot_in, base_of, part_of, empty_tree};
+ghost use Rattle.jiter_value.specs.Stacks.{slot_in, base_of, part_of, empty_tree, LeavesKeys};
 ghost use Rattle.jiter_value.specs.Turns.{IsAtValue, Proceeds, container_goes, IsResolved, MayGrowFor, left, outcome};
 ghost use Rattle.jiter_value.specs.Value.{MayGrowAt};
 ghost use Rattle.jiter_value.specs.declared.settings.Settings.{Settings as SettingsView};
@@ -150,6 +150,8 @@ pub fn after<'s, T: Texts<'s>>(
     ensures memory { WhereRefused (outcome stacks.new result.1) (slot ≢ Slot.Root) }
     ensures root { slot ≡ Slot.Root
         → IfOk (outcome stacks.new result.1) (λ a. a ≡ State.Done) }
+    ensures keys { OnOk (outcome stacks.new result.1)
+        (LeavesKeys stacks.old.members.items stacks.new.members.items) }
 {
     let mut at = from;
     let mut inside = slot;
@@ -191,6 +193,8 @@ pub fn close_and_go_on<'s, T: Texts<'s>>(
     ensures leads { Proceeds T.made settings bytes.now at (left bytes.now stacks.old at)
         (inside_size shape stacks.old) (container_ends T.made settings bytes.now shape stacks.old at)
         stacks.new result }
+    ensures keys { OnOk (outcome stacks.new result.1)
+        (LeavesKeys stacks.old.members.items stacks.new.members.items) }
 {
     match close(alloc, stacks, shape) {
         Ok(outer) => after::<T>(alloc, stacks, bytes, at, settings, outer),
@@ -207,12 +211,13 @@ fn put_empty(
     shape: Shape,
 ) -> Result<(), Refused>
     requires { Stands stacks.old slot }
-    ensures value { OnOk result ((made : Text → Text) → (p : SettingsView) → (t : List ℕ) → (e : ℕ)
+    ensures value { OnOk result ((made : Keeping) → (p : SettingsView) → (t : List ℕ) → (e : ℕ)
         → resume_with made p t stacks.old slot (done (empty_tree shape) e) ≡ behind made p t stacks.new slot e) }
     ensures stands { OnOk result (Stands stacks.new slot) }
     ensures nest { stacks.new.nest ≡ stacks.old.nest }
     ensures held { OnOk result (behind_size stacks.new slot ≡ value_size stacks.old slot + 1) }
     ensures refused { OnErr result (slot ≢ Slot.Root) }
+    ensures keys { OnOk result (LeavesKeys stacks.old.members.items stacks.new.members.items) }
 {
     match shape {
         Shape::Array => put(stacks, slot, JsonValue::Array(Vec::new(alloc))),
@@ -241,6 +246,8 @@ fn empty<'s, T: Texts<'s>>(
     ensures memory { WhereRefused (outcome stacks.new result.1) (slot ≢ Slot.Root) }
     ensures root { slot ≡ Slot.Root
         → IfOk (outcome stacks.new result.1) (λ a. a ≡ State.Done) }
+    ensures keys { OnOk (outcome stacks.new result.1)
+        (LeavesKeys stacks.old.members.items stacks.new.members.items) }
 {
     match put_empty(alloc, stacks, slot, shape) {
         Ok(()) => after::<T>(alloc, stacks, bytes, end, settings, slot),
@@ -292,6 +299,8 @@ fn open<'s, T: Texts<'s>>(
     ensures leads { Proceeds T.made settings bytes.now at (left bytes.now stacks.old at)
         (value_size stacks.old slot + 1) (from_value T.made settings bytes.now stacks.old slot at)
         stacks.new result }
+    ensures keys { OnOk (outcome stacks.new result.1)
+        (LeavesKeys stacks.old.members.items stacks.new.members.items) }
 {
     if is_full(stacks, shape) {
         return too_deep(stacks, next);
@@ -322,6 +331,8 @@ pub fn begin<'s, T: Texts<'s>>(
         stacks.new result }
     ensures memory { slot ≡ Slot.Root
         → MayGrowFor (outcome stacks.new result.1) (MayGrowAt bytes.now at) }
+    ensures keys { OnOk (outcome stacks.new result.1)
+        (LeavesKeys stacks.old.members.items stacks.new.members.items) }
 {
     let (next, what) = plain_first(bytes, at + 1, shape);
     match what {

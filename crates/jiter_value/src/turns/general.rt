@@ -11,7 +11,8 @@ ghost use Rattle.jiter_steps.specs.ReadError.{WhereRefused};
 ghost use Rattle.jiter_steps.specs.StringDecoder.{text_view};
 ghost use Rattle.jiter_steps.specs.declared.parse.Start.{Start};
 ghost use Rattle.jiter_value.specs.Size.{value_size, key_size};
-ghost use Rattle.jiter_value.specs.Stacks.{resume_with, from_value, from_key, key_fault, Stands, StandsAtKey};
+ghost use Rattle.jiter_value.specs.Stacks.{resume_with, from_value, from_key, key_fault, Stands, StandsAtKey, IsFree};
+ghost use Rattle.jiter_value.specs.Stacks.{KeepsKeys, LeavesKeys};
 ghost use Rattle.jiter_value.specs.Texts.{IsLentAt};
 ghost use Rattle.jiter_value.specs.Turns.{IsAtValue, Proceeds, MayGrowFor, left, outcome};
 ghost use Rattle.jiter_value.specs.Value.{MayGrowBy};
@@ -51,6 +52,8 @@ fn fault_at_value<'s, T: Texts<'s>>(
         stacks.new result }
     ensures memory { WhereRefused (outcome stacks.new result.1) (slot ≢ Slot.Root) }
     ensures root { OnOk (outcome stacks.new result.1) (slot ≢ Slot.Root) }
+    ensures keys { OnOk (outcome stacks.new result.1)
+        (LeavesKeys stacks.old.members.items stacks.new.members.items) }
 {
     if !forgives(settings.mode, problem.kind) {
         return give_up(stacks, problem, at);
@@ -83,6 +86,8 @@ fn fault_at_key<'s, T: Texts<'s>>(
         (key_size stacks.old) (key_fault T.made settings bytes.now stacks.old
         (fault_kind problem.kind) problem.index at)
         stacks.new result }
+    ensures keys { OnOk (outcome stacks.new result.1)
+        (LeavesKeys stacks.old.members.items stacks.new.members.items) }
 {
     if !forgives(settings.mode, problem.kind) {
         return give_up(stacks, problem, at);
@@ -91,6 +96,7 @@ fn fault_at_key<'s, T: Texts<'s>>(
 }
 
 /// Any scalar where a value is awaited, or the fault there.
+#[cold]
 #[inline(never)]
 pub fn general_scalar<'s, T: Texts<'s>>(
     alloc: Global,
@@ -111,6 +117,8 @@ pub fn general_scalar<'s, T: Texts<'s>>(
         stacks.new result }
     ensures memory { slot ≡ Slot.Root
         → MayGrowFor (outcome stacks.new result.1) (MayGrowBy T.wants bytes.now at) }
+    ensures keys { OnOk (outcome stacks.new result.1)
+        (LeavesKeys stacks.old.members.items stacks.new.members.items) }
 {
     let mut parser = Parser { bytes, index: at };
     match scalar(alloc, texts, tape, &mut parser, settings) {
@@ -138,7 +146,7 @@ fn push_key<'s, T: Texts<'s>>(
     requires texts { T.of texts bytes.now }
     requires lent { IsLentAt bytes.now from (text_view key) }
     ensures { OnOk result ((kept : CowStrView Global)
-        × (text_view kept ≡ T.made (text_view key.entry))
+        × (text_view kept ≡ T.made.text (text_view key.entry))
         × (members.new.items ≡ members.old.items ++ (kept, Int (pos 0)) ∷ [])) }
 {
     let kept = texts.keep(bytes, from, key)?;
@@ -162,9 +170,12 @@ pub fn general_key<'s, T: Texts<'s>>(
     requires stands { StandsAtKey stacks.old }
     requires levels { length stacks.old.nest.items ≤ nesting_limit + 1 }
     requires within { at < length bytes.now }
+    requires free { IsFree T.made bytes.now stacks.old at }
     ensures leads { Proceeds T.made settings bytes.now at (left bytes.now stacks.old at)
         (key_size stacks.old + 1) (from_key T.made settings bytes.now stacks.old at)
         stacks.new result }
+    ensures keys { OnOk (outcome stacks.new result.1)
+        (KeepsKeys T.made bytes.now stacks.old.members.items State.Key at stacks.new.members.items) }
 {
     let mut parser = Parser { bytes, index: at };
     match parser.string(alloc, tape, false) {

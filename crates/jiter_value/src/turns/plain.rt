@@ -1,5 +1,5 @@
 //! The plain way: what can be read in one look and put where there is room for it. All answers stay in registers.
-ghost use Rattle.std.specs.Prelude.{◌≡◌, ◌+◌, ◌^◌, ◌≤◌, ◌<◌, IfSome, None, length, pos, slice_get, slice_index, Some};
+ghost use Rattle.std.specs.Prelude.{◌≡◌, ◌+◌, ◌^◌, ◌≤◌, ◌<◌, ◌⊎◌, length, pos, slice_get, slice_index, Some};
 ghost use Rattle.std.specs.Prelude.{if◌then◌else◌, vec_len, vec_capacity};
 ghost use Rattle.jiter_scan.specs.Ascii as ascii;
 ghost use Rattle.jiter_scan.specs.Number.{minus_of};
@@ -9,13 +9,16 @@ ghost use Rattle.jiter_steps.specs.Node.{nesting_limit};
 ghost use Rattle.jiter_steps.specs.StringDecoder.{WantsMemory};
 ghost use Rattle.jiter_steps.specs.Tree.{int};
 ghost use Rattle.jiter_steps.specs.declared.parse.Start.{Start};
-ghost use Rattle.jiter_value.specs.Stacks.{Stands, StandsAtKey, HasRoom};
-ghost use Rattle.jiter_value.specs.Turns.{IsAtValue, IsPutAt, IsKeyAt};
-ghost use Rattle.jiter_value.specs.Value.{view};
+ghost use Rattle.jiter_steps.specs.declared.read_error.ReadError.TheVariants as error;
+ghost use Rattle.jiter_value.specs.Stacks.{Stands, StandsAtKey, IsFree, HasRoom, KeepsKeys, LeavesKeys};
+ghost use Rattle.jiter_value.specs.declared.stacks.State.TheVariants as state;
+ghost use Rattle.jiter_value.specs.Turns.{IsAtValue, IsPutAt, IsKeyAt, IsRefusedAt};
+ghost use Rattle.jiter_value.specs.Value.{view, MayGrowBy};
 
 use crate::stacks::{Slot, Stacks, has_room, put_reserved};
-use crate::texts::{Texts, keep_decoded, keep_lent};
+use crate::texts::{Texts, keep_decoded, keep_lent, keep_number};
 use crate::value::JsonValue;
+use jiter_scan::memory::Refused;
 use jiter_scan::number_extent::minus_end;
 use jiter_scan::plain_number::{PlainNumber, plain_number_at};
 use jiter_scan::short_scan::scan_short;
@@ -24,11 +27,35 @@ use jiter_steps::parse::Literal;
 use jiter_steps::plain::{
     ascii_between, plain_colon, plain_literal_end, plain_text_end, text_between,
 };
+use jiter_steps::read_error::ReadError;
 use jiter_steps::string_decoder::decode_whole;
 use std::alloc::Global;
 
+/// What a look at a scalar or a key came to.
+#[derive(Clone, Copy, Debug)]
+pub enum Plain {
+    /// It went where it belongs.
+    Put,
+    /// It is not plain, or there is no room for it, and nothing was done.
+    Other,
+    /// Memory for its text was refused, and the reading is given up.
+    Refused,
+}
+
+// The reading is given up at `at`, since memory for a text was refused.
+#[cold]
+#[inline(never)]
+fn refused_at(stacks: &mut Stacks<'_>, refused: Refused, at: usize) -> (usize, Plain)
+    ensures place { result ≡ (at, Plain.Refused) }
+    ensures error { stacks.new.error ≡ error.Memory refused }
+{
+    stacks.error = ReadError::Memory(refused);
+    (at, Plain::Refused)
+}
+
 // A string with no backslash and with characters beyond ASCII goes where it belongs, if it is UTF-8: the place
 // behind it.
+#[cold]
 #[inline(never)]
 fn put_plain_utf8<'s, T: Texts<'s>>(
     texts: T,
@@ -37,7 +64,7 @@ fn put_plain_utf8<'s, T: Texts<'s>>(
     at: usize,
     to: usize,
     slot: Slot,
-) -> Option<usize>
+) -> (usize, Plain)
     requires texts { T.of texts bytes.now }
     requires stands { Stands stacks.old slot }
     requires few { length stacks.old.nest.items ≤ nesting_limit }
@@ -46,15 +73,26 @@ fn put_plain_utf8<'s, T: Texts<'s>>(
     requires within { (at < to) × (to < length bytes.now) }
     requires stop { to ≡ scan_stop bytes.now (at + 1) }
     requires quote { slice_get bytes.now to ≡ Some ascii.quote }
-    ensures put { IfSome result (λ e. IsPutAt T.made bytes.now stacks.old at slot stacks.new e) }
-    ensures same { result ≡ None → stacks.new ≡ stacks.old }
+    ensures put { result.1 ≡ Plain.Put → IsPutAt T.made bytes.now stacks.old at slot stacks.new result.0 }
+    ensures other { result.1 ≡ Plain.Other → stacks.new ≡ stacks.old }
+    ensures refused { result.1 ≡ Plain.Refused → IsRefusedAt bytes.now at stacks.new result.0 }
+    ensures memory { result.1 ≡ Plain.Refused → T.wants }
+    ensures keys { result.1 ≡ Plain.Put → LeavesKeys stacks.old.members.items stacks.new.members.items }
 {
-    let text = keep_lent(texts, bytes, at + 1, text_between(bytes, at, to)?)?;
-    put_reserved(stacks, slot, JsonValue::Str(text));
-    Some(to + 1)
+    let Some(plain) = text_between(bytes, at, to) else {
+        return (at, Plain::Other);
+    };
+    match keep_lent(texts, bytes, at + 1, plain) {
+        Ok(text) => {
+            put_reserved(stacks, slot, JsonValue::Str(text));
+            (to + 1, Plain::Put)
+        }
+        Err(refused) => refused_at(stacks, refused, to + 1),
+    }
 }
 
 // A string with a backslash goes where it belongs, decoded, if that is whole: the place behind it.
+#[cold]
 #[inline(never)]
 fn put_decoded_text<'s, T: Texts<'s>>(
     alloc: Global,
@@ -64,20 +102,31 @@ fn put_decoded_text<'s, T: Texts<'s>>(
     bytes: &[u8],
     at: usize,
     slot: Slot,
-) -> Option<usize>
+) -> (usize, Plain)
     requires texts { T.of texts bytes.now }
     requires at_value { IsAtValue bytes.now stacks.old slot at }
     requires room { HasRoom stacks.old slot }
     requires begins { start_of (slice_index bytes.now at) ≡ Start.String }
     requires backslash { WantsMemory bytes.now at }
-    ensures put { IfSome result (λ e. IsPutAt T.made bytes.now stacks.old at slot stacks.new e) }
-    ensures same { result ≡ None → stacks.new ≡ stacks.old }
+    ensures put { result.1 ≡ Plain.Put → IsPutAt T.made bytes.now stacks.old at slot stacks.new result.0 }
+    ensures other { result.1 ≡ Plain.Other → stacks.new ≡ stacks.old }
+    ensures refused { result.1 ≡ Plain.Refused → IsRefusedAt bytes.now at stacks.new result.0 }
+    ensures keys { result.1 ≡ Plain.Put → LeavesKeys stacks.old.members.items stacks.new.members.items }
 {
-    let (count, end) = decode_whole(tape, bytes, at)?;
-    let decoded = utf8_text(&tape.as_slice()[..count]);
-    let text = keep_decoded(alloc, texts, bytes, at + 1, decoded)?;
-    put_reserved(stacks, slot, JsonValue::Str(text));
-    Some(end)
+    match decode_whole(tape, bytes, at) {
+        Ok((count, end)) => {
+            let decoded = utf8_text(&tape.as_slice()[..count]);
+            match keep_decoded(alloc, texts, bytes, at + 1, decoded) {
+                Ok(text) => {
+                    put_reserved(stacks, slot, JsonValue::Str(text));
+                    (end, Plain::Put)
+                }
+                Err(refused) => refused_at(stacks, refused, at),
+            }
+        }
+        Err(Some(refused)) => refused_at(stacks, refused, at),
+        Err(None) => (at, Plain::Other),
+    }
 }
 
 // A string goes where it belongs, if it is whole: the place behind it.
@@ -90,30 +139,37 @@ fn put_plain_text<'s, T: Texts<'s>>(
     bytes: &[u8],
     at: usize,
     slot: Slot,
-) -> Option<usize>
+) -> (usize, Plain)
     requires texts { T.of texts bytes.now }
     requires at_value { IsAtValue bytes.now stacks.old slot at }
     requires room { HasRoom stacks.old slot }
     requires begins { start_of (slice_index bytes.now at) ≡ Start.String }
-    ensures put { IfSome result (λ e. IsPutAt T.made bytes.now stacks.old at slot stacks.new e) }
-    ensures same { result ≡ None → stacks.new ≡ stacks.old }
+    ensures put { result.1 ≡ Plain.Put → IsPutAt T.made bytes.now stacks.old at slot stacks.new result.0 }
+    ensures other { result.1 ≡ Plain.Other → stacks.new ≡ stacks.old }
+    ensures refused { result.1 ≡ Plain.Refused → IsRefusedAt bytes.now at stacks.new result.0 }
+    ensures memory { result.1 ≡ Plain.Refused → WantsMemory bytes.now at ⊎ T.wants }
+    ensures keys { result.1 ≡ Plain.Put → LeavesKeys stacks.old.members.items stacks.new.members.items }
 {
     let (to, low) = scan_short(bytes, at + 1);
     if to >= bytes.len() {
-        return None;
+        return (at, Plain::Other);
     }
     if bytes[to] != b'"' {
         if bytes[to] != b'\\' {
-            return None;
+            return (at, Plain::Other);
         }
         return put_decoded_text(alloc, texts, tape, stacks, bytes, at, slot);
     }
     if !low {
         return put_plain_utf8(texts, stacks, bytes, at, to, slot);
     }
-    let text = keep_lent(texts, bytes, at + 1, ascii_between(bytes, at, to))?;
-    put_reserved(stacks, slot, JsonValue::Str(text));
-    Some(to + 1)
+    match keep_lent(texts, bytes, at + 1, ascii_between(bytes, at, to)) {
+        Ok(text) => {
+            put_reserved(stacks, slot, JsonValue::Str(text));
+            (to + 1, Plain::Put)
+        }
+        Err(refused) => refused_at(stacks, refused, to + 1),
+    }
 }
 
 // The integer of a magnitude, with a minus or none.
@@ -134,26 +190,33 @@ fn put_plain_number<'s, T: Texts<'s>>(
     bytes: &[u8],
     at: usize,
     slot: Slot,
-) -> Option<usize>
+) -> (usize, Plain)
     requires texts { T.of texts bytes.now }
     requires at_value { IsAtValue bytes.now stacks.old slot at }
     requires room { HasRoom stacks.old slot }
     requires begins { start_of (slice_index bytes.now at) ≡ Start.Number }
-    ensures put { IfSome result (λ e. IsPutAt T.made bytes.now stacks.old at slot stacks.new e) }
-    ensures same { result ≡ None → stacks.new ≡ stacks.old }
+    ensures put { result.1 ≡ Plain.Put → IsPutAt T.made bytes.now stacks.old at slot stacks.new result.0 }
+    ensures other { result.1 ≡ Plain.Other → stacks.new ≡ stacks.old }
+    ensures refused { result.1 ≡ Plain.Refused → IsRefusedAt bytes.now at stacks.new result.0 }
+    ensures memory { result.1 ≡ Plain.Refused → T.wants }
+    ensures keys { result.1 ≡ Plain.Put → LeavesKeys stacks.old.members.items stacks.new.members.items }
 {
     let from = minus_end(bytes, at);
     match plain_number_at(bytes, from) {
         PlainNumber::Int(magnitude, end) => {
             put_reserved(stacks, slot, signed(magnitude, from > at));
-            Some(end)
+            (end, Plain::Put)
         }
         PlainNumber::Float(end) => {
-            let text = keep_lent(texts, bytes, at, ascii_text(&bytes[at..end]))?;
-            put_reserved(stacks, slot, JsonValue::Float(text));
-            Some(end)
+            match keep_number(texts, bytes, at, ascii_text(&bytes[at..end])) {
+                Ok(text) => {
+                    put_reserved(stacks, slot, JsonValue::Float(text));
+                    (end, Plain::Put)
+                }
+                Err(refused) => refused_at(stacks, refused, end),
+            }
         }
-        PlainNumber::Other => None,
+        PlainNumber::Other => (at, Plain::Other),
     }
 }
 
@@ -165,20 +228,25 @@ fn put_plain_literal<'s, T: Texts<'s>>(
     at: usize,
     slot: Slot,
     literal: Literal,
-) -> Option<usize>
+) -> (usize, Plain)
     requires at_value { IsAtValue bytes.now stacks.old slot at }
     requires room { HasRoom stacks.old slot }
     requires begins { start_of (slice_index bytes.now at) ≡ Start.Literal literal }
-    ensures put { IfSome result (λ e. IsPutAt T.made bytes.now stacks.old at slot stacks.new e) }
-    ensures same { result ≡ None → stacks.new ≡ stacks.old }
+    ensures put { result.1 ≡ Plain.Put → IsPutAt T.made bytes.now stacks.old at slot stacks.new result.0 }
+    ensures other { result.1 ≡ Plain.Other → stacks.new ≡ stacks.old }
+    ensures refused { result.1 ≡ Plain.Refused → IsRefusedAt bytes.now at stacks.new result.0 }
+    ensures memory { result.1 ≡ Plain.Refused → ⊥ }
+    ensures keys { result.1 ≡ Plain.Put → LeavesKeys stacks.old.members.items stacks.new.members.items }
 {
-    let end = plain_literal_end(bytes, at, literal)?;
+    let Some(end) = plain_literal_end(bytes, at, literal) else {
+        return (at, Plain::Other);
+    };
     match literal {
         Literal::Null => put_reserved(stacks, slot, JsonValue::Null),
         Literal::True => put_reserved(stacks, slot, JsonValue::Bool(true)),
         Literal::False => put_reserved(stacks, slot, JsonValue::Bool(false)),
     }
-    Some(end)
+    (end, Plain::Put)
 }
 
 /// A plain scalar, or any whole string, goes where it belongs, if there is room for it: the place behind it.
@@ -191,14 +259,17 @@ pub fn put_plain_scalar<'s, T: Texts<'s>>(
     bytes: &[u8],
     at: usize,
     slot: Slot,
-) -> Option<usize>
+) -> (usize, Plain)
     requires texts { T.of texts bytes.now }
     requires at_value { IsAtValue bytes.now stacks.old slot at }
-    ensures put { IfSome result (λ e. IsPutAt T.made bytes.now stacks.old at slot stacks.new e) }
-    ensures same { result ≡ None → stacks.new ≡ stacks.old }
+    ensures put { result.1 ≡ Plain.Put → IsPutAt T.made bytes.now stacks.old at slot stacks.new result.0 }
+    ensures other { result.1 ≡ Plain.Other → stacks.new ≡ stacks.old }
+    ensures refused { result.1 ≡ Plain.Refused → IsRefusedAt bytes.now at stacks.new result.0 }
+    ensures memory { result.1 ≡ Plain.Refused → MayGrowBy T.wants bytes.now at }
+    ensures keys { result.1 ≡ Plain.Put → LeavesKeys stacks.old.members.items stacks.new.members.items }
 {
     if !has_room(stacks, slot) {
-        return None;
+        return (at, Plain::Other);
     }
     match bytes[at] {
         b'"' => put_plain_text(alloc, texts, tape, stacks, bytes, at, slot),
@@ -206,7 +277,7 @@ pub fn put_plain_scalar<'s, T: Texts<'s>>(
         b'n' => put_plain_literal::<T>(stacks, bytes, at, slot, Literal::Null),
         b't' => put_plain_literal::<T>(stacks, bytes, at, slot, Literal::True),
         b'f' => put_plain_literal::<T>(stacks, bytes, at, slot, Literal::False),
-        _ => None,
+        _ => (at, Plain::Other),
     }
 }
 
@@ -217,18 +288,30 @@ pub fn put_plain_key<'s, T: Texts<'s>>(
     stacks: &mut Stacks<'s>,
     bytes: &[u8],
     at: usize,
-) -> Option<usize>
+) -> (usize, Plain)
     requires texts { T.of texts bytes.now }
     requires stands { StandsAtKey stacks.old }
     requires few { length stacks.old.nest.items ≤ nesting_limit }
     requires room { vec_len stacks.old.members < vec_capacity stacks.old.members }
     requires within { at < length bytes.now }
-    ensures put { IfSome result (λ next. IsKeyAt T.made bytes.now stacks.old at stacks.new next) }
-    ensures same { result ≡ None → stacks.new ≡ stacks.old }
+    requires free { IsFree T.made bytes.now stacks.old at }
+    ensures put { result.1 ≡ Plain.Put → IsKeyAt T.made bytes.now stacks.old at stacks.new result.0 }
+    ensures other { result.1 ≡ Plain.Other → stacks.new ≡ stacks.old }
+    ensures refused { result.1 ≡ Plain.Refused → IsRefusedAt bytes.now at stacks.new result.0 }
+    ensures keys { result.1 ≡ Plain.Put
+        → KeepsKeys T.made bytes.now stacks.old.members.items state.Key at stacks.new.members.items }
 {
-    let to = plain_text_end(bytes, at)?;
-    let next = plain_colon(bytes, to + 1)?;
-    let key = keep_lent(texts, bytes, at + 1, ascii_text(&bytes[at + 1..to]))?;
-    stacks.members.push_reserved((key, JsonValue::Int(0)));
-    Some(next)
+    let Some(to) = plain_text_end(bytes, at) else {
+        return (at, Plain::Other);
+    };
+    let Some(next) = plain_colon(bytes, to + 1) else {
+        return (at, Plain::Other);
+    };
+    match keep_lent(texts, bytes, at + 1, ascii_text(&bytes[at + 1..to])) {
+        Ok(key) => {
+            stacks.members.push_reserved((key, JsonValue::Int(0)));
+            (next, Plain::Put)
+        }
+        Err(refused) => refused_at(stacks, refused, next),
+    }
 }

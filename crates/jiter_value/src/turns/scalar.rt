@@ -5,9 +5,9 @@ ghost use Rattle.jiter_steps.specs.Literal.{literal_tree, start_of};
 ghost use Rattle.jiter_steps.specs.Node.{number_tree};
 ghost use Rattle.jiter_steps.specs.Read.{scalar_at, value_at};
 ghost use Rattle.jiter_steps.specs.Parse.{Moves, Reads, Gives};
-ghost use Rattle.jiter_value.specs.Owned.{as_it_is, tree_as};
+ghost use Rattle.jiter_value.specs.Owned.{tree_as};
 ghost use Rattle.jiter_value.specs.Texts.{IsNumberAt};
-ghost use Rattle.jiter_value.specs.Settings.{rules_as};
+ghost use Rattle.jiter_value.specs.Settings.{lent, rules_as};
 ghost use Rattle.jiter_value.specs.Size.{size};
 ghost use Rattle.jiter_steps.specs.ReadError.{WhereRefused};
 ghost use Rattle.jiter_steps.specs.StringDecoder.{WantsMemory};
@@ -22,7 +22,6 @@ use jiter_scan::{NumberAny, NumberInt};
 use jiter_steps::parse::{Literal, Parser, Start, start_of};
 use jiter_steps::read_error::ReadError;
 use std::alloc::Global;
-use std::borrow::CowStr;
 
 #[inline(always)]
 fn literal_value<'s>(literal: Literal) -> JsonValue<'s>
@@ -46,18 +45,18 @@ fn number_value<'s, T: Texts<'s>>(
     requires texts { T.of texts bytes.now }
     requires lent { IsNumberAt bytes.now at (number_view number) }
     ensures value { IfOk result (λ v.
-        view v ≡ tree_as T.made (number_tree (number_view number.entry))) }
+        view v ≡ tree_as T.made.text (number_tree (number_view number.entry))) }
     ensures one { IfOk result (λ v. size (view v) ≡ 1) }
     ensures memory { OnErr result T.wants }
 {
     match number {
         NumberAny::Int(NumberInt::Int(integer)) => Ok(JsonValue::Int(integer)),
         NumberAny::Int(NumberInt::BigInt(text)) => {
-            let kept = texts.keep(bytes, at, CowStr::Borrowed(text))?;
+            let kept = texts.keep_number(bytes, at, text)?;
             Ok(JsonValue::BigInt(kept))
         }
         NumberAny::Float(text) => {
-            let kept = texts.keep(bytes, at, CowStr::Borrowed(text))?;
+            let kept = texts.keep_number(bytes, at, text)?;
             Ok(JsonValue::Float(kept))
         }
     }
@@ -71,7 +70,7 @@ fn read_literal<'s>(
 ) -> Result<JsonValue<'s>, Fault>
     ensures moves { Moves parser.old parser.new }
     ensures value { Reads view result parser.new.index (scalar_at parser.old.index
-        ((rules_as as_it_is settings).literal parser.old.bytes.now literal parser.old.index)) }
+        ((rules_as lent settings).literal parser.old.bytes.now literal parser.old.index)) }
     ensures ahead { OnOk result (parser.old.index < parser.new.index) }
     ensures one { IfOk result (λ v. size (view v) ≡ 1) }
 {

@@ -1,7 +1,7 @@
 -- The lines that runs write, by computation.
 use Rattle.std.proofs.Common.{◌≡◌, ◌∷◌, [], List, Bool, true, false, refl, codes, map}
 use Prim.Native.String.{String}
-use Rattle.look.specs.Print.{with_line_feed}
+use Rattle.jiter_print.specs.Print.{with_line_feed}
 use Rattle.jiter_scan.specs.declared.partial_mode.PartialMode.TheVariants.{Off, On, TrailingStrings}
 use Rattle.look.specs.Run.{Line, value_line, fault_line, line_of}
 use Rattle.look.proofs.Rows.Computed.{computed_answers}

@@ -1,8 +1,10 @@
 use Rattle.std.proofs.Common.{◌≡◌, None, option_map, take}
-use Rattle.jiter_value.specs.Access.{last_named}
+use Rattle.std.specs.Str.{bytes_eq}
+use Rattle.jiter_value.specs.Access.{last_such}
 use Rattle.jiter_value.specs.Value.{view, member_views}
 use Rattle.jiter_value.proofs.access.last_named.Given as goal
 
 abbrev pub invariant-loop-i : goal.invariant-loop-i
 invariant-loop-i l =
-    option_map (λ v. view v.now) l.found ≡ last_named l.name None (member_views (take l.i l.members.items))
+    option_map (λ v. view v.now) l.found
+    ≡ last_such (λ key. bytes_eq key l.name) None (member_views (take l.i l.members.items))

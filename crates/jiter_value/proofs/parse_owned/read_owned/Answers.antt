@@ -1,6 +1,7 @@
-use Rattle.std.proofs.Common.{subst, inl}
+use Rattle.std.proofs.Common.{refl, subst, inl}
 use Rattle.jiter_steps.specs.Parse.{Gives}
 use Rattle.jiter_value.specs.Owned.{owned_text}
+use Rattle.jiter_value.specs.Settings.{each}
 use Rattle.jiter_value.specs.Value.{view}
 use Rattle.jiter_value.proofs.MadeTexts.{value_at-as}
 use Rattle.jiter_value.proofs.TurnOutcomes.{refused-weaker}
@@ -10,7 +11,8 @@ pub returns-then-begins_container-clause-value : goal.returns-then-begins_contai
 returns-then-begins_container-clause-value c =
     let a = c.args in
     subst (Gives view c.own_container.result c.own_container.new.parser.index)
-    (value_at-as owned_text a.settings a.parser.now.bytes.now 200 a.parser.now.index) c.own_container.ensures.value
+    (value_at-as (each owned_text) refl a.settings a.parser.now.bytes.now 200 a.parser.now.index)
+    c.own_container.ensures.value
 
 pub returns-then-begins_container-clause-memory : goal.returns-then-begins_container-clause-memory
 returns-then-begins_container-clause-memory c =

@@ -2,6 +2,7 @@ use Rattle.std.proofs.Common.{◌∙◌, ap, arith, length}
 use Rattle.jiter_steps.specs.Blank.{past_blanks}
 use Rattle.jiter_value.specs.Owned.{tree_as}
 use Rattle.jiter_value.specs.Value.{MayGrowBy}
+use Rattle.jiter_value.proofs.MadeTexts.{answer_as-is}
 use Rattle.jiter_value.proofs.ParsedDocuments.{value-parses, error-parses}
 use Rattle.jiter_value.proofs.reading.read_text_as.Goals as goal
 
@@ -9,8 +10,10 @@ pub returns-in-Ok : goal.returns-in-Ok
 returns-in-Ok g c =
     let a = c.args in
     let t = a.bytes.now in
-    value-parses (tree_as g.T.Texts.made) (MayGrowBy g.T.Texts.wants t (past_blanks t 0)) a.settings t
-    c.read_whole.new.parser.index c.in-Ok.value (rw c.new-parser.ensures.same at c.in-Ok.ensures.value)
+    let is = answer_as-is g.T.Texts.made c.requires.repeats a.settings t in
+    value-parses (tree_as g.T.Texts.made.text) (MayGrowBy g.T.Texts.wants t (past_blanks t 0)) a.settings t
+    c.read_whole.new.parser.index c.in-Ok.value
+    (rw is at (rw c.new-parser.ensures.same at c.in-Ok.ensures.value))
 
 pub returns-in-Err : goal.returns-in-Err
 returns-in-Err g c =
@@ -19,7 +22,8 @@ returns-in-Err g c =
     let read = c.in-Err.ensures in
     let i = c.read_whole.new.parser.index in
     let same = ap (λ b. length b.now) (read.moves.same ∙ c.new-parser.ensures.same) in
-    error-parses (tree_as g.T.Texts.made) (MayGrowBy g.T.Texts.wants t (past_blanks t 0)) a.settings t i
-    c.in-Err.error c.error_at.result c.error_at.ensures (rw c.new-parser.ensures.same at read.value)
+    let is = answer_as-is g.T.Texts.made c.requires.repeats a.settings t in
+    error-parses (tree_as g.T.Texts.made.text) (MayGrowBy g.T.Texts.wants t (past_blanks t 0)) a.settings t i
+    c.in-Err.error c.error_at.result c.error_at.ensures (rw is at (rw c.new-parser.ensures.same at read.value))
     (omega (arith, c.read_whole.new.parser.within, same)) (rw c.new-parser.ensures.same at read.memory)
     (rw c.new-parser.ensures.same at read.place)

@@ -1,7 +1,7 @@
 use Rattle.std.proofs.Common.{◌∙◌, refl, ap}
 use Rattle.std.proofs.lemmas.Result.{err_from_is_err_and}
-use Rattle.jiter_value.proofs.MadeAnswers.{made-none, made-refused}
-use Rattle.jiter_value.proofs.WholeTextAnswers.{value-begins-at}
+use Rattle.jiter_value.specs.Settings.{rules_as}
+use Rattle.jiter_value.proofs.WholeTextAnswers.{answer-none, answer-refused, value-begins-at}
 use Rattle.jiter_value.proofs.reading.read_whole.Goals as goal
 
 pub returns-in_err-value_first-clause-value : goal.returns-in_err-value_first-clause-value
@@ -9,7 +9,8 @@ returns-in_err-value_first-clause-value g c =
     let a = c.args in
     let e = err_from_is_err_and c.from_residual.result c.from_residual.ensures.1 in
     rw (e.1, e.2)
-    (made-none g.T.Texts.made a.settings a.parser.now.bytes.now _ _ c.value_first.new.self.index
+    (answer-none (rules_as g.T.Texts.made a.settings) a.settings.mode a.parser.now.bytes.now _ _
+    c.value_first.new.self.index
     (rw c.requires.begins at c.in_err-value_first.ensures.value))
 
 pub finish_whole-requires : goal.finish_whole-requires
@@ -30,5 +31,6 @@ returns-in_err-value-clause-value g c =
     let at = value-begins-at t c.value_first.new.self.index (rw c.requires.begins at begun.value) in
     let e = err_from_is_err_and c.from_residual-in_err-value.result c.from_residual-in_err-value.ensures.1 in
     rw (e.1, e.2)
-    (made-refused g.T.Texts.made c.args.settings t (rw at begun.inside) _ c.run.new.parser.index
+    (answer-refused (rules_as g.T.Texts.made c.args.settings) c.args.settings.mode t
+    (rw at begun.inside) _ c.run.new.parser.index
     (rw at (rw first at c.in_err-value.ensures.value)))

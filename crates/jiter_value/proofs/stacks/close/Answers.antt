@@ -3,6 +3,7 @@ use Rattle.jiter_steps.specs.Tree.{array, object, items_of, members_of}
 use Rattle.jiter_steps.specs.declared.parse.Shape.TheVariants as shape
 use Rattle.jiter_value.specs.Stacks.{frames, member_view}
 use Rattle.jiter_value.specs.Value.{view}
+use Rattle.jiter_value.proofs.KeptKeys.{leaves-taken, leaves-then}
 use Rattle.jiter_value.proofs.StackTurns.{container-closes}
 use Rattle.jiter_value.proofs.Sizes.{container-size}
 use Rattle.jiter_value.proofs.Views.{view_array}
@@ -57,3 +58,8 @@ returns-in_ok-put-in-Object-clause-held c =
     ∙ sym (container-size shape.Object s.nest.items c.pop.new.self.items o s.items.items s.members.items _ _
     c.in-Some.ensures.items below
     (c.object_of.ensures ∙ ap (λ xs. object (members_of (map member_view xs))) members.ensures.value)))
+
+pub returns-in_ok-put-in-Object-clause-keys : goal.returns-in_ok-put-in-Object-clause-keys
+returns-in_ok-put-in-Object-clause-keys c =
+    leaves-then c.args.stacks.now.members.items _ _ (leaves-taken _ _ _ c.in_ok-members-in-Object.ensures.rest)
+    c.in_ok-put-in-Object.ensures.keys

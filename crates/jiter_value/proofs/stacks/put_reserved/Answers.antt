@@ -26,10 +26,11 @@ returns-in-Member c =
     let v = c.args.value in
     let last = last-member os (length es) ms (rw c.in-Member.is at c.requires.stands) in
     let before = take (length ms - 1) ms in
-    let set = c.set_last.ensures before last.0.0 last.0.1 last.1 in
+    let set = c.set_last.ensures.value before last.0.0 last.0.1 last.1 in
     rw c.in-Member.is (record {
       value = rw (last.1, set) (λ made p t e. put-value made p t os es before last.0 s.root v e last.2);
       stands = rw set (key-above os (length es) before (last.0.0, v) last.2);
       nest = search library_rules;
       held = rw (last.1, set) (put-value-size os es before last.0 s.root v last.2);
+      keys = c.set_last.ensures.keys;
     })

@@ -1,15 +1,15 @@
 use Rattle.std.proofs.Common.{◌∙◌, ◌≤◌, ap, arith, length, Ok, Err}
 use Rattle.jiter_steps.specs.Blank.{past_blanks}
-use Rattle.jiter_value.specs.Owned.{as_it_is}
 use Rattle.jiter_value.specs.Parses.{as_read}
+use Rattle.jiter_value.specs.Settings.{lent, rules_as}
 use Rattle.jiter_value.specs.Size.{size}
 use Rattle.jiter_value.specs.Stacks.{meaning}
 use Rattle.jiter_value.specs.Value.{view, MayGrow}
 use Rattle.jiter_value.specs.declared.value.JsonValue.{JsonValue}
-use Rattle.jiter_value.proofs.MadeAnswers.{made-refused, lent-gives}
+use Rattle.jiter_value.proofs.MadeAnswers.{lent-gives}
 use Rattle.jiter_value.proofs.ParsedDocuments.{value-parses, error-parses}
 use Rattle.jiter_value.proofs.TurnOutcomes.{refused-weaker, refused-any}
-use Rattle.jiter_value.proofs.WholeTextAnswers.{fails-gives, held-begun, turn-grows}
+use Rattle.jiter_value.proofs.WholeTextAnswers.{answer-refused, fails-gives, held-begun, turn-grows}
 use Rattle.jiter_value.proofs.machine.Machine.go.Goals as goal
 
 pub returns-in-Ok : goal.returns-in-Ok
@@ -54,8 +54,8 @@ returns-in-GivenUp c =
     let fails = rw c.in-GivenUp.is at c.turn-at.ensures.leads.reaches in
     let grows = rw c.in-GivenUp.is at c.turn-at.ensures.memory in (
       error-parses as_read (MayGrow t) p t j e c.error_at-in-GivenUp.result c.error_at-in-GivenUp.ensures
-          (lent-gives p t (Err e) j (made-refused as_it_is p t begun.begins e j
-          (fails-gives e j _ (meaning as_it_is p t s a at) begun.value (rw c.take_error-error.ensures fails))))
+          (lent-gives p t (Err e) j (answer-refused (rules_as lent p) p.mode t begun.begins e j
+          (fails-gives e j _ (meaning lent p t s a at) begun.value (rw c.take_error-error.ensures fails))))
           c.turn-at.ensures.leads.within.1
           (turn-grows t p at a s e begun (rw c.take_error-error.ensures grows))
           (refused-any JsonValue e (past_blanks t 0 ≤ j)

@@ -1,4 +1,5 @@
 use Rattle.std.proofs.Common.{◌∙◌, refl, sym, arith, reverse, rules as library_rules}
+use Rattle.jiter_value.proofs.KeptKeys.{leaves-then, kept-on}
 use Rattle.jiter_value.proofs.Shapes.{reaches-part, inside-stands, not-root}
 use Rattle.jiter_value.proofs.Sizes.{behind-part-size}
 use Rattle.jiter_value.proofs.StackTurns.{behind-more, behind-closed, behind-fails}
@@ -70,4 +71,9 @@ closing-preserved g c =
           ∙ sym (behind-part-size h (reverse s.nest.items) s.items.items s.members.items s.root so_far.3)
           ∙ so_far.6,
       λ r. absurd (not-root h (so_far.7 r)),
+      leaves-then c.args.stacks.now.members.items s.members.items _ so_far.8
+          (rw same at c.in-Ok.ensures.keys),
     )
+
+pub returns-in-Part-clause-keys : goal.returns-in-Part-clause-keys
+returns-in-Part-clause-keys g c = kept-on c.closing.stacks c.part_of.result c.closing.invariant.8

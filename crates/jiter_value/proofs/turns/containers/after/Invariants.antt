@@ -1,6 +1,6 @@
 use Rattle.std.proofs.Common.{◌≡◌, ◌≤◌, length}
 use Rattle.jiter_value.specs.Size.{behind_size}
-use Rattle.jiter_value.specs.Stacks.{behind, Stands}
+use Rattle.jiter_value.specs.Stacks.{behind, Stands, LeavesKeys}
 use Rattle.jiter_value.specs.Turns.{left}
 use Rattle.jiter_value.specs.declared.stacks.Slot.TheVariants as slot
 use Rattle.jiter_value.proofs.turns.containers.after.Given as goal
@@ -16,6 +16,7 @@ invariant-closing g l =
     × (left l.fn.bytes l.stacks l.at ≤ left l.fn.bytes l.fn.stacks l.fn.from)
     × (behind_size l.stacks l.inside ≡ behind_size l.fn.stacks l.fn.slot)
     × (l.fn.slot ≡ slot.Root → l.inside ≡ slot.Root)
+    × LeavesKeys l.fn.stacks.members.items l.stacks.members.items
 
 abbrev pub decreases-closing : goal.decreases-closing
 decreases-closing g l = length l.stacks.nest.items

@@ -19,6 +19,7 @@ returns-then-not-ends g c =
         held = tt;
       };
       memory = λ e. fault-grows c.ends.new.stacks.error r.0 _ r.1;
+      keys = tt;
     }
 
 pub returns : goal.returns
@@ -36,4 +37,5 @@ returns g c =
           a.shape
           c.plain_first-next.result.0 c.requires.bracket ends.resolved);
       memory = λ e. root-grows r _ (empty.root e) (refused-weaker r _ _ (λ other. absurd (other e)) empty.memory);
+      keys = rw same at empty.keys;
     }

@@ -1,5 +1,6 @@
 use Rattle.std.proofs.Common.{refl, arith}
 use Rattle.std.proofs.lemmas.Grind.{common_steps}
+use Rattle.jiter_value.proofs.KeptKeys.{kept-on, leaves-all}
 use Rattle.jiter_value.proofs.Shapes.{shape-opens, array-too-deep}
 use Rattle.jiter_value.proofs.turns.containers.open.Goals as goal
 
@@ -18,6 +19,7 @@ returns-then-is_full g c =
         left = tt;
         held = tt;
       };
+      keys = tt;
     })
 
 pub returns-in-Ok : goal.returns-in-Ok
@@ -35,4 +37,5 @@ returns-in-Ok g c =
         left = grind (arith, common_steps);
         held = grind (arith, common_steps);
       };
+      keys = kept-on a.stacks.now c.part_of.result (leaves-all a.stacks.now.members.items);
     }

@@ -21,4 +21,5 @@ returns-then-not-forgives g c =
         left = tt;
         held = tt;
       };
+      keys = tt;
     })

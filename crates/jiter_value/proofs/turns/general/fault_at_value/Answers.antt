@@ -8,6 +8,7 @@ use Rattle.jiter_value.specs.Settings.{forgives, rules_as}
 use Rattle.jiter_value.specs.Size.{frames_size, inside_size_in}
 use Rattle.jiter_value.specs.Stacks.{frames, container_in}
 use Rattle.jiter_value.specs.declared.stacks.Slot.TheVariants as slot
+use Rattle.jiter_value.proofs.KeptKeys.{leaves-taken, leaves-on}
 use Rattle.jiter_value.proofs.StackTurns.{fault-value, last-member}
 use Rattle.jiter_value.proofs.Sizes.{key-size}
 use Rattle.jiter_value.proofs.TurnOutcomes.{leads-weaker}
@@ -51,3 +52,9 @@ returns-in-Member-clause-leads g c =
     last.1
     ∙ fault-value g.T.Texts.made a.settings a.bytes.now os es before last.0 k a.problem.index a.at last.2 ok
     ∙ ap (λ ys. container_in g.T.Texts.made a.settings a.bytes.now shape.Object os es ys a.at) (sym popped)))
+
+pub returns-in-Member-clause-keys : goal.returns-in-Member-clause-keys
+returns-in-Member-clause-keys g c =
+    let closed = c.close_and_go_on-in-Member in
+    leaves-on closed.new.stacks closed.result.1 c.args.stacks.now.members.items c.pop.new.self.items _
+    (leaves-taken _ _ _ c.pop.ensures.rest) closed.ensures.keys

@@ -2,6 +2,8 @@ use Rattle.std.proofs.Common.{◌≡◌, ◌∙◌, refl, ap, arith, length, rev
 use Rattle.std.proofs.lemmas.List.{length-reverse}
 use Rattle.jiter_scan.specs.Kind.{fault_kind}
 use Rattle.jiter_steps.specs.StringDecoder.{text_view}
+use Rattle.jiter_value.specs.declared.stacks.State.TheVariants as state
+use Rattle.jiter_value.proofs.KeptKeys.{pushed-keeps, keeps-on}
 use Rattle.jiter_value.proofs.Placed.{key-at}
 use Rattle.jiter_value.proofs.LentTexts.{string-lent}
 use Rattle.jiter_value.proofs.StackTurns.{key-begins, key-limit, key-fails, colon-fails, scalar-taken}
@@ -28,11 +30,12 @@ returns-then-len-gt-NESTING_LIMIT g c =
         within = (omega (arith, c.in-Ok.ensures.ahead, read.moves.forward), omega (arith, rw same at read.inside));
         reaches = rw c.too_deep.ensures.error
             (key-begins g.T.Texts.made p t os es ms c.args.at (text_view key) c.string.new.self.index m
-            c.requires.stands c.requires.within c.in-Ok.ensures.value (rw same at read.value)
-            ∙ key-limit g.T.Texts.made p t (g.T.Texts.made (text_view key)) os es ms m c.requires.stands full);
+            c.requires.stands c.requires.free c.requires.within c.in-Ok.ensures.value (rw same at read.value)
+            ∙ key-limit g.T.Texts.made p t (g.T.Texts.made.text (text_view key)) os es ms m c.requires.stands full);
         left = tt;
         held = tt;
       };
+      keys = tt;
     })
 
 pub push_key-requires : goal.push_key-requires
@@ -52,7 +55,8 @@ returns-in-Ok-push_key g c =
     let read = c.in-Ok-object_colon.ensures in
     let pushed = c.in-Ok-push_key.ensures in
     let put = key-at g.T.Texts.made c.args.bytes.now c.args.stacks.now c.push_key.new.members c.args.at
-    c.string.new.self.index c.object_colon.new.self.index (text_view c.in-Ok.key) pushed.0 _ c.requires.stands
+    c.string.new.self.index c.object_colon.new.self.index
+    (text_view c.in-Ok.key) pushed.0 _ c.requires.stands c.requires.free
     c.requires.within c.in-Ok.ensures.value pushed.1 (rw same at read.value) pushed.2
     (omega (arith, c.in-Ok.ensures.ahead, read.moves.forward)) (rw same at read.inside) in
     let few = c.if-len-gt-NESTING_LIMIT.false in
@@ -63,6 +67,8 @@ returns-in-Ok-push_key g c =
         left = omega (arith, put.ahead, put.within);
         held = omega (arith, put.held);
       };
+      keys = pushed-keeps g.T.Texts.made c.args.bytes.now c.args.at c.string.new.self.index (text_view c.in-Ok.key) _ _
+          pushed.0 _ c.in-Ok.ensures.value pushed.1 pushed.2;
     }
 
 pub returns-in-Err : goal.returns-in-Err
@@ -79,8 +85,10 @@ returns-in-Err g c =
           (omega (arith, forward, onward)) (omega arith)
           (colon-fails g.T.Texts.made p t (reverse s.nest.items) s.items.items s.members.items c.args.at
           (text_view c.in-Ok.key)
-          c.string.new.self.index f.index c.object_colon.new.self.index (fault_kind f.kind) c.requires.stands
+          c.string.new.self.index f.index c.object_colon.new.self.index
+          (fault_kind f.kind) c.requires.stands c.requires.free
           c.requires.within c.in-Ok.ensures.value (rw same at c.in-Err.ensures.value));
+      keys = keeps-on _ _ state.Key _ c.fault_at_key.new.stacks c.fault_at_key.result.1 _ _ c.fault_at_key.ensures.keys;
     }
 
 pub returns-in-Err-Fault : goal.returns-in-Err-Fault
@@ -97,5 +105,7 @@ returns-in-Err-Fault g c =
           (omega arith)
           (key-fails g.T.Texts.made p t (reverse s.nest.items) s.items.items s.members.items c.args.at
           (fault_kind f.kind) f.index
-          c.string.new.self.index c.requires.stands c.requires.within read);
+          c.string.new.self.index c.requires.stands c.requires.free c.requires.within read);
+      keys = keeps-on _ _ state.Key _ c.fault_at_key-in-Err-Fault.new.stacks c.fault_at_key-in-Err-Fault.result.1 _ _
+          c.fault_at_key-in-Err-Fault.ensures.keys;
     }

@@ -2,6 +2,7 @@ use Rattle.std.proofs.Common.{◌∙◌, ap, length, arith}
 use Rattle.jiter_scan.specs.Kind.{fault_kind}
 use Rattle.jiter_steps.specs.Read.{done, fault}
 use Rattle.jiter_value.specs.Value.{view}
+use Rattle.jiter_value.proofs.KeptKeys.{leaves-on}
 use Rattle.jiter_value.proofs.StackTurns.{value-read}
 use Rattle.jiter_value.proofs.TurnOutcomes.{leads-weaker}
 use Rattle.jiter_value.proofs.turns.general.general_scalar.Goals as goal
@@ -31,3 +32,8 @@ returns-in-Err-Fault-clause-leads g c =
     (value-read g.T.Texts.made a.settings a.bytes.now a.stacks.now a.slot c.requires.at_value.0 c.requires.at_value.1
     a.at
     (fault (fault_kind f.kind) f.index c.scalar.new.parser.index) read)
+
+pub returns-in-Ok-put-clause-keys : goal.returns-in-Ok-put-clause-keys
+returns-in-Ok-put-clause-keys g c =
+    leaves-on c.after.new.stacks c.after.result.1 c.args.stacks.now.members.items c.put.new.stacks.members.items _
+    c.in-Ok-put.ensures.keys c.after.ensures.keys

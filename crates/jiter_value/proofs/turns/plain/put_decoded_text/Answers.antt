@@ -4,17 +4,17 @@ use Rattle.jiter_value.proofs.Placed.{put-at, text-read}
 use Rattle.jiter_value.proofs.Views.{view_str}
 use Rattle.jiter_value.proofs.turns.plain.put_decoded_text.Goals as goal
 
-pub returns-clause-put : goal.returns-clause-put
-returns-clause-put g c =
+pub returns-in-Ok-keep_decoded-clause-put : goal.returns-in-Ok-keep_decoded-clause-put
+returns-in-Ok-keep_decoded-clause-put g c = λ _.
     let a = c.args in
     let t = a.bytes.now in
     let made = g.T.Texts.made in
-    let d = c.in_ok-count in
+    let d = c.in-Ok in
     let n = c.put_reserved.ensures in
     let bytes = c.utf8_text-decoded.ensures ∙ ap (take d.count) c.as_slice.ensures.value in
-    put-at _ (string (made (record { owned = true; bytes = take d.count c.decode_whole.new.tape.items })))
+    put-at _ (string (made.text (record { owned = true; bytes = take d.count c.decode_whole.new.tape.items })))
     (view_str _
-    ∙ ap string (c.in_ok-text.ensures ∙ ap (λ w. made (record { owned = true; bytes = w })) bytes))
+    ∙ ap string (c.in-Ok-keep_decoded.ensures ∙ ap (λ w. made.text (record { owned = true; bytes = w })) bytes))
     c.requires.at_value.0 c.requires.at_value.1 n.value n.stands n.nest n.held
     refl d.ensures.advances.0 d.ensures.advances.1
     (λ p levels. text-read made p t a.at d.end levels _ c.requires.begins d.ensures.value)

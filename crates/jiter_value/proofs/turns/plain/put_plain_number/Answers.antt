@@ -15,8 +15,8 @@ ascii_text-requires g c =
     c.minus_end-from.ensures.minus
     c.in-Float.ensures.decimal
 
-pub keep_lent-requires : goal.keep_lent-requires
-keep_lent-requires g c =
+pub keep_number-requires : goal.keep_number-requires
+keep_number-requires g c =
     let a = c.args in
     let found = c.in-Float.ensures in
     λ k. (
@@ -35,7 +35,7 @@ keep_lent-requires g c =
     )
 
 pub returns-in-Int-clause-put : goal.returns-in-Int-clause-put
-returns-in-Int-clause-put g c =
+returns-in-Int-clause-put g c = λ _.
     let a = c.args in
     let t = a.bytes.now in
     let from = c.minus_end-from.result in
@@ -48,19 +48,19 @@ returns-in-Int-clause-put g c =
     (λ p levels. number-read g.T.Texts.made p t a.at c.in-Int.end levels (integer z) c.requires.begins
     (short-signed t p.allow_inf_nan a.at c.in-Int.end from c.in-Int.magnitude minus found))
 
-pub returns-in_ok-text-in-Float-clause-put : goal.returns-in_ok-text-in-Float-clause-put
-returns-in_ok-text-in-Float-clause-put g c =
+pub returns-in-Ok-clause-put : goal.returns-in-Ok-clause-put
+returns-in-Ok-clause-put g c = λ _.
     let a = c.args in
     let t = a.bytes.now in
     let e = c.in-Float.end in
     let from = c.minus_end-from.result in
     let minus = c.minus_end-from.ensures.minus in
     let found = c.in-Float.ensures in
-    let n = c.put_reserved-in-Float.ensures in
+    let n = c.put_reserved-in-Ok.ensures in
     let made = g.T.Texts.made in
-    put-at _ (float (made (record { owned = false; bytes = slice_range t a.at e })))
+    put-at _ (float (made.text (record { owned = false; bytes = slice_range t a.at e })))
     (view_float _
-    ∙ ap float (c.in_ok-text-in-Float.ensures ∙ ap (λ w. made (record { owned = false; bytes = w }))
+    ∙ ap float (c.in-Ok.ensures.value ∙ ap (λ w. made.text (record { owned = false; bytes = w }))
     c.ascii_text.ensures))
     c.requires.at_value.0 c.requires.at_value.1 n.value n.stands n.nest n.held refl
     (omega (arith, found.some, IsMinusTo-le t a.at from minus)) found.within

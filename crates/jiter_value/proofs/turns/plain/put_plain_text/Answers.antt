@@ -19,8 +19,8 @@ keep_lent-requires g c =
       ),
     )
 
-pub returns-clause-put : goal.returns-clause-put
-returns-clause-put g c =
+pub returns-in-Ok-clause-put : goal.returns-in-Ok-clause-put
+returns-in-Ok-clause-put g c = λ _.
     let a = c.args in
     let t = a.bytes.now in
     let made = g.T.Texts.made in
@@ -28,9 +28,9 @@ returns-clause-put g c =
     let to = scanned.result.0 in
     let text = c.ascii_between.ensures in
     let n = c.put_reserved.ensures in
-    put-at _ (string (made (between t (a.at + 1) to)))
+    put-at _ (string (made.text (between t (a.at + 1) to)))
     (view_str _
-    ∙ ap string (c.in_ok-text.ensures ∙ ap (λ w. made (record { owned = false; bytes = w })) text.text))
+    ∙ ap string (c.in-Ok.ensures.value ∙ ap (λ w. made.text (record { owned = false; bytes = w })) text.text))
     c.requires.at_value.0 c.requires.at_value.1 n.value n.stands n.nest n.held
     refl (omega (arith, scanned.ensures.within.0)) (omega (arith, c.if-to-bytes.false))
     (λ p levels. text-read made p t a.at (to + 1) levels (between t (a.at + 1) to) c.requires.begins text.value)

@@ -15,20 +15,20 @@ keep_lent-requires g c =
         c.requires.texts,
         range-lies a.bytes.now (a.at + 1) a.to _ (omega (arith, c.requires.within.0))
             (omega (arith, c.requires.within.1))
-            c.in_ok-text_between.ensures.text,
+            c.in-Some.ensures.text,
       ),
     )
 
-pub returns-clause-put : goal.returns-clause-put
-returns-clause-put g c =
+pub returns-in-Ok-clause-put : goal.returns-in-Ok-clause-put
+returns-in-Ok-clause-put g c = λ _.
     let a = c.args in
     let t = a.bytes.now in
     let made = g.T.Texts.made in
-    let found = c.in_ok-text_between.ensures in
+    let found = c.in-Some.ensures in
     let n = c.put_reserved.ensures in
-    put-at _ (string (made (between t (a.at + 1) a.to)))
+    put-at _ (string (made.text (between t (a.at + 1) a.to)))
     (view_str _
-    ∙ ap string (c.in_ok-text.ensures ∙ ap (λ w. made (record { owned = false; bytes = w })) found.text))
+    ∙ ap string (c.in-Ok.ensures.value ∙ ap (λ w. made.text (record { owned = false; bytes = w })) found.text))
     c.requires.stands c.requires.few n.value n.stands n.nest n.held
     refl (omega (arith, c.requires.within.0)) (omega (arith, c.requires.within.1))
     (λ p levels. text-read made p t a.at (a.to + 1) levels (between t (a.at + 1) a.to) c.requires.begins found.value)

@@ -1,0 +1,142 @@
+-- Where a node of a document comes next, calls of the pull reader reply by its value.
+use Rattle.std.proofs.Common.{◌≡◌, ◌∙◌, ◌≤◌, ℕ, Bool, true, false, length, arith, refl, sym, ap, subst}
+use Rattle.std.specs.Prelude.{Option, slice_range, if◌then◌else◌}
+use Rattle.jiter_scan.specs.Number.{Number, integer, big, float, number_value}
+use Rattle.jiter_scan.specs.NumberReading.{Integer, int_seen, float_seen, int_at, number_at}
+use Rattle.jiter_scan.specs.Scanned.{Scanned, taken, failed}
+use Rattle.jiter_scan.proofs.Choices.{same_taken}
+use Rattle.jiter_steps.specs.Answer.{seen_as}
+use Rattle.jiter_steps.specs.Node.{Node, begin, end, number_tree, value_of}
+use Rattle.jiter_steps.specs.Node as grammar
+use Rattle.jiter_steps.specs.StringReading.{Form, kept, string_at}
+use Rattle.jiter_steps.specs.StringReading as form
+use Rattle.jiter_steps.specs.Tree.{Text}
+use Rattle.jiter_steps.specs.declared.parse.Literal.TheVariants as literal
+use Rattle.jiter_steps.proofs.Grammar.ScalarLaws.{scalar-laws}
+use Rattle.jiter_steps.proofs.Grammar.SpelledParts.{start_is}
+use Rattle.jiter.specs.Cause.{ValueType, string, bool, object, wrong_type}
+use Rattle.jiter.specs.Reader.{ReaderState, gave, refused, next, refused_as, number_type, number_refusal}
+use Rattle.jiter.specs.Reader.{integer_reply, scalar_reply, string_read, str_read, bool_read, int_read, object_read}
+use Rattle.jiter.specs.Telling.{tree_type, other_type, str_told, bool_told, int_told, Tells}
+use Rattle.jiter.proofs.Integers.{AgreeAsInteger, IsWhole, int_at-number}
+use Rattle.jiter.proofs.Walking.{ComesNext, IsNoObject, gave-refused, next-reads, skip-passes}
+
+type-is : (n : Number) → number_type n ≡ tree_type (number_tree n)
+type-is (integer z) = refl
+type-is (big w) = refl
+type-is (float w) = refl
+
+-- a number is neither a text nor a truth
+no_text : (n : Number) (b e : ℕ) → str_told (number_tree n) b e ≡ other_type string (number_tree n) b
+no_text (integer z) b e = refl
+no_text (big w) b e = refl
+no_text (float w) b e = refl
+
+no_truth : (n : Number) (b e : ℕ) → bool_told (number_tree n) b e ≡ other_type bool (number_tree n) b
+no_truth (integer z) b e = refl
+no_truth (big w) b e = refl
+no_truth (float w) b e = refl
+
+integer-told : (x : Scanned Integer) (n : Number) (b e : ℕ) → AgreeAsInteger x (taken n e)
+    → integer_reply b x ≡ int_told (number_tree n) b e
+integer-told (taken (int_seen m) j) (integer z) b e h = let same = same_taken _ _ _ _ h.0 in cc
+integer-told (taken (int_seen m) j) (big w) b e h = let same = same_taken _ _ _ _ h.0 in cc
+integer-told (taken (int_seen m) j) (float w) b e h =
+    let same = same_taken _ _ _ _ h.0 in absurd (subst IsWhole (sym same.0) h.1)
+integer-told (taken float_seen j) (integer z) b e h = absurd h
+integer-told (taken float_seen j) (big w) b e h = absurd h
+integer-told (taken float_seen j) (float w) b e h = refl
+integer-told (failed k j) n b e h = absurd (cc)
+
+module _ (s : ReaderState) where
+  number-read : (b e : ℕ) → ComesNext s (grammar.number b e)
+      → number_at s.names s.text b ≡ taken (number_value (slice_range s.text b e)) e
+  number-read b e h =
+      (scalar-laws s.names s.text).number-complete b e h.spelled.ordered h.spelled.within h.spelled.text h.quiet
+
+  -- another type was wanted
+  refusal-told : {A : Type 0} (wanted : ValueType) (n : Node) → ComesNext s n
+      → refused_as {A = A} s (begin n) wanted (start_is n) ≡ other_type wanted (value_of s.text n) (begin n)
+  refusal-told wanted (grammar.literal literal.Null b e) h = refl
+  refusal-told wanted (grammar.literal literal.True b e) h = refl
+  refusal-told wanted (grammar.literal literal.False b e) h = refl
+  refusal-told wanted (grammar.number b e) h =
+      ap (λ x. refused (number_refusal b wanted x).cause (number_refusal b wanted x).index b) (number-read b e h)
+      ∙ ap (λ a. refused (wrong_type wanted a) b b) (type-is (number_value (slice_range s.text b e)))
+  refusal-told wanted (grammar.string ps b e) h = refl
+  refusal-told wanted (grammar.array b e ns) h = refl
+  refusal-told wanted (grammar.object b e ms) h = refl
+
+  string-told : (f : Form) → f ≡ form.whole → (n : Node) → ComesNext s n
+      → string_read f s (begin n) (start_is n) ≡ str_told (value_of s.text n) (begin n) (end n)
+  string-told f whole (grammar.string ps b e) h =
+      ap (λ g. scalar_reply b (string_at g s.text b)) whole
+      ∙ ap (scalar_reply b) ((scalar-laws s.names s.text).string-complete b e ps h.spelled)
+  string-told f whole (grammar.literal literal.Null b e) h = refl
+  string-told f whole (grammar.literal literal.True b e) h = refl
+  string-told f whole (grammar.literal literal.False b e) h = refl
+  string-told f whole (grammar.number b e) h =
+      refusal-told string (grammar.number b e) h ∙ sym (no_text (number_value (slice_range s.text b e)) b e)
+  string-told f whole (grammar.array b e ns) h = refl
+  string-told f whole (grammar.object b e ms) h = refl
+
+  truth-told : (n : Node) → ComesNext s n
+      → bool_read s (begin n) (start_is n) ≡ bool_told (value_of s.text n) (begin n) (end n)
+  truth-told (grammar.literal literal.Null b e) h = refl
+  truth-told (grammar.literal literal.True b e) h =
+      ap (λ x. scalar_reply b (seen_as (λ u e. true) x))
+      ((scalar-laws s.names s.text).literal-complete literal.True b e h.spelled)
+  truth-told (grammar.literal literal.False b e) h =
+      ap (λ x. scalar_reply b (seen_as (λ u e. false) x))
+      ((scalar-laws s.names s.text).literal-complete literal.False b e h.spelled)
+  truth-told (grammar.number b e) h =
+      refusal-told bool (grammar.number b e) h ∙ sym (no_truth (number_value (slice_range s.text b e)) b e)
+  truth-told (grammar.string ps b e) h = refl
+  truth-told (grammar.array b e ns) h = refl
+  truth-told (grammar.object b e ms) h = refl
+
+  whole-told : (n : Node) → ComesNext s n
+      → int_read s (begin n) (start_is n) ≡ int_told (value_of s.text n) (begin n) (end n)
+  whole-told (grammar.literal literal.Null b e) h = refl
+  whole-told (grammar.literal literal.True b e) h = refl
+  whole-told (grammar.literal literal.False b e) h = refl
+  whole-told (grammar.number b e) h =
+      let inside : b ≤ length s.text = omega (arith, h.spelled.ordered, h.spelled.within) in
+      integer-told (int_at s.text b) (number_value (slice_range s.text b e)) b e
+      (subst (AgreeAsInteger (int_at s.text b)) (number-read b e h) (int_at-number s.text b s.names inside))
+  whole-told (grammar.string ps b e) h = refl
+  whole-told (grammar.array b e ns) h = refl
+  whole-told (grammar.object b e ms) h = refl
+
+  -- A value that comes next is told as what it is.
+  pub tells : s.partial_strings ≡ false → (n : Node) → ComesNext s n
+      → Tells s (value_of s.text n) (begin n) (end n)
+  tells strict n h = record {
+    place = h.place;
+    text =
+        next-reads s n h (str_read s)
+        ∙ string-told (if s.partial_strings then kept else form.whole)
+        (ap (λ (b : Bool). if b then kept else form.whole) strict) n h;
+    truth = next-reads s n h (bool_read s) ∙ truth-told n h;
+    integer = next-reads s n h (int_read s) ∙ whole-told n h;
+    passed = skip-passes s n h;
+  }
+
+  -- Another value than an object is refused as one.
+  pub object-refused : (f : Form) (n : Node) → ComesNext s n → IsNoObject n
+      → next s (object_read f s) ≡ other_type object (value_of s.text n) (begin n)
+  object-refused f n h other = next-reads s n h (object_read f s) ∙ by n h other where
+    by : (n : Node) → ComesNext s n → IsNoObject n
+        → object_read f s (begin n) (start_is n) ≡ other_type object (value_of s.text n) (begin n)
+    by (grammar.literal literal.Null b e) h other = refl
+    by (grammar.literal literal.True b e) h other = refl
+    by (grammar.literal literal.False b e) h other = refl
+    by (grammar.number b e) h other = refusal-told object (grammar.number b e) h
+    by (grammar.string ps b e) h other = refl
+    by (grammar.array b e ns) h other = refl
+    by (grammar.object b e ms) h other = absurd other
+
+-- It gives no key.
+pub no_object-refused : (f : Form) (s : ReaderState) (n : Node) (o : Option Text) (i : ℕ) → ComesNext s n
+    → IsNoObject n → next s (object_read f s) ≡ gave o i → ⊥
+no_object-refused f s n o i h other is = gave-refused (sym is ∙ object-refused s f n h other)

@@ -1,0 +1,9 @@
+pub mod GivenValues
+pub mod PrintLaw
+pub mod PrintLawNumbers
+pub mod PrintLawParts
+pub mod PrintLawStrings
+pub mod PrintMore
+pub mod Printable
+pub mod Printing
+mod Rows

@@ -1,0 +1,126 @@
+-- A number that is read byte by byte: what its reading is from the byte at a place on, and at the end of the input.
+use Rattle.std.proofs.Common.{◌≡◌, ℕ, ◌+◌, ◌-◌, ◌<◌, ◌==◌, ◌||◌, ◌&&◌, Bool, true, false, not, List, [], ◌∷◌, ◌++◌}
+use Rattle.std.proofs.Common.{append_assoc, length, refl, sym, ap, ap₂, ◌∙◌, arith, nat_le}
+use Rattle.std.specs.Prelude.{slice_get, Some, None, if◌then◌else◌}
+use Rattle.std.specs.List.{list_any}
+use Rattle.std.proofs.lemmas.Bool.Decides.{nat_tests}
+use Rattle.std.proofs.lemmas.List.{length-append}
+use Rattle.jiter_scan.specs.Digits.{is_digit, digit_run_end}
+use Rattle.jiter_scan.specs.Kind.{number_out_of_range}
+use Rattle.jiter_scan.specs.Number.{is_float_byte, is_integral}
+use Rattle.jiter_scan.specs.NumberReading.{extent_then, digits_from, int_part_from, int_part_at, decimal_at}
+use Rattle.jiter_scan.specs.NumberReading.{extent_from, number_extent, fraction_from, exponent_from, exponent_at}
+use Rattle.jiter_scan.specs.OpenNumber.{within_room, tail_at, number_from, Leads, IsBegun, is_int_stage, begins_decimal}
+use Rattle.jiter_scan.specs.Scanned.{taken, failed}
+use Rattle.jiter_scan.specs.declared.open_number.Stage.{Stage}
+use Rattle.jiter_scan.specs.declared.open_number.Went.TheVariants as went
+use Rattle.jiter_scan.proofs.Choices.{if-true, if-false}
+use Rattle.jiter_scan.proofs.Runs.{run_end-more, run_end-here}
+
+module _ (t : List ℕ) (j : ℕ) where
+  pub run-ended : slice_get t j ≡ None → digit_run_end t j ≡ j
+  run-ended h = run_end-here is_digit t j None h tt
+
+  module _ (b : ℕ) (h : slice_get t j ≡ Some b) where
+    pub run-on : is_digit b ≡ true → digit_run_end t j ≡ digit_run_end t (j + 1)
+    run-on d = run_end-more is_digit t j b h d
+
+    pub run-over : is_digit b ≡ false → digit_run_end t j ≡ j
+    run-over d = run_end-here is_digit t j (Some b) h d
+
+    pub digits-on : is_digit b ≡ true → digits_from t j (slice_get t j) ≡ taken tt (digit_run_end t (j + 1))
+    digits-on d = ap (digits_from t j) h ∙ if-true (is_digit b) _ _ d ∙ ap (taken tt) (run-on d)
+
+  -- digits that end here
+  pub room-over : (room e : ℕ) → e ≡ j → within_room room j e ≡ taken tt j
+  room-over room e same = if-true (nat_le e (j + room)) _ _ (grind (arith, nat_tests)) ∙ ap (taken tt) same
+
+  -- one digit too many
+  pub room-none : (room e : ℕ) → room ≡ 0 → j < e → within_room room j e ≡ failed number_out_of_range (j + 1)
+  room-none room e none more =
+      if-false (nat_le e (j + room)) _ _ (grind (arith, nat_tests))
+      ∙ ap (λ n. failed number_out_of_range (j + (n + 1))) none
+
+  -- what the end of the input makes of digits
+  pub digits-ended : slice_get t j ≡ None → (room : ℕ)
+      → extent_then (within_room room j (digit_run_end t j)) (tail_at t) ≡ taken tt j
+  digits-ended h room =
+      ap (λ x. extent_then x (tail_at t)) (room-over room (digit_run_end t j) (run-ended h))
+      ∙ ap (λ o. extent_then (fraction_from t j o) (exponent_at t)) h
+      ∙ ap (exponent_from t j) h
+
+  pub fraction-ended : slice_get t j ≡ None → exponent_at t (digit_run_end t j) ≡ taken tt j
+  fraction-ended h = ap (exponent_at t) (run-ended h) ∙ ap (exponent_from t j) h
+
+  -- room for one digit, and for those behind it
+  pub room-on : (room e : ℕ) → 0 < room → within_room room j e ≡ within_room (room - 1) (j + 1) e
+  room-on room e some =
+      let place : j + room ≡ j + 1 + (room - 1) = omega arith in
+      let behind : j + (room + 1) ≡ j + 1 + (room - 1 + 1) = omega arith in
+      ap (λ n. if nat_le e n then taken tt e else failed number_out_of_range (j + (room + 1))) place
+      ∙ ap (λ n. if nat_le e (j + 1 + (room - 1)) then taken tt e else failed number_out_of_range n) behind
+
+  -- an integer part whose first digit is no zero
+  pub decimal-begins : (b : ℕ) → slice_get t j ≡ Some b → (b == 48) ≡ false → is_digit b ≡ true
+      → decimal_at t j ≡ extent_then (within_room 4299 (j + 1) (digit_run_end t (j + 1))) (tail_at t)
+  decimal-begins b h zero digit =
+      let here : int_part_at t j ≡ within_room 4300 j (digit_run_end t j) =
+      ap (int_part_from t j) h ∙ if-false (b == 48) _ _ zero ∙ if-true (is_digit b) _ _ digit in
+      let on : within_room 4300 j (digit_run_end t j) ≡ within_room 4299 (j + 1) (digit_run_end t (j + 1)) =
+      room-on 4300 (digit_run_end t j) (omega arith) ∙ ap (within_room 4299 (j + 1)) (run-on b h digit) in
+      ap (λ x. extent_then x (tail_at t)) (here ∙ on)
+
+  -- a number that begins with a digit
+  pub extent-digit : (names : Bool) (b : ℕ) → slice_get t j ≡ Some b → is_digit b ≡ true
+      → number_extent names t j ≡ decimal_at t j
+  extent-digit names b h digit =
+      let no_minus : (b == 45) ≡ false = grind (arith, nat_tests) in
+      let no_n : (b == 78) ≡ false = grind (arith, nat_tests) in
+      let no_i : (b == 73) ≡ false = grind (arith, nat_tests) in
+      ap (extent_from names t j) h ∙ if-false (b == 45) _ _ no_minus ∙ if-false (b == 78) _ _ no_n
+      ∙ if-false (b == 73) _ _ no_i
+
+left-of : (x y : Bool) → (x || y) ≡ true → y ≡ false → x ≡ true
+left-of true y h g = refl
+left-of false y h g = sym g ∙ h
+
+-- a first byte that is no minus
+pub begins-digit : (b : ℕ) → begins_decimal b ≡ true → (b == 45) ≡ false → is_digit b ≡ true
+begins-digit b h g = left-of (is_digit b) (b == 45) h g
+
+-- the byte behind others
+pub get-behind : (w u : List ℕ) (b : ℕ) → slice_get (w ++ b ∷ u) (length w) ≡ Some b
+get-behind [] u b = refl
+get-behind (c ∷ w) u b = get-behind w u b
+
+integral-one : (f : Bool) → (if (f || false) then false else true) ≡ not f
+integral-one true = refl
+integral-one false = refl
+
+integral-more : (f x y g : Bool) → (if x then false else true) ≡ ((if y then false else true) && g)
+    → (if (f || x) then false else true) ≡ ((if (f || y) then false else true) && g)
+integral-more true x y g h = refl
+integral-more false x y g h = h
+
+-- one more byte shows a float or not
+pub integral-on : (w : List ℕ) (b : ℕ) → is_integral (w ++ b ∷ []) ≡ (is_integral w && not (is_float_byte b))
+integral-on [] b = integral-one (is_float_byte b)
+integral-on (c ∷ w) b =
+    integral-more (is_float_byte c) (list_any is_float_byte (w ++ b ∷ [])) (list_any is_float_byte w)
+    (not (is_float_byte b)) (integral-on w b)
+
+-- one more byte goes on with it
+pub begun-on : (w : List ℕ) (b : ℕ) (s new : Stage) → IsBegun w s → Leads s b (went.Taken new)
+    → is_int_stage new ≡ (is_int_stage s && not (is_float_byte b))
+    → IsBegun (w ++ b ∷ []) new
+begun-on w b s new begun leads int =
+    let long : length (w ++ b ∷ []) ≡ length w + 1 = length-append w (b ∷ []) in
+    record {
+      goes = λ names u.
+          let same : (w ++ b ∷ []) ++ u ≡ w ++ b ∷ u = append_assoc w (b ∷ []) u in
+          ap (λ t. number_extent names t 0) same
+          ∙ begun.goes names (b ∷ u)
+          ∙ leads names (w ++ b ∷ u) (length w) (get-behind w u b)
+          ∙ ap₂ (number_from names new) (sym same) (sym long);
+      whole = integral-on w b ∙ ap (λ x. x && not (is_float_byte b)) begun.whole ∙ sym int;
+    }

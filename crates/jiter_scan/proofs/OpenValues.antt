@@ -1,0 +1,164 @@
+-- The value of a number that was read byte by byte.
+use Rattle.std.proofs.Common.{◌≡◌, ◌≢◌, ◌⊎◌, inl, inr, ℕ, ◌-◌, ◌^◌, ◌<◌, ◌≤◌, ◌==◌, Bool, true, false, List, [], ◌∷◌}
+use Rattle.std.proofs.Common.{◌++◌}
+use Rattle.std.proofs.Common.{append_assoc, append-nil, length, refl, sym, ap, subst, ◌∙◌, arith, nat_le, nat_lt, ℤ}
+use Rattle.std.specs.Prelude.{slice_get, slice_range, Option, Some, None, IfSome, if◌then◌else◌}
+use Rattle.std.specs.List.{list_any}
+use Rattle.std.proofs.Math.Nat.{pow-le-pow_right}
+use Rattle.std.proofs.lemmas.List.{take_all}
+use Rattle.std.proofs.lemmas.Bool.{cases_lt, false≢true}
+use Rattle.jiter_scan.specs.Digits.{is_digit, decimal_of}
+use Rattle.jiter_scan.specs.Number.{Number, integer, big, float, is_float_byte, is_integral, integral_value}
+use Rattle.jiter_scan.specs.Number.{number_value}
+use Rattle.jiter_scan.specs.Number.{IsMinus, IsIntPart, IsDecimal, IsNumberText, positive_value, negative_value}
+use Rattle.jiter_scan.specs.NumberDecoder.{magnitude_of}
+use Rattle.jiter_scan.specs.NumberReading.{extent_then, behind_zero, fraction_from, exponent_from, exponent_at}
+use Rattle.jiter_scan.specs.NumberReading.{number_extent, number_at, with_value}
+use Rattle.jiter_scan.specs.OpenNumber.{number_from, tail_at, is_whole, is_int_stage, IsBegun, int_of}
+use Rattle.jiter_scan.specs.Scanned.{taken}
+use Rattle.jiter_scan.specs.declared.open_number.Stage.{Stage}
+use Rattle.jiter_scan.specs.declared.open_number.Stage.TheVariants as stage
+use Rattle.jiter_scan.proofs.Choices.{if-true, if-false, if_case}
+use Rattle.jiter_scan.proofs.Digits.{digit-bounds, decimal_of-above}
+use Rattle.jiter_scan.proofs.NumberBytes.{number-not_empty}
+use Rattle.jiter_scan.proofs.NumberSound.{number_extent-sound}
+use Rattle.jiter_scan.proofs.NumberValues.{number_value-digits, number_value-minus, Tail, no_tail, a_tail, tail}
+use Rattle.jiter_scan.proofs.NumberValues.{any-float}
+use Rattle.jiter_scan.proofs.OpenNumbers.{run-ended, digits-ended, fraction-ended}
+
+-- ---- integers of many digits
+above-zero : (c : ℕ) (w : List ℕ) → is_digit c ≡ true → (w ≡ []) ⊎ (c ≢ 48) → 20 ≤ length (c ∷ w) → 48 < c
+above-zero c w digit (inl e) long = let none : length w ≡ 0 = ap length e in absurd (omega arith)
+above-zero c w digit (inr n) long =
+    elim (cases_lt 48 c) [
+      | inl above ↦ above
+      | inr below ↦ let same : c ≡ 48 = omega (arith, (digit-bounds c digit).0) in absurd (n same)
+    ]
+
+magnitude-long : (w : List ℕ) → IsIntPart w → 20 ≤ length w → magnitude_of w ≡ 10 ^ 19
+magnitude-long [] h long = absurd h
+magnitude-long (c ∷ w) h long =
+    let least : 10 ^ 19 ≤ 10 ^ length w =
+    pow-le-pow_right {n = 10} (omega arith) {i = 19} {j = length w} (omega arith) in
+    omega (arith, decimal_of-above c w (above-zero c w h.0.0 h.1 long), least)
+
+bare-long : (minus int_part w : List ℕ) → w ≡ minus ++ int_part → IsMinus minus → IsIntPart int_part → 20 < length w
+    → number_value w ≡ big w
+bare-long minus int_part w is (inl m) h long =
+    let same : w ≡ int_part = is ∙ ap (λ v. v ++ int_part) m in
+    let count : 20 ≤ length int_part = omega (arith, ap length same) in
+    subst (λ v. number_value v ≡ big v) (sym same)
+    (number_value-digits int_part h ∙ ap (positive_value int_part) (magnitude-long int_part h count))
+bare-long minus int_part w is (inr m) h long =
+    let same : w ≡ 45 ∷ int_part = is ∙ ap (λ v. v ++ int_part) m in
+    let count : 20 ≤ length int_part = omega (arith, ap length same) in
+    subst (λ v. number_value v ≡ big v) (sym same)
+    (number_value-minus int_part h ∙ ap (negative_value (45 ∷ int_part)) (magnitude-long int_part h count))
+
+decimal-long : (w : List ℕ) (d : IsDecimal w) → is_integral w ≡ true → 20 < length w
+    → Tail (d.fraction ++ d.exponent) → number_value w ≡ big w
+decimal-long w d int long (no_tail e) =
+    let bare : w ≡ d.minus ++ d.int_part =
+    d.is ∙ ap (λ v. d.minus ++ (d.int_part ++ v)) e ∙ ap (λ v. d.minus ++ v) (append-nil d.int_part) in
+    bare-long d.minus d.int_part w bare d.is_minus d.is_int_part long
+decimal-long w d int long (a_tail c v is first) =
+    let all : w ≡ (d.minus ++ d.int_part) ++ c ∷ v =
+    d.is ∙ ap (λ x. d.minus ++ (d.int_part ++ x)) is ∙ sym (append_assoc d.minus d.int_part (c ∷ v)) in
+    let float : list_any is_float_byte w ≡ true =
+    ap (list_any is_float_byte) all ∙ any-float (d.minus ++ d.int_part) v c first in
+    absurd (false≢true (sym (ap (λ (b : Bool). if b then false else true) float) ∙ int))
+
+long-integer : (names : Bool) (w : List ℕ) → IsNumberText names w → is_integral w ≡ true → 20 < length w
+    → number_value w ≡ big w
+long-integer names w (inl d) int long =
+    decimal-long w d int long (tail d.fraction d.exponent d.is_fraction d.is_exponent)
+long-integer names w (inr (n, inl e)) int long = absurd (false≢true (sym (ap is_integral e) ∙ int))
+long-integer names w (inr (n, inr (inl e))) int long = absurd (false≢true (sym (ap is_integral e) ∙ int))
+long-integer names w (inr (n, inr (inr e))) int long = absurd (false≢true (sym (ap is_integral e) ∙ int))
+
+-- ---- a number that is whole
+module _ (t : List ℕ) (j : ℕ) (h : slice_get t j ≡ None) (names : Bool) where
+  whole-ended : (s : Stage) → is_whole s ≡ true → number_from names s t j ≡ taken tt j
+  whole-ended stage.Zero whole =
+      ap (λ o. extent_then (behind_zero j o) (tail_at t)) h
+      ∙ ap (λ o. extent_then (fraction_from t j o) (exponent_at t)) h
+      ∙ ap (exponent_from t j) h
+  whole-ended (stage.Digits room) whole = digits-ended t j h room
+  whole-ended stage.Fraction whole = fraction-ended t j h
+  whole-ended stage.Exponent whole = ap (taken tt) (run-ended t j h)
+  whole-ended stage.Minus whole = absurd (false≢true whole)
+  whole-ended stage.Point whole = absurd (false≢true whole)
+  whole-ended stage.Letter whole = absurd (false≢true whole)
+  whole-ended stage.Sign whole = absurd (false≢true whole)
+
+nothing-behind : (w : List ℕ) → slice_get w (length w) ≡ None
+nothing-behind [] = refl
+nothing-behind (c ∷ w) = nothing-behind w
+
+whole-range : (w : List ℕ) → slice_range w 0 (length w) ≡ w
+whole-range w = take_all (length w - 0) w (omega arith)
+
+some-bytes : (names : Bool) (w : List ℕ) → IsNumberText names w → 0 < length w
+some-bytes names [] h = absurd (number-not_empty names h)
+some-bytes names (c ∷ w) h = omega arith
+
+integral-big : (w : List ℕ) (e : ℕ) → int_of (taken (integral_value w) e) ≡ None → integral_value w ≡ big w
+integral-big [] e h = refl
+integral-big (c ∷ cs) e h =
+    if_case (λ x. int_of (taken x e) ≡ None → x ≡ big (c ∷ cs)) (c == 45) _ _
+    (λ _. if_case (λ x. int_of (taken x e) ≡ None → x ≡ big (c ∷ cs)) (nat_le (decimal_of cs) (2 ^ 63)) _ _
+    (λ _ g. absurd (cc)) (λ _ g. refl))
+    (λ _. if_case (λ x. int_of (taken x e) ≡ None → x ≡ big (c ∷ cs)) (nat_lt (decimal_of (c ∷ cs)) (2 ^ 63)) _ _
+    (λ _ g. absurd (cc)) (λ _ g. refl))
+    h
+
+pub float-value : (w : List ℕ) → is_integral w ≡ false → number_value w ≡ float w
+unfolding number_value
+float-value w h = if-false (is_integral w) _ _ h
+
+integral-is : (w : List ℕ) → is_integral w ≡ true → number_value w ≡ integral_value w
+unfolding number_value
+integral-is w h = if-true (is_integral w) _ _ h
+
+pub int-found : (x : Number) (e : ℕ) (n : ℤ) → int_of (taken x e) ≡ Some n → x ≡ integer n
+int-found (integer m) e n h = let same : m ≡ n = cc in ap integer same
+int-found (big w) e n h = absurd (cc)
+int-found (float w) e n h = absurd (cc)
+
+module _ (w : List ℕ) (s : Stage) (begun : IsBegun w s) (whole : is_whole s ≡ true) where
+  extent-whole : number_extent false w 0 ≡ taken tt (length w)
+  extent-whole =
+      subst (λ v. number_extent false v 0 ≡ number_from false s v (length w)) (append-nil w) (begun.goes false [])
+      ∙ whole-ended w (length w) (nothing-behind w) false s whole
+
+  is-text : IsNumberText false w
+  is-text = subst (IsNumberText false) (whole-range w) (number_extent-sound w false 0 (length w) extent-whole)
+
+  pub begun-some : 0 < length w
+  begun-some = some-bytes false w is-text
+
+  pub begun-read : number_at false w 0 ≡ taken (number_value w) (length w)
+  unfolding number_at
+  begun-read =
+      ap (with_value w 0) extent-whole ∙ ap (λ v. taken (number_value v) (length w)) (whole-range w)
+
+  module _ (int : is_int_stage s ≡ true) where
+    integral : is_integral w ≡ true
+    integral = begun.whole ∙ int
+
+    pub begun-long : 20 < length w → number_value w ≡ big w
+    begun-long long = long-integer false w is-text integral long
+
+    pub begun-big : int_of (number_at false w 0) ≡ None → number_value w ≡ big w
+    begun-big none =
+        let is = integral-is w integral in
+        let seen : int_of (taken (integral_value w) (length w)) ≡ None =
+        ap (λ x. int_of (taken x (length w))) (sym is) ∙ ap int_of (sym begun-read) ∙ none in
+        is ∙ integral-big w (length w) seen
+
+    pub begun-int : (n : ℤ) → int_of (number_at false w 0) ≡ Some n → number_value w ≡ integer n
+    begun-int n some = int-found (number_value w) (length w) n (ap int_of (sym begun-read) ∙ some)
+
+    pub begun-answer : (r : Option ℤ) → r ≡ int_of (number_at false w 0) → IfSome r (λ n. number_value w ≡ integer n)
+    begun-answer None h = tt
+    begun-answer (Some n) h = begun-int n (sym h)

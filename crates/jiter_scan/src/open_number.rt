@@ -1,0 +1,409 @@
+//! Numbers that arrive byte by byte (RFC 8259, 6): each byte is looked at once, and behind each is said how the
+//! number stands.
+ghost use Rattle.std.specs.Prelude.{◌≡◌, ◌+◌, ◌<◌, ◌≤◌, ◌∷◌, [], Bool, IfOk, IfSome, List, None, OnErr, Some, length};
+ghost use Rattle.std.specs.Prelude.{false, slice_get, string_bytes, string_capacity, string_len, true, ℕ};
+ghost use Rattle.jiter_scan.specs.Number.{big, integer, is_float_byte, number_value};
+ghost use Rattle.jiter_scan.specs.NumberReading.{exponent_at, decimal_at, number_extent, number_at};
+ghost use Rattle.jiter_scan.specs.OpenNumber.{Fits, IsBegun, Leads, at_end, begins_decimal, bytes_after};
+ghost use Rattle.jiter_scan.specs.OpenNumber.{int_of, is_int_stage, is_whole, kept_bytes, number_by, number_from};
+ghost use Rattle.jiter_scan.specs.OpenNumber.{own_view, stage_after};
+ghost use Rattle.jiter_scan.specs.OpenNumber.{tail_at};
+
+use crate::memory::{Refused, push_text};
+use crate::number_decoder::{NumberAny, NumberInt, number_at};
+use crate::simd::is_digit;
+use crate::text::ascii_text;
+use std::alloc::Global;
+use std::mem;
+
+// How many digits an integer part may have behind its first one.
+const MORE_DIGITS: usize = 4299;
+
+// The longest text of an integer of 64 signed bits: a minus and nineteen digits.
+const LONGEST_INT: usize = 20;
+
+/// How far a number was read.
+#[derive(Clone, Copy, Debug, PartialEq, Eq)]
+pub enum Stage {
+    /// Behind its minus.
+    Minus,
+    /// Behind the digit `0` of its integer part.
+    Zero,
+    /// Behind a digit of another integer part, which may have so many more.
+    Digits(usize),
+    /// Behind its point.
+    Point,
+    /// Behind a digit of its fraction.
+    Fraction,
+    /// Behind the letter of its exponent.
+    Letter,
+    /// Behind the sign of its exponent.
+    Sign,
+    /// Behind a digit of its exponent.
+    Exponent,
+}
+
+/// What the next byte is to a number.
+#[derive(Clone, Copy, Debug, PartialEq, Eq)]
+pub enum Went {
+    /// A part of it, which brings it to this stage.
+    Taken(Stage),
+    /// No part of it: the number ends before the byte.
+    Over,
+    /// The `I` behind its minus, which begins a name.
+    Named,
+    /// A byte that does not fit.
+    Invalid,
+    /// A digit that is one too many.
+    TooLong,
+}
+
+/// A number with a text of its own.
+#[derive(Debug, Drop)]
+pub enum OwnNumber {
+    /// An integer that 64 signed bits hold.
+    Int(i64),
+    /// The text of one that they do not hold.
+    BigInt(String),
+    /// The text of one with a point or an exponent.
+    Float(String),
+}
+
+// Behind the first byte, a minus or a digit.
+fn first_stage(byte: u8) -> Stage
+    requires { begins_decimal byte ≡ true }
+    ensures leads { (names : Bool) (t : List ℕ) (j : ℕ) → slice_get t j ≡ Some byte
+        → number_extent names t j ≡ number_from names result t (j + 1) }
+    ensures whole { is_int_stage result ≡ true }
+    ensures byte { (byte < 128) × (is_float_byte byte ≡ false) }
+{
+    if byte == b'-' {
+        Stage::Minus
+    } else if byte == b'0' {
+        Stage::Zero
+    } else {
+        Stage::Digits(MORE_DIGITS)
+    }
+}
+
+// At the first digit.
+fn first_digit(byte: u8) -> Went
+    ensures leads { (names : Bool) (t : List ℕ) (j : ℕ) → slice_get t j ≡ Some byte
+        → decimal_at t j ≡ number_by names t j result }
+    ensures fits { Fits Stage.Minus byte result }
+{
+    if byte == b'0' {
+        Went::Taken(Stage::Zero)
+    } else if is_digit(byte) {
+        Went::Taken(Stage::Digits(MORE_DIGITS))
+    } else {
+        Went::Invalid
+    }
+}
+
+// Behind a minus.
+fn behind_minus(byte: u8) -> Went
+    ensures leads { Leads Stage.Minus byte result }
+    ensures fits { Fits Stage.Minus byte result }
+{
+    if byte == b'I' {
+        Went::Named
+    } else {
+        first_digit(byte)
+    }
+}
+
+// Behind the digits of a fraction, or of an integer part with none.
+fn behind_fraction(byte: u8) -> Went
+    ensures leads { (names : Bool) (t : List ℕ) (j : ℕ) → slice_get t j ≡ Some byte
+        → exponent_at t j ≡ number_by names t j result }
+    ensures fits { (s : Stage) → Fits s byte result }
+{
+    if byte == b'e' || byte == b'E' {
+        Went::Taken(Stage::Letter)
+    } else {
+        Went::Over
+    }
+}
+
+// Behind the digits of an integer part.
+fn behind_int_part(byte: u8) -> Went
+    ensures leads { (names : Bool) (t : List ℕ) (j : ℕ) → slice_get t j ≡ Some byte
+        → tail_at t j ≡ number_by names t j result }
+    ensures fits { (s : Stage) → Fits s byte result }
+{
+    if byte == b'.' {
+        Went::Taken(Stage::Point)
+    } else {
+        behind_fraction(byte)
+    }
+}
+
+// Behind the digit `0` of an integer part.
+fn behind_zero(byte: u8) -> Went
+    ensures leads { Leads Stage.Zero byte result }
+    ensures fits { Fits Stage.Zero byte result }
+{
+    if is_digit(byte) {
+        Went::Invalid
+    } else {
+        behind_int_part(byte)
+    }
+}
+
+// Behind a digit of an integer part that may have so many more.
+fn behind_digit(room: usize, byte: u8) -> Went
+    ensures leads { Leads (Stage.Digits room) byte result }
+    ensures fits { Fits (Stage.Digits room) byte result }
+{
+    if is_digit(byte) {
+        if room == 0 {
+            Went::TooLong
+        } else {
+            Went::Taken(Stage::Digits(room - 1))
+        }
+    } else {
+        behind_int_part(byte)
+    }
+}
+
+// Behind a point.
+fn behind_point(byte: u8) -> Went
+    ensures leads { Leads Stage.Point byte result }
+    ensures fits { Fits Stage.Point byte result }
+{
+    if is_digit(byte) {
+        Went::Taken(Stage::Fraction)
+    } else {
+        Went::Invalid
+    }
+}
+
+// Behind a digit of a fraction.
+fn behind_fraction_digit(byte: u8) -> Went
+    ensures leads { Leads Stage.Fraction byte result }
+    ensures fits { Fits Stage.Fraction byte result }
+{
+    if is_digit(byte) {
+        Went::Taken(Stage::Fraction)
+    } else {
+        behind_fraction(byte)
+    }
+}
+
+// Behind the sign of an exponent.
+fn behind_sign(byte: u8) -> Went
+    ensures leads { Leads Stage.Sign byte result }
+    ensures fits { (s : Stage) → is_int_stage s ≡ false → Fits s byte result }
+{
+    if is_digit(byte) {
+        Went::Taken(Stage::Exponent)
+    } else {
+        Went::Invalid
+    }
+}
+
+// Behind the letter of an exponent.
+fn behind_letter(byte: u8) -> Went
+    ensures leads { Leads Stage.Letter byte result }
+    ensures fits { Fits Stage.Letter byte result }
+{
+    if byte == b'+' || byte == b'-' {
+        Went::Taken(Stage::Sign)
+    } else {
+        behind_sign(byte)
+    }
+}
+
+// Behind a digit of an exponent.
+fn behind_exponent_digit(byte: u8) -> Went
+    ensures leads { Leads Stage.Exponent byte result }
+    ensures fits { Fits Stage.Exponent byte result }
+{
+    if is_digit(byte) {
+        Went::Taken(Stage::Exponent)
+    } else {
+        Went::Over
+    }
+}
+
+// What a byte is to a number that has come to a stage.
+fn next_of(stage: Stage, byte: u8) -> Went
+    ensures leads { Leads stage byte result }
+    ensures fits { Fits stage byte result }
+{
+    match stage {
+        Stage::Minus => behind_minus(byte),
+        Stage::Zero => behind_zero(byte),
+        Stage::Digits(room) => behind_digit(room, byte),
+        Stage::Point => behind_point(byte),
+        Stage::Fraction => behind_fraction_digit(byte),
+        Stage::Letter => behind_letter(byte),
+        Stage::Sign => behind_sign(byte),
+        Stage::Exponent => behind_exponent_digit(byte),
+    }
+}
+
+// The integer of 64 signed bits that stands at the front of a text, if one does.
+fn integer_in(text: &[u8]) -> Option<i64>
+    requires { 0 < length text.now }
+    ensures { result ≡ int_of (number_at false text.now 0) }
+{
+    match number_at(text, 0, false) {
+        Ok((NumberAny::Int(NumberInt::Int(number)), _)) => Some(number),
+        _ => None,
+    }
+}
+
+/// A number whose bytes so far are kept, and how far they bring it.
+#[derive(Drop)]
+pub struct OpenNumber {
+    text: String,
+    stage: Stage,
+}
+
+impl OpenNumber {
+    /// No bytes. It takes no memory.
+    pub fn new(alloc: Global) -> OpenNumber
+        ensures { string_bytes result.text ≡ [] }
+    {
+        OpenNumber {
+            text: String::new(alloc),
+            stage: Stage::Minus,
+        }
+    }
+
+    /// Takes the first byte of a number, a minus or a digit. Where memory is refused, nothing changes.
+    pub fn begin(&mut self, byte: u8) -> Result<(), Refused>
+        requires none { string_bytes self.old.text ≡ [] }
+        requires begins { begins_decimal byte ≡ true }
+        ensures leads { IfOk result (λ _. (names : Bool) (t : List ℕ) (j : ℕ) → slice_get t j ≡ Some byte
+            → number_extent names t j ≡ number_from names self.new.stage t (j + 1)) }
+        ensures text { IfOk result (λ _. string_bytes self.new.text ≡ byte ∷ []) }
+        ensures begun { IfOk result (λ _. IsBegun (string_bytes self.new.text) self.new.stage) }
+        ensures refused { OnErr result
+            ((string_bytes self.new.text ≡ []) × (self.new.stage ≡ self.old.stage)) }
+        ensures full { OnErr result (string_capacity self.old.text ≤ 0) }
+    {
+        let stage = first_stage(byte);
+        push_text(&mut self.text, ascii_text(&[byte]))?;
+        self.stage = stage;
+        Ok(())
+    }
+
+    /// Takes the next byte, if it is a part of the number, and says what it is. Where memory is refused, nothing
+    /// changes.
+    pub fn next(&mut self, byte: u8) -> Result<Went, Refused>
+        ensures leads { IfOk result (Leads self.old.stage byte) }
+        ensures stage { IfOk result (λ went. self.new.stage ≡ stage_after self.old.stage went) }
+        ensures text { IfOk result (λ went.
+            string_bytes self.new.text ≡ bytes_after (string_bytes self.old.text) byte went) }
+        ensures begun { IsBegun (string_bytes self.old.text) self.old.stage
+            → IsBegun (string_bytes self.new.text) self.new.stage }
+        ensures refused { OnErr result
+            ((string_bytes self.new.text ≡ string_bytes self.old.text) × (self.new.stage ≡ self.old.stage)) }
+        ensures full { OnErr result (string_capacity self.old.text ≤ string_len self.old.text) }
+    {
+        let went = next_of(self.stage, byte);
+        if let Went::Taken(stage) = went {
+            push_text(&mut self.text, ascii_text(&[byte]))?;
+            self.stage = stage;
+        }
+        Ok(went)
+    }
+
+    /// Whether the bytes so far are a number.
+    pub fn is_whole(&self) -> bool
+        ensures value { result ≡ is_whole self.now.stage }
+        ensures ends { (names : Bool) (t : List ℕ) (j : ℕ) → slice_get t j ≡ None
+            → number_from names self.now.stage t j ≡ at_end result j }
+    {
+        match self.stage {
+            Stage::Zero => true,
+            Stage::Digits(_) => true,
+            Stage::Fraction => true,
+            Stage::Exponent => true,
+            Stage::Minus => false,
+            Stage::Point => false,
+            Stage::Letter => false,
+            Stage::Sign => false,
+        }
+    }
+
+    // The number as an integer of 64 signed bits, if it is one. At most 20 bytes are looked at.
+    fn small_integer(&self) -> Option<i64>
+        requires begun { IsBegun (string_bytes self.now.text) self.now.stage }
+        requires whole { is_whole self.now.stage ≡ true }
+        requires int { is_int_stage self.now.stage ≡ true }
+        ensures some { IfSome result (λ n. number_value (string_bytes self.now.text) ≡ integer n) }
+        ensures none { result ≡ None → number_value (string_bytes self.now.text) ≡ big (string_bytes self.now.text) }
+    {
+        if LONGEST_INT < self.text.len() {
+            return None;
+        }
+        integer_in(self.text.as_bytes())
+    }
+
+    // Whether neither point nor exponent was seen.
+    fn is_integer(&self) -> bool
+        ensures { result ≡ is_int_stage self.now.stage }
+    {
+        match self.stage {
+            Stage::Minus => true,
+            Stage::Zero => true,
+            Stage::Digits(_) => true,
+            Stage::Point => false,
+            Stage::Fraction => false,
+            Stage::Letter => false,
+            Stage::Sign => false,
+            Stage::Exponent => false,
+        }
+    }
+
+    // The text, and an empty one in its place.
+    fn take_text(&mut self) -> String
+        ensures text { string_bytes result ≡ string_bytes self.old.text }
+        ensures none { string_bytes self.new.text ≡ [] }
+        ensures stage { self.new.stage ≡ self.old.stage }
+    {
+        let alloc = *self.text.allocator();
+        mem::replace(&mut self.text, String::new(alloc))
+    }
+
+    /// The number whose bytes were taken. Its text goes into it, but for an integer of 64 signed bits, of which
+    /// the bytes stay. It takes no memory, and looks at 20 bytes at most.
+    pub fn take_value(&mut self) -> OwnNumber
+        requires begun { IsBegun (string_bytes self.old.text) self.old.stage }
+        requires whole { is_whole self.old.stage ≡ true }
+        ensures value { own_view result ≡ number_value (string_bytes self.old.text) }
+        ensures kept { kept_bytes result (string_bytes self.new.text) ≡ string_bytes self.old.text }
+        ensures stage { self.new.stage ≡ self.old.stage }
+    {
+        if !self.is_integer() {
+            return OwnNumber::Float(self.take_text());
+        }
+        match self.small_integer() {
+            Some(number) => OwnNumber::Int(number),
+            None => OwnNumber::BigInt(self.take_text()),
+        }
+    }
+
+    /// Takes back what [`take_value`](OpenNumber::take_value) gave, so that the number can go on.
+    pub fn give_back(&mut self, number: OwnNumber)
+        ensures text { string_bytes self.new.text ≡ kept_bytes number (string_bytes self.old.text) }
+        ensures stage { self.new.stage ≡ self.old.stage }
+    {
+        match number {
+            OwnNumber::Int(_) => {}
+            OwnNumber::BigInt(text) => self.text = text,
+            OwnNumber::Float(text) => self.text = text,
+        }
+    }
+
+    /// Drops the bytes.
+    pub fn clear(&mut self)
+        ensures { string_bytes self.new.text ≡ [] }
+    {
+        self.text.clear();
+    }
+}

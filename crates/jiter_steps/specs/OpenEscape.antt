@@ -1,0 +1,26 @@
+-- An escape that arrives byte by byte: what its next byte makes of it, in any text in which these bytes stand.
+use Rattle.std.specs.Prelude.{◌≡◌, ℕ, ◌+◌, true, List, [], ◌∷◌, ◌++◌, length, slice_get, Some}
+use Rattle.std.specs.Char.{encode_utf8}
+use Rattle.jiter_scan.specs.Ascii as ascii
+use Rattle.jiter_scan.specs.Kind.{fault_kind}
+use Rattle.jiter_scan.specs.Stands.{Stands}
+use Rattle.jiter_steps.specs.StringReading.{portion_at, part, over, cut, wrong}
+use Rattle.jiter_steps.specs.declared.open_escape.Spelled.{Spelled}
+use Rattle.jiter_steps.specs.declared.open_escape.Spelled.TheVariants as spelled
+
+-- its first byte
+abbrev pub begun : List ℕ
+begun = ascii.backslash ∷ []
+
+-- in any text in which the bytes w stand at a place: a character is read there that ends behind them, or a fault
+abbrev pub IsSpelled : List ℕ → Spelled → Type 0
+IsSpelled w spelled.Part = portion_at w 0 ≡ over cut
+IsSpelled w (spelled.Whole c) = (t : List ℕ) (i : ℕ) → Stands t i (i + length w) w
+    → portion_at t i ≡ part (encode_utf8 c) true (i + length w)
+IsSpelled w (spelled.Wrong k n) = (t : List ℕ) (i : ℕ) → Stands t i (i + length w) w
+    → portion_at t i ≡ over (wrong (fault_kind k) (i + n))
+
+-- the bytes that are held then
+abbrev pub held_after : List ℕ → ℕ → Spelled → List ℕ
+held_after w b spelled.Part = w ++ b ∷ []
+held_after w b s = w

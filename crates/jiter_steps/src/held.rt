@@ -1,0 +1,55 @@
+//! A few bytes that wait for the rest of their character or escape.
+ghost use Rattle.std.specs.Prelude.{◌≡◌, ◌+◌, ◌≤◌, ◌++◌, [], length};
+
+use std::marker::Model;
+
+// How many bytes are held at most: those of an escape of two numbers.
+const LIMIT: usize = 12;
+
+// At most twelve bytes.
+#[derive(Drop)]
+pub(crate) struct Held {
+    bytes: [u8; LIMIT],
+    count: usize,
+}
+
+impl Model for Held {
+    ghost use Rattle.std.specs.Prelude.{◌≤◌, List, ℕ, take};
+
+    ghost Value = { List ℕ };
+
+    ghost view = { λ h. take h.count h.bytes };
+
+    ghost invariant = { λ h. h.count ≤ 12 };
+}
+
+impl Held {
+    // No bytes.
+    pub(crate) fn new() -> Held
+        ensures { result ≡ [] }
+    {
+        Held {
+            bytes: [0; LIMIT],
+            count: 0,
+        }
+    }
+
+    // The bytes.
+    pub(crate) fn as_slice(&self) -> &[u8]
+        ensures value { result.now ≡ self.now }
+        ensures few { length result.now ≤ 12 }
+    {
+        &self.bytes[..self.count]
+    }
+
+    // The bytes, with others behind them.
+    pub(crate) fn with(&self, more: &[u8]) -> Held
+        requires { length self.now + length more.now ≤ 12 }
+        ensures { result ≡ self.now ++ more.now }
+    {
+        let mut bytes = self.bytes;
+        let count = self.count + more.len();
+        bytes[self.count..count].copy_from_slice(more);
+        Held { bytes, count }
+    }
+}

@@ -1,0 +1,130 @@
+//! Text that arrives in parts, of which any may end within a character (RFC 8259, 8.1): each byte is looked at once.
+ghost use Rattle.std.specs.Prelude.{◌≡◌, ℕ, ◌+◌, ◌<◌, ◌≤◌, ◌++◌, [], Bool, IfOk, List, OnErr, OnOk, false, length, take};
+ghost use Rattle.std.specs.Prelude.{if◌then◌else◌};
+ghost use Rattle.std.specs.Char.{encode_utf8};
+ghost use Rattle.jiter_scan.specs.Kind.{invalid_code_point};
+ghost use Rattle.jiter_scan.specs.Scanned.{taken, failed};
+ghost use Rattle.jiter_steps.specs.OpenText.{HoldsText, nothing};
+ghost use Rattle.jiter_steps.specs.StringReading.{checked};
+
+use crate::held::Held;
+use jiter_scan::memory::{Refused, push_text};
+use jiter_scan::text::utf8_text;
+use std::alloc::Global;
+use std::marker::Model;
+
+// How many bytes are looked at beside an unfinished character.
+const FEW: usize = 8;
+
+/// A text of which some bytes were read: its characters so far, and an unfinished one, or that what follows them
+/// is no UTF-8 whatever comes.
+#[derive(Drop)]
+pub struct OpenText {
+    text: String,
+    rest: Held,
+    broken: bool,
+}
+
+impl Model for OpenText {
+    ghost use Rattle.std.specs.Prelude.{◌≤◌, length, string_bytes};
+    ghost use Rattle.jiter_steps.specs.OpenText.{SoFar};
+
+    ghost Value = { SoFar };
+
+    ghost view = { λ o. record { text = string_bytes o.text; rest = o.rest; broken = o.broken } };
+
+    ghost invariant = { λ o. length o.rest ≤ 3 };
+}
+
+impl OpenText {
+    /// No bytes. It takes no memory.
+    pub fn new(alloc: Global) -> OpenText
+        ensures { result ≡ nothing }
+    {
+        OpenText {
+            text: String::new(alloc),
+            rest: Held::new(),
+            broken: false,
+        }
+    }
+
+    // Takes bytes behind the characters so far, an unfinished one's among them.
+    fn absorb(&mut self, bytes: &[u8]) -> Result<(), Refused>
+        requires { self.old.broken ≡ false }
+        ensures taken { (d : List ℕ) → d ≡ self.old.text ++ bytes.now
+            → OnOk result (HoldsText self.new d) }
+        ensures refused { OnErr result (self.new ≡ self.old) }
+    {
+        match simdutf8::compat::from_utf8(bytes) {
+            Ok(text) => {
+                push_text(&mut self.text, text)?;
+                self.rest = Held::new();
+            }
+            Err(e) => {
+                let right = e.valid_up_to();
+                push_text(&mut self.text, utf8_text(&bytes[..right]))?;
+                match e.error_len() {
+                    None => self.rest = Held::new().with(&bytes[right..]),
+                    Some(_) => self.broken = true,
+                }
+            }
+        }
+        Ok(())
+    }
+
+    /// Takes bytes from the front of some that follow those so far, and gives how many: at least one where there
+    /// is one. Where memory is refused, nothing changes.
+    pub fn add(&mut self, run: &[u8]) -> Result<usize, Refused>
+        ensures taken { (d : List ℕ) → HoldsText (self.old) d
+            → IfOk result (λ n. HoldsText self.new (d ++ take n run.now)) }
+        ensures within { IfOk result (λ n. n ≤ length run.now) }
+        ensures some { IfOk result (λ n. 0 < length run.now → 0 < n) }
+        ensures refused { OnErr result (self.new ≡ self.old) }
+    {
+        if self.broken {
+            return Ok(run.len());
+        }
+        let count = if self.rest.as_slice().is_empty() {
+            self.absorb(run)?;
+            run.len()
+        } else {
+            let few = run.len().min(FEW);
+            let held = self.rest.with(&run[..few]);
+            self.absorb(held.as_slice())?;
+            few
+        };
+        Ok(count)
+    }
+
+    /// Takes the character of an escape behind the bytes so far. Where memory is refused, nothing changes.
+    pub fn add_char(&mut self, c: char) -> Result<(), Refused>
+        ensures taken { (d : List ℕ) → HoldsText (self.old) d
+            → OnOk result (HoldsText self.new (d ++ encode_utf8 c)) }
+        ensures refused { OnErr result (self.new ≡ self.old) }
+    {
+        if self.broken {
+            return Ok(());
+        }
+        let mut bytes = [0; 4];
+        let held = self.rest.with(c.encode_utf8(&mut bytes).as_bytes());
+        self.absorb(held.as_slice())
+    }
+
+    /// Whether the bytes so far are a text: all of them, or, of one that is kept, as far as its whole characters.
+    /// Where they are not, the characters so far stand before the first byte that is wrong.
+    pub fn is_text(&self, keep: bool) -> bool
+        ensures { (d : List ℕ) → HoldsText self.now d → (i e : ℕ) → (owned : Bool)
+            → checked keep i owned d e
+            ≡ (if result then taken (record { owned = owned; bytes = self.now.text }) e
+            else failed invalid_code_point (i + length self.now.text)) }
+    {
+        !self.broken && (keep || self.rest.as_slice().is_empty())
+    }
+
+    /// The characters so far.
+    pub fn text(&self) -> &str
+        ensures { result.now ≡ self.now.text }
+    {
+        self.text.as_str()
+    }
+}

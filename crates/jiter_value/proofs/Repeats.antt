@@ -1,0 +1,180 @@
+-- A key that its object has already, and what its reading is.
+use Rattle.std.proofs.Common.{◌≡◌, ◌≢◌, ◌⊎◌, inl, inr, ℕ, zero, suc, ◌+◌, ◌<◌, ◌≤◌, true, false, List, [], ◌∷◌, length}
+use Rattle.std.proofs.Common.{take, drop, map, get_or, refl, sym, ap, ◌∙◌, arith, cond, subst}
+use Rattle.std.specs.Prelude.{◌||◌, reverse, string_bytes, Option, Some, None, Result, Err}
+use Rattle.std.specs.Str.{bytes_eq}
+use Rattle.std.proofs.lemmas.List.{drop_more, drop_all}
+use Rattle.jiter_scan.specs.Kind.{Kind, duplicate_key}
+use Rattle.jiter_scan.specs.Scanned.{taken, failed}
+use Rattle.jiter_scan.specs.declared.partial_mode.PartialMode.{PartialMode}
+use Rattle.jiter_scan.specs.declared.partial_mode.PartialMode.TheVariants.{Off, On, TrailingStrings}
+use Rattle.jiter_steps.specs.Frames.{resume, object_in}
+use Rattle.jiter_steps.specs.Read.{Reading, Rules, Container, fault, if_forgiven, parts_at, value_at}
+use Rattle.jiter_steps.specs.Step.{step, colon, value_first}
+use Rattle.jiter_steps.specs.StringDecoder.{text_view}
+use Rattle.jiter_steps.specs.StringReading.{string_at, whole}
+use Rattle.jiter_steps.specs.Tree.{Text, Tree}
+use Rattle.jiter_steps.specs.Unique.{own_bytes, is_among, behind_its_colon}
+use Rattle.jiter_steps.proofs.Calls.Resumed.{if_forgiven-no, resume-fault}
+use Rattle.jiter_value.specs.Settings.{Keeping, lent_unique, forgives, rules_as, answer_as}
+use Rattle.jiter_value.specs.Stacks.{Member, member_view, frames, HaveKeyBase, refused_in, key_in, meaning}
+use Rattle.jiter_value.specs.Turns.{Proceeds, IsWithin, MayGrowFor, outcome}
+use Rattle.jiter_value.specs.Value.{MayGrowBy}
+use Rattle.jiter_value.specs.UniqueKeys.{has_key, innermost_base, StopsAtKey, GivesUnique, WhereUniqueRefused}
+use Rattle.jiter_value.specs.UniqueKeys.{GivesUniqueWhole}
+use Rattle.jiter_value.specs.Reading.{GivesWhole}
+use Rattle.jiter_value.proofs.MadeTexts.{answer_as-unique}
+use Rattle.jiter_value.proofs.WholeTextAnswers.{answer-none, answer-fault, answer-refused}
+use Rattle.jiter_steps.specs.Blank.{past_blanks}
+use Rattle.jiter_steps.specs.Unique.{unique_answer_in}
+use Rattle.jiter_steps.specs.declared.read_error.ReadError.{ReadError}
+use Rattle.jiter_value.specs.declared.settings.Settings.{Settings}
+use Rattle.jiter_value.specs.declared.stacks.Open.{Open}
+use Rattle.jiter_value.specs.declared.stacks.Stacks.{Stacks}
+use Rattle.jiter_value.specs.declared.stacks.State.{State}
+use Rattle.jiter_value.specs.declared.stacks.State.TheVariants as state
+use Rattle.jiter_value.specs.declared.turns.unique.Stopped.{Stopped}
+use Rattle.jiter_value.specs.declared.turns.unique.Stopped.TheVariants as stopped
+use Rattle.jiter_value.specs.declared.value.JsonValue.{JsonValue}
+use Rattle.jiter_steps.specs.declared.read_error.ReadError.TheVariants as error
+
+-- One member has the key, or none of them.
+module _ (key : List ℕ) (ms : List Member) (i : ℕ) (m : Member) (lt : i < length ms) (at : m ≡ get_or ms i m) where
+  goes : drop i ms ≡ m ∷ drop (i + 1) ms
+  goes = drop_more ms i m lt ∙ ap (λ x. x ∷ drop (i + 1) ms) (sym at)
+
+  pub has_key-here : bytes_eq key (text_view m.0).bytes ≡ true → has_key key (drop i ms) ≡ true
+  has_key-here is = ap (has_key key) goes ∙ (rw is refl)
+
+  pub has_key-later : bytes_eq key (text_view m.0).bytes ≡ false
+      → has_key key (drop i ms) ≡ has_key key (drop (i + 1) ms)
+  has_key-later is = ap (has_key key) goes ∙ (rw is refl)
+
+pub has_key-none : (key : List ℕ) (ms : List Member) (i : ℕ) → length ms ≤ i → has_key key (drop i ms) ≡ false
+has_key-none key ms i h = ap (has_key key) (drop_all i ms h)
+
+has_key-among : (key : List ℕ) (ms : List Member)
+    → is_among key (map (λ m. own_bytes m.0) (map member_view ms)) ≡ has_key key ms
+has_key-among key [] = refl
+has_key-among key (m ∷ ms) = ap (λ b. bytes_eq key (text_view m.0).bytes || b) (has_key-among key ms)
+
+-- The fault of a key, where this is read of it.
+module _ (t : List ℕ) (os : List Open) (n : ℕ) (ms : List Member) (i : ℕ) (stands : HaveKeyBase os n (length ms)) where
+  abbrev Refused : Option (Kind × ℕ)
+  Refused = refused_in lent_unique t os ms i
+
+  refused-read : (os : List Open) → HaveKeyBase os n (length ms) → (k : Text) (e : ℕ) → string_at whole t i ≡ taken k e
+      → refused_in lent_unique t os ms i
+      ≡ cond (has_key k.bytes (drop (innermost_base os) ms)) (behind_its_colon k.bytes (step t colon e)) None
+  refused-read [] b k e is = absurd b
+  refused-read (o ∷ os) b k e is =
+      let among = has_key-among k.bytes (drop o.base ms) in
+      rw (is, among) refl
+
+  refused-failed : (os : List Open) → HaveKeyBase os n (length ms) → (k : Kind) (j : ℕ)
+      → string_at whole t i ≡ failed k j
+      → refused_in lent_unique t os ms i ≡ None
+  refused-failed [] b k j is = absurd b
+  refused-failed (o ∷ os) b k j is = rw is refl
+
+  pub no-key : (k : Kind) (j : ℕ) → string_at whole t i ≡ failed k j → Refused ≡ None
+  no-key k j is = refused-failed os stands k j is
+
+  pub new-key : (k : Text) (e : ℕ) → string_at whole t i ≡ taken k e
+      → has_key k.bytes (drop (innermost_base os) ms) ≡ false → Refused ≡ None
+  new-key k e is other = refused-read os stands k e is ∙ (rw other refl)
+
+  pub old-key : (k : Text) (e : ℕ) → string_at whole t i ≡ taken k e
+      → has_key k.bytes (drop (innermost_base os) ms) ≡ true
+      → Refused ≡ behind_its_colon k.bytes (step t colon e)
+  old-key k e is same = refused-read os stands k e is ∙ (rw same refl)
+
+-- A repeated key's fault is that of the reading: no container forgives it.
+refused-part : {K A P : Type 0} (r : Rules K A) (c : Container P A) (t : List ℕ) (n : ℕ) (parts : List P) (j : ℕ)
+    (f : Kind × ℕ) → 0 < n → c.refuses parts j ≡ Some f
+    → parts_at r c t n parts j ≡ if_forgiven r (λ e. c.build e parts) f.0 f.1 f.1
+unfolding parts_at
+refused-part r c t zero parts j f lt is = absurd (omega arith)
+refused-part r c t (suc n) parts j f lt is = rw is refl
+
+repeat-kept : (mode : PartialMode) (key : List ℕ) → forgives mode (duplicate_key key) ≡ false
+repeat-kept Off key = refl
+repeat-kept On key = refl
+repeat-kept TrailingStrings key = refl
+
+pub key-repeated : (p : Settings) (t : List ℕ) (os : List Open) (es : List JsonValue) (ms : List Member) (j x : ℕ)
+    (key : List ℕ) → j < length t → refused_in lent_unique t os ms j ≡ Some (duplicate_key key, x)
+    → key_in lent_unique p t os es ms j ≡ fault (duplicate_key key) x x
+key-repeated p t [] es ms j x key lt is = absurd (cc)
+key-repeated p t (o ∷ os) es ms j x key lt is =
+    let r = rules_as lent_unique p in
+    let fs = frames o.outer os es (take o.base ms) in
+    let c = object_in r t (length fs) in
+    let parts = map member_view (drop o.base ms) in
+    let kept = repeat-kept p.mode key in
+    ap (resume r t fs)
+    (refused-part r c t (length t) parts j (duplicate_key key, x) (omega (arith, lt)) is
+    ∙ if_forgiven-no r t (λ e. c.build e parts) (duplicate_key key) x x kept)
+    ∙ resume-fault r t fs (duplicate_key key) x x kept
+
+-- What is returned then.
+pub stops-gives : (p : Settings) (t : List ℕ) (s : Stacks) (i : ℕ) (x : Stopped) (j : ℕ) (r : Reading Tree)
+    → IsWithin t s state.Key i → r ≡ meaning lent_unique p t s state.Key i → StopsAtKey t s i x j
+    → GivesUnique (Err x) j r
+stops-gives p t s i (stopped.Read (error.Fault f)) j r w is h = absurd h
+stops-gives p t s i (stopped.Read (error.Memory m)) j r w is h = tt
+stops-gives p t s i (stopped.Repeated k) j r w is h =
+    is
+    ∙ key-repeated p t (reverse s.nest.items) s.items.items s.members.items i k.index (string_bytes k.key) w.2 h.0
+    ∙ ap (fault (duplicate_key (string_bytes k.key)) k.index) (sym h.1)
+
+pub stops-grows : (x : Stopped) (P : Type 0) → P → WhereUniqueRefused (Err x) P
+stops-grows (stopped.Read (error.Fault f)) P h = tt
+stops-grows (stopped.Read (error.Memory m)) P h = h
+stops-grows (stopped.Repeated k) P h = tt
+
+-- A turn that goes on: what is awaited then is the reading,
+pub goes-on : (made : Keeping) (p : Settings) (t : List ℕ) (i l h : ℕ) (x : Reading Tree) (s : Stacks) (j : ℕ)
+    (a : State) → Proceeds made p t i l h x s (j, a) → a ≢ state.Done → a ≢ state.GivenUp
+    → (x ≡ meaning made p t s a j) × IsWithin t s a j
+goes-on made p t i l h x s j state.Root leads more kept = leads.reaches
+goes-on made p t i l h x s j state.Item leads more kept = leads.reaches
+goes-on made p t i l h x s j state.Member leads more kept = leads.reaches
+goes-on made p t i l h x s j state.Key leads more kept = leads.reaches
+goes-on made p t i l h x s j state.Done leads more kept = absurd (more refl)
+goes-on made p t i l h x s j state.GivenUp leads more kept = absurd (kept refl)
+
+-- and the value may want memory.
+may-grow : (s : Stacks) (a : State) (P : Type 0) → a ≢ state.Done → a ≢ state.GivenUp → MayGrowFor (outcome s a) P → P
+may-grow s state.Root P more kept h = h
+may-grow s state.Item P more kept h = h
+may-grow s state.Member P more kept h = h
+may-grow s state.Key P more kept h = h
+may-grow s state.Done P more kept h = absurd (more refl)
+may-grow s state.GivenUp P more kept h = absurd (kept refl)
+
+pub grows-on : (t : List ℕ) (i j : ℕ) (s : Stacks) (a b : State) → ((a ≡ state.Root) × (j ≡ i)) ⊎ MayGrowBy ⊥ t i
+    → (a ≡ state.Root → MayGrowFor (outcome s b) (MayGrowBy ⊥ t j)) → b ≢ state.Done → b ≢ state.GivenUp
+    → MayGrowBy ⊥ t i
+grows-on t i j s a b (inl at) h more kept =
+    subst (MayGrowBy ⊥ t) at.1 (may-grow s b (MayGrowBy ⊥ t j) more kept (h at.0))
+grows-on t i j s a b (inr grows) h more kept = grows
+
+-- The answer of a whole text: where its value is stopped, and where it is read and what follows it is looked at.
+pub whole-stopped : (p : Settings) (t : List ℕ) → past_blanks t 0 < length t → (x : Stopped) (j : ℕ)
+    → GivesUnique (Err x) j (value_at (rules_as lent_unique p) t 200 (past_blanks t 0))
+    → GivesUniqueWhole (Err x) j (unique_answer_in p.allow_inf_nan p.mode t)
+whole-stopped p t begun (stopped.Read e) j h =
+    subst (GivesWhole (Err e) j) (answer_as-unique p t) (answer-refused (rules_as lent_unique p) p.mode t begun e j h)
+whole-stopped p t begun (stopped.Repeated k) j h =
+    sym (answer_as-unique p t)
+    ∙ answer-fault (rules_as lent_unique p) p.mode t begun (duplicate_key (string_bytes k.key)) k.index j h
+
+pub whole-none : (p : Settings) (t : List ℕ) (k : Kind) (x i : ℕ) → (step t value_first 0 ≡ failed k x) × (i ≡ x)
+    → unique_answer_in p.allow_inf_nan p.mode t ≡ fault k x i
+whole-none p t k x i h = sym (answer_as-unique p t) ∙ answer-none (rules_as lent_unique p) p.mode t k x i h
+
+pub whole-given : (p : Settings) (t : List ℕ) (r : Result JsonValue ReadError) (j : ℕ)
+    → GivesWhole r j (answer_as lent_unique p t)
+    → GivesWhole r j (unique_answer_in p.allow_inf_nan p.mode t)
+whole-given p t r j h = subst (GivesWhole r j) (answer_as-unique p t) h

@@ -1,0 +1,303 @@
+-- Open containers, taken apart and put together.
+use Rattle.std.proofs.Common.{◌≡◌, ℕ, ◌+◌, ◌-◌, ◌<◌, ◌≤◌, List, [], ◌∷◌, ◌++◌, length, take, map, get_or, refl}
+use Rattle.std.proofs.Common.{sym, ap, ap₂, ◌∙◌, arith, length-append, inl, inr, Vec, rules}
+use Rattle.std.specs.Prelude.{slice_set}
+use Rattle.std.specs.declared.alloc.Global.{Global}
+use Rattle.std.specs.declared.borrow.CowStr.{CowStr}
+use Rattle.std.proofs.Math.Seq.{set-append_seam, get_or-append_seam}
+use Rattle.std.proofs.lemmas.List.{map_push, take_all, take_more, length-map, same_from_push, append_assoc, append-nil}
+use Rattle.jiter_steps.specs.Frames.{items_frame, members_frame}
+use Rattle.jiter_steps.specs.StringDecoder.{text_view}
+use Rattle.jiter_steps.specs.Tree.{Text, Tree, Items, no_items, item, Members, no_members, member, null, array, object}
+use Rattle.jiter_steps.specs.Tree.{items_of, members_of}
+use Rattle.jiter_value.specs.Spine.{OpenFrame, around, filled, parents_of, spine_of, HasPart, StandsFor}
+use Rattle.jiter_value.specs.Spine.{HasValue}
+use Rattle.jiter_value.specs.Stacks.{Member, member_view}
+use Rattle.jiter_value.specs.Value.{view}
+use Rattle.jiter_value.specs.declared.value.JsonValue.{JsonValue, Array, Object, out-JsonValue, the_lemmas}
+use Rattle.jiter_value.specs.declared.value.JsonValue.TheOpen.{JsonValue-F}
+use Rattle.jiter_value.proofs.Views.{view_array, view_object}
+
+-- a list that is not empty, by its last
+last-of : {X : Type 0} (xs : List X) → 0 < length xs → (x : X) × (xs ≡ take (length xs - 1) xs ++ x ∷ [])
+last-of [] h = let no : ⊥ = omega arith in absurd no
+last-of (y ∷ ys) h =
+    let n = length (y ∷ ys) - 1 in
+    (get_or (y ∷ ys) n y, sym (take_all (n + 1) (y ∷ ys) (omega arith)) ∙ take_more (y ∷ ys) n y (omega arith))
+
+-- the last, read at its index
+pub last-read : {X : Type 0} (xs before : List X) (n : ℕ) (old got : X) → xs ≡ before ++ old ∷ []
+    → n ≡ length before → got ≡ get_or xs n got → got ≡ old
+last-read xs before n old got h at g =
+    g ∙ ap₂ (λ ys m. get_or ys m got) h at ∙ get_or-append_seam before old [] got
+
+-- and set
+pub last-set : {X : Type 0} (xs before : List X) (n : ℕ) (old x : X) → xs ≡ before ++ old ∷ []
+    → n ≡ length before → slice_set xs n x ≡ before ++ x ∷ []
+last-set xs before n old x h at = rw (h, at) (set-append_seam before old [] x)
+
+-- what is listed of the items and members of a tree
+listed : Items → List Tree
+listed no_items = []
+listed (item v is) = v ∷ listed is
+
+-- and of the items of a list
+listed-of : (xs : List Tree) → listed (items_of xs) ≡ xs
+unfolding listed
+listed-of [] = refl
+listed-of (x ∷ xs) = ap (λ ys. x ∷ ys) (listed-of xs)
+
+-- the items of a list are those of no other
+items-same : (xs ys : List Tree) → items_of xs ≡ items_of ys → xs ≡ ys
+items-same xs ys h = sym (listed-of xs) ∙ ap listed h ∙ listed-of ys
+
+-- the same of members
+entries : Members → List (Text × Tree)
+entries no_members = []
+entries (member k v ms) = (k, v) ∷ entries ms
+
+entries-of : (ms : List (Text × Tree)) → entries (members_of ms) ≡ ms
+unfolding entries
+entries-of [] = refl
+entries-of (m ∷ ms) = ap (λ ns. m ∷ ns) (entries-of ms)
+
+members-same : (ms ns : List (Text × Tree)) → members_of ms ≡ members_of ns → ms ≡ ns
+members-same ms ns h = sym (entries-of ms) ∙ ap entries h ∙ entries-of ns
+
+-- a list whose image has a last has one
+mapped-last : {X Y : Type 0} (f : X → Y) (vs : List X) (xs : List Y) (x : Y) → map f vs ≡ xs ++ x ∷ []
+    → (v : X) × (vs ≡ take (length vs - 1) vs ++ v ∷ []) × (map f (take (length vs - 1) vs) ≡ xs) × (f v ≡ x)
+mapped-last f vs xs x h =
+    let long : 0 < length vs =
+    omega (arith, ap length h, length-append xs (x ∷ []), length-map vs f) in
+    let last = last-of vs long in
+    let same = same_from_push (map f (take (length vs - 1) vs)) xs (f last.0) x
+    (sym (map_push f (take (length vs - 1) vs) last.0) ∙ ap (map f) (sym last.1) ∙ h) in
+    (last.0, last.1, same.0, same.1)
+
+-- the items of an array whose last part is x
+pub record LastItem (vs : List JsonValue) (f : OpenFrame) (x : Tree) : Type 0 where
+  pub before : List JsonValue
+  pub old : JsonValue
+  pub items : vs ≡ before ++ old ∷ []
+  pub frame : f ≡ items_frame (map view before)
+  pub part : view old ≡ x
+
+pub last-item : (vs : List JsonValue) (f : OpenFrame) (x : Tree) → array (items_of (map view vs)) ≡ around f x
+    → LastItem vs f x
+last-item vs (items_frame xs) x h =
+    let same : items_of (map view vs) ≡ items_of (xs ++ x ∷ []) = cc in
+    let last = mapped-last view vs xs x (items-same (map view vs) (xs ++ x ∷ []) same) in
+    record {
+      before = take (length vs - 1) vs;
+      old = last.0;
+      items = last.1;
+      frame = ap items_frame (sym last.2);
+      part = last.3;
+    }
+last-item vs (members_frame ms k) x h = absurd (cc)
+
+-- the members of an object whose last part is x
+pub record LastMember (vs : List Member) (f : OpenFrame) (x : Tree) : Type 0 where
+  pub before : List Member
+  pub key : CowStr Global
+  pub old : JsonValue
+  pub members : vs ≡ before ++ (key, old) ∷ []
+  pub frame : f ≡ members_frame (map member_view before) (text_view key)
+  pub part : view old ≡ x
+
+pub last-member : (vs : List Member) (f : OpenFrame) (x : Tree)
+    → object (members_of (map member_view vs)) ≡ around f x → LastMember vs f x
+last-member vs (items_frame xs) x h = absurd (cc)
+last-member vs (members_frame ms k) x h =
+    let same : members_of (map member_view vs) ≡ members_of (ms ++ (k, x) ∷ []) = cc in
+    let last = mapped-last member_view vs ms (k, x)
+    (members-same (map member_view vs) (ms ++ (k, x) ∷ []) same) in
+    record {
+      before = take (length vs - 1) vs;
+      key = last.0.0;
+      old = last.0.1;
+      members = last.1;
+      frame = ap₂ members_frame (sym last.2) (sym (ap (λ m. m.0) last.3));
+      part = ap (λ m. m.1) last.3;
+    }
+
+-- one level of an array and of an object
+pub out-array : (v : Vec JsonValue Global) → out-JsonValue (Array v) ≡ JsonValue-F.Array v
+out-array v = search (rules, the_lemmas)
+
+pub out-object : (v : Vec Member Global) → out-JsonValue (Object v) ≡ JsonValue-F.Object v
+out-object v = search (rules, the_lemmas)
+
+-- an array whose last item is another
+pub array-around : (w : Vec JsonValue Global) (before : List JsonValue) (v : JsonValue) → w.items ≡ before ++ v ∷ []
+    → view (Array w) ≡ around (items_frame (map view before)) (view v)
+array-around w before v h =
+    view_array w ∙ ap (λ xs. array (items_of xs)) (ap (map view) h ∙ map_push view before v)
+
+-- an object whose last member has another value
+pub object-around : (w : Vec Member Global) (before : List Member) (k : CowStr Global) (v : JsonValue)
+    → w.items ≡ before ++ (k, v) ∷ []
+    → view (Object w) ≡ around (members_frame (map member_view before) (text_view k)) (view v)
+object-around w before k v h =
+    view_object w
+    ∙ ap (λ xs. object (members_of xs)) (ap (map member_view) h ∙ map_push member_view before (k, v))
+
+-- A root is taken apart: so many of its open containers stand in the spine, the others inside each other.
+pub record Descended (fs : List OpenFrame) (x : Tree) (spine : List Tree) (inner : Tree) (n depth : ℕ) : Type 0 where
+  pub below : List OpenFrame
+  pub above : List OpenFrame
+  pub all : fs ≡ below ++ above
+  pub deep : n + length below ≡ depth
+  pub apart : spine ≡ parents_of above
+  pub rest : inner ≡ filled below x
+
+-- an outermost container more
+filled-push : (gs : List OpenFrame) (f : OpenFrame) (x : Tree) → filled (gs ++ f ∷ []) x ≡ around f (filled gs x)
+filled-push [] f x = refl
+filled-push (g ∷ gs) f x = filled-push gs f (around g x)
+
+-- the outermost of those that are inside each other, and what lies in it
+record Outermost (below : List OpenFrame) (x inner : Tree) : Type 0 where
+  frame : OpenFrame
+  inside : List OpenFrame
+  all : below ≡ inside ++ frame ∷ []
+  is : inner ≡ around frame (filled inside x)
+
+outermost-of : (below : List OpenFrame) (x inner : Tree) → 0 < length below → inner ≡ filled below x
+    → Outermost below x inner
+outermost-of below x inner long h =
+    let last = last-of below long in
+    let inside = take (length below - 1) below in
+    record {
+      frame = last.0;
+      inside = inside;
+      all = last.1;
+      is = h ∙ ap (λ ys. filled ys x) last.1 ∙ filled-push inside last.0 x;
+    }
+
+-- the next one has a last part,
+pub part-there : (fs : List OpenFrame) (x : Tree) (spine : List Tree) (inner : Tree) (n depth : ℕ)
+    → Descended fs x spine inner n depth → n < depth → HasPart inner
+part-there fs x spine inner n depth d more =
+    let o = outermost-of d.below x inner (omega (arith, d.deep, more)) d.rest in
+    record { frame = o.frame; part = filled o.inside x; is = o.is }
+
+-- which is taken out of it
+pub step-down : (fs : List OpenFrame) (x : Tree) (spine : List Tree) (inner : Tree) (n depth : ℕ) (hollow part : Tree)
+    → Descended fs x spine inner n depth → n < depth
+    → ((f : OpenFrame) → (y : Tree) → inner ≡ around f y → (hollow ≡ around f null) × (part ≡ y))
+    → Descended fs x (spine ++ hollow ∷ []) part (n + 1) depth
+step-down fs x spine inner n depth hollow part d more moved =
+    let o = outermost-of d.below x inner (omega (arith, d.deep, more)) d.rest in
+    let went = moved o.frame (filled o.inside x) o.is in
+    let long = length-append o.inside (o.frame ∷ []) in
+    record {
+      below = o.inside;
+      above = o.frame ∷ d.above;
+      all = d.all ∙ ap (λ ys. ys ++ d.above) o.all ∙ append_assoc o.inside (o.frame ∷ []) d.above;
+      deep = omega (arith, d.deep, ap length o.all, long);
+      apart = ap₂ (λ ss v. ss ++ v ∷ []) d.apart went.0;
+      rest = went.1;
+    }
+
+-- with none inside the innermost
+arrived-by : (below above fs : List OpenFrame) (x : Tree) (spine : List Tree) (inner : Tree) → length below ≡ 0
+    → fs ≡ below ++ above → spine ≡ parents_of above → inner ≡ filled below x
+    → spine ++ inner ∷ [] ≡ spine_of fs x
+arrived-by [] above fs x spine inner none all s i = rw (all, s, i) refl
+arrived-by (b ∷ bs) above fs x spine inner none all s i = absurd (omega (arith, none))
+
+-- all of them stand in the spine
+pub arrived : (fs : List OpenFrame) (x : Tree) (spine : List Tree) (inner : Tree) (n depth : ℕ)
+    → Descended fs x spine inner n depth → depth ≤ n → spine ++ inner ∷ [] ≡ spine_of fs x
+arrived fs x spine inner n depth d h =
+    arrived-by d.below d.above fs x spine inner (omega (arith, d.deep, h)) d.all d.apart d.rest
+
+-- none of them does
+pub begins : (fs : List OpenFrame) (x : Tree) (root : Tree) (depth : ℕ) → depth ≡ length fs + 1
+    → root ≡ filled fs x → Descended fs x [] root 1 depth
+begins fs x root depth h is = record {
+  below = fs;
+  above = [];
+  all = sym (append-nil fs);
+  deep = omega (arith, h);
+  apart = refl;
+  rest = is;
+}
+
+-- nothing is in a list of no length
+nothing-in : {X : Type 0} (xs : List X) → length xs ≡ 0 → xs ≡ []
+nothing-in [] h = refl
+nothing-in (x ∷ xs) h = absurd (omega (arith, h))
+
+-- The parents in a spine, and the value behind them: what stands for a whole,
+pub record Behind (spine : List JsonValue) (value : JsonValue) (v : Tree) : Type 0 where
+  pub frames : List OpenFrame
+  pub parents : map view spine ≡ parents_of frames
+  pub whole : v ≡ filled frames (view value)
+
+-- with the innermost container at its end,
+pub innermost-behind : (spine : List JsonValue) (value : JsonValue) (fs : List OpenFrame) (x : Tree)
+    → map view (spine ++ value ∷ []) ≡ spine_of fs x → (map view spine ≡ parents_of fs) × (view value ≡ x)
+innermost-behind spine value fs x h =
+    same_from_push (map view spine) (parents_of fs) (view value) x (sym (map_push view spine value) ∙ h)
+
+pub behind-of : (spine : List JsonValue) (value root : JsonValue) (v : Tree) → StandsFor (spine ++ value ∷ []) root v
+    → Behind spine value v
+behind-of spine value root v (inl h) =
+    let long = length-append spine (value ∷ []) in absurd (omega (arith, ap length h.0, long))
+behind-of spine value root v (inr s) =
+    let same = innermost-behind spine value s.frames s.innermost s.apart in
+    record { frames = s.frames; parents = same.0; whole = s.whole ∙ ap (filled s.frames) (sym same.1) }
+
+-- and once the value stands in its place.
+pub stands-in-place : (fs : List OpenFrame) (spine : List JsonValue) (root : JsonValue) (x v : Tree)
+    → HasValue spine root fs x → v ≡ filled fs x → StandsFor spine root v
+stands-in-place [] spine root x v h whole = inl (h.0, h.1 ∙ sym whole)
+stands-in-place (f ∷ fs) spine root x v h whole =
+    inr (record { frames = fs; innermost = around f x; apart = h; whole = whole })
+
+-- With no parent a value is the root.
+pub goes-to-root : (fs : List OpenFrame) (spine : List JsonValue) (value : JsonValue) → length spine ≡ 0
+    → map view spine ≡ parents_of fs → HasValue spine value fs (view value)
+goes-to-root [] spine value none h = (nothing-in spine none, refl)
+goes-to-root (f ∷ fs) spine value none h =
+    let long = length-append (parents_of fs) (around f null ∷ []) in
+    absurd (omega (arith, ap length h, length-map spine view, none, long))
+
+-- The innermost parent, which is read at its index, has a place for a value,
+pub parent-awaits : (fs : List OpenFrame) (spine : List JsonValue) (got : JsonValue) (n : ℕ) → n + 1 ≡ length spine
+    → got ≡ get_or spine n got → map view spine ≡ parents_of fs → HasPart (view got)
+parent-awaits [] spine got n at g h = absurd (omega (arith, ap length h, length-map spine view, at))
+parent-awaits (f ∷ fs) spine got n at g h =
+    let last = mapped-last view spine (parents_of fs) (around f null) h in
+    let before = take (length spine - 1) spine in
+    let here : n ≡ length before = omega (arith, at, ap length last.1, length-append before (last.0 ∷ [])) in
+    record {
+      frame = f;
+      part = null;
+      is = ap view (last-read spine before n last.0 got last.1 here g) ∙ last.3;
+    }
+
+-- into which it goes.
+pub goes-to-parent : (fs : List OpenFrame) (spine : List JsonValue) (root got new : JsonValue) (n : ℕ) (x : Tree)
+    → n + 1 ≡ length spine → got ≡ get_or spine n got → map view spine ≡ parents_of fs
+    → ((f : OpenFrame) → (y : Tree) → view got ≡ around f y → view new ≡ around f x)
+    → HasValue (slice_set spine n new) root fs x
+goes-to-parent [] spine root got new n x at g h put = absurd (omega (arith, ap length h, length-map spine view, at))
+goes-to-parent (f ∷ fs) spine root got new n x at g h put =
+    let last = mapped-last view spine (parents_of fs) (around f null) h in
+    let before = take (length spine - 1) spine in
+    let here : n ≡ length before = omega (arith, at, ap length last.1, length-append before (last.0 ∷ [])) in
+    let is = last-read spine before n last.0 got last.1 here g in
+    rw (last-set spine before n last.0 new last.1 here)
+    (map_push view before new ∙ ap₂ (λ ss y. ss ++ y ∷ []) last.2 (put f null (ap view is ∙ last.3)))
+
+-- With an empty spine all is put together.
+pub put-together : (spine : List JsonValue) (root : JsonValue) (v : Tree) → length spine ≡ 0
+    → StandsFor spine root v → view root ≡ v
+put-together spine root v none (inl h) = h.1
+put-together spine root v none (inr s) =
+    let long = length-append (parents_of s.frames) (s.innermost ∷ []) in
+    absurd (omega (arith, ap length s.apart, length-map spine view, none, long))

@@ -1,0 +1,5 @@
+use Rattle.std.proofs.Common.{length}
+use Rattle.jiter_value.proofs.pointer.+follow.Given as goal
+
+abbrev pub decreases-follow : goal.decreases-follow
+decreases-follow a = length a.path.now

@@ -1,0 +1,22 @@
+use Rattle.std.proofs.Common.{◌-◌, arith}
+use Rattle.jiter_value.specs.Value.{view}
+use Rattle.jiter_value.proofs.Spines.{goes-to-root, parent-awaits, goes-to-parent}
+use Rattle.jiter_value.proofs.spine.put_back.Goals as goal
+
+pub returns-then-depth-eq0-clause-value : goal.returns-then-depth-eq0-clause-value
+returns-then-depth-eq0-clause-value c = λ fs h.
+    goes-to-root fs c.args.spine.now.items c.args.value
+    (omega (arith, c.if-depth-eq0.true, c.len-depth.ensures, c.args.spine.now.ok.0)) h
+
+pub replace_part-requires : goal.replace_part-requires
+replace_part-requires c =
+    parent-awaits c.requires.0 c.args.spine.now.items c.index_mut.result.now (c.len-depth.result - 1)
+    (omega (arith, c.if-depth-eq0.false, c.len-depth.ensures, c.args.spine.now.ok.0)) c.index_mut.ensures.value
+    c.requires.1
+
+pub returns-clause-value : goal.returns-clause-value
+returns-clause-value c = λ fs h.
+    goes-to-parent fs c.args.spine.now.items c.args.root.now c.index_mut.result.now c.replace_part.new.container
+    (c.len-depth.result - 1) (view c.args.value)
+    (omega (arith, c.if-depth-eq0.false, c.len-depth.ensures, c.args.spine.now.ok.0)) c.index_mut.ensures.value h
+    (λ f y is. (c.replace_part.ensures f y is).0)

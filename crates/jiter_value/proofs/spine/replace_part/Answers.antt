@@ -1,0 +1,57 @@
+use Rattle.std.proofs.Common.{◌≡◌, ◌<◌, ◌∷◌, [], ◌∙◌, ap, sym, arith, length, length-append, vec_len}
+use Rattle.jiter_steps.specs.Tree.{Tree}
+use Rattle.jiter_value.specs.Spine.{OpenFrame, around}
+use Rattle.jiter_value.specs.Value.{view}
+use Rattle.jiter_value.specs.declared.value.JsonValue.{Array, Object}
+use Rattle.jiter_value.proofs.Spines.{last-item, last-member, array-around, object-around, out-array, out-object}
+use Rattle.jiter_value.proofs.Views.{view_array, view_object}
+use Rattle.jiter_value.proofs.spine.replace_part.Goals as goal
+
+pub replace_item-requires : goal.replace_item-requires
+replace_item-requires c =
+    let items = c.in-Array.items in
+    let last = last-item items.items c.requires.frame c.requires.part
+    (sym (view_array items) ∙ ap view (sym c.in-Array.is) ∙ c.requires.is) in
+    let long : 0 < vec_len items =
+    omega (arith, ap length last.items, length-append last.before (last.old ∷ []), items.ok.0) in
+    rw c.in-Array.items-is long
+
+pub replace_value-requires : goal.replace_value-requires
+replace_value-requires c =
+    let members = c.in-Object.members in
+    let last = last-member members.items c.requires.frame c.requires.part
+    (sym (view_object members) ∙ ap view (sym c.in-Object.is) ∙ c.requires.is) in
+    let long : 0 < vec_len members =
+    omega (arith, ap length last.members, length-append last.before ((last.key, last.old) ∷ []), members.ok.0) in
+    rw c.in-Object.members-is long
+
+pub returns-in-Array : goal.returns-in-Array
+returns-in-Array c =
+    let items = c.in-Array.items in
+    let value = c.args.value in
+    let put : (f : OpenFrame) → (x : Tree) → view (Array items) ≡ around f x
+    → (view (Array c.replace_item.new.items) ≡ around f (view value)) × (view c.replace_item.result ≡ x) =
+    λ f x h.
+    let last = last-item items.items f x (sym (view_array items) ∙ h) in
+    let set = c.replace_item.ensures last.before last.old (ap (λ w. w.items) c.in-Array.items-is ∙ last.items) in (
+      array-around c.replace_item.new.items last.before value set.0
+          ∙ ap (λ g. around g (view value)) (sym last.frame),
+      ap view set.1 ∙ last.part,
+    ) in
+    rw (c.in-Array.is, out-array items) put
+
+pub returns-in-Object : goal.returns-in-Object
+returns-in-Object c =
+    let members = c.in-Object.members in
+    let value = c.args.value in
+    let put : (f : OpenFrame) → (x : Tree) → view (Object members) ≡ around f x
+    → (view (Object c.replace_value.new.members) ≡ around f (view value)) × (view c.replace_value.result ≡ x) =
+    λ f x h.
+    let last = last-member members.items f x (sym (view_object members) ∙ h) in
+    let set = c.replace_value.ensures last.before last.key last.old
+    (ap (λ w. w.items) c.in-Object.members-is ∙ last.members) in (
+      object-around c.replace_value.new.members last.before last.key value set.0
+          ∙ ap (λ g. around g (view value)) (sym last.frame),
+      ap view set.1 ∙ last.part,
+    ) in
+    rw (c.in-Object.is, out-object members) put

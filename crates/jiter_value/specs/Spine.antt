@@ -1,0 +1,61 @@
+-- The open containers of a document that arrives in pieces: inside each other, and one behind the other.
+use Rattle.std.specs.Prelude.{◌≡◌, ◌⊎◌, ℕ, ◌+◌, List, [], ◌∷◌, ◌++◌, length, map}
+use Rattle.jiter_steps.specs.Frames.{Frame, items_frame, members_frame}
+use Rattle.jiter_steps.specs.Tree.{Text, Tree, null, array, object, items_of, members_of}
+use Rattle.jiter_value.specs.Value.{view}
+use Rattle.jiter_value.specs.declared.value.JsonValue.{JsonValue}
+
+-- an open container of a document: the parts before the one that it awaits, and of an object that one's key
+abbrev pub OpenFrame : Type 0
+OpenFrame = Frame Text Tree
+
+-- its value so far, and with the part that it awaits behind the others
+abbrev pub begun : OpenFrame → Tree
+begun (items_frame xs) = array (items_of xs)
+begun (members_frame ms k) = object (members_of ms)
+
+abbrev pub around : OpenFrame → Tree → Tree
+around (items_frame xs) x = array (items_of (xs ++ x ∷ []))
+around (members_frame ms k) x = object (members_of (ms ++ (k, x) ∷ []))
+
+-- Open containers inside each other, the innermost first, around x: each is the last part of the next.
+abbrev pub filled : List OpenFrame → Tree → Tree
+filled [] x = x
+filled (f ∷ fs) x = filled fs (around f x)
+
+-- the same one behind the other, the outermost first: each with a null in the place of the one inside it; then x
+abbrev pub parents_of : List OpenFrame → List Tree
+parents_of [] = []
+parents_of (f ∷ fs) = parents_of fs ++ around f null ∷ []
+
+abbrev pub spine_of : List OpenFrame → Tree → List Tree
+spine_of fs x = parents_of fs ++ x ∷ []
+
+-- the last part of a container
+pub record HasPart (v : Tree) : Type 0 where
+  pub frame : OpenFrame
+  pub part : Tree
+  pub is : v ≡ around frame part
+
+-- a value in which so many containers are open, the innermost among them
+pub record IsOpen (depth : ℕ) (v : Tree) : Type 0 where
+  pub frames : List OpenFrame
+  pub innermost : Tree
+  pub deep : depth ≡ length frames + 1
+  pub whole : v ≡ filled frames innermost
+
+-- these open containers, one behind the other, are this value
+pub record IsSpine (spine : List Tree) (v : Tree) : Type 0 where
+  pub frames : List OpenFrame
+  pub innermost : Tree
+  pub apart : spine ≡ spine_of frames innermost
+  pub whole : v ≡ filled frames innermost
+
+-- what a spine stands for; with no open container it is the root
+abbrev pub StandsFor : List JsonValue → JsonValue → Tree → Type 0
+StandsFor spine root v = ((spine ≡ []) × (view root ≡ v)) ⊎ IsSpine (map view spine) v
+
+-- Inside these open containers, one behind the other, stands x: as the last part of the innermost, or as the root.
+abbrev pub HasValue : List JsonValue → JsonValue → List OpenFrame → Tree → Type 0
+HasValue spine root [] x = (spine ≡ []) × (view root ≡ x)
+HasValue spine root (f ∷ fs) x = map view spine ≡ spine_of fs (around f x)

@@ -1,0 +1,59 @@
+-- What a reading returns that refuses repeated keys.
+use Rattle.std.specs.Prelude.{◌≡◌, ℕ, Bool, List, [], ◌∷◌, reverse, Result, Ok, Err, Some, string_bytes}
+use Rattle.std.specs.List.{list_any}
+use Rattle.std.specs.Str.{bytes_eq}
+use Rattle.jiter_scan.specs.Kind.{Kind, duplicate_key}
+use Rattle.jiter_steps.specs.Parse.{Gives}
+use Rattle.jiter_steps.specs.Read.{Reading, done, fault}
+use Rattle.jiter_steps.specs.ReadError.{WhereRefused}
+use Rattle.jiter_steps.specs.StringDecoder.{text_view}
+use Rattle.jiter_steps.specs.Tree.{Tree}
+use Rattle.jiter_steps.specs.declared.read_error.ReadError.TheVariants as error
+use Rattle.jiter_value.specs.Reading.{GivesWhole}
+use Rattle.jiter_value.specs.Settings.{lent_unique}
+use Rattle.jiter_value.specs.Stacks.{Member, refused_in}
+use Rattle.jiter_value.specs.Value.{view}
+use Rattle.jiter_value.specs.declared.stacks.Open.{Open}
+use Rattle.jiter_value.specs.declared.stacks.Stacks.{Stacks}
+use Rattle.jiter_value.specs.declared.turns.unique.Repeated.{Repeated}
+use Rattle.jiter_value.specs.declared.turns.unique.Stopped.{Stopped}
+use Rattle.jiter_value.specs.declared.turns.unique.Stopped.TheVariants as stopped
+use Rattle.jiter_value.specs.declared.value.JsonValue.{JsonValue}
+
+-- one of the members has this key
+abbrev pub has_key : List ℕ → List Member → Bool
+has_key key ms = list_any (λ m. bytes_eq key (text_view m.0).bytes) ms
+
+-- how many parts lie below those of the innermost container
+abbrev pub innermost_base : List Open → ℕ
+innermost_base [] = 0
+innermost_base (o ∷ os) = o.base
+
+-- the fault of a repeated key
+abbrev pub fault_of : Repeated → Kind × ℕ
+fault_of r = (duplicate_key (string_bytes r.key), r.index)
+
+-- The reading stopped at j for the key at i: it is repeated and its colon ends at j, or memory was refused.
+abbrev pub StopsAtKey : List ℕ → Stacks → ℕ → Stopped → ℕ → Type 0
+StopsAtKey t s i (stopped.Repeated r) j =
+    (refused_in lent_unique t (reverse s.nest.items) s.members.items i ≡ Some (fault_of r)) × (j ≡ r.index)
+StopsAtKey t s i (stopped.Read (error.Fault f)) j = ⊥
+StopsAtKey t s i (stopped.Read (error.Memory m)) j = Unit {0}
+
+-- What was returned, and the place where it left the reader, are this reading, unless memory was refused.
+abbrev pub GivesUnique : Result JsonValue Stopped → ℕ → Reading Tree → Type 0
+GivesUnique (Ok v) i r = r ≡ done (view v) i
+GivesUnique (Err (stopped.Read e)) i r = Gives view (Err e) i r
+GivesUnique (Err (stopped.Repeated k)) i r = r ≡ fault (duplicate_key (string_bytes k.key)) k.index i
+
+-- where memory was refused, P
+abbrev pub WhereUniqueRefused : Result JsonValue Stopped → Type 0 → Type 0
+WhereUniqueRefused (Ok v) P = Unit {0}
+WhereUniqueRefused (Err (stopped.Read e)) P = WhereRefused {A = JsonValue} (Err e) P
+WhereUniqueRefused (Err (stopped.Repeated k)) P = Unit {0}
+
+-- The same of a whole text.
+abbrev pub GivesUniqueWhole : Result JsonValue Stopped → ℕ → Reading Tree → Type 0
+GivesUniqueWhole (Ok v) i r = (e : ℕ) × (r ≡ done (view v) e)
+GivesUniqueWhole (Err (stopped.Read e)) i r = GivesWhole (Err e) i r
+GivesUniqueWhole (Err (stopped.Repeated k)) i r = r ≡ fault (duplicate_key (string_bytes k.key)) k.index i

@@ -1,0 +1,177 @@
+//! The text of a number in a value. One that is owned takes no memory where it is short: it lies in the value.
+ghost use Rattle.std.specs.Prelude.{◌≡◌, ◌<◌, ◌≤◌, IfOk, OnErr, Some, false, length, true};
+ghost use Rattle.jiter_value.specs.NumberText.{number_text_view, short_limit};
+ghost use Rattle.jiter_value.specs.Owned.{owned_text};
+
+use jiter_scan::memory::{Refused, copy_text};
+use jiter_scan::text::utf8_text;
+use std::alloc::Global;
+use std::marker::Model;
+use std::{fmt, mem};
+
+// How many bytes a short text has at most: no double's shortest decimal text has more.
+const SHORT_LIMIT: usize = 24;
+
+/// A text of at most 24 bytes, which lie in the value itself.
+pub struct ShortText {
+    length: u8,
+    bytes: [u8; SHORT_LIMIT],
+}
+
+impl Model for ShortText {
+    ghost use Rattle.std.specs.Prelude.{◌≤◌, List, ℕ, take};
+    ghost use Rattle.std.specs.Str.{IsUtf8};
+
+    ghost Value = { List ℕ };
+
+    ghost view = { λ s. take s.length s.bytes };
+
+    ghost invariant = { λ s. (s.length ≤ 24) × ∥ IsUtf8 (take s.length s.bytes) ∥₁ };
+}
+
+impl Drop for ShortText {
+    #[inline(always)]
+    fn drop(self) {
+        let Self {
+            length: _,
+            bytes: _,
+        } = self;
+    }
+}
+
+impl ShortText {
+    // A copy of the text.
+    #[inline(always)]
+    fn new(text: &str) -> ShortText
+        requires { length text.now ≤ short_limit }
+        ensures { result ≡ text.now }
+    {
+        let length = text.len();
+        let mut bytes = [0; SHORT_LIMIT];
+        bytes[..length].copy_from_slice(text.as_bytes());
+        ShortText {
+            length: length as u8,
+            bytes,
+        }
+    }
+
+    // A copy.
+    #[inline(always)]
+    fn again(&self) -> ShortText
+        ensures { result ≡ self.now }
+    {
+        ShortText {
+            length: self.length,
+            bytes: self.bytes,
+        }
+    }
+
+    /// The text.
+    #[inline(always)]
+    pub fn as_str(&self) -> &str
+        ensures { result.now ≡ self.now }
+    {
+        utf8_text(&self.bytes[..self.length as usize])
+    }
+}
+
+/// The text of a number: borrowed from the input, or owned.
+pub enum NumberText<'s> {
+    /// Borrowed from the input.
+    Borrowed(&'s str),
+    /// Owned, of at most 24 bytes, which lie here.
+    Short(ShortText),
+    /// Owned, in memory of its own.
+    Long(String),
+}
+
+impl<'s> Drop for NumberText<'s> {
+    #[inline(always)]
+    fn drop(self) {
+        match self {
+            NumberText::Borrowed(_) => {}
+            NumberText::Short(_) => {}
+            NumberText::Long(text) => drop_long(text),
+        }
+    }
+}
+
+#[inline(never)]
+fn drop_long(text: String) {
+    drop(text);
+}
+
+impl<'s> NumberText<'s> {
+    /// A text that is owned: in the value where it is short, else by one request of its exact length.
+    #[inline(always)]
+    pub fn owned(alloc: Global, text: &str) -> Result<NumberText<'s>, Refused>
+        ensures value { IfOk result (λ own.
+            number_text_view own ≡ record { owned = true; bytes = text.now }) }
+        ensures memory { OnErr result (short_limit < length text.now) }
+    {
+        if text.len() <= SHORT_LIMIT {
+            return Ok(NumberText::Short(ShortText::new(text)));
+        }
+        Ok(NumberText::Long(copy_text(alloc, text)?))
+    }
+
+    /// The text.
+    #[inline(always)]
+    pub fn as_str(&self) -> &str
+        ensures { result.now ≡ (number_text_view self.now).bytes }
+    {
+        match self {
+            NumberText::Borrowed(text) => *text,
+            NumberText::Short(text) => text.as_str(),
+            NumberText::Long(text) => text.as_str(),
+        }
+    }
+
+    // A copy, borrowed or owned as it is.
+    pub(crate) fn copy(&self, alloc: Global) -> Result<NumberText<'s>, Refused>
+        ensures value { IfOk result (λ copy. number_text_view copy ≡ number_text_view self.now) }
+        ensures memory { OnErr result ((number_text_view self.now).owned ≡ true) }
+    {
+        match self {
+            NumberText::Borrowed(text) => Ok(NumberText::Borrowed(*text)),
+            NumberText::Short(text) => Ok(NumberText::Short(text.again())),
+            NumberText::Long(text) => Ok(NumberText::Long(copy_text(alloc, text.as_str())?)),
+        }
+    }
+
+    // The text where it is owned, else a copy of it.
+    fn made_owned(self, alloc: Global) -> Result<NumberText<'static>, Refused>
+        ensures value { IfOk result (λ own.
+            number_text_view own ≡ owned_text (number_text_view self.entry)) }
+        ensures memory { OnErr result ((number_text_view self.entry).owned ≡ false) }
+    {
+        match self {
+            NumberText::Borrowed(text) => NumberText::owned(alloc, text),
+            NumberText::Short(text) => Ok(NumberText::Short(text)),
+            NumberText::Long(text) => Ok(NumberText::Long(text)),
+        }
+    }
+
+    // The same of a text that is not wanted any more.
+    pub(crate) fn take(&mut self, alloc: Global) -> Result<NumberText<'static>, Refused>
+        ensures value { IfOk result (λ own.
+            number_text_view own ≡ owned_text (number_text_view self.old)) }
+        ensures memory { OnErr result ((number_text_view self.old).owned ≡ false) }
+    {
+        mem::replace(self, NumberText::Borrowed("")).made_owned(alloc)
+    }
+}
+
+impl<'s> fmt::Debug for NumberText<'s> {
+    fn fmt<W: fmt::Write>(&self, f: &mut fmt::Formatter<W>) -> fmt::Result {
+        fmt::Debug::fmt(&self.as_str(), f)
+    }
+}
+
+impl<'s> fmt::Display for NumberText<'s> {
+    ghost output = { λ t. Some (number_text_view t).bytes };
+
+    fn fmt<W: fmt::Write>(&self, f: &mut fmt::Formatter<W>) -> fmt::Result {
+        f.pad(self.as_str())
+    }
+}

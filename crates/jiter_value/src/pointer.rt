@@ -1,0 +1,112 @@
+//! What a JSON Pointer leads to (RFC 6901). No memory is taken.
+ghost use Rattle.std.specs.Prelude.{◌≡◌, ◌≢◌, ◌↔◌, ◌^◌, ◌<◌, ◌++◌, ℕ, List, None, Some, IsTrue, MatchOption};
+ghost use Rattle.std.specs.Prelude.{option_map};
+ghost use Rattle.std.specs.Fmt.{decimal};
+ghost use Rattle.jiter_value.specs.Pointer.{token_byte, token_of, item_spelled, part_spelled};
+ghost use Rattle.jiter_value.specs.Pointer.{pointed, pointed_by, is_slash};
+ghost use Rattle.std.specs.List.{slice_split};
+ghost use Rattle.std.specs.Str.{bytes_eq};
+ghost use Rattle.jiter_value.specs.Access.{last_such};
+ghost use Rattle.jiter_value.specs.Value.{view, views, member_views};
+
+use crate::access::item_at;
+use crate::value::{JsonArray, JsonObject, JsonValue};
+
+impl<'s> JsonValue<'s> {
+    /// The value that a JSON Pointer leads to (RFC 6901): the empty pointer to this one, `/a/0` to the first item
+    /// of the last member named `a`. In a name `~1` stands for a slash and `~0` for a tilde; an index has no zero
+    /// before another digit. `None` where it leads nowhere, or does not begin with a slash.
+    pub fn pointer(&self, path: &str) -> Option<&JsonValue<'s>>
+        ensures { option_map (λ v. view v.now) result ≡ pointed_by path.now (view self.now) }
+    {
+        if path.is_empty() {
+            return Some(self);
+        }
+        follow(self, path.strip_prefix('/')?)
+    }
+}
+
+// What the tokens lead to, a slash between each two.
+fn follow<'v, 's>(value: &'v JsonValue<'s>, path: &str) -> Option<&'v JsonValue<'s>>
+    ensures { option_map (λ v. view v.now) result
+        ≡ pointed (slice_split is_slash path.now) (view value.now) }
+{
+    match path.split_once('/') {
+        Some((token, more)) => follow(part_spelled(value, token)?, more),
+        None => part_spelled(value, path),
+    }
+}
+
+// The part that a token names.
+fn part_spelled<'v, 's>(value: &'v JsonValue<'s>, token: &str) -> Option<&'v JsonValue<'s>>
+    ensures { option_map (λ v. view v.now) result ≡ part_spelled token.now (view value.now) }
+{
+    match value {
+        JsonValue::Array(items) => item_spelled(items, token),
+        JsonValue::Object(members) => last_spelled(members, token),
+        _ => None,
+    }
+}
+
+// The item whose index the token spells.
+fn item_spelled<'v, 's>(items: &'v JsonArray<'s>, token: &str) -> Option<&'v JsonValue<'s>>
+    ensures { option_map (λ v. view v.now) result ≡ item_spelled token.now 0 (views items.now.items) }
+{
+    match index_of(token) {
+        Some(index) => item_at(items, index),
+        None => None,
+    }
+}
+
+// The index that a token spells in decimal.
+fn index_of(token: &str) -> Option<usize>
+    ensures { (n : ℕ) → n < 2 ^ 64 → (result ≡ Some n) ↔ (decimal n ≡ token.now) }
+{
+    let bytes = token.as_bytes();
+    if bytes.len() > 1 && bytes[0] < b'1' {
+        return None;
+    }
+    token.parse::<usize>().ok()
+}
+
+// The value of the last member whose name the token spells.
+fn last_spelled<'v, 's>(members: &'v JsonObject<'s>, token: &str) -> Option<&'v JsonValue<'s>>
+    ensures { option_map (λ v. view v.now) result
+        ≡ last_such (λ name. bytes_eq (token_of name) token.now) None
+        (member_views members.now.items) }
+{
+    let mut found = None;
+    for i in 0..members.len() {
+        let member = &members[i];
+        if spells(token.as_bytes(), member.0.as_str().as_bytes()) {
+            found = Some(&member.1);
+        }
+    }
+    found
+}
+
+// Whether the token spells the name.
+fn spells(token: &[u8], name: &[u8]) -> bool
+    ensures { IsTrue result ↔ (token_of name.now ≡ token.now) }
+{
+    let mut rest = token;
+    for i in 0..name.len() {
+        match behind_byte(rest, name[i]) {
+            Some(more) => rest = more,
+            None => return false,
+        }
+    }
+    rest.is_empty()
+}
+
+// What stands behind a byte of a name, where the token goes on with it.
+fn behind_byte(token: &[u8], byte: u8) -> Option<&[u8]>
+    ensures { MatchOption result ((rest : List ℕ) → token.now ≢ token_byte byte ++ rest)
+        (λ rest. token.now ≡ token_byte byte ++ rest.now) }
+{
+    match byte {
+        b'~' => token.strip_prefix(b"~0"),
+        b'/' => token.strip_prefix(b"~1"),
+        _ => token.strip_prefix(&[byte]),
+    }
+}

@@ -1,0 +1,272 @@
+//! Turns that refuse a key which its object has already.
+ghost use Rattle.std.specs.Prelude.{◌≡◌, ◌+◌, ◌≤◌, ◌<◌, [], All, IfOk, IfSome, None, OnOk, drop, length, reverse, true};
+ghost use Rattle.std.specs.Option.{option_map};
+ghost use Rattle.jiter_steps.specs.Node.{nesting_limit};
+ghost use Rattle.jiter_steps.specs.Parse.{Moves};
+ghost use Rattle.jiter_steps.specs.Read.{value_at};
+ghost use Rattle.jiter_steps.specs.Step.{step, colon};
+ghost use Rattle.jiter_steps.specs.StringDecoder.{text_view};
+ghost use Rattle.jiter_steps.specs.Unique.{behind_its_colon};
+ghost use Rattle.jiter_value.specs.Settings.{lent_unique, rules_as};
+ghost use Rattle.jiter_value.specs.KeySets.{HasKeys, IsUpToDate};
+ghost use Rattle.jiter_value.specs.Stacks.{StandsAtKey, IsFree, keys_of, keys_then, refused_in};
+ghost use Rattle.jiter_value.specs.Turns.{IsWithin};
+ghost use Rattle.jiter_value.specs.UniqueKeys.{has_key, innermost_base, fault_of, StopsAtKey, GivesUnique};
+ghost use Rattle.jiter_value.specs.UniqueKeys.{WhereUniqueRefused};
+ghost use Rattle.jiter_value.specs.Value.{MayGrowBy};
+
+use crate::settings::Settings;
+use crate::stacks::{Open, Stacks, State, take_error, take_root};
+use crate::texts::{Distinct, Texts};
+use crate::turns::key_sets::{KeySet, forget_closed, is_new_key};
+use crate::turns::turn;
+use crate::value::JsonValue;
+use jiter_scan::memory::{Refused, copy_text};
+use jiter_steps::parse::Parser;
+use jiter_steps::read_error::ReadError;
+use smallvec::SmallVec;
+use std::alloc::Global;
+use std::borrow::CowStr;
+
+/// A key that its object has already.
+#[derive(Drop)]
+pub struct Repeated {
+    /// Its characters.
+    pub key: String,
+    /// The place behind its colon.
+    pub index: usize,
+}
+
+/// Why a reading was given up that refuses repeated keys.
+#[derive(Drop)]
+pub enum Stopped {
+    /// For a fault of the bytes, or since memory was refused.
+    Read(ReadError),
+    /// For a key that its object has already.
+    Repeated(Repeated),
+}
+
+// How many parts lie below those of the innermost container.
+#[inline(always)]
+fn innermost_base(nest: &SmallVec<Open, 8>) -> usize
+    requires { 0 < length nest.now.items }
+    ensures { result ≡ innermost_base (reverse nest.now.items) }
+{
+    let opens = nest.as_slice();
+    opens[opens.len() - 1].base
+}
+
+// Whether one of the members from `base` on has this key.
+fn has_key(members: &Vec<(CowStr<'_>, JsonValue<'_>)>, base: usize, key: &str) -> bool
+    ensures { result ≡ has_key key.now (drop base members.now.items) }
+{
+    for i in base..members.len() {
+        let member = &members[i];
+        if key == member.0.as_str() {
+            return true;
+        }
+    }
+    false
+}
+
+// The key that is repeated, where its colon stands; the reader stands behind the key.
+#[cold]
+#[inline(never)]
+fn repeat_of(
+    alloc: Global,
+    parser: &mut Parser<'_>,
+    key: CowStr<'_>,
+) -> Result<Option<Repeated>, Refused>
+    ensures moves { Moves parser.old parser.new }
+    ensures found { IfOk result (λ found. option_map fault_of found
+        ≡ behind_its_colon (text_view key.entry).bytes (step parser.old.bytes.now colon parser.old.index)) }
+    ensures place { IfOk result (λ found. IfSome found (λ r. r.index ≡ parser.new.index)) }
+{
+    match parser.colon() {
+        Err(_) => Ok(None),
+        Ok(()) => {
+            let text = copy_text(alloc, key.as_str())?;
+            Ok(Some(Repeated {
+                key: text,
+                index: parser.index,
+            }))
+        }
+    }
+}
+
+// The key at `at`, if the members before it have it already.
+fn find_repeat(
+    alloc: Global,
+    tape: &mut Vec<u8>,
+    stacks: &Stacks<'_>,
+    bytes: &[u8],
+    at: usize,
+) -> Result<Option<Repeated>, Refused>
+    requires stands { StandsAtKey stacks.now }
+    requires within { at < length bytes.now }
+    ensures found { IfOk result (λ found.
+        refused_in lent_unique bytes.now (reverse stacks.now.nest.items) stacks.now.members.items at
+        ≡ option_map fault_of found) }
+    ensures place { IfOk result (λ found. IfSome found (λ r. (at ≤ r.index) × (r.index ≤ length bytes.now))) }
+{
+    let mut parser = Parser { bytes, index: at };
+    match parser.string(alloc, tape, false) {
+        Ok(key) => {
+            let base = innermost_base(&stacks.nest);
+            if has_key(&stacks.members, base, key.as_str()) {
+                return repeat_of(alloc, &mut parser, key);
+            }
+            Ok(None)
+        }
+        Err(ReadError::Fault(_)) => Ok(None),
+        Err(ReadError::Memory(refused)) => Err(refused),
+    }
+}
+
+// Up to so many members of an object have their keys compared where they lie.
+const FEW: usize = 16;
+
+// Whether the innermost object has more members, and the key at `at` is new in the set of their keys, where it goes.
+fn is_new_in_set<'s>(
+    alloc: Global,
+    texts: Distinct<'s>,
+    tape: &mut Vec<u8>,
+    sets: &mut Vec<KeySet<'s>>,
+    stacks: &Stacks<'s>,
+    bytes: &[u8],
+    at: usize,
+) -> Result<bool, Refused>
+    requires texts { texts.bytes.now ≡ bytes.now }
+    requires stands { StandsAtKey stacks.now }
+    requires within { at < length bytes.now }
+    requires sets { All (IsUpToDate (keys_of stacks.now.members.items)) sets.old.items }
+    ensures sets { OnOk result
+        (All (IsUpToDate (keys_then lent_unique bytes.now stacks.now.members.items State.Key at)) sets.new.items) }
+    ensures free { IfOk result (λ new. new ≡ true → IsFree lent_unique bytes.now stacks.now at) }
+{
+    let base = innermost_base(&stacks.nest);
+    if stacks.members.len() - base <= FEW {
+        return Ok(false);
+    }
+    let mut parser = Parser { bytes, index: at };
+    match parser.string(alloc, tape, false) {
+        Ok(key) => {
+            let kept = texts.keep(bytes, at + 1, key)?;
+            is_new_key(alloc, sets, &stacks.members, base, kept)
+        }
+        Err(ReadError::Fault(_)) => Ok(false),
+        Err(ReadError::Memory(refused)) => Err(refused),
+    }
+}
+
+// Why the reading stops before the turn at `at`, and where: its key is repeated, or memory was refused.
+fn stop_at_key<'s>(
+    alloc: Global,
+    texts: Distinct<'s>,
+    tape: &mut Vec<u8>,
+    sets: &mut Vec<KeySet<'s>>,
+    stacks: &Stacks<'s>,
+    bytes: &[u8],
+    at: usize,
+) -> Option<(Stopped, usize)>
+    requires texts { texts.bytes.now ≡ bytes.now }
+    requires stands { StandsAtKey stacks.now }
+    requires within { at < length bytes.now }
+    requires sets { All (HasKeys (keys_of stacks.now.members.items)) sets.old.items }
+    ensures sets { result ≡ None
+        → All (IsUpToDate (keys_then lent_unique bytes.now stacks.now.members.items State.Key at)) sets.new.items }
+    ensures free { result ≡ None → IsFree lent_unique bytes.now stacks.now at }
+    ensures stops { IfSome result (λ r. StopsAtKey bytes.now stacks.now at r.0 r.1) }
+    ensures place { IfSome result (λ r. (at ≤ r.1) × (r.1 ≤ length bytes.now)) }
+{
+    forget_closed(sets, &stacks.members);
+    match is_new_in_set(alloc, texts, tape, sets, stacks, bytes, at) {
+        Ok(true) => return None,
+        Ok(false) => {}
+        Err(refused) => return Some((Stopped::Read(ReadError::Memory(refused)), at)),
+    }
+    match find_repeat(alloc, tape, stacks, bytes, at) {
+        Ok(None) => None,
+        Ok(Some(repeated)) => {
+            let place = repeated.index;
+            Some((Stopped::Repeated(repeated), place))
+        }
+        Err(refused) => Some((Stopped::Read(ReadError::Memory(refused)), at)),
+    }
+}
+
+// The same of a turn at any state: where no key is awaited, nothing stops the reading.
+#[inline(always)]
+fn stop_before<'s>(
+    alloc: Global,
+    texts: Distinct<'s>,
+    tape: &mut Vec<u8>,
+    sets: &mut Vec<KeySet<'s>>,
+    stacks: &Stacks<'s>,
+    bytes: &[u8],
+    at: usize,
+    state: State,
+) -> Option<(Stopped, usize)>
+    requires texts { texts.bytes.now ≡ bytes.now }
+    requires within { IsWithin bytes.now stacks.now state at }
+    requires sets { All (HasKeys (keys_of stacks.now.members.items)) sets.old.items }
+    ensures sets { result ≡ None
+        → All (HasKeys (keys_then lent_unique bytes.now stacks.now.members.items state at)) sets.new.items }
+    ensures free { result ≡ None → state ≡ State.Key → IsFree lent_unique bytes.now stacks.now at }
+    ensures key { IfSome result (λ r. state ≡ State.Key) }
+    ensures stops { IfSome result (λ r. StopsAtKey bytes.now stacks.now at r.0 r.1) }
+    ensures place { IfSome result (λ r. (at ≤ r.1) × (r.1 ≤ length bytes.now)) }
+{
+    match state {
+        State::Key => stop_at_key(alloc, texts, tape, sets, stacks, bytes, at),
+        _ => None,
+    }
+}
+
+/// The value that begins where the reader stands, each of its texts lent, if no object in it has a key twice.
+pub fn run_unique<'s>(
+    alloc: Global,
+    texts: Distinct<'s>,
+    tape: &mut Vec<u8>,
+    stacks: &mut Stacks<'s>,
+    parser: &mut Parser<'_>,
+    settings: Settings,
+) -> Result<JsonValue<'s>, Stopped>
+    requires texts { texts.bytes.now ≡ parser.old.bytes.now }
+    requires within { parser.old.index < length parser.old.bytes.now }
+    requires nest { stacks.old.nest.items ≡ [] }
+    requires items { stacks.old.items.items ≡ [] }
+    requires members { stacks.old.members.items ≡ [] }
+    ensures moves { Moves parser.old parser.new }
+    ensures value { GivesUnique result parser.new.index
+        (value_at (rules_as lent_unique settings) parser.old.bytes.now nesting_limit parser.old.index) }
+    ensures memory { WhereUniqueRefused result (MayGrowBy ⊥ parser.old.bytes.now parser.old.index) }
+{
+    let bytes = parser.bytes;
+    let mut at = parser.index;
+    let mut state = State::Root;
+    let mut sets = Vec::new(alloc);
+    'turning: loop {
+        match stop_before(alloc, texts, tape, &mut sets, stacks, bytes, at, state) {
+            Some((stopped, place)) => {
+                parser.index = place;
+                return Err(stopped);
+            }
+            None => {}
+        }
+        let (next, what) = turn(alloc, texts, tape, stacks, bytes, at, settings, state);
+        at = next;
+        state = what;
+        match state {
+            State::Done => {
+                parser.index = at;
+                return Ok(take_root(stacks));
+            }
+            State::GivenUp => {
+                parser.index = at;
+                return Err(Stopped::Read(take_error(stacks)));
+            }
+            _ => {}
+        }
+    }
+}

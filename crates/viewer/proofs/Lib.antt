@@ -1,0 +1,4 @@
+mod Lines
+mod Arriving
+mod Ending
+mod Writing

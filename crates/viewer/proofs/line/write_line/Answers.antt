@@ -1,0 +1,22 @@
+use Rattle.std.proofs.Common.{arith, take}
+use Rattle.std.proofs.KnownBytes.{Appends-kept}
+use Rattle.viewer.proofs.Writing.{front-more, front-within}
+use Rattle.viewer.proofs.line.write_line.Goals as goal
+use Rattle.viewer.proofs.line.write_line.Goals.{in-Ok, in-Err+else-ne}
+
+pub loop-preserved : goal.loop-preserved
+loop-preserved g c =
+    let line = c.args.line.now in
+    let held = c.loop.invariant in
+    elim c.match-write.branch [
+      | in-Ok w ↦ record {
+        within =
+            omega
+            (arith, w.written-is, front-within line c.loop.written w.in-Ok.count held.within w.in-Ok.ensures.bound);
+        front = rw w.written-is (front-more _ _ _ line c.loop.written w.in-Ok.count held.front w.in-Ok.ensures.bytes);
+      }
+      | in-Err+else-ne w ↦ record {
+        within = omega (arith, w.written-is);
+        front = rw w.written-is (Appends-kept _ _ _ (take c.loop.written line) held.front w.in-Err.ensures.bytes);
+      }
+    ]

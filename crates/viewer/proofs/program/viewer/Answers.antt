@@ -1,0 +1,7 @@
+use Rattle.std.proofs.Common.{inr, refl}
+use Rattle.std.proofs.KnownBytes.{Keeps-refl}
+use Rattle.viewer.proofs.program.viewer.Goals as goal
+
+pub returns-in-Err : goal.returns-in-Err
+returns-in-Err g c =
+    rw (← c.in-None.ensures) (Keeps-refl _, inr (refl, rw c.as_bytes.ensures.value at c.in-Err.ensures.front))

@@ -1,0 +1,109 @@
+-- What is shown of a text that arrives in pieces.
+use Rattle.std.specs.Prelude.{◌≡◌, ◌⊎◌, ℕ, Bool, List, [], ◌∷◌, ◌++◌, bytes_eq, take, if◌then◌else◌}
+use Rattle.std.specs.Prelude.{Option, Some, None}
+use Rattle.std.specs.List.{concat, dedup, flat_map}
+use Rattle.std.specs.Io.{StartsWith}
+use Rattle.std.specs.Io.KnownBytes.{Appends, Keeps}
+use Rattle.jiter.specs.Caller.{Reading, done, fault, Tree, answer, answer_in, cut, description_text}
+use Rattle.jiter.specs.Caller.{IsBegunContainer, IsDocument, Node}
+use Rattle.jiter_print.specs.Print.{print_of, with_line_feed}
+use Rattle.viewer.specs.declared.words.Words.{Words}
+use Rattle.viewer.specs.declared.view.End.{End}
+use Rattle.viewer.specs.declared.view.End.TheVariants.{Whole, Refused, Failed}
+
+-- the line of what was read, if it is a value
+abbrev pub value_line : Reading Tree → Option (List ℕ)
+value_line (done v e) = Some (with_line_feed (print_of v))
+value_line (fault k i stop) = None
+
+-- the line of the fault of this text, if it is one
+abbrev pub fault_line : Reading Tree → List ℕ → Option (List ℕ)
+fault_line (done v e) t = None
+fault_line (fault k i stop) t = Some (with_line_feed (description_text k i t))
+
+-- the line that is the last one, where another may have come
+abbrev pub last_line : List ℕ → Option (List ℕ) → List ℕ
+last_line last None = last
+last_line last (Some line) = line
+
+-- what is written of it: nothing where it is the last line again
+abbrev pub new_line : List ℕ → Option (List ℕ) → List ℕ
+new_line last None = []
+new_line last (Some line) = if bytes_eq line last then [] else line
+
+-- what stands behind each piece
+abbrev pub fronts : List ℕ → List (List ℕ) → List (List ℕ)
+fronts t [] = []
+fronts t (p ∷ ps) = (t ++ p) ∷ fronts (t ++ p) ps
+
+abbrev pub if_any : Option (List ℕ) → List (List ℕ)
+if_any None = []
+if_any (Some line) = line ∷ []
+
+-- the line of what has arrived, if it has a value
+abbrev pub lines_at : Words → List ℕ → List (List ℕ)
+lines_at words t = if_any (value_line (answer_in words.inf_nan words.mode t))
+
+-- the line of each front
+abbrev pub lines_of : Words → List (List ℕ) → List (List ℕ)
+lines_of words pieces = flat_map (lines_at words) (fronts [] pieces)
+
+-- what is shown of them: a line that is the one before it is left out
+abbrev pub shown : Words → List (List ℕ) → List ℕ
+shown words pieces = concat (dedup bytes_eq (lines_of words pieces))
+
+-- known bytes grow by a front of bs
+abbrev pub AppendsFront : Option (List ℕ) → Option (List ℕ) → List ℕ → Type 0
+AppendsFront old new bs = (n : ℕ) × Appends old new (take n bs)
+
+-- all that is shown of a text, as it came in some pieces
+abbrev pub ShowsAll : Words → List ℕ → Option (List ℕ) → Option (List ℕ) → Type 0
+ShowsAll words t out out' = (pieces : List (List ℕ)) × (concat pieces ≡ t) × Appends out out' (shown words pieces)
+
+-- a front of what is shown of a front of a text
+abbrev pub ShowsFront : Words → List ℕ → Option (List ℕ) → Option (List ℕ) → Type 0
+ShowsFront words t out out' =
+    (pieces : List (List ℕ)) × StartsWith t (concat pieces) × AppendsFront out out' (shown words pieces)
+
+-- at the end of a run the line of a fault is written, if there is one
+abbrev pub Tells : Option (List ℕ) → End → Option (List ℕ) → Option (List ℕ) → Type 0
+Tells None Whole err err' = Keeps err err'
+Tells None Refused err err' = ⊥
+Tells None Failed err err' = Keeps err err'
+Tells (Some line) Whole err err' = ⊥
+Tells (Some line) Refused err err' = Appends err err' line
+Tells (Some line) Failed err err' = AppendsFront err err' line
+
+abbrev pub Finishes : Bool → List ℕ → End → Option (List ℕ) → Option (List ℕ) → Type 0
+Finishes names t end err err' = Tells (fault_line (answer names t) t) end err err'
+
+-- the whole text was shown, and then its fault
+abbrev pub ShowsWhole : Words → List ℕ → End → Option (List ℕ) → Option (List ℕ) → Option (List ℕ) → Option (List ℕ)
+    → Type 0
+ShowsWhole words t end out out' err err' = ShowsAll words t out out' × Finishes words.inf_nan t end err err'
+
+-- what a run over these bytes leaves in both writers
+abbrev pub Ran : Words → List ℕ → End → Option (List ℕ) → Option (List ℕ) → Option (List ℕ) → Option (List ℕ) → Type 0
+Ran words t Whole out out' err err' = ShowsWhole words t Whole out out' err err'
+Ran words t Refused out out' err err' = ShowsWhole words t Refused out out' err err'
+Ran words t Failed out out' err err' =
+    ShowsWhole words t Failed out out' err err' ⊎ (ShowsFront words t out out' × Keeps err err')
+
+-- the end tells whether the text is a document
+abbrev pub EndsAs : Bool → List ℕ → End → Type 0
+EndsAs names t Whole = (n : Node) × IsDocument names t n
+EndsAs names t Refused = (n : Node) → IsDocument names t n → ⊥
+EndsAs names t Failed = Unit {0}
+
+-- a line that is that of a document's cut
+abbrev pub IsLineOfCut : (words : Words) {front : List ℕ} → IsBegunContainer words.inf_nan front → Option (List ℕ)
+    → Type 0
+IsLineOfCut words f line =
+    (v : Tree) × (cut words.inf_nan f.text f.node f.place words.mode ≡ Some v)
+    × (line ≡ Some (with_line_feed (print_of v)))
+
+-- the program's exit status
+abbrev pub status_of : End → ℕ
+status_of Whole = 0
+status_of Refused = 1
+status_of Failed = 3
