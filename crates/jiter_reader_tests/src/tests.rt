@@ -4,6 +4,7 @@ mod damage;
 mod expect;
 mod fronts;
 mod kept;
+mod names;
 mod reader;
 mod readme;
 mod skips;

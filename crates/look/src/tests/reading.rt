@@ -1,6 +1,6 @@
 //! What documents are read as.
 use super::{Row, does, repeated};
-use crate::print::print;
+use jiter_print::print;
 use jiter::{JsonValue, PartialMode};
 use std::alloc::Global;
 use std::test::*;
