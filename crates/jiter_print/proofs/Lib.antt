@@ -6,4 +6,5 @@ pub mod PrintLawStrings
 pub mod PrintMore
 pub mod Printable
 pub mod Printing
+pub mod Writing
 mod Rows

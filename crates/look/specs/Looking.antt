@@ -2,7 +2,8 @@
 use Rattle.std.specs.Prelude.{◌≡◌, ◌⊎◌, ℕ, List, codes, Option, Some, None, IfSome}
 use Rattle.std.specs.Io.KnownBytes.{Keeps, Appends}
 use Rattle.jiter_print.specs.Print.{with_line_feed}
-use Rattle.look.specs.Run.{AppendsFront, Wrote, line_of, status_of}
+use Rattle.jiter_print.specs.Written.{AppendsFront}
+use Rattle.look.specs.Run.{Wrote, line_of, status_of}
 use Rattle.look.specs.declared.running.End.{End}
 use Rattle.look.specs.declared.words.Words.{Words}
 

@@ -1,5 +1,5 @@
 -- What a whole run writes.
-use Rattle.std.specs.Prelude.{◌≡◌, ◌≢◌, ℕ, Bool, List, [], Option, Some, None, take, ⊤}
+use Rattle.std.specs.Prelude.{◌≡◌, ◌≢◌, ℕ, Bool, List, [], Option, Some, None, ⊤}
 use Rattle.std.specs.Io.KnownBytes.{Keeps, Appends}
 use Rattle.jiter_scan.specs.Position.{description_text}
 use Rattle.jiter_steps.specs.Tree.{Tree}
@@ -7,6 +7,7 @@ use Rattle.jiter_steps.specs.Read.{Reading, done, fault}
 use Rattle.jiter_scan.specs.declared.partial_mode.PartialMode.{PartialMode}
 use Rattle.jiter_steps.specs.Answer.{answer_in}
 use Rattle.jiter_print.specs.Print.{print_of, with_line_feed}
+use Rattle.jiter_print.specs.Written.{AppendsFront}
 use Rattle.look.specs.declared.running.End.{End}
 use Rattle.look.specs.declared.running.End.TheVariants.{Shown, Refused, Failed}
 use Rattle.jiter_scan.specs.declared.errors.JsonErrorType.TheVariants.{OutOfMemory}
@@ -28,10 +29,6 @@ line_for (fault kind i stop) t = fault_line (with_line_feed (description_text ki
 -- the line for a text, read in this mode
 abbrev pub line_of : Bool → PartialMode → List ℕ → Line
 line_of inf_nan mode t = line_for (answer_in inf_nan mode t) t
-
--- known bytes grow by a front of bs
-abbrev pub AppendsFront : Option (List ℕ) → Option (List ℕ) → List ℕ → Type 0
-AppendsFront old new bs = (n : ℕ) × Appends old new (take n bs)
 
 -- known bytes are left
 abbrev pub IsUnread : Option (List ℕ) → Type 0

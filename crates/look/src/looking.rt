@@ -4,7 +4,8 @@ ghost use Rattle.look.specs.Looking.{Looks, usage_line};
 ghost use Rattle.look.specs.Words.{words_of};
 
 use crate::asking::words;
-use crate::running::{run, write_line};
+use crate::running::run;
+use jiter_print::write_line;
 use std::alloc::Global;
 use std::io::{Read, Write};
 

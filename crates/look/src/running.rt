@@ -1,19 +1,19 @@
 //! A whole run, over one reader and two writers.
-ghost use Rattle.std.specs.Prelude.{◌≡◌, IfOk, IfErr, OnOk, OnErr, IfSome};
+ghost use Rattle.std.specs.Prelude.{◌≡◌, IfOk, IfErr, OnOk, IfSome};
 ghost use Rattle.std.specs.Option.{option_map};
-ghost use Rattle.std.specs.Io.KnownBytes.{Appends, IsAtEnd};
+ghost use Rattle.std.specs.Io.KnownBytes.{IsAtEnd};
 ghost use Rattle.jiter_steps.specs.Answer.{answer_in};
 ghost use Rattle.jiter_print.specs.Printed.{PrintsAgain};
-ghost use Rattle.look.specs.Run.{AppendsFront, IsOfMemory, IsUnread, line_of, line_view, status_of, Wrote};
+ghost use Rattle.look.specs.Run.{IsOfMemory, IsUnread, line_of, line_view, status_of, Wrote};
 ghost use Rattle.look.specs.Run.{WroteNothing};
 ghost use Rattle.look.specs.Run.{WroteIfAny};
 
 use jiter::{JsonError, JsonErrorType, JsonValue, PartialMode};
-use jiter_print::print;
+use jiter_print::{print, write_line};
 use jiter_scan::memory::{Refused, push};
 use std::alloc::{AllocError, Global};
 use std::io;
-use std::io::{ErrorKind, Read, Write};
+use std::io::{Read, Write};
 
 /// How a run ended.
 #[derive(Debug, Clone, Copy, PartialEq, Eq)]
@@ -174,28 +174,4 @@ pub fn show<O: Write, E: Write>(line: Option<Line>, out: &mut O, err: &mut E) ->
         },
         None => End::Failed,
     }
-}
-
-/// Writes a line whole and flushes; after a call that failed it makes no other, but for an interrupted write.
-pub fn write_line<W: Write>(writer: &mut W, line: &[u8]) -> io::Result<()>
-    ensures whole { OnOk result (Appends (W.contents writer.old) (W.contents writer.new) line.now) }
-    ensures front { OnErr result
-        (AppendsFront (W.contents writer.old) (W.contents writer.new) line.now) }
-{
-    let mut written = 0;
-    for _ in 0..u64::MAX {
-        if written == line.len() {
-            return writer.flush();
-        }
-        match writer.write(&line[written..]) {
-            Ok(0) => return Err(io::Error::from(ErrorKind::WriteZero)),
-            Ok(count) => written += count,
-            Err(error) => {
-                if error.kind() != ErrorKind::Interrupted {
-                    return Err(error);
-                }
-            }
-        }
-    }
-    Err(io::Error::from(ErrorKind::Other))
 }

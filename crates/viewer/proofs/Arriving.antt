@@ -11,7 +11,8 @@ use Rattle.std.specs.List.{concat, dedup}
 use Rattle.std.specs.Io.{StartsWith}
 use Rattle.std.specs.Io.KnownBytes.{Appends, Consumes, IsAtEnd, Keeps}
 use Rattle.jiter.specs.Caller.{answer_in}
-use Rattle.viewer.specs.Shown.{AppendsFront, if_any, last_line, lines_at, lines_of, new_line, shown, ShowsAll}
+use Rattle.jiter_print.specs.Written.{AppendsFront}
+use Rattle.viewer.specs.Shown.{if_any, last_line, lines_at, lines_of, new_line, shown, ShowsAll}
 use Rattle.viewer.specs.Shown.{ShowsFront, value_line}
 use Rattle.viewer.specs.declared.words.Words.{Words}
 use Rattle.viewer.proofs.Lines.{last_of, last-more, lines-more, shown-more}

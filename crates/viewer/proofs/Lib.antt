@@ -1,4 +1,3 @@
 mod Lines
 mod Arriving
 mod Ending
-mod Writing

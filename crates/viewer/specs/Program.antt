@@ -2,7 +2,8 @@
 use Rattle.std.specs.Prelude.{◌≡◌, ◌⊎◌, ℕ, List, codes, Option, Some, None, IfSome}
 use Rattle.std.specs.Io.KnownBytes.{Keeps, Appends}
 use Rattle.jiter_print.specs.Print.{with_line_feed}
-use Rattle.viewer.specs.Shown.{AppendsFront, Ran, status_of}
+use Rattle.jiter_print.specs.Written.{AppendsFront}
+use Rattle.viewer.specs.Shown.{Ran, status_of}
 use Rattle.viewer.specs.declared.view.End.{End}
 use Rattle.viewer.specs.declared.words.Words.{Words}
 

@@ -1,5 +1,5 @@
 -- What is shown of a text that arrives in pieces.
-use Rattle.std.specs.Prelude.{◌≡◌, ◌⊎◌, ℕ, Bool, List, [], ◌∷◌, ◌++◌, bytes_eq, take, if◌then◌else◌}
+use Rattle.std.specs.Prelude.{◌≡◌, ◌⊎◌, ℕ, Bool, List, [], ◌∷◌, ◌++◌, bytes_eq, if◌then◌else◌}
 use Rattle.std.specs.Prelude.{Option, Some, None}
 use Rattle.std.specs.List.{concat, dedup, flat_map}
 use Rattle.std.specs.Io.{StartsWith}
@@ -7,6 +7,7 @@ use Rattle.std.specs.Io.KnownBytes.{Appends, Keeps}
 use Rattle.jiter.specs.Caller.{Reading, done, fault, Tree, answer, answer_in, cut, description_text}
 use Rattle.jiter.specs.Caller.{IsBegunContainer, IsDocument, Node}
 use Rattle.jiter_print.specs.Print.{print_of, with_line_feed}
+use Rattle.jiter_print.specs.Written.{AppendsFront}
 use Rattle.viewer.specs.declared.words.Words.{Words}
 use Rattle.viewer.specs.declared.view.End.{End}
 use Rattle.viewer.specs.declared.view.End.TheVariants.{Whole, Refused, Failed}
@@ -51,10 +52,6 @@ lines_of words pieces = flat_map (lines_at words) (fronts [] pieces)
 -- what is shown of them: a line that is the one before it is left out
 abbrev pub shown : Words → List (List ℕ) → List ℕ
 shown words pieces = concat (dedup bytes_eq (lines_of words pieces))
-
--- known bytes grow by a front of bs
-abbrev pub AppendsFront : Option (List ℕ) → Option (List ℕ) → List ℕ → Type 0
-AppendsFront old new bs = (n : ℕ) × Appends old new (take n bs)
 
 -- all that is shown of a text, as it came in some pieces
 abbrev pub ShowsAll : Words → List ℕ → Option (List ℕ) → Option (List ℕ) → Type 0

@@ -3,9 +3,9 @@ ghost use Rattle.std.specs.Prelude.{◌≡◌, map, string_bytes};
 ghost use Rattle.viewer.specs.Program.{Views};
 ghost use Rattle.viewer.specs.Words.{words_of};
 
-use crate::line::write_line;
 use crate::view::run;
 use crate::words::read_words;
+use jiter_print::write_line;
 use std::alloc::Global;
 use std::io::{Read, Write};
 

@@ -2,11 +2,13 @@
 ghost use Rattle.std.specs.Prelude.{◌≡◌, List, ℕ, true, IfOk, IfSome, OnErr, OnOk};
 ghost use Rattle.std.specs.Io.KnownBytes.{Appends};
 ghost use Rattle.jiter.specs.Caller.{answer_in, is_active, IsBegunContainer};
-ghost use Rattle.viewer.specs.Shown.{AppendsFront, EndsAs, Finishes, IsLineOfCut, last_line, new_line, Ran};
+ghost use Rattle.jiter_print.specs.Written.{AppendsFront};
+ghost use Rattle.viewer.specs.Shown.{EndsAs, Finishes, IsLineOfCut, last_line, new_line, Ran};
 ghost use Rattle.viewer.specs.Shown.{ShowsAll, ShowsFront, status_of, value_line};
 
-use crate::line::{fault_of, line_of, write_line};
+use crate::line::{fault_of, line_of};
 use crate::words::Words;
+use jiter_print::write_line;
 use std::alloc::Global;
 use std::io;
 use std::io::{ErrorKind, Read, Write};

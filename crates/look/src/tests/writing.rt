@@ -1,8 +1,9 @@
 //! Lines over writers that take one byte a call, and whose calls fail.
 use super::counted::{Calls, CountedReader, CountedWriter, ENDING_KINDS};
 use super::{Row, written};
-use crate::running::{run, write_line};
+use crate::running::run;
 use jiter::PartialMode;
+use jiter_print::write_line;
 use std::alloc::Global;
 use std::io::ErrorKind;
 use std::test::*;

@@ -1,8 +1,8 @@
 use Rattle.std.proofs.Common.{arith, take}
 use Rattle.std.proofs.KnownBytes.{Appends-kept}
-use Rattle.viewer.proofs.Writing.{front-more, front-within}
-use Rattle.viewer.proofs.line.write_line.Goals as goal
-use Rattle.viewer.proofs.line.write_line.Goals.{in-Ok, in-Err+else-ne}
+use Rattle.jiter_print.proofs.Writing.{front-more, front-within}
+use Rattle.jiter_print.proofs.lines.write_line.Goals as goal
+use Rattle.jiter_print.proofs.lines.write_line.Goals.{in-Ok, in-Err+else-ne}
 
 pub loop-preserved : goal.loop-preserved
 loop-preserved g c =

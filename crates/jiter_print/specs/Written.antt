@@ -1,0 +1,7 @@
+-- What a writer of known bytes holds once a line was written, or a part of it.
+use Rattle.std.specs.Prelude.{ℕ, List, Option, take}
+use Rattle.std.specs.Io.KnownBytes.{Appends}
+
+-- known bytes grow by a front of bs
+abbrev pub AppendsFront : Option (List ℕ) → Option (List ℕ) → List ℕ → Type 0
+AppendsFront old new bs = (n : ℕ) × Appends old new (take n bs)
