@@ -21,6 +21,7 @@ mod Rows
 pub mod Lanes
 pub mod Chunks
 pub mod PlainRuns
+pub mod AsciiRuns
 pub mod DigitWords
 pub mod Magnitudes
 pub mod PlainNumbers

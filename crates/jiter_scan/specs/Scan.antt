@@ -1,5 +1,5 @@
 -- Runs of bytes, and where they end.
-use Rattle.std.specs.Prelude.{◌≡◌, ℕ, ◌+◌, ◌==◌, ◌||◌, Bool, true, not, List, [], ◌∷◌, drop, nat_lt, slice_range}
+use Rattle.std.specs.Prelude.{◌≡◌, ℕ, ◌+◌, ◌==◌, ◌||◌, ◌&&◌, Bool, true, not, List, [], ◌∷◌, drop, nat_lt, slice_range}
 use Rattle.std.specs.List.{prefix_len, AllPass}
 use Rattle.jiter_scan.specs.Ascii as ascii
 
@@ -27,6 +27,10 @@ scan_stop t i = run_end is_plain t i
 -- a byte of ASCII
 abbrev pub is_ascii : ℕ → Bool
 is_ascii c = nat_lt c 128
+
+-- a byte of ASCII that a string may hold as it stands
+abbrev pub is_plain_ascii : ℕ → Bool
+is_plain_ascii c = is_plain c && is_ascii c
 
 -- every byte from i to before j is below 80 hex
 abbrev pub IsAsciiTo : List ℕ → ℕ → ℕ → Type 0

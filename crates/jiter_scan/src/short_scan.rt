@@ -1,8 +1,9 @@
 //! The scan of a text that likely ends within sixteen bytes, near the end of the input too.
-ghost use Rattle.std.specs.Prelude.{◌≡◌, ◌↔◌, ◌≤◌, IsTrue, length};
+ghost use Rattle.std.specs.Prelude.{◌≡◌, ◌↔◌, ◌≤◌, IfSome, IsTrue, Some, length, slice_get, true};
+ghost use Rattle.jiter_scan.specs.Ascii as ascii;
 ghost use Rattle.jiter_scan.specs.Scan.{scan_stop, IsAsciiTo};
 
-use crate::simd::{both, first_stop, highs, scan_string, stops};
+use crate::simd::{ascii_stops, both, first_stop, highs, scan_string, stops};
 use std::simd::prelude::*;
 
 /// The first quote, backslash or control byte from a byte index on, or the length; and whether all bytes
@@ -25,4 +26,40 @@ pub fn scan_short(bytes: &[u8], from: usize) -> (usize, bool)
     }
     let (to, low) = scan_string(bytes, from + 16);
     (to, both(high == 0, low))
+}
+
+// A place, and whether it is the first of a byte that stops if a quote stands there, all bytes before it below 80 hex.
+#[inline(always)]
+fn ascii_stop(bytes: &[u8], from: usize) -> (usize, bool)
+    requires { from ≤ length bytes.now }
+    ensures stop { result.1 ≡ true → slice_get bytes.now result.0 ≡ Some ascii.quote
+        → result.0 ≡ scan_stop bytes.now from }
+    ensures ascii { result.1 ≡ true → slice_get bytes.now result.0 ≡ Some ascii.quote
+        → IsAsciiTo bytes.now from result.0 }
+{
+    if bytes.len() - from < 16 {
+        return scan_string(bytes, from);
+    }
+    let found = ascii_stops(u8x16::from_slice(&bytes[from..]));
+    if found != 0 {
+        return (from + found.trailing_zeros() as usize, true);
+    }
+    scan_string(bytes, from + 16)
+}
+
+/// The first quote from a byte index on, if no backslash and no control byte stands before it, and all bytes before it,
+/// from that index on, are below 80 hex.
+#[inline(always)]
+pub fn ascii_quote(bytes: &[u8], from: usize) -> Option<usize>
+    requires { from ≤ length bytes.now }
+    ensures stop { IfSome result (λ to. to ≡ scan_stop bytes.now from) }
+    ensures quote { IfSome result (λ to. slice_get bytes.now to ≡ Some ascii.quote) }
+    ensures ascii { IfSome result (λ to. IsAsciiTo bytes.now from to) }
+{
+    let (to, ascii) = ascii_stop(bytes, from);
+    if ascii && to < bytes.len() && bytes[to] == b'"' {
+        Some(to)
+    } else {
+        None
+    }
 }

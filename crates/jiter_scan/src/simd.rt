@@ -6,7 +6,7 @@ ghost use Rattle.std.specs.Int.Digits.{number_from_digits, AllBelowBase};
 ghost use Rattle.std.specs.List.{list_all};
 ghost use Rattle.std.specs.Simd.Lanes.{chunk, number_l};
 ghost use Rattle.jiter_scan.specs.Digits.{is_digit, digit_run_end, decimal_of};
-ghost use Rattle.jiter_scan.specs.Scan.{is_stop, is_plain, is_ascii, scan_stop, IsAsciiTo};
+ghost use Rattle.jiter_scan.specs.Scan.{is_stop, is_plain, is_ascii, is_plain_ascii, scan_stop, IsAsciiTo};
 ghost use Rattle.jiter_scan.specs.Simd.{digits_end, ascii_from, failing, is_no_mark, is_no_control, less_zero};
 ghost use Rattle.jiter_scan.specs.Simd.{IsEightBytes};
 
@@ -20,6 +20,16 @@ pub(crate) fn stops(v: u8x16) -> u64
     (v.simd_eq(u8x16::splat(b'"'))
         | v.simd_eq(u8x16::splat(b'\\'))
         | v.simd_lt(u8x16::splat(b' '))).to_bitmask()
+}
+
+// The same, and a bit for each byte above 7F hex.
+#[inline(always)]
+pub(crate) fn ascii_stops(v: u8x16) -> u64
+    ensures { result ≡ failing is_plain_ascii v }
+{
+    (v.simd_eq(u8x16::splat(b'"'))
+        | v.simd_eq(u8x16::splat(b'\\'))
+        | (v.simd_lt(u8x16::splat(b' ')) | v.simd_ge(u8x16::splat(0x80)))).to_bitmask()
 }
 
 // A bit for each byte above 7F hex.

@@ -14,7 +14,7 @@ ghost use Rattle.jiter_steps.specs.StringReading.{string_at, text_form, between}
 
 use crate::blank::blanks_end;
 use crate::parse::{Literal, Shape};
-use jiter_scan::short_scan::scan_short;
+use jiter_scan::short_scan::ascii_quote;
 use jiter_scan::text::ascii_text;
 use jiter_scan::word::byte_at;
 
@@ -162,12 +162,7 @@ pub fn plain_text_end(bytes: &[u8], at: usize) -> Option<usize>
     ensures ascii { IfSome result (λ to. IsAscii (slice_range bytes.now (at + 1) to)) }
     ensures within { IfSome result (λ to. (at < to) × (to < length bytes.now)) }
 {
-    let (to, ascii) = scan_short(bytes, at + 1);
-    if ascii && to < bytes.len() && bytes[to] == b'"' {
-        Some(to)
-    } else {
-        None
-    }
+    ascii_quote(bytes, at + 1)
 }
 
 /// The text between the quotes at `at` and `to`, with no look at its bytes, which are below 80 hex.

@@ -1,13 +1,21 @@
-use Rattle.std.proofs.Common.{◌∙◌, ap}
-use Rattle.std.specs.Prelude.{Some}
+use Rattle.std.proofs.Common.{◌≡◌, ℕ, ◌+◌, ◌<◌, Bool, List, length}
+use Rattle.std.specs.Prelude.{Option, Some, None, IfSome, slice_get}
+use Rattle.jiter_scan.specs.Ascii as ascii
+use Rattle.jiter_scan.specs.Scan.{scan_stop, IsAsciiTo}
+use Rattle.jiter_scan.specs.Scanned.{taken}
+use Rattle.jiter_steps.specs.StringReading.{string_at, text_form, between}
 use Rattle.jiter_steps.proofs.Calls.PlainAnswers.{plain-utf8, plain-quoted}
-use Rattle.jiter_steps.proofs.Grammar.Places.{got}
 use Rattle.jiter_steps.proofs.plain.plain_text_end.Goals as goal
 
-pub returns-then-bytes-to-eq34-clause-value : goal.returns-then-bytes-to-eq34-clause-value
-returns-then-bytes-to-eq34-clause-value c =
-    let t = c.args.bytes.now in
-    let s = c.scan_short-to in
-    let quote = got t s.result.0 c.if-to-bytes.true ∙ ap Some c.if-bytes-to-eq34.true in
-    let utf8 = plain-utf8 _ (s.ensures.ascii.0 c.if-ascii.true) in
-    plain-quoted t c.args.at s.result.0 c.requires s.ensures.stop quote utf8
+-- the quote that ends plain bytes of ASCII ends the string
+ends-string : (t : List ℕ) (at : ℕ) (o : Option ℕ) → at < length t → IfSome o (λ to. to ≡ scan_stop t (at + 1))
+    → IfSome o (λ to. slice_get t to ≡ Some ascii.quote) → IfSome o (λ to. IsAsciiTo t (at + 1) to)
+    → IfSome o (λ to. (keep : Bool) → string_at (text_form keep) t at ≡ taken (between t (at + 1) to) (to + 1))
+ends-string t at None h stop quote low = tt
+ends-string t at (Some to) h stop quote low = plain-quoted t at to h stop quote (plain-utf8 _ low)
+
+pub returns-clause-value : goal.returns-clause-value
+returns-clause-value c =
+    let found = c.ascii_quote in
+    ends-string c.args.bytes.now c.args.at found.result c.requires found.ensures.stop found.ensures.quote
+    found.ensures.ascii
