@@ -1,5 +1,6 @@
 //! Text that arrives in parts, of which any may end within a character (RFC 8259, 8.1): each byte is looked at once.
 ghost use Rattle.std.specs.Prelude.{◌≡◌, ℕ, ◌+◌, ◌<◌, ◌≤◌, ◌++◌, [], Bool, IfOk, List, OnErr, OnOk, false, length, take};
+ghost use Rattle.std.specs.Prelude.{◌&&◌, nat_lt, not};
 ghost use Rattle.std.specs.Prelude.{if◌then◌else◌};
 ghost use Rattle.std.specs.Char.{encode_utf8};
 ghost use Rattle.jiter_scan.specs.Kind.{invalid_code_point};
@@ -119,6 +120,13 @@ impl OpenText {
             else failed invalid_code_point (i + length self.now.text)) }
     {
         !self.broken && (keep || self.rest.as_slice().is_empty())
+    }
+
+    /// Whether the bytes so far end with an unfinished character.
+    pub fn is_unfinished(&self) -> bool
+        ensures { result ≡ (not self.now.broken && nat_lt 0 (length self.now.rest)) }
+    {
+        !self.broken && !self.rest.as_slice().is_empty()
     }
 
     /// The characters so far.
