@@ -10,19 +10,22 @@ use Rattle.jiter_scan.specs.Kind.{fault_kind, control_character, eof_string}
 use Rattle.jiter_scan.specs.Scan.{Pass, is_plain}
 use Rattle.jiter_scan.specs.Scanned.{failed}
 use Rattle.jiter_scan.specs.Stands.{Stands}
-use Rattle.jiter_scan.proofs.Standing.{stands-length, stands-append, stands-split, slice-one}
+use Rattle.jiter_scan.proofs.Standing.{stands-length, stands-append, stands-split, slice-one, slice-stands}
 use Rattle.jiter_steps.specs.OpenEscape.{IsSpelled}
 use Rattle.jiter_steps.specs.OpenString.{Goes, HasTaken, Wherever, held_bytes}
 use Rattle.jiter_steps.specs.OpenText.{HoldsText, SoFar}
 use Rattle.jiter_steps.specs.StringReading.{Body, Form, Stop, before, body_at, checked, closed, content_at, cut}
-use Rattle.jiter_steps.specs.StringReading.{is_cut, kept, over, part, portion_at, text_form, text_in_form, unclosed, whole, wrong}
+use Rattle.jiter_steps.specs.StringReading.{is_cut, kept, over, part, portion_at, text_form, text_in_form, unclosed}
+use Rattle.jiter_steps.specs.StringReading.{whole, wrong}
 use Rattle.jiter_steps.specs.declared.open_escape.Spelled.TheVariants as spelled
 use Rattle.jiter_steps.specs.declared.open_string.OpenString.{OpenString}
 use Rattle.jiter_steps.specs.declared.open_string.Went.TheVariants as went
 use Rattle.jiter_scan.specs.declared.errors.FaultKind.{FaultKind}
 use Rattle.std.proofs.lemmas.List.{length-take, length-drop}
 use Rattle.jiter_steps.proofs.Cut.Fronts.{front-length, front-range}
-use Rattle.jiter_steps.proofs.Grammar.StringComplete.{ArePrinted, IsPrinted, bytes-read, portion_by-quote}
+use Rattle.jiter_steps.proofs.Grammar.StringComplete.{ArePrinted, IsPrinted, bytes-read, portion_by-escape}
+use Rattle.jiter_steps.proofs.Grammar.StringComplete.{portion_by-quote}
+use Rattle.jiter_steps.proofs.Grammar.Places.{Explains, portion_at-explains}
 use Rattle.jiter_steps.proofs.OpenEscapes.{spelled-cut}
 use Rattle.jiter_steps.proofs.Calls.StringAnswers.{string_closed}
 use Rattle.jiter_steps.proofs.Reading.Bodies.{before-before, body_at-portion_by, portion_by-end}
@@ -287,6 +290,36 @@ module _ (old : OpenString) (w : List ℕ) (h : HasTaken old w) where
         ∙ ap (λ x. failed x m) (sym kind) ∙ ap (failed (fault_kind k)) place,
   )
 
+  -- an escape that is whole is its character,
+  pub escape-whole : (piece : List ℕ) (at end c n : ℕ) (text : SoFar) (o : Option (List ℕ)) → o ≡ None
+      → old.escape ≡ None → part (encode_utf8 c) true end ≡ portion_at piece at → n ≡ end - at
+      → HoldsText text (h.decoded ++ encode_utf8 c)
+      → HasTaken (record { text = text; escape = o }) (w ++ slice_range piece at (at + n))
+  escape-whole piece at end c n text o closed_escape none found size holds =
+      let e = subst (Explains piece at) (sym found) (portion_at-explains piece at) in
+      let v = slice_range piece at (at + n) in
+      let until : end ≡ at + n = omega (arith, e.ahead) in
+      let bytes : v ≡ e.bytes = ap (slice_range piece at) (sym until) ∙ sym (slice-stands piece at end e.bytes e.stands) in
+      record {
+        front = w ++ v;
+        decoded = h.decoded ++ encode_utf8 c;
+        escaped = h.escaped || true;
+        is = sym (ap (λ x. (w ++ v) ++ held_bytes x) closed_escape ∙ append-nil (w ++ v));
+        unfinished = subst (λ x. IfSome x (λ e. portion_at e 0 ≡ over cut)) (sym closed_escape) tt;
+        holds = holds;
+        goes = λ t i s.
+            let m = i + length w in
+            let j = i + length (w ++ v) in
+            let same : i + length h.front ≡ m = omega (arith, ap length (all-front none)) in
+            let there : portion_at t m ≡ part (encode_utf8 e.character) true j =
+            portion_by-escape t m j e.character e.bytes e.escape (subst (Stands t m j) bytes (rest-stand v t i s)) in
+            so_far v t i s
+            ∙ ap (λ j. before h.decoded h.escaped (body_at t j)) same
+            ∙ ap (before h.decoded h.escaped)
+            (body_at-portion_by t m (part (encode_utf8 c) true j) (there ∙ ap (λ x. part x true j) (sym e.is)))
+            ∙ before-before h.decoded (encode_utf8 c) h.escaped true (body_at t j);
+      }
+
   -- and plain bytes stand for themselves.
   pub plain-goes : (v : List ℕ) (text : SoFar) (o : Option (List ℕ)) → o ≡ None → old.escape ≡ None → Pass is_plain v
       → HoldsText text (h.decoded ++ v) → HasTaken (record { text = text; escape = o }) (w ++ v)
@@ -316,6 +349,12 @@ near-range piece at end stop within ahead inside =
     omega (arith, length-take (stop - at) (drop at (take end piece)), length-drop at (take end piece)) in
     let same : stop ≡ at + length (slice_range (take end piece) at stop) = omega arith in
     front-range piece end within at stop ahead (omega arith) ∙ ap (slice_range piece at) same
+
+-- what is found of an escape is behind its backslash, and within the piece
+pub escape-ahead : (piece : List ℕ) (at end c : ℕ) → part (encode_utf8 c) true end ≡ portion_at piece at
+    → (at < end) × (end ≤ length piece)
+escape-ahead piece at end c found =
+    let e = subst (Explains piece at) (sym found) (portion_at-explains piece at) in (e.ahead, e.within)
 
 -- no escape is open where it was asked for
 pub none_open : (o : Option (List ℕ)) (b : Bool) → b ≡ is_some o → b ≡ false → o ≡ None

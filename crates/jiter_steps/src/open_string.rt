@@ -1,24 +1,22 @@
 //! Strings that arrive in pieces (RFC 8259, 7 and 8.1): each byte is looked at once, wherever a piece ends, within a
 //! character or an escape too.
 ghost use Rattle.std.specs.Prelude.{◌≡◌, ◌+◌, ◌<◌, ◌≤◌, [], IfOk, List, None, OnErr, Some, length};
-ghost use Rattle.std.specs.Prelude.{◌||◌, is_some, slice_get, slice_index, slice_range, true, ℕ};
+ghost use Rattle.std.specs.Prelude.{◌||◌, is_some, slice_get, slice_index, slice_range, string_bytes, true, ℕ};
 ghost use Rattle.jiter_scan.specs.Ascii as ascii;
 ghost use Rattle.jiter_scan.specs.Kind.{eof_string};
 ghost use Rattle.jiter_scan.specs.Scan.{Pass, is_plain};
 ghost use Rattle.jiter_scan.specs.Scanned.{failed};
 ghost use Rattle.jiter_steps.specs.OpenString.{Goes, HasTaken, IsPart, Wherever, text_or};
+ghost use Rattle.jiter_steps.specs.OpenText.{with_text};
 ghost use Rattle.jiter_steps.specs.StringReading.{content_at, kept, text_form, whole};
 
+use crate::escape::{AtStop, next_portion};
 use crate::open_escape::{OpenEscape, Spelled};
-use crate::open_text::OpenText;
+use crate::open_text::{FEW, OpenText};
 use jiter_scan::errors::FaultKind;
 use jiter_scan::memory::Refused;
 use jiter_scan::simd::string_stop;
 use std::alloc::Global;
-
-// How many bytes are looked at beside an unfinished character: behind some of these a run of characters of one
-// length ends with a whole one.
-const FEW: usize = 7;
 
 /// What the next bytes are to a string.
 #[derive(Clone, Copy, Debug, PartialEq, Eq)]
@@ -87,6 +85,27 @@ impl OpenString {
         Ok(Went::Taken(1))
     }
 
+    // Takes an escape, or its backslash where the piece ends within it or it is wrong.
+    fn take_escape(&mut self, piece: &[u8], at: usize) -> Result<Went, Refused>
+        requires within { at < length piece.now }
+        requires none { self.old.escape ≡ None }
+        requires backslash { slice_get piece.now at ≡ Some ascii.backslash }
+        ensures goes { (w : List ℕ) → HasTaken self.old w → IfOk result (Goes self.new w piece.now at) }
+        ensures part { IfOk result (IsPart piece.now at) }
+        ensures refused { OnErr result (self.new ≡ self.old) }
+    {
+        match next_portion(piece, at) {
+            AtStop::Escape(c, end) => {
+                self.text.add_char(c)?;
+                Ok(Went::Taken(end - at))
+            }
+            AtStop::End(_) => {
+                self.escape = Some(OpenEscape::new());
+                Ok(Went::Taken(1))
+            }
+        }
+    }
+
     // Takes plain bytes.
     fn plain(&mut self, piece: &[u8], at: usize) -> Result<Went, Refused>
         requires within { at < length piece.now }
@@ -119,10 +138,7 @@ impl OpenString {
         }
         match piece[at] {
             b'"' => Ok(Went::Quote),
-            b'\\' => {
-                self.escape = Some(OpenEscape::new());
-                Ok(Went::Taken(1))
-            }
+            b'\\' => self.take_escape(piece, at),
             0..=31 => Ok(Went::Wrong(
                 FaultKind::ControlCharacterWhileParsingString,
                 0,
@@ -152,5 +168,22 @@ impl OpenString {
         ensures { result.now ≡ self.now.text.text }
     {
         self.text.text()
+    }
+
+    /// Takes the characters so far out, to be shown, and leaves none in their place. It takes no memory.
+    pub fn take_text(&mut self) -> String
+        ensures text { string_bytes result ≡ self.old.text.text }
+        ensures rest { self.new.text ≡ with_text self.old.text [] }
+        ensures escape { self.new.escape ≡ self.old.escape }
+    {
+        self.text.take_text()
+    }
+
+    /// Puts characters in the place of those so far, as [`take_text`](OpenString::take_text) gave them.
+    pub fn give_back(&mut self, text: String)
+        ensures text { self.new.text ≡ with_text self.old.text (string_bytes text) }
+        ensures escape { self.new.escape ≡ self.old.escape }
+    {
+        self.text.give_back(text);
     }
 }

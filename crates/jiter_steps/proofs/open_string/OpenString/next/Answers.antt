@@ -1,20 +1,9 @@
-use Rattle.std.proofs.Common.{◌≡◌, ◌∙◌, ◌∷◌, ◌+◌, ◌<◌, [], None, Some, ap, arith, refl}
-use Rattle.std.specs.Prelude.{slice_get, slice_range, slice_index}
+use Rattle.std.proofs.Common.{◌≡◌, ◌∙◌, ◌<◌, None, Some, ap, arith, refl}
+use Rattle.std.specs.Prelude.{slice_get, slice_index}
 use Rattle.jiter_scan.specs.declared.errors.FaultKind.TheVariants as fault
 use Rattle.jiter_steps.proofs.Grammar.Places.{got}
-use Rattle.jiter_steps.proofs.OpenStrings.{control-fails, escape-begins, none_open, one-byte}
+use Rattle.jiter_steps.proofs.OpenStrings.{control-fails, none_open}
 use Rattle.jiter_steps.proofs.open_string.OpenString.next.Goals as goal
-
-pub returns-in-92-clause-goes : goal.returns-in-92-clause-goes
-returns-in-92-clause-goes c =
-    λ w h.
-    let piece = c.args.piece.now in
-    let at = c.args.at in
-    let none : c.args.self.now.escape ≡ None =
-    none_open c.args.self.now.escape c.is_some.result c.is_some.ensures c.if-is_some.false in
-    let here : slice_get piece at ≡ Some 92 = got piece at c.requires ∙ ap Some c.in-92.is in
-    escape-begins c.args.self.now w h (slice_range piece at (at + 1)) c.new.result none (one-byte piece at 92 here)
-    c.new.ensures
 
 pub returns-in-0-to-31-clause-goes : goal.returns-in-0-to-31-clause-goes
 returns-in-0-to-31-clause-goes c =
