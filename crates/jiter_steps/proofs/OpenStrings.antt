@@ -12,7 +12,7 @@ use Rattle.jiter_scan.specs.Scanned.{failed}
 use Rattle.jiter_scan.specs.Stands.{Stands}
 use Rattle.jiter_scan.proofs.Standing.{stands-length, stands-append, stands-split, slice-one, slice-stands}
 use Rattle.jiter_steps.specs.OpenEscape.{IsSpelled}
-use Rattle.jiter_steps.specs.OpenString.{Goes, HasTaken, Wherever, held_bytes}
+use Rattle.jiter_steps.specs.OpenString.{Goes, HasTaken, held_bytes}
 use Rattle.jiter_steps.specs.OpenText.{HoldsText, SoFar}
 use Rattle.jiter_steps.specs.StringReading.{Body, Form, Stop, before, body_at, checked, closed, content_at, cut}
 use Rattle.jiter_steps.specs.StringReading.{is_cut, kept, over, part, portion_at, text_form, text_in_form, unclosed}

@@ -1,5 +1,4 @@
-use Rattle.std.proofs.Common.{◌≡◌, ◌∙◌, ◌+◌, ◌-◌, ◌≤◌, length, take, drop, sym, ap, arith}
-use Rattle.std.specs.Prelude.{slice_range}
+use Rattle.std.proofs.Common.{◌+◌, ◌-◌, take, drop, arith}
 use Rattle.jiter_scan.specs.Scan.{is_plain}
 use Rattle.jiter_scan.proofs.Chunks.{prefix_len-pass}
 use Rattle.jiter_steps.proofs.OpenStrings.{near-range}

@@ -1,4 +1,4 @@
-use Rattle.std.proofs.Common.{◌+◌, ◌-◌, ◌<◌, ◌≤◌, length, arith, refl}
+use Rattle.std.proofs.Common.{◌+◌, ◌-◌, arith, refl}
 use Rattle.std.specs.Prelude.{slice_range}
 use Rattle.jiter_steps.proofs.OpenStrings.{escape-ahead, escape-begins, escape-whole, one-byte}
 use Rattle.jiter_steps.proofs.open_string.OpenString.take_escape.Goals as goal
