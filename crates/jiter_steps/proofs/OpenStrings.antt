@@ -252,8 +252,7 @@ module _ (old : OpenString) (w : List ℕ) (h : HasTaken old w) where
     ended-by : (o : Option (List ℕ)) → old.escape ≡ o → IfSome o (λ e. portion_at e 0 ≡ over cut) → IsEnded o
     ended-by None none u =
         let past : length t ≤ from = omega (arith, ap length (all-front none)) in
-        let stop = portion_by-end t from past in
-        (
+        let stop = portion_by-end t from past in (
           ended-at unclosed stop kept ∙ ap (checked true i (h.escaped || false) h.decoded) end,
           ended-at unclosed stop whole ∙ ap (failed eof_string) end,
         )
@@ -265,8 +264,7 @@ module _ (old : OpenString) (w : List ℕ) (h : HasTaken old w) where
         (subst (λ x. Stands t i (i + length w) x) (held-front e open_escape) s) in
         let there : Stands t from (i + length w) e =
         subst (λ j. Stands t j (i + length w) e) (stands-length t i split.0 h.front split.1) split.2 in
-        let stop = spelled-cut e t from (subst (λ j. Stands t from j e) all there) (end ∙ all) u in
-        (
+        let stop = spelled-cut e t from (subst (λ j. Stands t from j e) all there) (end ∙ all) u in (
           ended-at cut stop kept ∙ ap (checked true i (h.escaped || true) h.decoded) end,
           ended-at cut stop whole ∙ ap (failed eof_string) end,
         )
@@ -299,7 +297,8 @@ module _ (old : OpenString) (w : List ℕ) (h : HasTaken old w) where
       let e = subst (Explains piece at) (sym found) (portion_at-explains piece at) in
       let v = slice_range piece at (at + n) in
       let until : end ≡ at + n = omega (arith, e.ahead) in
-      let bytes : v ≡ e.bytes = ap (slice_range piece at) (sym until) ∙ sym (slice-stands piece at end e.bytes e.stands) in
+      let bytes : v ≡ e.bytes =
+      ap (slice_range piece at) (sym until) ∙ sym (slice-stands piece at end e.bytes e.stands) in
       record {
         front = w ++ v;
         decoded = h.decoded ++ encode_utf8 c;

@@ -139,10 +139,7 @@ impl OpenString {
         match piece[at] {
             b'"' => Ok(Went::Quote),
             b'\\' => self.take_escape(piece, at),
-            0..=31 => Ok(Went::Wrong(
-                FaultKind::ControlCharacterWhileParsingString,
-                0,
-            )),
+            0..=31 => Ok(Went::Wrong(FaultKind::ControlCharacterWhileParsingString, 0)),
             _ => self.plain(piece, at),
         }
     }

@@ -1,6 +1,6 @@
 //! Text that arrives in parts, of which any may end within a character (RFC 8259, 8.1): each byte is looked at once.
-ghost use Rattle.std.specs.Prelude.{◌≡◌, ℕ, ◌+◌, ◌<◌, ◌≤◌, ◌++◌, [], Bool, IfOk, List, OnErr, OnOk, false, length, take};
-ghost use Rattle.std.specs.Prelude.{◌&&◌, nat_lt, not, string_bytes};
+ghost use Rattle.std.specs.Prelude.{◌≡◌, ℕ, ◌+◌, ◌<◌, ◌≤◌, ◌++◌, [], Bool, IfOk, List, OnErr, OnOk, false, length};
+ghost use Rattle.std.specs.Prelude.{◌&&◌, nat_lt, not, string_bytes, take};
 ghost use Rattle.std.specs.Prelude.{if◌then◌else◌};
 ghost use Rattle.std.specs.Char.{encode_utf8};
 ghost use Rattle.jiter_scan.specs.Kind.{invalid_code_point};
@@ -15,8 +15,8 @@ use std::alloc::Global;
 use std::marker::Model;
 use std::mem;
 
-// How many bytes are looked at beside an unfinished character: behind some of these a run of characters of one
-// length ends with a whole one.
+// How many bytes are looked at beside an unfinished character: so many that characters of one length end with a whole
+// one after three turns at most.
 pub(crate) const FEW: usize = 7;
 
 /// A text of which some bytes were read: its characters so far, and an unfinished one, or that what follows them
