@@ -5,6 +5,7 @@ mod kernels;
 mod number_ends;
 mod numbers;
 mod open_escapes;
+mod open_strings;
 mod open_texts;
 mod plain;
 mod plain_numbers;

@@ -4,6 +4,7 @@ pub mod Cut
 pub mod Fault
 pub mod Grammar
 pub mod OpenEscapes
+pub mod OpenStrings
 pub mod OpenTexts
 pub mod Pins
 pub mod Reading

@@ -1,24 +1,24 @@
 -- An escape that arrives byte by byte: while it is cut it is short, and what ends it is found wherever it stands.
-use Rattle.std.proofs.Common.{◌≡◌, ◌⊎◌, inl, inr, ℕ, zero, suc, ◌+◌, ◌-◌, ◌<◌, ◌≤◌, ◌==◌, Bool, true, false, List}
+use Rattle.std.proofs.Common.{◌≡◌, inl, inr, ℕ, zero, suc, ◌+◌, ◌-◌, ◌<◌, ◌≤◌, ◌==◌, Bool, true, false, List}
 use Rattle.std.proofs.Common.{[], ◌∷◌, ◌++◌}
 use Rattle.std.proofs.Common.{length, refl, sym, ap, ap₂, ◌∙◌, subst, arith, length-append}
 use Rattle.std.specs.Prelude.{slice_get, slice_index, Option, Some, None, if◌then◌else◌, nat_lt}
-use Rattle.std.specs.Char.{encode_utf8}
 use Rattle.std.proofs.Math.Seq.{take-append_seam}
-use Rattle.std.proofs.lemmas.Bool.{cases_lt, ltb-true, ltb-false, le-ltb}
-use Rattle.std.proofs.lemmas.Option.{slice_get_within, slice_get-get_or, get_or_from_slice_get, none-some, same_Some}
+use Rattle.std.proofs.lemmas.Bool.{cases_lt, ltb-true, ltb-false, le-ltb, lt-ltb}
+use Rattle.std.proofs.lemmas.Option.{slice_get_past, slice_get_within, slice_get-get_or, get_or_from_slice_get}
+use Rattle.std.proofs.lemmas.Option.{none-some, same_Some}
 use Rattle.jiter_scan.specs.Kind.{Kind, invalid_escape, lone_surrogate, end_of_hex_escape, control_character}
 use Rattle.jiter_scan.specs.Stands.{Stands}
-use Rattle.jiter_scan.proofs.Choices.{if_case, if_both, if-false}
+use Rattle.jiter_scan.proofs.Choices.{if_case, if_both, if-true, if-false}
 use Rattle.jiter_scan.proofs.Standing.{get-none}
-use Rattle.jiter_steps.specs.Escape.{short_escape, is_hex, unit_of, is_high, is_low, pair_of}
-use Rattle.jiter_steps.specs.StringReading.{Stop, closed, unclosed, cut, wrong, Portion, part, over, bad_digit, unit_at}
-use Rattle.jiter_steps.specs.StringReading.{HexDigits, few, number, hex_digits_or, hex_digits_at, behind, unit_then}
+use Rattle.jiter_steps.specs.Escape.{short_escape, is_hex, unit_of, is_high, is_low}
+use Rattle.jiter_steps.specs.StringReading.{closed, unclosed, cut, wrong, Portion, part, over, bad_digit, unit_at}
+use Rattle.jiter_steps.specs.StringReading.{HexDigits, few, hex_digits_or, hex_digits_at, behind, unit_then}
 use Rattle.jiter_steps.specs.StringReading.{surrogate_pair, behind_high_backslash, behind_high, single, unicode_escape}
-use Rattle.jiter_steps.specs.StringReading.{short, behind_backslash, plain, portion_by, portion_at}
+use Rattle.jiter_steps.specs.StringReading.{short, behind_backslash, portion_by, portion_at}
 use Rattle.jiter_steps.proofs.Cut.Fronts.{front-stands}
 use Rattle.jiter_steps.proofs.Grammar.Places.{Explains, portion_at-explains}
-use Rattle.jiter_steps.proofs.Grammar.StringComplete.{portion_by-escape, portion_by-backslash}
+use Rattle.jiter_steps.proofs.Grammar.StringComplete.{portion_by-escape}
 
 -- ---- while it is cut it is short
 
@@ -179,6 +179,21 @@ module _ (w t : List ℕ) (p : ℕ) (same : At w t p) where
   index-moved i m at lt =
       get_or_from_slice_get t m (slice_index w i) 0 (ap (slice_get t) (sym at) ∙ got-moved i lt)
 
+  -- four digits of w in t
+  digits-there : (i m : ℕ) → p + i ≡ m → i + 4 ≤ length w
+      → hex_digits_at t m
+      ≡ digits_of m (slice_index w i) (slice_index w (i + 1)) (slice_index w (i + 2)) (slice_index w (i + 3))
+  digits-there i m at within =
+      let a = index-moved i m at (omega arith) in
+      let b = index-moved (i + 1) (m + 1) (omega arith) (omega arith) in
+      let c = index-moved (i + 2) (m + 2) (omega arith) (omega arith) in
+      let d = index-moved (i + 3) (m + 3) (omega arith) (omega arith) in
+      let got = got-moved (i + 3) (omega arith) in
+      let last = slice_get_within t (p + (i + 3)) (slice_index w (i + 3)) got in
+      if-false (nat_lt (length t) (m + 4)) few (hex_digits_or (bad_digit t m) (unit_at t m))
+      (le-ltb (length t) (m + 4) (omega (arith, at, last)))
+      ∙ (λ k. digits_of m (a k) (b k) (c k) (d k))
+
   -- four digits, or too few
   unit-moved : (i m : ℕ) → p + i ≡ m → (f g : ℕ → ℕ → Portion) → ((x : ℕ) → Moved p (f (i + 4) x) (g (m + 4) x))
       → Moved p (unit_then w i f) (unit_then t m g)
@@ -188,19 +203,8 @@ module _ (w t : List ℕ) (p : ℕ) (same : At w t p) where
         good : i + 4 ≤ length w
             → Moved p (behind (f (i + 4)) (hex_digits_or (bad_digit w i) (unit_at w i))) (unit_then t m g)
         good within =
-            let a = index-moved i m at (omega arith) in
-            let b = index-moved (i + 1) (m + 1) (omega arith) (omega arith) in
-            let c = index-moved (i + 2) (m + 2) (omega arith) (omega arith) in
-            let d = index-moved (i + 3) (m + 3) (omega arith) (omega arith) in
-            let got = got-moved (i + 3) (omega arith) in
-            let last = slice_get_within t (p + (i + 3)) (slice_index w (i + 3)) got in
-            let there : hex_digits_at t m
-            ≡ digits_of m (slice_index w i) (slice_index w (i + 1)) (slice_index w (i + 2)) (slice_index w (i + 3)) =
-            if-false (nat_lt (length t) (m + 4)) few (hex_digits_or (bad_digit t m) (unit_at t m))
-            (le-ltb (length t) (m + 4) (omega (arith, at, last)))
-            ∙ (λ k. digits_of m (a k) (b k) (c k) (d k)) in
             let here = hex_digits_or (bad_digit w i) (unit_at w i) in
-            subst (λ x. Moved p (behind (f (i + 4)) here) (behind (g (m + 4)) x)) (sym there)
+            subst (λ x. Moved p (behind (f (i + 4)) here) (behind (g (m + 4)) x)) (sym (digits-there i m at within))
             (digits-moved p i m (slice_index w i) (slice_index w (i + 1)) (slice_index w (i + 2))
             (slice_index w (i + 3)) at (f (i + 4)) (g (m + 4)) all)
 
@@ -267,6 +271,122 @@ module _ (w t : List ℕ) (p : ℕ) (same : At w t p) where
       (subst (λ n. Stands t n (p + j) e.bytes) here (stands-moved e.bytes 0 j e.stands))
       ∙ ap (λ x. part x true (p + j)) (sym e.is)
 
+-- ---- what is cut at the end of the text is cut there too
+
+-- where f is cut, g is
+abbrev StaysCut : Portion → Portion → Type 0
+StaysCut f g = f ≡ over cut → g ≡ over cut
+
+-- a part is not cut, nor is a fault
+part-no_cut : (bs : List ℕ) (o : Bool) (j : ℕ) (g : Portion) → StaysCut (part bs o j) g
+part-no_cut bs o j g h = absurd (cc)
+
+wrong-no_cut : (k : Kind) (j : ℕ) (g : Portion) → StaysCut (over (wrong k j)) g
+wrong-no_cut k j g h = absurd (cc)
+
+-- rows that do not ask the text
+pair-no_cut : (high j x : ℕ) (g : Portion) → StaysCut (surrogate_pair high j x) g
+pair-no_cut high j x g =
+    if_case (λ f. StaysCut f g) (is_low x) _ _ (λ e. part-no_cut _ true j g) (λ e. wrong-no_cut lone_surrogate _ g)
+
+single-no_cut : (j x : ℕ) (g : Portion) → StaysCut (single j x) g
+single-no_cut j x g =
+    if_case (λ f. StaysCut f g) (is_low x) _ _ (λ e. wrong-no_cut lone_surrogate _ g) (λ e. part-no_cut _ true j g)
+
+sign-no_cut : (i : ℕ) (o : Option ℕ) (g : Portion) → StaysCut (short i o) g
+sign-no_cut i None g = wrong-no_cut invalid_escape i g
+sign-no_cut i (Some c) g = part-no_cut _ true (i + 1) g
+
+-- four digits
+digits-cut : (i m a b c d : ℕ) (f g : ℕ → Portion) → ((x : ℕ) → StaysCut (f x) (g x))
+    → StaysCut (behind f (digits_of i a b c d)) (behind g (digits_of m a b c d))
+digits-cut i m a b c d f g all =
+    let u = unit_of a b c d in
+    let R = λ (x y : Option ℕ). StaysCut (behind f (hex_digits_or x u)) (behind g (hex_digits_or y u)) in
+    if_both R (is_hex a) _ _ _ _
+    (λ e. if_both R (is_hex b) _ _ _ _
+    (λ e. if_both R (is_hex c) _ _ _ _
+    (λ e. if_both R (is_hex d) _ _ _ _ (λ e. all u)
+    (λ e. wrong-no_cut invalid_escape _ _))
+    (λ e. wrong-no_cut invalid_escape _ _))
+    (λ e. wrong-no_cut invalid_escape _ _))
+    (λ e. wrong-no_cut invalid_escape _ _)
+
+module _ (w t : List ℕ) (p : ℕ) (same : At w t p) (long : length t ≡ p + length w) where
+  -- what a byte decides, or the end
+  byte-cut : (f g : Option ℕ → Portion) (i m : ℕ) → p + i ≡ m → StaysCut (f None) (g None)
+      → ((c : ℕ) → StaysCut (f (Some c)) (g (Some c))) → StaysCut (f (slice_get w i)) (g (slice_get t m))
+  byte-cut f g i m at none some = by (slice_get w i) refl where
+    by : (o : Option ℕ) → slice_get w i ≡ o → StaysCut (f o) (g (slice_get t m))
+    by None e h =
+        let past : length t ≤ m = omega (arith, get-none w i e) in
+        subst (λ o. g o ≡ over cut) (sym (slice_get_past t m past)) (none h)
+    by (Some c) e h = subst (λ o. g o ≡ over cut) (sym (ap (slice_get t) (sym at) ∙ same i c e)) (some c h)
+
+  -- four digits, or too few
+  unit-cut : (i m : ℕ) → p + i ≡ m → (f g : ℕ → ℕ → Portion) → ((x : ℕ) → StaysCut (f (i + 4) x) (g (m + 4) x))
+      → StaysCut (unit_then w i f) (unit_then t m g)
+  unit-cut i m at f g all =
+      if_case (λ d. StaysCut (behind (f (i + 4)) d) (unit_then t m g)) (nat_lt (length w) (i + 4)) _ _
+      (λ e h. less (ltb-true (length w) (i + 4) e)) (λ e. good (ltb-false (length w) (i + 4) e)) where
+        less : length w < i + 4 → unit_then t m g ≡ over cut
+        less lt =
+            ap (behind (g (m + 4)))
+            (if-true (nat_lt (length t) (m + 4)) few (hex_digits_or (bad_digit t m) (unit_at t m))
+            (lt-ltb (length t) (m + 4) (omega arith)))
+
+        good : i + 4 ≤ length w
+            → StaysCut (behind (f (i + 4)) (hex_digits_or (bad_digit w i) (unit_at w i))) (unit_then t m g)
+        good within =
+            let here = hex_digits_or (bad_digit w i) (unit_at w i) in
+            subst (λ x. StaysCut (behind (f (i + 4)) here) (behind (g (m + 4)) x))
+            (sym (digits-there w t p same i m at within))
+            (digits-cut i m (slice_index w i) (slice_index w (i + 1)) (slice_index w (i + 2)) (slice_index w (i + 3))
+            (f (i + 4)) (g (m + 4)) all)
+
+  -- behind the backslash that follows a first number
+  high_backslash-cut : (high i m : ℕ) → p + i ≡ m
+      → StaysCut (behind_high_backslash w high i (slice_get w i)) (behind_high_backslash t high m (slice_get t m))
+  high_backslash-cut high i m at =
+      byte-cut (behind_high_backslash w high i) (behind_high_backslash t high m) i m at (λ h. h)
+      (λ c. if_both StaysCut (c == 117) _ _ _ _
+      (λ e. unit-cut (i + 1) (m + 1) (omega arith) (surrogate_pair high) (surrogate_pair high)
+      (λ x. pair-no_cut high (i + 1 + 4) x _))
+      (λ e. wrong-no_cut end_of_hex_escape i _))
+
+  -- behind a first number
+  high-cut : (high i m : ℕ) → p + i ≡ m
+      → StaysCut (behind_high w high i (slice_get w i)) (behind_high t high m (slice_get t m))
+  high-cut high i m at =
+      byte-cut (behind_high w high i) (behind_high t high m) i m at (λ h. h)
+      (λ c. if_both StaysCut (c == 92) _ _ _ _ (λ e. high_backslash-cut high (i + 1) (m + 1) (omega arith))
+      (λ e. wrong-no_cut end_of_hex_escape i _))
+
+  -- behind any number
+  unicode-cut : (j m x : ℕ) → p + j ≡ m → StaysCut (unicode_escape w j x) (unicode_escape t m x)
+  unicode-cut j m x at =
+      if_both StaysCut (is_high x) _ _ _ _ (λ e. high-cut x j m at) (λ e. single-no_cut j x _)
+
+  -- behind a backslash
+  backslash-cut : (i m : ℕ) → p + i ≡ m
+      → StaysCut (behind_backslash w i (slice_get w i)) (behind_backslash t m (slice_get t m))
+  backslash-cut i m at =
+      byte-cut (behind_backslash w i) (behind_backslash t m) i m at (λ h. h)
+      (λ c. if_both StaysCut (c == 117) _ _ _ _
+      (λ e. unit-cut (i + 1) (m + 1) (omega arith) (unicode_escape w) (unicode_escape t)
+      (λ x. unicode-cut (i + 1 + 4) (m + 1 + 4) x (omega arith)))
+      (λ e. sign-no_cut i (short_escape c) _))
+
+  -- at any place
+  place-cut : (i m : ℕ) → p + i ≡ m → StaysCut (portion_at w i) (portion_at t m)
+  unfolding portion_at
+  place-cut i m at =
+      byte-cut (portion_by w i) (portion_by t m) i m at (λ h. absurd (cc))
+      (λ c. if_both StaysCut (c == 34) _ _ _ _ (λ e h. absurd (cc))
+      (λ e. if_both StaysCut (c == 92) _ _ _ _ (λ e. backslash-cut (i + 1) (m + 1) (omega arith))
+      (λ e. if_both StaysCut (nat_lt c 32) _ _ _ _ (λ e. wrong-no_cut control_character i _)
+      (λ e. part-no_cut _ false (i + 1) _))))
+
 -- An escape that was cut before its last byte ends with it.
 pub whole-end : (w : List ℕ) (b : ℕ) (bs : List ℕ) (j : ℕ) → portion_at w 0 ≡ over cut
     → portion_at (w ++ b ∷ []) 0 ≡ part bs true j → j ≡ length (w ++ b ∷ [])
@@ -319,3 +439,16 @@ module _ (u t : List ℕ) (i : ℕ) (stands : Stands t i (i + length u) u) where
   pub spelled-wrong : (k : Kind) (j : ℕ) → portion_at u 0 ≡ over (wrong k j)
       → portion_at t i ≡ over (wrong k (i + j))
   spelled-wrong = wrong-found u t i (stands-at u t i (i + length u) stands)
+
+-- A wrong byte stands in front of the last one, or is it.
+pub wrong-within : (w : List ℕ) (b : ℕ) (k : Kind) (j : ℕ) → portion_at (w ++ b ∷ []) 0 ≡ over (wrong k j)
+    → j ≤ length w
+wrong-within w b k j h =
+    let e = subst (Explains (w ++ b ∷ []) 0) h (portion_at-explains (w ++ b ∷ []) 0) in
+    omega (arith, e.1, length-append w (b ∷ []))
+
+-- What is cut is so where the text ends behind it.
+pub spelled-cut : (u t : List ℕ) (i : ℕ) → Stands t i (i + length u) u → length t ≡ i + length u
+    → portion_at u 0 ≡ over cut → portion_at t i ≡ over cut
+spelled-cut u t i stands long =
+    place-cut u t i (stands-at u t i (i + length u) stands) long 0 i (omega arith)

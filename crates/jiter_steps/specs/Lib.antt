@@ -8,6 +8,7 @@ pub mod StringReading
 pub mod StringDecoder
 pub mod OpenText
 pub mod OpenEscape
+pub mod OpenString
 pub mod RawString
 pub mod Read
 pub mod ReadError

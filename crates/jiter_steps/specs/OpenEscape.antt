@@ -1,5 +1,5 @@
 -- An escape that arrives byte by byte: what its next byte makes of it, in any text in which these bytes stand.
-use Rattle.std.specs.Prelude.{◌≡◌, ℕ, ◌+◌, true, List, [], ◌∷◌, ◌++◌, length, slice_get, Some}
+use Rattle.std.specs.Prelude.{◌≡◌, ◌≤◌, ℕ, ◌+◌, true, List, [], ◌∷◌, ◌++◌, length}
 use Rattle.std.specs.Char.{encode_utf8}
 use Rattle.jiter_scan.specs.Ascii as ascii
 use Rattle.jiter_scan.specs.Kind.{fault_kind}
@@ -24,3 +24,8 @@ IsSpelled w (spelled.Wrong k n) = (t : List ℕ) (i : ℕ) → Stands t i (i + l
 abbrev pub held_after : List ℕ → ℕ → Spelled → List ℕ
 held_after w b spelled.Part = w ++ b ∷ []
 held_after w b s = w
+
+-- a wrong byte is one of those that are held, or the one behind them
+abbrev pub IsWithin : List ℕ → Spelled → Type 0
+IsWithin w (spelled.Wrong k n) = n ≤ length w
+IsWithin w s = Unit {0}

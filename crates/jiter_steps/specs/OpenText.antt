@@ -13,6 +13,10 @@ pub record SoFar : Type 0 where
 abbrev pub nothing : SoFar
 nothing = record { text = []; rest = []; broken = false }
 
+-- these characters in the place of those so far
+abbrev pub with_text : SoFar → List ℕ → SoFar
+with_text s text = record { text = text; rest = s.rest; broken = s.broken }
+
 -- no front of these bytes is a text, but the empty one
 abbrev pub BeginsNoText : List ℕ → Type 0
 BeginsNoText w = (m : ℕ) → IsUtf8 (take m w) → take m w ≡ []

@@ -6,6 +6,7 @@ pub mod blank;
 mod escape;
 mod held;
 pub mod open_escape;
+pub mod open_string;
 pub mod open_text;
 pub mod parse;
 pub mod plain;

@@ -1,6 +1,6 @@
 //! Escapes that arrive byte by byte (RFC 8259, 7): they are held until they are whole, at most twelve bytes.
-ghost use Rattle.std.specs.Prelude.{◌≡◌, ◌∷◌, ◌++◌, []};
-ghost use Rattle.jiter_steps.specs.OpenEscape.{IsSpelled, begun, held_after};
+ghost use Rattle.std.specs.Prelude.{◌≡◌, ◌∷◌, ◌++◌, [], length};
+ghost use Rattle.jiter_steps.specs.OpenEscape.{IsSpelled, IsWithin, begun, held_after};
 
 use crate::escape::{AtStop, Ending, portion_at};
 use crate::held::Held;
@@ -46,10 +46,18 @@ impl OpenEscape {
         }
     }
 
+    /// How many bytes of it were read, its backslash among them.
+    pub fn count(&self) -> usize
+        ensures { result ≡ length self.now }
+    {
+        self.held.as_slice().len()
+    }
+
     /// Takes the next byte, if the escape is not over with it, and says what it makes of it.
     pub fn next(&mut self, byte: u8) -> Spelled
         ensures spelled { IsSpelled (self.old ++ byte ∷ []) result }
         ensures held { self.new ≡ held_after self.old byte result }
+        ensures within { IsWithin self.old result }
     {
         let held = self.held.with(&[byte]);
         match portion_at(held.as_slice(), 0) {

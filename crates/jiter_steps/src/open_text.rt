@@ -1,10 +1,11 @@
 //! Text that arrives in parts, of which any may end within a character (RFC 8259, 8.1): each byte is looked at once.
-ghost use Rattle.std.specs.Prelude.{◌≡◌, ℕ, ◌+◌, ◌<◌, ◌≤◌, ◌++◌, [], Bool, IfOk, List, OnErr, OnOk, false, length, take};
+ghost use Rattle.std.specs.Prelude.{◌≡◌, ℕ, ◌+◌, ◌<◌, ◌≤◌, ◌++◌, [], Bool, IfOk, List, OnErr, OnOk, false, length};
+ghost use Rattle.std.specs.Prelude.{◌&&◌, nat_lt, not, string_bytes, take};
 ghost use Rattle.std.specs.Prelude.{if◌then◌else◌};
 ghost use Rattle.std.specs.Char.{encode_utf8};
 ghost use Rattle.jiter_scan.specs.Kind.{invalid_code_point};
 ghost use Rattle.jiter_scan.specs.Scanned.{taken, failed};
-ghost use Rattle.jiter_steps.specs.OpenText.{HoldsText, nothing};
+ghost use Rattle.jiter_steps.specs.OpenText.{HoldsText, nothing, with_text};
 ghost use Rattle.jiter_steps.specs.StringReading.{checked};
 
 use crate::held::Held;
@@ -12,9 +13,11 @@ use jiter_scan::memory::{Refused, push_text};
 use jiter_scan::text::utf8_text;
 use std::alloc::Global;
 use std::marker::Model;
+use std::mem;
 
-// How many bytes are looked at beside an unfinished character.
-const FEW: usize = 8;
+// How many bytes are looked at beside an unfinished character: so many that characters of one length end with a whole
+// one after three turns at most.
+pub(crate) const FEW: usize = 7;
 
 /// A text of which some bytes were read: its characters so far, and an unfinished one, or that what follows them
 /// is no UTF-8 whatever comes.
@@ -121,10 +124,33 @@ impl OpenText {
         !self.broken && (keep || self.rest.as_slice().is_empty())
     }
 
+    /// Whether the bytes so far end with an unfinished character.
+    pub fn is_unfinished(&self) -> bool
+        ensures { result ≡ (not self.now.broken && nat_lt 0 (length self.now.rest)) }
+    {
+        !self.broken && !self.rest.as_slice().is_empty()
+    }
+
     /// The characters so far.
     pub fn text(&self) -> &str
         ensures { result.now ≡ self.now.text }
     {
         self.text.as_str()
+    }
+
+    /// Takes the characters so far out, and leaves none in their place. It takes no memory.
+    pub fn take_text(&mut self) -> String
+        ensures text { string_bytes result ≡ self.old.text }
+        ensures rest { self.new ≡ with_text self.old [] }
+    {
+        let alloc = *self.text.allocator();
+        mem::replace(&mut self.text, String::new(alloc))
+    }
+
+    /// Puts characters in the place of those so far.
+    pub fn give_back(&mut self, text: String)
+        ensures { self.new ≡ with_text self.old (string_bytes text) }
+    {
+        self.text = text;
     }
 }

@@ -6,7 +6,7 @@ use Rattle.jiter_scan.specs.Scan.{is_stop}
 use Rattle.jiter_steps.specs.StringDecoder.{stop_view}
 use Rattle.jiter_steps.specs.StringReading.{cut, over, part, portion_at, wrong}
 use Rattle.jiter_steps.proofs.OpenEscapes.{begins-on, cut_begins, cut_short, no-close, no-end, spelled-whole}
-use Rattle.jiter_steps.proofs.OpenEscapes.{spelled-wrong}
+use Rattle.jiter_steps.proofs.OpenEscapes.{spelled-wrong, wrong-within}
 use Rattle.jiter_steps.proofs.open_escape.OpenEscape.next.Goals as goal
 
 pub with-held-requires : goal.with-held-requires
@@ -59,3 +59,14 @@ returns-in-End-Wrong-clause-spelled c =
     ap (λ w. portion_at w 0) (sym held) ∙ sym c.in-End-Wrong.ensures
     ∙ ap (λ x. over (stop_view x)) c.in-End-Wrong.field-0-is in
     spelled-wrong u t i stands (fault_kind fault.kind) fault.index found
+
+pub returns-in-End-Wrong-clause-within : goal.returns-in-End-Wrong-clause-within
+returns-in-End-Wrong-clause-within c =
+    let fault = c.in-End-Wrong.fault in
+    let u = c.args.self.now ++ c.args.byte ∷ [] in
+    let held : c.as_slice.result.now ≡ u =
+    c.as_slice.ensures.value ∙ c.with-held.ensures ∙ ap (λ w. w ++ c.args.byte ∷ []) c.self.view_is in
+    let found : portion_at u 0 ≡ over (wrong (fault_kind fault.kind) fault.index) =
+    ap (λ w. portion_at w 0) (sym held) ∙ sym c.in-End-Wrong.ensures
+    ∙ ap (λ x. over (stop_view x)) c.in-End-Wrong.field-0-is in
+    wrong-within c.args.self.now c.args.byte (fault_kind fault.kind) fault.index found

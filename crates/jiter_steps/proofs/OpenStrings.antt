@@ -1,0 +1,361 @@
+-- A string that arrives in pieces: what its next bytes make of it, and what ends it.
+use Rattle.std.proofs.Common.{◌≡◌, ℕ, zero, suc, ◌+◌, ◌-◌, ◌<◌, ◌≤◌, ◌||◌, Bool, true, false, List, [], ◌∷◌, ◌++◌}
+use Rattle.std.proofs.Common.{length, take, drop, refl, sym, ap, ap₂, ◌∙◌, subst, arith, append-nil, append_assoc}
+use Rattle.std.proofs.Common.{length-append, take-take}
+use Rattle.std.specs.Prelude.{slice_get, slice_range, Option, Some, None, IfSome, is_some}
+use Rattle.std.specs.Char.{encode_utf8}
+use Rattle.std.proofs.lemmas.Bool.{false≢true, lt-ltb, ne_eqb}
+use Rattle.std.proofs.lemmas.Bool.Decides.{nat_tests}
+use Rattle.jiter_scan.specs.Kind.{fault_kind, control_character, eof_string}
+use Rattle.jiter_scan.specs.Scan.{Pass, is_plain}
+use Rattle.jiter_scan.specs.Scanned.{failed}
+use Rattle.jiter_scan.specs.Stands.{Stands}
+use Rattle.jiter_scan.proofs.Standing.{stands-length, stands-append, stands-split, slice-one, slice-stands}
+use Rattle.jiter_steps.specs.OpenEscape.{IsSpelled}
+use Rattle.jiter_steps.specs.OpenString.{Goes, HasTaken, held_bytes}
+use Rattle.jiter_steps.specs.OpenText.{HoldsText, SoFar}
+use Rattle.jiter_steps.specs.StringReading.{Body, Form, Stop, before, body_at, checked, closed, content_at, cut}
+use Rattle.jiter_steps.specs.StringReading.{is_cut, kept, over, part, portion_at, text_form, text_in_form, unclosed}
+use Rattle.jiter_steps.specs.StringReading.{whole, wrong}
+use Rattle.jiter_steps.specs.declared.open_escape.Spelled.TheVariants as spelled
+use Rattle.jiter_steps.specs.declared.open_string.OpenString.{OpenString}
+use Rattle.jiter_steps.specs.declared.open_string.Went.TheVariants as went
+use Rattle.jiter_scan.specs.declared.errors.FaultKind.{FaultKind}
+use Rattle.std.proofs.lemmas.List.{length-take, length-drop}
+use Rattle.jiter_steps.proofs.Cut.Fronts.{front-length, front-range}
+use Rattle.jiter_steps.proofs.Grammar.StringComplete.{ArePrinted, IsPrinted, bytes-read, portion_by-escape}
+use Rattle.jiter_steps.proofs.Grammar.StringComplete.{portion_by-quote}
+use Rattle.jiter_steps.proofs.Grammar.Places.{Explains, portion_at-explains}
+use Rattle.jiter_steps.proofs.OpenEscapes.{spelled-cut}
+use Rattle.jiter_steps.proofs.Calls.StringAnswers.{string_closed}
+use Rattle.jiter_steps.proofs.Reading.Bodies.{before-before, body_at-portion_by, portion_by-end}
+
+-- the first bytes of some that pass
+pub pass-take : (test : ℕ → Bool) (n : ℕ) (w : List ℕ) → Pass test w → Pass test (take n w)
+pass-take test zero w h = tt
+pass-take test (suc n) [] h = tt
+pass-take test (suc n) (c ∷ w) h = (h.0, pass-take test n w h.1)
+
+-- a plain byte
+plain-one : (b : ℕ) → is_plain b ≡ true → IsPrinted b
+plain-one b e =
+    record {
+      printed = grind (arith, nat_tests, e);
+      no_quote = grind (arith, nat_tests, e);
+      no_backslash = grind (arith, nat_tests, e);
+    }
+
+-- plain bytes
+plain-all : (w : List ℕ) → Pass is_plain w → ArePrinted w
+plain-all [] h = tt
+plain-all (b ∷ w) h = (plain-one b h.0, plain-all w h.1)
+
+-- The first n bytes of a run that is a range of a piece are those of the piece.
+pub run-range : (piece run : List ℕ) (at n : ℕ) → run ≡ slice_range piece at (at + length run) → n ≤ length run
+    → take n run ≡ slice_range piece at (at + n)
+run-range piece run at n is few =
+    let long : n ≤ at + length run - at = omega arith in
+    let count : n ≡ at + n - at = omega arith in
+    ap (take n) is ∙ take-take n (at + length run - at) (drop at piece) long ∙ ap (λ k. take k (drop at piece)) count
+
+-- no escape is open at the beginning
+pub nothing-taken : (text : SoFar) → HoldsText text [] → HasTaken (record { text = text; escape = None }) []
+nothing-taken text h = record {
+  front = [];
+  decoded = [];
+  escaped = false;
+  is = refl;
+  unfinished = tt;
+  holds = h;
+  goes = λ t i s. let here : i ≡ i + 0 = omega arith in ap (body_at t) here;
+}
+
+-- where a body stops at once, the string does
+module _ (t : List ℕ) (i m : ℕ) (bytes : List ℕ) (escaped : Bool)
+    (body : body_at t i ≡ before bytes escaped (body_at t m)) where
+  pub stops-so : (x : Stop) → portion_at t m ≡ over x → (form : Form)
+      → content_at form t i ≡ text_in_form form t i (bytes ++ []) (escaped || is_cut x) x
+  unfolding content_at
+  stops-so x e form =
+      ap (λ (b : Body). text_in_form form t i b.bytes b.owned b.stop)
+      (body ∙ ap (before bytes escaped) (body_at-portion_by t m (over x) e))
+
+-- no mark is added
+or-none : (b : Bool) → (b || false) ≡ b
+or-none true = refl
+or-none false = refl
+
+-- a control character
+control-stops : (t : List ℕ) (j b : ℕ) → slice_get t j ≡ Some b → b < 32
+    → portion_at t j ≡ over (wrong control_character j)
+unfolding portion_at
+control-stops t j b e low =
+    rw (e, ne_eqb b 34 (λ q. omega arith), ne_eqb b 92 (λ q. omega arith), lt-ltb b 32 low)
+
+-- an escape has begun with its backslash
+backslash-cut : portion_at (92 ∷ []) 0 ≡ over cut
+unfolding portion_at
+backslash-cut = refl
+
+-- the byte at a place of a piece is this range
+pub one-byte : (piece : List ℕ) (at b : ℕ) → slice_get piece at ≡ Some b → slice_range piece at (at + 1) ≡ b ∷ []
+one-byte piece at b e = slice-one piece at b e
+
+module _ (old : OpenString) (w : List ℕ) (h : HasTaken old w) where
+  -- the bytes that were taken stand before those behind them,
+  module _ (v t : List ℕ) (i : ℕ) (stands : Stands t i (i + length (w ++ v)) (w ++ v)) where
+    first-stand : Stands t i (i + length w) w
+    first-stand =
+        let r = stands-split t i (i + length (w ++ v)) w v stands in
+        subst (λ j. Stands t i j w) (stands-length t i r.0 w r.1) r.1
+
+    -- and these there
+    rest-stand : Stands t (i + length w) (i + length (w ++ v)) v
+    rest-stand =
+        let r = stands-split t i (i + length (w ++ v)) w v stands in
+        subst (λ j. Stands t j (i + length (w ++ v)) v) (stands-length t i r.0 w r.1) r.2
+
+    so_far : body_at t i ≡ before h.decoded h.escaped (body_at t (i + length h.front))
+    so_far = h.goes t i first-stand
+
+    -- or those from an escape on
+    escape-stands : (u : List ℕ) → w ++ v ≡ h.front ++ u
+        → Stands t (i + length h.front) (i + length h.front + length u) u
+    escape-stands u is =
+        let r =
+        stands-split t i (i + length (w ++ v)) h.front u
+        (subst (λ x. Stands t i (i + length (w ++ v)) x) is stands) in
+        let there = subst (λ j. Stands t j (i + length (w ++ v)) u) (stands-length t i r.0 h.front r.1) r.2 in
+        subst (λ j. Stands t (i + length h.front) j u)
+        (stands-length t (i + length h.front) (i + length (w ++ v)) u there) there
+
+  -- where no escape is open, all are decoded
+  all-front : old.escape ≡ None → w ≡ h.front
+  all-front none = h.is ∙ ap (λ e. h.front ++ held_bytes e) none ∙ append-nil h.front
+
+  -- where one is, it stands behind those that are
+  pub held-front : (e : List ℕ) → old.escape ≡ Some e → w ≡ h.front ++ e
+  held-front e open_escape = h.is ∙ ap (λ o. h.front ++ held_bytes o) open_escape
+
+  -- with what stands behind
+  held-more : (e v : List ℕ) → old.escape ≡ Some e → w ++ v ≡ h.front ++ (e ++ v)
+  held-more e v open_escape = ap (λ x. x ++ v) (held-front e open_escape) ∙ append_assoc h.front e v
+
+  -- An escape begins.
+  pub escape-begins : (v e : List ℕ) → old.escape ≡ None → v ≡ 92 ∷ [] → e ≡ 92 ∷ []
+      → HasTaken (record { text = old.text; escape = Some e }) (w ++ v)
+  escape-begins v e none first begun = record {
+    front = h.front;
+    decoded = h.decoded;
+    escaped = h.escaped;
+    is = ap (λ x. x ++ v) (all-front none) ∙ ap (λ x. h.front ++ x) (first ∙ sym begun);
+    unfinished = ap (λ x. portion_at x 0) begun ∙ backslash-cut;
+    holds = h.holds;
+    goes = λ t i s. so_far v t i s;
+  }
+
+  -- It goes on with a byte,
+  module _ (e : List ℕ) (b : ℕ) (v : List ℕ) (open_escape : old.escape ≡ Some e) (one : v ≡ b ∷ []) where
+    abbrev u : List ℕ
+    u = e ++ b ∷ []
+
+    longer : w ++ v ≡ h.front ++ u
+    longer = held-more e v open_escape ∙ ap (λ x. h.front ++ (e ++ x)) one
+
+    pub escape-goes : (new : List ℕ) → new ≡ u → portion_at u 0 ≡ over cut
+        → HasTaken (record { text = old.text; escape = Some new }) (w ++ v)
+    escape-goes new is more = record {
+      front = h.front;
+      decoded = h.decoded;
+      escaped = h.escaped;
+      is = longer ∙ ap (λ x. h.front ++ x) (sym is);
+      unfinished = ap (λ x. portion_at x 0) is ∙ more;
+      holds = h.holds;
+      goes = λ t i s. so_far v t i s;
+    }
+
+    -- and ends with one,
+    pub escape-ends : (text : SoFar) (c : ℕ) → IsSpelled u (spelled.Whole c)
+        → HoldsText text (h.decoded ++ encode_utf8 c) → HasTaken (record { text = text; escape = None }) (w ++ v)
+    escape-ends text c spelled_so holds = record {
+      front = w ++ v;
+      decoded = h.decoded ++ encode_utf8 c;
+      escaped = h.escaped || true;
+      is = sym (append-nil (w ++ v));
+      unfinished = tt;
+      holds = holds;
+      goes = λ t i s.
+          let m = i + length h.front in
+          let end : m + length u ≡ i + length (w ++ v) =
+          omega (arith, ap length longer, length-append h.front u) in
+          so_far v t i s
+          ∙ ap (before h.decoded h.escaped)
+          (body_at-portion_by t m (part (encode_utf8 c) true (m + length u))
+          (spelled_so t m (escape-stands v t i s u longer)))
+          ∙ before-before h.decoded (encode_utf8 c) h.escaped true (body_at t (m + length u))
+          ∙ ap (λ j. before (h.decoded ++ encode_utf8 c) (h.escaped || true) (body_at t j)) end;
+    }
+
+  -- or a byte of it is wrong.
+  module _ (e : List ℕ) (b : ℕ) (open_escape : old.escape ≡ Some e) where
+    pub escape-fails : (k : FaultKind) (n : ℕ) → IsSpelled (e ++ b ∷ []) (spelled.Wrong k n) → n ≤ length e
+        → (piece : List ℕ) (at back : ℕ) → slice_get piece at ≡ Some b → back ≡ length e - n
+        → (new : OpenString) → Goes new w piece at (went.Wrong k back)
+    escape-fails k n bad few piece at back here far new = (
+      omega (arith, ap length (held-front e open_escape), length-append h.front e),
+      λ t i s there form.
+          let m = i + length h.front in
+          let long : i + length w ≡ m + length e =
+          omega (arith, ap length (held-front e open_escape), length-append h.front e) in
+          let one : Stands t (i + length w) (i + length w + 1) (b ∷ []) = (there ∙ here, refl) in
+          let end : i + length w + 1 ≡ i + length (w ++ b ∷ []) = omega (arith, length-append w (b ∷ [])) in
+          let all : Stands t i (i + length (w ++ b ∷ [])) (w ++ b ∷ []) =
+          subst (λ j. Stands t i j (w ++ b ∷ [])) end
+          (stands-append t i (i + length w) (i + length w + 1) w (b ∷ []) s one) in
+          let place : m + n ≡ i + length w - back = omega arith in
+          let is = held-more e (b ∷ []) open_escape in
+          stops-so t i m h.decoded h.escaped (h.goes t i s) (wrong (fault_kind k) (m + n))
+          (bad t m (escape-stands (b ∷ []) t i all (e ++ b ∷ []) is)) form
+          ∙ ap (failed (fault_kind k)) place,
+    )
+
+  -- Closed, the string is what was decoded, as far as it is a text,
+  pub closed-text : old.escape ≡ None → (keep : Bool) (t : List ℕ) (i : ℕ) → Stands t i (i + length w) w
+      → slice_get t (i + length w) ≡ Some 34
+      → content_at (text_form keep) t i ≡ checked keep i h.escaped h.decoded (i + length w + 1)
+  closed-text none keep t i s quote =
+      let m = i + length h.front in
+      let same : m ≡ i + length w = omega (arith, ap length (all-front none)) in
+      let byte : slice_get t m ≡ Some 34 = ap (slice_get t) same ∙ quote in
+      stops-so t i m h.decoded h.escaped (h.goes t i s) (closed (m + 1)) (portion_by-quote t m byte) (text_form keep)
+      ∙ string_closed keep t i (h.decoded ++ []) (h.escaped || false) (m + 1)
+      ∙ ap₂ (λ d o. checked keep i o d (m + 1)) (append-nil h.decoded) (or-none h.escaped)
+      ∙ ap (λ x. checked keep i h.escaped h.decoded (x + 1)) same
+
+  -- and where the input ends behind it,
+  module _ (t : List ℕ) (i : ℕ) (s : Stands t i (i + length w) w) (end : length t ≡ i + length w) where
+    abbrev from : ℕ
+    from = i + length h.front
+
+    -- what was decoded is kept, or the end is told
+    abbrev IsEnded : Option (List ℕ) → Type 0
+    IsEnded o =
+        (content_at kept t i ≡ checked true i (h.escaped || is_some o) h.decoded (i + length w))
+        × (content_at whole t i ≡ failed eof_string (i + length w))
+
+    ended-at : (x : Stop) → portion_at t from ≡ over x → (form : Form)
+        → content_at form t i ≡ text_in_form form t i h.decoded (h.escaped || is_cut x) x
+    ended-at x e form =
+        stops-so t i from h.decoded h.escaped (h.goes t i s) x e form
+        ∙ ap (λ d. text_in_form form t i d (h.escaped || is_cut x) x) (append-nil h.decoded)
+
+    ended-by : (o : Option (List ℕ)) → old.escape ≡ o → IfSome o (λ e. portion_at e 0 ≡ over cut) → IsEnded o
+    ended-by None none u =
+        let past : length t ≤ from = omega (arith, ap length (all-front none)) in
+        let stop = portion_by-end t from past in (
+          ended-at unclosed stop kept ∙ ap (checked true i (h.escaped || false) h.decoded) end,
+          ended-at unclosed stop whole ∙ ap (failed eof_string) end,
+        )
+    ended-by (Some e) open_escape u =
+        let all : i + length w ≡ from + length e =
+        omega (arith, ap length (held-front e open_escape), length-append h.front e) in
+        let split =
+        stands-split t i (i + length w) h.front e
+        (subst (λ x. Stands t i (i + length w) x) (held-front e open_escape) s) in
+        let there : Stands t from (i + length w) e =
+        subst (λ j. Stands t j (i + length w) e) (stands-length t i split.0 h.front split.1) split.2 in
+        let stop = spelled-cut e t from (subst (λ j. Stands t from j e) all there) (end ∙ all) u in (
+          ended-at cut stop kept ∙ ap (checked true i (h.escaped || true) h.decoded) end,
+          ended-at cut stop whole ∙ ap (failed eof_string) end,
+        )
+
+    pub ended : IsEnded old.escape
+    ended = ended-by old.escape refl h.unfinished
+
+  -- Where no escape is open a control character is wrong,
+  pub control-fails : (new : OpenString) (piece : List ℕ) (at b : ℕ) (k : FaultKind) → old.escape ≡ None
+      → slice_get piece at ≡ Some b → b < 32 → fault_kind k ≡ control_character
+      → Goes new w piece at (went.Wrong k 0)
+  control-fails new piece at b k none here low kind = (
+    omega arith,
+    λ t i s there form.
+        let m = i + length h.front in
+        let same : m ≡ i + length w = omega (arith, ap length (all-front none)) in
+        let place : m ≡ i + length w - 0 = omega arith in
+        let byte : slice_get t m ≡ Some b = ap (slice_get t) same ∙ there ∙ here in
+        stops-so t i m h.decoded h.escaped (h.goes t i s) (wrong control_character m)
+        (control-stops t m b byte low) form
+        ∙ ap (λ x. failed x m) (sym kind) ∙ ap (failed (fault_kind k)) place,
+  )
+
+  -- an escape that is whole is its character,
+  pub escape-whole : (piece : List ℕ) (at end c n : ℕ) (text : SoFar) (o : Option (List ℕ)) → o ≡ None
+      → old.escape ≡ None → part (encode_utf8 c) true end ≡ portion_at piece at → n ≡ end - at
+      → HoldsText text (h.decoded ++ encode_utf8 c)
+      → HasTaken (record { text = text; escape = o }) (w ++ slice_range piece at (at + n))
+  escape-whole piece at end c n text o closed_escape none found size holds =
+      let e = subst (Explains piece at) (sym found) (portion_at-explains piece at) in
+      let v = slice_range piece at (at + n) in
+      let until : end ≡ at + n = omega (arith, e.ahead) in
+      let bytes : v ≡ e.bytes =
+      ap (slice_range piece at) (sym until) ∙ sym (slice-stands piece at end e.bytes e.stands) in
+      record {
+        front = w ++ v;
+        decoded = h.decoded ++ encode_utf8 c;
+        escaped = h.escaped || true;
+        is = sym (ap (λ x. (w ++ v) ++ held_bytes x) closed_escape ∙ append-nil (w ++ v));
+        unfinished = subst (λ x. IfSome x (λ e. portion_at e 0 ≡ over cut)) (sym closed_escape) tt;
+        holds = holds;
+        goes = λ t i s.
+            let m = i + length w in
+            let j = i + length (w ++ v) in
+            let same : i + length h.front ≡ m = omega (arith, ap length (all-front none)) in
+            let there : portion_at t m ≡ part (encode_utf8 e.character) true j =
+            portion_by-escape t m j e.character e.bytes e.escape (subst (Stands t m j) bytes (rest-stand v t i s)) in
+            so_far v t i s
+            ∙ ap (λ j. before h.decoded h.escaped (body_at t j)) same
+            ∙ ap (before h.decoded h.escaped)
+            (body_at-portion_by t m (part (encode_utf8 c) true j) (there ∙ ap (λ x. part x true j) (sym e.is)))
+            ∙ before-before h.decoded (encode_utf8 c) h.escaped true (body_at t j);
+      }
+
+  -- and plain bytes stand for themselves.
+  pub plain-goes : (v : List ℕ) (text : SoFar) (o : Option (List ℕ)) → o ≡ None → old.escape ≡ None → Pass is_plain v
+      → HoldsText text (h.decoded ++ v) → HasTaken (record { text = text; escape = o }) (w ++ v)
+  plain-goes v text o closed_escape none pass holds = record {
+    front = w ++ v;
+    decoded = h.decoded ++ v;
+    escaped = h.escaped || false;
+    is = sym (ap (λ x. (w ++ v) ++ held_bytes x) closed_escape ∙ append-nil (w ++ v));
+    unfinished = subst (λ x. IfSome x (λ e. portion_at e 0 ≡ over cut)) (sym closed_escape) tt;
+    holds = holds;
+    goes = λ t i s.
+        let same : i + length h.front ≡ i + length w = omega (arith, ap length (all-front none)) in
+        so_far v t i s
+        ∙ ap (λ j. before h.decoded h.escaped (body_at t j)) same
+        ∙ ap (before h.decoded h.escaped)
+        (bytes-read t (i + length w) (i + length (w ++ v)) v (plain-all v pass) (rest-stand v t i s))
+        ∙ before-before h.decoded v h.escaped false (body_at t (i + length (w ++ v)));
+  }
+
+-- A range within the front of a piece is one of the piece.
+pub near-range : (piece : List ℕ) (at end stop : ℕ) → end ≤ length piece → at ≤ stop → stop ≤ length (take end piece)
+    → slice_range (take end piece) at stop
+    ≡ slice_range piece at (at + length (slice_range (take end piece) at stop))
+near-range piece at end stop within ahead inside =
+    let front = front-length piece end within in
+    let size : length (slice_range (take end piece) at stop) ≡ stop - at =
+    omega (arith, length-take (stop - at) (drop at (take end piece)), length-drop at (take end piece)) in
+    let same : stop ≡ at + length (slice_range (take end piece) at stop) = omega arith in
+    front-range piece end within at stop ahead (omega arith) ∙ ap (slice_range piece at) same
+
+-- what is found of an escape is behind its backslash, and within the piece
+pub escape-ahead : (piece : List ℕ) (at end c : ℕ) → part (encode_utf8 c) true end ≡ portion_at piece at
+    → (at < end) × (end ≤ length piece)
+escape-ahead piece at end c found =
+    let e = subst (Explains piece at) (sym found) (portion_at-explains piece at) in (e.ahead, e.within)
+
+-- no escape is open where it was asked for
+pub none_open : (o : Option (List ℕ)) (b : Bool) → b ≡ is_some o → b ≡ false → o ≡ None
+none_open None b is answer = refl
+none_open (Some e) b is answer = absurd (false≢true (sym answer ∙ is))

@@ -1,0 +1,186 @@
+//! Strings that arrive in pieces (RFC 8259, 7 and 8.1): each byte is looked at once, wherever a piece ends, within a
+//! character or an escape too.
+ghost use Rattle.std.specs.Prelude.{◌≡◌, ◌+◌, ◌<◌, ◌≤◌, [], IfOk, List, None, OnErr, Some, length};
+ghost use Rattle.std.specs.Prelude.{◌||◌, is_some, slice_get, slice_index, slice_range, string_bytes, true, ℕ};
+ghost use Rattle.jiter_scan.specs.Ascii as ascii;
+ghost use Rattle.jiter_scan.specs.Kind.{eof_string};
+ghost use Rattle.jiter_scan.specs.Scan.{Pass, is_plain};
+ghost use Rattle.jiter_scan.specs.Scanned.{failed};
+ghost use Rattle.jiter_steps.specs.OpenString.{Goes, HasTaken, IsPart, Wherever, text_or};
+ghost use Rattle.jiter_steps.specs.OpenText.{with_text};
+ghost use Rattle.jiter_steps.specs.StringReading.{content_at, kept, text_form, whole};
+
+use crate::escape::{AtStop, next_portion};
+use crate::open_escape::{OpenEscape, Spelled};
+use crate::open_text::{FEW, OpenText};
+use jiter_scan::errors::FaultKind;
+use jiter_scan::memory::Refused;
+use jiter_scan::simd::string_stop;
+use std::alloc::Global;
+
+/// What the next bytes are to a string.
+#[derive(Clone, Copy, Debug, PartialEq, Eq)]
+pub enum Went {
+    /// So many of them are taken.
+    Taken(usize),
+    /// The first one is the closing quote.
+    Quote,
+    /// A byte is wrong that stands so many before the first one.
+    Wrong(FaultKind, usize),
+}
+
+/// A string whose opening quote was read, and not its closing one.
+#[derive(Drop)]
+pub struct OpenString {
+    text: OpenText,
+    escape: Option<OpenEscape>,
+}
+
+// The plain bytes from a place on, at most so many.
+fn plain_run(piece: &[u8], at: usize, most: usize) -> &[u8]
+    requires within { at < length piece.now }
+    requires most { 0 < most }
+    requires plain { is_plain (slice_index piece.now at) ≡ true }
+    ensures plain { Pass is_plain result.now }
+    ensures is { result.now ≡ slice_range piece.now at (at + length result.now) }
+    ensures some { 0 < length result.now }
+    ensures within { at + length result.now ≤ length piece.now }
+{
+    let near = &piece[..at + (piece.len() - at).min(most)];
+    &near[at..string_stop(near, at)]
+}
+
+impl OpenString {
+    /// Behind its opening quote. It takes no memory.
+    pub fn new(alloc: Global) -> OpenString
+        ensures { HasTaken result [] }
+    {
+        OpenString {
+            text: OpenText::new(alloc),
+            escape: None,
+        }
+    }
+
+    // Takes the next byte of an escape.
+    fn spell(&mut self, piece: &[u8], at: usize) -> Result<Went, Refused>
+        requires within { at < length piece.now }
+        requires open { ¬ (self.old.escape ≡ None) }
+        ensures goes { (w : List ℕ) → HasTaken self.old w → IfOk result (Goes self.new w piece.now at) }
+        ensures part { IfOk result (IsPart piece.now at) }
+        ensures refused { OnErr result (self.new ≡ self.old) }
+    {
+        let Some(escape) = &mut self.escape else {
+            unreachable!();
+        };
+        match escape.next(piece[at]) {
+            Spelled::Part => {}
+            Spelled::Whole(c) => {
+                self.text.add_char(c)?;
+                self.escape = None;
+            }
+            Spelled::Wrong(kind, behind) => {
+                return Ok(Went::Wrong(kind, escape.count() - behind));
+            }
+        }
+        Ok(Went::Taken(1))
+    }
+
+    // Takes an escape, or its backslash where the piece ends within it or it is wrong.
+    fn take_escape(&mut self, piece: &[u8], at: usize) -> Result<Went, Refused>
+        requires within { at < length piece.now }
+        requires none { self.old.escape ≡ None }
+        requires backslash { slice_get piece.now at ≡ Some ascii.backslash }
+        ensures goes { (w : List ℕ) → HasTaken self.old w → IfOk result (Goes self.new w piece.now at) }
+        ensures part { IfOk result (IsPart piece.now at) }
+        ensures refused { OnErr result (self.new ≡ self.old) }
+    {
+        match next_portion(piece, at) {
+            AtStop::Escape(c, end) => {
+                self.text.add_char(c)?;
+                Ok(Went::Taken(end - at))
+            }
+            AtStop::End(_) => {
+                self.escape = Some(OpenEscape::new());
+                Ok(Went::Taken(1))
+            }
+        }
+    }
+
+    // Takes plain bytes.
+    fn plain(&mut self, piece: &[u8], at: usize) -> Result<Went, Refused>
+        requires within { at < length piece.now }
+        requires none { self.old.escape ≡ None }
+        requires plain { is_plain (slice_index piece.now at) ≡ true }
+        ensures goes { (w : List ℕ) → HasTaken self.old w → IfOk result (Goes self.new w piece.now at) }
+        ensures part { IfOk result (IsPart piece.now at) }
+        ensures refused { OnErr result (self.new ≡ self.old) }
+    {
+        let most = if self.text.is_unfinished() {
+            FEW
+        } else {
+            piece.len()
+        };
+        let run = plain_run(piece, at, most);
+        let count = self.text.add(run)?;
+        Ok(Went::Taken(count))
+    }
+
+    /// Takes bytes of a piece, from the place `at` on, and says how many, or what ends the string there. Where memory
+    /// is refused, nothing changes.
+    pub fn next(&mut self, piece: &[u8], at: usize) -> Result<Went, Refused>
+        requires { at < length piece.now }
+        ensures goes { (w : List ℕ) → HasTaken self.old w → IfOk result (Goes self.new w piece.now at) }
+        ensures part { IfOk result (IsPart piece.now at) }
+        ensures refused { OnErr result (self.new ≡ self.old) }
+    {
+        if self.escape.is_some() {
+            return self.spell(piece, at);
+        }
+        match piece[at] {
+            b'"' => Ok(Went::Quote),
+            b'\\' => self.take_escape(piece, at),
+            0..=31 => Ok(Went::Wrong(FaultKind::ControlCharacterWhileParsingString, 0)),
+            _ => self.plain(piece, at),
+        }
+    }
+
+    /// Whether the string is a text where it ends: all of its bytes, or, of one that is kept, as far as its whole
+    /// characters. It ends with its quote, if no escape is open, or with the input, in which a string is kept or
+    /// fails. Where it is none, a byte is wrong behind the characters so far.
+    pub fn is_text(&self, keep: bool) -> bool
+        ensures closed { (w : List ℕ) → (h : HasTaken self.now w) → self.now.escape ≡ None
+            → Wherever w (λ t i j. slice_get t j ≡ Some ascii.quote
+            → content_at (text_form keep) t i ≡ text_or result i h.escaped self.now.text.text (j + 1)) }
+        ensures cut { (w : List ℕ) → (h : HasTaken self.now w) → keep ≡ true → Wherever w (λ t i j. length t ≡ j
+            → content_at kept t i
+            ≡ text_or result i (h.escaped || is_some self.now.escape) self.now.text.text j) }
+        ensures unclosed { (w : List ℕ) → HasTaken self.now w → Wherever w (λ t i j. length t ≡ j
+            → content_at whole t i ≡ failed eof_string j) }
+    {
+        self.text.is_text(keep)
+    }
+
+    /// The characters so far.
+    pub fn text(&self) -> &str
+        ensures { result.now ≡ self.now.text.text }
+    {
+        self.text.text()
+    }
+
+    /// Takes the characters so far out, to be shown, and leaves none in their place. It takes no memory.
+    pub fn take_text(&mut self) -> String
+        ensures text { string_bytes result ≡ self.old.text.text }
+        ensures rest { self.new.text ≡ with_text self.old.text [] }
+        ensures escape { self.new.escape ≡ self.old.escape }
+    {
+        self.text.take_text()
+    }
+
+    /// Puts characters in the place of those so far, as [`take_text`](OpenString::take_text) gave them.
+    pub fn give_back(&mut self, text: String)
+        ensures text { self.new.text ≡ with_text self.old.text (string_bytes text) }
+        ensures escape { self.new.escape ≡ self.old.escape }
+    {
+        self.text.give_back(text);
+    }
+}
