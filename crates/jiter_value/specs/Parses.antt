@@ -1,6 +1,6 @@
 -- What a parse promises.
-use Rattle.std.specs.Prelude.{◌≡◌, ◌⊎◌, ℕ, ◌+◌, ◌≤◌, Bool, true, List, ◌++◌, length, take, Option, Some, Result, Ok, Err}
-use Rattle.std.specs.Prelude.{IfOk, IfErr, MatchResult}
+use Rattle.std.specs.Prelude.{◌≡◌, ◌⊎◌, ℕ, ◌+◌, ◌≤◌, Bool, true, List, ◌++◌, length, take, Option, Some, Result, Ok}
+use Rattle.std.specs.Prelude.{Err, IfOk, IfErr, MatchResult}
 use Rattle.std.specs.Option.{option_map}
 use Rattle.jiter_scan.specs.Kind.{Kind, kind_of, is_end_kind}
 use Rattle.jiter_scan.specs.PartialMode.{is_active}

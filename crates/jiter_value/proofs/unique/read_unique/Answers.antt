@@ -47,4 +47,5 @@ returns-in-Err-run_unique-clause-place c =
 
 pub returns-in-Err-finish_whole-clause-place : goal.returns-in-Err-finish_whole-clause-place
 returns-in-Err-finish_whole-clause-place c =
-    refused-weaker {X = JsonValue} (Err c.in-Err-finish_whole.error) ⊥ _ (λ h. absurd h) c.in-Err-finish_whole.ensures.memory
+    refused-weaker {X = JsonValue} (Err c.in-Err-finish_whole.error) ⊥ _ (λ h. absurd h)
+    c.in-Err-finish_whole.ensures.memory

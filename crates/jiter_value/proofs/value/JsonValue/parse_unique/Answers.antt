@@ -17,7 +17,8 @@ returns-in-Ok c =
     record {
       found = read.found;
       accepts = read.accepts;
-      answer = subst (AnswersBy (refusing_repeats names) (Ok v)) (as_read-is (unique_answer_in names mode t)) read.answer;
+      answer = subst (AnswersBy (refusing_repeats names) (Ok v)) (as_read-is (unique_answer_in names mode t))
+          read.answer;
       parses = read;
     }
 
@@ -36,6 +37,7 @@ returns c =
     record {
       found = read.found;
       accepts = read.accepts;
-      answer = subst (AnswersBy (refusing_repeats names) (Err e)) (as_read-is (unique_answer_in names mode t)) read.answer;
+      answer = subst (AnswersBy (refusing_repeats names) (Err e)) (as_read-is (unique_answer_in names mode t))
+          read.answer;
       parses = read;
     }
