@@ -13,6 +13,9 @@ pub use Rattle.jiter_steps.specs.Tree.{Tree, Text, Items, Members, items_of}
 pub use Rattle.jiter_scan.specs.PartialMode.{allows_trailing_strings, is_active, mode_from}
 pub use Rattle.jiter_steps.specs.Cut.{IsBegunContainer, cut}
 pub use Rattle.jiter_steps.specs.Extends.{Extends, CutsNoNumber}
+-- Documents in which no object has a key twice.
+pub use Rattle.jiter_steps.specs.Unique.{BeginsNoUniqueDocument, HasNoKey, HasUniqueKeys, IsUniqueDocument}
+pub use Rattle.jiter_steps.specs.Unique.{unique_answer, unique_answer_in}
 -- What is read from the left, and why it is refused.
 pub use Rattle.jiter_scan.specs.Kind.{Kind, kind_of, kind_text, is_end_kind, is_memory}
 pub use Rattle.jiter_scan.specs.NumberReading.{begins_number, int_alone, int_at, number_alone, number_at}
@@ -39,8 +42,11 @@ pub use Rattle.jiter_value.specs.Machine.{Progress, held, left}
 pub use Rattle.jiter_value.specs.Owned.{HoldSame, HoldsBorrowedTextOrPart, HoldsOwnedTextOrPart, HoldsTextOrPart}
 pub use Rattle.jiter_value.specs.Owned.{OwnedMayGrow, ReadHolds, owned_tree}
 pub use Rattle.jiter_value.specs.Parses.{Parses, as_read, reading_as}
+pub use Rattle.jiter_value.specs.Parses.{AnswersBy, BeginsNone, Manner, ParsesBy, keeping_repeats}
+pub use Rattle.jiter_value.specs.ParsesUnique.{ParsesUnique, refusing_repeats}
 pub use Rattle.jiter_value.specs.Scratch.{Lists}
 pub use Rattle.jiter_value.specs.TurnsTo.{GoesOn, TurnsTo}
+pub use Rattle.jiter_value.specs.UniqueErrors.{IsDuplicateKey, IsMemoryRefused, unique_kind}
 pub use Rattle.jiter_value.specs.Value.{Answers, MayGrow, MayGrowAt}
 -- The pull reader: what its calls reply, and where they leave it.
 pub use Rattle.jiter.specs.Cause.{Cause, ValueType, is_memory_cause, json_error, wrong_type}
@@ -72,4 +78,6 @@ pub use Rattle.jiter_scan.specs.declared.errors.JsonErrorType.{JsonErrorType}
 pub use Rattle.jiter_scan.specs.declared.partial_mode.PartialMode.{PartialMode}
 pub use Rattle.jiter_steps.specs.declared.parse.Literal.{Literal}
 pub use Rattle.jiter_steps.specs.declared.parse.Start.{Start}
+pub use Rattle.jiter_value.specs.declared.unique_error.UniqueError.{UniqueError}
+pub use Rattle.jiter_value.specs.declared.unique_error.UniqueErrorType.{UniqueErrorType}
 pub use Rattle.jiter_value.specs.declared.value.JsonValue.{JsonValue}

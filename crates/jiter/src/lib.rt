@@ -21,5 +21,6 @@ pub use jiter_scan::{
 };
 pub use jiter_value::{
     JsonArray, JsonObject, JsonValue, JsonValueScratch, Machine, NumberText, ShortText, Turn,
+    UniqueError, UniqueErrorType,
 };
 pub use peek::Peek;

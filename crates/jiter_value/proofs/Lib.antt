@@ -2,7 +2,10 @@ pub mod MadeTexts
 pub mod LentTexts
 pub mod WholeTextAnswers
 pub mod StackTurns
+pub mod QuotedKeys
+pub mod ParsedBy
 pub mod ParsedDocuments
+pub mod ParsedUnique
 pub mod Pins
 pub mod TurnOutcomes
 pub mod Sizes

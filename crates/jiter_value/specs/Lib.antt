@@ -1,5 +1,8 @@
 pub mod NumberText
 pub mod Access
+pub mod QuotedKeys
+pub mod UniqueErrors
+pub mod ParsesUnique
 pub mod UniqueKeys
 pub mod Value
 pub mod Settings

@@ -2,7 +2,7 @@
 use Rattle.std.specs.Prelude.{◌≡◌, ℕ, Bool, List, [], ◌∷◌, reverse, Result, Ok, Err, Some, string_bytes}
 use Rattle.std.specs.List.{list_any}
 use Rattle.std.specs.Str.{bytes_eq}
-use Rattle.jiter_scan.specs.Kind.{Kind, duplicate_key}
+use Rattle.jiter_scan.specs.Kind.{Kind, fault_kind, duplicate_key}
 use Rattle.jiter_steps.specs.Parse.{Gives}
 use Rattle.jiter_steps.specs.Read.{Reading, done, fault}
 use Rattle.jiter_steps.specs.ReadError.{WhereRefused}
@@ -12,12 +12,14 @@ use Rattle.jiter_steps.specs.declared.read_error.ReadError.TheVariants as error
 use Rattle.jiter_value.specs.Reading.{GivesWhole}
 use Rattle.jiter_value.specs.Settings.{lent_unique}
 use Rattle.jiter_value.specs.Stacks.{Member, refused_in}
+use Rattle.jiter_value.specs.UniqueErrors.{unique_kind, IsMemoryRefused}
 use Rattle.jiter_value.specs.Value.{view}
 use Rattle.jiter_value.specs.declared.stacks.Open.{Open}
 use Rattle.jiter_value.specs.declared.stacks.Stacks.{Stacks}
 use Rattle.jiter_value.specs.declared.turns.unique.Repeated.{Repeated}
 use Rattle.jiter_value.specs.declared.turns.unique.Stopped.{Stopped}
 use Rattle.jiter_value.specs.declared.turns.unique.Stopped.TheVariants as stopped
+use Rattle.jiter_value.specs.declared.unique_error.UniqueError.{UniqueError}
 use Rattle.jiter_value.specs.declared.value.JsonValue.{JsonValue}
 
 -- one of the members has this key
@@ -57,3 +59,11 @@ abbrev pub GivesUniqueWhole : Result JsonValue Stopped → ℕ → Reading Tree 
 GivesUniqueWhole (Ok v) i r = (e : ℕ) × (r ≡ done (view v) e)
 GivesUniqueWhole (Err (stopped.Read e)) i r = GivesWhole (Err e) i r
 GivesUniqueWhole (Err (stopped.Repeated k)) i r = r ≡ fault (duplicate_key (string_bytes k.key)) k.index i
+
+-- The error that the public call answers, where the reader stands at i: the fault, the key, or want of memory there.
+abbrev pub IsUniqueErrorOf : Stopped → ℕ → UniqueError → Type 0
+IsUniqueErrorOf (stopped.Read (error.Fault f)) i e =
+    (unique_kind e.error_type ≡ fault_kind f.kind) × (e.index ≡ f.index)
+IsUniqueErrorOf (stopped.Read (error.Memory m)) i e = IsMemoryRefused e.error_type × (e.index ≡ i)
+IsUniqueErrorOf (stopped.Repeated k) i e =
+    (unique_kind e.error_type ≡ duplicate_key (string_bytes k.key)) × (e.index ≡ k.index)

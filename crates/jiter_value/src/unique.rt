@@ -1,18 +1,24 @@
 //! The value of a whole text in which no object has a key twice.
-ghost use Rattle.std.specs.Prelude.{◌≡◌};
+ghost use Rattle.std.specs.Prelude.{◌≡◌, ◌≤◌, IfOk, MatchResult};
 ghost use Rattle.jiter_steps.specs.Blank.{past_blanks};
+ghost use Rattle.jiter_steps.specs.Node.{Node, value_of};
 ghost use Rattle.jiter_steps.specs.Parse.{Moves};
-ghost use Rattle.jiter_steps.specs.Unique.{unique_answer_in};
+ghost use Rattle.jiter_steps.specs.Unique.{IsUniqueDocument, unique_answer_in};
+ghost use Rattle.jiter_value.specs.Parses.{AnswersBy};
+ghost use Rattle.jiter_value.specs.ParsesUnique.{ParsesUnique, refusing_repeats};
 ghost use Rattle.jiter_value.specs.Scratch.{HoldsNothing};
-ghost use Rattle.jiter_value.specs.UniqueKeys.{GivesUniqueWhole, WhereUniqueRefused};
-ghost use Rattle.jiter_value.specs.Value.{MayGrowBy};
+ghost use Rattle.jiter_value.specs.UniqueErrors.{IsMemoryRefused};
+ghost use Rattle.jiter_value.specs.UniqueKeys.{GivesUniqueWhole, IsUniqueErrorOf, WhereUniqueRefused};
+ghost use Rattle.jiter_value.specs.Value.{view, MayGrowBy};
 
-use crate::reading::finish_whole;
+use crate::reading::{error_at, finish_whole};
 use crate::settings::Settings;
 use crate::stacks::Stacks;
 use crate::texts::Distinct;
 use crate::turns::unique::{Stopped, run_unique};
+use crate::unique_error::{UniqueError, UniqueErrorType};
 use crate::value::JsonValue;
+use jiter_scan::PartialMode;
 use jiter_steps::parse::Parser;
 use jiter_steps::read_error::ReadError;
 use std::alloc::Global;
@@ -33,6 +39,7 @@ pub(crate) fn read_unique<'j>(
         (unique_answer_in settings.allow_inf_nan settings.mode parser.old.bytes.now) }
     ensures memory { WhereUniqueRefused result
         (MayGrowBy ⊥ parser.old.bytes.now (past_blanks parser.old.bytes.now 0)) }
+    ensures place { WhereUniqueRefused result (past_blanks parser.old.bytes.now 0 ≤ parser.new.index) }
 {
     if let Err(fault) = parser.value_first() {
         return Err(Stopped::Read(ReadError::Fault(fault)));
@@ -46,5 +53,57 @@ pub(crate) fn read_unique<'j>(
             Ok(whole) => Ok(whole),
             Err(error) => Err(Stopped::Read(error)),
         },
+    }
+}
+
+/// The error that a parse answers which stopped, where the reader stands at `index`.
+#[cold]
+fn unique_error_at(stopped: Stopped, index: usize) -> UniqueError
+    ensures { IsUniqueErrorOf stopped index result }
+{
+    match stopped {
+        Stopped::Read(error) => UniqueError::from(error_at(error, index)),
+        Stopped::Repeated(repeated) => UniqueError {
+            error_type: UniqueErrorType::DuplicateKey(repeated.key),
+            index: repeated.index,
+        },
+    }
+}
+
+impl<'j> JsonValue<'j> {
+    /// What [`JsonValue::parse_with_config`] answers, but a key whose characters, decoded, are those of a key that
+    /// its object has already is refused, in every mode, at the byte behind its colon: before the value and the
+    /// blanks before it are looked at. The key's own faults and a missing colon come first.
+    ///
+    /// From its seventeenth member on the keys of an object go into an ordered set, which takes memory.
+    pub fn parse_unique(
+        alloc: Global,
+        bytes: &'j [u8],
+        allow_inf_nan: bool,
+        allow_partial: PartialMode,
+    ) -> Result<JsonValue<'j>, UniqueError>
+        // With partial reading off the value is that of a document whose objects have no key twice.
+        ensures found { allow_partial ≡ PartialMode.Off → IfOk result (λ v. (n : Node)
+            × IsUniqueDocument allow_inf_nan bytes.now n × (value_of bytes.now n ≡ view v)) }
+        // In every mode such a document is answered with its value, unless memory is refused.
+        ensures accepts { (n : Node) → IsUniqueDocument allow_inf_nan bytes.now n → MatchResult result
+            (λ v. view v ≡ value_of bytes.now n) (λ e. IsMemoryRefused e.error_type) }
+        // On any bytes: the reading from the left that refuses a repeated key, in this mode.
+        ensures answer { AnswersBy (refusing_repeats allow_inf_nan) result
+            (unique_answer_in allow_inf_nan allow_partial bytes.now) }
+        // What every parse promises, of such documents, the places of its faults and its memory among it.
+        ensures parses { ParsesUnique allow_inf_nan allow_partial bytes.now result }
+    {
+        let settings = Settings {
+            allow_inf_nan,
+            mode: allow_partial,
+        };
+        let mut tape = Vec::new(alloc);
+        let mut stacks = Stacks::new(alloc);
+        let mut parser = Parser::new(bytes);
+        match read_unique(alloc, &mut tape, &mut stacks, &mut parser, settings) {
+            Ok(value) => Ok(value),
+            Err(stopped) => Err(unique_error_at(stopped, parser.index)),
+        }
     }
 }

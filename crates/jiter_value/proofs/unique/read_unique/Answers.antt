@@ -1,6 +1,8 @@
-use Rattle.std.proofs.Common.{◌∙◌, refl, ap, Err}
+use Rattle.std.proofs.Common.{◌∙◌, refl, ap, arith, Err}
 use Rattle.jiter_scan.specs.Kind.{fault_kind}
-use Rattle.jiter_value.proofs.Repeats.{whole-none, whole-stopped, whole-given}
+use Rattle.jiter_value.specs.declared.value.JsonValue.{JsonValue}
+use Rattle.jiter_value.proofs.Repeats.{stops-grows, whole-none, whole-stopped, whole-given}
+use Rattle.jiter_value.proofs.TurnOutcomes.{refused-weaker}
 use Rattle.jiter_value.proofs.WholeTextAnswers.{value-begins-at}
 use Rattle.jiter_value.proofs.unique.read_unique.Goals as goal
 
@@ -35,3 +37,15 @@ returns-in-Err-finish_whole-clause-value c =
     let second = ap (λ b. b.now) c.in-Ok.ensures.moves.same in
     whole-given c.args.settings c.args.parser.now.bytes.now (Err c.in-Err-finish_whole.error) _
     (rw (second ∙ first) at c.in-Err-finish_whole.ensures.value)
+
+pub returns-in-Err-run_unique-clause-place : goal.returns-in-Err-run_unique-clause-place
+returns-in-Err-run_unique-clause-place c =
+    let begun = c.in_default.ensures in
+    let at = value-begins-at c.args.parser.now.bytes.now c.value_first.new.self.index
+    (rw c.requires.begins at begun.value) in
+    stops-grows c.in-Err-run_unique.stopped _ (omega (arith, at, c.in-Err-run_unique.ensures.moves.forward))
+
+pub returns-in-Err-finish_whole-clause-place : goal.returns-in-Err-finish_whole-clause-place
+returns-in-Err-finish_whole-clause-place c =
+    refused-weaker {X = JsonValue} (Err c.in-Err-finish_whole.error) ⊥ _ (λ h. absurd h)
+    c.in-Err-finish_whole.ensures.memory

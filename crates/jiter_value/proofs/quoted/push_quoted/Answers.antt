@@ -1,0 +1,6 @@
+use Rattle.std.proofs.Common.{refl}
+use Rattle.std.proofs.lemmas.Str.{IsCharBoundary-start}
+use Rattle.jiter_value.proofs.quoted.push_quoted.Goals as goal
+
+pub loop-at-init : goal.loop-at-init
+loop-at-init c = record { boundary = IsCharBoundary-start c.args.key.now c.utf8.key; printed = refl }

@@ -1,0 +1,147 @@
+//! Why a parse refuses that refuses repeated keys, and its texts.
+ghost use Rattle.std.specs.Prelude.{◌≡◌, Some, IfOk, OnErr, string_bytes};
+ghost use Rattle.jiter_scan.specs.Kind.{is_memory, kind_text};
+ghost use Rattle.jiter_scan.specs.Position.{at_index, description_text, position_of};
+ghost use Rattle.jiter_value.specs.UniqueErrors.{unique_kind, IsDuplicateKey};
+
+use crate::quoted::{push_quoted, write_quoted};
+use jiter_scan::errors::{kind_text, push_position};
+use jiter_scan::memory::{Refused, copy_text, push_text};
+use jiter_scan::{JsonError, JsonErrorType, LinePosition};
+use std::alloc::{AllocError, Global};
+use std::error::Error;
+use std::fmt;
+
+/// Why [`crate::JsonValue::parse_unique`] refuses bytes.
+#[derive(Debug, PartialEq, Eq, Drop)]
+pub enum UniqueErrorType {
+    /// A fault of the bytes, or want of memory.
+    JsonError(JsonErrorType),
+    /// A key that its object has already (RFC 8259, 4): its characters, decoded.
+    DuplicateKey(String),
+}
+
+/// A refusal of [`crate::JsonValue::parse_unique`]: why, and the byte index (from 0) that it stands at, of a
+/// repeated key the one behind its colon.
+#[derive(Debug, PartialEq, Eq, Drop)]
+pub struct UniqueError {
+    /// Why the bytes are refused.
+    pub error_type: UniqueErrorType,
+    /// The byte index, from 0 and at most the length.
+    pub index: usize,
+}
+
+impl UniqueErrorType {
+    /// A copy. It fails only where memory for a key's characters is refused.
+    pub fn clone(&self, alloc: Global) -> Result<UniqueErrorType, AllocError>
+        ensures value { IfOk result (λ copy. unique_kind copy ≡ unique_kind self.now) }
+        ensures memory { OnErr result (IsDuplicateKey self.now) }
+    {
+        match self {
+            Self::JsonError(kind) => Ok(Self::JsonError(kind.clone()?)),
+            Self::DuplicateKey(key) => Ok(Self::DuplicateKey(copy_text(alloc, key.as_str())?)),
+        }
+    }
+
+    // What the cause prints.
+    fn describe(&self, alloc: Global) -> Result<String, Refused>
+        ensures { IfOk result (λ text. string_bytes text ≡ kind_text (unique_kind self.now)) }
+    {
+        match self {
+            Self::JsonError(kind) => copy_text(alloc, kind_text(kind)),
+            Self::DuplicateKey(key) => {
+                let mut text = copy_text(alloc, "Detected duplicate key ")?;
+                push_quoted(&mut text, key.as_str())?;
+                Ok(text)
+            }
+        }
+    }
+}
+
+impl fmt::Display for UniqueErrorType {
+    ghost output = { λ cause. Some (kind_text (unique_kind cause)) };
+
+    fn fmt<W: fmt::Write>(&self, f: &mut fmt::Formatter<W>) -> fmt::Result {
+        match self {
+            Self::JsonError(kind) => f.write_str(kind_text(kind)),
+            Self::DuplicateKey(key) => {
+                f.write_str("Detected duplicate key ")?;
+                write_quoted(f, key.as_str())
+            }
+        }
+    }
+}
+
+impl fmt::Display for UniqueError {
+    ghost output = { λ error. Some (at_index (kind_text (unique_kind error.error_type)) error.index) };
+
+    fn fmt<W: fmt::Write>(&self, f: &mut fmt::Formatter<W>) -> fmt::Result {
+        write!(f, "{} at index {}", self.error_type, self.index)
+    }
+}
+
+impl Error for UniqueError {}
+
+impl From<JsonError> for UniqueError {
+    ghost use Rattle.jiter_value.specs.declared.unique_error.UniqueErrorType.TheVariants as cause;
+
+    ghost from_gives = { λ old new. (new.error_type ≡ cause.JsonError old.error_type)
+        × (new.index ≡ old.index) };
+
+    fn from(error: JsonError) -> UniqueError {
+        UniqueError {
+            error_type: UniqueErrorType::JsonError(error.error_type),
+            index: error.index,
+        }
+    }
+}
+
+impl UniqueError {
+    /// A copy. It fails only where memory for a key's characters is refused.
+    pub fn clone(&self, alloc: Global) -> Result<UniqueError, AllocError>
+        ensures kind { IfOk result (λ copy. unique_kind copy.error_type ≡ unique_kind self.now.error_type) }
+        ensures index { IfOk result (λ copy. copy.index ≡ self.now.index) }
+        ensures memory { OnErr result (IsDuplicateKey self.now.error_type) }
+    {
+        let error_type = self.error_type.clone(alloc)?;
+        Ok(UniqueError {
+            error_type,
+            index: self.index,
+        })
+    }
+
+    /// Whether memory was refused. If not, it is a fault of the bytes.
+    pub fn is_memory(&self) -> bool
+        ensures { result ≡ is_memory (unique_kind self.now.error_type) }
+    {
+        matches!(
+            &self.error_type,
+            UniqueErrorType::JsonError(JsonErrorType::OutOfMemory)
+        )
+    }
+
+    /// The line and column of the fault in the bytes that it was found in.
+    pub fn get_position(&self, bytes: &[u8]) -> LinePosition
+        ensures { result ≡ position_of bytes.now self.now.index }
+    {
+        LinePosition::find(bytes, self.index)
+    }
+
+    /// `KIND at line L column C`. It fails only where memory is refused.
+    pub fn description(&self, alloc: Global, bytes: &[u8]) -> Result<String, AllocError>
+        ensures { IfOk result (λ text. string_bytes text
+            ≡ description_text (unique_kind self.now.error_type) self.now.index bytes.now) }
+    {
+        Ok(self.describe(alloc, bytes)?)
+    }
+
+    // The description, or the evidence that memory was refused.
+    fn describe(&self, alloc: Global, bytes: &[u8]) -> Result<String, Refused>
+        ensures { IfOk result (λ text. string_bytes text
+            ≡ description_text (unique_kind self.now.error_type) self.now.index bytes.now) }
+    {
+        let mut text = self.error_type.describe(alloc)?;
+        push_position(&mut text, &self.get_position(bytes))?;
+        Ok(text)
+    }
+}
