@@ -6,6 +6,7 @@ ghost use Rattle.jiter_scan.specs.NumberReading.{number_at};
 ghost use Rattle.jiter.specs.Cause.{json_error, wrong_type};
 ghost use Rattle.jiter.specs.Errors.{cause_of, type_of};
 ghost use Rattle.jiter.specs.Reader.{value_place, peek, next, gave, finish, number_refusal, type_refusal};
+ghost use Rattle.jiter.specs.Reader.{with_position};
 ghost use Rattle.jiter.specs.Jiter.{at_start, MovesOn, Replies, RefusesBytes, IsRefusalOf, refusal_view, IsErrorAt};
 ghost use Rattle.jiter.specs.Jiter.{StandsAt, BeginsAs, byte_of};
 
@@ -149,6 +150,21 @@ impl<'j> Jiter<'j> {
         let mut jiter = Jiter::new(bytes);
         jiter.tape = Some(tape);
         jiter
+    }
+
+    /// A reader that stands at a byte index, as one does that has read the bytes before it, with both settings off. It
+    /// asks that the index is at most the length, and takes no memory.
+    pub fn new_at(bytes: &'j [u8], index: usize) -> Jiter<'j>
+        requires { index ≤ length bytes.now }
+        ensures { result ≡ with_position (at_start bytes.now) index }
+    {
+        Jiter {
+            parser: Parser { bytes, index },
+            allow_inf_nan: false,
+            allow_partial_strings: false,
+            tape: None,
+            text: CowStr::Borrowed(""),
+        }
     }
 
     /// The buffer for decoded texts, or an empty one where none was made. Which bytes it holds is open. It

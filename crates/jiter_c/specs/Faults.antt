@@ -1,0 +1,73 @@
+-- The numbers by which C knows kinds of fault and types, as jiter_c.h lists them.
+use Rattle.std.specs.Prelude.{◌≡◌, ℕ, List, length}
+use Rattle.jiter_scan.specs.declared.errors.LinePosition.{LinePosition}
+use Rattle.jiter.specs.Cause.{Cause, ValueType, error_description}
+use Rattle.jiter_scan.specs.Kind.{Kind}
+use Rattle.jiter_c.specs.declared.faults.JiterFault.{JiterFault}
+use Rattle.jiter_c.specs.declared.faults.JiterPosition.{JiterPosition}
+
+-- the number of a kind
+abbrev pub kind_number : Kind → ℕ
+kind_number Kind.float_expecting_int = 1
+kind_number Kind.eof_list = 2
+kind_number Kind.eof_object = 3
+kind_number Kind.eof_string = 4
+kind_number Kind.eof_value = 5
+kind_number Kind.expected_colon = 6
+kind_number Kind.expected_list_comma_or_end = 7
+kind_number Kind.expected_object_comma_or_end = 8
+kind_number Kind.expected_ident = 9
+kind_number Kind.expected_value = 10
+kind_number Kind.invalid_escape = 11
+kind_number Kind.invalid_number = 12
+kind_number Kind.number_out_of_range = 13
+kind_number Kind.invalid_code_point = 14
+kind_number Kind.control_character = 15
+kind_number Kind.key_must_be_a_string = 16
+kind_number Kind.lone_surrogate = 17
+kind_number Kind.trailing_comma = 18
+kind_number Kind.trailing_characters = 19
+kind_number Kind.end_of_hex_escape = 20
+kind_number Kind.recursion_limit = 21
+kind_number Kind.out_of_memory = 22
+kind_number (Kind.duplicate_key key) = 23
+
+-- of want of memory, and of a value of another type
+abbrev pub memory_number : ℕ
+memory_number = kind_number Kind.out_of_memory
+
+abbrev pub wrong_type_number : ℕ
+wrong_type_number = 100
+
+-- the number of a type
+abbrev pub type_number : ValueType → ℕ
+type_number ValueType.null = 1
+type_number ValueType.bool = 2
+type_number ValueType.int = 3
+type_number ValueType.float = 4
+type_number ValueType.string = 5
+type_number ValueType.array = 6
+type_number ValueType.object = 7
+
+-- a cause at an index, as it is told
+abbrev pub fault_of : Cause → ℕ → JiterFault
+fault_of (Cause.json_error k) i = record { kind = kind_number k; expected = 0; actual = 0; index = i }
+fault_of (Cause.wrong_type wanted actual) i = record {
+  kind = wrong_type_number;
+  expected = type_number wanted;
+  actual = type_number actual;
+  index = i;
+}
+
+-- a fault tells of this cause
+abbrev pub TellsOf : JiterFault → Cause → Type 0
+TellsOf f (Cause.json_error k) = f.kind ≡ kind_number k
+TellsOf f (Cause.wrong_type wanted actual) =
+    (f.kind ≡ wrong_type_number) × (f.expected ≡ type_number wanted) × (f.actual ≡ type_number actual)
+
+-- `CAUSE at line L column C` of the cause that a fault of a text tells of
+abbrev pub Describes : List ℕ → JiterFault → List ℕ → Type 0
+Describes t f text = (c : Cause) × TellsOf f c × (text ≡ error_description c f.index t)
+
+abbrev pub position_view : LinePosition → JiterPosition
+position_view p = record { line = p.line; column = p.column }

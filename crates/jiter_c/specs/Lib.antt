@@ -1,0 +1,4 @@
+pub mod Documents
+pub mod Faults
+pub mod Replies
+pub mod Told

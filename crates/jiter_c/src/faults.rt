@@ -1,0 +1,203 @@
+//! Faults as C sees them, their texts, and lines and columns.
+ghost use Rattle.std.specs.Prelude.{◌≡◌, false, true, IfSome, List, ℕ, length};
+ghost use Rattle.jiter.specs.Errors.{cause_of, type_of};
+ghost use Rattle.jiter_scan.specs.Kind.{kind_of};
+ghost use Rattle.jiter_scan.specs.Position.{position_of};
+ghost use Rattle.jiter_c.specs.Faults.{Describes, TellsOf, fault_of, kind_number, position_view, type_number};
+ghost use Rattle.jiter_c.specs.Told.{written};
+
+use crate::texts::write_front;
+use jiter::{Jiter, JiterError, JiterErrorType, JsonErrorType, JsonType, LinePosition};
+use std::alloc::Global;
+
+/// The number of a fault of the bytes is 1 and more, of want of memory 22, and of another type this.
+pub const WRONG_TYPE: u32 = 100;
+
+/// Why a call refused, by the numbers of `jiter_c.h`.
+#[repr(C)]
+#[derive(Clone, Copy)]
+pub struct JiterFault {
+    /// The kind.
+    pub kind: u32,
+    /// The type that was wanted, where another one stands; else 0.
+    pub expected: u32,
+    /// The type of the value that stands there; else 0.
+    pub actual: u32,
+    /// The byte index, from 0 and at most the length.
+    pub index: usize,
+}
+
+/// A line and a column, as `jiter_c.h` says.
+#[repr(C)]
+#[derive(Clone, Copy)]
+pub struct JiterPosition {
+    /// The line, from 1.
+    pub line: usize,
+    /// The column, from 1; 0 where the index is that of no byte of the line.
+    pub column: usize,
+}
+
+// The number of a kind.
+pub fn kind_number(kind: &JsonErrorType) -> u32
+    ensures { result ≡ kind_number (kind_of kind.now) }
+{
+    match kind {
+        JsonErrorType::FloatExpectingInt => 1,
+        JsonErrorType::EofWhileParsingList => 2,
+        JsonErrorType::EofWhileParsingObject => 3,
+        JsonErrorType::EofWhileParsingString => 4,
+        JsonErrorType::EofWhileParsingValue => 5,
+        JsonErrorType::ExpectedColon => 6,
+        JsonErrorType::ExpectedListCommaOrEnd => 7,
+        JsonErrorType::ExpectedObjectCommaOrEnd => 8,
+        JsonErrorType::ExpectedSomeIdent => 9,
+        JsonErrorType::ExpectedSomeValue => 10,
+        JsonErrorType::InvalidEscape => 11,
+        JsonErrorType::InvalidNumber => 12,
+        JsonErrorType::NumberOutOfRange => 13,
+        JsonErrorType::InvalidUnicodeCodePoint => 14,
+        JsonErrorType::ControlCharacterWhileParsingString => 15,
+        JsonErrorType::KeyMustBeAString => 16,
+        JsonErrorType::LoneLeadingSurrogateInHexEscape => 17,
+        JsonErrorType::TrailingComma => 18,
+        JsonErrorType::TrailingCharacters => 19,
+        JsonErrorType::UnexpectedEndOfHexEscape => 20,
+        JsonErrorType::RecursionLimitExceeded => 21,
+        JsonErrorType::OutOfMemory => 22,
+    }
+}
+
+// The number of a type.
+fn type_number(name: &JsonType) -> u32
+    ensures { result ≡ type_number (type_of name.now) }
+{
+    match name {
+        JsonType::Null => 1,
+        JsonType::Bool => 2,
+        JsonType::Int => 3,
+        JsonType::Float => 4,
+        JsonType::String => 5,
+        JsonType::Array => 6,
+        JsonType::Object => 7,
+    }
+}
+
+// What a refusal of the reader is told as.
+pub fn fault_of(error: &JiterError) -> JiterFault
+    ensures { result ≡ fault_of (cause_of error.now.error_type) error.now.index }
+{
+    match &error.error_type {
+        JiterErrorType::JsonError(kind) => JiterFault {
+            kind: kind_number(kind),
+            expected: 0,
+            actual: 0,
+            index: error.index,
+        },
+        JiterErrorType::WrongType { expected, actual } => JiterFault {
+            kind: WRONG_TYPE,
+            expected: type_number(expected),
+            actual: type_number(actual),
+            index: error.index,
+        },
+    }
+}
+
+// The kind with a number.
+fn kind_numbered(number: u32) -> Option<JsonErrorType>
+    ensures { IfSome result (λ kind. number ≡ kind_number (kind_of kind)) }
+{
+    match number {
+        1 => Some(JsonErrorType::FloatExpectingInt),
+        2 => Some(JsonErrorType::EofWhileParsingList),
+        3 => Some(JsonErrorType::EofWhileParsingObject),
+        4 => Some(JsonErrorType::EofWhileParsingString),
+        5 => Some(JsonErrorType::EofWhileParsingValue),
+        6 => Some(JsonErrorType::ExpectedColon),
+        7 => Some(JsonErrorType::ExpectedListCommaOrEnd),
+        8 => Some(JsonErrorType::ExpectedObjectCommaOrEnd),
+        9 => Some(JsonErrorType::ExpectedSomeIdent),
+        10 => Some(JsonErrorType::ExpectedSomeValue),
+        11 => Some(JsonErrorType::InvalidEscape),
+        12 => Some(JsonErrorType::InvalidNumber),
+        13 => Some(JsonErrorType::NumberOutOfRange),
+        14 => Some(JsonErrorType::InvalidUnicodeCodePoint),
+        15 => Some(JsonErrorType::ControlCharacterWhileParsingString),
+        16 => Some(JsonErrorType::KeyMustBeAString),
+        17 => Some(JsonErrorType::LoneLeadingSurrogateInHexEscape),
+        18 => Some(JsonErrorType::TrailingComma),
+        19 => Some(JsonErrorType::TrailingCharacters),
+        20 => Some(JsonErrorType::UnexpectedEndOfHexEscape),
+        21 => Some(JsonErrorType::RecursionLimitExceeded),
+        22 => Some(JsonErrorType::OutOfMemory),
+        _ => None,
+    }
+}
+
+// The type with a number.
+fn type_numbered(number: u32) -> Option<JsonType>
+    ensures { IfSome result (λ name. number ≡ type_number (type_of name)) }
+{
+    match number {
+        1 => Some(JsonType::Null),
+        2 => Some(JsonType::Bool),
+        3 => Some(JsonType::Int),
+        4 => Some(JsonType::Float),
+        5 => Some(JsonType::String),
+        6 => Some(JsonType::Array),
+        7 => Some(JsonType::Object),
+        _ => None,
+    }
+}
+
+// The cause that a fault tells of.
+fn cause_numbered(fault: &JiterFault) -> Option<JiterErrorType>
+    ensures { IfSome result (λ cause. TellsOf fault.now (cause_of cause)) }
+{
+    if fault.kind == WRONG_TYPE {
+        let expected = type_numbered(fault.expected)?;
+        let actual = type_numbered(fault.actual)?;
+        Some(JiterErrorType::WrongType { expected, actual })
+    } else {
+        let kind = kind_numbered(fault.kind)?;
+        Some(JiterErrorType::JsonError(kind))
+    }
+}
+
+/// Writes `CAUSE at line L column C` of a fault of these bytes. It fails where the fault has no number of a cause, and
+/// where memory is refused.
+#[unsafe(no_mangle)]
+pub extern "C" fn jiter_describe(
+    alloc: Global,
+    bytes: &[u8],
+    fault: &JiterFault,
+    out: &mut [u8],
+    whole: &mut usize,
+) -> bool
+    ensures text { result ≡ true → (text : List ℕ) × Describes bytes.now fault.now text
+        × (out.new ≡ written text out.old) × (whole.new ≡ length text) }
+    ensures kept { result ≡ false → (out.new ≡ out.old) × (whole.new ≡ whole.old) }
+{
+    let Some(error_type) = cause_numbered(fault) else {
+        return false;
+    };
+    let error = JiterError {
+        error_type,
+        index: fault.index,
+    };
+    match error.description(alloc, &Jiter::new(bytes)) {
+        Ok(text) => {
+            *whole = write_front(out, text.as_bytes());
+            true
+        }
+        Err(_) => false,
+    }
+}
+
+/// The line and column of a byte index.
+#[unsafe(no_mangle)]
+pub extern "C" fn jiter_position(bytes: &[u8], index: usize, position: &mut JiterPosition)
+    ensures { position.new ≡ position_view (position_of bytes.now index) }
+{
+    let LinePosition { line, column } = LinePosition::find(bytes, index);
+    *position = JiterPosition { line, column };
+}

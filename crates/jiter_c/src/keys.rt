@@ -1,0 +1,159 @@
+//! The reader's steps through objects.
+ghost use Rattle.std.specs.Prelude.{◌≡◌, length};
+ghost use Rattle.jiter.specs.Jiter.{reply_seen};
+ghost use Rattle.jiter_steps.specs.StringDecoder.{WantsMemory};
+ghost use Rattle.jiter_steps.specs.StringReading.{raw, whole};
+ghost use Rattle.jiter_c.specs.Replies.{has_part, key_reply, object_reply, or_empty};
+ghost use Rattle.jiter_c.specs.Told.{Tells, UnlessMemory, WhereMemory, given_or, written};
+
+use crate::faults::{JiterFault, fault_of};
+use crate::reader::{JiterReader, jiter_at};
+use crate::texts::{JiterText, write_front};
+use std::alloc::Global;
+
+/// Steps into an object: `more` is whether it has a member, whose key is written, decoded, and whose value comes next;
+/// else the reader stands behind the object.
+#[unsafe(no_mangle)]
+pub extern "C" fn jiter_next_object(
+    alloc: Global,
+    reader: &mut JiterReader<'_>,
+    more: &mut bool,
+    out: &mut [u8],
+    count: &mut usize,
+    fault: &mut JiterFault,
+) -> bool
+    ensures told { UnlessMemory result fault.new
+        (Tells (object_reply whole reader.old) result reader.old reader.new fault.old fault.new) }
+    ensures more { UnlessMemory result fault.new
+        (more.new ≡ given_or more.old (reply_seen has_part (object_reply whole reader.old))) }
+    ensures key { UnlessMemory result fault.new (out.new ≡ given_or out.old
+        (reply_seen (λ key. written (or_empty key) out.old) (object_reply whole reader.old))) }
+    ensures count { UnlessMemory result fault.new (count.new ≡ given_or count.old
+        (reply_seen (λ key. length (or_empty key)) (object_reply whole reader.old))) }
+    // Memory may be wanted only for a key with a backslash, and the reader then stands at it.
+    ensures memory { WhereMemory result fault.new
+        (WantsMemory reader.old.bytes.now fault.new.index) }
+    ensures place { WhereMemory result fault.new
+        (reader.new ≡ record reader.old { index = fault.new.index }) }
+{
+    let mut jiter = jiter_at(reader);
+    let given = match jiter.next_object(alloc) {
+        Ok(key) => {
+            *more = key.is_some();
+            *count = write_front(out, key.unwrap_or("").as_bytes());
+            true
+        }
+        Err(error) => {
+            *fault = fault_of(&error);
+            false
+        }
+    };
+    reader.index = jiter.current_index();
+    given
+}
+
+/// Behind a member: `more` is whether another one follows, whose key is written, decoded, and whose value comes next;
+/// else the reader stands behind the object.
+#[unsafe(no_mangle)]
+pub extern "C" fn jiter_next_key(
+    alloc: Global,
+    reader: &mut JiterReader<'_>,
+    more: &mut bool,
+    out: &mut [u8],
+    count: &mut usize,
+    fault: &mut JiterFault,
+) -> bool
+    ensures told { UnlessMemory result fault.new
+        (Tells (key_reply whole reader.old) result reader.old reader.new fault.old fault.new) }
+    ensures more { UnlessMemory result fault.new
+        (more.new ≡ given_or more.old (reply_seen has_part (key_reply whole reader.old))) }
+    ensures key { UnlessMemory result fault.new (out.new ≡ given_or out.old
+        (reply_seen (λ key. written (or_empty key) out.old) (key_reply whole reader.old))) }
+    ensures count { UnlessMemory result fault.new (count.new ≡ given_or count.old
+        (reply_seen (λ key. length (or_empty key)) (key_reply whole reader.old))) }
+    // Memory may be wanted only for a key with a backslash, and the reader then stands at it.
+    ensures memory { WhereMemory result fault.new
+        (WantsMemory reader.old.bytes.now fault.new.index) }
+    ensures place { WhereMemory result fault.new
+        (reader.new ≡ record reader.old { index = fault.new.index }) }
+{
+    let mut jiter = jiter_at(reader);
+    let given = match jiter.next_key(alloc) {
+        Ok(key) => {
+            *more = key.is_some();
+            *count = write_front(out, key.unwrap_or("").as_bytes());
+            true
+        }
+        Err(error) => {
+            *fault = fault_of(&error);
+            false
+        }
+    };
+    reader.index = jiter.current_index();
+    given
+}
+
+/// The same as `jiter_next_object`, the key's bytes as they stand between its quotes; it takes no memory.
+#[unsafe(no_mangle)]
+pub extern "C" fn jiter_next_object_bytes<'j>(
+    reader: &mut JiterReader<'j>,
+    more: &mut bool,
+    key: &mut JiterText<'j>,
+    fault: &mut JiterFault,
+) -> bool
+    ensures told { Tells (object_reply raw reader.old) result reader.old reader.new
+        fault.old fault.new }
+    ensures more { more.new
+        ≡ given_or more.old (reply_seen has_part (object_reply raw reader.old)) }
+    ensures key { key.new.bytes.now
+        ≡ given_or key.old.bytes.now (reply_seen or_empty (object_reply raw reader.old)) }
+{
+    let mut jiter = jiter_at(reader);
+    let read = jiter.next_object_bytes();
+    reader.index = jiter.current_index();
+    match read {
+        Ok(name) => {
+            *more = name.is_some();
+            *key = JiterText {
+                bytes: name.unwrap_or(b""),
+            };
+            true
+        }
+        Err(error) => {
+            *fault = fault_of(&error);
+            false
+        }
+    }
+}
+
+/// The same as `jiter_next_key`, the key's bytes as they stand between its quotes; it takes no memory.
+#[unsafe(no_mangle)]
+pub extern "C" fn jiter_next_key_bytes<'j>(
+    reader: &mut JiterReader<'j>,
+    more: &mut bool,
+    key: &mut JiterText<'j>,
+    fault: &mut JiterFault,
+) -> bool
+    ensures told { Tells (key_reply raw reader.old) result reader.old reader.new
+        fault.old fault.new }
+    ensures more { more.new ≡ given_or more.old (reply_seen has_part (key_reply raw reader.old)) }
+    ensures key { key.new.bytes.now
+        ≡ given_or key.old.bytes.now (reply_seen or_empty (key_reply raw reader.old)) }
+{
+    let mut jiter = jiter_at(reader);
+    let read = jiter.next_key_bytes();
+    reader.index = jiter.current_index();
+    match read {
+        Ok(name) => {
+            *more = name.is_some();
+            *key = JiterText {
+                bytes: name.unwrap_or(b""),
+            };
+            true
+        }
+        Err(error) => {
+            *fault = fault_of(&error);
+            false
+        }
+    }
+}

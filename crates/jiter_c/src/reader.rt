@@ -1,0 +1,117 @@
+//! The reader that C holds, and its calls that read no scalar.
+ghost use Rattle.std.specs.Prelude.{◌≡◌, IfErr, OnOk, false, true};
+ghost use Rattle.jiter.specs.Errors.{cause_of};
+ghost use Rattle.jiter.specs.Jiter.{byte_of};
+ghost use Rattle.jiter.specs.Reader.{finish, skip_read};
+ghost use Rattle.jiter_steps.specs.Literal.{start_of};
+ghost use Rattle.jiter_c.specs.Faults.{fault_of};
+ghost use Rattle.jiter_c.specs.Replies.{next_reply, peek_reply, start_number, state_of};
+ghost use Rattle.jiter_c.specs.Told.{Tells, given_or};
+
+use crate::faults::{JiterFault, fault_of};
+use jiter::{Jiter, JiterResult, Peek};
+
+/// A reader: bytes and the place in them where it stands. It is the caller's own, so that a copy of it is another reader.
+#[repr(C)]
+#[derive(Clone, Copy)]
+pub struct JiterReader<'j> {
+    /// The bytes that are read.
+    pub bytes: &'j [u8],
+    /// The byte index where the reader stands; one past the length is the length.
+    pub index: usize,
+    /// Whether the names `NaN`, `Infinity` and `-Infinity` are numbers.
+    pub allow_inf_nan: bool,
+    /// Whether a string that the end of input cuts is a text as far as it goes.
+    pub allow_partial_strings: bool,
+}
+
+// The library's reader that stands there.
+pub fn jiter_at<'j>(reader: &JiterReader<'j>) -> Jiter<'j>
+    ensures { result ≡ state_of reader.now }
+{
+    let mut jiter = Jiter::new_at(reader.bytes, reader.index.min(reader.bytes.len()));
+    if reader.allow_inf_nan {
+        jiter = jiter.with_allow_inf_nan();
+    }
+    if reader.allow_partial_strings {
+        jiter = jiter.with_allow_partial_strings();
+    }
+    jiter
+}
+
+/// Moves over blanks to the next value, and tells by which of the numbers of `jiter_c.h` it begins.
+#[unsafe(no_mangle)]
+pub extern "C" fn jiter_peek(
+    reader: &mut JiterReader<'_>,
+    start: &mut u32,
+    fault: &mut JiterFault,
+) -> bool
+    ensures told { Tells (peek_reply reader.old) result reader.old reader.new fault.old fault.new }
+    ensures value { start.new ≡ given_or start.old (peek_reply reader.old) }
+{
+    let mut jiter = jiter_at(reader);
+    let read = jiter.peek();
+    reader.index = jiter.current_index();
+    match read {
+        Ok(peek) => {
+            *start = start_number(peek);
+            true
+        }
+        Err(error) => {
+            *fault = fault_of(&error);
+            false
+        }
+    }
+}
+
+// The number of what begins with a byte.
+fn start_number(peek: Peek) -> u32
+    ensures { result ≡ start_number (start_of (byte_of peek)) }
+{
+    match peek.into_inner() {
+        b'n' => 1,
+        b't' | b'f' => 2,
+        b'"' => 5,
+        b'[' => 6,
+        b'{' => 7,
+        b'0'..=b'9' | b'-' | b'N' | b'I' => 8,
+        _ => 0,
+    }
+}
+
+/// Moves behind the next value, whatever it is.
+#[unsafe(no_mangle)]
+pub extern "C" fn jiter_next_skip(reader: &mut JiterReader<'_>, fault: &mut JiterFault) -> bool
+    ensures { Tells (next_reply reader.old skip_read) result reader.old reader.new fault.old fault.new }
+{
+    let mut jiter = jiter_at(reader);
+    let read = jiter.next_skip();
+    reader.index = jiter.current_index();
+    tell(read, fault)
+}
+
+/// Moves over blanks to the end of the bytes.
+#[unsafe(no_mangle)]
+pub extern "C" fn jiter_finish(reader: &mut JiterReader<'_>, fault: &mut JiterFault) -> bool
+    ensures { Tells (finish (state_of reader.old)) result reader.old reader.new fault.old fault.new }
+{
+    let mut jiter = jiter_at(reader);
+    let read = jiter.finish();
+    reader.index = jiter.current_index();
+    tell(read, fault)
+}
+
+// Whether nothing was refused; else the fault is told.
+pub fn tell(read: JiterResult<()>, fault: &mut JiterFault) -> bool
+    ensures ok { OnOk read ((result ≡ true) × (fault.new ≡ fault.old)) }
+    ensures err { IfErr read (λ e. (result ≡ false)
+        × (fault.new ≡ fault_of (cause_of e.error_type) e.index)) }
+{
+    match read {
+        Ok(()) => true,
+        Err(error) => {
+            *fault = fault_of(&error);
+            false
+        }
+    }
+}

@@ -1,0 +1,57 @@
+//! The reader's steps through arrays.
+ghost use Rattle.std.specs.Prelude.{◌≡◌};
+ghost use Rattle.jiter_c.specs.Replies.{array_reply, item_reply};
+ghost use Rattle.jiter_c.specs.Told.{Tells, given_or};
+
+use crate::faults::{JiterFault, fault_of};
+use crate::reader::{JiterReader, jiter_at};
+
+/// Steps into an array: `more` is whether it has an item, which comes next; else the reader stands behind the array.
+#[unsafe(no_mangle)]
+pub extern "C" fn jiter_next_array(
+    reader: &mut JiterReader<'_>,
+    more: &mut bool,
+    fault: &mut JiterFault,
+) -> bool
+    ensures told { Tells (array_reply reader.old) result reader.old reader.new fault.old fault.new }
+    ensures more { more.new ≡ given_or more.old (array_reply reader.old) }
+{
+    let mut jiter = jiter_at(reader);
+    let read = jiter.next_array();
+    reader.index = jiter.current_index();
+    match read {
+        Ok(item) => {
+            *more = item.is_some();
+            true
+        }
+        Err(error) => {
+            *fault = fault_of(&error);
+            false
+        }
+    }
+}
+
+/// Behind an item: `more` is whether another one comes next; else the reader stands behind the array.
+#[unsafe(no_mangle)]
+pub extern "C" fn jiter_array_step(
+    reader: &mut JiterReader<'_>,
+    more: &mut bool,
+    fault: &mut JiterFault,
+) -> bool
+    ensures told { Tells (item_reply reader.old) result reader.old reader.new fault.old fault.new }
+    ensures more { more.new ≡ given_or more.old (item_reply reader.old) }
+{
+    let mut jiter = jiter_at(reader);
+    let read = jiter.array_step();
+    reader.index = jiter.current_index();
+    match read {
+        Ok(item) => {
+            *more = item.is_some();
+            true
+        }
+        Err(error) => {
+            *fault = fault_of(&error);
+            false
+        }
+    }
+}
