@@ -30,8 +30,8 @@ static bool refused(void) {
   size_t whole = 0;
   if (!jiter_describe(document, length, &fault, text, sizeof text, &whole))
     exit(3);
-  printf("fault %" PRIu32 " %" PRIu32 " %" PRIu32 " at %zu: %.*s", fault.kind, fault.expected, fault.actual, fault.index,
-         (int)whole, (const char *)text);
+  printf("fault %" PRIu32 " %" PRIu32 " %" PRIu32 " at %zu: %.*s", fault.kind, fault.expected, fault.actual,
+         fault.index, (int)whole, (const char *)text);
   return false;
 }
 
@@ -129,6 +129,14 @@ static bool walk(JiterReader *reader, bool raw) {
   }
 }
 
+/* The value that comes next where one was found. */
+static void walk_if(JiterReader *reader, bool found, const char *none) {
+  if (found)
+    walk(reader, false);
+  else
+    printf("%s", none);
+}
+
 static uint32_t mode_of(const char *word) {
   return !strcmp(word, "off") ? JITER_OFF : !strcmp(word, "on") ? JITER_ON : JITER_TRAILING_STRINGS;
 }
@@ -182,11 +190,11 @@ int main(int count, char **words) {
     if (given(jiter_count(reader, &items, &fault)))
       printf("%" PRIu64 " parts", items);
   } else if (!strcmp(word, "item")) {
-    if (given(jiter_item(&reader, strtoull(more, NULL, 10), &found, &fault)) && (found || printf("no item") < 0))
-      walk(&reader, false);
+    if (given(jiter_item(&reader, strtoull(more, NULL, 10), &found, &fault)))
+      walk_if(&reader, found, "no item");
   } else if (!strcmp(word, "member")) {
-    if (given(jiter_member(&reader, more, strlen(more), room, length, &found, &fault)) && (found || printf("no member") < 0))
-      walk(&reader, false);
+    if (given(jiter_member(&reader, more, strlen(more), room, length, &found, &fault)))
+      walk_if(&reader, found, "no member");
   }
   place(&reader);
   putchar('\n');

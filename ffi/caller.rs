@@ -40,7 +40,8 @@ mod jiter_c {
     unsafe extern "C" {
         pub fn jiter_parse(b: *const u8, n: usize, names: bool, mode: u32, fault: &mut Fault) -> bool;
         pub fn jiter_print(
-            b: *const u8, n: usize, names: bool, mode: u32, out: *mut u8, room: usize, whole: &mut usize, fault: &mut Fault,
+            b: *const u8, n: usize, names: bool, mode: u32, out: *mut u8, room: usize, whole: &mut usize,
+            fault: &mut Fault,
         ) -> bool;
         pub fn jiter_peek(reader: &mut RawReader, start: &mut u32, fault: &mut Fault) -> bool;
         pub fn jiter_next_null(reader: &mut RawReader, fault: &mut Fault) -> bool;

@@ -3,22 +3,22 @@
  * Each function is proved to do what its contract in crates/jiter_c/src says; what is said here of the caller is not
  * checked by anything.
  *
- * What crosses. No memory changes its owner: there is nothing to free. What the caller passes stays the caller's, and is
- * read or written until the call returns and no longer. A call that takes memory for itself gives it back before it
- * returns; it calls the C library's malloc, realloc and free.
+ * What crosses. No memory changes its owner: there is nothing to free. What the caller passes stays the caller's,
+ * and is read or written until the call returns and no longer. A call that takes memory for itself gives it back
+ * before it returns; it calls the C library's malloc, realloc and free.
  *
- * Pointers. A slice is a pointer and a length: the pointer is never null, and the length may be 0. Each pointer to an
- * outcome points to a value that is initialized (`= 0`, `= false`, `= {0}`, JITER_NO_TEXT); no two of a call overlap, and
- * none overlaps the bytes. A JiterReader and a JiterText point into the bytes that the caller gave: they may be used as
- * long as those stay where they are, and unchanged.
+ * Pointers. A slice is a pointer and a length: the pointer is never null, and the length may be 0. Each pointer to
+ * an outcome points to a value that is initialized (`= 0`, `= false`, `= {0}`, JITER_NO_TEXT); no two of a call
+ * overlap, and none overlaps the bytes. A JiterReader and a JiterText point into the bytes that the caller gave:
+ * they may be used as long as those stay where they are, and unchanged.
  *
- * Threads. Nothing is shared between calls: any number of threads may call at the same time, each with outcomes, and a
- * reader, of its own; bytes may be read by many. No call is made from a signal handler or in the forked child of a process
- * with threads.
+ * Threads. Nothing is shared between calls: any number of threads may call at the same time, each with outcomes, and
+ * a reader, of its own; bytes may be read by many. No call is made from a signal handler or in the forked child of a
+ * process with threads.
  *
- * Refusals. A call that answers a bool answers false where it refuses; then the fault is written, and no other outcome.
- * Where it answers true, the fault stays as it was. A call that was refused for want of memory (JITER_OUT_OF_MEMORY) says
- * nothing of the bytes. */
+ * Refusals. A call that answers a bool answers false where it refuses; then the fault is written, and no other
+ * outcome. Where it answers true, the fault stays as it was. A call that was refused for want of memory
+ * (JITER_OUT_OF_MEMORY) says nothing of the bytes. */
 #ifndef JITER_C_H
 #define JITER_C_H
 
@@ -140,8 +140,8 @@ bool jiter_next_array(JiterReader *reader, bool *more, JiterFault *fault);
 bool jiter_array_step(JiterReader *reader, bool *more, JiterFault *fault);
 
 /* Objects: jiter_next_object steps into one, jiter_next_key goes on behind a member. `more` is whether a member follows:
- * its key is given, and its value comes next; else the key is empty, and the reader stands behind the object. The first two
- * write the key, decoded, as far as it fits; the others give its bytes as they stand between the quotes. */
+ * its key is given, and its value comes next; else the key is empty, and the reader stands behind the object. The first
+ * two write the key, decoded, as far as it fits; the others give its bytes as they stand between the quotes. */
 bool jiter_next_object(JiterReader *reader, bool *more, uint8_t *out, size_t room, size_t *whole, JiterFault *fault);
 bool jiter_next_key(JiterReader *reader, bool *more, uint8_t *out, size_t room, size_t *whole, JiterFault *fault);
 bool jiter_next_object_bytes(JiterReader *reader, bool *more, JiterText *key, JiterFault *fault);

@@ -2,7 +2,8 @@
 use Rattle.std.specs.Prelude.{ℕ, ℤ, pos, Bool, true, false, List, [], length, min, Option, Some, None}
 use Rattle.jiter_scan.specs.Number as number
 use Rattle.jiter.specs.Jiter.{key_bytes, reply_seen, text_bytes}
-use Rattle.jiter.specs.Reader.{ReaderState, Reply, array_read, bytes_read, int_read, item_step, key_step, next, object_read, peek, str_read}
+use Rattle.jiter.specs.Reader.{ReaderState, Reply, array_read, bytes_read, int_read, item_step, key_step, next}
+use Rattle.jiter.specs.Reader.{object_read, peek, str_read}
 use Rattle.jiter_scan.specs.Number.{Number}
 use Rattle.jiter_steps.specs.Literal.{start_of}
 use Rattle.jiter_steps.specs.StringReading.{Form}

@@ -11,7 +11,8 @@ ghost use Rattle.jiter_c.specs.Told.{Tells, given_or};
 use crate::faults::{JiterFault, fault_of};
 use jiter::{Jiter, JiterResult, Peek};
 
-/// A reader: bytes and the place in them where it stands. It is the caller's own, so that a copy of it is another reader.
+/// A reader: bytes and the place in them where it stands. It is the caller's own, so that a copy of it is another
+/// reader.
 #[repr(C)]
 #[derive(Clone, Copy)]
 pub struct JiterReader<'j> {
