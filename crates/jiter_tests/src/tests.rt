@@ -22,6 +22,7 @@ mod owned;
 mod owned_memory;
 mod partial;
 mod turns;
+mod unique_keys;
 mod values;
 
 // The value that a parse answers, or the kind and the index of its fault, on one line.

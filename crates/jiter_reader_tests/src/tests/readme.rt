@@ -4,6 +4,7 @@ use crate::tests::expect::expect_text;
 use jiter::{
     Jiter, JsonArray, JsonError, JsonErrorType, JsonObject, JsonResult, JsonValue,
     JsonValueScratch, LinePosition, Machine, NumberAny, NumberInt, PartialMode, Peek, Turn,
+    UniqueErrorType,
 };
 use jiter_tests::told::text_of;
 use std::alloc::{AllocError, Global};
@@ -39,6 +40,27 @@ fn items_arrived(alloc: Global, bytes: &[u8]) -> usize {
         Ok(JsonValue::Array(items)) => items.len(),
         _ => 0,
     }
+}
+
+// The key that an object of the document has twice, if one does.
+fn repeated_key(alloc: Global, bytes: &[u8]) -> Option<String> {
+    match JsonValue::parse_unique(alloc, bytes, false, PartialMode::Off) {
+        Ok(_) => None,
+        Err(error) => match error.error_type {
+            UniqueErrorType::DuplicateKey(key) => Some(key),
+            UniqueErrorType::JsonError(_) => None,
+        },
+    }
+}
+
+#[test]
+fn a_repeated_key_is_told(rt: HostRuntime) -> Result<(), Fail> {
+    match repeated_key(rt.alloc(), b"{\"a\": 1, \"\\u0061\": 2}") {
+        Some(key) => assert_eq!(rt; key.as_str(), "a"),
+        None => assert!(rt; false, "the key was not told"),
+    }
+    assert!(rt; repeated_key(rt.alloc(), b"{\"a\": {\"a\": 1}}").is_none());
+    Ok(())
 }
 
 #[test]
