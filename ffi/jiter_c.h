@@ -112,21 +112,21 @@ static inline JiterReader jiter_reader(const void *bytes, size_t length) {
   return reader;
 }
 
-/* Whole documents. jiter_parse answers whether the bytes are a document, in a partial mode whether they are the front of
- * one. jiter_print writes the compact text of the document's value, as far as it fits into `out`, and its whole length:
- * of `whole` bytes `room` are written at most. A reader walks that text as it walks any document. */
+/* Whole documents. jiter_parse answers whether the bytes are a document, in a partial mode whether they are the
+ * front of one. jiter_print writes the compact text of the document's value, as far as it fits into `out`, and its
+ * whole length: of `whole` bytes `room` are written at most. A reader walks that text as it walks any document. */
 bool jiter_parse(const uint8_t *bytes, size_t length, bool allow_inf_nan, uint32_t mode, JiterFault *fault);
 bool jiter_print(const uint8_t *bytes, size_t length, bool allow_inf_nan, uint32_t mode, uint8_t *out, size_t room,
                  size_t *whole, JiterFault *fault);
 
-/* What comes next: JITER_NULL, JITER_BOOL, JITER_NUMBER, JITER_STRING, JITER_ARRAY, JITER_OBJECT, or JITER_NOTHING where
- * no value begins. Blanks before it are passed, and nothing else. */
+/* What comes next: JITER_NULL, JITER_BOOL, JITER_NUMBER, JITER_STRING, JITER_ARRAY, JITER_OBJECT, or JITER_NOTHING
+ * where no value begins. Blanks before it are passed, and nothing else. */
 bool jiter_peek(JiterReader *reader, uint32_t *start, JiterFault *fault);
 
-/* Scalars. Where another type stands, the refusal is JITER_WRONG_TYPE and the reader stays at the value. An integer that
- * 64 signed bits do not hold does not fit, and its value is 0: jiter_next_number, on a reader kept from before, gives its
- * bytes. jiter_next_str writes a string's text, decoded, as far as it fits; jiter_next_bytes gives the bytes between its
- * quotes, their escapes checked and not decoded. */
+/* Scalars. Where another type stands, the refusal is JITER_WRONG_TYPE and the reader stays at the value. An integer
+ * that 64 signed bits do not hold does not fit, and its value is 0: jiter_next_number, on a reader kept from
+ * before, gives its bytes. jiter_next_str writes a string's text, decoded, as far as it fits; jiter_next_bytes
+ * gives the bytes between its quotes, their escapes checked and not decoded. */
 bool jiter_next_null(JiterReader *reader, JiterFault *fault);
 bool jiter_next_bool(JiterReader *reader, bool *value, JiterFault *fault);
 bool jiter_next_int(JiterReader *reader, bool *fits, int64_t *value, JiterFault *fault);
@@ -134,14 +134,15 @@ bool jiter_next_number(JiterReader *reader, JiterText *text, JiterFault *fault);
 bool jiter_next_str(JiterReader *reader, uint8_t *out, size_t room, size_t *whole, JiterFault *fault);
 bool jiter_next_bytes(JiterReader *reader, JiterText *text, JiterFault *fault);
 
-/* Arrays: jiter_next_array steps into one, jiter_array_step goes on behind an item. `more` is whether an item comes next;
- * else the reader stands behind the array. */
+/* Arrays: jiter_next_array steps into one, jiter_array_step goes on behind an item. `more` is whether an item comes
+ * next; else the reader stands behind the array. */
 bool jiter_next_array(JiterReader *reader, bool *more, JiterFault *fault);
 bool jiter_array_step(JiterReader *reader, bool *more, JiterFault *fault);
 
-/* Objects: jiter_next_object steps into one, jiter_next_key goes on behind a member. `more` is whether a member follows:
- * its key is given, and its value comes next; else the key is empty, and the reader stands behind the object. The first
- * two write the key, decoded, as far as it fits; the others give its bytes as they stand between the quotes. */
+/* Objects: jiter_next_object steps into one, jiter_next_key goes on behind a member. `more` is whether a member
+ * follows: its key is given, and its value comes next; else the key is empty, and the reader stands behind the
+ * object. The first two write the key, decoded, as far as it fits; the others give its bytes as they stand between
+ * the quotes. */
 bool jiter_next_object(JiterReader *reader, bool *more, uint8_t *out, size_t room, size_t *whole, JiterFault *fault);
 bool jiter_next_key(JiterReader *reader, bool *more, uint8_t *out, size_t room, size_t *whole, JiterFault *fault);
 bool jiter_next_object_bytes(JiterReader *reader, bool *more, JiterText *key, JiterFault *fault);
@@ -161,8 +162,8 @@ bool jiter_describe(const uint8_t *bytes, size_t length, const JiterFault *fault
 /* The line and the column of a byte index. */
 void jiter_position(const uint8_t *bytes, size_t length, size_t index, JiterPosition *position);
 
-/* What follows is written in C over these calls, and is tested, not proved. Each works on an array or an object that comes
- * next, and refuses another type as the step into it does. */
+/* What follows is written in C over these calls, and is tested, not proved. Each works on an array or an object
+ * that comes next, and refuses another type as the step into it does. */
 
 /* How many items or members it has, the reader being a copy that is not moved. */
 static inline bool jiter_count(JiterReader reader, uint64_t *count, JiterFault *fault) {

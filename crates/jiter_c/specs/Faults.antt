@@ -1,5 +1,5 @@
 -- The numbers by which C knows kinds of fault and types, as jiter_c.h lists them.
-use Rattle.std.specs.Prelude.{◌≡◌, ℕ, List, length}
+use Rattle.std.specs.Prelude.{◌≡◌, ℕ, List}
 use Rattle.jiter_scan.specs.declared.errors.LinePosition.{LinePosition}
 use Rattle.jiter.specs.Cause.{Cause, ValueType, error_description}
 use Rattle.jiter_scan.specs.Kind.{Kind}

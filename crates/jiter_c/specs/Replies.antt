@@ -9,7 +9,6 @@ use Rattle.jiter_steps.specs.Literal.{start_of}
 use Rattle.jiter_steps.specs.StringReading.{Form}
 use Rattle.jiter_steps.specs.declared.parse.Literal.{Literal}
 use Rattle.jiter_steps.specs.declared.parse.Start.{Start}
-use Rattle.jiter_c.specs.Told.{written}
 use Rattle.jiter_c.specs.declared.reader.JiterReader.{JiterReader}
 
 -- the library's reader that stands where C's does; one that C puts past the length stands at it
