@@ -64,7 +64,6 @@ module _ (p q : ℕ → Bool) (weaker : (c : ℕ) → p c ≡ true → q c ≡ t
         ap (λ x. cond x (1 + prefix_len q w) 0) (weaker c e) ∙ ap (λ n. 1 + n) (go (omega arith) here)
     by false e go h d = ap (λ x. cond x (1 + prefix_len q w) 0) d
 
-
 module _ (t : List ℕ) (i : ℕ) where
   -- a quote that ends a run of plain bytes of ASCII ends the run of plain bytes
   quote-same : (to : ℕ) → run_end is_plain_ascii t i ≡ to → slice_get t to ≡ Some 34

@@ -30,7 +30,9 @@ fn read_host(alloc: Global, jiter: &mut Jiter<'_>) -> JiterResult<String> {
 fn a_text_is_kept(rt: HostRuntime) -> Result<(), Fail> {
     let host = read_host(rt.alloc(), &mut Jiter::new(b"\"localhost\""))?;
     assert_eq!(rt; host.as_str(), "localhost");
-    let refused = read_host(rt.alloc(), &mut Jiter::new(b"80")).err().ok_or("no host")?;
+    let refused = read_host(rt.alloc(), &mut Jiter::new(b"80"))
+        .err()
+        .ok_or("no host")?;
     assert_eq!(rt; (refused.index, refused.is_memory()), (0, false));
     Ok(())
 }

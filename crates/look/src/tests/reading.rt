@@ -1,7 +1,7 @@
 //! What documents are read as.
 use super::{Row, does, repeated};
-use jiter_print::print;
 use jiter::{JsonValue, PartialMode};
+use jiter_print::print;
 use std::alloc::Global;
 use std::test::*;
 
