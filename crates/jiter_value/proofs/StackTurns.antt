@@ -6,7 +6,7 @@ use Rattle.std.specs.declared.alloc.Global.{Global}
 use Rattle.std.specs.declared.borrow.CowStr.{CowStr}
 use Rattle.std.proofs.Math.Seq.{set-append_seam, get_or-append_seam}
 use Rattle.std.proofs.lemmas.List.{reverse-append, map_push, drop-append-le, take-append-le, take_all, take_more}
-use Rattle.std.proofs.lemmas.List.{length-take-le, length-reverse}
+use Rattle.std.proofs.lemmas.List.{length-take-le, length-reverse, nil_from_length}
 use Rattle.jiter_scan.specs.Kind.{Kind, fault_kind, recursion_limit}
 use Rattle.jiter_scan.specs.Scanned.{Scanned, taken, failed}
 use Rattle.jiter_scan.specs.declared.partial_mode.PartialMode.{PartialMode}
@@ -29,6 +29,7 @@ use Rattle.jiter_steps.proofs.Calls.Resumed.{IgnoresBegin, value_in-levels, valu
 use Rattle.jiter_steps.proofs.Calls.Resumed.{resume-fault}
 use Rattle.jiter_steps.proofs.Calls.Resumed.{resume-forgiven, step-to, step-stuck, items-value, key-value, key-failed}
 use Rattle.jiter_steps.proofs.Calls.Resumed.{colon-failed, container-begins}
+use Rattle.jiter_value.specs.Scratch.{HoldsNothing}
 use Rattle.jiter_value.specs.Settings.{Keeping, forgives, rules_as}
 use Rattle.jiter_value.specs.Stacks.{Member, member_view, last_key_of, last_key, but_last, frames, PartTree, built}
 use Rattle.jiter_value.specs.Stacks.{parts_above, frames_below, HaveBases, HaveKeyBase, key_in, key_fault_in}
@@ -407,6 +408,20 @@ pub root-from : (made : Keeping) (p : Settings) (t : List ℕ) (os : List Open) 
 root-from made p t [] es ms n m i h = sym (value_in-levels (rules_as made p) t 0 i (omega arith))
 root-from made p t (o ∷ os) es ms n m i h = absurd h
 
+root-parts : (os : List Open) (n m : ℕ) → HaveBases slot.Root os n m → (n ≡ 0) × (m ≡ 0)
+root-parts [] n m h = h
+root-parts (o ∷ os) n m h = absurd h
+
 pub root-alone : (os : List Open) (n m : ℕ) → HaveBases slot.Root os n m → length os ≡ 0
 root-alone [] n m h = refl
 root-alone (o ∷ os) n m h = absurd h
+
+-- Behind the document's value nothing is held.
+pub root-holds-nothing : (s : Stacks) → Stands s slot.Root → HoldsNothing s
+root-holds-nothing s h =
+    let none : s.nest.items ≡ [] = nil_from_length s.nest.items
+    (sym (length-reverse s.nest.items) ∙ root-alone (reverse s.nest.items) _ _ h)
+    in
+    let parts = root-parts (reverse s.nest.items) _ _ h in
+    record { items = nil_from_length s.items.items parts.0; members = nil_from_length s.members.items parts.1;
+    nest = none }

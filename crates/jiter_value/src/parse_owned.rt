@@ -1,5 +1,5 @@
 //! Reading a document into a value that owns its texts.
-ghost use Rattle.std.specs.Prelude.{◌≡◌, ◌<◌, ◌⊎◌, length, true};
+ghost use Rattle.std.specs.Prelude.{◌≡◌, ◌<◌, ◌⊎◌, IfOk, length, true};
 ghost use Rattle.jiter_steps.specs.Blank.{past_blanks};
 ghost use Rattle.jiter_steps.specs.Node.{nesting_limit};
 ghost use Rattle.jiter_steps.specs.Parse.{Moves, Gives};
@@ -7,7 +7,7 @@ ghost use Rattle.jiter_steps.specs.Read.{value_at};
 ghost use Rattle.jiter_steps.specs.ReadError.{WhereRefused};
 ghost use Rattle.jiter_value.specs.Owned.{owned_text, owned_tree, ReadHolds, IsOwnedAnswer, OwnedMayGrow};
 ghost use Rattle.jiter_value.specs.Parses.{Parses, reading_as};
-ghost use Rattle.jiter_value.specs.Scratch.{HoldsNothing};
+ghost use Rattle.jiter_value.specs.Scratch.{HoldsNothing, IsCleared};
 ghost use Rattle.jiter_value.specs.Settings.{each, rules, rules_as};
 ghost use Rattle.jiter_value.specs.Value.{view, BeginsContainer, MayGrowAt, MayGrow};
 
@@ -71,8 +71,9 @@ fn own_text<'s>(
 ) -> Result<JsonValue<'s>, JsonError>
     requires container { BeginsContainer bytes.now (past_blanks bytes.now 0) }
     requires empty { HoldsNothing stacks.old }
-    ensures { Parses owned_tree (MayGrow bytes.now)
+    ensures parses { Parses owned_tree (MayGrow bytes.now)
         settings.allow_inf_nan settings.mode bytes.now result }
+    ensures cleared { IfOk result (λ v. IsCleared stacks.new) }
 {
     read_text_as(alloc, Owning { alloc }, tape, stacks, bytes, settings)
 }
@@ -136,9 +137,10 @@ pub(crate) fn read_text_owned(
     bytes: &[u8],
     settings: Settings,
 ) -> Result<JsonValue<'static>, JsonError>
-    requires { HoldsNothing stacks.old }
-    ensures { Parses owned_tree (OwnedMayGrow settings.allow_inf_nan settings.mode bytes.now)
+    requires { IsCleared stacks.old }
+    ensures parses { Parses owned_tree (OwnedMayGrow settings.allow_inf_nan settings.mode bytes.now)
         settings.allow_inf_nan settings.mode bytes.now result }
+    ensures cleared { IfOk result (λ v. IsCleared stacks.new) }
 {
     if begins_container(bytes, past_blanks(bytes, 0)) {
         return own_text(alloc, tape, stacks, bytes, settings);

@@ -8,7 +8,7 @@ ghost use Rattle.jiter_steps.specs.ReadError.{WhereRefused};
 ghost use Rattle.jiter_value.specs.Owned.{tree_as};
 ghost use Rattle.jiter_value.specs.Parses.{Parses, as_read};
 ghost use Rattle.jiter_value.specs.Reading.{GivesWhole, IsErrorOf};
-ghost use Rattle.jiter_value.specs.Scratch.{HoldsNothing};
+ghost use Rattle.jiter_value.specs.Scratch.{HoldsNothing, IsCleared};
 ghost use Rattle.jiter_value.specs.Settings.{answer_as, rules, rules_as};
 ghost use Rattle.jiter_value.specs.Value.{view, MayGrowAt, MayGrowBy, MayGrow};
 
@@ -98,6 +98,7 @@ fn read_whole<'s, T: Texts<'s>>(
     ensures memory { WhereRefused result
         (MayGrowBy T.wants parser.old.bytes.now (past_blanks parser.old.bytes.now 0)) }
     ensures place { WhereRefused result (past_blanks parser.old.bytes.now 0 ≤ parser.new.index) }
+    ensures cleared { IfOk result (λ v. IsCleared stacks.new) }
 {
     parser.value_first()?;
     let value = run(alloc, texts, tape, stacks, parser, settings)?;
@@ -116,8 +117,9 @@ pub(crate) fn read_text_as<'s, T: Texts<'s>>(
     requires texts { T.of texts bytes.now }
     requires repeats { T.made.unique ≡ false }
     requires empty { HoldsNothing stacks.old }
-    ensures { Parses (tree_as T.made.text) (MayGrowBy T.wants bytes.now (past_blanks bytes.now 0))
+    ensures parses { Parses (tree_as T.made.text) (MayGrowBy T.wants bytes.now (past_blanks bytes.now 0))
         settings.allow_inf_nan settings.mode bytes.now result }
+    ensures cleared { IfOk result (λ v. IsCleared stacks.new) }
 {
     let mut parser = Parser::new(bytes);
     match read_whole(alloc, texts, tape, stacks, &mut parser, settings) {
@@ -135,7 +137,8 @@ pub(crate) fn read_text<'j>(
     settings: Settings,
 ) -> Result<JsonValue<'j>, JsonError>
     requires { HoldsNothing stacks.old }
-    ensures { Parses as_read (MayGrow bytes.now) settings.allow_inf_nan settings.mode bytes.now result }
+    ensures parses { Parses as_read (MayGrow bytes.now) settings.allow_inf_nan settings.mode bytes.now result }
+    ensures cleared { IfOk result (λ v. IsCleared stacks.new) }
 {
     let texts = Borrowing { bytes };
     read_text_as(alloc, texts, tape, stacks, bytes, settings)

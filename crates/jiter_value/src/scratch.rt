@@ -1,5 +1,5 @@
 //! Buffers that are kept from document to document.
-ghost use Rattle.std.specs.Prelude.{◌≡◌, [], true};
+ghost use Rattle.std.specs.Prelude.{◌≡◌, [], IfOk};
 ghost use Rattle.jiter_value.specs.Owned.{owned_tree, OwnedMayGrow};
 ghost use Rattle.jiter_value.specs.Parses.{Parses, as_read};
 ghost use Rattle.jiter_value.specs.Scratch.{IsCleared};
@@ -77,15 +77,9 @@ impl<'j> JsonValueScratch<'j> {
             allow_inf_nan,
             mode: allow_partial,
         };
-        let answer = read_text(
-            self.alloc,
-            &mut self.tape,
-            &mut self.stacks,
-            bytes,
-            settings,
-        );
-        clear(&mut self.stacks);
-        answer
+        let stacks = &mut self.stacks;
+        let answer = read_text(self.alloc, &mut self.tape, stacks, bytes, settings);
+        clear_refused(stacks, answer)
     }
 }
 
@@ -110,35 +104,33 @@ impl JsonValueScratch<'static> {
         };
         let stacks = &mut self.stacks;
         let answer = read_text_owned(self.alloc, &mut self.tape, stacks, bytes, settings);
-        clear(stacks);
-        answer
+        clear_refused(stacks, answer)
     }
 }
 
-// Whether the stacks hold nothing, and no value stays beside them.
+// The answer as it is. Behind a value the stacks hold nothing; what a refused reading left on them is dropped.
 #[inline(always)]
-fn is_cleared<'j>(stacks: &Stacks<'j>) -> bool
-    ensures { result ≡ true → IsCleared stacks.now }
+fn clear_refused<'j, 'v>(
+    stacks: &mut Stacks<'j>,
+    answer: Result<JsonValue<'v>, JsonError>,
+) -> Result<JsonValue<'v>, JsonError>
+    requires { IfOk answer (λ v. IsCleared stacks.old) }
+    ensures cleared { IsCleared stacks.new }
+    ensures same { result ≡ answer.entry }
 {
-    stacks.items.is_empty()
-        && stacks.members.is_empty()
-        && stacks.nest.is_empty()
-        && matches!(stacks.root, JsonValue::Null)
+    match answer {
+        Ok(value) => Ok(value),
+        Err(error) => {
+            clear(stacks);
+            Err(error)
+        }
+    }
 }
 
 // Drops what the stacks hold; their buffers stay.
-#[inline(always)]
-fn clear<'j>(stacks: &mut Stacks<'j>)
-    ensures { IsCleared stacks.new }
-{
-    if !is_cleared(stacks) {
-        drop_held(stacks);
-    }
-}
-
-// The same where they may hold something.
+#[cold]
 #[inline(never)]
-fn drop_held<'j>(stacks: &mut Stacks<'j>)
+fn clear<'j>(stacks: &mut Stacks<'j>)
     ensures { IsCleared stacks.new }
 {
     stacks.items.clear();

@@ -9,6 +9,7 @@ ghost use Rattle.jiter_steps.specs.declared.read_error.ReadError.TheVariants as 
 ghost use Rattle.jiter_value.specs.Value.{view};
 ghost use Rattle.jiter_value.specs.Size.{size, value_size, inside_size, behind_size};
 ghost use Rattle.jiter_value.specs.Settings.{Keeping};
+ghost use Rattle.jiter_value.specs.Scratch.{HoldsNothing, IsCleared};
 ghost use Rattle.jiter_value.specs.Stacks.{Member, member_view, resume_with, behind, container_ends, Stands};
 ghost use Rattle.jiter_value.specs.Stacks.{StandsInside, HasRoom, LeavesKeys};
 ghost use Rattle.jiter_value.specs.declared.settings.Settings.{Settings as SettingsView};
@@ -241,7 +242,8 @@ pub fn too_deep<'j>(stacks: &mut Stacks<'j>, at: usize) -> (usize, State)
 
 /// Takes out the value of the document.
 pub fn take_root<'j>(stacks: &mut Stacks<'j>) -> JsonValue<'j>
-    ensures { result ≡ stacks.old.root }
+    ensures value { result ≡ stacks.old.root }
+    ensures cleared { HoldsNothing stacks.old → IsCleared stacks.new }
 {
     mem::replace(&mut stacks.root, JsonValue::Null)
 }

@@ -1,10 +1,11 @@
 //! The turns of a reading over the two stacks: one value, opening or key a turn, and the steps behind it. The
 //! place and what is awaited there go from call to call in registers, and so do all answers of the plain way.
-ghost use Rattle.std.specs.Prelude.{◌≡◌, ◌≢◌, ◌+◌, ◌≤◌, ◌<◌, [], OnOk, length, false};
+ghost use Rattle.std.specs.Prelude.{◌≡◌, ◌≢◌, ◌+◌, ◌≤◌, ◌<◌, [], IfOk, OnOk, length, false};
 ghost use Rattle.jiter_steps.specs.Node.{nesting_limit};
 ghost use Rattle.jiter_steps.specs.Parse.{Moves, Gives};
 ghost use Rattle.jiter_steps.specs.Read.{value_at};
 ghost use Rattle.jiter_steps.specs.ReadError.{WhereRefused};
+ghost use Rattle.jiter_value.specs.Scratch.{IsCleared};
 ghost use Rattle.jiter_value.specs.Settings.{rules_as};
 ghost use Rattle.jiter_value.specs.Size.{value_size, key_size, held};
 ghost use Rattle.jiter_value.specs.Stacks.{slot_of, from_value, from_key, meaning, StandsAtKey, IsFree};
@@ -171,6 +172,7 @@ pub fn run<'s, T: Texts<'s>>(
         parser.old.index) }
     ensures memory { WhereRefused result
         (MayGrowBy T.wants parser.old.bytes.now parser.old.index) }
+    ensures cleared { IfOk result (λ v. IsCleared stacks.new) }
 {
     let bytes = parser.bytes;
     let mut at = parser.index;

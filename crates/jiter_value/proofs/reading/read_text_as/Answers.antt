@@ -6,8 +6,8 @@ use Rattle.jiter_value.proofs.MadeTexts.{answer_as-is}
 use Rattle.jiter_value.proofs.ParsedDocuments.{value-parses, error-parses}
 use Rattle.jiter_value.proofs.reading.read_text_as.Goals as goal
 
-pub returns-in-Ok : goal.returns-in-Ok
-returns-in-Ok g c =
+pub returns-in-Ok-clause-parses : goal.returns-in-Ok-clause-parses
+returns-in-Ok-clause-parses g c =
     let a = c.args in
     let t = a.bytes.now in
     let is = answer_as-is g.T.Texts.made c.requires.repeats a.settings t in
@@ -15,8 +15,8 @@ returns-in-Ok g c =
     c.read_whole.new.parser.index c.in-Ok.value
     (rw is at (rw c.new-parser.ensures.same at c.in-Ok.ensures.value))
 
-pub returns-in-Err : goal.returns-in-Err
-returns-in-Err g c =
+pub returns-in-Err-clause-parses : goal.returns-in-Err-clause-parses
+returns-in-Err-clause-parses g c =
     let a = c.args in
     let t = a.bytes.now in
     let read = c.in-Err.ensures in

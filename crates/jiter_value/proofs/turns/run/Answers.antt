@@ -1,5 +1,5 @@
 use Rattle.std.proofs.Common.{◌≡◌, inl, refl, ap, arith, length, reverse}
-use Rattle.jiter_value.proofs.StackTurns.{root-stands, root-from}
+use Rattle.jiter_value.proofs.StackTurns.{root-stands, root-from, root-holds-nothing}
 use Rattle.jiter_value.proofs.turns.run.Goals as goal
 
 pub turning-init : goal.turning-init
@@ -19,3 +19,7 @@ turning-init g c =
       inl (refl, refl),
       refl,
     )
+
+pub returns-in-Done-clause-cleared : goal.returns-in-Done-clause-cleared
+returns-in-Done-clause-cleared g c =
+    c.take_root.ensures.cleared (root-holds-nothing _ (rw c.in-Done.is at c.turn-next.ensures.leads.reaches).1.0)

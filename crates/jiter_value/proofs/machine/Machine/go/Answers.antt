@@ -17,7 +17,7 @@ returns-in-Ok c =
     let p = c.args.settings in
     let t = c.args.old_parser.bytes.now in
     let s = c.args.old_stacks in
-    let same = c.in-Ok.ensures.same ∙ c.take_root-value.ensures in
+    let same = c.in-Ok.ensures.same ∙ c.take_root-value.ensures.value in
     let holds = rw c.in-Done.is at c.turn-at.ensures.leads.held in
     let was = held-begun t p c.args.old_parser.index c.args.state s c.requires.0 in (
       value-parses as_read (MayGrow t) p t c.finish_whole.new.parser.index c.in-Ok.whole

@@ -11,7 +11,7 @@ returns c =
     let mode = c.args.allow_partial in
     let t = c.args.bytes.now in
     let r = c.read_text.result in
-    let read = c.read_text.ensures in
+    let read = c.read_text.ensures.parses in
     record {
       found = read.found;
       accepts = read.accepts;
