@@ -28,23 +28,32 @@ pub fn scan_short(bytes: &[u8], from: usize) -> (usize, bool)
     (to, both(high == 0, low))
 }
 
-// A place, and whether it is the first of a byte that stops if a quote stands there, all bytes before it below 80 hex.
+// Where the scan of a string stops, if all bytes before it are below 80 hex; else the length.
 #[inline(always)]
-fn ascii_stop(bytes: &[u8], from: usize) -> (usize, bool)
+fn ascii_scan(bytes: &[u8], from: usize) -> usize
     requires { from ≤ length bytes.now }
-    ensures stop { result.1 ≡ true → slice_get bytes.now result.0 ≡ Some ascii.quote
-        → result.0 ≡ scan_stop bytes.now from }
-    ensures ascii { result.1 ≡ true → slice_get bytes.now result.0 ≡ Some ascii.quote
-        → IsAsciiTo bytes.now from result.0 }
+    ensures stop { slice_get bytes.now result ≡ Some ascii.quote → result ≡ scan_stop bytes.now from }
+    ensures ascii { slice_get bytes.now result ≡ Some ascii.quote → IsAsciiTo bytes.now from result }
+{
+    let (to, ascii) = scan_string(bytes, from);
+    if ascii { to } else { bytes.len() }
+}
+
+// A place: where a quote stands there, it is the first byte that stops, and all bytes before it are below 80 hex.
+#[inline(always)]
+fn ascii_stop(bytes: &[u8], from: usize) -> usize
+    requires { from ≤ length bytes.now }
+    ensures stop { slice_get bytes.now result ≡ Some ascii.quote → result ≡ scan_stop bytes.now from }
+    ensures ascii { slice_get bytes.now result ≡ Some ascii.quote → IsAsciiTo bytes.now from result }
 {
     if bytes.len() - from < 16 {
-        return scan_string(bytes, from);
+        return ascii_scan(bytes, from);
     }
     let found = ascii_stops(u8x16::from_slice(&bytes[from..]));
     if found != 0 {
-        return (from + found.trailing_zeros() as usize, true);
+        return from + found.trailing_zeros() as usize;
     }
-    scan_string(bytes, from + 16)
+    ascii_scan(bytes, from + 16)
 }
 
 /// The first quote from a byte index on, if no backslash and no control byte stands before it, and all bytes before it,
@@ -56,8 +65,8 @@ pub fn ascii_quote(bytes: &[u8], from: usize) -> Option<usize>
     ensures quote { IfSome result (λ to. slice_get bytes.now to ≡ Some ascii.quote) }
     ensures ascii { IfSome result (λ to. IsAsciiTo bytes.now from to) }
 {
-    let (to, ascii) = ascii_stop(bytes, from);
-    if ascii && to < bytes.len() && bytes[to] == b'"' {
+    let to = ascii_stop(bytes, from);
+    if to < bytes.len() && bytes[to] == b'"' {
         Some(to)
     } else {
         None
