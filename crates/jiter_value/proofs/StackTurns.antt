@@ -423,5 +423,8 @@ root-holds-nothing s h =
     (sym (length-reverse s.nest.items) ∙ root-alone (reverse s.nest.items) _ _ h)
     in
     let parts = root-parts (reverse s.nest.items) _ _ h in
-    record { items = nil_from_length s.items.items parts.0; members = nil_from_length s.members.items parts.1;
-    nest = none }
+    record {
+      items = nil_from_length s.items.items parts.0;
+      members = nil_from_length s.members.items parts.1;
+      nest = none;
+    }

@@ -22,7 +22,9 @@ use crate::turns::key_sets::{KeySet, forget_closed, is_new_key};
 use crate::turns::turn;
 use crate::value::JsonValue;
 use jiter_scan::memory::{Refused, copy_text};
+use jiter_scan::text::ascii_text;
 use jiter_steps::parse::Parser;
+use jiter_steps::plain::plain_text_end;
 use jiter_steps::read_error::ReadError;
 use smallvec::SmallVec;
 use std::alloc::Global;
@@ -94,7 +96,25 @@ fn repeat_of(
     }
 }
 
+// Whether the key at `at` is of plain ASCII with no escape, and none of the members before it has it.
+#[inline(always)]
+fn is_new_plain_key(stacks: &Stacks<'_>, bytes: &[u8], at: usize) -> bool
+    requires stands { StandsAtKey stacks.now }
+    requires within { at < length bytes.now }
+    ensures free { result ≡ true → IsFree lent_unique bytes.now stacks.now at }
+{
+    match plain_text_end(bytes, at) {
+        Some(to) => {
+            let base = innermost_base(&stacks.nest);
+            !has_key(&stacks.members, base, ascii_text(&bytes[at + 1..to]))
+        }
+        None => false,
+    }
+}
+
 // The key at `at`, if the members before it have it already.
+#[cold]
+#[inline(never)]
 fn find_repeat(
     alloc: Global,
     tape: &mut Vec<u8>,
@@ -184,6 +204,9 @@ fn stop_at_key<'s>(
         Ok(true) => return None,
         Ok(false) => {}
         Err(refused) => return Some((Stopped::Read(ReadError::Memory(refused)), at)),
+    }
+    if is_new_plain_key(stacks, bytes, at) {
+        return None;
     }
     match find_repeat(alloc, tape, stacks, bytes, at) {
         Ok(None) => None,
