@@ -9,7 +9,7 @@ use Rattle.look.specs.declared.words.Words.{Words}
 
 -- what words that ask for nothing are answered with
 abbrev pub usage_line : List ℕ
-usage_line = with_line_feed (codes "usage: look off|on|trailing-strings [inf-nan]")
+usage_line = with_line_feed (codes "usage: look off|on|trailing-strings [inf-nan] [unique]")
 
 -- the usage line: all of it and status 2, or a front of it and status 3
 abbrev pub WroteUsage : ℕ → Option (List ℕ) → Option (List ℕ) → Type 0
@@ -19,7 +19,7 @@ WroteUsage status err err' =
 -- a run over these bytes, and its status
 abbrev pub Ran : Words → List ℕ → ℕ → Option (List ℕ) → Option (List ℕ) → Option (List ℕ) → Option (List ℕ) → Type 0
 Ran asked text status out out' err err' =
-    (end : End) × (status ≡ status_of end) × Wrote (line_of asked.inf_nan asked.mode text) end out out' err err'
+    (end : End) × (status ≡ status_of end) × Wrote (line_of asked.inf_nan asked.unique asked.mode text) end out out' err err'
 
 -- what both writers hold after the program, and its status: the usage line where the words ask for nothing
 abbrev pub Looks : Option Words → Option (List ℕ) → ℕ → Option (List ℕ) → Option (List ℕ) → Option (List ℕ)

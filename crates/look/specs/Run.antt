@@ -1,11 +1,13 @@
 -- What a whole run writes.
-use Rattle.std.specs.Prelude.{◌≡◌, ◌≢◌, ℕ, Bool, List, [], Option, Some, None, ⊤}
+use Rattle.std.specs.Prelude.{◌≡◌, ◌≢◌, ℕ, Bool, if◌then◌else◌, List, [], Option, Some, None, ⊤}
 use Rattle.std.specs.Io.KnownBytes.{Keeps, Appends}
 use Rattle.jiter_scan.specs.Position.{description_text}
 use Rattle.jiter_steps.specs.Tree.{Tree}
 use Rattle.jiter_steps.specs.Read.{Reading, done, fault}
 use Rattle.jiter_scan.specs.declared.partial_mode.PartialMode.{PartialMode}
 use Rattle.jiter_steps.specs.Answer.{answer_in}
+use Rattle.jiter_steps.specs.Unique.{unique_answer_in}
+use Rattle.jiter_value.specs.UniqueErrors.{IsMemoryRefused}
 use Rattle.jiter_print.specs.Print.{print_of, with_line_feed}
 use Rattle.jiter_print.specs.Written.{AppendsFront}
 use Rattle.look.specs.declared.running.End.{End}
@@ -26,9 +28,13 @@ abbrev pub line_for : Reading Tree → List ℕ → Line
 line_for (done v e) t = value_line (with_line_feed (print_of v))
 line_for (fault kind i stop) t = fault_line (with_line_feed (description_text kind i t))
 
--- the line for a text, read in this mode
-abbrev pub line_of : Bool → PartialMode → List ℕ → Line
-line_of inf_nan mode t = line_for (answer_in inf_nan mode t) t
+-- what a text is read as in this mode, a repeated key refused or kept
+abbrev pub reading_of : Bool → Bool → PartialMode → List ℕ → Reading Tree
+reading_of inf_nan unique mode t = if unique then unique_answer_in inf_nan mode t else answer_in inf_nan mode t
+
+-- the line for a text, read so
+abbrev pub line_of : Bool → Bool → PartialMode → List ℕ → Line
+line_of inf_nan unique mode t = line_for (reading_of inf_nan unique mode t) t
 
 -- known bytes are left
 abbrev pub IsUnread : Option (List ℕ) → Type 0
@@ -63,6 +69,7 @@ line_view (variant.Fault v) = fault_line v.items
 -- where memory was refused: of the parse's own faults only that one
 abbrev pub IsOfMemory : refusal.NoMemory → Type 0
 IsOfMemory (reason.Parse e) = e.error_type ≡ OutOfMemory
+IsOfMemory (reason.ParseUnique e) = IsMemoryRefused e.error_type
 IsOfMemory (reason.Describe e) = ⊤
 IsOfMemory (reason.Print r) = ⊤
 

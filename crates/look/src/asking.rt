@@ -1,25 +1,34 @@
 //! The words behind the program's name.
 ghost use Rattle.std.specs.Prelude.{◌≡◌, map, string_bytes};
-ghost use Rattle.look.specs.Words.{mode_of, words_of};
+ghost use Rattle.look.specs.Words.{asked_of, mode_of, words_of};
 
 use crate::words::Words;
 use jiter::PartialMode;
 
-/// What the words ask for: a mode, and perhaps `inf-nan`. Any other list asks for nothing.
+/// What the words ask for: a mode, perhaps `inf-nan`, and perhaps `unique` as the last. Any other list asks for nothing.
 pub fn words(list: &[String]) -> Option<Words>
     ensures { result ≡ words_of (map string_bytes list.now) }
 {
     match list {
-        [mode] => Some(Words {
-            mode: mode_named(mode.as_str())?,
-            inf_nan: false,
-        }),
-        [mode, name] if name.as_str() == "inf-nan" => Some(Words {
-            mode: mode_named(mode.as_str())?,
-            inf_nan: true,
-        }),
+        [mode] => asked(mode.as_str(), false, false),
+        [mode, name] if name.as_str() == "inf-nan" => asked(mode.as_str(), true, false),
+        [mode, last] if last.as_str() == "unique" => asked(mode.as_str(), false, true),
+        [mode, name, last] if name.as_str() == "inf-nan" && last.as_str() == "unique" => {
+            asked(mode.as_str(), true, true)
+        }
         _ => None,
     }
+}
+
+// What a word that names a mode asks for, with these settings.
+fn asked(mode: &str, inf_nan: bool, unique: bool) -> Option<Words>
+    ensures { result ≡ asked_of inf_nan unique mode.now }
+{
+    Some(Words {
+        mode: mode_named(mode)?,
+        inf_nan,
+        unique,
+    })
 }
 
 fn mode_named(word: &str) -> Option<PartialMode>

@@ -9,7 +9,7 @@ use jiter_print::write_line;
 use std::alloc::Global;
 use std::io::{Read, Write};
 
-const USAGE: &str = "usage: look off|on|trailing-strings [inf-nan]\n";
+const USAGE: &str = "usage: look off|on|trailing-strings [inf-nan] [unique]\n";
 
 /// Runs as the words ask, or writes the usage line to `err` where they ask for nothing. It returns the exit
 /// status: that of the run, or 2 once the usage line was written, and 3 where it was not.
@@ -24,7 +24,16 @@ pub fn look<R: Read, O: Write, E: Write>(
         (O.contents out.old) (O.contents out.new) (E.contents err.old) (E.contents err.new) }
 {
     match words(list) {
-        Some(asked) => run(alloc, reader, out, err, asked.mode, asked.inf_nan).status(),
+        Some(asked) => run(
+            alloc,
+            reader,
+            out,
+            err,
+            asked.mode,
+            asked.inf_nan,
+            asked.unique,
+        )
+        .status(),
         None => match write_line(err, USAGE.as_bytes()) {
             Ok(()) => 2,
             Err(_) => 3,

@@ -1,14 +1,14 @@
 //! A whole run, over one reader and two writers.
-ghost use Rattle.std.specs.Prelude.{◌≡◌, IfOk, IfErr, OnOk, IfSome};
+ghost use Rattle.std.specs.Prelude.{◌≡◌, IfOk, IfErr, OnOk, IfSome, false, string_bytes, true};
 ghost use Rattle.std.specs.Option.{option_map};
 ghost use Rattle.std.specs.Io.KnownBytes.{IsAtEnd};
-ghost use Rattle.jiter_steps.specs.Answer.{answer_in};
+ghost use Rattle.jiter_print.specs.Print.{print_of, with_line_feed};
 ghost use Rattle.jiter_print.specs.Printed.{PrintsAgain};
-ghost use Rattle.look.specs.Run.{IsOfMemory, IsUnread, line_of, line_view, status_of, Wrote};
-ghost use Rattle.look.specs.Run.{WroteNothing};
-ghost use Rattle.look.specs.Run.{WroteIfAny};
+ghost use Rattle.jiter_value.specs.Value.{view};
+ghost use Rattle.look.specs.Run.{IsOfMemory, IsUnread, fault_line, line_of, line_view, reading_of, status_of};
+ghost use Rattle.look.specs.Run.{value_line, Wrote, WroteIfAny, WroteNothing};
 
-use jiter::{JsonError, JsonErrorType, JsonValue, PartialMode};
+use jiter::{JsonError, JsonErrorType, JsonValue, PartialMode, UniqueError, UniqueErrorType};
 use jiter_print::{print, write_line};
 use jiter_scan::memory::{Refused, push};
 use std::alloc::{AllocError, Global};
@@ -59,6 +59,7 @@ enum NoLine {
 #[derive(Debug, Drop)]
 enum NoMemory {
     Parse(JsonError),
+    ParseUnique(UniqueError),
     Describe(AllocError),
     Print(Refused),
 }
@@ -103,18 +104,19 @@ pub fn run<R: Read, O: Write, E: Write>(
     err: &mut E,
     mode: PartialMode,
     inf_nan: bool,
+    unique: bool,
 ) -> End
     // Over known bytes: the line of these bytes in its own writer, or a front of it, and the other as it was.
-    ensures wrote { IfSome (R.remaining reader.old) (λ text. Wrote (line_of inf_nan mode text) result
+    ensures wrote { IfSome (R.remaining reader.old) (λ text. Wrote (line_of inf_nan unique mode text) result
         (O.contents out.old) (O.contents out.new) (E.contents err.old) (E.contents err.new)) }
     // Where known bytes are left unread nothing was written.
     ensures unread { IsUnread (R.remaining reader.new) → WroteNothing result
         (O.contents out.old) (O.contents out.new) (E.contents err.old) (E.contents err.new) }
     // In each mode a value's line is again a document of the value that was read, under the same setting.
     ensures again { IfSome (R.remaining reader.old)
-        (λ text. PrintsAgain inf_nan (answer_in inf_nan mode text)) }
+        (λ text. PrintsAgain inf_nan (reading_of inf_nan unique mode text)) }
 {
-    match read_line(alloc, reader, mode, inf_nan) {
+    match read_line(alloc, reader, mode, inf_nan, unique) {
         Ok(line) => show(Some(line), out, err),
         Err(_) => show(None, out, err),
     }
@@ -126,36 +128,93 @@ fn read_line<R: Read>(
     reader: &mut R,
     mode: PartialMode,
     inf_nan: bool,
+    unique: bool,
 ) -> Result<Line, NoLine>
     ensures line { IfOk result (λ line. IfSome (R.remaining reader.old)
-        (λ text. line_view line ≡ line_of inf_nan mode text)) }
+        (λ text. line_view line ≡ line_of inf_nan unique mode text)) }
     ensures whole { OnOk result (IsAtEnd (R.remaining reader.new)) }
 {
     let mut text = Vec::new(alloc);
     reader.read_to_end(&mut text)?;
-    make_line(alloc, text.as_slice(), mode, inf_nan).map_err(NoLine::Make)
+    make_line(alloc, text.as_slice(), mode, inf_nan, unique).map_err(NoLine::Make)
 }
 
 // The line for a text. It fails only where memory is refused.
-fn make_line(alloc: Global, text: &[u8], mode: PartialMode, inf_nan: bool) -> Result<Line, NoMemory>
-    ensures line { IfOk result (λ line. line_view line ≡ line_of inf_nan mode text.now) }
+fn make_line(
+    alloc: Global,
+    text: &[u8],
+    mode: PartialMode,
+    inf_nan: bool,
+    unique: bool,
+) -> Result<Line, NoMemory>
+    ensures line { IfOk result (λ line. line_view line ≡ line_of inf_nan unique mode text.now) }
+    ensures memory { IfErr result IsOfMemory }
+{
+    if unique {
+        unique_line(alloc, text, mode, inf_nan)
+    } else {
+        plain_line(alloc, text, mode, inf_nan)
+    }
+}
+
+// The same where repeated keys are kept.
+fn plain_line(
+    alloc: Global,
+    text: &[u8],
+    mode: PartialMode,
+    inf_nan: bool,
+) -> Result<Line, NoMemory>
+    ensures line { IfOk result (λ line. line_view line ≡ line_of inf_nan false mode text.now) }
     ensures memory { IfErr result IsOfMemory }
 {
     match JsonValue::parse_with_config(alloc, text, inf_nan, mode) {
-        Ok(value) => {
-            let mut bytes = print(alloc, &value)?;
-            push(&mut bytes, b'\n')?;
-            Ok(Line::Value(bytes))
-        }
+        Ok(value) => line_of_value(alloc, &value),
         Err(error) => match error.error_type {
             JsonErrorType::OutOfMemory => Err(NoMemory::Parse(error)),
-            _ => {
-                let mut bytes = error.description(alloc, text)?.into_bytes();
-                push(&mut bytes, b'\n')?;
-                Ok(Line::Fault(bytes))
-            }
+            _ => line_of_fault(error.description(alloc, text)?),
         },
     }
+}
+
+// The same where they are refused.
+fn unique_line(
+    alloc: Global,
+    text: &[u8],
+    mode: PartialMode,
+    inf_nan: bool,
+) -> Result<Line, NoMemory>
+    ensures line { IfOk result (λ line. line_view line ≡ line_of inf_nan true mode text.now) }
+    ensures memory { IfErr result IsOfMemory }
+{
+    match JsonValue::parse_unique(alloc, text, inf_nan, mode) {
+        Ok(value) => line_of_value(alloc, &value),
+        Err(error) => match &error.error_type {
+            UniqueErrorType::JsonError(JsonErrorType::OutOfMemory) => {
+                Err(NoMemory::ParseUnique(error))
+            }
+            _ => line_of_fault(error.description(alloc, text)?),
+        },
+    }
+}
+
+// The line of a value: its compact text.
+fn line_of_value(alloc: Global, value: &JsonValue<'_>) -> Result<Line, NoMemory>
+    ensures line { IfOk result (λ line. line_view line ≡ value_line (with_line_feed (print_of (view value.now)))) }
+    ensures memory { IfErr result IsOfMemory }
+{
+    let mut bytes = print(alloc, value)?;
+    push(&mut bytes, b'\n')?;
+    Ok(Line::Value(bytes))
+}
+
+// The line of a fault: its description.
+fn line_of_fault(description: String) -> Result<Line, NoMemory>
+    ensures line { IfOk result (λ line. line_view line ≡ fault_line (with_line_feed (string_bytes description))) }
+    ensures memory { IfErr result IsOfMemory }
+{
+    let mut bytes = description.into_bytes();
+    push(&mut bytes, b'\n')?;
+    Ok(Line::Fault(bytes))
 }
 
 /// Writes a line to its own writer, if there is one: a value's to `out`, a fault's to `err`.

@@ -10,6 +10,7 @@ mod counted;
 mod printing;
 mod reading;
 mod reads;
+mod repeats;
 mod words;
 mod writing;
 

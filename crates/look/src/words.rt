@@ -8,4 +8,6 @@ pub struct Words {
     pub mode: PartialMode,
     /// Whether `NaN`, `Infinity` and `-Infinity` are numbers.
     pub inf_nan: bool,
+    /// Whether a key that its object has already is refused.
+    pub unique: bool,
 }

@@ -1,6 +1,8 @@
 //! What the answers of calls come to.
 use crate::outcome::Outcome;
-use jiter::{JiterErrorType, JiterResult, JsonError, JsonErrorType as Kind, JsonValue};
+use jiter::{
+    JiterErrorType, JiterResult, JsonError, JsonErrorType as Kind, JsonValue, UniqueError,
+};
 use jiter_tests::told::text_of;
 use std::alloc::{AllocError, Global};
 
@@ -44,6 +46,24 @@ impl Outcome {
         match answer {
             Ok(value) => Outcome::value(alloc, value),
             Err(error) if error.error_type == Kind::OutOfMemory => {
+                Outcome::refused_at(alloc, error.index, first_of(bytes), bytes.len())
+            }
+            Err(error) => Ok(Outcome::Answered(format!(in alloc;
+                "{} at {}",
+                error.error_type, error.index
+            )?)),
+        }
+    }
+
+    /// What a reading of a whole text answers that refuses repeated keys.
+    pub fn of_unique(
+        alloc: Global,
+        bytes: &[u8],
+        answer: &Result<JsonValue<'_>, UniqueError>,
+    ) -> Result<Outcome, AllocError> {
+        match answer {
+            Ok(value) => Outcome::value(alloc, value),
+            Err(error) if error.is_memory() => {
                 Outcome::refused_at(alloc, error.index, first_of(bytes), bytes.len())
             }
             Err(error) => Ok(Outcome::Answered(format!(in alloc;

@@ -8,6 +8,8 @@ pub enum Whole {
     Parse,
     /// `JsonValue::parse_with_config`
     Config,
+    /// `JsonValue::parse_unique`
+    Unique,
     /// A `Machine` through its turns.
     Turns,
     /// `JsonValue::parse_owned`
@@ -46,6 +48,10 @@ pub enum Copying {
     Describe,
     /// `JiterError::description`
     DescribeRefusal,
+    /// `UniqueError::clone`
+    CloneUnique,
+    /// `UniqueError::description`
+    DescribeUnique,
     /// `LinePosition::short`
     Short,
 }
@@ -87,6 +93,7 @@ fn call_named(word: &str) -> Option<Call> {
     match word {
         "parse" => Some(Call::Whole(Whole::Parse)),
         "config" => Some(Call::Whole(Whole::Config)),
+        "unique" => Some(Call::Whole(Whole::Unique)),
         "turns" => Some(Call::Whole(Whole::Turns)),
         "owned" => Some(Call::Whole(Whole::Owned)),
         "scratch" => Some(Call::Whole(Whole::Scratch)),
@@ -118,6 +125,8 @@ fn copying_named(word: &str) -> Option<Copying> {
         "into-static" => Some(Copying::IntoStatic),
         "description" => Some(Copying::Describe),
         "refusal-description" => Some(Copying::DescribeRefusal),
+        "unique-clone" => Some(Copying::CloneUnique),
+        "unique-description" => Some(Copying::DescribeUnique),
         "short" => Some(Copying::Short),
         _ => None,
     }

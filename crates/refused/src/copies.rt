@@ -1,7 +1,7 @@
 //! Copies of a value, and what is told of a fault and of a place.
 use crate::asking::Copying;
 use crate::outcome::Outcome;
-use jiter::{Jiter, JsonError, JsonErrorType as Kind, JsonValue, PartialMode};
+use jiter::{Jiter, JsonError, JsonErrorType as Kind, JsonValue, PartialMode, UniqueError};
 use jiter_tests::told::text_of;
 use std::alloc::{AllocError, Global};
 
@@ -12,11 +12,20 @@ pub fn outcome(
     mode: PartialMode,
     call: Copying,
 ) -> Result<Outcome, AllocError> {
-    if let Copying::DescribeRefusal = call {
-        return refusal_told(alloc, bytes);
+    match call {
+        Copying::DescribeRefusal => refusal_told(alloc, bytes),
+        Copying::CloneUnique | Copying::DescribeUnique => of_unique(alloc, bytes, mode, call),
+        _ => of_answer(alloc, bytes, mode, call),
     }
-    let answer = JsonValue::parse_with_config(alloc, bytes, true, mode);
-    match answer {
+}
+
+fn of_answer(
+    alloc: Global,
+    bytes: &[u8],
+    mode: PartialMode,
+    call: Copying,
+) -> Result<Outcome, AllocError> {
+    match JsonValue::parse_with_config(alloc, bytes, true, mode) {
         Ok(value) => copied(alloc, value, call),
         Err(error) if error.error_type == Kind::OutOfMemory => Outcome::refused(alloc),
         Err(error) => told(alloc, bytes, &error, call),
@@ -66,6 +75,32 @@ fn told(
         _ => error.description(alloc, bytes),
     };
     told_line(alloc, line)
+}
+
+// The same of the fault where repeated keys are refused.
+fn of_unique(
+    alloc: Global,
+    bytes: &[u8],
+    mode: PartialMode,
+    call: Copying,
+) -> Result<Outcome, AllocError> {
+    match JsonValue::parse_unique(alloc, bytes, true, mode) {
+        Ok(value) => Outcome::value(alloc, &value),
+        Err(error) if error.is_memory() => Outcome::refused(alloc),
+        Err(error) => match call {
+            Copying::CloneUnique => error_copied(alloc, &error),
+            _ => told_line(alloc, error.description(alloc, bytes)),
+        },
+    }
+}
+
+// A copy of a fault, which is like it, or refused.
+fn error_copied(alloc: Global, error: &UniqueError) -> Result<Outcome, AllocError> {
+    match error.clone(alloc) {
+        Ok(copy) if &copy == error => Ok(Outcome::Answered(format!(in alloc; "{copy}")?)),
+        Ok(_) => Outcome::broken(alloc, "a copy is not like the fault"),
+        Err(_) => Outcome::refused(alloc),
+    }
 }
 
 // What is told of a refusal of the pull reader.

@@ -14,6 +14,7 @@ pub fn outcome(
     match call {
         Whole::Parse => Outcome::of_text(alloc, bytes, &JsonValue::parse(alloc, bytes, true)),
         Whole::Config => parsed(alloc, bytes, mode),
+        Whole::Unique => unique(alloc, bytes, mode),
         Whole::Turns => by_turns(alloc, bytes, mode),
         Whole::Owned => owned(alloc, bytes, mode),
         Whole::Scratch => by_scratch(alloc, bytes, mode),
@@ -24,6 +25,11 @@ pub fn outcome(
 fn parsed(alloc: Global, bytes: &[u8], mode: PartialMode) -> Result<Outcome, AllocError> {
     let answer = JsonValue::parse_with_config(alloc, bytes, true, mode);
     Outcome::of_text(alloc, bytes, &answer)
+}
+
+fn unique(alloc: Global, bytes: &[u8], mode: PartialMode) -> Result<Outcome, AllocError> {
+    let answer = JsonValue::parse_unique(alloc, bytes, true, mode);
+    Outcome::of_unique(alloc, bytes, &answer)
 }
 
 fn owned(alloc: Global, bytes: &[u8], mode: PartialMode) -> Result<Outcome, AllocError> {

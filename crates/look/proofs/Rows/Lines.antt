@@ -43,9 +43,27 @@ rows =
     (false, "[1, 2] extra", fault "trailing characters at line 1 column 8") ∷
     []
 
-lines : map (λ r. line_of r.0 Off (codes r.1)) rows ≡ map (λ r. r.2) rows
+lines : map (λ r. line_of r.0 false Off (codes r.1)) rows ≡ map (λ r. r.2) rows
 unfolding computed_answers
 lines = refl
+
+-- a text, and its line with partial reading off and repeated keys refused
+abbrev unique_rows : List (String × Line)
+unique_rows =
+    -- a key twice
+    ("{\"a\":1,\"a\":2}", fault "Detected duplicate key \"a\" at line 1 column 12") ∷
+    -- once plain and once by an escape
+    ("{\"a\":1,\n\"\\u0061\" : 2}", fault "Detected duplicate key \"a\" at line 2 column 11") ∷
+    -- a key that only another object has
+    ("{\"a\": {\"a\": 1}, \"b\": [{\"a\": 2}]}", value "{\"a\":{\"a\":1},\"b\":[{\"a\":2}]}") ∷
+    -- a fault before the key stands again, and one of what stands behind its colon
+    ("{\"a\":,\"a\":2}", fault "expected value at line 1 column 6") ∷
+    ("{\"a\":1,\"a\":?}", fault "Detected duplicate key \"a\" at line 1 column 12") ∷
+    []
+
+unique_lines : map (λ r. line_of false true Off (codes r.0)) unique_rows ≡ map (λ r. r.1) unique_rows
+unfolding computed_answers
+unique_lines = refl
 
 -- a text, and its lines in the three modes: off, on and with trailing strings
 abbrev ModeRow : Type 0
@@ -74,7 +92,8 @@ mode_rows =
 
 abbrev in_modes : ModeRow → ModeRow
 in_modes r =
-    let t = codes r.0 in (r.0, line_of false Off t, line_of false On t, line_of false TrailingStrings t)
+    let t = codes r.0 in
+    (r.0, line_of false false Off t, line_of false false On t, line_of false false TrailingStrings t)
 
 lines_in_modes : map in_modes mode_rows ≡ mode_rows
 unfolding computed_answers

@@ -8,22 +8,30 @@ use std::alloc::Global;
 use std::test::*;
 
 // Whether words ask for this.
-fn ask_for(alloc: Global, given: &[&str], mode: PartialMode, inf_nan: bool) -> bool {
+fn ask_for(alloc: Global, given: &[&str], mode: PartialMode, inf_nan: bool, unique: bool) -> bool {
+    let asked = Words {
+        mode,
+        inf_nan,
+        unique,
+    };
     match list_of(alloc, given) {
-        Ok(list) => words(list.as_slice()) == Some(Words { mode, inf_nan }),
+        Ok(list) => words(list.as_slice()) == Some(asked),
         Err(_) => false,
     }
 }
 
 #[test]
 fn words_name_a_mode(rt: HostRuntime) {
+    let alloc = rt.alloc();
     for (word, mode) in [
         ("off", PartialMode::Off),
         ("on", PartialMode::On),
         ("trailing-strings", PartialMode::TrailingStrings),
     ] {
-        assert!(rt; ask_for(rt.alloc(), &[word], mode, false));
-        assert!(rt; ask_for(rt.alloc(), &[word, "inf-nan"], mode, true));
+        assert!(rt; ask_for(alloc, &[word], mode, false, false));
+        assert!(rt; ask_for(alloc, &[word, "inf-nan"], mode, true, false));
+        assert!(rt; ask_for(alloc, &[word, "unique"], mode, false, true));
+        assert!(rt; ask_for(alloc, &[word, "inf-nan", "unique"], mode, true, true));
     }
 }
 
@@ -33,7 +41,7 @@ fn are_wrong(alloc: Global, given: &[&str]) -> bool {
         given,
         text: b"[1]",
         status: 2,
-        line: b"usage: look off|on|trailing-strings [inf-nan]\n",
+        line: b"usage: look off|on|trailing-strings [inf-nan] [unique]\n",
     };
     match list_of(alloc, given) {
         Ok(list) => words(list.as_slice()).is_none() && does(alloc, row, 1),
@@ -57,10 +65,18 @@ fn other_words_get_the_usage_line(rt: HostRuntime) {
     ] {
         assert!(rt; are_wrong(alloc, &[word]), "{word}");
         assert!(rt; are_wrong(alloc, &[word, "inf-nan"]), "{word}");
+        assert!(rt; are_wrong(alloc, &[word, "unique"]), "{word}");
         assert!(rt; are_wrong(alloc, &["off", "inf-nan", word]), "{word}");
+        assert!(rt; are_wrong(alloc, &["off", "unique", word]), "{word}");
+        assert!(rt;
+            are_wrong(alloc, &["off", "inf-nan", "unique", word]),
+            "{word}"
+        );
     }
     for (first, second) in [
         ("off", "x"),
+        ("off", "Unique"),
+        ("unique", "off"),
         ("off", "off"),
         ("on", "off"),
         ("trailing-strings", "on"),
@@ -68,6 +84,9 @@ fn other_words_get_the_usage_line(rt: HostRuntime) {
         assert!(rt; are_wrong(alloc, &[first, second]), "{first} {second}");
     }
     assert!(rt; are_wrong(alloc, &[]));
+    assert!(rt; are_wrong(alloc, &["unique"]));
+    assert!(rt; are_wrong(alloc, &["off", "x", "unique"]));
+    assert!(rt; are_wrong(alloc, &["inf-nan", "unique", "off"]));
 }
 
 #[test]

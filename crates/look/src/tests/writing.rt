@@ -26,7 +26,7 @@ const ROWS: [Row<'static>; 3] = [
         given: &["maybe"],
         text: b"[1]",
         status: 2,
-        line: b"usage: look off|on|trailing-strings [inf-nan]\n",
+        line: b"usage: look off|on|trailing-strings [inf-nan] [unique]\n",
     },
 ];
 
@@ -62,6 +62,7 @@ fn a_line_is_added_behind_what_stands(rt: HostRuntime) {
             &mut out,
             &mut err,
             PartialMode::Off,
+            false,
             false,
         );
     }
