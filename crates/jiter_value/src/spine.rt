@@ -2,15 +2,23 @@
 //! last part of the next; within a piece they lie in a vector, the spine: the outermost first, each parent with a null
 //! in the place of the one inside it. To go from one to the other takes no memory.
 ghost use Rattle.std.specs.Prelude.{◌≡◌, ◌+◌, ◌≤◌, ◌<◌, ◌∷◌, ◌++◌, [], List, OnErr, OnOk, length, map, vec_len};
-ghost use Rattle.std.specs.Prelude.{vec_capacity};
+ghost use Rattle.std.specs.Prelude.{vec_capacity, ℕ, true};
+ghost use Rattle.jiter_scan.specs.PartialMode.{is_active};
+ghost use Rattle.jiter_steps.specs.Read.{done};
 ghost use Rattle.jiter_steps.specs.StringDecoder.{text_view};
 ghost use Rattle.jiter_steps.specs.Tree.{Text, Tree};
+ghost use Rattle.jiter_value.specs.Arrived.{Arrived, HasRead, Holds, shown};
+ghost use Rattle.jiter_value.specs.Owned.{owned_tree};
+ghost use Rattle.jiter_value.specs.Parses.{reading_as};
+ghost use Rattle.jiter_value.specs.Settings.{answer_by};
 ghost use Rattle.jiter_value.specs.Spine.{OpenFrame, around, begun, filled, parents_of, spine_of, HasPart, IsOpen};
 ghost use Rattle.jiter_value.specs.Spine.{StandsFor, HasValue, AwaitsPart, IsOfKey, IsRoomy, HasRoomInside};
 ghost use Rattle.jiter_value.specs.Stacks.{Member, empty_tree};
 ghost use Rattle.jiter_value.specs.Value.{view};
 ghost use Rattle.std.specs.declared.alloc.Global.{Global};
 ghost use Rattle.std.specs.declared.borrow.CowStr.{CowStr as CowStrView};
+ghost use Rattle.jiter_value.specs.declared.arriving.Awaits.{Awaits};
+ghost use Rattle.jiter_value.specs.declared.settings.Settings.{Settings};
 ghost use Rattle.jiter_value.specs.declared.value.JsonValue.{JsonValue as JsonValueView, out-JsonValue};
 
 use crate::value::{JsonArray, JsonObject, JsonValue};
@@ -110,6 +118,10 @@ pub fn close<'j>(spine: &mut Vec<JsonValue<'j>>, root: &mut JsonValue<'j>)
 pub fn put_together<'j>(spine: &mut Vec<JsonValue<'j>>, root: &mut JsonValue<'j>)
     requires { (v : Tree) × StandsFor spine.old.items root.old v }
     ensures root { (v : Tree) → StandsFor spine.old.items root.old v → view root.new ≡ v }
+    // Where it was read of a text in a partial mode, this is what the text so far answers, each text owned.
+    ensures answer { (p : Settings) → (t : List ℕ) → (a : Awaits) → (k : Text) → (s : Arrived) → (v : Tree)
+        → is_active p.mode ≡ true → HasRead p t s → Holds a spine.old.items root.old k s → shown s ≡ Some v
+        → (view root.new ≡ v) × ((e : ℕ) × (reading_as owned_tree (answer_by p t) ≡ done v e)) }
     ensures empty { spine.new.items ≡ [] }
     ensures capacity { vec_capacity spine.new ≡ vec_capacity spine.old }
 {
