@@ -22,5 +22,6 @@ pub mod Placed
 pub mod Repeats
 pub mod KeptKeys
 pub mod Spines
+pub mod Arrivals
 pub mod KeySets
 mod Rows

@@ -1,6 +1,6 @@
 -- Open containers, taken apart and put together.
 use Rattle.std.proofs.Common.{◌≡◌, ℕ, ◌+◌, ◌-◌, ◌<◌, ◌≤◌, List, [], ◌∷◌, ◌++◌, length, take, map, get_or, refl}
-use Rattle.std.proofs.Common.{sym, ap, ap₂, ◌∙◌, arith, length-append, inl, inr, Vec, rules}
+use Rattle.std.proofs.Common.{sym, subst, ap, ap₂, ◌∙◌, arith, length-append, inl, inr, Vec, rules}
 use Rattle.std.specs.Prelude.{slice_set}
 use Rattle.std.specs.declared.alloc.Global.{Global}
 use Rattle.std.specs.declared.borrow.CowStr.{CowStr}
@@ -10,8 +10,8 @@ use Rattle.jiter_steps.specs.Frames.{items_frame, members_frame}
 use Rattle.jiter_steps.specs.StringDecoder.{text_view}
 use Rattle.jiter_steps.specs.Tree.{Text, Tree, Items, no_items, item, Members, no_members, member, null, array, object}
 use Rattle.jiter_steps.specs.Tree.{items_of, members_of}
-use Rattle.jiter_value.specs.Spine.{OpenFrame, around, filled, parents_of, spine_of, HasPart, StandsFor}
-use Rattle.jiter_value.specs.Spine.{HasValue}
+use Rattle.jiter_value.specs.Spine.{OpenFrame, around, begun, filled, parents_of, spine_of, HasPart, StandsFor}
+use Rattle.jiter_value.specs.Spine.{HasValue, AwaitsPart, IsOfKey, HasRoomInside, IsRoomy}
 use Rattle.jiter_value.specs.Stacks.{Member, member_view}
 use Rattle.jiter_value.specs.Value.{view}
 use Rattle.jiter_value.specs.declared.value.JsonValue.{JsonValue, Array, Object, out-JsonValue, the_lemmas}
@@ -301,3 +301,89 @@ put-together spine root v none (inl h) = h.1
 put-together spine root v none (inr s) =
     let long = length-append (parents_of s.frames) (s.innermost ∷ []) in
     absurd (omega (arith, ap length s.apart, length-map spine view, none, long))
+
+-- A container that stands as it is so far is a frame of its parts;
+pub array-begun : (vs : List JsonValue) (f : OpenFrame) → array (items_of (map view vs)) ≡ begun f
+    → f ≡ items_frame (map view vs)
+array-begun vs (items_frame xs) h =
+    let same : items_of (map view vs) ≡ items_of xs = cc in ap items_frame (sym (items-same (map view vs) xs same))
+array-begun vs (members_frame ms k) h = absurd (cc)
+
+pub object-begun : (vs : List Member) (k : Text) (f : OpenFrame) → object (members_of (map member_view vs)) ≡ begun f
+    → IsOfKey k (f ∷ []) → f ≡ members_frame (map member_view vs) k
+object-begun vs k (items_frame xs) h of = absurd (cc)
+object-begun vs k (members_frame ms l) h of =
+    let same : members_of (map member_view vs) ≡ members_of ms = cc in
+    ap₂ members_frame (sym (members-same (map member_view vs) ms same)) of
+
+-- The innermost container, which is read at its index:
+record Innermost (spine : List JsonValue) (got : JsonValue) (n : ℕ) : Type 0 where
+  before : List JsonValue
+  all : spine ≡ before ++ got ∷ []
+  at : n ≡ length before
+
+innermost-of : (spine : List JsonValue) (got : JsonValue) (n : ℕ) → n + 1 ≡ length spine → got ≡ get_or spine n got
+    → Innermost spine got n
+innermost-of spine got n at g =
+    let last = last-of spine (omega (arith, at)) in
+    let before = take (length spine - 1) spine in
+    let here : n ≡ length before = omega (arith, at, ap length last.1, length-append before (last.0 ∷ [])) in
+    record {
+      before = before;
+      all = last.1 ∙ ap (λ v. before ++ v ∷ []) (sym (last-read spine before n last.0 got last.1 here g));
+      at = here;
+    }
+
+-- it has room, if there is room inside the spine;
+pub innermost-roomy : (spine : List JsonValue) (got : JsonValue) (n : ℕ) → n + 1 ≡ length spine
+    → got ≡ get_or spine n got → HasRoomInside spine → IsRoomy (out-JsonValue got)
+innermost-roomy spine got n at g h = let i = innermost-of spine got n at g in h i.before got i.all
+
+-- it is a container, where a part is awaited;
+pub innermost-begun : (fs : List OpenFrame) (spine : List JsonValue) (got : JsonValue) (n : ℕ) → n + 1 ≡ length spine
+    → got ≡ get_or spine n got → AwaitsPart spine fs → (f : OpenFrame) × (view got ≡ begun f)
+innermost-begun [] spine got n at g h = absurd (omega (arith, ap length h, at))
+innermost-begun (f ∷ fs) spine got n at g h =
+    let i = innermost-of spine got n at g in
+    (f, (innermost-behind i.before got fs (begun f) (ap (map view) (sym i.all) ∙ h)).1)
+
+-- the spine is seen as it was, if it is;
+pub innermost-same : (spine : List JsonValue) (got new : JsonValue) (n : ℕ) → n + 1 ≡ length spine
+    → got ≡ get_or spine n got → view new ≡ view got → map view (slice_set spine n new) ≡ map view spine
+innermost-same spine got new n at g same =
+    let i = innermost-of spine got n at g in
+    rw (last-set spine i.before n got new i.all i.at)
+    (map_push view i.before new ∙ ap (λ v. map view i.before ++ v ∷ []) same ∙ sym (map_push view i.before got)
+    ∙ ap (map view) (sym i.all))
+
+-- room in it is room inside the spine;
+pub room-inside : (spine : List JsonValue) (got new : JsonValue) (n : ℕ) → n + 1 ≡ length spine
+    → got ≡ get_or spine n got → IsRoomy (out-JsonValue new) → HasRoomInside (slice_set spine n new)
+room-inside spine got new n at g room = λ before v h.
+    let i = innermost-of spine got n at g in
+    let same = same_from_push i.before before new v (sym (last-set spine i.before n got new i.all i.at) ∙ h) in
+    subst (λ w. IsRoomy (out-JsonValue w)) same.1 room
+
+-- and a part more of it is one inside the spine.
+key-of-first : (k : Text) (f : OpenFrame) (fs : List OpenFrame) → IsOfKey k (f ∷ fs) → IsOfKey k (f ∷ [])
+key-of-first k (items_frame xs) fs h = tt
+key-of-first k (members_frame ms l) fs h = h
+
+pub goes-inside : (fs : List OpenFrame) (spine : List JsonValue) (root got new : JsonValue) (k : Text) (n : ℕ)
+    (x : Tree) → n + 1 ≡ length spine → got ≡ get_or spine n got
+    → ((f : OpenFrame) → view got ≡ begun f → IsOfKey k (f ∷ []) → view new ≡ around f x) → AwaitsPart spine fs
+    → IsOfKey k fs → HasValue (slice_set spine n new) root fs x
+goes-inside [] spine root got new k n x at g put h of = absurd (omega (arith, ap length h, at))
+goes-inside (f ∷ fs) spine root got new k n x at g put h of =
+    let i = innermost-of spine got n at g in
+    let was = innermost-behind i.before got fs (begun f) (ap (map view) (sym i.all) ∙ h) in
+    rw (last-set spine i.before n got new i.all i.at)
+    (map_push view i.before new ∙ ap₂ (λ ss y. ss ++ y ∷ []) was.0 (put f was.1 (key-of-first k f fs of)))
+
+-- With none a value is the root.
+pub goes-to-top : (fs : List OpenFrame) (spine : List JsonValue) (value : JsonValue) → length spine ≡ 0
+    → AwaitsPart spine fs → HasValue spine value fs (view value)
+goes-to-top [] spine value none h = (h, refl)
+goes-to-top (f ∷ fs) spine value none h =
+    let long = length-append (parents_of fs) (begun f ∷ []) in
+    absurd (omega (arith, ap length h, length-map spine view, none, long))

@@ -19,5 +19,6 @@ pub mod Texts
 pub mod Scratch
 pub mod Equality
 pub mod Spine
+pub mod Arrived
 pub mod ValueCode
 pub mod KeySets

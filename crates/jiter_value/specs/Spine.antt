@@ -1,9 +1,10 @@
 -- The open containers of a document that arrives in pieces: inside each other, and one behind the other.
-use Rattle.std.specs.Prelude.{◌≡◌, ◌⊎◌, ℕ, ◌+◌, List, [], ◌∷◌, ◌++◌, length, map}
+use Rattle.std.specs.Prelude.{◌≡◌, ◌⊎◌, ℕ, ◌+◌, ◌<◌, List, [], ◌∷◌, ◌++◌, length, map, vec_len, vec_capacity}
 use Rattle.jiter_steps.specs.Frames.{Frame, items_frame, members_frame}
 use Rattle.jiter_steps.specs.Tree.{Text, Tree, null, array, object, items_of, members_of}
 use Rattle.jiter_value.specs.Value.{view}
-use Rattle.jiter_value.specs.declared.value.JsonValue.{JsonValue}
+use Rattle.jiter_value.specs.declared.value.JsonValue.{JsonValue, out-JsonValue}
+use Rattle.jiter_value.specs.declared.value.JsonValue.TheOpen.{JsonValue-F}
 
 -- an open container of a document: the parts before the one that it awaits, and of an object that one's key
 abbrev pub OpenFrame : Type 0
@@ -59,3 +60,24 @@ StandsFor spine root v = ((spine ≡ []) × (view root ≡ v)) ⊎ IsSpine (map 
 abbrev pub HasValue : List JsonValue → JsonValue → List OpenFrame → Tree → Type 0
 HasValue spine root [] x = (spine ≡ []) × (view root ≡ x)
 HasValue spine root (f ∷ fs) x = map view spine ≡ spine_of fs (around f x)
+
+-- A part is awaited inside these open containers: they stand one behind the other, the innermost as it is so far;
+abbrev pub AwaitsPart : List JsonValue → List OpenFrame → Type 0
+AwaitsPart spine [] = spine ≡ []
+AwaitsPart spine (f ∷ fs) = map view spine ≡ spine_of fs (begun f)
+
+-- in an object the value of this key.
+abbrev pub IsOfKey : Text → List OpenFrame → Type 0
+IsOfKey k [] = Unit {0}
+IsOfKey k (items_frame xs ∷ fs) = Unit {0}
+IsOfKey k (members_frame ms l ∷ fs) = l ≡ k
+
+-- a container that has room for a part more
+abbrev pub IsRoomy : JsonValue-F JsonValue → Type 0
+IsRoomy (JsonValue-F.Array items) = vec_len items < vec_capacity items
+IsRoomy (JsonValue-F.Object members) = vec_len members < vec_capacity members
+IsRoomy scalar = ⊥
+
+-- the innermost container, if one is open, has room for a part more
+abbrev pub HasRoomInside : List JsonValue → Type 0
+HasRoomInside spine = (before : List JsonValue) (v : JsonValue) → spine ≡ before ++ v ∷ [] → IsRoomy (out-JsonValue v)

@@ -2,6 +2,7 @@
 #![tactic(auto)]
 
 pub mod access;
+pub mod arriving;
 pub mod copies;
 pub mod equality;
 pub mod machine;

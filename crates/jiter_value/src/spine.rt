@@ -1,17 +1,30 @@
 //! The open containers of a document that arrives in pieces. Between two pieces they lie inside each other, each the
 //! last part of the next; within a piece they lie in a vector, the spine: the outermost first, each parent with a null
 //! in the place of the one inside it. To go from one to the other takes no memory.
-ghost use Rattle.std.specs.Prelude.{◌≡◌, ◌+◌, ◌≤◌, ◌<◌, ◌∷◌, ◌++◌, [], List, length, map, vec_len, vec_capacity};
+ghost use Rattle.std.specs.Prelude.{◌≡◌, ◌+◌, ◌≤◌, ◌<◌, ◌∷◌, ◌++◌, [], List, OnErr, OnOk, length, map, vec_len};
+ghost use Rattle.std.specs.Prelude.{vec_capacity, ℕ, true};
+ghost use Rattle.jiter_scan.specs.PartialMode.{is_active};
+ghost use Rattle.jiter_steps.specs.Read.{done};
+ghost use Rattle.jiter_steps.specs.StringDecoder.{text_view};
 ghost use Rattle.jiter_steps.specs.Tree.{Text, Tree};
-ghost use Rattle.jiter_value.specs.Spine.{OpenFrame, around, filled, parents_of, spine_of, HasPart, IsOpen};
-ghost use Rattle.jiter_value.specs.Spine.{StandsFor, HasValue};
-ghost use Rattle.jiter_value.specs.Stacks.{Member};
+ghost use Rattle.jiter_value.specs.Arrived.{Arrived, HasRead, Holds, shown};
+ghost use Rattle.jiter_value.specs.Owned.{owned_tree};
+ghost use Rattle.jiter_value.specs.Parses.{reading_as};
+ghost use Rattle.jiter_value.specs.Settings.{answer_by};
+ghost use Rattle.jiter_value.specs.Spine.{OpenFrame, around, begun, filled, parents_of, spine_of, HasPart, IsOpen};
+ghost use Rattle.jiter_value.specs.Spine.{StandsFor, HasValue, AwaitsPart, IsOfKey, IsRoomy, HasRoomInside};
+ghost use Rattle.jiter_value.specs.Stacks.{Member, empty_tree};
 ghost use Rattle.jiter_value.specs.Value.{view};
 ghost use Rattle.std.specs.declared.alloc.Global.{Global};
 ghost use Rattle.std.specs.declared.borrow.CowStr.{CowStr as CowStrView};
-ghost use Rattle.jiter_value.specs.declared.value.JsonValue.{JsonValue as JsonValueView};
+ghost use Rattle.jiter_value.specs.declared.arriving.Awaits.{Awaits};
+ghost use Rattle.jiter_value.specs.declared.settings.Settings.{Settings};
+ghost use Rattle.jiter_value.specs.declared.value.JsonValue.{JsonValue as JsonValueView, out-JsonValue};
 
 use crate::value::{JsonArray, JsonObject, JsonValue};
+use jiter_scan::memory::{Refused, make_room};
+use jiter_steps::parse::Shape;
+use std::alloc::Global;
 use std::borrow::CowStr;
 use std::mem;
 
@@ -105,10 +118,111 @@ pub fn close<'j>(spine: &mut Vec<JsonValue<'j>>, root: &mut JsonValue<'j>)
 pub fn put_together<'j>(spine: &mut Vec<JsonValue<'j>>, root: &mut JsonValue<'j>)
     requires { (v : Tree) × StandsFor spine.old.items root.old v }
     ensures root { (v : Tree) → StandsFor spine.old.items root.old v → view root.new ≡ v }
+    // Where it was read of a text in a partial mode, this is what the text so far answers, each text owned.
+    ensures answer { (p : Settings) → (t : List ℕ) → (a : Awaits) → (k : Text) → (s : Arrived) → (v : Tree)
+        → is_active p.mode ≡ true → HasRead p t s → Holds a spine.old.items root.old k s → shown s ≡ Some v
+        → (view root.new ≡ v) × ((e : ℕ) × (reading_as owned_tree (answer_by p t) ≡ done v e)) }
     ensures empty { spine.new.items ≡ [] }
     ensures capacity { vec_capacity spine.new ≡ vec_capacity spine.old }
 {
     while let Some(child) = spine.pop() {
         put_back(spine, root, child);
     }
+}
+
+// Room for a part more of a container.
+fn widen<'j>(container: &mut JsonValue<'j>) -> Result<(), Refused>
+    requires { (f : OpenFrame) × (view container.old ≡ begun f) }
+    ensures same { view container.new ≡ view container.old }
+    ensures room { OnOk result (IsRoomy (out-JsonValue container.new)) }
+{
+    match container {
+        JsonValue::Array(items) => make_room(items),
+        JsonValue::Object(members) => make_room(members),
+        _ => unreachable!(),
+    }
+}
+
+/// Room for a part more of the innermost container, if one is open.
+pub fn make_room_inside<'j>(spine: &mut Vec<JsonValue<'j>>) -> Result<(), Refused>
+    requires { (fs : List OpenFrame) × AwaitsPart spine.old.items fs }
+    ensures same { map view spine.new.items ≡ map view spine.old.items }
+    ensures room { OnOk result (HasRoomInside spine.new.items) }
+    ensures capacity { vec_capacity spine.new ≡ vec_capacity spine.old }
+{
+    let depth = spine.len();
+    if depth == 0 {
+        return Ok(());
+    }
+    widen(&mut spine[depth - 1])
+}
+
+// A part more of a container; in an object it has the key.
+fn append<'j>(container: &mut JsonValue<'j>, key: &mut CowStr<'j>, value: JsonValue<'j>)
+    requires { IsRoomy (out-JsonValue container.old) }
+    ensures { (f : OpenFrame) → view container.old ≡ begun f → IsOfKey (text_view key.old) (f ∷ [])
+        → view container.new ≡ around f (view value.entry) }
+{
+    match container {
+        JsonValue::Array(items) => items.push_reserved(value),
+        JsonValue::Object(members) => {
+            let name = mem::replace(key, CowStr::Borrowed(""));
+            members.push_reserved((name, value));
+        }
+        _ => unreachable!(),
+    }
+}
+
+/// The value that is awaited becomes the last part of the innermost container, which has room for it, or the root. In
+/// an object it has the key.
+pub fn put<'j>(
+    spine: &mut Vec<JsonValue<'j>>,
+    root: &mut JsonValue<'j>,
+    key: &mut CowStr<'j>,
+    value: JsonValue<'j>,
+)
+    requires { HasRoomInside spine.old.items }
+    ensures value { (fs : List OpenFrame) → AwaitsPart spine.old.items fs → IsOfKey (text_view key.old) fs
+        → HasValue spine.new.items root.new fs (view value.entry) }
+    ensures length { vec_len spine.new ≡ vec_len spine.old }
+    ensures capacity { vec_capacity spine.new ≡ vec_capacity spine.old }
+{
+    let depth = spine.len();
+    if depth == 0 {
+        *root = value;
+        return;
+    }
+    append(&mut spine[depth - 1], key, value);
+}
+
+// A container with no part.
+fn empty<'j>(alloc: Global, shape: Shape) -> JsonValue<'j>
+    ensures { view result ≡ empty_tree shape }
+{
+    match shape {
+        Shape::Array => JsonValue::Array(Vec::new(alloc)),
+        Shape::Object => JsonValue::Object(Vec::new(alloc)),
+    }
+}
+
+/// A container begins where a value is awaited: it is the innermost then. Where memory is refused, all that is open
+/// stays as it is.
+pub fn open_container<'j>(
+    alloc: Global,
+    spine: &mut Vec<JsonValue<'j>>,
+    root: &mut JsonValue<'j>,
+    key: &mut CowStr<'j>,
+    shape: Shape,
+) -> Result<(), Refused>
+    requires { (fs : List OpenFrame) × AwaitsPart spine.old.items fs }
+    ensures spine { (fs : List OpenFrame) → AwaitsPart spine.old.items fs → IsOfKey (text_view key.old) fs
+        → OnOk result (map view spine.new.items ≡ spine_of fs (empty_tree shape)) }
+    ensures refused { OnErr result ((map view spine.new.items ≡ map view spine.old.items)
+        × (root.new ≡ root.old) × (key.new ≡ key.old)) }
+{
+    make_room(spine)?;
+    make_room_inside(spine)?;
+    put(spine, root, key, JsonValue::Null);
+    spine.push_reserved(empty(alloc, shape));
+    Ok(())
 }

@@ -2,6 +2,7 @@ use Rattle.std.proofs.Common.{◌∙◌, subst, arith}
 use Rattle.jiter_steps.specs.Tree.{Tree}
 use Rattle.jiter_value.specs.Spine.{StandsFor}
 use Rattle.jiter_value.specs.Value.{view}
+use Rattle.jiter_value.proofs.Arrivals.{shown-stands, shown-answers}
 use Rattle.jiter_value.proofs.Spines.{behind-of, stands-in-place, put-together}
 use Rattle.jiter_value.proofs.spine.put_together.Goals as goal
 
@@ -35,3 +36,12 @@ returns-clause-root c = λ v s.
 
 pub returns-clause-capacity : goal.returns-clause-capacity
 returns-clause-capacity c = c.in_default.ensures.capacity ∙ c.loop-child.invariant.2
+
+pub returns-clause-answer : goal.returns-clause-answer
+returns-clause-answer c = λ p t a k s v on read holds is.
+    let stands = shown-stands a c.args.spine.now.items c.args.root.now k s v holds is in (
+      put-together c.loop-child.spine.items c.loop-child.root v
+          (omega (arith, c.in_default.ensures.len, c.in_default.ensures.cases.0, c.loop-child.spine.ok.0))
+          (c.loop-child.invariant.0 v stands),
+      shown-answers p t s v on read is,
+    )

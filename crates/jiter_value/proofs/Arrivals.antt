@@ -1,0 +1,144 @@
+-- What is open of a document that arrives in pieces is, where the text ends, its value so far.
+use Rattle.std.proofs.Common.{◌≡◌, ℕ, suc, ◌≤◌, true, List, [], ◌∷◌, ◌++◌, length, refl, sym, subst, ap, ◌∙◌, arith, inl, inr}
+use Rattle.std.specs.Prelude.{slice_get, Option, Some, None}
+use Rattle.std.proofs.lemmas.List.{append-nil}
+use Rattle.std.proofs.lemmas.Option.{slice_get_past, none-some, same_Some}
+use Rattle.jiter_scan.proofs.Choices.{if-true}
+use Rattle.jiter_scan.specs.Kind.{Kind, is_forgiven, eof_list, eof_object, eof_value}
+use Rattle.jiter_scan.specs.PartialMode.{is_active}
+use Rattle.jiter_scan.specs.NumberReading.{extent_then}
+use Rattle.jiter_steps.specs.Frames.{items_frame, members_frame, resume, parts_from, array_in, object_in}
+use Rattle.jiter_steps.specs.Read.{Reading, Rules, done, fault, follow, front_answer, whole_answer}
+use Rattle.jiter_steps.specs.Step.{Step, stuck, step, end_kind_of, colon, value_first}
+use Rattle.jiter_steps.specs.Tree.{Text, Tree, array, object, items_of, members_of}
+use Rattle.jiter_steps.specs.declared.parse.Shape.{Shape}
+use Rattle.jiter_steps.specs.declared.parse.Shape.TheVariants as shape
+use Rattle.jiter_steps.proofs.Calls.Resumed.{if_forgiven-yes, resume-forgiven}
+use Rattle.jiter_steps.proofs.Cut.Halting.{end-forgiven}
+use Rattle.jiter_steps.proofs.Grammar.Blanks.{past_blanks-end}
+use Rattle.jiter_steps.proofs.Reading.BothShapes.{end_kind-early}
+use Rattle.jiter_value.specs.Arrived.{Arrived, at_value, between_parts, at_end, shown, value_extent, value_then}
+use Rattle.jiter_value.specs.Arrived.{part_row, leads_on, owned, Holds, HasRead}
+use Rattle.jiter_value.specs.Parses.{reading_as}
+use Rattle.jiter_value.specs.Owned.{owned_tree}
+use Rattle.jiter_value.specs.Settings.{rules_as, answer_by}
+use Rattle.jiter_value.specs.Spine.{OpenFrame, begun, around, filled, StandsFor}
+use Rattle.jiter_value.specs.Stacks.{PartTree, built}
+use Rattle.jiter_value.specs.declared.arriving.Awaits.{Awaits}
+use Rattle.jiter_value.specs.declared.arriving.Awaits.TheVariants as awaits
+use Rattle.jiter_value.specs.declared.settings.Settings.{Settings}
+use Rattle.jiter_value.specs.declared.value.JsonValue.{JsonValue}
+use Rattle.jiter_value.proofs.MadeTexts.{answer_as-is}
+
+-- at the end of the text a step decides by that
+step-past : {A : Type 0} (t : List ℕ) (row : ℕ → Option ℕ → A) (j : ℕ) → length t ≤ j → step t row j ≡ row j None
+step-past t row j h =
+    ap (λ m. row m (slice_get t m)) (past_blanks-end t j h) ∙ ap (row j) (slice_get_past t j h)
+
+module _ (p : Settings) (t : List ℕ) (on : is_active p.mode ≡ true) (j : ℕ) (past : length t ≤ j) where
+  abbrev r : Rules Text Tree
+  r = rules_as owned p
+
+  forgiven : (k : Kind) → is_forgiven k ≡ true → r.forgives k ≡ true
+  forgiven k h = rw on h
+
+  -- a container ends there
+  stuck-closes : (next : ℕ → Reading Tree) (close : ℕ → Tree) (k : Kind) (s : Step) → s ≡ stuck k j
+      → is_forgiven k ≡ true
+      → follow r next close s ≡ done (close j) j
+  stuck-closes next close k s is h = ap (follow r next close) is ∙ if_forgiven-yes r t close k j j (forgiven k h)
+
+  -- and so do all round it
+  all-close : (fs : List OpenFrame) (x : Tree) → resume r t fs (done x j) ≡ done (filled fs x) j
+  all-close [] x = refl
+  all-close (items_frame xs ∷ fs) x =
+      let c = array_in r t (length fs) in
+      ap (resume r t fs)
+      (stuck-closes (parts_from r t c (xs ++ x ∷ [])) (λ e. c.build e (xs ++ x ∷ [])) eof_list (step t c.next j)
+      (step-past t c.next j past) refl)
+      ∙ all-close fs (around (items_frame xs) x)
+  all-close (members_frame ms k ∷ fs) x =
+      let c = object_in r t (length fs) in
+      ap (resume r t fs)
+      (stuck-closes (parts_from r t c (ms ++ (k, x) ∷ [])) (λ e. c.build e (ms ++ (k, x) ∷ [])) eof_object
+      (step t c.next j) (step-past t c.next j past) refl)
+      ∙ all-close fs (around (members_frame ms k) x)
+
+  -- a fault of the value that is awaited
+  fault-closes : (f : OpenFrame) (fs : List OpenFrame) (k : Kind) → is_forgiven k ≡ true
+      → resume r t (f ∷ fs) (fault k j j) ≡ done (filled fs (begun f)) j
+  fault-closes (items_frame xs) fs k h =
+      resume-forgiven r t (items_frame xs) fs k j j (forgiven k h) ∙ all-close fs (array (items_of xs))
+  fault-closes (members_frame ms key) fs k h =
+      resume-forgiven r t (members_frame ms key) fs k j j (forgiven k h) ∙ all-close fs (object (members_of ms))
+
+  -- what is awaited there is a fault of the end
+  record Fails (x : Reading Tree) : Type 0 where
+    kind : Kind
+    is : x ≡ fault kind j j
+    ok : is_forgiven kind ≡ true
+
+  value-fails : (a : Awaits) (depth : ℕ) → Fails (value_then r t depth (value_extent r t a j))
+  value-fails awaits.Colon depth = record {
+    kind = eof_object;
+    is = ap (λ x. value_then r t depth (extent_then x (step t value_first))) (step-past t colon j past);
+    ok = refl;
+  }
+  value-fails a depth = record {
+    kind = eof_value;
+    is = ap (value_then r t depth) (step-past t value_first j past);
+    ok = refl;
+  }
+
+  -- and where another part is awaited, too
+  part-stuck : (a : Awaits) (h : Shape)
+      → (k : Kind) × (step t (part_row r t a h) j ≡ stuck k j) × (is_forgiven k ≡ true)
+  part-stuck awaits.Next h = (eof_value, step-past t (part_row r t awaits.Next h) j past, refl)
+  part-stuck awaits.First h =
+      (end_kind_of h, step-past t (part_row r t awaits.First h) j past, end-forgiven _ (end_kind-early h))
+  part-stuck a h = (end_kind_of h, step-past t (part_row r t a h) j past, end-forgiven _ (end_kind-early h))
+
+  built-closes : (a : Awaits) (h : Shape) (xs : List (PartTree h)) (fs : List OpenFrame)
+      → leads_on r t (between_parts a h xs fs) j ≡ done (filled fs (built h xs)) j
+  built-closes a shape.Array xs fs =
+      let c = array_in r t (length fs) in
+      let s = part-stuck a shape.Array in
+      ap (resume r t fs) (stuck-closes (parts_from r t c xs) (λ e. c.build e xs) s.0 _ s.1 s.2)
+      ∙ all-close fs (array (items_of xs))
+  built-closes a shape.Object xs fs =
+      let c = object_in r t (length fs) in
+      let s = part-stuck a shape.Object in
+      ap (resume r t fs) (stuck-closes (parts_from r t c xs) (λ e. c.build e xs) s.0 _ s.1 s.2)
+      ∙ all-close fs (object (members_of xs))
+
+  -- All that is open ends there, and the value so far is what is read.
+  shown-read : (s : Arrived) (v : Tree) → shown s ≡ Some v → (e : ℕ) × (leads_on r t s j ≡ done v e)
+  shown-read (at_value a []) v h = absurd (none-some v h)
+  shown-read (at_value a (f ∷ fs)) v h =
+      let f' = value-fails a (suc (length fs)) in
+      (j, ap (resume r t (f ∷ fs)) f'.is ∙ fault-closes f fs f'.kind f'.ok ∙ ap (λ x. done x j) (same_Some _ _ h))
+  shown-read (between_parts a k xs fs) v h = (j, built-closes a k xs fs ∙ ap (λ x. done x j) (same_Some _ _ h))
+  shown-read (at_end w e) v h = (e, ap (λ x. done x e) (same_Some _ _ h))
+
+-- What is held stands for it.
+pub shown-stands : (a : Awaits) (spine : List JsonValue) (root : JsonValue) (k : Text) (s : Arrived) (v : Tree)
+    → Holds a spine root k s → shown s ≡ Some v → StandsFor spine root v
+shown-stands a spine root k (at_value b []) v h is = absurd (none-some v is)
+shown-stands a spine root k (at_value b (f ∷ fs)) v h is =
+    inr (record { frames = fs; innermost = begun f; apart = h.1; whole = sym (same_Some _ _ is) })
+shown-stands a spine root k (between_parts b shape xs fs) v h is =
+    inr (record { frames = fs; innermost = built shape xs; apart = h.1; whole = sym (same_Some _ _ is) })
+shown-stands a spine root k (at_end w e) v h is = inl (h.1, h.2 ∙ same_Some _ _ is)
+
+-- What was read so far, where the text ends in a partial mode, answers the value so far.
+pub shown-answers : (p : Settings) (t : List ℕ) (s : Arrived) (v : Tree) → is_active p.mode ≡ true → HasRead p t s
+    → shown s ≡ Some v → (e : ℕ) × (reading_as owned_tree (answer_by p t) ≡ done v e)
+shown-answers p t s v on read h =
+    let end = shown-read p t on (length t) (omega arith) s v h in
+    let r = rules_as owned p in
+    let whole : front_answer r t ≡ leads_on r t s (length t) =
+    subst (λ w. front_answer r w ≡ leads_on r w s (length t)) (append-nil t) (read.goes []) in (
+      end.0,
+      sym (answer_as-is owned refl p t)
+          ∙ if-true (is_active p.mode) (front_answer r t) (whole_answer r t) on ∙ whole ∙ end.1,
+    )
