@@ -1,6 +1,7 @@
 //! Turns that refuse a key which its object has already.
 ghost use Rattle.std.specs.Prelude.{◌≡◌, ◌+◌, ◌≤◌, ◌<◌, [], All, IfOk, IfSome, None, OnOk, drop, length, reverse, true};
 ghost use Rattle.std.specs.Option.{option_map};
+ghost use Rattle.std.specs.Str.{bytes_eq};
 ghost use Rattle.jiter_steps.specs.Node.{nesting_limit};
 ghost use Rattle.jiter_steps.specs.Parse.{Moves};
 ghost use Rattle.jiter_steps.specs.Read.{value_at};
@@ -58,13 +59,22 @@ fn innermost_base(nest: &SmallVec<Open, 8>) -> usize
     opens[opens.len() - 1].base
 }
 
+// Whether two texts of one length are the same: few keys of an object have the length of another.
+#[inline(never)]
+fn is_same(one: &str, other: &str) -> bool
+    ensures { result ≡ bytes_eq one.now other.now }
+{
+    one == other
+}
+
 // Whether one of the members from `base` on has this key.
+#[inline(always)]
 fn has_key(members: &Vec<(CowStr<'_>, JsonValue<'_>)>, base: usize, key: &str) -> bool
     ensures { result ≡ has_key key.now (drop base members.now.items) }
 {
     for i in base..members.len() {
-        let member = &members[i];
-        if key == member.0.as_str() {
+        let other = members[i].0.as_str();
+        if key.len() == other.len() && is_same(key, other) {
             return true;
         }
     }
@@ -96,18 +106,16 @@ fn repeat_of(
     }
 }
 
-// Whether the key at `at` is of plain ASCII with no escape, and none of the members before it has it.
+// Whether the key at `at` is of plain ASCII with no escape, and none of the members from `base` on has it.
 #[inline(always)]
-fn is_new_plain_key(stacks: &Stacks<'_>, bytes: &[u8], at: usize) -> bool
+fn is_new_plain_key(stacks: &Stacks<'_>, bytes: &[u8], base: usize, at: usize) -> bool
     requires stands { StandsAtKey stacks.now }
+    requires base { base ≡ innermost_base (reverse stacks.now.nest.items) }
     requires within { at < length bytes.now }
     ensures free { result ≡ true → IsFree lent_unique bytes.now stacks.now at }
 {
     match plain_text_end(bytes, at) {
-        Some(to) => {
-            let base = innermost_base(&stacks.nest);
-            !has_key(&stacks.members, base, ascii_text(&bytes[at + 1..to]))
-        }
+        Some(to) => !has_key(&stacks.members, base, ascii_text(&bytes[at + 1..to])),
         None => false,
     }
 }
@@ -144,7 +152,7 @@ fn find_repeat(
 }
 
 // Up to so many members of an object have their keys compared where they lie.
-const FEW: usize = 16;
+const FEW: usize = 32;
 
 // Whether the innermost object has more members, and the key at `at` is new in the set of their keys, where it goes.
 fn is_new_in_set<'s>(
@@ -154,17 +162,18 @@ fn is_new_in_set<'s>(
     sets: &mut Vec<KeySet<'s>>,
     stacks: &Stacks<'s>,
     bytes: &[u8],
+    base: usize,
     at: usize,
 ) -> Result<bool, Refused>
     requires texts { texts.bytes.now ≡ bytes.now }
     requires stands { StandsAtKey stacks.now }
+    requires base { base ≡ innermost_base (reverse stacks.now.nest.items) }
     requires within { at < length bytes.now }
     requires sets { All (IsUpToDate (keys_of stacks.now.members.items)) sets.old.items }
     ensures sets { OnOk result
         (All (IsUpToDate (keys_then lent_unique bytes.now stacks.now.members.items State.Key at)) sets.new.items) }
     ensures free { IfOk result (λ new. new ≡ true → IsFree lent_unique bytes.now stacks.now at) }
 {
-    let base = innermost_base(&stacks.nest);
     if stacks.members.len() - base <= FEW {
         return Ok(false);
     }
@@ -200,12 +209,13 @@ fn stop_at_key<'s>(
     ensures place { IfSome result (λ r. (at ≤ r.1) × (r.1 ≤ length bytes.now)) }
 {
     forget_closed(sets, &stacks.members);
-    match is_new_in_set(alloc, texts, tape, sets, stacks, bytes, at) {
+    let base = innermost_base(&stacks.nest);
+    match is_new_in_set(alloc, texts, tape, sets, stacks, bytes, base, at) {
         Ok(true) => return None,
         Ok(false) => {}
         Err(refused) => return Some((Stopped::Read(ReadError::Memory(refused)), at)),
     }
-    if is_new_plain_key(stacks, bytes, at) {
+    if is_new_plain_key(stacks, bytes, base, at) {
         return None;
     }
     match find_repeat(alloc, tape, stacks, bytes, at) {

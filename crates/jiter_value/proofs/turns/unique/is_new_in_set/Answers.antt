@@ -35,7 +35,7 @@ returns-in_ok-kept-in-Ok-clause-free c =
     (λ found h. λ new.
     let none : has_key key.bytes (drop (innermost_base os) ms) ≡ false =
     ap₂ (λ k b. has_key k (drop b ms)) (sym (ap (λ x. x.bytes) c.in_ok-kept-in-Ok.ensures.value))
-    (sym c.innermost_base-base.ensures)
+    (sym c.requires.base)
     ∙ h new in
     new-key t os (length s.items.items) ms c.args.at c.requires.stands key e read none)
     c.is_new_key.ensures.new

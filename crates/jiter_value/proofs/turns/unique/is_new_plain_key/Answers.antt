@@ -15,7 +15,7 @@ returns-in-Some c =
       free = λ new.
           let has : has_key key.bytes (drop (innermost_base (reverse s.nest.items)) s.members.items) ≡ false =
           ap₂ (λ k b. has_key k (drop b s.members.items)) (sym c.ascii_text.ensures)
-          (sym c.innermost_base-base.ensures) ∙ sym c.has_key.ensures ∙ not-true c.has_key.result new in
+          (sym c.requires.base) ∙ sym c.has_key.ensures ∙ not-true c.has_key.result new in
           new-key t (reverse s.nest.items) (length s.items.items) s.members.items i c.requires.stands key
           (c.in-Some.to + 1) (c.in-Some.ensures.value false) has;
     }
