@@ -1,9 +1,8 @@
 -- A key that its object has already, and what its reading is.
-use Rattle.std.proofs.Common.{◌≡◌, ◌≢◌, ◌⊎◌, inl, inr, ℕ, zero, suc, ◌+◌, ◌<◌, ◌≤◌, true, false, List, [], ◌∷◌, length}
-use Rattle.std.proofs.Common.{take, drop, map, get_or, refl, sym, ap, ◌∙◌, arith, cond, subst}
+use Rattle.std.proofs.Common.{◌≡◌, ◌≢◌, ◌⊎◌, inl, inr, ℕ, zero, suc, ◌<◌, true, false, List, [], ◌∷◌, length}
+use Rattle.std.proofs.Common.{take, drop, map, refl, sym, ap, ◌∙◌, arith, cond, subst}
 use Rattle.std.specs.Prelude.{◌||◌, reverse, string_bytes, Option, Some, None, Result, Err}
 use Rattle.std.specs.Str.{bytes_eq}
-use Rattle.std.proofs.lemmas.List.{drop_more, drop_all}
 use Rattle.jiter_scan.specs.Kind.{Kind, duplicate_key}
 use Rattle.jiter_scan.specs.Scanned.{taken, failed}
 use Rattle.jiter_scan.specs.declared.partial_mode.PartialMode.{PartialMode}
@@ -37,21 +36,6 @@ use Rattle.jiter_value.specs.declared.turns.unique.Stopped.{Stopped}
 use Rattle.jiter_value.specs.declared.turns.unique.Stopped.TheVariants as stopped
 use Rattle.jiter_value.specs.declared.value.JsonValue.{JsonValue}
 use Rattle.jiter_steps.specs.declared.read_error.ReadError.TheVariants as error
-
--- One member has the key, or none of them.
-module _ (key : List ℕ) (ms : List Member) (i : ℕ) (m : Member) (lt : i < length ms) (at : m ≡ get_or ms i m) where
-  goes : drop i ms ≡ m ∷ drop (i + 1) ms
-  goes = drop_more ms i m lt ∙ ap (λ x. x ∷ drop (i + 1) ms) (sym at)
-
-  pub has_key-here : bytes_eq key (text_view m.0).bytes ≡ true → has_key key (drop i ms) ≡ true
-  has_key-here is = ap (has_key key) goes ∙ (rw is refl)
-
-  pub has_key-later : bytes_eq key (text_view m.0).bytes ≡ false
-      → has_key key (drop i ms) ≡ has_key key (drop (i + 1) ms)
-  has_key-later is = ap (has_key key) goes ∙ (rw is refl)
-
-pub has_key-none : (key : List ℕ) (ms : List Member) (i : ℕ) → length ms ≤ i → has_key key (drop i ms) ≡ false
-has_key-none key ms i h = ap (has_key key) (drop_all i ms h)
 
 has_key-among : (key : List ℕ) (ms : List Member)
     → is_among key (map (λ m. own_bytes m.0) (map member_view ms)) ≡ has_key key ms
