@@ -1,5 +1,5 @@
 -- What a byte makes of a value that arrives, by the rules of its reading.
-use Rattle.std.proofs.Common.{◌≡◌, ℕ, ◌+◌, ◌-◌, ◌<◌, ◌≤◌, ◌==◌, Bool, true, false, List, [], ◌∷◌, length, get_or}
+use Rattle.std.proofs.Common.{◌≡◌, ℕ, suc, ◌+◌, ◌-◌, ◌<◌, ◌≤◌, ◌==◌, Bool, true, false, List, [], ◌∷◌, length, get_or}
 use Rattle.std.proofs.Common.{refl, sym, subst, ap, ◌∙◌, arith, map, add-one, length-append}
 use Rattle.std.proofs.lemmas.List.{length-map}
 use Rattle.std.specs.Prelude.{slice_get, Option, Some, None, Result, Ok, Err, IfOk}
@@ -14,26 +14,28 @@ use Rattle.jiter_scan.specs.Word.{Extent}
 use Rattle.jiter_steps.specs.Answer.{nothing_forgiven}
 use Rattle.jiter_steps.specs.Blank.{is_blank, past_blanks}
 use Rattle.jiter_steps.specs.Frames.{items_frame, members_frame, resolve_step, resume, value_in, value_from, key_from}
-use Rattle.jiter_steps.specs.Frames.{array_in, object_in, parts_step}
+use Rattle.jiter_steps.specs.Frames.{array_in, object_in, parts_from, parts_step}
 use Rattle.jiter_steps.specs.Literal.{start_of}
-use Rattle.jiter_steps.specs.Read.{Rules, done, fault, front_answer, if_begun}
+use Rattle.jiter_steps.specs.Step.{Step, more, closed, stuck, step, colon, object_colon, value_first, container_first}
+use Rattle.jiter_steps.specs.Step.{opening}
+use Rattle.jiter_steps.specs.Read.{Reading, Rules, done, fault, behind_colon, behind_key, behind_part, front_answer}
+use Rattle.jiter_steps.specs.Read.{if_begun, with_key}
 use Rattle.jiter_scan.specs.declared.errors.FaultKind.{FaultKind}
 use Rattle.jiter_steps.specs.StringDecoder.{text_view}
-use Rattle.jiter_steps.specs.Step.{Step, more, closed, stuck, step, colon, value_first, container_first, opening}
 use Rattle.jiter_steps.specs.Tree.{Text, Tree, null, object, members_of}
 use Rattle.jiter_steps.specs.declared.parse.Shape.{Shape}
 use Rattle.jiter_steps.specs.declared.parse.Shape.TheVariants as shape
 use Rattle.jiter_steps.specs.declared.parse.Start.TheVariants as start
 use Rattle.jiter_steps.proofs.Calls.Resumed.{IgnoresBegin, if_forgiven-yes, if_forgiven-no, resume-fault, step-to}
-use Rattle.jiter_steps.proofs.Calls.Resumed.{items-value, container-begins, value_in-levels}
+use Rattle.jiter_steps.proofs.Calls.Resumed.{items-value, container-begins, container_in-goes, value_in-levels}
 use Rattle.jiter_steps.proofs.Grammar.Blanks.{past_blanks-blank, past_blanks-other}
-use Rattle.jiter_steps.proofs.Reading.Values.{Advances, inside_at-none, inside_at-starts}
+use Rattle.jiter_steps.proofs.Reading.Values.{Advances, inside_at-none, inside_at-starts, parts_at_is}
 use Rattle.jiter_value.specs.Arrived.{Arrived, at_value, between_parts, at_end, value_then, part_row}
-use Rattle.jiter_value.specs.Arrived.{container_of, owned, HasRead, IsBeforeValue, IsBetweenParts}
+use Rattle.jiter_value.specs.Arrived.{container_of, owned, HasRead, IsBeforeValue, IsBetweenParts, Holds}
 use Rattle.jiter_value.specs.OpenValue.{behind_value, completed, step_by, IsLeft, Everywhere, TakesByte, BeginsScalar}
-use Rattle.jiter_value.specs.OpenValue.{BeginsKey, ClosesBefore, Goes}
+use Rattle.jiter_value.specs.OpenValue.{BeginsKey, ClosesBefore, Goes, text_of}
 use Rattle.jiter_value.specs.Settings.{rules_as}
-use Rattle.jiter_value.specs.Spine.{OpenFrame, around, begun, parents_of, spine_of, AwaitsPart, IsOfKey, HasRoomInside}
+use Rattle.jiter_value.specs.Spine.{OpenFrame, around, begun, parents_of, spine_of, AwaitsPart, IsOfKey, HasRoomInside, HasValue}
 use Rattle.jiter_value.specs.Stacks.{PartTree, built, empty_tree}
 use Rattle.jiter_value.specs.declared.open_value.Awaits.{Awaits}
 use Rattle.jiter_value.specs.declared.open_value.Awaits.TheVariants as awaits
@@ -287,15 +289,13 @@ begins-scalar old new fs c other few h of same key is room = record {
 pub begins-key : (old new : OpenValue) (a : Awaits) (ms : List (Text × Tree)) (fs : List OpenFrame) (c : ℕ)
     → is_blank c ≡ false
     → ((p : Settings) (t : List ℕ) (j : ℕ) → part_row (rules_as owned p) t a shape.Object j (Some c) ≡ more j)
-    → map view old.spine.items ≡ spine_of fs (object (members_of ms))
-    → map view new.spine.items ≡ map view old.spine.items → new.awaits ≡ awaits.Colon
-    → HasRoomInside new.spine.items → BeginsKey new (between_parts a shape.Object ms fs) c
-begins-key old new a ms fs c other row h same is room = record {
+    → map view old.spine.items ≡ spine_of fs (object (members_of ms)) → new.spine ≡ old.spine
+    → new.awaits ≡ awaits.Colon → BeginsKey new (between_parts a shape.Object ms fs) c
+begins-key old new a ms fs c other row h same is = record {
   frames = fs;
   members = ms;
   awaits = is;
-  left = same ∙ h;
-  room = room;
+  left = ap (λ v. map view v.items) same ∙ h;
   goes = λ p t j here. key-begins p t j c here other a ms fs (row p t j);
 }
 
@@ -330,7 +330,6 @@ module _ (a : Awaits) (xs : List Tree) (fs : List OpenFrame) (c : ℕ) (other : 
       members = g.members;
       awaits = g.awaits;
       left = g.left;
-      room = g.room;
       goes = λ p t j here. same-there p t j here ∙ g.goes p t j here;
     }
     item-goes new (went.Closed k) g = record {
@@ -449,7 +448,7 @@ between-parts v (at_end x n) inside h = absurd (subst IsBetweenParts h.0 inside)
 pub between-awaits : (h : Shape) (xs : List (PartTree h)) (fs : List OpenFrame) (spine : List JsonValue)
     → map view spine ≡ spine_of fs (built h xs) → (gs : List OpenFrame) × AwaitsPart spine gs
 between-awaits shape.Array xs fs spine h = (items_frame xs ∷ fs, h)
-between-awaits shape.Object ms fs spine h = (members_frame ms (record { owned = true; bytes = [] }) ∷ fs, h)
+between-awaits shape.Object ms fs spine h = (members_frame ms (text_of []) ∷ fs, h)
 
 -- What is told of a byte between the parts of a container of a shape,
 abbrev pub BetweenGoes : OpenValue → OpenValue → ℕ → Result Went Refused → Awaits → Shape → Type 0
@@ -481,3 +480,40 @@ item-part old new c r goes = λ a xs fs h other row.
 -- The spine of a container of a shape, between its parts
 abbrev pub Inside : List JsonValue → Shape → Type 0
 Inside spine h = (xs : List (PartTree h)) × (fs : List OpenFrame) × (map view spine ≡ spine_of fs (built h xs))
+
+long : (f : OpenFrame) (fs : List OpenFrame) (spine : List JsonValue) (x : Tree)
+    → map view spine ≡ spine_of fs (around f x) → 0 < length spine
+long f fs spine x h =
+    omega (arith, ap length h, length-map spine view, length-append (parents_of fs) (around f x ∷ []))
+
+-- Behind a value that is put somewhere
+pub put-left : (a : Awaits) (spine : List JsonValue) (root : JsonValue) (k : Text) (x : Tree) (fs : List OpenFrame)
+    → HasValue spine root fs x → (spine ≡ [] → a ≡ awaits.Nothing) → (0 < length spine → a ≡ awaits.Comma)
+    → Holds a spine root k (behind_value x fs)
+put-left a spine root k x [] h none some = (none h.0, h.0, h.1)
+put-left a spine root k x (items_frame xs ∷ fs) h none some = (some (long (items_frame xs) fs spine x h), tt, h)
+put-left a spine root k x (members_frame ms l ∷ fs) h none some =
+    (some (long (members_frame ms l) fs spine x h), tt, h)
+
+-- and behind a key.
+pub key-read : (p : Settings) (t : List ℕ) (j e : ℕ) (ms : List (Text × Tree)) (fs : List OpenFrame) (k : Text)
+    → j < length t → (rules_as owned p).key t j ≡ taken k e
+    → key_from (rules_as owned p) t fs ms j ≡ completed p t (at_value awaits.Colon (members_frame ms k ∷ fs)) e
+key-read p t j e ms fs k lt read =
+    let r = rules_as owned p in
+    let c = object_in r t (length fs) in
+    let inner = value_in r t (suc (length fs)) in
+    ap (resume r t fs)
+    (parts_at_is r t c (container_in-goes r t (rules_as-advances owned p t) shape.Object (length fs)) ms j lt refl
+    ∙ ap (behind_part r c t (parts_from r t c) ms) (ap (behind_key inner t j) read ∙ by r t fs k (object_colon t e)))
+  where
+    by : (r : Rules Text Tree) (t : List ℕ) (fs : List OpenFrame) (k : Text) (x : Extent)
+        → behind_colon k (value_in r t (suc (length fs))) x ≡ with_key k (value_then r t (suc (length fs)) x)
+    by r t fs k (taken u j) = refl
+    by r t fs k (failed kind j) = refl
+
+-- A scalar that is read is put there.
+pub scalar-read : (x : Tree) (p : Settings) (t : List ℕ) (j e : ℕ) (fs : List OpenFrame)
+    → value_in (rules_as owned p) t (length fs) j ≡ done x e
+    → value_from (rules_as owned p) t fs j ≡ completed p t (behind_value x fs) e
+scalar-read x p t j e fs h = ap (resume (rules_as owned p) t fs) h ∙ behind-is p t x e fs

@@ -42,6 +42,10 @@ behind_value x [] = at_end x 0
 behind_value x (items_frame xs ∷ fs) = between_parts awaits.Comma shape.Array (xs ++ x ∷ []) fs
 behind_value x (members_frame ms k ∷ fs) = between_parts awaits.Comma shape.Object (ms ++ (k, x) ∷ []) fs
 
+-- these bytes as a text of their own
+abbrev pub text_of : List ℕ → Text
+text_of w = record { owned = true; bytes = w }
+
 -- what a value that arrives leaves open
 abbrev pub IsLeft : OpenValue → Arrived → Type 0
 IsLeft v s = Holds v.awaits v.spine.items v.root (text_view v.key) s
@@ -68,13 +72,12 @@ pub record BeginsScalar (new : OpenValue) (s : Arrived) (c : ℕ) : Type 0 where
   pub room : HasRoomInside new.spine.items
   pub goes : Everywhere c (λ p t j. completed p t s j ≡ value_from (rules_as owned p) t frames j)
 
--- A key begins with the byte, in an object that has these members, and there is room for its member.
+-- A key begins with the byte, in an object that has these members.
 pub record BeginsKey (new : OpenValue) (s : Arrived) (c : ℕ) : Type 0 where
   pub frames : List OpenFrame
   pub members : List (Text × Tree)
   pub awaits : new.awaits ≡ awaits.Colon
   pub left : map view new.spine.items ≡ spine_of frames (object (members_of members))
-  pub room : HasRoomInside new.spine.items
   pub goes : Everywhere c (λ p t j. completed p t s j ≡ key_from (rules_as owned p) t frames members j)
 
 -- A comma or the end is missing before the byte: in a partial mode the container ends there, else that is a fault.

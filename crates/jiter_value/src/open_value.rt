@@ -1,18 +1,23 @@
 //! A value that arrives byte by byte (RFC 8259, 2 to 5): what stands between its scalars and keys. Each byte is looked
 //! at once, and behind each is said what it leaves open.
-ghost use Rattle.std.specs.Prelude.{◌≡◌, ◌+◌, [], Bool, IfOk, List, OnErr, OnOk, Some, false, map, ℕ};
+ghost use Rattle.std.specs.Prelude.{◌≡◌, ◌∷◌, ◌<◌, [], IfOk, List, OnErr, OnOk, Some, false, length, map, string_bytes};
+ghost use Rattle.std.specs.Prelude.{ℕ};
+ghost use Rattle.jiter_scan.specs.Scanned.{taken};
+ghost use Rattle.jiter_steps.specs.Frames.{key_from, members_frame, value_from, value_in};
+ghost use Rattle.jiter_steps.specs.Read.{done};
+ghost use Rattle.jiter_steps.specs.Tree.{Text, Tree, members_of, object};
 ghost use Rattle.jiter_steps.specs.Blank.{is_blank};
 ghost use Rattle.jiter_steps.specs.Step.{container_first, container_comma, container_step, more};
 ghost use Rattle.jiter_steps.specs.StringDecoder.{text_view};
 ghost use Rattle.jiter_value.specs.Arrived.{Arrived, HasRead, at_value, between_parts, part_row, owned};
-ghost use Rattle.jiter_value.specs.OpenValue.{Goes, IsLeft, IsRightSign, behind_value, step_by};
+ghost use Rattle.jiter_value.specs.OpenValue.{Goes, IsLeft, IsRightSign, behind_value, completed, step_by, text_of};
 ghost use Rattle.jiter_value.specs.Settings.{rules_as};
 ghost use Rattle.jiter_value.specs.Spine.{OpenFrame, AwaitsPart, HasRoomInside, IsOfKey, spine_of};
 ghost use Rattle.jiter_value.specs.Stacks.{PartTree, built};
 ghost use Rattle.jiter_value.specs.Value.{view};
 ghost use Rattle.jiter_value.specs.declared.settings.Settings.{Settings};
 
-use crate::spine::{close, make_room_inside, open_container};
+use crate::spine::{close, make_room_inside, open_container, put};
 use crate::value::JsonValue;
 use jiter_scan::errors::FaultKind;
 use jiter_scan::memory::Refused;
@@ -185,6 +190,18 @@ fn shape_inside(spine: &Vec<JsonValue<'_>>) -> Shape
     }
 }
 
+// What is awaited behind a value inside these containers.
+fn behind_part(spine: &Vec<JsonValue<'_>>) -> Awaits
+    ensures root { spine.now.items ≡ [] → result ≡ Awaits.Nothing }
+    ensures inside { 0 < length spine.now.items → result ≡ Awaits.Comma }
+{
+    if spine.is_empty() {
+        Awaits::Nothing
+    } else {
+        Awaits::Comma
+    }
+}
+
 impl OpenValue {
     /// Before the first byte of a document. It takes no memory.
     pub fn new(alloc: Global) -> OpenValue
@@ -209,11 +226,7 @@ impl OpenValue {
             → IsLeft self.new (behind_value (built h xs) fs) }
     {
         close(&mut self.spine, &mut self.root);
-        self.awaits = if self.spine.is_empty() {
-            Awaits::Nothing
-        } else {
-            Awaits::Comma
-        };
+        self.awaits = behind_part(&self.spine);
     }
 
     // A container begins where a value is awaited.
@@ -235,18 +248,18 @@ impl OpenValue {
         Ok(())
     }
 
-    // Room for the part that begins, and what is awaited then.
-    fn await_part(&mut self, awaits: Awaits) -> Result<(), Refused>
+    // A scalar begins: there is room for it then.
+    fn begin_scalar(&mut self) -> Result<(), Refused>
         requires { (fs : List OpenFrame) × AwaitsPart self.old.spine.items fs }
         ensures spine { map view self.new.spine.items ≡ map view self.old.spine.items }
         ensures key { self.new.key ≡ self.old.key }
         ensures root { self.new.root ≡ self.old.root }
-        ensures awaits { OnOk result (self.new.awaits ≡ awaits) }
-        ensures refused { OnErr result (self.new.awaits ≡ self.old.awaits) }
+        ensures awaits { OnOk result (self.new.awaits ≡ Awaits.Value) }
         ensures room { OnOk result (HasRoomInside self.new.spine.items) }
+        ensures refused { OnErr result (self.new.awaits ≡ self.old.awaits) }
     {
         make_room_inside(&mut self.spine)?;
-        self.awaits = awaits;
+        self.awaits = Awaits::Value;
         Ok(())
     }
 
@@ -272,7 +285,7 @@ impl OpenValue {
             }
             Start::Nothing => Ok(Went::Wrong(FaultKind::ExpectedSomeValue)),
             _ => {
-                self.await_part(Awaits::Value)?;
+                self.begin_scalar()?;
                 Ok(Went::Scalar)
             }
         }
@@ -292,7 +305,7 @@ impl OpenValue {
         match shape {
             Shape::Array => self.value(byte),
             Shape::Object => {
-                self.await_part(Awaits::Colon)?;
+                self.awaits = Awaits::Colon;
                 Ok(Went::Key)
             }
         }
@@ -355,5 +368,34 @@ impl OpenValue {
             Awaits::Nothing => Ok(Went::Over),
             _ => self.between(byte),
         }
+    }
+
+    /// The scalar that was begun is whole, and is put where it was awaited. It takes no memory.
+    pub fn put_scalar(&mut self, value: JsonValue<'static>)
+        requires { HasRoomInside self.old.spine.items }
+        ensures left { (fs : List OpenFrame) → IsLeft self.old (at_value Awaits.Value fs)
+            → IsLeft self.new (behind_value (view value.entry) fs) }
+        // Where it is read from j to before e, the rest of a text goes on there.
+        ensures read { (p : Settings) → (t : List ℕ) → (j e : ℕ) → (fs : List OpenFrame)
+            → value_in (rules_as owned p) t (length fs) j ≡ done (view value.entry) e
+            → value_from (rules_as owned p) t fs j ≡ completed p t (behind_value (view value.entry) fs) e }
+    {
+        put(&mut self.spine, &mut self.root, &mut self.key, value);
+        self.awaits = behind_part(&self.spine);
+    }
+
+    /// The key that was begun is whole, and its colon is awaited. It takes no memory.
+    pub fn put_key(&mut self, key: String)
+        requires { self.old.awaits ≡ Awaits.Colon }
+        ensures left { (ms : List (Text × Tree)) → (fs : List OpenFrame)
+            → map view self.old.spine.items ≡ spine_of fs (object (members_of ms))
+            → IsLeft self.new (at_value Awaits.Colon (members_frame ms (text_of (string_bytes key)) ∷ fs)) }
+        // Where it is read from j to before e, the rest of a text goes on there.
+        ensures read { (p : Settings) → (t : List ℕ) → (j e : ℕ) → (ms : List (Text × Tree)) → (fs : List OpenFrame)
+            → j < length t → (rules_as owned p).key t j ≡ taken (text_of (string_bytes key)) e
+            → key_from (rules_as owned p) t fs ms j
+            ≡ completed p t (at_value Awaits.Colon (members_frame ms (text_of (string_bytes key)) ∷ fs)) e }
+    {
+        self.key = CowStr::Owned(key);
     }
 }

@@ -30,10 +30,10 @@ returns-in-Nothing-clause-goes c = λ fs h of other p t j here.
     (omega (arith, c.if-len-gt-NESTING_LIMIT.false, c.len.ensures, v.spine.ok.0, depth-is fs v.spine.items h))
     (sym c.start_of.ensures ∙ c.in-Nothing.is)
 
-pub returns-in_ok-await_part-in_default-clause-goes : goal.returns-in_ok-await_part-in_default-clause-goes
-returns-in_ok-await_part-in_default-clause-goes c = λ fs h of other.
+pub returns-in_ok-begin_scalar-in_default-clause-goes : goal.returns-in_ok-begin_scalar-in_default-clause-goes
+returns-in_ok-begin_scalar-in_default-clause-goes c = λ fs h of other.
     let v = c.args.self.now in
-    let e = c.in_ok-await_part-in_default.ensures in
-    begins-scalar v c.await_part.new.self fs c.args.byte other
+    let e = c.in_ok-begin_scalar-in_default.ensures in
+    begins-scalar v c.begin_scalar.new.self fs c.args.byte other
     (omega (arith, c.if-len-gt-NESTING_LIMIT.false, c.len.ensures, v.spine.ok.0, depth-is fs v.spine.items h)) h of
     e.spine e.key e.awaits e.room
