@@ -1,10 +1,11 @@
 -- What a byte makes of a value that arrives, by the rules of its reading.
 use Rattle.std.proofs.Common.{◌≡◌, ℕ, suc, ◌+◌, ◌-◌, ◌<◌, ◌≤◌, ◌==◌, Bool, true, false, List, [], ◌∷◌, length, get_or}
-use Rattle.std.proofs.Common.{refl, sym, subst, ap, ◌∙◌, arith, map, add-one, length-append}
+use Rattle.std.proofs.Common.{refl, sym, subst, ap, ◌∙◌, ◌++◌, arith, map, add-one, append_assoc, inl, length-append}
+use Rattle.std.proofs.Math.Seq.{get_or-append_seam}
 use Rattle.std.proofs.lemmas.List.{length-map}
 use Rattle.std.specs.Prelude.{slice_get, Option, Some, None, Result, Ok, Err, IfOk}
 use Rattle.jiter_scan.specs.declared.memory.Refused.{Refused}
-use Rattle.std.proofs.lemmas.Option.{slice_get_within, get_or_from_slice_get}
+use Rattle.std.proofs.lemmas.Option.{slice_get_within, slice_get-get_or, get_or_from_slice_get}
 use Rattle.jiter_scan.proofs.Choices.{if_case, if-true, if-false}
 use Rattle.jiter_scan.specs.Kind.{Kind, fault_kind, is_forgiven, recursion_limit, expected_value, expected_colon}
 use Rattle.jiter_scan.specs.NumberReading.{extent_then}
@@ -18,7 +19,7 @@ use Rattle.jiter_steps.specs.Frames.{array_in, object_in, parts_from, parts_step
 use Rattle.jiter_steps.specs.Literal.{start_of}
 use Rattle.jiter_steps.specs.Step.{Step, more, closed, stuck, step, colon, object_colon, value_first, container_first}
 use Rattle.jiter_steps.specs.Step.{opening}
-use Rattle.jiter_steps.specs.Read.{Reading, Rules, done, fault, behind_colon, behind_key, behind_part, front_answer}
+use Rattle.jiter_steps.specs.Read.{Rules, done, fault, behind_colon, behind_key, behind_part, front_answer}
 use Rattle.jiter_steps.specs.Read.{if_begun, with_key}
 use Rattle.jiter_scan.specs.declared.errors.FaultKind.{FaultKind}
 use Rattle.jiter_steps.specs.StringDecoder.{text_view}
@@ -33,9 +34,9 @@ use Rattle.jiter_steps.proofs.Reading.Values.{Advances, inside_at-none, inside_a
 use Rattle.jiter_value.specs.Arrived.{Arrived, at_value, between_parts, at_end, value_then, part_row}
 use Rattle.jiter_value.specs.Arrived.{container_of, owned, HasRead, IsBeforeValue, IsBetweenParts, Holds}
 use Rattle.jiter_value.specs.OpenValue.{behind_value, completed, step_by, IsLeft, Everywhere, TakesByte, BeginsScalar}
-use Rattle.jiter_value.specs.OpenValue.{BeginsKey, ClosesBefore, Goes, text_of}
+use Rattle.jiter_value.specs.OpenValue.{BeginsKey, ClosesBefore, Goes, ReadsOn, text_of}
 use Rattle.jiter_value.specs.Settings.{rules_as}
-use Rattle.jiter_value.specs.Spine.{OpenFrame, around, begun, parents_of, spine_of, AwaitsPart, IsOfKey, HasRoomInside, HasValue}
+use Rattle.jiter_value.specs.Spine.{OpenFrame, around, begun, parents_of, spine_of, AwaitsPart, IsOfKey, HasRoomInside, HasValue, StandsFor, filled}
 use Rattle.jiter_value.specs.Stacks.{PartTree, built, empty_tree}
 use Rattle.jiter_value.specs.declared.open_value.Awaits.{Awaits}
 use Rattle.jiter_value.specs.declared.open_value.Awaits.TheVariants as awaits
@@ -47,6 +48,7 @@ use Rattle.jiter_value.specs.declared.open_value.Went.{Went}
 use Rattle.jiter_value.specs.declared.open_value.Went.TheVariants as went
 use Rattle.jiter_value.specs.declared.settings.Settings.{Settings}
 use Rattle.jiter_value.specs.declared.value.JsonValue.{JsonValue}
+use Rattle.jiter_value.proofs.Arrivals.{shown-stands}
 use Rattle.jiter_value.proofs.MadeTexts.{rules_as-advances}
 
 -- a container that begins has no part
@@ -517,3 +519,34 @@ pub scalar-read : (x : Tree) (p : Settings) (t : List ℕ) (j e : ℕ) (fs : Lis
     → value_in (rules_as owned p) t (length fs) j ≡ done x e
     → value_from (rules_as owned p) t fs j ≡ completed p t (behind_value x fs) e
 scalar-read x p t j e fs h = ap (resume (rules_as owned p) t fs) h ∙ behind-is p t x e fs
+
+-- What was read, and a byte that is taken behind it
+pub read-on : (p : Settings) (t : List ℕ) (c : ℕ) (s : Arrived) (new : OpenValue) (g : TakesByte new s c)
+    → HasRead p t s → HasRead p (t ++ c ∷ []) g.next
+read-on p t c s new g read = record {
+  goes = λ u.
+      let r = rules_as owned p in
+      let w = t ++ c ∷ u in
+      let long : length t < length w = omega (arith, length-append t (c ∷ u)) in
+      let here : slice_get w (length t) ≡ Some c =
+      slice_get-get_or w (length t) 0 long ∙ ap Some (get_or-append_seam t c u 0) in
+      let one : length t + 1 ≡ length (t ++ c ∷ []) = omega (arith, length-append t (c ∷ [])) in
+      let all = read.goes (c ∷ u) ∙ g.goes p w (length t) here ∙ ap (completed p w g.next) one in
+      subst (λ x. front_answer r x ≡ completed p x g.next (length (t ++ c ∷ []))) (sym (append_assoc t (c ∷ []) u)) all;
+}
+
+pub reads-on : (p : Settings) (t : List ℕ) (c : ℕ) (s : Arrived) (new : OpenValue) (r : Result Went Refused)
+    → HasRead p t s → IfOk r (Goes new s c) → IfOk r (ReadsOn new p (t ++ c ∷ []))
+reads-on p t c s new (Ok went.Taken) read g = (g.next, g.left, read-on p t c s new g read)
+reads-on p t c s new (Ok w) read g = tt
+reads-on p t c s new (Err e) read g = tt
+
+-- What is held stands for a value.
+pub held-stands : (a : Awaits) (spine : List JsonValue) (root : JsonValue) (k : Text) (s : Arrived)
+    → Holds a spine root k s → (v : Tree) × StandsFor spine root v
+held-stands a spine root k (at_value b []) h = (view root, inl (h.2, refl))
+held-stands a spine root k (at_value b (f ∷ fs)) h =
+    (filled fs (begun f), shown-stands a spine root k (at_value b (f ∷ fs)) _ h refl)
+held-stands a spine root k (between_parts b shape xs fs) h =
+    (filled fs (built shape xs), shown-stands a spine root k (between_parts b shape xs fs) _ h refl)
+held-stands a spine root k (at_end v n) h = (v, shown-stands a spine root k (at_end v n) v h refl)

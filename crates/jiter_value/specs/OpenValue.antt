@@ -10,7 +10,7 @@ use Rattle.jiter_steps.specs.StringDecoder.{text_view}
 use Rattle.jiter_steps.specs.Tree.{Text, Tree, object, members_of}
 use Rattle.jiter_steps.specs.declared.parse.Shape.{Shape}
 use Rattle.jiter_steps.specs.declared.parse.Shape.TheVariants as shape
-use Rattle.jiter_value.specs.Arrived.{Arrived, at_value, between_parts, at_end, Holds, leads_on, owned}
+use Rattle.jiter_value.specs.Arrived.{Arrived, at_value, between_parts, at_end, HasRead, Holds, leads_on, owned}
 use Rattle.jiter_value.specs.Settings.{rules_as}
 use Rattle.jiter_value.specs.Spine.{OpenFrame, spine_of, HasRoomInside}
 use Rattle.jiter_value.specs.Value.{view}
@@ -95,3 +95,8 @@ Goes new s c went.Key = BeginsKey new s c
 Goes new s c (went.Closed k) = ClosesBefore new s c (fault_kind k)
 Goes new s c (went.Wrong k) = Everywhere c (λ p t j. completed p t s j ≡ fault (fault_kind k) j j)
 Goes new s c went.Over = IsLeft new s × (new.awaits ≡ awaits.Nothing)
+
+-- A byte that is taken was read behind those before it: these bytes leave open what is left then.
+abbrev pub ReadsOn : OpenValue → Settings → List ℕ → Went → Type 0
+ReadsOn new p t went.Taken = (s : Arrived) × IsLeft new s × HasRead p t s
+ReadsOn new p t other = Unit {0}

@@ -1,7 +1,8 @@
 //! A value that arrives byte by byte (RFC 8259, 2 to 5): what stands between its scalars and keys. Each byte is looked
 //! at once, and behind each is said what it leaves open.
-ghost use Rattle.std.specs.Prelude.{◌≡◌, ◌∷◌, ◌<◌, [], IfOk, List, OnErr, OnOk, Some, false, length, map, string_bytes};
-ghost use Rattle.std.specs.Prelude.{ℕ};
+ghost use Rattle.std.specs.Prelude.{◌≡◌, ◌∷◌, ◌++◌, ◌<◌, [], IfOk, List, OnErr, OnOk, Some, false, length, map, string_bytes};
+ghost use Rattle.std.specs.Prelude.{true, ℕ};
+ghost use Rattle.jiter_scan.specs.PartialMode.{is_active};
 ghost use Rattle.jiter_scan.specs.Scanned.{taken};
 ghost use Rattle.jiter_steps.specs.Frames.{key_from, members_frame, value_from, value_in};
 ghost use Rattle.jiter_steps.specs.Read.{done};
@@ -9,15 +10,17 @@ ghost use Rattle.jiter_steps.specs.Tree.{Text, Tree, members_of, object};
 ghost use Rattle.jiter_steps.specs.Blank.{is_blank};
 ghost use Rattle.jiter_steps.specs.Step.{container_first, container_comma, container_step, more};
 ghost use Rattle.jiter_steps.specs.StringDecoder.{text_view};
-ghost use Rattle.jiter_value.specs.Arrived.{Arrived, HasRead, at_value, between_parts, part_row, owned};
-ghost use Rattle.jiter_value.specs.OpenValue.{Goes, IsLeft, IsRightSign, behind_value, completed, step_by, text_of};
-ghost use Rattle.jiter_value.specs.Settings.{rules_as};
+ghost use Rattle.jiter_value.specs.Arrived.{Arrived, HasRead, at_value, between_parts, owned, part_row, shown};
+ghost use Rattle.jiter_value.specs.OpenValue.{Goes, IsLeft, IsRightSign, ReadsOn, behind_value, completed, step_by, text_of};
+ghost use Rattle.jiter_value.specs.Owned.{owned_tree};
+ghost use Rattle.jiter_value.specs.Parses.{reading_as};
+ghost use Rattle.jiter_value.specs.Settings.{answer_by, rules_as};
 ghost use Rattle.jiter_value.specs.Spine.{OpenFrame, AwaitsPart, HasRoomInside, IsOfKey, spine_of};
 ghost use Rattle.jiter_value.specs.Stacks.{PartTree, built};
 ghost use Rattle.jiter_value.specs.Value.{view};
 ghost use Rattle.jiter_value.specs.declared.settings.Settings.{Settings};
 
-use crate::spine::{close, make_room_inside, open_container, put};
+use crate::spine::{close, make_room_inside, open_container, put, put_together};
 use crate::value::JsonValue;
 use jiter_scan::errors::FaultKind;
 use jiter_scan::memory::Refused;
@@ -352,9 +355,8 @@ impl OpenValue {
         Went::Taken
     }
 
-    /// What the next byte is: it is taken, a scalar or a key begins with it, or it ends what is open. Where memory is
-    /// refused, the value so far stays as it is.
-    pub fn next(&mut self, byte: u8) -> Result<Went, Refused>
+    // What the next byte is.
+    fn turn(&mut self, byte: u8) -> Result<Went, Refused>
         requires { (s : Arrived) × IsLeft self.old s }
         ensures goes { (s : Arrived) → IsLeft self.old s → IfOk result (Goes self.new s byte) }
         ensures refused { (s : Arrived) → IsLeft self.old s → OnErr result (IsLeft self.new s) }
@@ -368,6 +370,18 @@ impl OpenValue {
             Awaits::Nothing => Ok(Went::Over),
             _ => self.between(byte),
         }
+    }
+
+    /// What the next byte is: it is taken, a scalar or a key begins with it, or it ends what is open. Where memory is
+    /// refused, the value so far stays as it is.
+    pub fn next(&mut self, byte: u8) -> Result<Went, Refused>
+        requires { (s : Arrived) × IsLeft self.old s }
+        ensures goes { (s : Arrived) → IsLeft self.old s → IfOk result (Goes self.new s byte) }
+        ensures refused { (s : Arrived) → IsLeft self.old s → OnErr result (IsLeft self.new s) }
+        ensures read { (s : Arrived) → (p : Settings) → (t : List ℕ) → IsLeft self.old s → HasRead p t s
+            → IfOk result (ReadsOn self.new p (t ++ byte ∷ [])) }
+    {
+        self.turn(byte)
     }
 
     /// The scalar that was begun is whole, and is put where it was awaited. It takes no memory.
@@ -397,5 +411,19 @@ impl OpenValue {
             ≡ completed p t (at_value Awaits.Colon (members_frame ms (text_of (string_bytes key)) ∷ fs)) e }
     {
         self.key = CowStr::Owned(key);
+    }
+
+    /// The value so far, each container that is open ended; `null` where none of it was read. It takes no memory.
+    pub fn into_value(self) -> JsonValue<'static>
+        requires { (s : Arrived) × IsLeft self s }
+        // In a partial mode it is what the bytes so far answer, each text owned.
+        ensures { (p : Settings) → (t : List ℕ) → (s : Arrived) → (v : Tree) → is_active p.mode ≡ true
+            → HasRead p t s → IsLeft self s → shown s ≡ Some v
+            → (view result ≡ v) × ((e : ℕ) × (reading_as owned_tree (answer_by p t) ≡ done v e)) }
+    {
+        let mut spine = self.spine;
+        let mut root = self.root;
+        put_together(&mut spine, &mut root);
+        root
     }
 }

@@ -1,7 +1,6 @@
-use Rattle.std.proofs.Common.{◌∙◌, sym}
-use Rattle.jiter_value.proofs.OpenValues.{goes-blank}
+use Rattle.jiter_value.proofs.OpenValues.{reads-on}
 use Rattle.jiter_value.proofs.open_value.OpenValue.next.Goals as goal
 
-pub returns-then-is_blank-clause-goes : goal.returns-then-is_blank-clause-goes
-returns-then-is_blank-clause-goes c = λ s h.
-    goes-blank c.args.self.now s c.args.byte (sym c.is_blank.ensures ∙ c.if-is_blank.true) h
+pub returns-clause-read : goal.returns-clause-read
+returns-clause-read c = λ s p t left read.
+    reads-on p t c.args.byte s c.turn.new.self c.turn.result read (c.turn.ensures.goes s left)

@@ -1,4 +1,4 @@
-use Rattle.std.proofs.Common.{refl, string_bytes}
+use Rattle.std.proofs.Common.{string_bytes}
 use Rattle.jiter_value.specs.OpenValue.{text_of}
 use Rattle.jiter_value.proofs.OpenValues.{key-read}
 use Rattle.jiter_value.proofs.open_value.OpenValue.put_key.Goals as goal
