@@ -1,5 +1,5 @@
 -- What is open of a document that arrives in pieces is, where the text ends, its value so far.
-use Rattle.std.proofs.Common.{◌≡◌, ℕ, suc, ◌≤◌, true, List, [], ◌∷◌, ◌++◌, length, refl, sym, subst, ap, ◌∙◌, arith, inl, inr}
+use Rattle.std.proofs.Common.{◌≡◌, ℕ, suc, ◌-◌, ◌≤◌, true, List, [], ◌∷◌, ◌++◌, length, refl, sym, subst, ap, ◌∙◌, arith, inl, inr}
 use Rattle.std.specs.Prelude.{slice_get, Option, Some, None}
 use Rattle.std.proofs.lemmas.List.{append-nil}
 use Rattle.std.proofs.lemmas.Option.{slice_get_past, none-some, same_Some}
@@ -24,8 +24,8 @@ use Rattle.jiter_value.specs.Owned.{owned_tree}
 use Rattle.jiter_value.specs.Settings.{rules_as, answer_by}
 use Rattle.jiter_value.specs.Spine.{OpenFrame, begun, around, filled, StandsFor}
 use Rattle.jiter_value.specs.Stacks.{PartTree, built}
-use Rattle.jiter_value.specs.declared.arriving.Awaits.{Awaits}
-use Rattle.jiter_value.specs.declared.arriving.Awaits.TheVariants as awaits
+use Rattle.jiter_value.specs.declared.open_value.Awaits.{Awaits}
+use Rattle.jiter_value.specs.declared.open_value.Awaits.TheVariants as awaits
 use Rattle.jiter_value.specs.declared.settings.Settings.{Settings}
 use Rattle.jiter_value.specs.declared.value.JsonValue.{JsonValue}
 use Rattle.jiter_value.proofs.MadeTexts.{answer_as-is}
@@ -118,17 +118,17 @@ module _ (p : Settings) (t : List ℕ) (on : is_active p.mode ≡ true) (j : ℕ
       let f' = value-fails a (suc (length fs)) in
       (j, ap (resume r t (f ∷ fs)) f'.is ∙ fault-closes f fs f'.kind f'.ok ∙ ap (λ x. done x j) (same_Some _ _ h))
   shown-read (between_parts a k xs fs) v h = (j, built-closes a k xs fs ∙ ap (λ x. done x j) (same_Some _ _ h))
-  shown-read (at_end w e) v h = (e, ap (λ x. done x e) (same_Some _ _ h))
+  shown-read (at_end w n) v h = (j - n, ap (λ x. done x (j - n)) (same_Some _ _ h))
 
 -- What is held stands for it.
 pub shown-stands : (a : Awaits) (spine : List JsonValue) (root : JsonValue) (k : Text) (s : Arrived) (v : Tree)
     → Holds a spine root k s → shown s ≡ Some v → StandsFor spine root v
 shown-stands a spine root k (at_value b []) v h is = absurd (none-some v is)
 shown-stands a spine root k (at_value b (f ∷ fs)) v h is =
-    inr (record { frames = fs; innermost = begun f; apart = h.1; whole = sym (same_Some _ _ is) })
+    inr (record { frames = fs; innermost = begun f; apart = h.2; whole = sym (same_Some _ _ is) })
 shown-stands a spine root k (between_parts b shape xs fs) v h is =
-    inr (record { frames = fs; innermost = built shape xs; apart = h.1; whole = sym (same_Some _ _ is) })
-shown-stands a spine root k (at_end w e) v h is = inl (h.1, h.2 ∙ same_Some _ _ is)
+    inr (record { frames = fs; innermost = built shape xs; apart = h.2; whole = sym (same_Some _ _ is) })
+shown-stands a spine root k (at_end w n) v h is = inl (h.1, h.2 ∙ same_Some _ _ is)
 
 -- What was read so far, where the text ends in a partial mode, answers the value so far.
 pub shown-answers : (p : Settings) (t : List ℕ) (s : Arrived) (v : Tree) → is_active p.mode ≡ true → HasRead p t s

@@ -23,5 +23,6 @@ pub mod Repeats
 pub mod KeptKeys
 pub mod Spines
 pub mod Arrivals
+pub mod OpenValues
 pub mod KeySets
 mod Rows

@@ -1,5 +1,5 @@
 -- A document that arrives in pieces: what its bytes so far leave open, and what the rest of it completes that to.
-use Rattle.std.specs.Prelude.{◌≡◌, ℕ, List, [], ◌∷◌, ◌++◌, length, map, Option, Some, None}
+use Rattle.std.specs.Prelude.{◌≡◌, ℕ, ◌-◌, List, [], ◌∷◌, ◌++◌, length, map, Option, Some, None}
 use Rattle.jiter_scan.specs.Scanned.{taken, failed}
 use Rattle.jiter_scan.specs.Word.{Extent}
 use Rattle.jiter_steps.specs.Frames.{resume, value_in, array_in, object_in, parts_step}
@@ -14,14 +14,14 @@ use Rattle.jiter_value.specs.Settings.{Keeping, each, rules_as}
 use Rattle.jiter_value.specs.Spine.{OpenFrame, begun, filled, spine_of, AwaitsPart, IsOfKey}
 use Rattle.jiter_value.specs.Stacks.{PartTree, built}
 use Rattle.jiter_value.specs.Value.{view}
-use Rattle.jiter_value.specs.declared.arriving.Awaits.{Awaits}
-use Rattle.jiter_value.specs.declared.arriving.Awaits.TheVariants as awaits
+use Rattle.jiter_value.specs.declared.open_value.Awaits.{Awaits}
+use Rattle.jiter_value.specs.declared.open_value.Awaits.TheVariants as awaits
 use Rattle.jiter_value.specs.declared.settings.Settings.{Settings}
 use Rattle.jiter_value.specs.declared.value.JsonValue.{JsonValue}
 
 -- What the bytes so far leave open, where no token is unfinished: inside these containers a value is awaited, or its
 -- colon; inside them stands a container of these parts, of which another is awaited, a comma or the end; or the value
--- is whole, and ends there.
+-- is whole, and ended so many bytes before.
 pub data Arrived : Type 0 where
   at_value : Awaits → List OpenFrame → Arrived
   between_parts : Awaits → (h : Shape) → List (PartTree h) → List OpenFrame → Arrived
@@ -32,13 +32,26 @@ abbrev pub shown : Arrived → Option Tree
 shown (at_value a []) = None
 shown (at_value a (f ∷ fs)) = Some (filled fs (begun f))
 shown (between_parts a h xs fs) = Some (filled fs (built h xs))
-shown (at_end v e) = Some v
+shown (at_end v n) = Some v
+
+-- What is awaited before a value, and what between the parts of a container
+abbrev pub IsBeforeValue : Awaits → Type 0
+IsBeforeValue awaits.Value = Unit {0}
+IsBeforeValue awaits.Colon = Unit {0}
+IsBeforeValue other = ⊥
+
+abbrev pub IsBetweenParts : Awaits → Type 0
+IsBetweenParts awaits.First = Unit {0}
+IsBetweenParts awaits.Next = Unit {0}
+IsBetweenParts awaits.Comma = Unit {0}
+IsBetweenParts other = ⊥
 
 -- The same is held: what is awaited, the spine, the root and the last key.
 abbrev pub Holds : Awaits → List JsonValue → JsonValue → Text → Arrived → Type 0
-Holds a spine root k (at_value b fs) = (a ≡ b) × AwaitsPart spine fs × IsOfKey k fs
-Holds a spine root k (between_parts b h xs fs) = (a ≡ b) × (map view spine ≡ spine_of fs (built h xs))
-Holds a spine root k (at_end v e) = (a ≡ awaits.Nothing) × (spine ≡ []) × (view root ≡ v)
+Holds a spine root k (at_value b fs) = (a ≡ b) × IsBeforeValue b × AwaitsPart spine fs × IsOfKey k fs
+Holds a spine root k (between_parts b h xs fs) =
+    (a ≡ b) × IsBetweenParts b × (map view spine ≡ spine_of fs (built h xs))
+Holds a spine root k (at_end v n) = (a ≡ awaits.Nothing) × (spine ≡ []) × (view root ≡ v)
 
 module _ (r : Rules Text Tree) (t : List ℕ) where
   -- where a value begins, or the fault there
@@ -66,7 +79,7 @@ module _ (r : Rules Text Tree) (t : List ℕ) where
   leads_on (at_value a fs) j = resume r t fs (value_then (length fs) (value_extent a j))
   leads_on (between_parts a h xs fs) j =
       resume r t fs (parts_step r t (container_of h (length fs)) xs (step t (part_row a h) j))
-  leads_on (at_end v e) j = done v e
+  leads_on (at_end v n) j = done v (j - n)
 
 -- each text owned, repeated keys kept
 abbrev pub owned : Keeping

@@ -20,5 +20,6 @@ pub mod Scratch
 pub mod Equality
 pub mod Spine
 pub mod Arrived
+pub mod OpenValue
 pub mod ValueCode
 pub mod KeySets

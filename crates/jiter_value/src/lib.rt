@@ -2,11 +2,11 @@
 #![tactic(auto)]
 
 pub mod access;
-pub mod arriving;
 pub mod copies;
 pub mod equality;
 pub mod machine;
 pub mod number_text;
+pub mod open_value;
 pub mod parse_owned;
 pub mod pointer;
 pub(crate) mod quoted;

@@ -1,0 +1,552 @@
+-- What a byte makes of a value that arrives, by the rules of its reading.
+use Rattle.std.proofs.Common.{◌≡◌, ℕ, suc, ◌+◌, ◌-◌, ◌<◌, ◌≤◌, ◌==◌, Bool, true, false, List, [], ◌∷◌, length, get_or}
+use Rattle.std.proofs.Common.{refl, sym, subst, ap, ◌∙◌, ◌++◌, arith, map, add-one, append_assoc, inl, length-append}
+use Rattle.std.proofs.Math.Seq.{get_or-append_seam}
+use Rattle.std.proofs.lemmas.List.{length-map}
+use Rattle.std.specs.Prelude.{slice_get, Option, Some, None, Result, Ok, Err, IfOk}
+use Rattle.jiter_scan.specs.declared.memory.Refused.{Refused}
+use Rattle.std.proofs.lemmas.Option.{slice_get_within, slice_get-get_or, get_or_from_slice_get}
+use Rattle.jiter_scan.proofs.Choices.{if_case, if-true, if-false}
+use Rattle.jiter_scan.specs.Kind.{Kind, fault_kind, is_forgiven, recursion_limit, expected_value, expected_colon}
+use Rattle.jiter_scan.specs.NumberReading.{extent_then}
+use Rattle.jiter_scan.specs.PartialMode.{is_active}
+use Rattle.jiter_scan.specs.Scanned.{taken, failed}
+use Rattle.jiter_scan.specs.Word.{Extent}
+use Rattle.jiter_steps.specs.Answer.{nothing_forgiven}
+use Rattle.jiter_steps.specs.Blank.{is_blank, past_blanks}
+use Rattle.jiter_steps.specs.Frames.{items_frame, members_frame, resolve_step, resume, value_in, value_from, key_from}
+use Rattle.jiter_steps.specs.Frames.{array_in, object_in, parts_from, parts_step}
+use Rattle.jiter_steps.specs.Literal.{start_of}
+use Rattle.jiter_steps.specs.Step.{Step, more, closed, stuck, step, colon, object_colon, value_first, container_first}
+use Rattle.jiter_steps.specs.Step.{opening}
+use Rattle.jiter_steps.specs.Read.{Rules, done, fault, behind_colon, behind_key, behind_part, front_answer}
+use Rattle.jiter_steps.specs.Read.{if_begun, with_key}
+use Rattle.jiter_scan.specs.declared.errors.FaultKind.{FaultKind}
+use Rattle.jiter_steps.specs.StringDecoder.{text_view}
+use Rattle.jiter_steps.specs.Tree.{Text, Tree, null, object, members_of}
+use Rattle.jiter_steps.specs.declared.parse.Shape.{Shape}
+use Rattle.jiter_steps.specs.declared.parse.Shape.TheVariants as shape
+use Rattle.jiter_steps.specs.declared.parse.Start.TheVariants as start
+use Rattle.jiter_steps.proofs.Calls.Resumed.{IgnoresBegin, if_forgiven-yes, if_forgiven-no, resume-fault, step-to}
+use Rattle.jiter_steps.proofs.Calls.Resumed.{items-value, container-begins, container_in-goes, value_in-levels}
+use Rattle.jiter_steps.proofs.Grammar.Blanks.{past_blanks-blank, past_blanks-other}
+use Rattle.jiter_steps.proofs.Reading.Values.{Advances, inside_at-none, inside_at-starts, parts_at_is}
+use Rattle.jiter_value.specs.Arrived.{Arrived, at_value, between_parts, at_end, value_then, part_row}
+use Rattle.jiter_value.specs.Arrived.{container_of, owned, HasRead, IsBeforeValue, IsBetweenParts, Holds}
+use Rattle.jiter_value.specs.OpenValue.{behind_value, completed, step_by, IsLeft, Everywhere, TakesByte, BeginsScalar}
+use Rattle.jiter_value.specs.OpenValue.{BeginsKey, ClosesBefore, Goes, ReadsOn, text_of}
+use Rattle.jiter_value.specs.Settings.{rules_as}
+use Rattle.jiter_value.specs.Spine.{OpenFrame, around, begun, parents_of, spine_of, AwaitsPart, IsOfKey, HasRoomInside, HasValue, StandsFor, filled}
+use Rattle.jiter_value.specs.Stacks.{PartTree, built, empty_tree}
+use Rattle.jiter_value.specs.declared.open_value.Awaits.{Awaits}
+use Rattle.jiter_value.specs.declared.open_value.Awaits.TheVariants as awaits
+use Rattle.jiter_value.specs.Value.{view}
+use Rattle.jiter_value.specs.declared.open_value.OpenValue.{OpenValue}
+use Rattle.jiter_value.specs.declared.open_value.Sign.{Sign}
+use Rattle.jiter_value.specs.declared.open_value.Sign.TheVariants as sign
+use Rattle.jiter_value.specs.declared.open_value.Went.{Went}
+use Rattle.jiter_value.specs.declared.open_value.Went.TheVariants as went
+use Rattle.jiter_value.specs.declared.settings.Settings.{Settings}
+use Rattle.jiter_value.specs.declared.value.JsonValue.{JsonValue}
+use Rattle.jiter_value.proofs.Arrivals.{shown-stands}
+use Rattle.jiter_value.proofs.MadeTexts.{rules_as-advances}
+
+-- a container that begins has no part
+pub no-parts : (h : Shape) → empty_tree h ≡ built h []
+no-parts shape.Array = refl
+no-parts shape.Object = refl
+
+-- what is left open behind a blank
+abbrev pub passed : Arrived → Arrived
+passed (at_value a fs) = at_value a fs
+passed (between_parts a h xs fs) = between_parts a h xs fs
+passed (at_end v n) = at_end v (n + 1)
+
+module _ (p : Settings) (t : List ℕ) where
+  abbrev r : Rules Text Tree
+  r = rules_as owned p
+
+  good : Advances r t
+  good = rules_as-advances owned p t
+
+  any : IgnoresBegin r
+  any = record { array = λ b. refl; object = λ b. refl }
+
+  kept : (k : Kind) → is_forgiven k ≡ false → r.forgives k ≡ false
+  kept k h =
+      if_case (λ (f : Kind → Bool). f k ≡ false) (is_active p.mode) is_forgiven nothing_forgiven (λ on. h) (λ off. refl)
+
+  -- behind a value
+  behind-is : (x : Tree) (e : ℕ) (fs : List OpenFrame)
+      → resume r t fs (done x e) ≡ completed p t (behind_value x fs) e
+  behind-is x e [] = let same : e ≡ e - 0 = omega arith in ap (done x) same
+  behind-is x e (items_frame xs ∷ fs) = refl
+  behind-is x e (members_frame ms k ∷ fs) = refl
+
+  -- what is built of parts, and a container between them
+  builds : (h : Shape) (xs : List (PartTree h)) (depth e : ℕ) → (container_of r t h depth).build e xs ≡ built h xs
+  builds shape.Array xs depth e = refl
+  builds shape.Object xs depth e = refl
+
+  -- A byte stands at j.
+  module _ (j c : ℕ) (here : slice_get t j ≡ Some c) where
+    within : j < length t
+    within = slice_get_within t j c here
+
+    is : get_or t j 0 ≡ c
+    is = get_or_from_slice_get t j c 0 here
+
+    blank-step : {A : Type 0} (row : ℕ → Option ℕ → A) → is_blank c ≡ true → step t row j ≡ step t row (j + 1)
+    blank-step row h =
+        ap (λ m. row m (slice_get t m)) (past_blanks-blank t j within (ap is_blank is ∙ h))
+
+    -- a blank
+    pub leads-blank : (s : Arrived) → is_blank c ≡ true → completed p t s j ≡ completed p t (passed s) (j + 1)
+    leads-blank (at_value awaits.Colon fs) h =
+        ap (λ (x : Extent). resume r t fs (value_then r t (length fs) (extent_then x (step t value_first))))
+        (blank-step colon h)
+    leads-blank (at_value a fs) h =
+        ap (λ (x : Extent). resume r t fs (value_then r t (length fs) x)) (blank-step value_first h)
+    leads-blank (between_parts a k xs fs) h =
+        ap (λ u. resume r t fs (parts_step r t (container_of r t k (length fs)) xs u)) (blank-step (part_row r t a k) h)
+    leads-blank (at_end v n) h = let same : j - n ≡ j + 1 - (n + 1) = omega arith in ap (done v) same
+
+    -- another byte
+    module _ (other : is_blank c ≡ false) where
+      here-step : {A : Type 0} (row : ℕ → Option ℕ → A) → step t row j ≡ row j (Some c)
+      here-step row =
+          ap (λ m. row m (slice_get t m)) (past_blanks-other t j within (ap is_blank is ∙ other)) ∙ ap (row j) here
+
+      -- where a value is awaited,
+      pub value-here : (fs : List OpenFrame) → completed p t (at_value awaits.Value fs) j ≡ value_from r t fs j
+      value-here fs = ap (λ (x : Extent). resume r t fs (value_then r t (length fs) x)) (here-step value_first)
+
+      value-fails : (fs : List OpenFrame) (k : Kind) → value_in r t (length fs) j ≡ fault k j j → is_forgiven k ≡ false
+          → completed p t (at_value awaits.Value fs) j ≡ fault k j j
+      value-fails fs k h bad =
+          value-here fs ∙ ap (resume r t fs) h ∙ resume-fault r t fs k j j (kept k bad)
+
+      pub value-too_deep : (fs : List OpenFrame) → 200 < length fs
+          → completed p t (at_value awaits.Value fs) j ≡ fault recursion_limit j j
+      value-too_deep fs deep =
+          value-fails fs recursion_limit (inside_at-none r t (201 - length fs) j (omega (arith, deep))) refl
+
+      pub value-none : (fs : List OpenFrame) → length fs ≤ 200 → start_of c ≡ start.Nothing
+          → completed p t (at_value awaits.Value fs) j ≡ fault expected_value j j
+      value-none fs few starts =
+          value-fails fs expected_value
+          (inside_at-starts r t (201 - length fs) j start.Nothing (omega (arith, few)) (ap start_of is ∙ starts)) refl
+
+      pub value-begins : (h : Shape) (fs : List OpenFrame) → length fs ≤ 200 → start_of c ≡ opening h
+          → completed p t (at_value awaits.Value fs) j ≡ completed p t (between_parts awaits.First h [] fs) (j + 1)
+      value-begins shape.Array fs few starts =
+          let s = step t (container_first shape.Array) (j + 1) in
+          let u = resolve_step r.forgives s in
+          value-here fs ∙ container-begins r t good any fs j u few shape.Array (ap start_of is ∙ starts) refl
+          ∙ sym (step-to r t (array_in r t (length fs)) fs [] s u refl)
+      value-begins shape.Object fs few starts =
+          let s = step t (container_first shape.Object) (j + 1) in
+          let u = resolve_step r.forgives s in
+          value-here fs ∙ container-begins r t good any fs j u few shape.Object (ap start_of is ∙ starts) refl
+          ∙ sym (step-to r t (object_in r t (length fs)) fs [] s u refl)
+
+      -- where a colon is,
+      colon-here : (fs : List OpenFrame) (x : Extent) → colon j (Some c) ≡ x
+          → completed p t (at_value awaits.Colon fs) j
+          ≡ resume r t fs (value_then r t (length fs) (extent_then x (step t value_first)))
+      colon-here fs x h =
+          ap (λ (x : Extent). resume r t fs (value_then r t (length fs) (extent_then x (step t value_first))))
+          (here-step colon ∙ h)
+
+      pub colon-taken : (fs : List OpenFrame) → (c == 58) ≡ true
+          → completed p t (at_value awaits.Colon fs) j ≡ completed p t (at_value awaits.Value fs) (j + 1)
+      colon-taken fs h = colon-here fs (taken tt (j + 1)) (if-true (c == 58) _ _ h)
+
+      pub colon-missing : (fs : List OpenFrame) → (c == 58) ≡ false
+          → completed p t (at_value awaits.Colon fs) j ≡ fault expected_colon j j
+      colon-missing fs h =
+          colon-here fs (failed expected_colon j) (if-false (c == 58) _ _ h)
+          ∙ resume-fault r t fs expected_colon j j (kept expected_colon refl)
+
+      -- and between the parts of a container.
+      module _ (a : Awaits) (h : Shape) (xs : List (PartTree h)) (fs : List OpenFrame) where
+        between-here : (u : Step) → part_row r t a h j (Some c) ≡ u
+            → completed p t (between_parts a h xs fs) j
+            ≡ resume r t fs (parts_step r t (container_of r t h (length fs)) xs u)
+        between-here u e =
+            ap (λ u. resume r t fs (parts_step r t (container_of r t h (length fs)) xs u))
+            (here-step (part_row r t a h) ∙ e)
+
+        pub part-ends : part_row r t a h j (Some c) ≡ closed (j + 1)
+            → completed p t (between_parts a h xs fs) j
+            ≡ completed p t (behind_value (built h xs) fs) (j + 1)
+        part-ends e =
+            between-here (closed (j + 1)) e
+            ∙ ap (λ v. resume r t fs (done v (j + 1))) (builds h xs (length fs) (j + 1))
+            ∙ behind-is (built h xs) (j + 1) fs
+
+        pub part-wrong : (k : Kind) → part_row r t a h j (Some c) ≡ stuck k j → r.forgives k ≡ false
+            → completed p t (between_parts a h xs fs) j ≡ fault k j j
+        part-wrong k e bad =
+            let parts = container_of r t h (length fs) in
+            between-here (stuck k j) e
+            ∙ ap (resume r t fs) (if_forgiven-no r t (λ e. parts.build e xs) k j j bad)
+            ∙ resume-fault r t fs k j j bad
+
+        pub part-missing : (k : Kind) → part_row r t a h j (Some c) ≡ stuck k j → r.forgives k ≡ true
+            → completed p t (between_parts a h xs fs) j ≡ completed p t (behind_value (built h xs) fs) j
+        part-missing k e ok =
+            let parts = container_of r t h (length fs) in
+            between-here (stuck k j) e
+            ∙ ap (resume r t fs) (if_forgiven-yes r t (λ e. parts.build e xs) k j j ok)
+            ∙ ap (λ v. resume r t fs (done v j)) (builds h xs (length fs) j)
+            ∙ behind-is (built h xs) j fs
+
+      pub comma-taken : (a : Awaits) (h : Shape) (xs : List (PartTree h)) (fs : List OpenFrame)
+          → part_row r t a h j (Some c) ≡ step t (part_row r t awaits.Next h) (j + 1)
+          → completed p t (between_parts a h xs fs) j ≡ completed p t (between_parts awaits.Next h xs fs) (j + 1)
+      comma-taken a h xs fs e = between-here a h xs fs (step t (part_row r t awaits.Next h) (j + 1)) e
+
+      pub item-begins : (a : Awaits) (xs : List Tree) (fs : List OpenFrame)
+          → part_row r t a shape.Array j (Some c) ≡ more j
+          → completed p t (between_parts a shape.Array xs fs) j
+          ≡ completed p t (at_value awaits.Value (items_frame xs ∷ fs)) j
+      item-begins a xs fs e =
+          between-here a shape.Array xs fs (more j) e ∙ items-value r t good fs xs j within
+          ∙ sym (value-here (items_frame xs ∷ fs))
+
+      pub key-begins : (a : Awaits) (ms : List (Text × Tree)) (fs : List OpenFrame)
+          → part_row r t a shape.Object j (Some c) ≡ more j
+          → completed p t (between_parts a shape.Object ms fs) j ≡ key_from r t fs ms j
+      key-begins a ms fs e = between-here a shape.Object ms fs (more j) e
+
+-- Before its first byte a value is awaited.
+pub none-read : (p : Settings) → HasRead p [] (at_value awaits.Value [])
+unfolding front_answer
+none-read p = record { goes = λ u. by u (past_blanks u 0) (slice_get u (past_blanks u 0)) } where
+  by : (u : List ℕ) (i : ℕ) (o : Option ℕ)
+      → if_begun (rules_as owned p) u i o ≡ value_then (rules_as owned p) u 0 (value_first i o)
+  by u i None = refl
+  by u i (Some c) = sym (value_in-levels (rules_as owned p) u 0 i (omega arith))
+
+-- How many containers are open
+length-parents : (fs : List OpenFrame) → length (parents_of fs) ≡ length fs
+length-parents [] = refl
+length-parents (f ∷ fs) = length-append (parents_of fs) (around f null ∷ []) ∙ ap (λ n. n + 1) (length-parents fs)
+    ∙ add-one (length fs)
+
+pub depth-is : (fs : List OpenFrame) (spine : List JsonValue) → AwaitsPart spine fs → length spine ≡ length fs
+depth-is [] spine h = ap length h
+depth-is (f ∷ fs) spine h =
+    sym (length-map spine view) ∙ ap length h ∙ length-append (parents_of fs) (begun f ∷ [])
+    ∙ ap (λ n. n + 1) (length-parents fs) ∙ add-one (length fs)
+
+-- The spine is seen as it was.
+pub awaits-same : (fs : List OpenFrame) (old new : List JsonValue) → map view new ≡ map view old → AwaitsPart old fs
+    → AwaitsPart new fs
+awaits-same [] old [] same h = refl
+awaits-same [] old (v ∷ vs) same h = let none = same ∙ ap (map view) h in absurd (cc)
+awaits-same (f ∷ fs) old new same h = same ∙ h
+
+not-both : (a : Awaits) → IsBeforeValue a → IsBetweenParts a → ⊥
+not-both awaits.Value before inside = inside
+not-both awaits.Colon before inside = inside
+not-both a before inside = before
+
+forgives-on : (p : Settings) (k : Kind) → is_active p.mode ≡ true → is_forgiven k ≡ true
+    → (rules_as owned p).forgives k ≡ true
+forgives-on p k on h = rw on h
+
+forgives-off : (p : Settings) (k : Kind) → is_active p.mode ≡ false → (rules_as owned p).forgives k ≡ false
+forgives-off p k off = rw off refl
+
+-- What is told of a byte where a value is awaited
+pub begins-container : (new : OpenValue) (h : Shape) (fs : List OpenFrame) (c : ℕ) → is_blank c ≡ false
+    → length fs ≤ 200 → start_of c ≡ opening h → IsLeft new (between_parts awaits.First h [] fs)
+    → TakesByte new (at_value awaits.Value fs) c
+begins-container new h fs c other few starts left = record {
+  next = between_parts awaits.First h [] fs;
+  left = left;
+  goes = λ p t j here. value-begins p t j c here other h fs few starts;
+}
+
+pub begins-scalar : (old new : OpenValue) (fs : List OpenFrame) (c : ℕ) → is_blank c ≡ false → length fs ≤ 200
+    → AwaitsPart old.spine.items fs → IsOfKey (text_view old.key) fs
+    → map view new.spine.items ≡ map view old.spine.items → new.key ≡ old.key → new.awaits ≡ awaits.Value
+    → HasRoomInside new.spine.items → BeginsScalar new (at_value awaits.Value fs) c
+begins-scalar old new fs c other few h of same key is room = record {
+  frames = fs;
+  left = (
+    is,
+    tt,
+    awaits-same fs old.spine.items new.spine.items same h,
+    subst (λ k. IsOfKey (text_view k) fs) (sym key) of,
+  );
+  low = few;
+  room = room;
+  goes = λ p t j here. value-here p t j c here other fs;
+}
+
+-- and where a key begins.
+pub begins-key : (old new : OpenValue) (a : Awaits) (ms : List (Text × Tree)) (fs : List OpenFrame) (c : ℕ)
+    → is_blank c ≡ false
+    → ((p : Settings) (t : List ℕ) (j : ℕ) → part_row (rules_as owned p) t a shape.Object j (Some c) ≡ more j)
+    → map view old.spine.items ≡ spine_of fs (object (members_of ms)) → new.spine ≡ old.spine
+    → new.awaits ≡ awaits.Colon → BeginsKey new (between_parts a shape.Object ms fs) c
+begins-key old new a ms fs c other row h same is = record {
+  frames = fs;
+  members = ms;
+  awaits = is;
+  left = ap (λ v. map view v.items) same ∙ h;
+  goes = λ p t j here. key-begins p t j c here other a ms fs (row p t j);
+}
+
+-- What is told of a byte where an item is awaited is told of it between the items.
+module _ (a : Awaits) (xs : List Tree) (fs : List OpenFrame) (c : ℕ) (other : is_blank c ≡ false)
+    (row : (p : Settings) (t : List ℕ) (j : ℕ) → part_row (rules_as owned p) t a shape.Array j (Some c) ≡ more j)
+  where
+    abbrev between : Arrived
+    between = between_parts a shape.Array xs fs
+
+    abbrev item : Arrived
+    item = at_value awaits.Value (items_frame xs ∷ fs)
+
+    same-there : Everywhere c (λ p t j. completed p t between j ≡ completed p t item j)
+    same-there = λ p t j here. item-begins p t j c here other a xs fs (row p t j)
+
+    pub item-goes : (new : OpenValue) (w : Went) → Goes new item c w → Goes new between c w
+    item-goes new went.Taken g = record {
+      next = g.next;
+      left = g.left;
+      goes = λ p t j here. same-there p t j here ∙ g.goes p t j here;
+    }
+    item-goes new went.Scalar g = record {
+      frames = g.frames;
+      left = g.left;
+      low = g.low;
+      room = g.room;
+      goes = λ p t j here. same-there p t j here ∙ g.goes p t j here;
+    }
+    item-goes new went.Key g = record {
+      frames = g.frames;
+      members = g.members;
+      awaits = g.awaits;
+      left = g.left;
+      goes = λ p t j here. same-there p t j here ∙ g.goes p t j here;
+    }
+    item-goes new (went.Closed k) g = record {
+      next = g.next;
+      left = g.left;
+      goes = λ p t j here on. same-there p t j here ∙ g.goes p t j here on;
+      fails = λ p t j here off. same-there p t j here ∙ g.fails p t j here off;
+    }
+    item-goes new (went.Wrong k) g = λ p t j here. same-there p t j here ∙ g p t j here
+    item-goes new went.Over g = let none : awaits.Value ≡ awaits.Nothing = sym g.0.0 ∙ g.1 in absurd (cc)
+
+-- what another byte is between the parts of a container
+abbrev pub RowIs : Awaits → ℕ → Sign → Shape → Type 0
+RowIs a c u h =
+    (p : Settings) (t : List ℕ) (j : ℕ) → part_row (rules_as owned p) t a h j (Some c) ≡ step_by h t j u
+
+-- What is told of it
+module _ (a : Awaits) (h : Shape) (xs : List (PartTree h)) (fs : List OpenFrame) (c : ℕ) (other : is_blank c ≡ false)
+  where
+    pub goes-comma : (new : OpenValue) → RowIs a c sign.Comma h → new.awaits ≡ awaits.Next
+        → map view new.spine.items ≡ spine_of fs (built h xs) → TakesByte new (between_parts a h xs fs) c
+    goes-comma new row is left = record {
+      next = between_parts awaits.Next h xs fs;
+      left = (is, tt, left);
+      goes = λ p t j here. comma-taken p t j c here other a h xs fs (row p t j);
+    }
+
+    pub goes-end : (new : OpenValue) → RowIs a c sign.End h → IsLeft new (behind_value (built h xs) fs)
+        → TakesByte new (between_parts a h xs fs) c
+    goes-end new row left = record {
+      next = behind_value (built h xs) fs;
+      left = left;
+      goes = λ p t j here. part-ends p t j c here other a h xs fs (row p t j);
+    }
+
+    pub goes-missing : (new : OpenValue) (k : FaultKind) → RowIs a c (sign.Missing k) h → is_forgiven (fault_kind k) ≡ true
+        → IsLeft new (behind_value (built h xs) fs) → ClosesBefore new (between_parts a h xs fs) c (fault_kind k)
+    goes-missing new k row ok left = record {
+      next = behind_value (built h xs) fs;
+      left = left;
+      goes = λ p t j here on.
+          part-missing p t j c here other a h xs fs (fault_kind k) (row p t j) (forgives-on p (fault_kind k) on ok);
+      fails = λ p t j here off.
+          part-wrong p t j c here other a h xs fs (fault_kind k) (row p t j) (forgives-off p (fault_kind k) off);
+    }
+
+    pub goes-wrong : (k : FaultKind) → RowIs a c (sign.Wrong k) h → is_forgiven (fault_kind k) ≡ false
+        → Everywhere c (λ p t j. completed p t (between_parts a h xs fs) j ≡ fault (fault_kind k) j j)
+    goes-wrong k row bad = λ p t j here.
+        part-wrong p t j c here other a h xs fs (fault_kind k) (row p t j) (kept p t (fault_kind k) bad)
+
+-- and of a blank.
+passed-left : (v : OpenValue) (s : Arrived) → IsLeft v s → IsLeft v (passed s)
+passed-left v (at_value a fs) h = h
+passed-left v (between_parts a k xs fs) h = h
+passed-left v (at_end x n) h = h
+
+pub goes-blank : (v : OpenValue) (s : Arrived) (c : ℕ) → is_blank c ≡ true → IsLeft v s → TakesByte v s c
+goes-blank v s c blank h = record {
+  next = passed s;
+  left = passed-left v s h;
+  goes = λ p t j here. leads-blank p t j c here s blank;
+}
+
+-- What is told behind a key
+pub goes-colon : (old new : OpenValue) (fs : List OpenFrame) (c : ℕ) → is_blank c ≡ false → (c == 58) ≡ true
+    → AwaitsPart old.spine.items fs → IsOfKey (text_view old.key) fs → new.spine ≡ old.spine → new.key ≡ old.key
+    → new.awaits ≡ awaits.Value → TakesByte new (at_value awaits.Colon fs) c
+goes-colon old new fs c other colon h of spine key is = record {
+  next = at_value awaits.Value fs;
+  left = (
+    is,
+    tt,
+    subst (λ v. AwaitsPart v.items fs) (sym spine) h,
+    subst (λ k. IsOfKey (text_view k) fs) (sym key) of,
+  );
+  goes = λ p t j here. colon-taken p t j c here other fs colon;
+}
+
+-- What is left open, by what is awaited
+pub record AtValue (v : OpenValue) (a : Awaits) (s : Arrived) : Type 0 where
+  pub frames : List OpenFrame
+  pub all : s ≡ at_value a frames
+  pub left : AwaitsPart v.spine.items frames
+  pub key : IsOfKey (text_view v.key) frames
+
+pub at-value : (v : OpenValue) (a : Awaits) (s : Arrived) → v.awaits ≡ a → IsBeforeValue a → IsLeft v s → AtValue v a s
+at-value v a (at_value b fs) is before h = record {
+  frames = fs;
+  all = ap (λ c. at_value c fs) (sym h.0 ∙ is);
+  left = h.2;
+  key = h.3;
+}
+at-value v a (between_parts b k xs fs) is before h = absurd (not-both a before (subst IsBetweenParts (sym h.0 ∙ is) h.1))
+at-value v a (at_end x n) is before h = absurd (subst IsBeforeValue (sym is ∙ h.0) before)
+
+pub record BetweenParts (v : OpenValue) (s : Arrived) : Type 0 where
+  pub shape : Shape
+  pub parts : List (PartTree shape)
+  pub frames : List OpenFrame
+  pub all : s ≡ between_parts v.awaits shape parts frames
+  pub left : map view v.spine.items ≡ spine_of frames (built shape parts)
+
+pub between-parts : (v : OpenValue) (s : Arrived) → IsBetweenParts v.awaits → IsLeft v s → BetweenParts v s
+between-parts v (at_value b fs) inside h = absurd (not-both b h.1 (subst IsBetweenParts h.0 inside))
+between-parts v (between_parts b k xs fs) inside h = record {
+  shape = k;
+  parts = xs;
+  frames = fs;
+  all = ap (λ c. between_parts c k xs fs) (sym h.0);
+  left = h.2;
+}
+between-parts v (at_end x n) inside h = absurd (subst IsBetweenParts h.0 inside)
+
+-- A container between its parts is one that awaits a part, by its shape.
+pub between-awaits : (h : Shape) (xs : List (PartTree h)) (fs : List OpenFrame) (spine : List JsonValue)
+    → map view spine ≡ spine_of fs (built h xs) → (gs : List OpenFrame) × AwaitsPart spine gs
+between-awaits shape.Array xs fs spine h = (items_frame xs ∷ fs, h)
+between-awaits shape.Object ms fs spine h = (members_frame ms (text_of []) ∷ fs, h)
+
+-- What is told of a byte between the parts of a container of a shape,
+abbrev pub BetweenGoes : OpenValue → OpenValue → ℕ → Result Went Refused → Awaits → Shape → Type 0
+BetweenGoes old new c r a h =
+    (xs : List (PartTree h)) (fs : List OpenFrame) → map view old.spine.items ≡ spine_of fs (built h xs)
+    → is_blank c ≡ false → IfOk r (Goes new (between_parts a h xs fs) c)
+
+-- and where it begins a part.
+abbrev pub PartGoes : OpenValue → OpenValue → ℕ → Result Went Refused → Shape → Type 0
+PartGoes old new c r h =
+    (a : Awaits) (xs : List (PartTree h)) (fs : List OpenFrame)
+    → map view old.spine.items ≡ spine_of fs (built h xs) → is_blank c ≡ false
+    → ((p : Settings) (t : List ℕ) (j : ℕ) → part_row (rules_as owned p) t a h j (Some c) ≡ more j)
+    → IfOk r (Goes new (between_parts a h xs fs) c)
+
+pub item-part : (old new : OpenValue) (c : ℕ) (r : Result Went Refused)
+    → ((fs : List OpenFrame) → AwaitsPart old.spine.items fs → IsOfKey (text_view old.key) fs → is_blank c ≡ false
+    → IfOk r (Goes new (at_value awaits.Value fs) c))
+    → PartGoes old new c r shape.Array
+item-part old new c r goes = λ a xs fs h other row.
+    by a xs fs other row r (goes (items_frame xs ∷ fs) h tt other) where
+      by : (a : Awaits) (xs : List Tree) (fs : List OpenFrame) → is_blank c ≡ false
+          → ((p : Settings) (t : List ℕ) (j : ℕ) → part_row (rules_as owned p) t a shape.Array j (Some c) ≡ more j)
+          → (r : Result Went Refused) → IfOk r (Goes new (at_value awaits.Value (items_frame xs ∷ fs)) c)
+          → IfOk r (Goes new (between_parts a shape.Array xs fs) c)
+      by a xs fs other row (Ok w) g = item-goes a xs fs c other row new w g
+      by a xs fs other row (Err e) g = tt
+
+-- The spine of a container of a shape, between its parts
+abbrev pub Inside : List JsonValue → Shape → Type 0
+Inside spine h = (xs : List (PartTree h)) × (fs : List OpenFrame) × (map view spine ≡ spine_of fs (built h xs))
+
+long : (f : OpenFrame) (fs : List OpenFrame) (spine : List JsonValue) (x : Tree)
+    → map view spine ≡ spine_of fs (around f x) → 0 < length spine
+long f fs spine x h =
+    omega (arith, ap length h, length-map spine view, length-append (parents_of fs) (around f x ∷ []))
+
+-- Behind a value that is put somewhere
+pub put-left : (a : Awaits) (spine : List JsonValue) (root : JsonValue) (k : Text) (x : Tree) (fs : List OpenFrame)
+    → HasValue spine root fs x → (spine ≡ [] → a ≡ awaits.Nothing) → (0 < length spine → a ≡ awaits.Comma)
+    → Holds a spine root k (behind_value x fs)
+put-left a spine root k x [] h none some = (none h.0, h.0, h.1)
+put-left a spine root k x (items_frame xs ∷ fs) h none some = (some (long (items_frame xs) fs spine x h), tt, h)
+put-left a spine root k x (members_frame ms l ∷ fs) h none some =
+    (some (long (members_frame ms l) fs spine x h), tt, h)
+
+-- and behind a key.
+pub key-read : (p : Settings) (t : List ℕ) (j e : ℕ) (ms : List (Text × Tree)) (fs : List OpenFrame) (k : Text)
+    → j < length t → (rules_as owned p).key t j ≡ taken k e
+    → key_from (rules_as owned p) t fs ms j ≡ completed p t (at_value awaits.Colon (members_frame ms k ∷ fs)) e
+key-read p t j e ms fs k lt read =
+    let r = rules_as owned p in
+    let c = object_in r t (length fs) in
+    let inner = value_in r t (suc (length fs)) in
+    ap (resume r t fs)
+    (parts_at_is r t c (container_in-goes r t (rules_as-advances owned p t) shape.Object (length fs)) ms j lt refl
+    ∙ ap (behind_part r c t (parts_from r t c) ms) (ap (behind_key inner t j) read ∙ by r t fs k (object_colon t e)))
+  where
+    by : (r : Rules Text Tree) (t : List ℕ) (fs : List OpenFrame) (k : Text) (x : Extent)
+        → behind_colon k (value_in r t (suc (length fs))) x ≡ with_key k (value_then r t (suc (length fs)) x)
+    by r t fs k (taken u j) = refl
+    by r t fs k (failed kind j) = refl
+
+-- A scalar that is read is put there.
+pub scalar-read : (x : Tree) (p : Settings) (t : List ℕ) (j e : ℕ) (fs : List OpenFrame)
+    → value_in (rules_as owned p) t (length fs) j ≡ done x e
+    → value_from (rules_as owned p) t fs j ≡ completed p t (behind_value x fs) e
+scalar-read x p t j e fs h = ap (resume (rules_as owned p) t fs) h ∙ behind-is p t x e fs
+
+-- What was read, and a byte that is taken behind it
+pub read-on : (p : Settings) (t : List ℕ) (c : ℕ) (s : Arrived) (new : OpenValue) (g : TakesByte new s c)
+    → HasRead p t s → HasRead p (t ++ c ∷ []) g.next
+read-on p t c s new g read = record {
+  goes = λ u.
+      let r = rules_as owned p in
+      let w = t ++ c ∷ u in
+      let long : length t < length w = omega (arith, length-append t (c ∷ u)) in
+      let here : slice_get w (length t) ≡ Some c =
+      slice_get-get_or w (length t) 0 long ∙ ap Some (get_or-append_seam t c u 0) in
+      let one : length t + 1 ≡ length (t ++ c ∷ []) = omega (arith, length-append t (c ∷ [])) in
+      let all = read.goes (c ∷ u) ∙ g.goes p w (length t) here ∙ ap (completed p w g.next) one in
+      subst (λ x. front_answer r x ≡ completed p x g.next (length (t ++ c ∷ []))) (sym (append_assoc t (c ∷ []) u)) all;
+}
+
+pub reads-on : (p : Settings) (t : List ℕ) (c : ℕ) (s : Arrived) (new : OpenValue) (r : Result Went Refused)
+    → HasRead p t s → IfOk r (Goes new s c) → IfOk r (ReadsOn new p (t ++ c ∷ []))
+reads-on p t c s new (Ok went.Taken) read g = (g.next, g.left, read-on p t c s new g read)
+reads-on p t c s new (Ok w) read g = tt
+reads-on p t c s new (Err e) read g = tt
+
+-- What is held stands for a value.
+pub held-stands : (a : Awaits) (spine : List JsonValue) (root : JsonValue) (k : Text) (s : Arrived)
+    → Holds a spine root k s → (v : Tree) × StandsFor spine root v
+held-stands a spine root k (at_value b []) h = (view root, inl (h.2, refl))
+held-stands a spine root k (at_value b (f ∷ fs)) h =
+    (filled fs (begun f), shown-stands a spine root k (at_value b (f ∷ fs)) _ h refl)
+held-stands a spine root k (between_parts b shape xs fs) h =
+    (filled fs (built shape xs), shown-stands a spine root k (between_parts b shape xs fs) _ h refl)
+held-stands a spine root k (at_end v n) h = (v, shown-stands a spine root k (at_end v n) v h refl)

@@ -1,0 +1,102 @@
+-- A value that arrives byte by byte: what the next byte makes of it, whatever comes behind it.
+use Rattle.std.specs.Prelude.{◌≡◌, ℕ, ◌+◌, ◌≤◌, true, false, List, [], ◌∷◌, ◌++◌, length, map, slice_get, Some}
+use Rattle.jiter_scan.specs.Kind.{Kind, fault_kind, is_forgiven}
+use Rattle.jiter_scan.specs.PartialMode.{is_active}
+use Rattle.jiter_steps.specs.Frames.{items_frame, members_frame, value_from, key_from}
+use Rattle.jiter_steps.specs.Node.{nesting_limit}
+use Rattle.jiter_steps.specs.Read.{Reading, fault}
+use Rattle.jiter_steps.specs.Step.{Step, more, closed, stuck, step, container_comma}
+use Rattle.jiter_steps.specs.StringDecoder.{text_view}
+use Rattle.jiter_steps.specs.Tree.{Text, Tree, object, members_of}
+use Rattle.jiter_steps.specs.declared.parse.Shape.{Shape}
+use Rattle.jiter_steps.specs.declared.parse.Shape.TheVariants as shape
+use Rattle.jiter_value.specs.Arrived.{Arrived, at_value, between_parts, at_end, HasRead, Holds, leads_on, owned}
+use Rattle.jiter_value.specs.Settings.{rules_as}
+use Rattle.jiter_value.specs.Spine.{OpenFrame, spine_of, HasRoomInside}
+use Rattle.jiter_value.specs.Value.{view}
+use Rattle.jiter_value.specs.declared.open_value.Awaits.TheVariants as awaits
+use Rattle.jiter_value.specs.declared.open_value.OpenValue.{OpenValue}
+use Rattle.jiter_value.specs.declared.open_value.Sign.{Sign}
+use Rattle.jiter_value.specs.declared.open_value.Sign.TheVariants as sign
+use Rattle.jiter_value.specs.declared.open_value.Went.{Went}
+use Rattle.jiter_value.specs.declared.open_value.Went.TheVariants as went
+use Rattle.jiter_value.specs.declared.settings.Settings.{Settings}
+
+-- where the step leads that a byte at j decides between the parts of a container
+abbrev pub step_by : Shape → List ℕ → ℕ → Sign → Step
+step_by h t j sign.Part = more j
+step_by h t j sign.Comma = step t (container_comma h) (j + 1)
+step_by h t j sign.End = closed (j + 1)
+step_by h t j (sign.Missing k) = stuck (fault_kind k) j
+step_by h t j (sign.Wrong k) = stuck (fault_kind k) j
+
+-- a fault is missing punctuation where a partial mode forgives it
+abbrev pub IsRightSign : Sign → Type 0
+IsRightSign (sign.Missing k) = is_forgiven (fault_kind k) ≡ true
+IsRightSign (sign.Wrong k) = is_forgiven (fault_kind k) ≡ false
+IsRightSign other = Unit {0}
+
+-- what is left open behind a value inside these containers
+abbrev pub behind_value : Tree → List OpenFrame → Arrived
+behind_value x [] = at_end x 0
+behind_value x (items_frame xs ∷ fs) = between_parts awaits.Comma shape.Array (xs ++ x ∷ []) fs
+behind_value x (members_frame ms k ∷ fs) = between_parts awaits.Comma shape.Object (ms ++ (k, x) ∷ []) fs
+
+-- these bytes as a text of their own
+abbrev pub text_of : List ℕ → Text
+text_of w = record { owned = true; bytes = w }
+
+-- what a value that arrives leaves open
+abbrev pub IsLeft : OpenValue → Arrived → Type 0
+IsLeft v s = Holds v.awaits v.spine.items v.root (text_view v.key) s
+
+-- by any rules and in any text in which this byte stands at j
+abbrev pub Everywhere : ℕ → (Settings → List ℕ → ℕ → Type 0) → Type 0
+Everywhere c P = (p : Settings) (t : List ℕ) (j : ℕ) → slice_get t j ≡ Some c → P p t j
+
+-- what the rest of a text completes it to by these rules
+abbrev pub completed : Settings → List ℕ → Arrived → ℕ → Reading Tree
+completed p t s j = leads_on (rules_as owned p) t s j
+
+-- The byte is taken.
+pub record TakesByte (new : OpenValue) (s : Arrived) (c : ℕ) : Type 0 where
+  pub next : Arrived
+  pub left : IsLeft new next
+  pub goes : Everywhere c (λ p t j. completed p t s j ≡ completed p t next (j + 1))
+
+-- A scalar begins with the byte: inside these containers, within the limit, and there is room for it.
+pub record BeginsScalar (new : OpenValue) (s : Arrived) (c : ℕ) : Type 0 where
+  pub frames : List OpenFrame
+  pub left : IsLeft new (at_value awaits.Value frames)
+  pub low : length frames ≤ nesting_limit
+  pub room : HasRoomInside new.spine.items
+  pub goes : Everywhere c (λ p t j. completed p t s j ≡ value_from (rules_as owned p) t frames j)
+
+-- A key begins with the byte, in an object that has these members.
+pub record BeginsKey (new : OpenValue) (s : Arrived) (c : ℕ) : Type 0 where
+  pub frames : List OpenFrame
+  pub members : List (Text × Tree)
+  pub awaits : new.awaits ≡ awaits.Colon
+  pub left : map view new.spine.items ≡ spine_of frames (object (members_of members))
+  pub goes : Everywhere c (λ p t j. completed p t s j ≡ key_from (rules_as owned p) t frames members j)
+
+-- A comma or the end is missing before the byte: in a partial mode the container ends there, else that is a fault.
+pub record ClosesBefore (new : OpenValue) (s : Arrived) (c : ℕ) (k : Kind) : Type 0 where
+  pub next : Arrived
+  pub left : IsLeft new next
+  pub goes : Everywhere c (λ p t j. is_active p.mode ≡ true → completed p t s j ≡ completed p t next j)
+  pub fails : Everywhere c (λ p t j. is_active p.mode ≡ false → completed p t s j ≡ fault k j j)
+
+-- What is told of a byte is right for a value that leaves this open.
+abbrev pub Goes : OpenValue → Arrived → ℕ → Went → Type 0
+Goes new s c went.Taken = TakesByte new s c
+Goes new s c went.Scalar = BeginsScalar new s c
+Goes new s c went.Key = BeginsKey new s c
+Goes new s c (went.Closed k) = ClosesBefore new s c (fault_kind k)
+Goes new s c (went.Wrong k) = Everywhere c (λ p t j. completed p t s j ≡ fault (fault_kind k) j j)
+Goes new s c went.Over = IsLeft new s × (new.awaits ≡ awaits.Nothing)
+
+-- A byte that is taken was read behind those before it: these bytes leave open what is left then.
+abbrev pub ReadsOn : OpenValue → Settings → List ℕ → Went → Type 0
+ReadsOn new p t went.Taken = (s : Arrived) × IsLeft new s × HasRead p t s
+ReadsOn new p t other = Unit {0}

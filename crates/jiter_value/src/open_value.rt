@@ -1,0 +1,429 @@
+//! A value that arrives byte by byte (RFC 8259, 2 to 5): what stands between its scalars and keys. Each byte is looked
+//! at once, and behind each is said what it leaves open.
+ghost use Rattle.std.specs.Prelude.{◌≡◌, ◌∷◌, ◌++◌, ◌<◌, [], IfOk, List, OnErr, OnOk, Some, false, length, map, string_bytes};
+ghost use Rattle.std.specs.Prelude.{true, ℕ};
+ghost use Rattle.jiter_scan.specs.PartialMode.{is_active};
+ghost use Rattle.jiter_scan.specs.Scanned.{taken};
+ghost use Rattle.jiter_steps.specs.Frames.{key_from, members_frame, value_from, value_in};
+ghost use Rattle.jiter_steps.specs.Read.{done};
+ghost use Rattle.jiter_steps.specs.Tree.{Text, Tree, members_of, object};
+ghost use Rattle.jiter_steps.specs.Blank.{is_blank};
+ghost use Rattle.jiter_steps.specs.Step.{container_first, container_comma, container_step, more};
+ghost use Rattle.jiter_steps.specs.StringDecoder.{text_view};
+ghost use Rattle.jiter_value.specs.Arrived.{Arrived, HasRead, at_value, between_parts, owned, part_row, shown};
+ghost use Rattle.jiter_value.specs.OpenValue.{Goes, IsLeft, IsRightSign, ReadsOn, behind_value, completed, step_by, text_of};
+ghost use Rattle.jiter_value.specs.Owned.{owned_tree};
+ghost use Rattle.jiter_value.specs.Parses.{reading_as};
+ghost use Rattle.jiter_value.specs.Settings.{answer_by, rules_as};
+ghost use Rattle.jiter_value.specs.Spine.{OpenFrame, AwaitsPart, HasRoomInside, IsOfKey, spine_of};
+ghost use Rattle.jiter_value.specs.Stacks.{PartTree, built};
+ghost use Rattle.jiter_value.specs.Value.{view};
+ghost use Rattle.jiter_value.specs.declared.settings.Settings.{Settings};
+
+use crate::spine::{close, make_room_inside, open_container, put, put_together};
+use crate::value::JsonValue;
+use jiter_scan::errors::FaultKind;
+use jiter_scan::memory::Refused;
+use jiter_steps::parse::{NESTING_LIMIT, Shape, Start, start_of};
+use std::alloc::Global;
+use std::borrow::CowStr;
+
+/// What is awaited where no token is unfinished.
+#[derive(Clone, Copy, Debug)]
+pub enum Awaits {
+    /// A value: the document's, or the one behind a colon.
+    Value,
+    /// The colon behind a key.
+    Colon,
+    /// The first part of a container, or its end.
+    First,
+    /// A part behind a comma.
+    Next,
+    /// A comma behind a part, or the end of the container.
+    Comma,
+    /// Nothing: the document's value is whole.
+    Nothing,
+}
+
+/// What a byte is between the parts of a container.
+#[derive(Clone, Copy, Debug)]
+pub enum Sign {
+    /// It begins a part.
+    Part,
+    /// A comma.
+    Comma,
+    /// The end of the container.
+    End,
+    /// None of these, where a comma or the end is missing.
+    Missing(FaultKind),
+    /// None of these.
+    Wrong(FaultKind),
+}
+
+/// What the next byte is to a value.
+#[derive(Clone, Copy, Debug)]
+pub enum Went {
+    /// It is taken.
+    Taken,
+    /// A scalar begins with it.
+    Scalar,
+    /// A key begins with it.
+    Key,
+    /// A comma or the end of the innermost container is missing before it: the container is closed.
+    Closed(FaultKind),
+    /// It is wrong there.
+    Wrong(FaultKind),
+    /// The value is whole before it.
+    Over,
+}
+
+/// A value whose first bytes were read: its open containers, what is awaited inside them, the last key, and the value
+/// once it is whole.
+#[derive(Drop)]
+pub struct OpenValue {
+    alloc: Global,
+    awaits: Awaits,
+    spine: Vec<JsonValue<'static>>,
+    root: JsonValue<'static>,
+    key: CowStr<'static>,
+}
+
+// A space, a tab, a line feed or a carriage return.
+fn is_blank(byte: u8) -> bool
+    ensures { result ≡ is_blank byte }
+{
+    matches!(byte, b' ' | b'\t' | b'\n' | b'\r')
+}
+
+// Behind the bracket of a container.
+fn first_sign(shape: Shape, byte: u8) -> Sign
+    ensures step { (t : List ℕ) → (j : ℕ) → container_first shape j (Some byte) ≡ step_by shape t j result }
+    ensures kind { IsRightSign result }
+{
+    match shape {
+        Shape::Array => { if byte == b']' { Sign::End } else { Sign::Part } }
+        Shape::Object => {
+            if byte == b'"' {
+                Sign::Part
+            } else if byte == b'}' {
+                Sign::End
+            } else {
+                Sign::Wrong(FaultKind::KeyMustBeAString)
+            }
+        }
+    }
+}
+
+// Behind a comma.
+fn next_sign(shape: Shape, byte: u8) -> Sign
+    ensures step { (t : List ℕ) → (j : ℕ) → container_comma shape j (Some byte) ≡ step_by shape t j result }
+    ensures kind { IsRightSign result }
+{
+    match shape {
+        Shape::Array => {
+            if byte == b']' {
+                Sign::Wrong(FaultKind::TrailingComma)
+            } else {
+                Sign::Part
+            }
+        }
+        Shape::Object => {
+            if byte == b'"' {
+                Sign::Part
+            } else if byte == b'}' {
+                Sign::Wrong(FaultKind::TrailingComma)
+            } else {
+                Sign::Wrong(FaultKind::KeyMustBeAString)
+            }
+        }
+    }
+}
+
+// Behind a part.
+fn comma_sign(shape: Shape, byte: u8) -> Sign
+    ensures step { (t : List ℕ) → (j : ℕ) → container_step shape t j (Some byte) ≡ step_by shape t j result }
+    ensures kind { IsRightSign result }
+{
+    match shape {
+        Shape::Array => {
+            if byte == b']' {
+                Sign::End
+            } else if byte == b',' {
+                Sign::Comma
+            } else {
+                Sign::Missing(FaultKind::ExpectedListCommaOrEnd)
+            }
+        }
+        Shape::Object => {
+            if byte == b'}' {
+                Sign::End
+            } else if byte == b',' {
+                Sign::Comma
+            } else {
+                Sign::Missing(FaultKind::ExpectedObjectCommaOrEnd)
+            }
+        }
+    }
+}
+
+// What a byte is between the parts of a container, by what is awaited there.
+fn sign_of(awaits: Awaits, shape: Shape, byte: u8) -> Sign
+    ensures step { (p : Settings) → (t : List ℕ) → (j : ℕ)
+        → part_row (rules_as owned p) t awaits shape j (Some byte) ≡ step_by shape t j result }
+    ensures kind { IsRightSign result }
+{
+    match awaits {
+        Awaits::First => first_sign(shape, byte),
+        Awaits::Next => next_sign(shape, byte),
+        _ => comma_sign(shape, byte),
+    }
+}
+
+// The shape of the innermost container.
+fn shape_inside(spine: &Vec<JsonValue<'_>>) -> Shape
+    requires { (h : Shape) × (xs : List (PartTree h)) × (fs : List OpenFrame)
+        × (map view spine.now.items ≡ spine_of fs (built h xs)) }
+    ensures { (h : Shape) → (xs : List (PartTree h)) → (fs : List OpenFrame)
+        → map view spine.now.items ≡ spine_of fs (built h xs) → result ≡ h }
+{
+    match &spine[spine.len() - 1] {
+        JsonValue::Array(_) => Shape::Array,
+        JsonValue::Object(_) => Shape::Object,
+        _ => unreachable!(),
+    }
+}
+
+// What is awaited behind a value inside these containers.
+fn behind_part(spine: &Vec<JsonValue<'_>>) -> Awaits
+    ensures root { spine.now.items ≡ [] → result ≡ Awaits.Nothing }
+    ensures inside { 0 < length spine.now.items → result ≡ Awaits.Comma }
+{
+    if spine.is_empty() {
+        Awaits::Nothing
+    } else {
+        Awaits::Comma
+    }
+}
+
+impl OpenValue {
+    /// Before the first byte of a document. It takes no memory.
+    pub fn new(alloc: Global) -> OpenValue
+        ensures left { IsLeft result (at_value Awaits.Value []) }
+        ensures read { (p : Settings) → HasRead p [] (at_value Awaits.Value []) }
+    {
+        OpenValue {
+            alloc,
+            awaits: Awaits::Value,
+            spine: Vec::new(alloc),
+            root: JsonValue::Null,
+            key: CowStr::Borrowed(""),
+        }
+    }
+
+    // The innermost container ends.
+    fn end(&mut self)
+        requires { (h : Shape) × (xs : List (PartTree h)) × (fs : List OpenFrame)
+            × (map view self.old.spine.items ≡ spine_of fs (built h xs)) }
+        ensures { (h : Shape) → (xs : List (PartTree h)) → (fs : List OpenFrame)
+            → map view self.old.spine.items ≡ spine_of fs (built h xs)
+            → IsLeft self.new (behind_value (built h xs) fs) }
+    {
+        close(&mut self.spine, &mut self.root);
+        self.awaits = behind_part(&self.spine);
+    }
+
+    // A container begins where a value is awaited.
+    fn begin(&mut self, shape: Shape) -> Result<(), Refused>
+        requires { (fs : List OpenFrame) × AwaitsPart self.old.spine.items fs }
+        ensures left { (fs : List OpenFrame) → AwaitsPart self.old.spine.items fs
+            → IsOfKey (text_view self.old.key) fs
+            → IfOk result (λ _. IsLeft self.new (between_parts Awaits.First shape [] fs)) }
+        ensures refused { (s : Arrived) → IsLeft self.old s → OnErr result (IsLeft self.new s) }
+    {
+        open_container(
+            self.alloc,
+            &mut self.spine,
+            &mut self.root,
+            &mut self.key,
+            shape,
+        )?;
+        self.awaits = Awaits::First;
+        Ok(())
+    }
+
+    // A scalar begins: there is room for it then.
+    fn begin_scalar(&mut self) -> Result<(), Refused>
+        requires { (fs : List OpenFrame) × AwaitsPart self.old.spine.items fs }
+        ensures spine { map view self.new.spine.items ≡ map view self.old.spine.items }
+        ensures key { self.new.key ≡ self.old.key }
+        ensures root { self.new.root ≡ self.old.root }
+        ensures awaits { OnOk result (self.new.awaits ≡ Awaits.Value) }
+        ensures room { OnOk result (HasRoomInside self.new.spine.items) }
+        ensures refused { OnErr result (self.new.awaits ≡ self.old.awaits) }
+    {
+        make_room_inside(&mut self.spine)?;
+        self.awaits = Awaits::Value;
+        Ok(())
+    }
+
+    // What a byte is, which is no blank, where a value is awaited.
+    fn value(&mut self, byte: u8) -> Result<Went, Refused>
+        requires { (fs : List OpenFrame) × AwaitsPart self.old.spine.items fs }
+        ensures goes { (fs : List OpenFrame) → AwaitsPart self.old.spine.items fs
+            → IsOfKey (text_view self.old.key) fs → is_blank byte ≡ false
+            → IfOk result (Goes self.new (at_value Awaits.Value fs) byte) }
+        ensures refused { (s : Arrived) → IsLeft self.old s → OnErr result (IsLeft self.new s) }
+    {
+        if self.spine.len() > NESTING_LIMIT {
+            return Ok(Went::Wrong(FaultKind::RecursionLimitExceeded));
+        }
+        match start_of(byte) {
+            Start::Array => {
+                self.begin(Shape::Array)?;
+                Ok(Went::Taken)
+            }
+            Start::Object => {
+                self.begin(Shape::Object)?;
+                Ok(Went::Taken)
+            }
+            Start::Nothing => Ok(Went::Wrong(FaultKind::ExpectedSomeValue)),
+            _ => {
+                self.begin_scalar()?;
+                Ok(Went::Scalar)
+            }
+        }
+    }
+
+    // A part begins with the byte.
+    fn part(&mut self, shape: Shape, byte: u8) -> Result<Went, Refused>
+        requires { (xs : List (PartTree shape)) × (fs : List OpenFrame)
+            × (map view self.old.spine.items ≡ spine_of fs (built shape xs)) }
+        ensures goes { (a : Awaits) → (xs : List (PartTree shape)) → (fs : List OpenFrame)
+            → map view self.old.spine.items ≡ spine_of fs (built shape xs) → is_blank byte ≡ false
+            → ((p : Settings) → (t : List ℕ) → (j : ℕ)
+            → part_row (rules_as owned p) t a shape j (Some byte) ≡ more j)
+            → IfOk result (Goes self.new (between_parts a shape xs fs) byte) }
+        ensures refused { (s : Arrived) → IsLeft self.old s → OnErr result (IsLeft self.new s) }
+    {
+        match shape {
+            Shape::Array => self.value(byte),
+            Shape::Object => {
+                self.awaits = Awaits::Colon;
+                Ok(Went::Key)
+            }
+        }
+    }
+
+    // What a byte is, which is no blank, between the parts of a container.
+    fn between(&mut self, byte: u8) -> Result<Went, Refused>
+        requires { (h : Shape) × (xs : List (PartTree h)) × (fs : List OpenFrame)
+            × (map view self.old.spine.items ≡ spine_of fs (built h xs)) }
+        ensures goes { (h : Shape) → (xs : List (PartTree h)) → (fs : List OpenFrame)
+            → map view self.old.spine.items ≡ spine_of fs (built h xs) → is_blank byte ≡ false
+            → IfOk result (Goes self.new (between_parts self.old.awaits h xs fs) byte) }
+        ensures refused { (s : Arrived) → IsLeft self.old s → OnErr result (IsLeft self.new s) }
+    {
+        let shape = shape_inside(&self.spine);
+        match sign_of(self.awaits, shape, byte) {
+            Sign::Part => self.part(shape, byte),
+            Sign::Comma => {
+                self.awaits = Awaits::Next;
+                Ok(Went::Taken)
+            }
+            Sign::End => {
+                self.end();
+                Ok(Went::Taken)
+            }
+            Sign::Missing(kind) => {
+                self.end();
+                Ok(Went::Closed(kind))
+            }
+            Sign::Wrong(kind) => Ok(Went::Wrong(kind)),
+        }
+    }
+
+    // What a byte is, which is no blank, behind a key.
+    fn colon(&mut self, byte: u8) -> Went
+        ensures { (fs : List OpenFrame) → AwaitsPart self.old.spine.items fs
+            → IsOfKey (text_view self.old.key) fs → is_blank byte ≡ false
+            → Goes self.new (at_value Awaits.Colon fs) byte result }
+    {
+        if byte != b':' {
+            return Went::Wrong(FaultKind::ExpectedColon);
+        }
+        self.awaits = Awaits::Value;
+        Went::Taken
+    }
+
+    // What the next byte is.
+    fn turn(&mut self, byte: u8) -> Result<Went, Refused>
+        requires { (s : Arrived) × IsLeft self.old s }
+        ensures goes { (s : Arrived) → IsLeft self.old s → IfOk result (Goes self.new s byte) }
+        ensures refused { (s : Arrived) → IsLeft self.old s → OnErr result (IsLeft self.new s) }
+    {
+        if is_blank(byte) {
+            return Ok(Went::Taken);
+        }
+        match self.awaits {
+            Awaits::Value => self.value(byte),
+            Awaits::Colon => Ok(self.colon(byte)),
+            Awaits::Nothing => Ok(Went::Over),
+            _ => self.between(byte),
+        }
+    }
+
+    /// What the next byte is: it is taken, a scalar or a key begins with it, or it ends what is open. Where memory is
+    /// refused, the value so far stays as it is.
+    pub fn next(&mut self, byte: u8) -> Result<Went, Refused>
+        requires { (s : Arrived) × IsLeft self.old s }
+        ensures goes { (s : Arrived) → IsLeft self.old s → IfOk result (Goes self.new s byte) }
+        ensures refused { (s : Arrived) → IsLeft self.old s → OnErr result (IsLeft self.new s) }
+        ensures read { (s : Arrived) → (p : Settings) → (t : List ℕ) → IsLeft self.old s → HasRead p t s
+            → IfOk result (ReadsOn self.new p (t ++ byte ∷ [])) }
+    {
+        self.turn(byte)
+    }
+
+    /// The scalar that was begun is whole, and is put where it was awaited. It takes no memory.
+    pub fn put_scalar(&mut self, value: JsonValue<'static>)
+        requires { HasRoomInside self.old.spine.items }
+        ensures left { (fs : List OpenFrame) → IsLeft self.old (at_value Awaits.Value fs)
+            → IsLeft self.new (behind_value (view value.entry) fs) }
+        // Where it is read from j to before e, the rest of a text goes on there.
+        ensures read { (p : Settings) → (t : List ℕ) → (j e : ℕ) → (fs : List OpenFrame)
+            → value_in (rules_as owned p) t (length fs) j ≡ done (view value.entry) e
+            → value_from (rules_as owned p) t fs j ≡ completed p t (behind_value (view value.entry) fs) e }
+    {
+        put(&mut self.spine, &mut self.root, &mut self.key, value);
+        self.awaits = behind_part(&self.spine);
+    }
+
+    /// The key that was begun is whole, and its colon is awaited. It takes no memory.
+    pub fn put_key(&mut self, key: String)
+        requires { self.old.awaits ≡ Awaits.Colon }
+        ensures left { (ms : List (Text × Tree)) → (fs : List OpenFrame)
+            → map view self.old.spine.items ≡ spine_of fs (object (members_of ms))
+            → IsLeft self.new (at_value Awaits.Colon (members_frame ms (text_of (string_bytes key)) ∷ fs)) }
+        // Where it is read from j to before e, the rest of a text goes on there.
+        ensures read { (p : Settings) → (t : List ℕ) → (j e : ℕ) → (ms : List (Text × Tree)) → (fs : List OpenFrame)
+            → j < length t → (rules_as owned p).key t j ≡ taken (text_of (string_bytes key)) e
+            → key_from (rules_as owned p) t fs ms j
+            ≡ completed p t (at_value Awaits.Colon (members_frame ms (text_of (string_bytes key)) ∷ fs)) e }
+    {
+        self.key = CowStr::Owned(key);
+    }
+
+    /// The value so far, each container that is open ended; `null` where none of it was read. It takes no memory.
+    pub fn into_value(self) -> JsonValue<'static>
+        requires { (s : Arrived) × IsLeft self s }
+        // In a partial mode it is what the bytes so far answer, each text owned.
+        ensures { (p : Settings) → (t : List ℕ) → (s : Arrived) → (v : Tree) → is_active p.mode ≡ true
+            → HasRead p t s → IsLeft self s → shown s ≡ Some v
+            → (view result ≡ v) × ((e : ℕ) × (reading_as owned_tree (answer_by p t) ≡ done v e)) }
+    {
+        let mut spine = self.spine;
+        let mut root = self.root;
+        put_together(&mut spine, &mut root);
+        root
+    }
+}
