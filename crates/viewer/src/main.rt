@@ -1,7 +1,6 @@
 //! Shows a document while it arrives on standard input: a line for each read that changed its value.
 #![tactic(auto)]
 
-mod line;
 mod program;
 #[cfg(test)]
 mod tests;
@@ -24,9 +23,5 @@ fn main(rt: HostRuntime) -> ExitCode {
 
 // The words behind the program's name.
 fn words_given(rt: &HostRuntime) -> io::Result<Vec<String>> {
-    let mut list = Vec::new(rt.alloc());
-    for word in env::args(rt)?.skip(1) {
-        list.push(word)?;
-    }
-    Ok(list)
+    Ok(env::args(rt)?.skip(1).collect(rt.alloc())?)
 }
