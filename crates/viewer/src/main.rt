@@ -15,9 +15,7 @@ fn main(rt: HostRuntime) -> ExitCode {
     let Ok(list) = words_given(&rt) else {
         return ExitCode::from(3);
     };
-    let mut reader = rt.stdin();
-    let mut out = rt.stdout();
-    let mut err = rt.stderr();
+    let (mut reader, mut out, mut err) = (rt.stdin(), rt.stdout(), rt.stderr());
     ExitCode::from(viewer(rt.alloc(), list.as_slice(), &mut reader, &mut out, &mut err))
 }
 

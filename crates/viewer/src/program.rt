@@ -29,9 +29,6 @@ pub fn viewer<R: Read, O: Write, E: Write>(
             Ok(false) => 1,
             Err(_) => 3,
         },
-        None => match write_line(err, USAGE.as_bytes()) {
-            Ok(()) => 2,
-            Err(_) => 3,
-        },
+        None => write_line(err, USAGE.as_bytes()).and(Ok(2)).unwrap_or(3),
     }
 }
