@@ -1,12 +1,18 @@
 -- What is shown of a document that is cut, and how a run ends.
-use Rattle.std.proofs.Common.{◌≡◌, refl, subst, ℕ, Bool, true, List, Option, IfSome}
+use Rattle.std.proofs.Common.{◌≡◌, refl, sym, subst, ℕ, Bool, true, false, List, Option, Some, IfSome}
+use Rattle.std.proofs.Common.{inl, inr}
+use Rattle.std.specs.Prelude.{Result, Ok, Err, IsErr, OnErr, OnOk}
+use Rattle.std.specs.Result.{result_and, result_unwrap_or}
+use Rattle.std.specs.Io.KnownBytes.{Appends}
+use Rattle.viewer.specs.Program.{WroteUsage, usage_line}
+use Rattle.std.proofs.KnownBytes.{Keeps-refl}
 use Rattle.std.proofs.lemmas.Option.{IfSome_then}
+use Rattle.jiter_print.specs.Written.{AppendsFront}
 use Rattle.jiter.specs.Caller.{Reading, done, fault, Tree, answer, answer_in, is_active, IsBegunContainer}
 use Rattle.jiter_steps.proofs.Cut.CutLaw.{AnswersCut, answer_in-cut}
 use Rattle.jiter_steps.proofs.Grammar.Documents.{IsRead, answer-is}
-use Rattle.viewer.specs.Shown.{EndsAs, fault_line, Finishes, IsLineOfCut, Tells, value_line}
-use Rattle.viewer.specs.declared.view.End.{End}
-use Rattle.viewer.specs.declared.view.End.TheVariants.{Whole, Refused, Failed}
+use Rattle.viewer.specs.Shown.{EndsAs, fault_line, Finishes, IsLineOfCut, Ran, ShowsAll, ShowsFront, Tells}
+use Rattle.viewer.specs.Shown.{value_line}
 use Rattle.viewer.specs.declared.words.Words.{Words}
 
 -- the line of a front of an array or object
@@ -20,18 +26,48 @@ cut-shown words active front f =
       by (fault k i stop) is = absurd is
 
 -- a text whose fault was told is no document
-pub ends-as : (names : Bool) (t : List ℕ) (end : End) (err err' : Option (List ℕ)) → Finishes names t end err err'
+pub ends-as : {E : Type 0} (names : Bool) (t : List ℕ) (end : Result Bool E) (err err' : Option (List ℕ)) → Finishes names t end err err'
     → EndsAs names t end
-ends-as names t end err err' h = by (answer names t) end (answer-is names t) h where
-  by : (x : Reading Tree) (end : End) → IsRead names t x → Tells (fault_line x t) end err err' → EndsAs names t end
-  by (done v e) Whole is told = (is.0, is.1)
-  by (done v e) Refused is told = absurd told
-  by (done v e) Failed is told = tt
-  by (fault k i stop) Whole is told = absurd told
-  by (fault k i stop) Refused is told = is
-  by (fault k i stop) Failed is told = tt
+ends-as {E = E} names t end err err' h = by (answer names t) end (answer-is names t) h where
+  by : (x : Reading Tree) (end : Result Bool E) → IsRead names t x → Tells (fault_line x t) end err err' → EndsAs names t end
+  by (done v e) (Ok true) is told = (is.0, is.1)
+  by (done v e) (Ok false) is told = absurd told
+  by (done v e) (Err x) is told = tt
+  by (fault k i stop) (Ok true) is told = absurd told
+  by (fault k i stop) (Ok false) is told = is
+  by (fault k i stop) (Err x) is told = tt
 
-pub ended : (names : Bool) (from err err' : Option (List ℕ)) (end : End) (arrived : List ℕ)
+pub ended : {E : Type 0} (names : Bool) (from err err' : Option (List ℕ)) (end : Result Bool E) (arrived : List ℕ)
     → IfSome from (λ t. arrived ≡ t) → Finishes names arrived end err err' → IfSome from (λ t. EndsAs names t end)
 ended names from err err' end arrived all told =
     IfSome_then from all (λ t is. subst (λ u. EndsAs names u end) is (ends-as names arrived end err err' told))
+
+-- a front of the line of the fault was written
+pub half-told : {E : Type 0} (end : Result Bool E) → IsErr end → (o : Option (List ℕ)) (line : List ℕ)
+    → o ≡ Some line → (err err' : Option (List ℕ)) → AppendsFront err err' line → Tells o end err err'
+half-told (Ok whole) is o line same err err' front = absurd (cc)
+half-told (Err e) is o line same err err' front = subst (λ l. Tells l (Err e) err err') (sym same) front
+
+-- all was shown, and then the fault
+pub ran : {E : Type 0} (words : Words) (from out out' err err' : Option (List ℕ)) (end : Result Bool E) (arrived : List ℕ)
+    → IfSome from (λ t. arrived ≡ t) → ShowsAll words arrived out out'
+    → Finishes words.inf_nan arrived end err err' → IfSome from (λ t. Ran words t end out out' err err')
+ran {E = E} words from out out' err err' end arrived all shown told =
+    IfSome_then from all (λ t is. subst (λ u. Ran words u end out out' err err') is (by end told)) where
+      by : (end : Result Bool E) → Finishes words.inf_nan arrived end err err' → Ran words arrived end out out' err err'
+      by (Ok whole) told = (shown, told)
+      by (Err e) told = inl (shown, told)
+
+-- not all was read, or shown
+pub broke-off : {E : Type 0} (words : Words) (from out out' err : Option (List ℕ))
+    (end : Result Bool E) → IsErr end → IfSome from (λ t. ShowsFront words t out out')
+    → IfSome from (λ t. Ran words t end out out' err err)
+broke-off words from out out' err (Ok whole) is front = absurd (cc)
+broke-off words from out out' err (Err e) is front = IfSome_then from front (λ t h. inr (h, Keeps-refl err))
+
+-- the usage line was written, or a front of it
+pub usage-told : {E : Type 0} (r : Result (Unit {0}) E) (status : ℕ) (err err' : Option (List ℕ))
+    → status ≡ result_unwrap_or (result_and r (Ok 2)) 3 → OnOk r (Appends err err' usage_line)
+    → OnErr r (AppendsFront err err' usage_line) → WroteUsage status err err'
+usage-told (Ok x) status err err' is whole front = inl (is, whole)
+usage-told (Err e) status err err' is whole front = inr (is, front)

@@ -2,7 +2,7 @@
 use Rattle.std.proofs.Common.{◌≡◌, ◌∙◌, ap, refl, sym, subst, ℕ, Bool, true, false, List, [], ◌∷◌, ◌++◌}
 use Rattle.std.proofs.Common.{Option, Some, None}
 use Rattle.std.proofs.Common.{append_assoc, append-nil}
-use Rattle.std.specs.Prelude.{bytes_eq, if◌then◌else◌}
+use Rattle.std.specs.Prelude.{bytes_eq, if◌then◌else◌, not}
 use Rattle.std.specs.List.{concat, dedup, dedup_from, flat_map}
 use Rattle.std.proofs.lemmas.Grind.{flat_map-append}
 use Rattle.std.proofs.lemmas.List.Folds.{concat-append}
@@ -67,6 +67,13 @@ shown-more (y ∷ ys) (Some x) =
           → concat (unless_same (last_of y ys) x) ≡ new_line (last_of y ys) (Some x)
       by true e = rw e refl
       by false e = rw e (append-nil x)
+
+-- a line that is another one than the last is written
+pub line-shown : (last line : List ℕ) → not (bytes_eq line last) ≡ true → new_line last (Some line) ≡ line
+line-shown last line other = by (bytes_eq line last) refl where
+  by : (b : Bool) → bytes_eq line last ≡ b → new_line last (Some line) ≡ line
+  by true e = let no = sym (ap not e) ∙ other in absurd (cc)
+  by false e = rw e refl
 
 -- the last line then
 pub last-more : (d : List ℕ) (xs : List (List ℕ)) (o : Option (List ℕ))

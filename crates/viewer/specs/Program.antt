@@ -1,10 +1,10 @@
 -- What the whole program writes, and its exit status.
-use Rattle.std.specs.Prelude.{◌≡◌, ◌⊎◌, ℕ, List, codes, Option, Some, None, IfSome}
+use Rattle.std.specs.Prelude.{◌≡◌, ◌⊎◌, ℕ, Bool, List, codes, Option, Some, None, IfSome, Result}
 use Rattle.std.specs.Io.KnownBytes.{Keeps, Appends}
 use Rattle.jiter_print.specs.Print.{with_line_feed}
 use Rattle.jiter_print.specs.Written.{AppendsFront}
 use Rattle.viewer.specs.Shown.{Ran, status_of}
-use Rattle.viewer.specs.declared.view.End.{End}
+use Rattle.std.specs.declared.io.Error.{Error}
 use Rattle.viewer.specs.declared.words.Words.{Words}
 
 -- what words that ask for nothing are answered with
@@ -18,7 +18,7 @@ WroteUsage status err err' =
 
 -- a run over these bytes, and its status
 abbrev pub RanTo : Words → List ℕ → ℕ → Option (List ℕ) → Option (List ℕ) → Option (List ℕ) → Option (List ℕ) → Type 0
-RanTo words t status out out' err err' = (end : End) × (status ≡ status_of end) × Ran words t end out out' err err'
+RanTo words t status out out' err err' = (end : Result Bool Error) × (status ≡ status_of end) × Ran words t end out out' err err'
 
 -- what both writers hold after the program, and its status: the usage line where the words ask for nothing
 abbrev pub Views : Option Words → Option (List ℕ) → ℕ → Option (List ℕ) → Option (List ℕ) → Option (List ℕ)

@@ -1,6 +1,6 @@
 -- What is shown of a text that arrives in pieces.
-use Rattle.std.specs.Prelude.{◌≡◌, ◌⊎◌, ℕ, Bool, List, [], ◌∷◌, ◌++◌, bytes_eq, if◌then◌else◌}
-use Rattle.std.specs.Prelude.{Option, Some, None}
+use Rattle.std.specs.Prelude.{◌≡◌, ◌⊎◌, ℕ, Bool, true, false, List, [], ◌∷◌, ◌++◌, bytes_eq, if◌then◌else◌}
+use Rattle.std.specs.Prelude.{Option, Some, None, Result, Ok, Err}
 use Rattle.std.specs.List.{concat, dedup, flat_map}
 use Rattle.std.specs.Io.{StartsWith}
 use Rattle.std.specs.Io.KnownBytes.{Appends, Keeps}
@@ -9,8 +9,6 @@ use Rattle.jiter.specs.Caller.{IsBegunContainer, IsDocument, Node}
 use Rattle.jiter_print.specs.Print.{print_of, with_line_feed}
 use Rattle.jiter_print.specs.Written.{AppendsFront}
 use Rattle.viewer.specs.declared.words.Words.{Words}
-use Rattle.viewer.specs.declared.view.End.{End}
-use Rattle.viewer.specs.declared.view.End.TheVariants.{Whole, Refused, Failed}
 
 -- the line of what was read, if it is a value
 abbrev pub value_line : Reading Tree → Option (List ℕ)
@@ -62,35 +60,35 @@ abbrev pub ShowsFront : Words → List ℕ → Option (List ℕ) → Option (Lis
 ShowsFront words t out out' =
     (pieces : List (List ℕ)) × StartsWith t (concat pieces) × AppendsFront out out' (shown words pieces)
 
--- at the end of a run the line of a fault is written, if there is one
-abbrev pub Tells : Option (List ℕ) → End → Option (List ℕ) → Option (List ℕ) → Type 0
-Tells None Whole err err' = Keeps err err'
-Tells None Refused err err' = ⊥
-Tells None Failed err err' = Keeps err err'
-Tells (Some line) Whole err err' = ⊥
-Tells (Some line) Refused err err' = Appends err err' line
-Tells (Some line) Failed err err' = AppendsFront err err' line
+-- at the end of a run the line of a fault is written, if there is one: `Ok true` is a document, and `Ok false` none
+abbrev pub Tells : {E : Type 0} → Option (List ℕ) → Result Bool E → Option (List ℕ) → Option (List ℕ) → Type 0
+Tells None (Ok true) err err' = Keeps err err'
+Tells None (Ok false) err err' = ⊥
+Tells None (Err e) err err' = Keeps err err'
+Tells (Some line) (Ok true) err err' = ⊥
+Tells (Some line) (Ok false) err err' = Appends err err' line
+Tells (Some line) (Err e) err err' = AppendsFront err err' line
 
-abbrev pub Finishes : Bool → List ℕ → End → Option (List ℕ) → Option (List ℕ) → Type 0
+abbrev pub Finishes : {E : Type 0} → Bool → List ℕ → Result Bool E → Option (List ℕ) → Option (List ℕ) → Type 0
 Finishes names t end err err' = Tells (fault_line (answer names t) t) end err err'
 
 -- the whole text was shown, and then its fault
-abbrev pub ShowsWhole : Words → List ℕ → End → Option (List ℕ) → Option (List ℕ) → Option (List ℕ) → Option (List ℕ)
-    → Type 0
+abbrev pub ShowsWhole : {E : Type 0} → Words → List ℕ → Result Bool E → Option (List ℕ) → Option (List ℕ)
+    → Option (List ℕ) → Option (List ℕ) → Type 0
 ShowsWhole words t end out out' err err' = ShowsAll words t out out' × Finishes words.inf_nan t end err err'
 
 -- what a run over these bytes leaves in both writers
-abbrev pub Ran : Words → List ℕ → End → Option (List ℕ) → Option (List ℕ) → Option (List ℕ) → Option (List ℕ) → Type 0
-Ran words t Whole out out' err err' = ShowsWhole words t Whole out out' err err'
-Ran words t Refused out out' err err' = ShowsWhole words t Refused out out' err err'
-Ran words t Failed out out' err err' =
-    ShowsWhole words t Failed out out' err err' ⊎ (ShowsFront words t out out' × Keeps err err')
+abbrev pub Ran : {E : Type 0} → Words → List ℕ → Result Bool E → Option (List ℕ) → Option (List ℕ)
+    → Option (List ℕ) → Option (List ℕ) → Type 0
+Ran {E = E} words t (Ok whole) out out' err err' = ShowsWhole {E = E} words t (Ok whole) out out' err err'
+Ran words t (Err e) out out' err err' =
+    ShowsWhole words t (Err e) out out' err err' ⊎ (ShowsFront words t out out' × Keeps err err')
 
 -- the end tells whether the text is a document
-abbrev pub EndsAs : Bool → List ℕ → End → Type 0
-EndsAs names t Whole = (n : Node) × IsDocument names t n
-EndsAs names t Refused = (n : Node) → IsDocument names t n → ⊥
-EndsAs names t Failed = Unit {0}
+abbrev pub EndsAs : {E : Type 0} → Bool → List ℕ → Result Bool E → Type 0
+EndsAs names t (Ok true) = (n : Node) × IsDocument names t n
+EndsAs names t (Ok false) = (n : Node) → IsDocument names t n → ⊥
+EndsAs names t (Err e) = Unit {0}
 
 -- a line that is that of a document's cut
 abbrev pub IsLineOfCut : (words : Words) {front : List ℕ} → IsBegunContainer words.inf_nan front → Option (List ℕ)
@@ -100,7 +98,7 @@ IsLineOfCut words f line =
     × (line ≡ Some (with_line_feed (print_of v)))
 
 -- the program's exit status
-abbrev pub status_of : End → ℕ
-status_of Whole = 0
-status_of Refused = 1
-status_of Failed = 3
+abbrev pub status_of : {E : Type 0} → Result Bool E → ℕ
+status_of (Ok true) = 0
+status_of (Ok false) = 1
+status_of (Err e) = 3

@@ -1,7 +1,6 @@
 //! Shows a document while it arrives on standard input: a line for each read that changed its value.
 #![tactic(auto)]
 
-mod line;
 mod program;
 #[cfg(test)]
 mod tests;
@@ -16,17 +15,11 @@ fn main(rt: HostRuntime) -> ExitCode {
     let Ok(list) = words_given(&rt) else {
         return ExitCode::from(3);
     };
-    let mut reader = rt.stdin();
-    let mut out = rt.stdout();
-    let mut err = rt.stderr();
+    let (mut reader, mut out, mut err) = (rt.stdin(), rt.stdout(), rt.stderr());
     ExitCode::from(viewer(rt.alloc(), list.as_slice(), &mut reader, &mut out, &mut err))
 }
 
 // The words behind the program's name.
 fn words_given(rt: &HostRuntime) -> io::Result<Vec<String>> {
-    let mut list = Vec::new(rt.alloc());
-    for word in env::args(rt)?.skip(1) {
-        list.push(word)?;
-    }
-    Ok(list)
+    Ok(env::args(rt)?.skip(1).collect(rt.alloc())?)
 }

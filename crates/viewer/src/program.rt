@@ -11,8 +11,8 @@ use std::io::{Read, Write};
 
 const USAGE: &str = "usage: viewer on|trailing-strings [inf-nan]\n";
 
-/// Runs as the words ask, or writes the usage line to `err` where they ask for nothing. It returns the exit
-/// status: that of the run, or 2 once the usage line was written, and 3 where it was not.
+/// Runs as the words ask, or writes the usage line to `err` where they ask for nothing. It returns the exit status:
+/// 0 of a document, 1 of a text that is none, 2 once the usage line was written, and 3 where a call failed.
 pub fn viewer<R: Read, O: Write, E: Write>(
     alloc: Global,
     list: &[String],
@@ -24,10 +24,11 @@ pub fn viewer<R: Read, O: Write, E: Write>(
         (O.contents out.old) (O.contents out.new) (E.contents err.old) (E.contents err.new) }
 {
     match read_words(list) {
-        Some(words) => run(alloc, words, reader, out, err).status(),
-        None => match write_line(err, USAGE.as_bytes()) {
-            Ok(()) => 2,
+        Some(words) => match run(alloc, words, reader, out, err) {
+            Ok(true) => 0,
+            Ok(false) => 1,
             Err(_) => 3,
         },
+        None => write_line(err, USAGE.as_bytes()).and(Ok(2)).unwrap_or(3),
     }
 }

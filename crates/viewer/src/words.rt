@@ -1,6 +1,6 @@
 //! The words behind the program's name.
-ghost use Rattle.std.specs.Prelude.{◌≡◌, map, string_bytes};
-ghost use Rattle.viewer.specs.Words.{mode_of, words_of};
+ghost use Rattle.std.specs.Prelude.{◌≡◌, map, option_map, string_bytes};
+ghost use Rattle.viewer.specs.Words.{mode_of, with_names, words_of};
 
 use jiter::PartialMode;
 
@@ -18,24 +18,19 @@ pub fn read_words(list: &[String]) -> Option<Words>
     ensures { result ≡ words_of (map string_bytes list.now) }
 {
     match list {
-        [mode] => Some(Words {
-            mode: mode_named(mode.as_str())?,
-            inf_nan: false,
-        }),
-        [mode, name] if name.as_str() == "inf-nan" => Some(Words {
-            mode: mode_named(mode.as_str())?,
-            inf_nan: true,
-        }),
+        [word] => words_with(word.as_str(), false),
+        [word, name] if name.as_str() == "inf-nan" => words_with(word.as_str(), true),
         _ => None,
     }
 }
 
-fn mode_named(word: &str) -> Option<PartialMode>
-    ensures { result ≡ mode_of word.now }
+fn words_with(word: &str, inf_nan: bool) -> Option<Words>
+    ensures { result ≡ option_map (with_names inf_nan) (mode_of word.now) }
 {
-    match word {
-        "on" => Some(PartialMode::On),
-        "trailing-strings" => Some(PartialMode::TrailingStrings),
-        _ => None,
-    }
+    let mode = match word {
+        "on" => PartialMode::On,
+        "trailing-strings" => PartialMode::TrailingStrings,
+        _ => return None,
+    };
+    Some(Words { mode, inf_nan })
 }
