@@ -221,7 +221,7 @@ fn is_read(alloc: Global, count: usize) -> Result<bool, Fail> {
 
 #[test]
 fn a_key_is_found_wherever_it_stood(rt: HostRuntime) -> Result<(), Fail> {
-    const ROWS: [(usize, &str); 14] = [
+    const ROWS: [(usize, &str); 19] = [
         (0, "0"),
         (7, "k6"),
         (7, "0"),
@@ -233,6 +233,11 @@ fn a_key_is_found_wherever_it_stood(rt: HostRuntime) -> Result<(), Fail> {
         (16, "0"),
         (16, "k14"),
         (16, "k15"),
+        (30, "0"),
+        (31, "k29"),
+        (31, "k30"),
+        (32, "0"),
+        (32, "k31"),
         (40, "k7"),
         (300, "k299"),
         (1000, "0"),
