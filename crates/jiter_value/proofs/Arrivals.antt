@@ -1,23 +1,26 @@
 -- What is open of a document that arrives in pieces is, where the text ends, its value so far.
-use Rattle.std.proofs.Common.{◌≡◌, ℕ, suc, ◌-◌, ◌≤◌, true, List, [], ◌∷◌, ◌++◌, length, refl, sym, subst, ap, ◌∙◌, arith, inl, inr}
+use Rattle.std.proofs.Common.{◌≡◌, ℕ, suc, ◌-◌, ◌≤◌, true, false, List, [], ◌∷◌, ◌++◌, length, refl, sym, subst, ap, ◌∙◌, arith, inl, inr}
 use Rattle.std.specs.Prelude.{slice_get, Option, Some, None}
 use Rattle.std.proofs.lemmas.List.{append-nil}
 use Rattle.std.proofs.lemmas.Option.{slice_get_past, none-some, same_Some}
-use Rattle.jiter_scan.proofs.Choices.{if-true}
+use Rattle.jiter_scan.proofs.Choices.{if-true, if-false}
+use Rattle.jiter_scan.specs.Scanned.{failed}
+use Rattle.jiter_scan.specs.Word.{Extent}
+use Rattle.jiter_steps.proofs.Reading.WholeTexts.{whole-is}
 use Rattle.jiter_scan.specs.Kind.{Kind, is_forgiven, eof_list, eof_object, eof_value}
 use Rattle.jiter_scan.specs.PartialMode.{is_active}
 use Rattle.jiter_scan.specs.NumberReading.{extent_then}
-use Rattle.jiter_steps.specs.Frames.{items_frame, members_frame, resume, parts_from, array_in, object_in}
-use Rattle.jiter_steps.specs.Read.{Reading, Rules, done, fault, follow, front_answer, whole_answer}
+use Rattle.jiter_steps.specs.Frames.{items_frame, members_frame, resume, parts_from, array_in, object_in, parts_step}
+use Rattle.jiter_steps.specs.Read.{Reading, Rules, done, fault, follow, front_answer, whole_answer, to_end}
 use Rattle.jiter_steps.specs.Step.{Step, stuck, step, end_kind_of, colon, value_first}
 use Rattle.jiter_steps.specs.Tree.{Text, Tree, array, object, items_of, members_of}
 use Rattle.jiter_steps.specs.declared.parse.Shape.{Shape}
 use Rattle.jiter_steps.specs.declared.parse.Shape.TheVariants as shape
-use Rattle.jiter_steps.proofs.Calls.Resumed.{if_forgiven-yes, resume-forgiven}
+use Rattle.jiter_steps.proofs.Calls.Resumed.{if_forgiven-yes, if_forgiven-no, resume-fault, resume-forgiven}
 use Rattle.jiter_steps.proofs.Cut.Halting.{end-forgiven}
 use Rattle.jiter_steps.proofs.Grammar.Blanks.{past_blanks-end}
 use Rattle.jiter_steps.proofs.Reading.BothShapes.{end_kind-early}
-use Rattle.jiter_value.specs.Arrived.{Arrived, at_value, between_parts, at_end, shown, value_extent, value_then}
+use Rattle.jiter_value.specs.Arrived.{Arrived, at_value, between_parts, at_end, shown, value_extent, value_then, end_of, container_of}
 use Rattle.jiter_value.specs.Arrived.{part_row, leads_on, owned, Holds, HasRead}
 use Rattle.jiter_value.specs.Parses.{reading_as}
 use Rattle.jiter_value.specs.Owned.{owned_tree}
@@ -142,3 +145,56 @@ shown-answers p t s v on read h =
       sym (answer_as-is owned refl p t)
           ∙ if-true (is_active p.mode) (front_answer r t) (whole_answer r t) on ∙ whole ∙ end.1,
     )
+
+-- The same with partial reading off: the end is a fault there, unless the value is whole.
+module _ (p : Settings) (t : List ℕ) (off : is_active p.mode ≡ false) where
+  abbrev strict : Rules Text Tree
+  strict = rules_as owned p
+
+  abbrev end : ℕ
+  end = length t
+
+  not-forgiven : (k : Kind) → strict.forgives k ≡ false
+  not-forgiven k = rw off refl
+
+  row-past : {A : Type 0} (row : ℕ → Option ℕ → A) → step t row end ≡ row end None
+  row-past row = step-past t row end (omega arith)
+
+  value-ends : (fs : List OpenFrame) (k : Kind) (x : Extent) → x ≡ failed k end
+      → resume strict t fs (value_then strict t (length fs) x) ≡ fault k end end
+  value-ends fs k x is =
+      ap (λ y. resume strict t fs (value_then strict t (length fs) y)) is
+      ∙ resume-fault strict t fs k end end (not-forgiven k)
+
+  parts-end : (a : Awaits) (h : Shape) (xs : List (PartTree h)) (fs : List OpenFrame) (k : Kind)
+      → part_row strict t a h end None ≡ stuck k end
+      → leads_on strict t (between_parts a h xs fs) end ≡ fault k end end
+  parts-end a h xs fs k is =
+      let c = container_of strict t h (length fs) in
+      ap (λ u. resume strict t fs (parts_step strict t c xs u)) (row-past (part_row strict t a h) ∙ is)
+      ∙ ap (resume strict t fs) (if_forgiven-no strict t (λ e. c.build e xs) k end end (not-forgiven k))
+      ∙ resume-fault strict t fs k end end (not-forgiven k)
+
+  leads-end : (s : Arrived) (k : Kind) → end_of s ≡ Some k → leads_on strict t s end ≡ fault k end end
+  leads-end (at_value awaits.Colon fs) k h =
+      value-ends fs k _
+      (ap (λ (x : Extent). extent_then x (step t value_first)) (row-past colon)
+      ∙ ap (λ k. failed k end) (same_Some _ _ h))
+  leads-end (at_value a fs) k h =
+      value-ends fs k _ (row-past value_first ∙ ap (λ k. failed k end) (same_Some _ _ h))
+  leads-end (between_parts awaits.Next shape xs fs) k h =
+      parts-end awaits.Next shape xs fs k (ap (λ k. stuck k end) (same_Some _ _ h))
+  leads-end (between_parts awaits.First shape xs fs) k h =
+      parts-end awaits.First shape xs fs k (ap (λ k. stuck k end) (same_Some _ _ h))
+  leads-end (between_parts a shape xs fs) k h =
+      parts-end a shape xs fs k (ap (λ k. stuck k end) (same_Some _ _ h))
+  leads-end (at_end v n) k h = absurd (none-some k h)
+
+  pub end-answers : (s : Arrived) (k : Kind) → HasRead p t s → end_of s ≡ Some k
+      → reading_as owned_tree (answer_by p t) ≡ fault k end end
+  end-answers s k read h =
+      let all : front_answer strict t ≡ leads_on strict t s end =
+      subst (λ w. front_answer strict w ≡ leads_on strict w s end) (append-nil t) (read.goes []) in
+      sym (answer_as-is owned refl p t)
+      ∙ if-false (is_active p.mode) (front_answer strict t) (whole_answer strict t) off ∙ whole-is strict t
+      ∙ ap (to_end t) (all ∙ leads-end s k h)

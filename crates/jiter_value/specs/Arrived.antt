@@ -1,10 +1,11 @@
 -- A document that arrives in pieces: what its bytes so far leave open, and what the rest of it completes that to.
 use Rattle.std.specs.Prelude.{◌≡◌, ℕ, ◌-◌, List, [], ◌∷◌, ◌++◌, length, map, Option, Some, None}
+use Rattle.jiter_scan.specs.Kind.{Kind, eof_object, eof_value}
 use Rattle.jiter_scan.specs.Scanned.{taken, failed}
 use Rattle.jiter_scan.specs.Word.{Extent}
 use Rattle.jiter_steps.specs.Frames.{resume, value_in, array_in, object_in, parts_step}
 use Rattle.jiter_steps.specs.Read.{Reading, done, fault, Rules, Container, front_answer}
-use Rattle.jiter_steps.specs.Step.{Step, step, value_first, object_colon, container_first, container_comma}
+use Rattle.jiter_steps.specs.Step.{Step, step, value_first, object_colon, container_first, container_comma, end_kind_of}
 use Rattle.jiter_steps.specs.Step.{container_step}
 use Rattle.jiter_steps.specs.Tree.{Text, Tree}
 use Rattle.jiter_steps.specs.declared.parse.Shape.{Shape}
@@ -33,6 +34,14 @@ shown (at_value a []) = None
 shown (at_value a (f ∷ fs)) = Some (filled fs (begun f))
 shown (between_parts a h xs fs) = Some (filled fs (built h xs))
 shown (at_end v n) = Some v
+
+-- the fault where the input ends there and nothing is forgiven, unless the value is whole
+abbrev pub end_of : Arrived → Option Kind
+end_of (at_value awaits.Colon fs) = Some eof_object
+end_of (at_value a fs) = Some eof_value
+end_of (between_parts awaits.Next h xs fs) = Some eof_value
+end_of (between_parts a h xs fs) = Some (end_kind_of h)
+end_of (at_end v n) = None
 
 -- What is awaited before a value, and what between the parts of a container
 abbrev pub IsBeforeValue : Awaits → Type 0

@@ -2,15 +2,17 @@
 //! at once, and behind each is said what it leaves open.
 ghost use Rattle.std.specs.Prelude.{◌≡◌, ◌∷◌, ◌++◌, ◌<◌, [], IfOk, List, OnErr, OnOk, Some, false, length, map, string_bytes};
 ghost use Rattle.std.specs.Prelude.{true, ℕ};
+ghost use Rattle.std.specs.Prelude.{option_map};
+ghost use Rattle.jiter_scan.specs.Kind.{Kind, fault_kind};
 ghost use Rattle.jiter_scan.specs.PartialMode.{is_active};
 ghost use Rattle.jiter_scan.specs.Scanned.{taken};
 ghost use Rattle.jiter_steps.specs.Frames.{key_from, members_frame, value_from, value_in};
-ghost use Rattle.jiter_steps.specs.Read.{done};
+ghost use Rattle.jiter_steps.specs.Read.{done, fault};
 ghost use Rattle.jiter_steps.specs.Tree.{Text, Tree, members_of, object};
 ghost use Rattle.jiter_steps.specs.Blank.{is_blank};
-ghost use Rattle.jiter_steps.specs.Step.{container_first, container_comma, container_step, more};
+ghost use Rattle.jiter_steps.specs.Step.{container_first, container_comma, container_step, end_kind_of, more};
 ghost use Rattle.jiter_steps.specs.StringDecoder.{text_view};
-ghost use Rattle.jiter_value.specs.Arrived.{Arrived, HasRead, at_value, between_parts, owned, part_row, shown};
+ghost use Rattle.jiter_value.specs.Arrived.{Arrived, HasRead, at_value, between_parts, end_of, owned, part_row, shown};
 ghost use Rattle.jiter_value.specs.OpenValue.{Goes, IsLeft, IsRightSign, ReadsOn, behind_value, completed, step_by, text_of};
 ghost use Rattle.jiter_value.specs.Owned.{owned_tree};
 ghost use Rattle.jiter_value.specs.Parses.{reading_as};
@@ -176,6 +178,16 @@ fn sign_of(awaits: Awaits, shape: Shape, byte: u8) -> Sign
         Awaits::First => first_sign(shape, byte),
         Awaits::Next => next_sign(shape, byte),
         _ => comma_sign(shape, byte),
+    }
+}
+
+// The fault where the input ends in a container of this shape.
+fn end_kind(shape: Shape) -> FaultKind
+    ensures { fault_kind result ≡ end_kind_of shape }
+{
+    match shape {
+        Shape::Array => FaultKind::EofWhileParsingList,
+        Shape::Object => FaultKind::EofWhileParsingObject,
     }
 }
 
@@ -411,6 +423,24 @@ impl OpenValue {
             ≡ completed p t (at_value Awaits.Colon (members_frame ms (text_of (string_bytes key)) ∷ fs)) e }
     {
         self.key = CowStr::Owned(key);
+    }
+
+    /// The fault where the input ends here with partial reading off, unless the value is whole.
+    pub fn end_fault(&self) -> Option<FaultKind>
+        requires { (s : Arrived) × IsLeft self.now s }
+        ensures kind { (s : Arrived) → IsLeft self.now s → option_map fault_kind result ≡ end_of s }
+        // It is what the bytes so far answer then.
+        ensures answer { (p : Settings) → (t : List ℕ) → (s : Arrived) → (k : Kind) → is_active p.mode ≡ false
+            → HasRead p t s → IsLeft self.now s → end_of s ≡ Some k
+            → reading_as owned_tree (answer_by p t) ≡ fault k (length t) (length t) }
+    {
+        match self.awaits {
+            Awaits::Value => Some(FaultKind::EofWhileParsingValue),
+            Awaits::Colon => Some(FaultKind::EofWhileParsingObject),
+            Awaits::Next => Some(FaultKind::EofWhileParsingValue),
+            Awaits::Nothing => None,
+            _ => Some(end_kind(shape_inside(&self.spine))),
+        }
     }
 
     /// The value so far, each container that is open ended; `null` where none of it was read. It takes no memory.
