@@ -1,3 +1,4 @@
 pub mod Held
 pub mod Judged
+pub mod Members
 pub mod Walk

@@ -1,5 +1,5 @@
 -- How far the members of a document were read, and what they set.
-use Rattle.std.proofs.Common.{◌≡◌, ◌∙◌, ℕ, ◌+◌, ◌-◌, ◌<◌, ◌≤◌, false, List, length, refl, sym, ap, subst, arith}
+use Rattle.std.proofs.Common.{◌≡◌, ◌∙◌, ℕ, ◌+◌, ◌-◌, ◌<◌, ◌≤◌, Bool, false, List, length, refl, sym, ap, subst, arith}
 use Rattle.std.specs.Prelude.{Option, Some, None, option_map}
 use Rattle.std.proofs.lemmas.Option.{none-some}
 use Rattle.jiter.specs.Caller.{Cause, IsBlank, IsDocument, MovesOn, Node, NodeMembers, ReaderState, Reply, Tells, Text}
@@ -14,9 +14,28 @@ use Rattle.config.specs.declared.settings.Name.{Name}
 use Rattle.config.specs.Settings.{Complete, Settings, Verdict, Why, and_then, complete, configured, fits, named}
 use Rattle.config.specs.Settings.{nothing_set, other, reading, set, set_by, unfit}
 
+-- what is set so far
+abbrev pub seen : Option (List ℕ) → Option ℕ → Option Bool → Settings
+seen host port debug = record { host = host; port = port; debug = debug }
+
+-- the value of a member was read, and this is set
+pub record ReadsMember (s s1 : ReaderState) (name : Name) (m m1 : Settings) : Type 0 where
+  pub moves : MovesOn s s1
+  pub sets : (v : Tree) (b e : ℕ) → Tells s v b e → set name v b m ≡ fits m1
+  pub place : (v : Tree) (b e : ℕ) → Tells s v b e → s1.position ≡ e
+
 -- a reply for a key, by what the key names
 abbrev pub named_reply : Reply (Option Text) → Reply (Option Name)
 named_reply r = reply_seen (option_map named) (reply_seen key_bytes r)
+
+-- what was named of a key that was lent
+pub named-given : {A : Type 0} (at : A → List ℕ) (key : Option A) (o : Option Name) (r : Reply (Option Text)) (i : ℕ)
+    → reply_seen key_bytes r ≡ gave (option_map at key) i → o ≡ option_map (λ x. named (at x)) key
+    → named_reply r ≡ gave o i
+named-given at key o r i h is = ap (reply_seen (option_map named)) h ∙ ap (λ x. gave x i) (by key ∙ sym is) where
+  by : (key : Option _) → option_map named (option_map at key) ≡ option_map (λ x. named (at x)) key
+  by None = refl
+  by (Some x) = refl
 
 -- what the key names
 abbrev pub key_name : Option Text → Option Name
@@ -27,11 +46,6 @@ named-gave : (r : Reply (Option Text)) (o : Option Name) (i : ℕ) → named_rep
 named-gave (gave key j) o i h =
     let same = gave-is (key_name key) o j i h in (key, ap (gave key) same.1, same.0)
 named-gave (refused c x stop) o i h = absurd (gave-refused (sym h))
-
-named-refused : (r : Reply (Option Text)) (c : Cause) (x stop : ℕ) → named_reply r ≡ refused c x stop
-    → r ≡ refused c x stop
-named-refused (gave key j) c x stop h = absurd (gave-refused h)
-named-refused (refused d i n) c x stop h = cc
 
 some-same : {A : Type 0} (x y : A) → Some x ≡ Some y → x ≡ y
 some-same x y h = cc
@@ -66,7 +80,7 @@ module _ (t : List ℕ) where
     first-left : (key : Option Text) → next (at_start t) (object_read whole (at_start t)) ≡ gave key s.position
         → key_name key ≡ o → (n : Node) → ComesNext (at_start t) n → Left s o nothing_set n
     first-left key is names (Node.object b e ms) comes =
-        let told = object-tells whole (whole_key t) (at_start t) (sees-whole t) b e ms comes in
+        let told = object-tells whole (whole_key t) (at_start t) (sees-whole t) b e ms comes.stands in
         record {
           first = b;
           last = e;
@@ -108,16 +122,13 @@ module _ (t : List ℕ) where
 
   -- An object's first key is not refused, and another document is refused as one.
   pub first-refused : (c : Cause) (x stop : ℕ)
-      → named_reply (next (at_start t) (object_read whole (at_start t))) ≡ refused c x stop → (n : Node)
+      → next (at_start t) (object_read whole (at_start t)) ≡ refused c x stop → (n : Node)
       → IsDocument false t n → configured t n ≡ unfit (reading c) x
-  first-refused c x stop h n d = by n (document-next (at_start t) n d refl) where
-    is : next (at_start t) (object_read whole (at_start t)) ≡ refused c x stop
-    is = named-refused _ c x stop h
-
+  first-refused c x stop is n d = by n (document-next (at_start t) n d refl) where
     by : (n : Node) → ComesNext (at_start t) n → configured t n ≡ unfit (reading c) x
     by (Node.object b e ms) comes =
         absurd (key-not_refused (whole_key t) (at_start t) ms e _ c x stop
-        (object-tells whole (whole_key t) (at_start t) (sees-whole t) b e ms comes) is)
+        (object-tells whole (whole_key t) (at_start t) (sees-whole t) b e ms comes.stands) is)
     by (Node.literal l b e) comes = other-refused (Node.literal l b e) comes tt c x stop is
     by (Node.number b e) comes = other-refused (Node.number b e) comes tt c x stop is
     by (Node.string ps b e) comes = other-refused (Node.string ps b e) comes tt c x stop is
@@ -180,32 +191,30 @@ module _ (t : List ℕ) where
         sym a.sets ∙ ap (λ x. and_then x (λ r. set_by t r a.rest)) no in
         ap (configured t) a.is ∙ ap (λ x. and_then x (complete (a.last - 1))) all
 
-    module _ (s1 : ReaderState) (m1 : Settings) (moves : MovesOn s s1)
-        (judged : (v : Tree) (b e : ℕ) → Tells s v b e → set name v b m ≡ fits m1)
-        (place : (v : Tree) (b e : ℕ) → Tells s v b e → s1.position ≡ e) where
+    module _ (s1 : ReaderState) (m1 : Settings) (read : ReadsMember s s1 name m m1) where
       text1 : s1.text ≡ t
-      text1 = ap (λ (v : ReaderState). v.text) moves.same ∙ text-is s h.same
+      text1 = ap (λ (v : ReaderState). v.text) read.moves.same ∙ text-is s h.same
 
       left-behind : (n : Node) (d : IsDocument false t n) → MembersLeft s1 (at n d).rest (at n d).last
       left-behind n d =
           let a = at n d in
           let is : with_position s (end a.value) ≡ s1 =
-          ap (λ i. with_position s i) (sym (place _ _ _ (told n d))) ∙ sym moves.same in
+          ap (λ i. with_position s i) (sym (read.place _ _ _ (told n d))) ∙ sym read.moves.same in
           subst (λ (u : ReaderState). MembersLeft u a.rest a.last) is a.left
 
       sets-on : (n : Node) (d : IsDocument false t n) → set_by t m1 (at n d).rest ≡ set_by t nothing_set (at n d).all
       sets-on n d =
           let a = at n d in
-          sym (ap (λ x. and_then x (λ r. set_by t r a.rest)) (judged _ _ _ (told n d))) ∙ a.sets
+          sym (ap (λ x. and_then x (λ r. set_by t r a.rest)) (read.sets _ _ _ (told n d))) ∙ a.sets
 
       -- The next key is not refused.
-      pub key-refused : (c : Cause) (x stop : ℕ) → named_reply (key_step whole s1) ≡ refused c x stop → (n : Node)
+      pub key-refused : (c : Cause) (x stop : ℕ) → key_step whole s1 ≡ refused c x stop → (n : Node)
           → IsDocument false t n → ⊥
       key-refused c x stop is n d =
           let a = at n d in
           key-not_refused (whole_key t) s1 a.rest a.last _ c x stop
           (key-tells whole (whole_key t) s1 (sees s1 text1) a.rest a.last (left-behind n d))
-          (named-refused _ c x stop is)
+          is
 
       module _ (s2 : ReaderState) (o : Option Name) (moves2 : MovesOn s1 s2)
           (given : named_reply (key_step whole s1) ≡ gave o s2.position) where
@@ -229,7 +238,7 @@ module _ (t : List ℕ) where
         pub walk-goes_on : WalkAt s2 o m1
         walk-goes_on = record {
           same =
-              moves2.same ∙ ap (λ (v : ReaderState). with_position v s2.position) moves.same
+              moves2.same ∙ ap (λ (v : ReaderState). with_position v s2.position) read.moves.same
               ∙ ap (λ (v : ReaderState). with_position v s2.position) h.same;
           within = omega (arith, moves2.within, ap length text1);
           document = turned;
@@ -241,13 +250,13 @@ module _ (t : List ℕ) where
             let key = named-gave (key_step whole s1) o s2.position given in
             let within : s1.position ≤ length s1.text = omega (
               arith,
-              moves.within,
+              read.moves.within,
               ap length (text-is s h.same),
               ap length text1,
             ) in
             omega (
               arith,
-              moves.forward,
+              read.moves.forward,
               key-ahead whole s1 key.0 s2.position within key.1,
               walk-goes_on.within,
             )

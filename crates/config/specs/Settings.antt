@@ -1,19 +1,16 @@
 -- What a configuration holds of a document. Members of three names are settings, the last one of a name counts, and all
 -- others are nothing to it; the first value that does not fit its name is refused at its own place.
 use Rattle.std.specs.Prelude.{◌≡◌, ◌⊎◌, ℕ, ◌-◌, ℤ, pos, negsuc, ◌&&◌, Bool, true, false, if◌then◌else◌, List, nat_le}
-use Rattle.std.specs.Prelude.{Option, Some, None, Result, Ok, Err, codes, option_map, string_bytes}
+use Rattle.std.specs.Prelude.{Option, Some, None, Result, Ok, Err, IfOk, codes, string_bytes}
 use Rattle.std.specs.Str.{bytes_eq}
-use Rattle.jiter.specs.Caller.{Cause, Kind, Node, NodeMembers, Tree, ValueType, begin, end, position_of, text_at}
-use Rattle.jiter.specs.Caller.{tree_type, value_of, wrong_type, json_error, cause_of}
+use Rattle.jiter.specs.Caller.{Cause, Kind, MovesOn, Node, NodeMembers, ReaderState, Tells, Tree, ValueType, begin}
+use Rattle.jiter.specs.Caller.{cause_of, end, json_error, text_at, tree_type, value_of, wrong_type}
 use Rattle.jiter.specs.Caller.{boolean_in, int_in, member_named, string_in}
-use Rattle.config.specs.declared.config.Cause as declared
-use Rattle.config.specs.declared.config.Cause.TheVariants as variant
 use Rattle.config.specs.declared.config.Config.{Config}
 use Rattle.config.specs.declared.config.Refusal.{Refusal}
-use Rattle.config.specs.declared.settings.Fault.{Fault}
+use Rattle.config.specs.declared.config.Refusal.TheVariants as variant
 use Rattle.config.specs.declared.settings.Name.{Name}
 use Rattle.config.specs.declared.settings.Name.TheVariants as name
-use Rattle.config.specs.declared.settings.Settings as code
 
 -- why a document is no configuration: as the reader says, no port, or no member of this name
 pub data Why : Type 0 where
@@ -61,10 +58,6 @@ pub record Settings : Type 0 where
   pub host : Option (List ℕ)
   pub port : Option ℕ
   pub debug : Option Bool
-
--- what the code's settings are
-abbrev pub settings_view : code.Settings → Settings
-settings_view s = record { host = option_map string_bytes s.host; port = s.port; debug = s.debug }
 
 abbrev pub nothing_set : Settings
 nothing_set = record { host = None; port = None; debug = None }
@@ -118,26 +111,36 @@ configured t n = other ValueType.object (value_of t n) (begin n)
 abbrev pub config_view : Config → Complete
 config_view c = record { host = string_bytes c.host; port = c.port; debug = c.debug }
 
--- why the code refuses
-abbrev pub why : declared.Cause → Why
-why (variant.Reading e) = reading (cause_of e)
-why variant.Port = no_port
-why (variant.Missing key) = missing key.now
+-- why the code refuses, and at which index
+abbrev pub why : Refusal → Why
+why (variant.Reading e) = reading (cause_of e.error_type)
+why (variant.Port i) = no_port
+why (variant.Missing key i) = missing key.now
+
+abbrev pub place_of : Refusal → ℕ
+place_of (variant.Reading e) = e.index
+place_of (variant.Port i) = i
+place_of (variant.Missing key i) = i
 
 -- memory was refused
-abbrev pub IsOfMemory : declared.Cause → Type 0
-IsOfMemory c = why c ≡ reading (json_error Kind.out_of_memory)
+abbrev pub IsOfMemory : Refusal → Type 0
+IsOfMemory r = why r ≡ reading (json_error Kind.out_of_memory)
 
 -- What was read is this verdict, unless memory was refused.
-abbrev pub Judges : {X A : Type 0} → (X → A) → Result X Fault → Verdict A → Type 0
+abbrev pub Judges : {X A : Type 0} → (X → A) → Result X Refusal → Verdict A → Type 0
 Judges view (Ok x) v = v ≡ fits (view x)
-Judges view (Err f) v = (IsOfMemory f.cause → ⊥) → v ≡ unfit (why f.cause) f.index
+Judges view (Err r) v = (IsOfMemory r → ⊥) → v ≡ unfit (why r) (place_of r)
 
--- What is answered of a document, unless memory is refused: a refusal has its index's line and column.
+-- What is answered of a document.
 abbrev pub IsAnswer : List ℕ → Node → Result Config Refusal → Type 0
-IsAnswer t n (Ok c) = configured t n ≡ fits (config_view c)
-IsAnswer t n (Err r) =
-    (IsOfMemory r.cause → ⊥) → (i : ℕ) × (configured t n ≡ unfit (why r.cause) i) × (r.at ≡ position_of t i)
+IsAnswer t n result = Judges config_view result (configured t n)
+
+-- What was read of the value that came next: what the judge says of it, and behind what fits the reader stands.
+pub record Reads {A : Type 0} (old new : ReaderState) (result : Result A Refusal) (judge : Tree → ℕ → Verdict A)
+    : Type 0 where
+  pub moves : MovesOn old new
+  pub value : (v : Tree) (b e : ℕ) → Tells old v b e → Judges (λ x. x) result (judge v b)
+  pub place : (v : Tree) (b e : ℕ) → Tells old v b e → IfOk result (λ _. new.position ≡ e)
 
 -- the last member of this name has a value in which this lies
 pub record HoldsLast {A : Type 0} (v : Tree) (key : List ℕ) (look : Tree → Option A) (a : A) : Type 0 where

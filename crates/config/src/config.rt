@@ -1,10 +1,11 @@
 //! A configuration, read from the members of a JSON object.
-ghost use Rattle.std.specs.Prelude.{◌≤◌, IfOk, ℕ, false, true};
-ghost use Rattle.jiter.specs.Caller.{IsDocument, Node, value_of};
-ghost use Rattle.config.specs.Settings.{IsAnswer, IsHeldBy, Judges, config_view, configured};
+ghost use Rattle.std.specs.Prelude.{◌≡◌, ◌≤◌, IfOk, ℕ, false};
+ghost use Rattle.jiter.specs.Caller.{IsDocument, Node, position_of, value_of};
+ghost use Rattle.config.specs.Settings.{IsAnswer, IsHeldBy, place_of};
+ghost use Rattle.config.specs.declared.config.Refusal.TheVariants as variant;
 
-use crate::settings::{Fault, Settings, complete, first_name, next_name, read_member};
-use jiter::{Jiter, JiterErrorType, LinePosition};
+use crate::settings::{Name, named, read_host, read_port};
+use jiter::{Jiter, JiterError, LinePosition};
 use std::alloc::Global;
 use std::fmt;
 
@@ -19,34 +20,44 @@ pub struct Config {
     pub debug: bool,
 }
 
-/// Why bytes are no configuration.
-#[derive(Debug, Drop)]
-pub enum Cause {
-    /// A fault of the bytes, a value of another type, or want of memory.
-    Reading(JiterErrorType),
-    /// An integer that is no port.
-    Port,
-    /// The object has no member of this name.
-    Missing(&'static str),
-}
-
 /// Why bytes are no configuration, and where.
 #[derive(Debug, Drop)]
-pub struct Refusal {
-    /// Why.
-    pub cause: Cause,
-    /// The line and column of what is refused: of a value that does not fit its first byte, of an object that lacks a
-    /// member its last one.
-    pub at: LinePosition,
+pub enum Refusal {
+    /// A fault of the bytes, a value of another type at its first byte, or want of memory.
+    Reading(JiterError),
+    /// The integer that begins at this byte index is no port.
+    Port(usize),
+    /// The object whose last byte has this index has no member of this name.
+    Missing(&'static str, usize),
+}
+
+impl Refusal {
+    /// The line and column of what is refused, in the bytes that were read.
+    pub fn position(&self, bytes: &[u8]) -> LinePosition
+        ensures { result ≡ position_of bytes.now (place_of self.now) }
+    {
+        match self {
+            Self::Reading(error) => LinePosition::find(bytes, error.index),
+            Self::Port(index) | Self::Missing(_, index) => LinePosition::find(bytes, *index),
+        }
+    }
 }
 
 impl fmt::Display for Refusal {
     fn fmt<W: fmt::Write>(&self, f: &mut fmt::Formatter<W>) -> fmt::Result {
-        match &self.cause {
-            Cause::Reading(cause) => write!(f, "{cause} at {}", self.at),
-            Cause::Port => write!(f, "no port from 1 to 65535 at {}", self.at),
-            Cause::Missing(name) => write!(f, "{name} is missing at {}", self.at),
+        match self {
+            Self::Reading(error) => write!(f, "{}", error.error_type),
+            Self::Port(_) => f.write_str("no port from 1 to 65535"),
+            Self::Missing(name, _) => write!(f, "{name} is missing"),
         }
+    }
+}
+
+impl From<JiterError> for Refusal {
+    ghost from_gives = { λ error refusal. refusal ≡ variant.Reading error };
+
+    fn from(error: JiterError) -> Self {
+        Self::Reading(error)
     }
 }
 
@@ -59,33 +70,22 @@ pub fn read_config(alloc: Global, bytes: &[u8]) -> Result<Config, Refusal>
         → IfOk result (IsHeldBy (value_of bytes.now n)) }
     ensures port { IfOk result (λ c. (1 ≤ c.port) × (c.port ≤ 65535)) }
 {
-    match read_object(alloc, bytes) {
-        Ok(config) => Ok(config),
-        Err(fault) => Err(Refusal {
-            at: LinePosition::find(bytes, fault.index),
-            cause: fault.cause,
-        }),
-    }
-}
-
-// The same, each refusal with its index.
-fn read_object(alloc: Global, bytes: &[u8]) -> Result<Config, Fault>
-    ensures document { (n : Node) → IsDocument false bytes.now n
-        → Judges config_view result (configured bytes.now n) }
-    ensures port { IfOk result (λ c. (1 ≤ c.port) × (c.port ≤ 65535)) }
-{
     let mut jiter = Jiter::new(bytes);
-    let mut settings = Settings {
-        host: None,
-        port: None,
-        debug: None,
-    };
-    let mut next = first_name(alloc, &mut jiter)?;
+    let (mut host, mut port, mut debug) = (None, None, None);
+    let mut next = named(jiter.next_object(alloc)?);
     while let Some(name) = next {
-        read_member(alloc, &mut jiter, name, &mut settings)?;
-        next = next_name(alloc, &mut jiter)?;
+        match name {
+            Name::Host => host = Some(read_host(alloc, &mut jiter)?),
+            Name::Port => port = Some(read_port(&mut jiter)?),
+            Name::Debug => debug = Some(jiter.next_bool()?),
+            Name::Other => jiter.next_skip()?,
+        }
+        next = named(jiter.next_key(alloc)?);
     }
-    let end = jiter.current_index();
+    let last = jiter.current_index().saturating_sub(1);
     jiter.finish()?;
-    complete(settings, end.saturating_sub(1))
+    let host = host.ok_or(Refusal::Missing("host", last))?;
+    let port = port.ok_or(Refusal::Missing("port", last))?;
+    let debug = debug.unwrap_or(false);
+    Ok(Config { host, port, debug })
 }

@@ -19,7 +19,7 @@ fn refuses(rt: &HostRuntime, text: &[u8], words: &str) -> io::Result<bool> {
         Ok(_) => Ok(false),
         Err(refusal) => {
             let mut line = Vec::new(rt.alloc());
-            write!(line, "{refusal}")?;
+            write!(line, "{refusal} at {}", refusal.position(text))?;
             Ok(line.as_slice() == words.as_bytes())
         }
     }

@@ -58,7 +58,7 @@ module _ (line : List ℕ) where
       → next (at_start line) (object_read raw (at_start line)) ≡ gave o s.position
       → ComesNext (at_start line) n → Left s o nothing_picked n
   first-left s o (Node.object b e ms) m is comes =
-      let told = object-tells raw (raw_key line) (at_start line) (sees-raw line) b e ms comes in
+      let told = object-tells raw (raw_key line) (at_start line) (sees-raw line) b e ms comes.stands in
       record {
         first = b;
         last = e;
@@ -91,7 +91,7 @@ module _ (line : List ℕ) where
       → next (at_start line) (object_read raw (at_start line)) ≡ refused c x stop → ⊥
   object-not_refused b e ms c x stop d is =
       let comes = document-next (at_start line) (Node.object b e ms) d refl in
-      let told = object-tells raw (raw_key line) (at_start line) (sees-raw line) b e ms comes in
+      let told = object-tells raw (raw_key line) (at_start line) (sees-raw line) b e ms comes.stands in
       key-not_refused (raw_key line) (at_start line) ms e _ c x stop told is
 
   text-is : (s : ReaderState) → s ≡ with_position (at_start line) s.position → s.text ≡ line
@@ -138,7 +138,7 @@ module _ (line : List ℕ) where
             let there : end v ≡ s1.position = (gave-is _ _ _ _ (sym (skip-passes s v comes) ∙ passed)).1 in
             let is : source ≡ source_of line v =
             cut_out ∙ ap (λ t. slice_range t (value_place s) s1.position) (text-is s h.same)
-            ∙ ap (λ i. slice_range line i s1.position) comes.place
+            ∙ ap (λ i. slice_range line i s1.position) comes.stands.place
             ∙ ap (λ i. slice_range line (begin v) i) (sym there) in
             ap (λ w. with_member w (source_of line v) p) (ap (λ (w : Text). w.bytes) (sym named))
             ∙ ap (λ w. with_member name.bytes w p) (sym is)

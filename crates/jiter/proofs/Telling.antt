@@ -52,7 +52,7 @@ module _ (s : ReaderState) where
   number-read : (b e : ℕ) → ComesNext s (grammar.number b e)
       → number_at s.names s.text b ≡ taken (number_value (slice_range s.text b e)) e
   number-read b e h =
-      (scalar-laws s.names s.text).number-complete b e h.spelled.ordered h.spelled.within h.spelled.text h.quiet
+      (scalar-laws s.names s.text).number-complete b e h.stands.spelled.ordered h.stands.spelled.within h.stands.spelled.text h.quiet
 
   -- another type was wanted
   refusal-told : {A : Type 0} (wanted : ValueType) (n : Node) → ComesNext s n
@@ -71,7 +71,7 @@ module _ (s : ReaderState) where
       → string_read f s (begin n) (start_is n) ≡ str_told (value_of s.text n) (begin n) (end n)
   string-told f whole (grammar.string ps b e) h =
       ap (λ g. scalar_reply b (string_at g s.text b)) whole
-      ∙ ap (scalar_reply b) ((scalar-laws s.names s.text).string-complete b e ps h.spelled)
+      ∙ ap (scalar_reply b) ((scalar-laws s.names s.text).string-complete b e ps h.stands.spelled)
   string-told f whole (grammar.literal literal.Null b e) h = refl
   string-told f whole (grammar.literal literal.True b e) h = refl
   string-told f whole (grammar.literal literal.False b e) h = refl
@@ -85,10 +85,10 @@ module _ (s : ReaderState) where
   truth-told (grammar.literal literal.Null b e) h = refl
   truth-told (grammar.literal literal.True b e) h =
       ap (λ x. scalar_reply b (seen_as (λ u e. true) x))
-      ((scalar-laws s.names s.text).literal-complete literal.True b e h.spelled)
+      ((scalar-laws s.names s.text).literal-complete literal.True b e h.stands.spelled)
   truth-told (grammar.literal literal.False b e) h =
       ap (λ x. scalar_reply b (seen_as (λ u e. false) x))
-      ((scalar-laws s.names s.text).literal-complete literal.False b e h.spelled)
+      ((scalar-laws s.names s.text).literal-complete literal.False b e h.stands.spelled)
   truth-told (grammar.number b e) h =
       refusal-told bool (grammar.number b e) h ∙ sym (no_truth (number_value (slice_range s.text b e)) b e)
   truth-told (grammar.string ps b e) h = refl
@@ -101,7 +101,7 @@ module _ (s : ReaderState) where
   whole-told (grammar.literal literal.True b e) h = refl
   whole-told (grammar.literal literal.False b e) h = refl
   whole-told (grammar.number b e) h =
-      let inside : b ≤ length s.text = omega (arith, h.spelled.ordered, h.spelled.within) in
+      let inside : b ≤ length s.text = omega (arith, h.stands.spelled.ordered, h.stands.spelled.within) in
       integer-told (int_at s.text b) (number_value (slice_range s.text b e)) b e
       (subst (AgreeAsInteger (int_at s.text b)) (number-read b e h) (int_at-number s.text b s.names inside))
   whole-told (grammar.string ps b e) h = refl
@@ -112,20 +112,20 @@ module _ (s : ReaderState) where
   pub tells : s.partial_strings ≡ false → (n : Node) → ComesNext s n
       → Tells s (value_of s.text n) (begin n) (end n)
   tells strict n h = record {
-    place = h.place;
+    place = h.stands.place;
     text =
-        next-reads s n h (str_read s)
+        next-reads s n h.stands (str_read s)
         ∙ string-told (if s.partial_strings then kept else form.whole)
         (ap (λ (b : Bool). if b then kept else form.whole) strict) n h;
-    truth = next-reads s n h (bool_read s) ∙ truth-told n h;
-    integer = next-reads s n h (int_read s) ∙ whole-told n h;
+    truth = next-reads s n h.stands (bool_read s) ∙ truth-told n h;
+    integer = next-reads s n h.stands (int_read s) ∙ whole-told n h;
     passed = skip-passes s n h;
   }
 
   -- Another value than an object is refused as one.
   pub object-refused : (f : Form) (n : Node) → ComesNext s n → IsNoObject n
       → next s (object_read f s) ≡ other_type object (value_of s.text n) (begin n)
-  object-refused f n h other = next-reads s n h (object_read f s) ∙ by n h other where
+  object-refused f n h other = next-reads s n h.stands (object_read f s) ∙ by n h other where
     by : (n : Node) → ComesNext s n → IsNoObject n
         → object_read f s (begin n) (start_is n) ≡ other_type object (value_of s.text n) (begin n)
     by (grammar.literal literal.Null b e) h other = refl

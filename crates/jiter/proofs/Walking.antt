@@ -1,121 +1,276 @@
--- A walk through the members of a document's object by the pull reader: what its calls reply, in the grammar's words.
-use Rattle.std.proofs.Common.{◌≡◌, ◌∙◌, ℕ, ◌+◌, ◌-◌, ◌<◌, ◌≤◌, List, length, sym, ap, subst, arith}
-use Rattle.std.specs.Prelude.{slice_get, Option, Some, None}
-use Rattle.std.proofs.lemmas.Option.{none-some, slice_get_past}
+-- A walk through the items or members of a document's container by the pull reader: what its calls reply, in the
+-- grammar's words.
+use Rattle.std.proofs.Common.{◌≡◌, ◌∙◌, ℕ, ◌+◌, ◌-◌, ◌<◌, ◌≤◌, Bool, List, [], ◌∷◌, length, refl, sym, ap}
+use Rattle.std.proofs.Common.{subst, arith}
+use Rattle.std.specs.Prelude.{slice_get, slice_index, Option, Some, None}
+use Rattle.std.proofs.lemmas.Option.{none-some, slice_get_past, slice_get_within}
 use Rattle.jiter_scan.specs.Scanned.{Scanned, taken, failed}
 use Rattle.jiter_scan.specs.Word.{Extent}
 use Rattle.jiter_scan.proofs.Scanning.{ScalarWithin}
+use Rattle.jiter_steps.specs.Answer.{skip_at}
 use Rattle.jiter_steps.specs.Blank.{IsBlank, past_blanks}
 use Rattle.jiter_steps.specs.Literal.{start_of}
-use Rattle.jiter_steps.specs.Node.{Key, Node, NodeMembers, no_members, member, object, begin, end, Spells}
-use Rattle.jiter_steps.specs.Node.{SpellsMoreMembers, SpellsKey, IsDocument, nesting, nesting_of_members, nesting_limit}
-use Rattle.jiter_steps.specs.Node.{text_at, value_of}
-use Rattle.jiter_steps.specs.Step.{Step, more, closed, stuck, step, colon, object_first, object_step}
+use Rattle.jiter_steps.specs.Node.{Key, Node, Nodes, NodeMembers, array, object, begin, end, Spells, SpellsKey}
+use Rattle.jiter_steps.specs.Node.{IsDocument, nesting, nesting_limit, text_at, value_of}
+use Rattle.jiter_steps.specs.Read.{Reading, done, fault}
+use Rattle.jiter_steps.specs.Step.{Step, more, closed, stuck, step, closer_of, container_first, container_step, colon}
 use Rattle.jiter_steps.specs.StringReading.{Form, whole, raw, string_at, between}
 use Rattle.jiter_steps.specs.Tree.{Text}
+use Rattle.jiter_steps.specs.declared.parse.Shape.{Shape}
 use Rattle.jiter_steps.specs.declared.parse.Shape.TheVariants as shape
-use Rattle.jiter_steps.proofs.Grammar.Blanks.{blank-passed, blank-to_end}
+use Rattle.jiter_steps.proofs.Grammar.Blanks.{blank-to_end, past_blanks-after}
+use Rattle.jiter_steps.proofs.Grammar.RowSteps.{PartAt, delimits}
 use Rattle.jiter_steps.proofs.Grammar.ScalarLaws.{EndsNumber}
-use Rattle.jiter_steps.proofs.Grammar.SpelledParts.{begins-value, start_is, ends-end}
+use Rattle.jiter_steps.proofs.Grammar.SpelledParts.{IsItem, IsMember, begins-value, start_is, ends-end, items-parts}
+use Rattle.jiter_steps.proofs.Grammar.SpelledParts.{members-parts, nodes_list, members_list}
 use Rattle.jiter_steps.proofs.Grammar.StringLaws.{string_at-complete, string_at-within, raw-whole}
-use Rattle.jiter_steps.proofs.Reading.Bounds.{Ahead, ExtentAhead, container_step-ahead, colon-ahead}
+use Rattle.jiter_steps.proofs.Reading.Bounds.{Ahead, ExtentAhead, Within, container_step-ahead, colon-ahead}
+use Rattle.jiter_steps.proofs.Reading.Instances.{skip_at-within}
+use Rattle.jiter_steps.proofs.Reading.Parts.{MoreParts, PartThen, Parts}
 use Rattle.jiter.specs.Cause.{Cause}
+use Rattle.jiter.specs.Parts.{StandsNext}
 use Rattle.jiter.specs.Reader.{ReaderState, Reply, gave, refused, with_position, value_place, if_byte, next}
-use Rattle.jiter.specs.Reader.{value_reply, value_read, skip_read, object_read, key_step, member_reply, key_reply}
-use Rattle.jiter.specs.Reader.{colon_reply, finish, end_reply}
-use Rattle.jiter.proofs.Members.{meets, opens, empty, goes-on, ends-object, quiet-before}
-use Rattle.jiter.proofs.Members.{read-spelled, skip-spelled}
+use Rattle.jiter.specs.Reader.{value_reply, value_read, skip_read, array_read, item_step, object_read, key_step}
+use Rattle.jiter.specs.Reader.{part_reply, member_reply, key_reply, colon_reply, finish, end_reply}
+use Rattle.jiter.proofs.Members.{colon-taken, place-behind, place-there, read-spelled, skip-spelled}
 
 pub gave-refused : {A : Type 0} {a : A} {i : ℕ} {c : Cause} {x stop : ℕ} → gave a i ≡ refused c x stop → ⊥
 gave-refused h = absurd (cc)
 
--- this node comes next, behind blanks, and behind it no number goes on
-pub record ComesNext (s : ReaderState) (n : Node) : Type 0 where
-  pub place : value_place s ≡ begin n
-  pub spelled : Spells s.names s.text n
-  pub limit : nesting n ≤ nesting_limit
-  pub quiet : EndsNumber s.text (end n)
+pub gave-is : {A : Type 0} (a b : A) (i j : ℕ) → gave a i ≡ gave b j → (a ≡ b) × (i ≡ j)
+gave-is a b i j h = (cc, cc)
 
--- behind a member these are left, up to e
-pub record MembersLeft (s : ReaderState) (ms : NodeMembers) (e : ℕ) : Type 0 where
-  pub spelled : SpellsMoreMembers s.names s.text s.position ms e
-  pub limit : nesting_of_members ms ≤ nesting_limit
+some-is : {A : Type 0} (x y : A) → Some x ≡ Some y → x ≡ y
+some-is x y h = cc
+
+-- this node comes next, and behind it no number goes on
+pub record ComesNext (s : ReaderState) (n : Node) : Type 0 where
+  pub stands : StandsNext s n
+  pub quiet : EndsNumber s.text (end n)
 
 -- A document's node comes next to a reader before its first byte.
 pub document-next : (s : ReaderState) (n : Node) → IsDocument s.names s.text n → s.position ≡ 0 → ComesNext s n
-document-next s n d start =
-    let first = begins-value s.names s.text n d.spelled in
-    record {
-      place = ap (past_blanks s.text) start
-          ∙ blank-passed s.text 0 (begin n) first.byte d.before first.here first.no_blank;
-      spelled = d.spelled;
-      limit = d.limit;
-      quiet = ends-end s.text (end n) d.after;
-    }
+document-next s n d start = record {
+  stands = record {
+    place = ap (past_blanks s.text) start ∙ place-behind s.names s.text n d.spelled 0 d.before;
+    spelled = d.spelled;
+    limit = d.limit;
+  };
+  quiet = ends-end s.text (end n) d.after;
+}
+
+-- A next_ call reads what begins so there.
+pub next-reads : (s : ReaderState) (n : Node) → StandsNext s n → {A : Type 0} (read : ℕ → _ → Reply A)
+    → next s read ≡ read (begin n) (start_is n)
+next-reads s n h read =
+    let first = begins-value s.names s.text n h.spelled in
+    ap (λ i. if_byte i (slice_get s.text i) (λ c. read i (start_of c))) h.place
+    ∙ ap (λ o. if_byte (begin n) o (λ c. read (begin n) (start_of c))) first.here
+    ∙ ap (read (begin n)) first.starts
 
 module _ (s : ReaderState) (n : Node) (h : ComesNext s n) where
-  -- A next_ call reads what begins so there.
-  pub next-reads : {A : Type 0} (read : ℕ → _ → Reply A) → next s read ≡ read (begin n) (start_is n)
-  next-reads read =
-      let first = begins-value s.names s.text n h.spelled in
-      ap (λ i. if_byte i (slice_get s.text i) (λ c. read i (start_of c))) h.place
-      ∙ ap (λ o. if_byte (begin n) o (λ c. read (begin n) (start_of c))) first.here
-      ∙ ap (read (begin n)) first.starts
-
   -- A skip passes exactly the node.
   pub skip-passes : next s (skip_read s) ≡ gave tt (end n)
-  skip-passes = next-reads (skip_read s) ∙ ap value_reply (skip-spelled s.names s.text n h.spelled h.limit h.quiet)
+  skip-passes =
+      next-reads s n h.stands (skip_read s)
+      ∙ ap value_reply (skip-spelled s.names s.text n h.stands.spelled h.stands.limit h.quiet)
 
   -- Reading gives its value.
   pub value-read : next s (value_read s) ≡ gave (value_of s.text n) (end n)
-  value-read = next-reads (value_read s) ∙ ap value_reply (read-spelled s.names s.text n h.spelled h.limit h.quiet)
+  value-read =
+      next-reads s n h.stands (value_read s)
+      ∙ ap value_reply (read-spelled s.names s.text n h.stands.spelled h.stands.limit h.quiet)
 
--- what a call for a key replies where these members are left, up to e, the key seen so
-abbrev pub TellsOf : (Key → Text) → ReaderState → NodeMembers → ℕ → Reply (Option Text) → Type 0
-TellsOf view s no_members e r = r ≡ gave None e
-TellsOf view s (member k n ms) e r = (i : ℕ) × (r ≡ gave (Some (view k)) i) × ComesNext (with_position s i) n
-    × MembersLeft (with_position s (end n)) ms e
+-- a part from i to e: what is told of it, and its value, which comes next then
+pub record MeetsPart {K : Type 0} (s : ReaderState) (told : ℕ → Reply (Option K)) (k : K) (n : Node) (i e : ℕ)
+    : Type 0 where
+  pub behind : ℕ
+  pub is : told i ≡ gave (Some k) behind
+  pub comes : ComesNext (with_position s behind) n
+  pub ends : end n ≡ e
+
+-- Items and members alike.
+module _ {P : Type 0} (b : Shape) (IsPart : Bool → List ℕ → ℕ → P → ℕ → Type 0) where
+  -- behind a part these are left, up to e
+  abbrev pub PartsLeft : ReaderState → List P → ℕ → Type 0
+  PartsLeft s ps e =
+      MoreParts s.text (closer_of b) (PartAt b s.text) (IsPart s.names s.text) ps s.position e
+
+  module _ {K : Type 0} (key : P → K) (value : P → Node) where
+    -- what a call for a part replies where these are left, up to e
+    abbrev pub TellsOf : ReaderState → List P → ℕ → Reply (Option K) → Type 0
+    TellsOf s [] e r = r ≡ gave None e
+    TellsOf s (p ∷ ps) e r = (i : ℕ) × (r ≡ gave (Some (key p)) i) × ComesNext (with_position s i) (value p)
+        × PartsLeft (with_position s (end (value p))) ps e
+
+    -- what such a call gave, and where it left the reader
+    abbrev pub GivenAt : ReaderState → List P → ℕ → Option K → Type 0
+    GivenAt s [] e None = s.position ≡ e
+    GivenAt s (p ∷ ps) e (Some x) =
+        (x ≡ key p) × ComesNext s (value p) × PartsLeft (with_position s (end (value p))) ps e
+    GivenAt s ps e o = ⊥
+
+    pub part-given : (old s : ReaderState) (ps : List P) (e : ℕ) (r : Reply (Option K)) (o : Option K)
+        → TellsOf old ps e r → r ≡ gave o s.position → s ≡ with_position old s.position → GivenAt s ps e o
+    part-given old s [] e r None told is same = sym (gave-is None None e s.position (sym told ∙ is)).1
+    part-given old s [] e r (Some x) told is same =
+        absurd (none-some _ (gave-is None (Some x) e s.position (sym told ∙ is)).0)
+    part-given old s (p ∷ ps) e r None told is same =
+        absurd (none-some _ (sym (gave-is (Some (key p)) None told.0 s.position (sym told.1 ∙ is)).0))
+    part-given old s (p ∷ ps) e r (Some x) told is same =
+        let both = gave-is (Some (key p)) (Some x) told.0 s.position (sym told.1 ∙ is) in
+        let here : with_position old told.0 ≡ s = ap (with_position old) both.1 ∙ sym same in (
+          some-is x (key p) (sym both.0),
+          subst (λ (v : ReaderState). ComesNext v (value p)) here told.2,
+          subst (λ (v : ReaderState). PartsLeft (with_position v (end (value p))) ps e) here told.3,
+        )
+
+    -- Such a call is not refused.
+    pub part-not_refused : (old : ReaderState) (ps : List P) (e : ℕ) (r : Reply (Option K)) (c : Cause) (x stop : ℕ)
+        → TellsOf old ps e r → r ≡ refused c x stop → ⊥
+    part-not_refused old [] e r c x stop told is = gave-refused (sym told ∙ is)
+    part-not_refused old (p ∷ ps) e r c x stop told is = gave-refused (sym told.1 ∙ is)
+
+    module _ (s : ReaderState) (told : ℕ → Reply (Option K))
+        (meets : (i : ℕ) (p : P) (e : ℕ) → IsPart s.names s.text i p e → MeetsPart s told (key p) (value p) i e) where
+      abbrev Rest : List P → ℕ → ℕ → Type 0
+      Rest ps e m = MoreParts s.text (closer_of b) (PartAt b s.text) (IsPart s.names s.text) ps m e
+
+      part-told : (p : P) (ps : List P) (i e : ℕ) (x : Step)
+          → (h : PartThen s.text (closer_of b) (PartAt b s.text) (IsPart s.names s.text) i p (Rest ps e))
+          → x ≡ more h.begin → TellsOf s (p ∷ ps) e (part_reply told x)
+      part-told p ps i e x h is =
+          let m = meets h.begin p h.end h.is in
+          (m.behind, ap (part_reply told) is ∙ m.is, m.comes, subst (Rest ps e) (sym m.ends) h.rest)
+
+      -- Behind the bracket.
+      pub first-tells : (ps : List P) (i e : ℕ)
+          → Parts s.text (closer_of b) (PartAt b s.text) (IsPart s.names s.text) ps i e
+          → TellsOf s ps e (part_reply told (step s.text (container_first b) i))
+      first-tells [] i e h = ap (part_reply told) ((delimits s.text b).first-closed i e h)
+      first-tells (p ∷ ps) i e h =
+          part-told p ps i e _ h ((delimits s.text b).first-more i h.begin h.blanks h.begins)
+
+      -- Behind a part.
+      pub next-tells : (ps : List P) (e : ℕ) → PartsLeft s ps e
+          → TellsOf s ps e (part_reply told (step s.text (container_step b s.text) s.position))
+      next-tells [] e h = ap (part_reply told) ((delimits s.text b).next-closed s.position e h)
+      next-tells (p ∷ ps) e h =
+          part-told p ps h.0 e _ h.2
+          ((delimits s.text b).next-more s.position h.0 h.2.begin h.1 h.2.blanks h.2.begins)
+
+-- ---- items
+abbrev pub AnItem : Bool → List ℕ → ℕ → Node → ℕ → Type 0
+AnItem names t = IsItem names t nesting_limit
+
+-- behind an item these are left, up to e
+abbrev pub ItemsLeft : ReaderState → List Node → ℕ → Type 0
+ItemsLeft = PartsLeft shape.Array AnItem
+
+-- the byte that an item begins with
+abbrev pub first_byte : List ℕ → Node → ℕ
+first_byte t n = slice_index t (begin n)
+
+abbrev pub ItemTold : ReaderState → List Node → ℕ → Reply (Option ℕ) → Type 0
+ItemTold s = TellsOf shape.Array AnItem (first_byte s.text) (λ n. n) s
+
+-- what a call for an item gave, and where it left the reader
+abbrev pub ItemAt : ReaderState → List Node → ℕ → Option ℕ → Type 0
+ItemAt s = GivenAt shape.Array AnItem (first_byte s.text) (λ n. n) s
+
+module _ (s : ReaderState) where
+  comes-there : (n : Node) (i : ℕ) → Spells s.names s.text n → nesting n < nesting_limit → EndsNumber s.text (end n)
+      → past_blanks s.text i ≡ begin n → ComesNext (with_position s i) n
+  comes-there n i h limit quiet place =
+      record {
+        stands = record { place = place; spelled = h; limit = omega (arith, limit) };
+        quiet = quiet;
+      }
+
+  item-meets : (i : ℕ) (n : Node) (e : ℕ) → AnItem s.names s.text i n e
+      → MeetsPart s (λ j. gave (Some (slice_index s.text j)) j) (first_byte s.text n) n i e
+  item-meets i n e h = record {
+    behind = i;
+    is = ap (λ j. gave (Some (slice_index s.text j)) i) (sym h.begins);
+    comes = comes-there n i h.spelled h.limit (subst (EndsNumber s.text) (sym h.ends) h.quiet)
+        (place-there s.names s.text n h.spelled i h.begins);
+    ends = h.ends;
+  }
+
+  -- An array that comes next: its first item, or its end.
+  pub array-tells : (b e : ℕ) (ns : Nodes) → StandsNext s (array b e ns)
+      → ItemTold s (nodes_list ns) e (next s (array_read s))
+  array-tells b e ns h =
+      subst (ItemTold s (nodes_list ns) e) (sym (next-reads s (array b e ns) h (array_read s)))
+      (first-tells shape.Array AnItem (first_byte s.text) (λ n. n) s _ item-meets (nodes_list ns) (b + 1) e
+      (items-parts s.names s.text nesting_limit ns (b + 1) e h.spelled.1 h.limit))
+
+  -- Behind an item: the next one, or the array's end.
+  pub item-tells : (ns : List Node) (e : ℕ) → ItemsLeft s ns e → ItemTold s ns e (item_step s)
+  item-tells = next-tells shape.Array AnItem (first_byte s.text) (λ n. n) s _ item-meets
+
+-- ---- members
+abbrev pub AMember : Bool → List ℕ → ℕ → Key × Node → ℕ → Type 0
+AMember names t = IsMember names t nesting_limit
+
+-- behind a member these are left, up to e
+abbrev pub MembersLeft : ReaderState → NodeMembers → ℕ → Type 0
+MembersLeft s ms e = PartsLeft shape.Object AMember s (members_list ms) e
+
+-- the key of a member, seen so
+abbrev pub key_of : (Key → Text) → Key × Node → Text
+key_of view m = view m.0
+
+abbrev pub node_of : Key × Node → Node
+node_of m = m.1
+
+abbrev pub KeyTold : (Key → Text) → ReaderState → NodeMembers → ℕ → Reply (Option Text) → Type 0
+KeyTold view s ms e r = TellsOf shape.Object AMember (key_of view) node_of s (members_list ms) e r
+
+-- what a call for a key gave, and where it left the reader
+abbrev pub KeyAt : (Key → Text) → ReaderState → NodeMembers → ℕ → Option Text → Type 0
+KeyAt view s ms e o = GivenAt shape.Object AMember (key_of view) node_of s (members_list ms) e o
+
+pub key-given : (view : Key → Text) (old s : ReaderState) (ms : NodeMembers) (e : ℕ) (r : Reply (Option Text))
+    (o : Option Text) → KeyTold view old ms e r → r ≡ gave o s.position → s ≡ with_position old s.position
+    → KeyAt view s ms e o
+key-given view old s ms = part-given shape.Object AMember (key_of view) node_of old s (members_list ms)
+
+pub key-not_refused : (view : Key → Text) (old : ReaderState) (ms : NodeMembers) (e : ℕ) (r : Reply (Option Text))
+    (c : Cause) (x stop : ℕ) → KeyTold view old ms e r → r ≡ refused c x stop → ⊥
+key-not_refused view old ms = part-not_refused shape.Object AMember (key_of view) node_of old (members_list ms)
 
 -- where a key's string is read so
 abbrev pub SeesKeys : Form → (Key → Text) → List ℕ → Type 0
 SeesKeys f view t = (k : Key) (j : ℕ) → SpellsKey t k j → string_at f t k.begin ≡ taken (view k) k.end
 
 module _ (f : Form) (view : Key → Text) (s : ReaderState) (sees : SeesKeys f view s.text) where
-  member-told : (k : Key) (n : Node) (ms : NodeMembers) (e : ℕ) (x : Step) → x ≡ more k.begin
-      → SpellsKey s.text k (begin n) → Spells s.names s.text n → nesting n ≤ nesting_limit
-      → nesting_of_members ms ≤ nesting_limit → SpellsMoreMembers s.names s.text (end n) ms e
-      → TellsOf view s (member k n ms) e (member_reply f s.text x)
-  member-told k n ms e x is key v limit rest left =
-      let quiet = quiet-before s.names s.text ms (end n) e left in
-      let m = meets s.names s.text k n key v limit quiet in (
-        m.behind,
-        ap (member_reply f s.text) is ∙ ap (key_reply s.text k.begin) (sees k (begin n) key)
-            ∙ ap (colon_reply (view k)) m.colon_taken,
-        record { place = m.place; spelled = v; limit = limit; quiet = quiet },
-        record { spelled = left; limit = rest },
-      )
+  member-meets : (i : ℕ) (m : Key × Node) (e : ℕ) → AMember s.names s.text i m e
+      → MeetsPart s (λ j. key_reply s.text j (string_at f s.text j)) (view m.0) m.1 i e
+  member-meets i m e h =
+      let value = h.value in
+      record {
+        behind = h.key.colon;
+        is = ap (λ j. key_reply s.text j (string_at f s.text j)) (sym h.begins)
+            ∙ ap (key_reply s.text m.0.begin) (sees m.0 (begin m.1) h.key)
+            ∙ ap (colon_reply (view m.0)) (colon-taken s.text m.0 (begin m.1) h.key);
+        comes = comes-there s m.1 h.key.colon value.spelled value.limit
+            (subst (EndsNumber s.text) (sym value.ends) value.quiet)
+            (place-behind s.names s.text m.1 value.spelled h.key.colon h.key.blanks);
+        ends = value.ends;
+      }
 
   -- An object that comes next: its first key, or its end.
-  pub object-tells : (b e : ℕ) (ms : NodeMembers) → ComesNext s (object b e ms)
-      → TellsOf view s ms e (next s (object_read f s))
-  object-tells b e no_members h =
-      next-reads s (object b e no_members) h (object_read f s)
-      ∙ ap (member_reply f s.text) (empty s.names s.text (b + 1) e h.spelled.1)
-  object-tells b e (member k n ms) h =
-      let is = next-reads s (object b e (member k n ms)) h (object_read f s) in
-      let all = h.spelled.1 in
-      subst (TellsOf view s (member k n ms) e) (sym is)
-      (member-told k n ms e (step s.text object_first (b + 1)) (opens s.names s.text (b + 1) k n ms e all) all.1 all.2
-      (omega (arith, h.limit)) (omega (arith, h.limit)) all.3)
+  pub object-tells : (b e : ℕ) (ms : NodeMembers) → StandsNext s (object b e ms)
+      → KeyTold view s ms e (next s (object_read f s))
+  object-tells b e ms h =
+      subst (KeyTold view s ms e) (sym (next-reads s (object b e ms) h (object_read f s)))
+      (first-tells shape.Object AMember (key_of view) node_of s _ member-meets (members_list ms) (b + 1) e
+      (members-parts s.names s.text nesting_limit ms (b + 1) e h.spelled.1 h.limit))
 
   -- Behind a member: the next key, or the object's end.
-  pub key-tells : (ms : NodeMembers) (e : ℕ) → MembersLeft s ms e → TellsOf view s ms e (key_step f s)
-  key-tells no_members e h = ap (member_reply f s.text) (ends-object s.names s.text s.position e h.spelled)
-  key-tells (member k n ms) e h =
-      let all = h.spelled in
-      member-told k n ms e (step s.text (object_step s.text) s.position)
-      (goes-on s.names s.text s.position k n ms e all) all.3 all.4 (omega (arith, h.limit)) (omega
-      (arith, h.limit)) all.5
+  pub key-tells : (ms : NodeMembers) (e : ℕ) → MembersLeft s ms e → KeyTold view s ms e (key_step f s)
+  key-tells ms = next-tells shape.Object AMember (key_of view) node_of s _ member-meets (members_list ms)
 
 -- a key as it stands between its quotes, and decoded
 abbrev pub raw_key : List ℕ → Key → Text
@@ -129,40 +284,6 @@ sees-whole t k j s = string_at-complete t k.begin k.end k.pieces s.string
 
 pub sees-raw : (t : List ℕ) → SeesKeys raw (raw_key t) t
 sees-raw t k j s = raw-whole t k.begin k.end _ (sees-whole t k j s)
-
--- what such a call gave, and where it left the reader
-abbrev pub KeyAt : (Key → Text) → ReaderState → NodeMembers → ℕ → Option Text → Type 0
-KeyAt view s no_members e None = s.position ≡ e
-KeyAt view s (member k n ms) e (Some x) = (x ≡ view k) × ComesNext s n × MembersLeft (with_position s (end n)) ms e
-KeyAt view s ms e o = ⊥
-
-some-is : (x y : Text) → Some x ≡ Some y → x ≡ y
-some-is x y h = cc
-
-pub gave-is : {A : Type 0} (a b : A) (i j : ℕ) → gave a i ≡ gave b j → (a ≡ b) × (i ≡ j)
-gave-is a b i j h = (cc, cc)
-
-pub key-given : (view : Key → Text) (old s : ReaderState) (ms : NodeMembers) (e : ℕ) (r : Reply (Option Text))
-    (o : Option Text) → TellsOf view old ms e r → r ≡ gave o s.position → s ≡ with_position old s.position
-    → KeyAt view s ms e o
-key-given view old s no_members e r None told is same = sym (gave-is None None e s.position (sym told ∙ is)).1
-key-given view old s no_members e r (Some x) told is same =
-    absurd (none-some _ (gave-is None (Some x) e s.position (sym told ∙ is)).0)
-key-given view old s (member k n ms) e r None told is same =
-    absurd (none-some _ (sym (gave-is (Some (view k)) None told.0 s.position (sym told.1 ∙ is)).0))
-key-given view old s (member k n ms) e r (Some x) told is same =
-    let both = gave-is (Some (view k)) (Some x) told.0 s.position (sym told.1 ∙ is) in
-    let here : with_position old told.0 ≡ s = ap (with_position old) both.1 ∙ sym same in (
-      some-is x (view k) (sym both.0),
-      subst (λ (v : ReaderState). ComesNext v n) here told.2,
-      subst (λ (v : ReaderState). MembersLeft (with_position v (end n)) ms e) here told.3,
-    )
-
--- Such a call is not refused.
-pub key-not_refused : (view : Key → Text) (old : ReaderState) (ms : NodeMembers) (e : ℕ) (r : Reply (Option Text))
-    (c : Cause) (x stop : ℕ) → TellsOf view old ms e r → r ≡ refused c x stop → ⊥
-key-not_refused view old no_members e r c x stop told is = gave-refused (sym told ∙ is)
-key-not_refused view old (member k n ms) e r c x stop told is = gave-refused (sym told.1 ∙ is)
 
 -- no object
 abbrev pub IsNoObject : Node → Type 0
@@ -194,3 +315,17 @@ pub key-ahead : (f : Form) (s : ReaderState) (o : Option Text) (i : ℕ) → s.p
     → key_step f s ≡ gave o i → s.position < i
 key-ahead f s o i within is =
     step-behind f s.text o i s.position _ (container_step-ahead s.text shape.Object s.position within) is
+
+-- Behind a skip too.
+pub skip-ahead : (s : ReaderState) (e : ℕ) → next s (skip_read s) ≡ gave tt e → s.position < e
+skip-ahead s e is = by (slice_get s.text (value_place s)) refl is where
+  passed : (x : Reading (Unit {0})) → Within s.text (value_place s) x → value_reply x ≡ gave tt e → s.position < e
+  passed (done u m) h same = omega (arith, h.0, (gave-is _ _ m e same).1, past_blanks-after s.text s.position)
+  passed (fault k i stop) h same = absurd (gave-refused (sym same))
+
+  by : (o : Option ℕ) → slice_get s.text (value_place s) ≡ o
+      → if_byte (value_place s) o (λ c. skip_read s (value_place s) (start_of c)) ≡ gave tt e → s.position < e
+  by None there same = absurd (gave-refused (sym same))
+  by (Some c) there same =
+      passed (skip_at s.names s.text (value_place s))
+      (skip_at-within s.text s.names (value_place s) (slice_get_within s.text (value_place s) c there)) same

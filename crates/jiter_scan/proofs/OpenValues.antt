@@ -1,8 +1,8 @@
 -- The value of a number that was read byte by byte.
 use Rattle.std.proofs.Common.{◌≡◌, ◌≢◌, ◌⊎◌, inl, inr, ℕ, ◌-◌, ◌^◌, ◌<◌, ◌≤◌, ◌==◌, Bool, true, false, List, [], ◌∷◌}
 use Rattle.std.proofs.Common.{◌++◌}
-use Rattle.std.proofs.Common.{append_assoc, append-nil, length, refl, sym, ap, subst, ◌∙◌, arith, nat_le, nat_lt, ℤ}
-use Rattle.std.specs.Prelude.{slice_get, slice_range, Option, Some, None, IfSome, if◌then◌else◌}
+use Rattle.std.proofs.Common.{append_assoc, append-nil, length, length-append, refl, sym, ap, subst, ◌∙◌, arith, nat_le, nat_lt, ℤ}
+use Rattle.std.specs.Prelude.{codes, slice_get, slice_range, Option, Some, None, IfSome, if◌then◌else◌}
 use Rattle.std.specs.List.{list_any}
 use Rattle.std.proofs.Math.Nat.{pow-le-pow_right}
 use Rattle.std.proofs.lemmas.List.{take_all}
@@ -10,21 +10,27 @@ use Rattle.std.proofs.lemmas.Bool.{cases_lt, false≢true}
 use Rattle.jiter_scan.specs.Digits.{is_digit, decimal_of}
 use Rattle.jiter_scan.specs.Number.{Number, integer, big, float, is_float_byte, is_integral, integral_value}
 use Rattle.jiter_scan.specs.Number.{number_value}
-use Rattle.jiter_scan.specs.Number.{IsMinus, IsIntPart, IsDecimal, IsNumberText, positive_value, negative_value}
+use Rattle.jiter_scan.specs.Number.{IsName, IsMinus, IsIntPart, IsDecimal, IsNumberText, positive_value, negative_value}
 use Rattle.jiter_scan.specs.NumberDecoder.{magnitude_of}
-use Rattle.jiter_scan.specs.NumberReading.{extent_then, behind_zero, fraction_from, exponent_from, exponent_at}
+use Rattle.jiter_scan.specs.Kind.{invalid_number}
+use Rattle.jiter_scan.specs.NumberReading.{extent_then, behind_minus, behind_zero, fraction_from, exponent_from, exponent_at}
 use Rattle.jiter_scan.specs.NumberReading.{number_extent, number_at, with_value}
 use Rattle.jiter_scan.specs.OpenNumber.{number_from, tail_at, is_whole, is_int_stage, IsBegun, int_of}
-use Rattle.jiter_scan.specs.Scanned.{taken}
+use Rattle.jiter_scan.specs.Scanned.{taken, failed}
+use Rattle.jiter_scan.specs.Stands.{Stands}
+use Rattle.jiter_scan.specs.Word.{word_at}
 use Rattle.jiter_scan.specs.declared.open_number.Stage.{Stage}
 use Rattle.jiter_scan.specs.declared.open_number.Stage.TheVariants as stage
-use Rattle.jiter_scan.proofs.Choices.{if-true, if-false, if_case}
+use Rattle.jiter_scan.proofs.Choices.{if-true, if-false, if_case, failed-taken}
 use Rattle.jiter_scan.proofs.Digits.{digit-bounds, decimal_of-above}
 use Rattle.jiter_scan.proofs.NumberBytes.{number-not_empty}
+use Rattle.jiter_scan.proofs.NumberComplete.{continues_number, number_extent-complete}
 use Rattle.jiter_scan.proofs.NumberSound.{number_extent-sound}
 use Rattle.jiter_scan.proofs.NumberValues.{number_value-digits, number_value-minus, Tail, no_tail, a_tail, tail}
 use Rattle.jiter_scan.proofs.NumberValues.{any-float}
-use Rattle.jiter_scan.proofs.OpenNumbers.{run-ended, digits-ended, fraction-ended}
+use Rattle.jiter_scan.proofs.Standing.{stands-length, stands-slice, stands-split}
+use Rattle.jiter_scan.proofs.WordLaws.{word_at-complete}
+use Rattle.jiter_scan.proofs.OpenNumbers.{get-behind, run-ended, digits-ended, fraction-ended}
 
 -- ---- integers of many digits
 above-zero : (c : ℕ) (w : List ℕ) → is_digit c ≡ true → (w ≡ []) ⊎ (c ≢ 48) → 20 ≤ length (c ∷ w) → 48 < c
@@ -162,3 +168,59 @@ module _ (w : List ℕ) (s : Stage) (begun : IsBegun w s) (whole : is_whole s �
     pub begun-answer : (r : Option ℤ) → r ≡ int_of (number_at false w 0) → IfSome r (λ n. number_value w ≡ integer n)
     begun-answer None h = tt
     begun-answer (Some n) h = begun-int n (sym h)
+
+-- ---- behind its minus
+-- the last bytes stand behind the others
+stands-last : (w u : List ℕ) → Stands (w ++ u) (length w) (length (w ++ u)) u
+stands-last w u =
+    let t = w ++ u in
+    let all : Stands t 0 (length t) t =
+    subst (Stands t 0 (length t)) (whole-range t) (stands-slice t 0 (length t) (omega arith) (omega arith)) in
+    let r = stands-split t 0 (length t) w u all in
+    let place : r.0 ≡ length w = omega (arith, stands-length t 0 r.0 w r.1) in
+    subst (λ j. Stands t j (length t) u) place r.2
+
+-- a minus alone stands before `Infinity`
+minus-alone : (w : List ℕ) → 0 < length w → IsName (w ++ codes "Infinity") → w ≡ 45 ∷ []
+minus-alone w some (inl e) = absurd (omega (arith, ap length e, length-append w (codes "Infinity")))
+minus-alone w some (inr (inl e)) = absurd (omega (arith, ap length e, length-append w (codes "Infinity")))
+minus-alone [] some (inr (inr e)) = absurd (omega (arith, some))
+minus-alone (c ∷ []) some (inr (inr e)) = let same : c ≡ 45 = cc in ap (λ x. x ∷ []) same
+minus-alone (c ∷ d ∷ w) some (inr (inr e)) = absurd (omega (arith, ap length e, length-append w (codes "Infinity")))
+
+module _ (w : List ℕ) (begun : IsBegun w stage.Minus) where
+  abbrev named : List ℕ
+  named = w ++ codes "Infinity"
+
+  named-extent : (names : Bool)
+      → number_extent names named 0
+      ≡ (if names then word_at named (codes "Infinity") (length w) else failed invalid_number (length w))
+  named-extent names =
+      begun.goes names (codes "Infinity")
+      ∙ ap (behind_minus names named (length w)) (get-behind w (codes "nfinity") 73)
+
+  named-read : number_extent true named 0 ≡ taken tt (length named)
+  named-read =
+      named-extent true
+      ∙ word_at-complete named (codes "Infinity") (length w) (length named) (stands-last w (codes "Infinity"))
+
+  -- `Infinity` behind it is no decimal number
+  no-decimal : IsNumberText false named → ⊥
+  no-decimal text =
+      let all : Stands named 0 (length named) named =
+      subst (Stands named 0 (length named)) (whole-range named)
+      (stands-slice named 0 (length named) (omega arith) (omega arith)) in
+      let end : IfSome (slice_get named (length named)) (λ c. continues_number c ≡ false) =
+      subst (λ o. IfSome o (λ c. continues_number c ≡ false)) (sym (nothing-behind named)) tt in
+      failed-taken invalid_number (length w) tt (length named)
+      (sym (named-extent false) ∙ number_extent-complete named false 0 (length named) named all text end)
+
+  minus-by : 0 < length w → IsNumberText true named → w ≡ 45 ∷ []
+  minus-by some (inl d) = absurd (no-decimal (inl d))
+  minus-by some (inr h) = minus-alone w some h.1
+
+  -- a number that has come no further than behind its minus has that one byte
+  pub begun-minus : 0 < length w → w ≡ 45 ∷ []
+  begun-minus some =
+      minus-by some
+      (subst (IsNumberText true) (whole-range named) (number_extent-sound named true 0 (length named) named-read))

@@ -82,9 +82,12 @@ is_int_stage s = false
 abbrev pub at_end : Bool → ℕ → Extent
 at_end whole j = if whole then taken tt j else failed eof_value j
 
--- a byte that is taken is one below 80 hex, and shows a float where the stage says so
+-- A byte that is taken is one below 80 hex, and shows a float where the stage says so. Only a whole number ends, and
+-- only behind a minus a name begins, with its `I`.
 abbrev pub Fits : Stage → ℕ → Went → Type 0
 Fits s b (went.Taken new) = (b < 128) × (is_int_stage new ≡ (is_int_stage s && not (is_float_byte b)))
+Fits s b went.Over = is_whole s ≡ true
+Fits s b went.Named = (s ≡ stage.Minus) × (b ≡ ascii.capital_i)
 Fits s b w = Unit {0}
 
 -- a first byte of a decimal number

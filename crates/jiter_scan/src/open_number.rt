@@ -117,7 +117,7 @@ fn behind_minus(byte: u8) -> Went
 fn behind_fraction(byte: u8) -> Went
     ensures leads { (names : Bool) (t : List ℕ) (j : ℕ) → slice_get t j ≡ Some byte
         → exponent_at t j ≡ number_by names t j result }
-    ensures fits { (s : Stage) → Fits s byte result }
+    ensures fits { (s : Stage) → is_whole s ≡ true → Fits s byte result }
 {
     if byte == b'e' || byte == b'E' {
         Went::Taken(Stage::Letter)
@@ -130,7 +130,7 @@ fn behind_fraction(byte: u8) -> Went
 fn behind_int_part(byte: u8) -> Went
     ensures leads { (names : Bool) (t : List ℕ) (j : ℕ) → slice_get t j ≡ Some byte
         → tail_at t j ≡ number_by names t j result }
-    ensures fits { (s : Stage) → Fits s byte result }
+    ensures fits { (s : Stage) → is_whole s ≡ true → Fits s byte result }
 {
     if byte == b'.' {
         Went::Taken(Stage::Point)
@@ -295,6 +295,7 @@ impl OpenNumber {
     /// changes.
     pub fn next(&mut self, byte: u8) -> Result<Went, Refused>
         ensures leads { IfOk result (Leads self.old.stage byte) }
+        ensures fits { IfOk result (Fits self.old.stage byte) }
         ensures stage { IfOk result (λ went. self.new.stage ≡ stage_after self.old.stage went) }
         ensures text { IfOk result (λ went.
             string_bytes self.new.text ≡ bytes_after (string_bytes self.old.text) byte went) }

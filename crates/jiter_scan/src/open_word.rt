@@ -24,13 +24,13 @@ pub struct OpenWord {
 }
 
 impl OpenWord {
-    /// The word, of which no byte was seen.
-    pub fn new(word: &'static [u8]) -> OpenWord
-        requires { 0 < length word.now }
+    /// The word, of which the first byte was seen.
+    pub fn begun(word: &'static [u8]) -> OpenWord
+        requires { 1 < length word.now }
         ensures word { result.word.now ≡ word.now }
-        ensures seen { result.seen ≡ 0 }
+        ensures seen { result.seen ≡ 1 }
     {
-        OpenWord { word, seen: 0 }
+        OpenWord { word, seen: 1 }
     }
 
     /// Takes the next byte, if it is the word's, and says what it is.

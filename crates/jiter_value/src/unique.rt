@@ -75,7 +75,7 @@ impl<'j> JsonValue<'j> {
     /// its object has already is refused, in every mode, at the byte behind its colon: before the value and the
     /// blanks before it are looked at. The key's own faults and a missing colon come first.
     ///
-    /// From its seventeenth member on the keys of an object go into an ordered set, which takes memory.
+    /// Behind its thirty-third member the keys of an object go into a set, which takes memory.
     pub fn parse_unique(
         alloc: Global,
         bytes: &'j [u8],

@@ -221,7 +221,7 @@ fn is_read(alloc: Global, count: usize) -> Result<bool, Fail> {
 
 #[test]
 fn a_key_is_found_wherever_it_stood(rt: HostRuntime) -> Result<(), Fail> {
-    const ROWS: [(usize, &str); 19] = [
+    const ROWS: [(usize, &str); 24] = [
         (0, "0"),
         (7, "k6"),
         (7, "0"),
@@ -239,6 +239,11 @@ fn a_key_is_found_wherever_it_stood(rt: HostRuntime) -> Result<(), Fail> {
         (32, "0"),
         (32, "k31"),
         (40, "k7"),
+        (62, "0"),
+        (63, "k62"),
+        (64, "k0"),
+        (254, "k253"),
+        (255, "k8"),
         (300, "k299"),
         (1000, "0"),
     ];
@@ -255,6 +260,40 @@ fn a_key_is_found_wherever_it_stood(rt: HostRuntime) -> Result<(), Fail> {
 #[test]
 fn the_first_of_a_hundred_thousand_keys_is_found(rt: HostRuntime) -> Result<(), Fail> {
     assert!(rt; is_repeat(rt.alloc(), 99998, "0")?);
+    Ok(())
+}
+
+// So many keys that differ in their first bytes alone, as an object but for its last bracket.
+fn of_one_ending(alloc: Global, count: usize) -> Result<String, AllocError> {
+    let mut source = String::from_str(alloc, "{\"\":0")?;
+    for i in 0..count {
+        let digits = i.to_string(alloc)?;
+        source.push_str(",\"")?;
+        source.push_str(digits.as_str())?;
+        source.push_str(ENDING)?;
+        source.push_str("\":0")?;
+    }
+    Ok(source)
+}
+
+const ENDING: &str = "-and-this-is-what-all-keys-end-with";
+
+#[test]
+fn keys_of_one_ending_are_told_apart(rt: HostRuntime) -> Result<(), Fail> {
+    let alloc = rt.alloc();
+    let mut whole = of_one_ending(alloc, 300)?;
+    whole.push_str("}")?;
+    let read = JsonValue::parse_unique(alloc, whole.as_bytes(), false, PartialMode::Off);
+    assert!(rt; read.is_ok());
+    for digits in ["0", "7", "8", "62", "254", "299"] {
+        let key = format!(in alloc; "{digits}{ENDING}")?;
+        let source = format!(in alloc; "{},\"{key}\":0}}", of_one_ending(alloc, 300)?)?;
+        let error = error_of(alloc, source.as_bytes(), PartialMode::Off)?;
+        assert!(rt;
+            matches!(&error.error_type, UniqueErrorType::DuplicateKey(text) if text.as_str() == key.as_str()),
+            "{digits}"
+        );
+    }
     Ok(())
 }
 

@@ -1,14 +1,16 @@
-//! The keys of open objects with many members, those of each object in an ordered set: in few steps it tells that a
-//! key is new.
-ghost use Rattle.std.specs.Prelude.{◌≡◌, ◌+◌, ◌≤◌, ◌∷◌, ◌++◌, [], All, IfOk, OnOk, drop, false, length, true, vec_len};
+//! The keys of open objects with many members, those of each object in buckets: in few steps they tell that a key is
+//! new. What a bucket has no room for goes into an ordered set, so that no keys make this slow.
+ghost use Rattle.std.specs.Prelude.{◌≡◌, ◌+◌, ◌^◌, ◌≤◌, ◌<◌, ◌∷◌, ◌++◌, [], All, IfOk, OnOk, drop, false, length, true};
+ghost use Rattle.std.specs.Prelude.{vec_len};
 ghost use Rattle.jiter_steps.specs.StringDecoder.{text_view};
-ghost use Rattle.jiter_value.specs.KeySets.{HasKeys, IsUpToDate};
+ghost use Rattle.jiter_value.specs.KeySets.{Adds, HasKeys, IsNoKeyOf, IsNowhere, IsPlaceOf, IsUpToDate};
+ghost use Rattle.jiter_value.specs.KeySets.{bucket_of, has_text, mark_of};
 ghost use Rattle.jiter_value.specs.Stacks.{keys_of};
 ghost use Rattle.jiter_value.specs.UniqueKeys.{has_key};
 
 use crate::copies::copy_cow;
 use crate::value::JsonValue;
-use jiter_scan::memory::{Refused, insert, push};
+use jiter_scan::memory::{Refused, insert, push, with_capacity};
 use std::alloc::Global;
 use std::borrow::CowStr;
 use std::collections::BTreeSet;
@@ -20,9 +22,32 @@ pub struct KeySet<'s> {
     pub base: usize,
     /// How many lie below the first of its own whose key is not in the set yet.
     pub end: usize,
-    /// The keys, in order.
-    pub texts: BTreeSet<CowStr<'s>>,
+    /// Buckets of eight slots, filled from the left. A slot has how many members lie up to and with one, or 0.
+    pub slots: Vec<usize>,
+    /// The keys whose bucket was full, in order.
+    pub rest: BTreeSet<CowStr<'s>>,
 }
+
+/// Where a key belongs among the slots.
+#[derive(Clone, Copy)]
+pub struct Place {
+    /// The first slot of its bucket.
+    pub bucket: usize,
+    /// The first slot there with no member, or the bucket's end.
+    pub at: usize,
+}
+
+// How many slots a bucket has.
+const WIDTH: usize = 8;
+
+// How many slots a set has at first.
+const FIRST: usize = 128;
+
+// How many of its last bytes a key's mark is made of.
+const MARKED: usize = 32;
+
+// An odd number whose bits look like chance.
+const ODD: u64 = 0x9e37_79b9_7f4a_7c15;
 
 /// Lets go the sets of objects that are closed: they end behind the last member.
 #[inline(always)]
@@ -38,6 +63,126 @@ pub fn forget_closed(sets: &mut Vec<KeySet<'_>>, members: &Vec<(CowStr<'_>, Json
     }
 }
 
+// So many slots with no member.
+fn no_members(alloc: Global, count: usize) -> Result<Vec<usize>, Refused>
+    ensures { IfOk result (λ slots. vec_len slots ≡ count) }
+{
+    let mut slots = with_capacity(alloc, count)?;
+    match slots.resize(count, 0) {
+        Ok(()) => Ok(slots),
+        Err(_) => unreachable!(),
+    }
+}
+
+// The mark of a key, by which its bucket is chosen.
+fn mark_of(key: &str) -> u64
+    ensures { result ≡ mark_of key.now }
+{
+    let bytes = key.as_bytes();
+    let mut mark: u64 = 0;
+    for i in bytes.len().saturating_sub(MARKED)..bytes.len() {
+        mark = mark.wrapping_add(bytes[i] as u64).wrapping_mul(ODD);
+    }
+    mark
+}
+
+// The first slot of a key's bucket, among so many slots.
+fn bucket_of(key: &str, count: usize) -> usize
+    requires { 8 ≤ count }
+    ensures value { result ≡ bucket_of key.now count }
+    ensures within { result + 8 ≤ count }
+{
+    let high = (mark_of(key) / 0x1_0000_0000) as usize;
+    high % (count / WIDTH) * WIDTH
+}
+
+// Where a key belongs.
+fn place_of(slots: &Vec<usize>, key: &str) -> Place
+    requires { 8 ≤ vec_len slots.now }
+    ensures { IsPlaceOf slots.now.items key.now result }
+{
+    let bucket = bucket_of(key, slots.len());
+    let end = bucket + WIDTH;
+    for at in bucket..end {
+        if slots[at] == 0 {
+            return Place { bucket, at };
+        }
+    }
+    Place { bucket, at: end }
+}
+
+// Whether the member up to and with which so many lie has this key.
+fn is_key_of(members: &Vec<(CowStr<'_>, JsonValue<'_>)>, number: usize, key: &str) -> bool
+    ensures { result ≡ false → IsNoKeyOf (keys_of members.now.items) number key.now }
+{
+    if number == 0 || members.len() < number {
+        return false;
+    }
+    key == members[number - 1].0.as_str()
+}
+
+// Whether a member that a bucket's slots name has this key.
+fn is_named(
+    members: &Vec<(CowStr<'_>, JsonValue<'_>)>,
+    slots: &Vec<usize>,
+    place: Place,
+    key: &str,
+) -> bool
+    requires { place.at ≤ vec_len slots.now }
+    ensures { result ≡ false → IsNowhere (keys_of members.now.items) slots.now.items place key.now }
+{
+    for i in place.bucket..place.at {
+        if is_key_of(members, slots[i], key) {
+            return true;
+        }
+    }
+    false
+}
+
+// The key of the member at the set's end goes where it belongs: whether it is new among the rest, if it goes there.
+fn put<'s>(
+    alloc: Global,
+    set: &mut KeySet<'s>,
+    place: Place,
+    key: &CowStr<'s>,
+) -> Result<bool, Refused>
+    requires end { set.old.end < 2 ^ 63 }
+    requires place { IsPlaceOf set.old.slots.items (text_view key.now).bytes place }
+    ensures base { set.new.base ≡ set.old.base }
+    ensures adds { OnOk result (Adds (text_view key.now).bytes set.old set.new) }
+    ensures new { IfOk result (λ new. new ≡ true → place.at ≡ place.bucket + 8
+        → has_text set.old.rest (text_view key.now).bytes ≡ false) }
+{
+    if place.at < place.bucket + WIDTH {
+        set.end += 1;
+        set.slots[place.at] = set.end;
+        return Ok(true);
+    }
+    let copy = copy_cow(alloc, key)?;
+    let new = insert(&mut set.rest, copy)?;
+    set.end += 1;
+    Ok(new)
+}
+
+// A set that is half full with the members that there are begins anew, with four times the slots.
+fn widen<'s>(
+    alloc: Global,
+    set: &mut KeySet<'s>,
+    members: &Vec<(CowStr<'s>, JsonValue<'s>)>,
+) -> Result<(), Refused>
+    requires { IsUpToDate (keys_of members.now.items) set.old }
+    ensures keys { OnOk result (IsUpToDate (keys_of members.now.items) set.new) }
+    ensures base { set.new.base ≡ set.old.base }
+{
+    let count = set.slots.len();
+    if members.len() - set.base < count / 2 {
+        return Ok(());
+    }
+    set.slots = no_members(alloc, count.saturating_mul(4))?;
+    set.end = set.base;
+    Ok(())
+}
+
 // The keys of the members that are not in their object's set yet go there.
 fn catch_up<'s>(
     alloc: Global,
@@ -50,9 +195,9 @@ fn catch_up<'s>(
     ensures end { OnOk result (set.new.end ≡ vec_len members.now) }
 {
     for i in set.end..members.len() {
-        let key = copy_cow(alloc, &members[i].0)?;
-        insert(&mut set.texts, key)?;
-        set.end = i + 1;
+        let key = &members[i].0;
+        let place = place_of(&set.slots, key.as_str());
+        put(alloc, set, place, key)?;
     }
     Ok(())
 }
@@ -62,18 +207,21 @@ fn add_key<'s>(
     alloc: Global,
     set: &mut KeySet<'s>,
     members: &Vec<(CowStr<'s>, JsonValue<'s>)>,
-    key: CowStr<'s>,
+    key: &CowStr<'s>,
 ) -> Result<bool, Refused>
     requires { IsUpToDate (keys_of members.now.items) set.old }
     ensures keys { OnOk result
-        (IsUpToDate (keys_of members.now.items ++ (text_view key.entry).bytes ∷ []) set.new) }
+        (IsUpToDate (keys_of members.now.items ++ (text_view key.now).bytes ∷ []) set.new) }
     ensures new { IfOk result (λ new. new ≡ true
-        → has_key (text_view key.entry).bytes (drop set.old.base members.now.items) ≡ false) }
+        → has_key (text_view key.now).bytes (drop set.old.base members.now.items) ≡ false) }
 {
+    widen(alloc, set, members)?;
     catch_up(alloc, set, members)?;
-    let new = insert(&mut set.texts, key)?;
-    set.end += 1;
-    Ok(new)
+    let place = place_of(&set.slots, key.as_str());
+    if is_named(members, &set.slots, place, key.as_str()) {
+        return Ok(false);
+    }
+    put(alloc, set, place, key)
 }
 
 /// The key that is read next goes into the set of the object whose members begin at `base`, which is the last set if
@@ -83,14 +231,14 @@ pub fn is_new_key<'s>(
     sets: &mut Vec<KeySet<'s>>,
     members: &Vec<(CowStr<'s>, JsonValue<'s>)>,
     base: usize,
-    key: CowStr<'s>,
+    key: &CowStr<'s>,
 ) -> Result<bool, Refused>
     requires within { base ≤ vec_len members.now }
     requires sets { All (IsUpToDate (keys_of members.now.items)) sets.old.items }
     ensures sets { OnOk result
-        (All (IsUpToDate (keys_of members.now.items ++ (text_view key.entry).bytes ∷ [])) sets.new.items) }
+        (All (IsUpToDate (keys_of members.now.items ++ (text_view key.now).bytes ∷ [])) sets.new.items) }
     ensures new { IfOk result (λ new. new ≡ true
-        → has_key (text_view key.entry).bytes (drop base members.now.items) ≡ false) }
+        → has_key (text_view key.now).bytes (drop base members.now.items) ≡ false) }
 {
     let count = sets.len();
     if count > 0 && sets[count - 1].base == base {
@@ -99,7 +247,8 @@ pub fn is_new_key<'s>(
     let mut set = KeySet {
         base,
         end: base,
-        texts: BTreeSet::new(alloc),
+        slots: no_members(alloc, FIRST)?,
+        rest: BTreeSet::new(alloc),
     };
     let new = add_key(alloc, &mut set, members, key)?;
     push(sets, set)?;

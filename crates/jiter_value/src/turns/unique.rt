@@ -1,5 +1,6 @@
 //! Turns that refuse a key which its object has already.
-ghost use Rattle.std.specs.Prelude.{◌≡◌, ◌+◌, ◌≤◌, ◌<◌, [], All, IfOk, IfSome, None, OnOk, drop, length, reverse, true};
+ghost use Rattle.std.specs.Prelude.{◌≡◌, ◌+◌, ◌≤◌, ◌<◌, [], All, IfOk, IfSome, None, OnOk, drop, false, length, reverse, true};
+ghost use Rattle.std.specs.Prelude.{vec_len};
 ghost use Rattle.std.specs.Option.{option_map};
 ghost use Rattle.std.specs.Str.{bytes_eq};
 ghost use Rattle.jiter_steps.specs.Node.{nesting_limit};
@@ -59,12 +60,29 @@ fn innermost_base(nest: &SmallVec<Open, 8>) -> usize
     opens[opens.len() - 1].base
 }
 
-// Whether two texts of one length are the same: few keys of an object have the length of another.
+// Whether two texts begin with the same byte, or one of them is empty.
+#[inline(always)]
+fn begin_alike(one: &str, other: &str) -> bool
+    ensures { result ≡ false → bytes_eq one.now other.now ≡ false }
+{
+    let one = one.as_bytes();
+    let other = other.as_bytes();
+    one.is_empty() || other.is_empty() || one[0] == other[0]
+}
+
 #[inline(never)]
-fn is_same(one: &str, other: &str) -> bool
+fn is_equal(one: &str, other: &str) -> bool
     ensures { result ≡ bytes_eq one.now other.now }
 {
     one == other
+}
+
+// Whether two texts are the same: few keys of one length begin with the same byte.
+#[inline(always)]
+fn is_same(one: &str, other: &str) -> bool
+    ensures { result ≡ bytes_eq one.now other.now }
+{
+    begin_alike(one, other) && is_equal(one, other)
 }
 
 // Whether one of the members from `base` on has this key.
@@ -154,7 +172,42 @@ fn find_repeat(
 // Up to so many members of an object have their keys compared where they lie.
 const FEW: usize = 32;
 
-// Whether the innermost object has more members, and the key at `at` is new in the set of their keys, where it goes.
+// Whether the key at `at` is new in the set of the keys of the innermost object, where it goes.
+#[cold]
+#[inline(never)]
+fn is_new_where_kept<'s>(
+    alloc: Global,
+    texts: Distinct<'s>,
+    tape: &mut Vec<u8>,
+    sets: &mut Vec<KeySet<'s>>,
+    stacks: &Stacks<'s>,
+    bytes: &[u8],
+    base: usize,
+    at: usize,
+) -> Result<bool, Refused>
+    requires texts { texts.bytes.now ≡ bytes.now }
+    requires stands { StandsAtKey stacks.now }
+    requires base { base ≡ innermost_base (reverse stacks.now.nest.items) }
+    requires begun { base ≤ vec_len stacks.now.members }
+    requires within { at < length bytes.now }
+    requires sets { All (IsUpToDate (keys_of stacks.now.members.items)) sets.old.items }
+    ensures sets { OnOk result
+        (All (IsUpToDate (keys_then lent_unique bytes.now stacks.now.members.items State.Key at)) sets.new.items) }
+    ensures free { IfOk result (λ new. new ≡ true → IsFree lent_unique bytes.now stacks.now at) }
+{
+    let mut parser = Parser { bytes, index: at };
+    match parser.string(alloc, tape, false) {
+        Ok(key) => {
+            let kept = texts.keep(bytes, at + 1, key)?;
+            is_new_key(alloc, sets, &stacks.members, base, &kept)
+        }
+        Err(ReadError::Fault(_)) => Ok(false),
+        Err(ReadError::Memory(refused)) => Err(refused),
+    }
+}
+
+// The same, if the innermost object has more than a few members.
+#[inline(always)]
 fn is_new_in_set<'s>(
     alloc: Global,
     texts: Distinct<'s>,
@@ -177,15 +230,7 @@ fn is_new_in_set<'s>(
     if stacks.members.len() - base <= FEW {
         return Ok(false);
     }
-    let mut parser = Parser { bytes, index: at };
-    match parser.string(alloc, tape, false) {
-        Ok(key) => {
-            let kept = texts.keep(bytes, at + 1, key)?;
-            is_new_key(alloc, sets, &stacks.members, base, kept)
-        }
-        Err(ReadError::Fault(_)) => Ok(false),
-        Err(ReadError::Memory(refused)) => Err(refused),
-    }
+    is_new_where_kept(alloc, texts, tape, sets, stacks, bytes, base, at)
 }
 
 // Why the reading stops before the turn at `at`, and where: its key is repeated, or memory was refused.

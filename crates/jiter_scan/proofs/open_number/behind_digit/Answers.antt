@@ -1,4 +1,4 @@
-use Rattle.std.proofs.Common.{◌+◌, ◌-◌, ◌<◌, ap, sym, ◌∙◌, arith}
+use Rattle.std.proofs.Common.{◌+◌, ◌-◌, ◌<◌, ap, refl, sym, ◌∙◌, arith}
 use Rattle.jiter_scan.specs.Digits.{is_digit, digit_run_end}
 use Rattle.jiter_scan.specs.NumberReading.{extent_then}
 use Rattle.jiter_scan.specs.OpenNumber.{tail_at, within_room}
@@ -15,7 +15,7 @@ returns-else-is_digit-clause-leads c =
     ∙ c.behind_int_part.ensures.leads names t j h
 
 pub returns-else-is_digit-clause-fits : goal.returns-else-is_digit-clause-fits
-returns-else-is_digit-clause-fits c = c.behind_int_part.ensures.fits (stage.Digits c.args.room)
+returns-else-is_digit-clause-fits c = c.behind_int_part.ensures.fits (stage.Digits c.args.room) refl
 
 pub returns-then-room-eq0-clause-leads : goal.returns-then-room-eq0-clause-leads
 returns-then-room-eq0-clause-leads c =

@@ -1,4 +1,4 @@
-use Rattle.std.proofs.Common.{ap, sym, ◌∙◌}
+use Rattle.std.proofs.Common.{ap, refl, sym, ◌∙◌}
 use Rattle.jiter_scan.specs.NumberReading.{exponent_at}
 use Rattle.jiter_scan.specs.declared.open_number.Stage.TheVariants as stage
 use Rattle.jiter_scan.proofs.OpenNumbers.{run-on, run-over}
@@ -15,4 +15,4 @@ returns-else-is_digit-clause-leads c =
     ∙ c.behind_fraction.ensures.leads names t j h
 
 pub returns-else-is_digit-clause-fits : goal.returns-else-is_digit-clause-fits
-returns-else-is_digit-clause-fits c = c.behind_fraction.ensures.fits stage.Fraction
+returns-else-is_digit-clause-fits c = c.behind_fraction.ensures.fits stage.Fraction refl

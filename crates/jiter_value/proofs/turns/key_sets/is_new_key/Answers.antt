@@ -11,7 +11,7 @@ use Rattle.jiter_value.proofs.turns.key_sets.is_new_key.Goals as goal
 pub returns-then-index-base-clause-sets : goal.returns-then-index-base-clause-sets
 returns-then-index-base-clause-sets c =
     let ks = keys_of c.args.members.now.items in
-    let more = (text_view c.args.key).bytes ∷ [] in
+    let more = (text_view c.args.key.now).bytes ∷ [] in
     let sets = c.args.sets.now.items in
     on_ok_weaker c.add_key.result
     (λ up. All-set (IsUpToDate (ks ++ more)) sets (c.len-count.result - 1) c.add_key.new.set up
@@ -21,7 +21,7 @@ returns-then-index-base-clause-sets c =
 pub returns-clause-sets : goal.returns-clause-sets
 returns-clause-sets c =
     let ks = keys_of c.args.members.now.items in
-    let more = (text_view c.args.key).bytes ∷ [] in
+    let more = (text_view c.args.key.now).bytes ∷ [] in
     let sets = c.args.sets.now.items in
     subst (All (IsUpToDate (ks ++ more))) (sym c.in_ok-push.ensures.ok)
     (All-push (IsUpToDate (ks ++ more)) sets c.add_key-2.new.set (more-all ks more sets c.requires.sets)

@@ -1,0 +1,13 @@
+use Rattle.std.proofs.Common.{◌-◌, ◌≤◌, length}
+use Rattle.std.specs.Prelude.{IfSome, option_map, string_bytes}
+use Rattle.config.proofs.Walk.{WalkAt, seen}
+use Rattle.config.proofs.config.read_config.Given as goal
+
+abbrev pub invariant-loop-next : goal.invariant-loop-next
+invariant-loop-next l = record {
+  walk : WalkAt l.bytes l.jiter l.next (seen (option_map string_bytes l.host) l.port l.debug);
+  port : IfSome l.port (λ p. (1 ≤ p) × (p ≤ 65535));
+}
+
+abbrev pub decreases-loop-next : goal.decreases-loop-next
+decreases-loop-next l = length l.bytes - l.jiter.position

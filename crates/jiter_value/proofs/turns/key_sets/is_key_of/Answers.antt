@@ -1,0 +1,15 @@
+use Rattle.std.proofs.Common.{◌≡◌, ◌∙◌, ◌-◌, ◌<◌, sym, ap, arith, length, get_or}
+use Rattle.std.specs.Str.{bytes_eq}
+use Rattle.std.proofs.lemmas.List.{length-map}
+use Rattle.jiter_steps.specs.StringDecoder.{text_view}
+use Rattle.jiter_value.proofs.KeySets.{key-of}
+use Rattle.jiter_value.proofs.turns.key_sets.is_key_of.Goals as goal
+
+pub returns : goal.returns
+returns c = λ other. λ i n lt.
+    let ms = c.args.members.now.items in
+    let m = c.index.result.now in
+    let few : i < length ms = omega (arith, lt, length-map ms (λ x. (text_view x.0).bytes)) in
+    let at : c.args.number - 1 ≡ i = omega (arith, n) in
+    let is : m ≡ get_or ms i m = c.index.ensures ∙ ap (λ j. get_or ms j m) at in
+    ap (bytes_eq c.args.key.now) (key-of ms i m few is ∙ sym c.as_str.ensures.value) ∙ sym c.eq.ensures ∙ other
