@@ -1,6 +1,6 @@
-use Rattle.std.proofs.Common.{option_map, sym, subst}
+use Rattle.std.proofs.Common.{option_map, refl, sym, subst}
 use Rattle.jiter.specs.Caller.{IsDocument, raw_view}
-use Rattle.filter.proofs.Walk.{WalkAt, end-not_refused, key-refused, less-left, object-not_refused}
+use Rattle.filter.proofs.Walk.{WalkAt, answered, end-not_refused, key-refused, less-left, object-not_refused}
 use Rattle.filter.proofs.Walk.{refused-answer, value-not_refused, walk-begins, walk-goes_on}
 use Rattle.filter.proofs.fields.read_fields.Goals as goal
 
@@ -67,3 +67,8 @@ returns-in_err-finish c =
           refused-answer line c.from_residual-in_err-finish.result _ c.from_residual-in_err-finish.ensures.1 n
           (λ b e ms same. end-not_refused line _ _ inv n d _ _ _ c.in_err-finish.ensures.value);
     }
+
+pub returns : goal.returns
+returns c =
+    let inv = rw c.in_default.is at c.loop-key.invariant in
+    record { document = answered c.args.line.now _ _ inv c.loop-key.fields refl }
