@@ -187,13 +187,13 @@ int main(int count, char **words) {
   } else if (!strcmp(word, "string")) {
     walk_string(&reader, false);
   } else if (!strcmp(word, "count")) {
-    if (given(jiter_count(reader, &items, &fault)))
+    if (given(jiter_count(&reader, &items, &fault)))
       printf("%" PRIu64 " parts", items);
   } else if (!strcmp(word, "item")) {
     if (given(jiter_item(&reader, strtoull(more, NULL, 10), &found, &fault)))
       walk_if(&reader, found, "no item");
   } else if (!strcmp(word, "member")) {
-    if (given(jiter_member(&reader, more, strlen(more), room, length, &found, &fault)))
+    if (given(jiter_member(&reader, (const uint8_t *)more, strlen(more), &found, &fault)))
       walk_if(&reader, found, "no member");
   }
   place(&reader);

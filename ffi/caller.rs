@@ -66,6 +66,11 @@ mod jiter_c {
         pub fn jiter_next_key_bytes(reader: &mut RawReader, more: &mut bool, key: &mut RawText, fault: &mut Fault)
         -> bool;
         pub fn jiter_next_skip(reader: &mut RawReader, fault: &mut Fault) -> bool;
+        pub fn jiter_count(reader: &RawReader, count: &mut u64, fault: &mut Fault) -> bool;
+        pub fn jiter_item(reader: &mut RawReader, number: u64, found: &mut bool, fault: &mut Fault) -> bool;
+        pub fn jiter_member(
+            reader: &mut RawReader, name: *const u8, length: usize, found: &mut bool, fault: &mut Fault,
+        ) -> bool;
         pub fn jiter_finish(reader: &mut RawReader, fault: &mut Fault) -> bool;
         pub fn jiter_describe(
             b: *const u8, n: usize, fault: &Fault, out: *mut u8, room: usize, whole: &mut usize,
@@ -164,46 +169,25 @@ impl<'j> Reader<'j> {
         if raw { self.raw_key(jiter_c::jiter_next_key_bytes) } else { self.key(jiter_c::jiter_next_key) }
     }
 
-    /// How many items or members come, of a copy of the reader.
-    fn count(mut self) -> Answer<u64> {
-        let mut parts = 0;
-        if self.peek()? == 7 {
-            let mut key = self.first_key(true)?;
-            while key.is_some() {
-                parts += 1;
-                self.call(jiter_c::jiter_next_skip)?;
-                key = self.next_key(true)?;
-            }
-        } else {
-            let mut more = self.step(jiter_c::jiter_next_array)?;
-            while more {
-                parts += 1;
-                self.call(jiter_c::jiter_next_skip)?;
-                more = self.step(jiter_c::jiter_array_step)?;
-            }
-        }
-        Ok(parts)
+    /// How many items or members come.
+    fn count(&self) -> Answer<u64> {
+        let (mut count, mut fault) = (0, Fault::default());
+        if unsafe { jiter_c::jiter_count(&self.raw, &mut count, &mut fault) } { Ok(count) } else { Err(fault) }
     }
 
+    /// Whether there is an item with this number, to which the reader moves.
     fn item(&mut self, number: u64) -> Answer<bool> {
-        let mut more = self.step(jiter_c::jiter_next_array)?;
-        for _ in 0..number {
-            if !more {
-                break;
-            }
-            self.call(jiter_c::jiter_next_skip)?;
-            more = self.step(jiter_c::jiter_array_step)?;
-        }
-        Ok(more)
+        let (mut found, mut fault) = (false, Fault::default());
+        let given = unsafe { jiter_c::jiter_item(&mut self.raw, number, &mut found, &mut fault) };
+        if given { Ok(found) } else { Err(fault) }
     }
 
+    /// Whether there is a member of this name, to the last of which the reader moves.
     fn member(&mut self, name: &[u8]) -> Answer<bool> {
-        let mut key = self.first_key(false)?;
-        while key.as_deref().is_some_and(|key| key != name) {
-            self.call(jiter_c::jiter_next_skip)?;
-            key = self.next_key(false)?;
-        }
-        Ok(key.is_some())
+        let (mut found, mut fault) = (false, Fault::default());
+        let call = jiter_c::jiter_member;
+        let given = unsafe { call(&mut self.raw, name.as_ptr(), name.len(), &mut found, &mut fault) };
+        if given { Ok(found) } else { Err(fault) }
     }
 }
 

@@ -25,7 +25,6 @@
 #include <stdbool.h>
 #include <stddef.h>
 #include <stdint.h>
-#include <string.h>
 
 #ifdef __cplusplus
 extern "C" {
@@ -151,6 +150,15 @@ bool jiter_next_key_bytes(JiterReader *reader, bool *more, JiterText *key, Jiter
 /* Behind the next value, whatever it is; UTF-8 is not tested. */
 bool jiter_next_skip(JiterReader *reader, JiterFault *fault);
 
+/* Goes through the parts of the array or the object that comes next: of another type it is refused as by the step into
+ * it. jiter_count tells how many items or members there are, and moves nothing. jiter_item moves to the item with this
+ * number, from 0, and jiter_member to the value of the last member of this name, with which keys are compared decoded:
+ * `found` is whether there is one; else the reader stands behind the array or the object. Where a go is refused the
+ * reader stands where one of its calls was. */
+bool jiter_count(const JiterReader *reader, uint64_t *count, JiterFault *fault);
+bool jiter_item(JiterReader *reader, uint64_t number, bool *found, JiterFault *fault);
+bool jiter_member(JiterReader *reader, const uint8_t *name, size_t length, bool *found, JiterFault *fault);
+
 /* To the end of the bytes, where nothing but blanks is left. */
 bool jiter_finish(JiterReader *reader, JiterFault *fault);
 
@@ -161,61 +169,6 @@ bool jiter_describe(const uint8_t *bytes, size_t length, const JiterFault *fault
 
 /* The line and the column of a byte index. */
 void jiter_position(const uint8_t *bytes, size_t length, size_t index, JiterPosition *position);
-
-/* What follows is written in C over these calls, and is tested, not proved. Each works on an array or an object
- * that comes next, and refuses another type as the step into it does. */
-
-/* How many items or members it has, the reader being a copy that is not moved. */
-static inline bool jiter_count(JiterReader reader, uint64_t *count, JiterFault *fault) {
-  JiterText key = JITER_NO_TEXT;
-  uint32_t start = JITER_NOTHING;
-  bool more = false;
-  uint64_t parts = 0;
-  if (!jiter_peek(&reader, &start, fault))
-    return false;
-  if (start == JITER_OBJECT ? !jiter_next_object_bytes(&reader, &more, &key, fault)
-                            : !jiter_next_array(&reader, &more, fault))
-    return false;
-  while (more) {
-    parts++;
-    if (!jiter_next_skip(&reader, fault))
-      return false;
-    if (start == JITER_OBJECT ? !jiter_next_key_bytes(&reader, &more, &key, fault)
-                              : !jiter_array_step(&reader, &more, fault))
-      return false;
-  }
-  *count = parts;
-  return true;
-}
-
-/* Moves the reader to the item with this number, from 0; where there is none, behind the array. */
-static inline bool jiter_item(JiterReader *reader, uint64_t number, bool *found, JiterFault *fault) {
-  bool more = false;
-  if (!jiter_next_array(reader, &more, fault))
-    return false;
-  while (more && number > 0) {
-    number--;
-    if (!jiter_next_skip(reader, fault) || !jiter_array_step(reader, &more, fault))
-      return false;
-  }
-  *found = more;
-  return true;
-}
-
-/* Moves the reader to the value of the first member of this name; where there is none, behind the object. Keys are
- * decoded into `out`, which needs room for the longest. */
-static inline bool jiter_member(JiterReader *reader, const char *name, size_t length, uint8_t *out, size_t room,
-                                bool *found, JiterFault *fault) {
-  bool more = false;
-  size_t whole = 0;
-  if (!jiter_next_object(reader, &more, out, room, &whole, fault))
-    return false;
-  while (more && !(whole == length && whole <= room && memcmp(out, name, length) == 0))
-    if (!jiter_next_skip(reader, fault) || !jiter_next_key(reader, &more, out, room, &whole, fault))
-      return false;
-  *found = more;
-  return true;
-}
 
 #ifdef __cplusplus
 }

@@ -1,4 +1,5 @@
 pub mod Documents
 pub mod Faults
+pub mod Parts
 pub mod Replies
 pub mod Told

@@ -8,6 +8,7 @@
 mod documents;
 mod faults;
 mod keys;
+mod parts;
 mod reader;
 mod scalars;
 mod steps;

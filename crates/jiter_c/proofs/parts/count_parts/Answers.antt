@@ -1,0 +1,81 @@
+use Rattle.std.proofs.Common.{ℕ}
+use Rattle.jiter.specs.Errors.{cause_of}
+use Rattle.jiter.specs.Jiter.{byte_of}
+use Rattle.jiter.specs.Parts.{RefusedBehind}
+use Rattle.jiter_c.specs.Replies.{state_of}
+use Rattle.jiter_c.proofs.Walks.{count-begins, count-ends, count-goes_on, count-less, first-not_refused, is-bracket}
+use Rattle.jiter_c.proofs.Walks.{moves-twice, next-not_refused, next-refuses, part-refuses, passed-on}
+use Rattle.jiter_c.proofs.Walks.{refused-behind, skip-not_refused}
+use Rattle.jiter_c.proofs.parts.count_parts.Goals as goal
+
+pub returns-in_err-more-clause-counts : goal.returns-in_err-more-clause-counts
+returns-in_err-more-clause-counts c = λ n h w.
+    let s = state_of c.args.reader.now in
+    let p = rw c.jiter_at-jiter.ensures at c.in_ok-peek.ensures in
+    absurd (first-not_refused s c.peek.new.self (byte_of c.in_ok-peek.field-0) p.value p.moves p.place
+    c.eq-object.result (is-bracket _ _ c.eq-object.ensures) n h w _ _ _ c.in_err-more.ensures.value)
+
+pub returns-in_err-more-clause-refusal : goal.returns-in_err-more-clause-refusal
+returns-in_err-more-clause-refusal c =
+    let s = state_of c.args.reader.now in
+    let p = rw c.jiter_at-jiter.ensures at c.in_ok-peek.ensures in
+    passed-on (λ e. (stop : ℕ) × RefusedBehind s (cause_of e.error_type) e.index stop) _ _
+    c.from_residual-in_err-more.ensures.1 (
+      _,
+      refused-behind s c.peek.new.self c.first_part.new.jiter _ _ p.moves c.in_err-more.ensures.moves
+          (part-refuses c.eq-object.result _ _ _ _ c.in_err-more.ensures.value),
+    )
+
+pub loop-more-init : goal.loop-more-init
+loop-more-init c =
+    let p = rw c.jiter_at-jiter.ensures at c.in_ok-peek.ensures in
+    count-begins (state_of c.args.reader.now) c.peek.new.self c.first_part.new.jiter
+    (byte_of c.in_ok-peek.field-0) c.eq-object.result c.in_ok-more.more p.value p.moves p.place
+    (is-bracket _ _ c.eq-object.ensures) c.in_ok-more.ensures.moves c.in_ok-more.ensures.value
+
+pub returns-in_err-next_skip-clause-counts : goal.returns-in_err-next_skip-clause-counts
+returns-in_err-next_skip-clause-counts c = λ n h w.
+    let inv = rw c.loop-more-test.true at c.loop-more.invariant in
+    let left = inv.counts n h w in
+    absurd (skip-not_refused c.loop-more.jiter c.eq-object.result left.0 left.1 _ _ _
+    c.in_err-next_skip.ensures.value)
+
+pub returns-in_err-more-2-clause-counts : goal.returns-in_err-more-2-clause-counts
+returns-in_err-more-2-clause-counts c = λ n h w.
+    let inv = rw c.loop-more-test.true at c.loop-more.invariant in
+    let left = inv.counts n h w in
+    let skip = c.in_ok-next_skip.ensures in
+    absurd (next-not_refused c.loop-more.jiter c.next_skip.new.self skip.moves skip.value c.eq-object.result left.0 left.1
+    _ _ _ c.in_err-more-2.ensures.value)
+
+pub returns-in_err-more-2-clause-refusal : goal.returns-in_err-more-2-clause-refusal
+returns-in_err-more-2-clause-refusal c =
+    let s = state_of c.args.reader.now in
+    passed-on (λ e. (stop : ℕ) × RefusedBehind s (cause_of e.error_type) e.index stop) _ _
+    c.from_residual-in_err-more-2.ensures.1 (
+      _,
+      refused-behind s c.next_skip.new.self c.next_part.new.jiter _ _
+          (moves-twice s _ _ c.loop-more.invariant.moves c.in_ok-next_skip.ensures.moves)
+          c.in_err-more-2.ensures.moves
+          (next-refuses c.eq-object.result _ _ _ _ c.in_err-more-2.ensures.value),
+    )
+
+pub loop-more-smaller : goal.loop-more-smaller
+loop-more-smaller c =
+    let inv = rw c.loop-more-test.true at c.loop-more.invariant in
+    let skip = c.in_ok-next_skip.ensures in
+    count-less (state_of c.args.reader.now) c.loop-more.jiter c.eq-object.result c.loop-more.count inv
+    c.next_skip.new.self skip.moves skip.value c.next_part.new.jiter c.in_ok-more-2.ensures.moves
+
+pub loop-more-preserved : goal.loop-more-preserved
+loop-more-preserved c =
+    let inv = rw c.loop-more-test.true at c.loop-more.invariant in
+    let skip = c.in_ok-next_skip.ensures in
+    count-goes_on (state_of c.args.reader.now) c.loop-more.jiter c.eq-object.result c.loop-more.count inv
+    c.next_skip.new.self skip.moves skip.value c.next_part.new.jiter c.in_ok-more-2.more
+    c.in_ok-more-2.ensures.moves c.in_ok-more-2.ensures.value
+
+pub returns-clause-counts : goal.returns-clause-counts
+returns-clause-counts c =
+    let inv = rw c.loop-more-test.false at c.loop-more.invariant in
+    count-ends (state_of c.args.reader.now) c.loop-more.jiter c.eq-object.result c.loop-more.count inv

@@ -1,0 +1,220 @@
+//! Goes through the parts of the array or the object that comes next: how many there are, the item with a number, and the
+//! last member of a name.
+ghost use Rattle.std.specs.Prelude.{◌≡◌, ℕ, IfErr, IfOk, MatchResult, None, false, option_map, true};
+ghost use Rattle.std.specs.Str.{bytes_eq};
+ghost use Rattle.jiter.specs.Errors.{cause_of};
+ghost use Rattle.jiter.specs.Jiter.{MovesOn, RefusesBytes, Replies};
+ghost use Rattle.jiter.specs.Jiter.{UnlessMemory as UnlessRefused, WhereMemory as WhereRefused};
+ghost use Rattle.jiter.specs.Parts.{LedTo, RefusedBehind, StandsNext, count_parts, last_named, numbered};
+ghost use Rattle.jiter.specs.Reader.{next, skip_read, value_place};
+ghost use Rattle.jiter_steps.specs.Node.{IsContainer, Node, NodeMembers, Nodes, begin};
+ghost use Rattle.jiter_steps.specs.StringDecoder.{WantsMemory};
+ghost use Rattle.jiter_c.specs.Parts.{TellsGo, first_part, next_part};
+ghost use Rattle.jiter_c.specs.Replies.{state_of};
+ghost use Rattle.jiter_c.specs.Told.{UnlessMemory, WhereMemory};
+
+use crate::faults::{JiterFault, fault_of};
+use crate::reader::{JiterReader, jiter_at};
+use jiter::{Jiter, JiterResult, Peek};
+use std::alloc::Global;
+
+// Steps into an object, or else an array: whether it has a part, which comes next then.
+fn first_part(jiter: &mut Jiter<'_>, object: bool) -> JiterResult<bool>
+    ensures moves { MovesOn jiter.old jiter.new }
+    ensures value { Replies (λ more. more) result jiter.new (first_part object jiter.old) }
+{
+    if object {
+        Ok(jiter.next_object_bytes()?.is_some())
+    } else {
+        Ok(jiter.next_array()?.is_some())
+    }
+}
+
+// Behind a part: whether another one comes next.
+fn next_part(jiter: &mut Jiter<'_>, object: bool) -> JiterResult<bool>
+    ensures moves { MovesOn jiter.old jiter.new }
+    ensures value { Replies (λ more. more) result jiter.new (next_part object jiter.old) }
+{
+    if object {
+        Ok(jiter.next_key_bytes()?.is_some())
+    } else {
+        Ok(jiter.array_step()?.is_some())
+    }
+}
+
+// How many parts come, of a reader of its own.
+fn count_parts(reader: &JiterReader<'_>) -> JiterResult<u64>
+    ensures counts { (n : Node) → StandsNext (state_of reader.now) n → IsContainer n
+        → MatchResult result (λ count. count ≡ count_parts n) (λ _. ⊥) }
+    ensures refusal { IfErr result (λ e. (stop : ℕ)
+        × RefusedBehind (state_of reader.now) (cause_of e.error_type) e.index stop) }
+{
+    let mut jiter = jiter_at(reader);
+    let object = jiter.peek()? == Peek::Object;
+    let mut count = 0;
+    let mut more = first_part(&mut jiter, object)?;
+    while more {
+        count += 1;
+        jiter.next_skip()?;
+        more = next_part(&mut jiter, object)?;
+    }
+    Ok(count)
+}
+
+/// How many items or members the array or the object has that comes next. The reader is not moved.
+#[unsafe(no_mangle)]
+pub extern "C" fn jiter_count(
+    reader: &JiterReader<'_>,
+    count: &mut u64,
+    fault: &mut JiterFault,
+) -> bool
+    ensures counts { (n : Node) → StandsNext (state_of reader.now) n → IsContainer n
+        → (result ≡ true) × (count.new ≡ count_parts n) }
+    ensures told { (stop : ℕ) × TellsGo (state_of reader.now) result stop fault.old fault.new }
+    ensures kept { result ≡ false → count.new ≡ count.old }
+{
+    match count_parts(reader) {
+        Ok(parts) => {
+            *count = parts;
+            true
+        }
+        Err(error) => {
+            *fault = fault_of(&error);
+            false
+        }
+    }
+}
+
+// Moves to the item with a number, from 0; where there is none, behind the array.
+fn find_item(jiter: &mut Jiter<'_>, number: u64) -> JiterResult<bool>
+    ensures moves { MovesOn jiter.old jiter.new }
+    ensures led { (b e : ℕ) → (ns : Nodes) → StandsNext jiter.old (Node.array b e ns)
+        → MatchResult result (λ found. LedTo (numbered number ns) e found jiter.new.position) (λ _. ⊥) }
+    ensures refusal { IfErr result
+        (λ e. RefusedBehind jiter.old (cause_of e.error_type) e.index jiter.new.position) }
+{
+    let mut before = number;
+    let mut item = jiter.next_array()?;
+    while item.is_some() && before > 0 {
+        before -= 1;
+        jiter.next_skip()?;
+        item = jiter.array_step()?;
+    }
+    if item.is_none() {
+        return Ok(false);
+    }
+    jiter.peek()?;
+    Ok(true)
+}
+
+/// Moves to the item with this number, from 0, of the array that comes next: `found` is whether there is one; else the
+/// reader stands behind the array.
+#[unsafe(no_mangle)]
+pub extern "C" fn jiter_item(
+    reader: &mut JiterReader<'_>,
+    number: u64,
+    found: &mut bool,
+    fault: &mut JiterFault,
+) -> bool
+    ensures led { (b e : ℕ) → (ns : Nodes) → StandsNext (state_of reader.old) (Node.array b e ns)
+        → (result ≡ true) × LedTo (numbered number ns) e found.new reader.new.index }
+    ensures told { TellsGo (state_of reader.old) result reader.new.index fault.old fault.new }
+    ensures kept { result ≡ false → found.new ≡ found.old }
+    ensures reader { reader.new ≡ record reader.old { index = reader.new.index } }
+{
+    let mut jiter = jiter_at(reader);
+    let read = find_item(&mut jiter, number);
+    reader.index = jiter.current_index();
+    match read {
+        Ok(item) => {
+            *found = item;
+            true
+        }
+        Err(error) => {
+            *fault = fault_of(&error);
+            false
+        }
+    }
+}
+
+// Whether a key, if there is one, is this name.
+fn is_named(key: Option<&str>, name: &[u8]) -> Option<bool>
+    ensures { result ≡ option_map (λ key. bytes_eq key.now name.now) key.entry }
+{
+    Some(key?.as_bytes() == name)
+}
+
+// Moves behind the next value, and tells where it begins.
+fn pass(jiter: &mut Jiter<'_>) -> JiterResult<usize>
+    ensures moves { MovesOn jiter.old jiter.new }
+    ensures passed { Replies (λ _. tt) result jiter.new (next jiter.old (skip_read jiter.old)) }
+    ensures place { IfOk result (λ start. start ≡ value_place jiter.old) }
+    ensures refusal { RefusesBytes jiter.old.text result }
+{
+    let peek = jiter.peek()?;
+    let start = jiter.current_index();
+    jiter.known_skip(peek)?;
+    Ok(start)
+}
+
+// Moves behind the object that comes next, and tells where the value of its last member of a name begins.
+fn last_member(alloc: Global, jiter: &mut Jiter<'_>, name: &[u8]) -> JiterResult<Option<usize>>
+    ensures moves { MovesOn jiter.old jiter.new }
+    ensures led { (b e : ℕ) → (ms : NodeMembers) → StandsNext jiter.old (Node.object b e ms)
+        → UnlessRefused result (MatchResult result (λ place.
+        (place ≡ option_map begin (last_named jiter.old.text name.now None ms))
+        × (jiter.new.position ≡ e)) (λ _. ⊥)) }
+    ensures refusal { UnlessRefused result (IfErr result
+        (λ e. RefusedBehind jiter.old (cause_of e.error_type) e.index jiter.new.position)) }
+    ensures memory { WhereRefused result (λ e. WantsMemory jiter.old.text e.index) }
+    ensures place { WhereRefused result (λ e. jiter.new.position ≡ e.index) }
+{
+    let mut place = None;
+    let mut named = is_named(jiter.next_object(alloc)?, name);
+    while let Some(same) = named {
+        let start = pass(jiter)?;
+        if same {
+            place = Some(start);
+        }
+        named = is_named(jiter.next_key(alloc)?, name);
+    }
+    Ok(place)
+}
+
+/// Moves to the value of the last member of this name, of the object that comes next: `found` is whether there is one;
+/// else the reader stands behind the object. Keys are compared decoded.
+#[unsafe(no_mangle)]
+pub extern "C" fn jiter_member(
+    alloc: Global,
+    reader: &mut JiterReader<'_>,
+    name: &[u8],
+    found: &mut bool,
+    fault: &mut JiterFault,
+) -> bool
+    ensures led { (b e : ℕ) → (ms : NodeMembers) → StandsNext (state_of reader.old) (Node.object b e ms)
+        → UnlessMemory result fault.new ((result ≡ true)
+        × LedTo (last_named reader.old.bytes.now name.now None ms) e found.new reader.new.index) }
+    ensures told { UnlessMemory result fault.new
+        (TellsGo (state_of reader.old) result reader.new.index fault.old fault.new) }
+    ensures kept { result ≡ false → found.new ≡ found.old }
+    ensures reader { reader.new ≡ record reader.old { index = reader.new.index } }
+    // Memory may be wanted only for a key with a backslash, and the reader then stands at it.
+    ensures memory { WhereMemory result fault.new
+        (WantsMemory reader.old.bytes.now fault.new.index) }
+    ensures place { WhereMemory result fault.new (reader.new.index ≡ fault.new.index) }
+{
+    let mut jiter = jiter_at(reader);
+    let read = last_member(alloc, &mut jiter, name);
+    reader.index = jiter.current_index();
+    match read {
+        Ok(place) => {
+            *found = place.is_some();
+            reader.index = place.unwrap_or(reader.index);
+            true
+        }
+        Err(error) => {
+            *fault = fault_of(&error);
+            false
+        }
+    }
+}
