@@ -17,16 +17,7 @@ use Rattle.jiter.specs.Reader.{array_read, object_read}
 use Rattle.jiter.specs.declared.errors.JiterError.{JiterError}
 use Rattle.jiter.proofs.Building.{Walk, WalkLaws, ToldAt, LeadsTo, all, behind, left, leads, items, members}
 use Rattle.jiter.proofs.Building.{known-first, seen-part}
-
--- one move and then another
-moves-on : (s0 s1 s2 : ReaderState) → MovesOn s0 s1 → MovesOn s1 s2 → MovesOn s0 s2
-moves-on s0 s1 s2 a b =
-    let text : s1.text ≡ s0.text = ap (λ (x : ReaderState). x.text) a.same in
-    record {
-      same = b.same ∙ ap (λ (x : ReaderState). with_position x s2.position) a.same;
-      forward = omega (arith, a.forward, b.forward);
-      within = omega (arith, b.within, ap length text);
-    }
+use Rattle.jiter.proofs.Walking.{moves-on}
 
 -- how a call that takes no memory leaves the reader
 pub bytes-leave : {X A : Type 0} (view : X → A) (x : Result X JiterError) (s0 s : ReaderState) (r : Reply A)

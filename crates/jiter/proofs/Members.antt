@@ -18,14 +18,15 @@ use Rattle.jiter_steps.proofs.Calls.SkipLaw.{skip_at-law, EndsAlike}
 use Rattle.jiter_steps.proofs.Grammar.SpelledParts.{begins-value, begin-within}
 
 module _ (names : Bool) (t : List ℕ) where
-  -- A value that is spelled is read and skipped.
-  pub read-spelled : (n : Node) → Spells names t n → nesting n ≤ nesting_limit → EndsNumber t (end n)
+  -- A value that is spelled is read.
+  read-spelled : (n : Node) → Spells names t n → nesting n ≤ nesting_limit → EndsNumber t (end n)
       → read_at names t (begin n) ≡ done (value_of t n) (end n)
   read-spelled n s limit quiet =
       sym (value_at-mapped (nodes names) (whole_trees names) (key_text t) (value_of t) t (nodes-lead names t)
       nesting_limit (begin n))
       ∙ ap (mapped (value_of t)) (value_at-complete names t n nesting_limit s limit quiet)
 
+  -- It is skipped.
   pub skip-spelled : (n : Node) → Spells names t n → nesting n ≤ nesting_limit → EndsNumber t (end n)
       → skip_at names t (begin n) ≡ done tt (end n)
   skip-spelled n s limit quiet =

@@ -36,6 +36,12 @@ peek-again s = by (slice_get s.text (value_place s)) where
   by None = again
   by (Some c) = again
 
+-- A next_ call behind a peek replies as it would have before.
+pub next-again : {A : Type 0} (s : ReaderState) (read : ℕ → Start → Reply A)
+    → next (with_position s (value_place s)) read ≡ next s read
+next-again s read =
+    ap (λ i. if_byte i (slice_get s.text i) (λ c. read i (start_of c))) (past_blanks-again s.text s.position)
+
 module _ (s : ReaderState) (i : ℕ) where
   scalar_reply-stays : {A : Type 0} → (x : Scanned A) → StaysAt i (scalar_reply i x)
   scalar_reply-stays (taken a e) = tt

@@ -11,7 +11,7 @@ use Rattle.jiter_steps.specs.Answer.{skip_at}
 use Rattle.jiter_steps.specs.Blank.{IsBlank, past_blanks}
 use Rattle.jiter_steps.specs.Literal.{start_of}
 use Rattle.jiter_steps.specs.Node.{Key, Node, Nodes, NodeMembers, array, object, begin, end, Spells, SpellsKey}
-use Rattle.jiter_steps.specs.Node.{IsDocument, nesting, nesting_limit, text_at, value_of}
+use Rattle.jiter_steps.specs.Node.{IsDocument, nesting, nesting_limit, text_at}
 use Rattle.jiter_steps.specs.Read.{Reading, done, fault}
 use Rattle.jiter_steps.specs.Step.{Step, more, closed, stuck, step, closer_of, container_first, container_step, colon}
 use Rattle.jiter_steps.specs.StringReading.{Form, whole, raw, string_at, between}
@@ -28,11 +28,12 @@ use Rattle.jiter_steps.proofs.Reading.Bounds.{Ahead, ExtentAhead, Within, contai
 use Rattle.jiter_steps.proofs.Reading.Instances.{skip_at-within}
 use Rattle.jiter_steps.proofs.Reading.Parts.{MoreParts, PartThen, Parts}
 use Rattle.jiter.specs.Cause.{Cause}
+use Rattle.jiter.specs.Jiter.{MovesOn}
 use Rattle.jiter.specs.Parts.{StandsNext}
 use Rattle.jiter.specs.Reader.{ReaderState, Reply, gave, refused, with_position, value_place, if_byte, next}
-use Rattle.jiter.specs.Reader.{value_reply, value_read, skip_read, array_read, item_step, object_read, key_step}
+use Rattle.jiter.specs.Reader.{value_reply, skip_read, array_read, item_step, object_read, key_step}
 use Rattle.jiter.specs.Reader.{part_reply, member_reply, key_reply, colon_reply, finish, end_reply}
-use Rattle.jiter.proofs.Members.{colon-taken, place-behind, place-there, read-spelled, skip-spelled}
+use Rattle.jiter.proofs.Members.{colon-taken, place-behind, place-there, skip-spelled}
 
 pub gave-refused : {A : Type 0} {a : A} {i : ℕ} {c : Cause} {x stop : ℕ} → gave a i ≡ refused c x stop → ⊥
 gave-refused h = absurd (cc)
@@ -42,6 +43,16 @@ gave-is a b i j h = (cc, cc)
 
 some-is : {A : Type 0} (x y : A) → Some x ≡ Some y → x ≡ y
 some-is x y h = cc
+
+-- one move and then another
+pub moves-on : (s0 s1 s2 : ReaderState) → MovesOn s0 s1 → MovesOn s1 s2 → MovesOn s0 s2
+moves-on s0 s1 s2 a b =
+    let text : s1.text ≡ s0.text = ap (λ (x : ReaderState). x.text) a.same in
+    record {
+      same = b.same ∙ ap (λ (x : ReaderState). with_position x s2.position) a.same;
+      forward = omega (arith, a.forward, b.forward);
+      within = omega (arith, b.within, ap length text);
+    }
 
 -- this node comes next, and behind it no number goes on
 pub record ComesNext (s : ReaderState) (n : Node) : Type 0 where
@@ -74,12 +85,6 @@ module _ (s : ReaderState) (n : Node) (h : ComesNext s n) where
   skip-passes =
       next-reads s n h.stands (skip_read s)
       ∙ ap value_reply (skip-spelled s.names s.text n h.stands.spelled h.stands.limit h.quiet)
-
-  -- Reading gives its value.
-  pub value-read : next s (value_read s) ≡ gave (value_of s.text n) (end n)
-  value-read =
-      next-reads s n h.stands (value_read s)
-      ∙ ap value_reply (read-spelled s.names s.text n h.stands.spelled h.stands.limit h.quiet)
 
 -- a part from i to e: what is told of it, and its value, which comes next then
 pub record MeetsPart {K : Type 0} (s : ReaderState) (told : ℕ → Reply (Option K)) (k : K) (n : Node) (i e : ℕ)
@@ -173,10 +178,6 @@ first_byte t n = slice_index t (begin n)
 
 abbrev pub ItemTold : ReaderState → List Node → ℕ → Reply (Option ℕ) → Type 0
 ItemTold s = TellsOf shape.Array AnItem (first_byte s.text) (λ n. n) s
-
--- what a call for an item gave, and where it left the reader
-abbrev pub ItemAt : ReaderState → List Node → ℕ → Option ℕ → Type 0
-ItemAt s = GivenAt shape.Array AnItem (first_byte s.text) (λ n. n) s
 
 module _ (s : ReaderState) where
   comes-there : (n : Node) (i : ℕ) → Spells s.names s.text n → nesting n < nesting_limit → EndsNumber s.text (end n)
