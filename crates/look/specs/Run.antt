@@ -15,6 +15,8 @@ use Rattle.look.specs.declared.running.End.TheVariants.{Shown, Refused, Failed}
 use Rattle.jiter_scan.specs.declared.errors.JsonErrorType.TheVariants.{OutOfMemory}
 use Rattle.look.specs.declared.running.NoMemory as refusal
 use Rattle.look.specs.declared.running.NoMemory.TheVariants as reason
+use Rattle.look.specs.declared.running.NoLine as absence
+use Rattle.look.specs.declared.running.NoLine.TheVariants as cause
 use Rattle.look.specs.declared.running.Line as code
 use Rattle.look.specs.declared.running.Line.TheVariants as variant
 
@@ -72,6 +74,11 @@ IsOfMemory (reason.Parse e) = e.error_type ≡ OutOfMemory
 IsOfMemory (reason.ParseUnique e) = IsMemoryRefused e.error_type
 IsOfMemory (reason.Describe e) = ⊤
 IsOfMemory (reason.Print r) = ⊤
+
+-- where a read failed or memory was refused
+abbrev pub IsOfReadOrMemory : absence.NoLine → Type 0
+IsOfReadOrMemory (cause.Read e) = ⊤
+IsOfReadOrMemory (cause.Make m) = IsOfMemory m
 
 -- the program's exit status
 abbrev pub status_of : End → ℕ

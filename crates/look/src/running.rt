@@ -5,8 +5,8 @@ ghost use Rattle.std.specs.Io.KnownBytes.{IsAtEnd};
 ghost use Rattle.jiter_print.specs.Print.{print_of, with_line_feed};
 ghost use Rattle.jiter_print.specs.Printed.{PrintsAgain};
 ghost use Rattle.jiter_value.specs.Value.{view};
-ghost use Rattle.look.specs.Run.{IsOfMemory, IsUnread, fault_line, line_of, line_view, reading_of, status_of};
-ghost use Rattle.look.specs.Run.{value_line, Wrote, WroteIfAny, WroteNothing};
+ghost use Rattle.look.specs.Run.{IsOfMemory, IsOfReadOrMemory, IsUnread, fault_line, line_of, line_view, reading_of};
+ghost use Rattle.look.specs.Run.{status_of, value_line, Wrote, WroteIfAny, WroteNothing};
 
 use jiter::{JsonError, JsonErrorType, JsonValue, PartialMode, UniqueError, UniqueErrorType};
 use jiter_print::{print, write_line};
@@ -133,6 +133,7 @@ fn read_line<R: Read>(
     ensures line { IfOk result (λ line. IfSome (R.remaining reader.old)
         (λ text. line_view line ≡ line_of inf_nan unique mode text)) }
     ensures whole { OnOk result (IsAtEnd (R.remaining reader.new)) }
+    ensures refused { IfErr result IsOfReadOrMemory }
 {
     let mut text = Vec::new(alloc);
     reader.read_to_end(&mut text)?;
