@@ -1,6 +1,5 @@
 -- What a reader meets where a part of a container is spelled: an item, or a key, its colon and its value.
-use Rattle.std.proofs.Common.{◌≡◌, ◌∙◌, ℕ, ◌+◌, ◌<◌, ◌≤◌, ◌-◌, Bool, List, refl, sym, ap, subst, arith}
-use Rattle.std.specs.Prelude.{slice_get, slice_index, Option, Some}
+use Rattle.std.proofs.Common.{◌≡◌, ◌∙◌, ℕ, ◌≤◌, Bool, List, refl, sym, ap, subst, arith}
 use Rattle.jiter_scan.specs.Scanned.{taken}
 use Rattle.jiter_steps.specs.Answer.{read_at, skip_at, whole_trees}
 use Rattle.jiter_steps.specs.Blank.{IsBlank, past_blanks}

@@ -1,11 +1,11 @@
 -- The parts of an array or an object that comes next: how many, the item with a number, the last member of a name.
-use Rattle.std.specs.Prelude.{◌≡◌, ◌≤◌, ◌⊎◌, ℕ, zero, suc, Bool, if◌then◌else◌, List, length, Option, Some, None}
+use Rattle.std.specs.Prelude.{◌≡◌, ◌≤◌, ℕ, zero, suc, Bool, if◌then◌else◌, List, length, Option, Some, None}
 use Rattle.std.specs.Str.{bytes_eq}
 use Rattle.jiter_steps.specs.Node.{Node, Nodes, no_nodes, node, NodeMembers, no_members, member, literal, number, string}
 use Rattle.jiter_steps.specs.Node.{array, object, begin, Spells, nesting, nesting_limit, text_at}
 use Rattle.jiter_steps.specs.StringReading.{Form}
 use Rattle.jiter.specs.Cause.{Cause}
-use Rattle.jiter.specs.Reader.{ReaderState, Reply, refused, value_place, with_position, next, array_read, item_step}
+use Rattle.jiter.specs.Reader.{ReaderState, refused, value_place, with_position, next, array_read, item_step}
 use Rattle.jiter.specs.Reader.{object_read, key_step, skip_read, peek}
 
 -- this node comes next, behind blanks
