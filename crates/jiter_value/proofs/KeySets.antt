@@ -4,7 +4,7 @@ use Rattle.std.proofs.Common.{length, take, drop, get_or, refl, sym, ap, ◌∙�
 use Rattle.std.specs.Prelude.{◌||◌, ◌≢◌, ◌*◌, ◌%◌, ◌^◌, not, min, All, set}
 use Rattle.std.specs.Str.{bytes_eq}
 use Rattle.std.specs.List.{list_any}
-use Rattle.std.specs.BTreeSet.{BTreeSet, insert_key, contains}
+use Rattle.std.specs.BTreeSet.{BTreeSet, insert_key}
 use Rattle.std.specs.BTreeMap.{is_at}
 use Rattle.std.specs.Cmp.Lexicographic.{slice_cmp}
 use Rattle.std.specs.Ordering.{match_ordering, nat_cmp}

@@ -40,9 +40,17 @@ pub record IsPlaceOf (slots k : List ℕ) (p : Place) : Type 0 where
   pub taken : AreTaken slots p.bucket p.at
   pub free : p.at < p.bucket + 8 → get_or slots p.at 0 ≡ 0
 
+-- This key is that of the member up to and with which n lie.
+abbrev pub IsKeyOf : List (List ℕ) → ℕ → List ℕ → Type 0
+IsKeyOf ks n k = (i : ℕ) × (n ≡ i + 1) × (i < length ks) × (bytes_eq k (get_or ks i []) ≡ true)
+
 -- This key is not that of the member up to and with which n lie.
 abbrev pub IsNoKeyOf : List (List ℕ) → ℕ → List ℕ → Type 0
 IsNoKeyOf ks n k = (i : ℕ) → n ≡ i + 1 → i < length ks → bytes_eq k (get_or ks i []) ≡ false
+
+-- This key is that of a member that a slot before the place names.
+abbrev pub IsSomewhere : List (List ℕ) → List ℕ → Place → List ℕ → Type 0
+IsSomewhere ks slots p k = (q : ℕ) × (p.bucket ≤ q) × (q < p.at) × IsKeyOf ks (get_or slots q 0) k
 
 -- This key is that of none of the members that the slots before the place name.
 abbrev pub IsNowhere : List (List ℕ) → List ℕ → Place → List ℕ → Type 0

@@ -1,9 +1,9 @@
 //! The keys of open objects with many members, those of each object in buckets: in few steps they tell that a key is
 //! new. What a bucket has no room for goes into an ordered set, so that no keys make this slow.
-ghost use Rattle.std.specs.Prelude.{◌≡◌, ◌+◌, ◌^◌, ◌≤◌, ◌<◌, ◌∷◌, ◌++◌, [], All, IfOk, OnOk, drop, false, length, true};
-ghost use Rattle.std.specs.Prelude.{vec_len};
+ghost use Rattle.std.specs.Prelude.{◌≡◌, ◌+◌, ◌-◌, ◌/◌, ◌^◌, ◌≤◌, ◌<◌, ◌∷◌, ◌++◌, ◌⊎◌, [], All, IfOk, OnOk, drop};
+ghost use Rattle.std.specs.Prelude.{false, length, true, vec_len};
 ghost use Rattle.jiter_steps.specs.StringDecoder.{text_view};
-ghost use Rattle.jiter_value.specs.KeySets.{Adds, HasKeys, IsNoKeyOf, IsNowhere, IsPlaceOf, IsUpToDate};
+ghost use Rattle.jiter_value.specs.KeySets.{Adds, HasKeys, IsKeyOf, IsNoKeyOf, IsNowhere, IsPlaceOf, IsSomewhere, IsUpToDate};
 ghost use Rattle.jiter_value.specs.KeySets.{bucket_of, has_text, mark_of};
 ghost use Rattle.jiter_value.specs.Stacks.{keys_of};
 ghost use Rattle.jiter_value.specs.UniqueKeys.{has_key};
@@ -113,7 +113,8 @@ fn place_of(slots: &Vec<usize>, key: &str) -> Place
 
 // Whether the member up to and with which so many lie has this key.
 fn is_key_of(members: &Vec<(CowStr<'_>, JsonValue<'_>)>, number: usize, key: &str) -> bool
-    ensures { result ≡ false → IsNoKeyOf (keys_of members.now.items) number key.now }
+    ensures same { result ≡ true → IsKeyOf (keys_of members.now.items) number key.now }
+    ensures other { result ≡ false → IsNoKeyOf (keys_of members.now.items) number key.now }
 {
     if number == 0 || members.len() < number {
         return false;
@@ -129,7 +130,8 @@ fn is_named(
     key: &str,
 ) -> bool
     requires { place.at ≤ vec_len slots.now }
-    ensures { result ≡ false → IsNowhere (keys_of members.now.items) slots.now.items place key.now }
+    ensures same { result ≡ true → IsSomewhere (keys_of members.now.items) slots.now.items place key.now }
+    ensures other { result ≡ false → IsNowhere (keys_of members.now.items) slots.now.items place key.now }
 {
     for i in place.bucket..place.at {
         if is_key_of(members, slots[i], key) {
@@ -173,6 +175,8 @@ fn widen<'s>(
     requires { IsUpToDate (keys_of members.now.items) set.old }
     ensures keys { OnOk result (IsUpToDate (keys_of members.now.items) set.new) }
     ensures base { set.new.base ≡ set.old.base }
+    ensures wide { OnOk result ((vec_len members.now - set.old.base < vec_len set.old.slots / 2)
+        ⊎ (vec_len set.old.slots < vec_len set.new.slots)) }
 {
     let count = set.slots.len();
     if members.len() - set.base < count / 2 {

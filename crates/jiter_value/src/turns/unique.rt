@@ -1,6 +1,6 @@
 //! Turns that refuse a key which its object has already.
 ghost use Rattle.std.specs.Prelude.{◌≡◌, ◌+◌, ◌≤◌, ◌<◌, [], All, IfOk, IfSome, None, OnOk, drop, false, length, reverse, true};
-ghost use Rattle.std.specs.Prelude.{vec_len};
+ghost use Rattle.std.specs.Prelude.{◌⊎◌, slice_index, vec_len};
 ghost use Rattle.std.specs.Option.{option_map};
 ghost use Rattle.std.specs.Str.{bytes_eq};
 ghost use Rattle.jiter_steps.specs.Node.{nesting_limit};
@@ -63,7 +63,9 @@ fn innermost_base(nest: &SmallVec<Open, 8>) -> usize
 // Whether two texts begin with the same byte, or one of them is empty.
 #[inline(always)]
 fn begin_alike(one: &str, other: &str) -> bool
-    ensures { result ≡ false → bytes_eq one.now other.now ≡ false }
+    ensures alike { result ≡ true → (one.now ≡ []) ⊎ ((other.now ≡ [])
+        ⊎ (slice_index one.now 0 ≡ slice_index other.now 0)) }
+    ensures unlike { result ≡ false → bytes_eq one.now other.now ≡ false }
 {
     let one = one.as_bytes();
     let other = other.as_bytes();

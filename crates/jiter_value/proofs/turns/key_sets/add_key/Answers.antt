@@ -33,7 +33,7 @@ returns-clause-new c =
     let place : IsPlaceOf s.slots.items key p =
     subst (λ k. IsPlaceOf s.slots.items k p) c.as_str.ensures.value c.place_of-place.ensures in
     let nowhere : IsNowhere (keys_of members.items) s.slots.items p key =
-    subst (IsNowhere (keys_of members.items) s.slots.items p) c.as_str-2.ensures.value (c.is_named.ensures c.if-is_named.false) in
+    subst (IsNowhere (keys_of members.items) s.slots.items p) c.as_str-2.ensures.value (c.is_named.ensures.other c.if-is_named.false) in
     let base = c.in_ok-catch_up.ensures.base ∙ c.in_ok-widen.ensures.base in
     IfOk-weaker c.put.result _ _
     (λ found h. λ new. ap (λ b. has_key key (drop b members.items)) (sym base)

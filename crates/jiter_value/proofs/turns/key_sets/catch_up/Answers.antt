@@ -1,4 +1,4 @@
-use Rattle.std.proofs.Common.{◌≡◌, ◌+◌, ◌∙◌, ◌<◌, sym, ap, arith, length, get_or, refl, []}
+use Rattle.std.proofs.Common.{◌≡◌, ◌+◌, ◌∙◌, ◌<◌, ap, arith, length, get_or, []}
 use Rattle.std.proofs.lemmas.List.{length-map}
 use Rattle.jiter_steps.specs.StringDecoder.{text_view}
 use Rattle.jiter_value.specs.Stacks.{keys_of}

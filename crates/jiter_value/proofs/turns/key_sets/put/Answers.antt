@@ -1,4 +1,4 @@
-use Rattle.std.proofs.Common.{◌∙◌, sym, ap, arith, refl, true, subst}
+use Rattle.std.proofs.Common.{◌∙◌, sym, ap, arith, refl}
 use Rattle.jiter_value.specs.KeySets.{has_text}
 use Rattle.jiter_value.proofs.KeySets.{adds-slot, adds-rest}
 use Rattle.jiter_value.proofs.turns.key_sets.put.Goals as goal

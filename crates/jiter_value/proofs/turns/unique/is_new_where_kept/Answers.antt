@@ -1,8 +1,6 @@
 use Rattle.std.proofs.Common.{◌≡◌, ◌∙◌, sym, ap, ap₂, drop, false, length, reverse}
 use Rattle.std.proofs.lemmas.Result.{IfOk-weaker}
 use Rattle.jiter_steps.specs.StringDecoder.{text_view}
-use Rattle.jiter_value.specs.Settings.{lent_unique}
-use Rattle.jiter_value.specs.Stacks.{keys_of}
 use Rattle.jiter_value.specs.UniqueKeys.{has_key, innermost_base}
 use Rattle.jiter_value.proofs.LentTexts.{string-lent}
 use Rattle.jiter_value.proofs.Repeats.{new-key}
