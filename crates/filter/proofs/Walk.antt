@@ -15,24 +15,6 @@ use Rattle.jiter.specs.declared.errors.JiterError.{JiterError}
 use Rattle.filter.specs.declared.fields.Fields.{Fields}
 use Rattle.filter.specs.Fields.{IsAnswer, Picked, picked, name_of, nothing_picked, source_of, with_member, with_members}
 
--- Where a peek finds nothing, nothing is read.
-pub peek-refused : (s : ReaderState) (c : Cause) (x stop : ℕ) → peek s ≡ refused c x stop
-    → next s (skip_read s) ≡ refused c x stop
-peek-refused s c x stop h = by (slice_get s.text (value_place s)) h where
-  by : (o : Option ℕ) → if_byte (value_place s) o (λ b. gave b (value_place s)) ≡ refused c x stop
-      → if_byte (value_place s) o (λ b. skip_read s (value_place s) (start_of b)) ≡ refused c x stop
-  by None h = cc
-  by (Some b) h = absurd (gave-refused h)
-
--- A skip behind a peek passes the value that comes next.
-pub skip-behind_peek : (s0 s1 : ReaderState) (b : ℕ) → MovesOn s0 s1 → s1.position ≡ value_place s0 → StandsAt s1 b
-    → known s1 (skip_read s1) ≡ next s0 (skip_read s0)
-skip-behind_peek s0 s1 b m place here =
-    let is : s1 ≡ with_position s0 (value_place s0) = m.same ∙ ap (λ i. with_position s0 i) place in
-    subst (λ (v : ReaderState). known v (skip_read v) ≡ next s0 (skip_read s0)) (sym is)
-    (known-peeked s0 (skip_read s0) b
-    (subst (λ (v : ReaderState). slice_get v.text v.position ≡ Some b) is here))
-
 module _ (line : List ℕ) where
   -- these members are left of the document, and the fields are on the way to its answer
   pub record Left (s : ReaderState) (o : Option Text) (p : Picked) (n : Node) : Type 0 where

@@ -20,7 +20,7 @@ pub use jiter_scan::{
     JsonError, JsonErrorType, JsonResult, LinePosition, NumberAny, NumberInt, PartialMode, simd,
 };
 pub use jiter_value::{
-    JsonArray, JsonObject, JsonValue, JsonValueScratch, Machine, NumberText, ShortText, Turn,
+    Arriving, JsonArray, JsonObject, JsonValue, JsonValueScratch, Machine, NumberText, ShortText, Turn,
     UniqueError, UniqueErrorType,
 };
 pub use peek::Peek;

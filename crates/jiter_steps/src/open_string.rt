@@ -1,7 +1,7 @@
 //! Strings that arrive in pieces (RFC 8259, 7 and 8.1): each byte is looked at once, wherever a piece ends, within a
 //! character or an escape too.
 ghost use Rattle.std.specs.Prelude.{◌≡◌, ◌+◌, ◌<◌, ◌≤◌, [], IfOk, List, None, OnErr, Some, length};
-ghost use Rattle.std.specs.Prelude.{◌||◌, is_some, slice_get, slice_index, slice_range, string_bytes, true, ℕ};
+ghost use Rattle.std.specs.Prelude.{◌||◌, is_some, not, slice_get, slice_index, slice_range, string_bytes, true, ℕ};
 ghost use Rattle.jiter_scan.specs.Ascii as ascii;
 ghost use Rattle.jiter_scan.specs.Kind.{eof_string};
 ghost use Rattle.jiter_scan.specs.Scan.{Pass, is_plain};
@@ -154,6 +154,7 @@ impl OpenString {
         ensures cut { (w : List ℕ) → (h : HasTaken self.now w) → keep ≡ true → Wherever w (λ t i j. length t ≡ j
             → content_at kept t i
             ≡ text_or result i (h.escaped || is_some self.now.escape) self.now.text.text j) }
+        ensures kept { keep ≡ true → result ≡ not self.now.text.broken }
         ensures unclosed { (w : List ℕ) → HasTaken self.now w → Wherever w (λ t i j. length t ≡ j
             → content_at whole t i ≡ failed eof_string j) }
     {

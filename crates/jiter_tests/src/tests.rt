@@ -8,6 +8,7 @@ use std::alloc::{AllocError, Global};
 
 mod access;
 mod alike;
+mod arriving;
 mod copies;
 mod cuts;
 mod every_size;

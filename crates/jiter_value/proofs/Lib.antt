@@ -24,5 +24,10 @@ pub mod KeptKeys
 pub mod Spines
 pub mod Arrivals
 pub mod OpenValues
+pub mod DocumentEnds
+pub mod Documents
+pub mod Pieces
+pub mod DocumentTokens
 pub mod KeySets
+pub mod DocumentStrings
 mod Rows

@@ -42,7 +42,7 @@ impl Drop for ShortText {
 impl ShortText {
     // A copy of the text.
     #[inline(always)]
-    fn new(text: &str) -> ShortText
+    pub(crate) fn new(text: &str) -> ShortText
         requires { length text.now ≤ short_limit }
         ensures { result ≡ text.now }
     {
@@ -149,6 +149,15 @@ impl<'s> NumberText<'s> {
             NumberText::Borrowed(text) => NumberText::owned(alloc, text),
             NumberText::Short(text) => Ok(NumberText::Short(text)),
             NumberText::Long(text) => Ok(NumberText::Long(text)),
+        }
+    }
+
+    // Its memory, if it has some of its own; else no text. It takes none.
+    pub(crate) fn into_long(self, alloc: Global) -> String {
+        match self {
+            NumberText::Long(text) => text,
+            NumberText::Short(_) => String::new(alloc),
+            NumberText::Borrowed(_) => String::new(alloc),
         }
     }
 

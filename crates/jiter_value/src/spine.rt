@@ -226,3 +226,34 @@ pub fn open_container<'j>(
     spine.push_reserved(empty(alloc, shape));
     Ok(())
 }
+
+// The last part of a container, taken out; in an object its key is the one that awaits a value again.
+fn remove<'j>(container: &mut JsonValue<'j>, key: &mut CowStr<'j>) -> JsonValue<'j> {
+    match container {
+        JsonValue::Array(items) => match items.pop() {
+            Some(value) => value,
+            None => unreachable!(),
+        },
+        JsonValue::Object(members) => match members.pop() {
+            Some((name, value)) => {
+                *key = name;
+                value
+            }
+            None => unreachable!(),
+        },
+        _ => unreachable!(),
+    }
+}
+
+/// Takes back what [`put`] put: the last part of the innermost container, or the root.
+pub fn take_back<'j>(
+    spine: &mut Vec<JsonValue<'j>>,
+    root: &mut JsonValue<'j>,
+    key: &mut CowStr<'j>,
+) -> JsonValue<'j> {
+    let depth = spine.len();
+    if depth == 0 {
+        return mem::replace(root, JsonValue::Null);
+    }
+    remove(&mut spine[depth - 1], key)
+}
