@@ -1,15 +1,14 @@
 -- What the replies of the reader say of a value that comes next, as a setting.
-use Rattle.std.proofs.Common.{◌≡◌, ◌∙◌, ℕ, Bool, true, false, List, refl, sym, ap, subst, arith, ◌&&◌, pos, length}
-use Rattle.std.specs.Prelude.{slice_get, Some, Result, Ok, Err, IfOk, IsErrAnd, ℤ, negsuc, nat_le, if◌then◌else◌}
+use Rattle.std.proofs.Common.{◌≡◌, ◌∙◌, ℕ, Bool, true, false, List, refl, sym, ap, subst, ◌&&◌, pos}
+use Rattle.std.specs.Prelude.{Result, Ok, Err, IfOk, IsErrAnd, ℤ, negsuc, nat_le, if◌then◌else◌}
 use Rattle.std.proofs.lemmas.Bool.{false≢true}
 use lib.IntN.{nat_abs}
 use lib.Signed.{le_z}
-use Rattle.jiter.specs.Caller.{Cause, IsMemory, MovesOn, Number, ReaderState, Reply, StandsAt, Tells, Tree}
-use Rattle.jiter.specs.Caller.{bool_read, cause_of, gave, int_read, int_view, known, next, refused, reply_seen, str_read}
-use Rattle.jiter.specs.Caller.{text_bytes, value_place, with_position}
+use Rattle.jiter.specs.Caller.{Cause, IsMemory, Number, ReaderState, Reply, Tells, Tree}
+use Rattle.jiter.specs.Caller.{bool_read, cause_of, gave, int_read, int_view, next, refused, reply_seen, str_read}
+use Rattle.jiter.specs.Caller.{text_bytes}
 use Rattle.jiter.specs.declared.NumberInt.{NumberInt}
 use Rattle.jiter.specs.declared.errors.JiterError.{JiterError}
-use Rattle.jiter.proofs.Peeking.{known-peeked}
 use Rattle.jiter.proofs.Walking.{gave-refused}
 use Rattle.config.specs.declared.config.Refusal.{Refusal}
 use Rattle.config.specs.declared.config.Refusal.TheVariants as variant
@@ -81,15 +80,6 @@ module _ (s : ReaderState) (b e : ℕ) where
   integer-refused (Tree.big y) h c x stop is = absurd (gave-refused (sym h.integer ∙ is))
   integer-refused v h c x stop is = let same = sym h.integer ∙ is in cc
 
--- Behind a peek the integer is read that comes next.
-pub int-behind_peek : (s0 s1 : ReaderState) (b : ℕ) → MovesOn s0 s1 → s1.position ≡ value_place s0 → StandsAt s1 b
-    → known s1 (int_read s1) ≡ next s0 (int_read s0)
-int-behind_peek s0 s1 b m place here =
-    let is : s1 ≡ with_position s0 (value_place s0) = m.same ∙ ap (λ i. with_position s0 i) place in
-    subst (λ (v : ReaderState). known v (int_read v) ≡ next s0 (int_read s0)) (sym is)
-    (known-peeked s0 (int_read s0) b
-    (subst (λ (v : ReaderState). slice_get v.text v.position ≡ Some b) is here))
-
 -- The port that an integer is.
 fits-if : (b : Bool) (p i : ℕ) → b ≡ true → (if b then fits p else unfit no_port i) ≡ fits p
 fits-if true p i h = refl
@@ -113,16 +103,6 @@ port-high (pos p) i high = unfit-if (nat_le 1 p && nat_le p 65535) p i (last (na
   last true b h = h
   last false b h = refl
 port-high (negsuc n) i high = refl
-
--- one move and then another
-pub moves-twice : (s0 s1 s2 : ReaderState) → MovesOn s0 s1 → MovesOn s1 s2 → MovesOn s0 s2
-moves-twice s0 s1 s2 a b =
-    let text : s1.text ≡ s0.text = ap (λ (x : ReaderState). x.text) a.same in
-    record {
-      same = b.same ∙ ap (λ (x : ReaderState). with_position x s2.position) a.same;
-      forward = omega (arith, a.forward, b.forward);
-      within = omega (arith, b.within, ap length text);
-    }
 
 -- nothing is said of what was refused
 pub no-value : {X : Type 0} (x : Result X Refusal) (Q : Refusal → Type 0) (P : X → Type 0) → IsErrAnd x Q → IfOk x P

@@ -1,5 +1,5 @@
 -- What reading a member's value sets, and why it is refused.
-use Rattle.std.proofs.Common.{◌≡◌, ◌∙◌, ◌≤◌, ℕ, Bool, List, refl, sym, ap, subst}
+use Rattle.std.proofs.Common.{◌≡◌, ◌∙◌, ℕ, Bool, List, refl, sym, ap, subst}
 use Rattle.std.specs.Prelude.{Option, Some, None, Result, Ok, Err, codes, false, ok_or, unwrap_or}
 use Rattle.std.specs.Borrow.{Bor}
 use Rattle.jiter.specs.Caller.{Cause, LeavesAt, MovesOn, ReaderState, Tells, Tree, bool_read, gave, next, reply_seen}
@@ -9,8 +9,8 @@ use Rattle.config.specs.declared.config.Refusal.{Refusal}
 use Rattle.config.specs.declared.config.Refusal.TheVariants as variant
 use Rattle.config.specs.declared.settings.Name.{Name}
 use Rattle.config.specs.declared.settings.Name.TheVariants as name
-use Rattle.config.specs.Settings.{Reads, Settings, Verdict, Why, and_then, complete, debug_in, fits, host_in, missing}
-use Rattle.config.specs.Settings.{or_false, place_of, port_in, set, unfit, why}
+use Rattle.config.specs.Settings.{Reads, Settings, Verdict, Why, and_then, complete, fits, missing}
+use Rattle.config.specs.Settings.{or_false, place_of, port_in, unfit, why}
 use Rattle.config.proofs.Judged.{text-given, truth-given}
 use Rattle.config.proofs.Walk.{ReadsMember, seen}
 

@@ -1,17 +1,17 @@
 -- How far the members of a document were read, and what they set.
-use Rattle.std.proofs.Common.{◌≡◌, ◌∙◌, ℕ, ◌+◌, ◌-◌, ◌<◌, ◌≤◌, Bool, false, List, length, refl, sym, ap, subst, arith}
+use Rattle.std.proofs.Common.{◌≡◌, ◌∙◌, ℕ, ◌-◌, ◌<◌, ◌≤◌, Bool, false, List, length, refl, sym, ap, subst, arith}
 use Rattle.std.specs.Prelude.{Option, Some, None, option_map}
 use Rattle.std.proofs.lemmas.Option.{none-some}
 use Rattle.jiter.specs.Caller.{Cause, IsBlank, IsDocument, MovesOn, Node, NodeMembers, ReaderState, Reply, Tells, Text}
 use Rattle.jiter.specs.Caller.{Tree, ValueType, at_start, begin, end, finish, gave, key_bytes, key_step, next}
 use Rattle.jiter.specs.Caller.{object_read}
-use Rattle.jiter.specs.Caller.{other_type, refused, reply_seen, tree_type, value_of, whole, with_position, wrong_type}
+use Rattle.jiter.specs.Caller.{refused, reply_seen, tree_type, value_of, whole, with_position, wrong_type}
 use Rattle.jiter.proofs.Telling.{no_object-refused, object-refused, tells}
 use Rattle.jiter.proofs.Walking.{ComesNext, IsNoObject, KeyAt, MembersLeft, SeesKeys, document-next, finish-ends}
 use Rattle.jiter.proofs.Walking.{gave-is, gave-refused, key-ahead, key-given, key-not_refused, key-tells}
-use Rattle.jiter.proofs.Walking.{object-tells, sees-whole, skip-passes, whole_key}
+use Rattle.jiter.proofs.Walking.{object-tells, sees-whole, whole_key}
 use Rattle.config.specs.declared.settings.Name.{Name}
-use Rattle.config.specs.Settings.{Complete, Settings, Verdict, Why, and_then, complete, configured, fits, named}
+use Rattle.config.specs.Settings.{Complete, Settings, Why, and_then, complete, configured, fits, named}
 use Rattle.config.specs.Settings.{nothing_set, other, reading, set, set_by, unfit}
 
 -- what is set so far

@@ -1,10 +1,10 @@
 -- What a configuration holds of a document. Members of three names are settings, the last one of a name counts, and all
 -- others are nothing to it; the first value that does not fit its name is refused at its own place.
-use Rattle.std.specs.Prelude.{◌≡◌, ◌⊎◌, ℕ, ◌-◌, ℤ, pos, negsuc, ◌&&◌, Bool, true, false, if◌then◌else◌, List, nat_le}
+use Rattle.std.specs.Prelude.{◌≡◌, ◌⊎◌, ℕ, ◌-◌, ℤ, pos, negsuc, ◌&&◌, Bool, false, if◌then◌else◌, List, nat_le}
 use Rattle.std.specs.Prelude.{Option, Some, None, Result, Ok, Err, IfOk, codes, string_bytes}
 use Rattle.std.specs.Str.{bytes_eq}
 use Rattle.jiter.specs.Caller.{Cause, Kind, MovesOn, Node, NodeMembers, ReaderState, Tells, Tree, ValueType, begin}
-use Rattle.jiter.specs.Caller.{cause_of, end, json_error, text_at, tree_type, value_of, wrong_type}
+use Rattle.jiter.specs.Caller.{cause_of, json_error, text_at, tree_type, value_of, wrong_type}
 use Rattle.jiter.specs.Caller.{boolean_in, int_in, member_named, string_in}
 use Rattle.config.specs.declared.config.Config.{Config}
 use Rattle.config.specs.declared.config.Refusal.{Refusal}

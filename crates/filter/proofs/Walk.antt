@@ -1,37 +1,18 @@
 -- How far the members of a line were read.
-use Rattle.std.proofs.Common.{◌≡◌, ◌∙◌, ℕ, ◌+◌, ◌-◌, ◌<◌, ◌≤◌, false, List, length, refl, sym, ap, subst, arith}
-use Rattle.std.specs.Prelude.{slice_get, slice_range, Option, Some, None, Result, Ok, Err, IsErrAnd}
-use Rattle.jiter.specs.Caller.{Cause, IsBlank, IsDocument, MovesOn, Node, NodeMembers, ReaderState, Reply, StandsAt}
+use Rattle.std.proofs.Common.{◌≡◌, ◌∙◌, ℕ, ◌-◌, ◌<◌, ◌≤◌, false, List, length, refl, sym, ap, subst, arith}
+use Rattle.std.specs.Prelude.{slice_range, Option, Some, None, Result, Ok, Err, IsErrAnd}
+use Rattle.jiter.specs.Caller.{Cause, IsBlank, IsDocument, MovesOn, Node, NodeMembers, ReaderState}
 use Rattle.jiter.specs.Caller.{Text}
-use Rattle.jiter.specs.Caller.{at_start, begin, end, finish, gave, if_byte, key_step, known, next, object_read, peek}
+use Rattle.jiter.specs.Caller.{at_start, begin, end, finish, gave, key_step, next, object_read}
 use Rattle.jiter.specs.Caller.{raw, refused}
-use Rattle.jiter.specs.Caller.{skip_read, start_of, value_place, with_position}
-use Rattle.jiter.proofs.Peeking.{known-peeked}
-use Rattle.jiter.proofs.Walking.{ComesNext, IsNoObject, KeyAt, MembersLeft, SeesKeys, document-next, finish-ends}
+use Rattle.jiter.specs.Caller.{skip_read, value_place, with_position}
+use Rattle.jiter.proofs.Walking.{ComesNext, KeyAt, MembersLeft, SeesKeys, document-next, finish-ends}
 use Rattle.jiter.proofs.Walking.{gave-is, gave-refused, key-ahead, key-given, key-not_refused, key-tells}
 use Rattle.jiter.proofs.Telling.{no_object-refused}
 use Rattle.jiter.proofs.Walking.{object-tells, raw_key, sees-raw, skip-passes}
 use Rattle.jiter.specs.declared.errors.JiterError.{JiterError}
 use Rattle.filter.specs.declared.fields.Fields.{Fields}
 use Rattle.filter.specs.Fields.{IsAnswer, Picked, picked, name_of, nothing_picked, source_of, with_member, with_members}
-
--- Where a peek finds nothing, nothing is read.
-pub peek-refused : (s : ReaderState) (c : Cause) (x stop : ℕ) → peek s ≡ refused c x stop
-    → next s (skip_read s) ≡ refused c x stop
-peek-refused s c x stop h = by (slice_get s.text (value_place s)) h where
-  by : (o : Option ℕ) → if_byte (value_place s) o (λ b. gave b (value_place s)) ≡ refused c x stop
-      → if_byte (value_place s) o (λ b. skip_read s (value_place s) (start_of b)) ≡ refused c x stop
-  by None h = cc
-  by (Some b) h = absurd (gave-refused h)
-
--- A skip behind a peek passes the value that comes next.
-pub skip-behind_peek : (s0 s1 : ReaderState) (b : ℕ) → MovesOn s0 s1 → s1.position ≡ value_place s0 → StandsAt s1 b
-    → known s1 (skip_read s1) ≡ next s0 (skip_read s0)
-skip-behind_peek s0 s1 b m place here =
-    let is : s1 ≡ with_position s0 (value_place s0) = m.same ∙ ap (λ i. with_position s0 i) place in
-    subst (λ (v : ReaderState). known v (skip_read v) ≡ next s0 (skip_read s0)) (sym is)
-    (known-peeked s0 (skip_read s0) b
-    (subst (λ (v : ReaderState). slice_get v.text v.position ≡ Some b) is here))
 
 module _ (line : List ℕ) where
   -- these members are left of the document, and the fields are on the way to its answer

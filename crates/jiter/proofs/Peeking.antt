@@ -1,12 +1,12 @@
 -- A second peek replies as the first, a known_ call as the next_ call, and a refused read of a scalar leaves the reader
 -- where the value begins.
-use Rattle.std.proofs.Common.{◌≡◌, ℕ, true, false, refl, ap, sym, subst, Option, Some, None, List, slice_get}
+use Rattle.std.proofs.Common.{◌≡◌, ◌∙◌, ℕ, true, false, refl, ap, sym, subst, Option, Some, None, List, slice_get}
 use Rattle.std.proofs.Common.{slice_index, slice_range, ◌<◌, arith}
 use Rattle.std.proofs.lemmas.Bool.Decides.{nat_tests}
 use Rattle.std.proofs.lemmas.Option.{get_or_from_slice_get}
 use Rattle.jiter_scan.proofs.Runs.{run_end-here}
 use Rattle.jiter_steps.proofs.Grammar.Blanks.{no_blank-behind}
-use Rattle.jiter.specs.Jiter.{StandsAt}
+use Rattle.jiter.specs.Jiter.{MovesOn, StandsAt}
 use Rattle.jiter_scan.specs.Scanned.{Scanned, taken, failed}
 use Rattle.jiter_scan.specs.NumberReading.{Integer, int_seen, float_seen, number_at, int_at}
 use Rattle.jiter_steps.specs.Blank.{is_blank, past_blanks}
@@ -113,6 +113,16 @@ pub known-peeked : {A : Type 0} (s : ReaderState) (read : ℕ → Start → Repl
 known-peeked s read c e =
     let b : slice_index s.text (value_place s) ≡ c = get_or_from_slice_get s.text (value_place s) c 0 e in
     rw (e, b) refl
+
+-- The same of the reader that such a peek left behind; what is read does not rest on where it stands.
+pub known-behind_peek : {A : Type 0} (read : ReaderState → ℕ → Start → Reply A) (s0 s1 : ReaderState) (c : ℕ)
+    → ((i : ℕ) → read (with_position s0 i) ≡ read s0) → MovesOn s0 s1 → s1.position ≡ value_place s0 → StandsAt s1 c
+    → known s1 (read s1) ≡ next s0 (read s0)
+known-behind_peek read s0 s1 c same m place here =
+    let is : s1 ≡ with_position s0 (value_place s0) = m.same ∙ ap (with_position s0) place in
+    subst (λ (v : ReaderState). known v (read v) ≡ next s0 (read s0)) (sym is)
+    (ap (known (with_position s0 (value_place s0))) (same (value_place s0))
+    ∙ known-peeked s0 (read s0) c (subst (λ (v : ReaderState). StandsAt v c) is here))
 
 -- Where a byte stands that is no blank, a known_ call replies as the next_ call.
 pub known-next : {A : Type 0} (s : ReaderState) (read : ℕ → Start → Reply A) (c : ℕ)

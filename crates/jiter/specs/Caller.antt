@@ -48,6 +48,9 @@ pub use Rattle.jiter_value.specs.Scratch.{Lists}
 pub use Rattle.jiter_value.specs.TurnsTo.{GoesOn, TurnsTo}
 pub use Rattle.jiter_value.specs.UniqueErrors.{IsDuplicateKey, IsMemoryRefused, unique_kind}
 pub use Rattle.jiter_value.specs.Value.{Answers, MayGrow, MayGrowAt}
+-- A document that arrives in pieces.
+pub use Rattle.jiter_value.specs.Arriving.{HasReceived, Received}
+pub use Rattle.jiter_value.specs.OpenDocument.{MayRefuseAt}
 -- The pull reader: what its calls reply, and where they leave it.
 pub use Rattle.jiter.specs.Cause.{Cause, ValueType, is_memory_cause, json_error, wrong_type}
 pub use Rattle.jiter.specs.Client.{OwnedMayGrowAt}

@@ -20,7 +20,7 @@ pub use jiter_scan::{
     JsonError, JsonErrorType, JsonResult, LinePosition, NumberAny, NumberInt, PartialMode, simd,
 };
 pub use jiter_value::{
-    JsonArray, JsonObject, JsonValue, JsonValueScratch, Machine, NumberText, ShortText, Turn,
-    UniqueError, UniqueErrorType,
+    Arriving, JsonArray, JsonObject, JsonValue, JsonValueScratch, Machine, NumberText, ShortText,
+    Turn, UniqueError, UniqueErrorType, parse_pieces,
 };
 pub use peek::Peek;

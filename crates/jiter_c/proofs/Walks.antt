@@ -27,19 +27,12 @@ use Rattle.jiter.proofs.Peeking.{past_blanks-again}
 use Rattle.jiter.proofs.Walking.{AMember, AnItem, ComesNext, GivenAt, KeyAt, KeyTold, MembersLeft, PartsLeft, SeesKeys}
 use Rattle.jiter.proofs.Walking.{TellsOf}
 use Rattle.jiter.proofs.Walking.{array-tells, first_byte, gave-is, gave-refused, item-tells, key-given, key-not_refused}
-use Rattle.jiter.proofs.Walking.{key-tells, key_of, node_of, object-tells, part-given, part-not_refused, raw_key}
-use Rattle.jiter.proofs.Walking.{sees-raw, sees-whole, skip-ahead, skip-passes, whole_key}
+use Rattle.jiter.proofs.Walking.{key-tells, key_of, moves-on, node_of, object-tells, part-given, part-not_refused}
+use Rattle.jiter.proofs.Walking.{raw_key, sees-raw, sees-whole, skip-ahead, skip-passes, whole_key}
 use Rattle.jiter_c.specs.Parts.{first_part, next_part}
 use Rattle.jiter_c.specs.Replies.{has_part}
 
 -- ---- moves and refusals
-pub moves-twice : (a b c : ReaderState) → MovesOn a b → MovesOn b c → MovesOn a c
-moves-twice a b c m n = record {
-  same = n.same ∙ ap (λ (v : ReaderState). with_position v c.position) m.same;
-  forward = omega (arith, m.forward, n.forward);
-  within = omega (arith, n.within, ap (λ (v : ReaderState). length v.text) m.same);
-}
-
 -- Where nothing was read the reader stays.
 pub stays : (s s1 : ReaderState) → MovesOn s s1 → MovesOn s s
 stays s s1 m = record { same = refl; forward = omega arith; within = omega (arith, m.forward, m.within) }
@@ -329,7 +322,7 @@ pub count-begins : (s0 s1 s2 : ReaderState) (c : ℕ) (object more : Bool) → p
     → MovesOn s0 s1 → s1.position ≡ value_place s0 → IsBracket c object → MovesOn s1 s2
     → first_part object s1 ≡ gave more s2.position → Counted s0 s2 object more 0
 count-begins s0 s1 s2 c object more told m place is m2 given = record {
-  moves = moves-twice s0 s1 s2 m m2;
+  moves = moves-on s0 s1 s2 m m2;
   below = omega arith;
   counts = λ n h w. (
     count_parts n,
@@ -345,7 +338,7 @@ module _ (s0 s : ReaderState) (object : Bool) (count : ℕ) (h : Counted s0 s ob
   count-goes_on =
       let ahead = skip-ahead s s1.position passed in
       record {
-        moves = moves-twice s0 s s2 h.moves (moves-twice s s1 s2 m m2);
+        moves = moves-on s0 s s2 h.moves (moves-on s s1 s2 m m2);
         below = omega (arith, h.below, ahead, m2.forward);
         counts = λ n is w.
             let all = h.counts n is w in
@@ -359,7 +352,7 @@ pub count-less : (s0 s : ReaderState) (object : Bool) (count : ℕ) → Counted 
     → length s0.text - s2.position < length s0.text - s.position
 count-less s0 s object count h s1 m passed s2 m2 =
     let ahead = skip-ahead s s1.position passed in
-    let last = moves-twice s0 s s2 h.moves (moves-twice s s1 s2 m m2) in
+    let last = moves-on s0 s s2 h.moves (moves-on s s1 s2 m m2) in
     omega (arith, ahead, m2.forward, last.within)
 
 pub count-ends : (s0 s : ReaderState) (object : Bool) (count : ℕ) → Counted s0 s object false count → (n : Node)
@@ -424,7 +417,7 @@ module _ (s0 s : ReaderState) (number before : ℕ) (h : ItemsTo s0 s true numbe
     pub items-go_on : (s2 : ReaderState) (o : Option ℕ) (fewer : ℕ) → MovesOn s1 s2 → item_step s1 ≡ gave o s2.position
         → before ≡ suc fewer → ItemsTo s0 s2 (has_part o) number fewer
     items-go_on s2 o fewer m2 given is = record {
-      moves = moves-twice s0 s s2 h.moves (moves-twice s s1 s2 m m2);
+      moves = moves-on s0 s s2 h.moves (moves-on s s1 s2 m m2);
       items = λ b e ns at. let l = h.items b e ns at in by e (numbered number ns) l.rest l.left l.led;
     } where
       by : (e : ℕ) (found : Option Node) (rest : Nodes) → LeftOfArray s rest e true → numbered before rest ≡ found
@@ -584,7 +577,7 @@ module _ (s0 s : ReaderState) (name : List ℕ) (same : Bool) (place : Option �
         → KeyTold (whole_key s0.text) s1 (on b e ms is).rest e (key_step whole s1)
     key-told b e ms is =
         let a = on b e ms is in
-        key-tells whole (whole_key s0.text) s1 (sees-same s0 s1 (moves-twice s0 s s1 h.moves m)) a.rest e
+        key-tells whole (whole_key s0.text) s1 (sees-same s0 s1 (moves-on s0 s s1 h.moves m)) a.rest e
         (behind-value shape.Object AMember s s1 a.value (members_list a.rest) e a.comes a.left m passed)
 
     pub next_key-not_refused : (b e : ℕ) (ms : NodeMembers) → StandsNext s0 (grammar.object b e ms) → (c : Cause)
@@ -598,7 +591,7 @@ module _ (s0 s : ReaderState) (name : List ℕ) (same : Bool) (place : Option �
     members-go_on start there s2 named m2 given =
         let key = named-gave name _ named s2.position given in
         record {
-          moves = moves-twice s0 s s2 h.moves (moves-twice s s1 s2 m m2);
+          moves = moves-on s0 s s2 h.moves (moves-on s s1 s2 m m2);
           members = λ b e ms is.
               let a = on b e ms is in
               let l = h.members b e ms is in
@@ -617,7 +610,7 @@ module _ (s0 s : ReaderState) (name : List ℕ) (same : Bool) (place : Option �
     pub members-less : (s2 : ReaderState) → MovesOn s1 s2 → length s0.text - s2.position < length s0.text - s.position
     members-less s2 m2 =
         let ahead = skip-ahead s s1.position passed in
-        let last = moves-twice s0 s s2 h.moves (moves-twice s s1 s2 m m2) in
+        let last = moves-on s0 s s2 h.moves (moves-on s s1 s2 m m2) in
         omega (arith, ahead, m2.forward, last.within)
 
 -- Behind the last member.

@@ -3,15 +3,16 @@
 ghost use Rattle.std.specs.Prelude.{◌≡◌, ℕ, IfErr, IfOk, MatchResult, None, false, option_map, true};
 ghost use Rattle.std.specs.Str.{bytes_eq};
 ghost use Rattle.jiter.specs.Errors.{cause_of};
-ghost use Rattle.jiter.specs.Jiter.{MovesOn, RefusesBytes, Replies};
+ghost use Rattle.jiter.specs.Jiter.{MovesOn, RefusesBytes, Replies, key_bytes, reply_seen};
 ghost use Rattle.jiter.specs.Jiter.{UnlessMemory as UnlessRefused, WhereMemory as WhereRefused};
 ghost use Rattle.jiter.specs.Parts.{LedTo, RefusedBehind, StandsNext, count_parts, last_named, numbered};
-ghost use Rattle.jiter.specs.Reader.{next, skip_read, value_place};
+ghost use Rattle.jiter.specs.Reader.{next, object_read, skip_read, value_place};
 ghost use Rattle.jiter_steps.specs.Node.{IsContainer, Node, NodeMembers, Nodes, begin};
 ghost use Rattle.jiter_steps.specs.StringDecoder.{WantsMemory};
-ghost use Rattle.jiter_c.specs.Parts.{TellsGo, first_part, next_part};
-ghost use Rattle.jiter_c.specs.Replies.{state_of};
-ghost use Rattle.jiter_c.specs.Told.{UnlessMemory, WhereMemory};
+ghost use Rattle.jiter_steps.specs.StringReading.{whole};
+ghost use Rattle.jiter_c.specs.Parts.{IfRefused, RefusedSo, TellsGo, first_part, into_read, next_part};
+ghost use Rattle.jiter_c.specs.Replies.{array_reply, next_reply, object_reply, state_of};
+ghost use Rattle.jiter_c.specs.Told.{Tells, UnlessMemory, WhereMemory, fault_or};
 
 use crate::faults::{JiterFault, fault_of};
 use crate::reader::{JiterReader, jiter_at};
@@ -48,6 +49,7 @@ fn count_parts(reader: &JiterReader<'_>) -> JiterResult<u64>
         → MatchResult result (λ count. count ≡ count_parts n) (λ _. ⊥) }
     ensures refusal { IfErr result (λ e. (stop : ℕ)
         × RefusedBehind (state_of reader.now) (cause_of e.error_type) e.index stop) }
+    ensures into { (stop : ℕ) × RefusedSo (next_reply reader.now into_read) result stop }
 {
     let mut jiter = jiter_at(reader);
     let object = jiter.peek()? == Peek::Object;
@@ -71,6 +73,9 @@ pub extern "C" fn jiter_count(
     ensures counts { (n : Node) → StandsNext (state_of reader.now) n → IsContainer n
         → (result ≡ true) × (count.new ≡ count_parts n) }
     ensures told { (stop : ℕ) × TellsGo (state_of reader.now) result stop fault.old fault.new }
+    // Where another value comes next it is refused as no array; where the step into it is refused, as that step.
+    ensures into { IfRefused (next_reply reader.now into_read) ((result ≡ false)
+        × (fault.new ≡ fault_or fault.old (next_reply reader.now into_read))) }
     ensures kept { result ≡ false → count.new ≡ count.old }
 {
     match count_parts(reader) {
@@ -92,6 +97,7 @@ fn find_item(jiter: &mut Jiter<'_>, number: u64) -> JiterResult<bool>
         → MatchResult result (λ found. LedTo (numbered number ns) e found jiter.new.position) (λ _. ⊥) }
     ensures refusal { IfErr result
         (λ e. RefusedBehind jiter.old (cause_of e.error_type) e.index jiter.new.position) }
+    ensures into { RefusedSo (first_part false jiter.old) result jiter.new.position }
 {
     let mut before = number;
     let mut item = jiter.next_array()?;
@@ -119,6 +125,9 @@ pub extern "C" fn jiter_item(
     ensures led { (b e : ℕ) → (ns : Nodes) → StandsNext (state_of reader.old) (Node.array b e ns)
         → (result ≡ true) × LedTo (numbered number ns) e found.new reader.new.index }
     ensures told { TellsGo (state_of reader.old) result reader.new.index fault.old fault.new }
+    // Where another value comes next, or the step into the array is refused otherwise, it is refused as that step.
+    ensures into { IfRefused (array_reply reader.old)
+        (Tells (array_reply reader.old) result reader.old reader.new fault.old fault.new) }
     ensures kept { result ≡ false → found.new ≡ found.old }
     ensures reader { reader.new ≡ record reader.old { index = reader.new.index } }
 {
@@ -166,6 +175,8 @@ fn last_member(alloc: Global, jiter: &mut Jiter<'_>, name: &[u8]) -> JiterResult
         × (jiter.new.position ≡ e)) (λ _. ⊥)) }
     ensures refusal { UnlessRefused result (IfErr result
         (λ e. RefusedBehind jiter.old (cause_of e.error_type) e.index jiter.new.position)) }
+    ensures into { UnlessRefused result (RefusedSo
+        (reply_seen key_bytes (next jiter.old (object_read whole jiter.old))) result jiter.new.position) }
     ensures memory { WhereRefused result (λ e. WantsMemory jiter.old.text e.index) }
     ensures place { WhereRefused result (λ e. jiter.new.position ≡ e.index) }
 {
@@ -196,6 +207,9 @@ pub extern "C" fn jiter_member(
         × LedTo (last_named reader.old.bytes.now name.now None ms) e found.new reader.new.index) }
     ensures told { UnlessMemory result fault.new
         (TellsGo (state_of reader.old) result reader.new.index fault.old fault.new) }
+    // Where another value comes next, or the step into the object is refused otherwise, it is refused as that step.
+    ensures into { UnlessMemory result fault.new (IfRefused (object_reply whole reader.old)
+        (Tells (object_reply whole reader.old) result reader.old reader.new fault.old fault.new)) }
     ensures kept { result ≡ false → found.new ≡ found.old }
     ensures reader { reader.new ≡ record reader.old { index = reader.new.index } }
     // Memory may be wanted only for a key with a backslash, and the reader then stands at it.

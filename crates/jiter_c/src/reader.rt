@@ -49,6 +49,8 @@ pub extern "C" fn jiter_peek(
 ) -> bool
     ensures told { Tells (peek_reply reader.old) result reader.old reader.new fault.old fault.new }
     ensures value { start.new ≡ given_or start.old (peek_reply reader.old) }
+    // A second peek tells the same.
+    ensures again { peek_reply reader.new ≡ peek_reply reader.old }
 {
     let mut jiter = jiter_at(reader);
     let read = jiter.peek();

@@ -1,5 +1,5 @@
 //! The reader's scalars: literals, numbers and strings.
-ghost use Rattle.std.specs.Prelude.{◌≡◌, length};
+ghost use Rattle.std.specs.Prelude.{◌≡◌, false, length};
 ghost use Rattle.jiter.specs.Jiter.{reply_seen};
 ghost use Rattle.jiter.specs.Reader.{bool_read, null_read, number_bytes_read, value_place};
 ghost use Rattle.jiter_steps.specs.StringDecoder.{WantsMemory};
@@ -15,7 +15,9 @@ use std::alloc::Global;
 /// Reads `null`.
 #[unsafe(no_mangle)]
 pub extern "C" fn jiter_next_null(reader: &mut JiterReader<'_>, fault: &mut JiterFault) -> bool
-    ensures { Tells (next_reply reader.old null_read) result reader.old reader.new fault.old fault.new }
+    ensures told { Tells (next_reply reader.old null_read) result reader.old reader.new fault.old fault.new }
+    // Where it is refused the reader stands at the value, so that another type may be tried.
+    ensures stays { result ≡ false → reader.new.index ≡ value_place (state_of reader.old) }
 {
     let mut jiter = jiter_at(reader);
     let read = jiter.next_null();
@@ -32,6 +34,7 @@ pub extern "C" fn jiter_next_bool(
 ) -> bool
     ensures told { Tells (next_reply reader.old bool_read) result reader.old reader.new fault.old fault.new }
     ensures value { value.new ≡ given_or value.old (next_reply reader.old bool_read) }
+    ensures stays { result ≡ false → reader.new.index ≡ value_place (state_of reader.old) }
 {
     let mut jiter = jiter_at(reader);
     let read = jiter.next_bool();
@@ -59,6 +62,7 @@ pub extern "C" fn jiter_next_int(
     ensures told { Tells (int_reply reader.old) result reader.old reader.new fault.old fault.new }
     ensures fits { fits.new ≡ given_or fits.old (reply_seen is_small (int_reply reader.old)) }
     ensures value { value.new ≡ given_or value.old (reply_seen small_value (int_reply reader.old)) }
+    ensures stays { result ≡ false → reader.new.index ≡ value_place (state_of reader.old) }
 {
     let mut jiter = jiter_at(reader);
     let read = jiter.next_int();
@@ -92,6 +96,7 @@ pub extern "C" fn jiter_next_number<'j>(
         fault.old fault.new }
     ensures text { text.new.bytes.now
         ≡ given_or text.old.bytes.now (next_reply reader.old number_bytes_read) }
+    ensures stays { result ≡ false → reader.new.index ≡ value_place (state_of reader.old) }
 {
     let mut jiter = jiter_at(reader);
     let read = jiter.next_number_bytes();
@@ -117,6 +122,7 @@ pub extern "C" fn jiter_next_bytes<'j>(
 ) -> bool
     ensures told { Tells (bytes_reply reader.old) result reader.old reader.new fault.old fault.new }
     ensures text { text.new.bytes.now ≡ given_or text.old.bytes.now (bytes_reply reader.old) }
+    ensures stays { result ≡ false → reader.new.index ≡ value_place (state_of reader.old) }
 {
     let mut jiter = jiter_at(reader);
     let read = jiter.next_bytes();
@@ -153,6 +159,9 @@ pub extern "C" fn jiter_next_str(
         (WantsMemory reader.old.bytes.now (value_place (state_of reader.old))) }
     ensures place { WhereMemory result fault.new
         (reader.new ≡ record reader.old { index = value_place (state_of reader.old) }) }
+    // So too where it is refused otherwise.
+    ensures stays { UnlessMemory result fault.new
+        (result ≡ false → reader.new.index ≡ value_place (state_of reader.old)) }
 {
     let mut jiter = jiter_at(reader);
     let given = match jiter.next_str(alloc) {

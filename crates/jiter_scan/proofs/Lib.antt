@@ -13,6 +13,7 @@ pub mod NumberValues
 pub mod NumberExtents
 pub mod NumberTests
 pub mod OpenNumbers
+pub mod NumberRuns
 pub mod OpenValues
 pub mod NumberLaws
 pub mod Pins

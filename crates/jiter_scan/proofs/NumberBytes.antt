@@ -32,7 +32,7 @@ given-ascii w v e h =
     (All-weaker (λ c. is_ascii c ≡ true) (λ c. c < 128) (λ c low. ltb-true c 128 low) v
     (AllPass-from_list_all is_ascii v h)))
 
-digits-ascii : (w : List ℕ) → AreDigits w → IsAscii w
+pub digits-ascii : (w : List ℕ) → AreDigits w → IsAscii w
 digits-ascii [] h = IsAscii-nil
 digits-ascii (c ∷ w) h =
     let digit = digit-bounds c h.0 in IsAscii-cons c w (omega (arith, digit.1)) (digits-ascii w h.1)

@@ -13,6 +13,7 @@ use Rattle.jiter_scan.specs.NumberReading.{digits_from, behind_zero, int_part_fr
 use Rattle.jiter_scan.specs.NumberReading.{fraction_at}
 use Rattle.jiter_scan.specs.NumberReading.{power_from, exponent_from, exponent_at, decimal_at, behind_minus}
 use Rattle.jiter_scan.specs.NumberReading.{extent_from, number_extent, with_value, number_at}
+use Rattle.jiter_scan.specs.NumberWithin.{continues_number}
 use Rattle.jiter_scan.specs.Scanned.{taken}
 use Rattle.jiter_scan.specs.Stands.{Stands}
 use Rattle.jiter_scan.proofs.Choices.{if-true, if-false}
@@ -20,10 +21,6 @@ use Rattle.jiter_scan.proofs.NumberExtents.{decimal_at-tail, tail-parts, extent-
 use Rattle.jiter_scan.proofs.Runs.{NoDigit, run_end-complete}
 use Rattle.jiter_scan.proofs.Standing.{First, stands-length, stands-split, stands-slice, stands-next}
 use Rattle.jiter_scan.proofs.WordLaws.{word_at-complete}
-
--- a byte that can go on a number
-abbrev pub continues_number : ℕ → Bool
-continues_number c = is_digit c || (c == 46) || (c == 101) || (c == 69)
 
 -- the end, or a byte that does not go on a number
 abbrev pub EndsNumber : Option ℕ → Type 0

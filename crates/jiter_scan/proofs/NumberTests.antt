@@ -20,7 +20,8 @@ use Rattle.jiter_scan.specs.NumberTests.{is_exponent}
 use Rattle.jiter_scan.specs.NumberTests.{is_magnitude, is_name, is_number_text}
 use Rattle.jiter_scan.specs.Scanned.{taken, failed}
 use Rattle.jiter_scan.specs.Word.{Extent}
-use Rattle.jiter_scan.proofs.NumberComplete.{continues_number, number_extent-complete}
+use Rattle.jiter_scan.specs.NumberWithin.{continues_number}
+use Rattle.jiter_scan.proofs.NumberComplete.{number_extent-complete}
 use Rattle.jiter_scan.proofs.NumberSound.{number_extent-sound}
 use Rattle.jiter_scan.proofs.Standing.{stands-slice}
 

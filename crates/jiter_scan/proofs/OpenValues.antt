@@ -24,7 +24,8 @@ use Rattle.jiter_scan.specs.declared.open_number.Stage.TheVariants as stage
 use Rattle.jiter_scan.proofs.Choices.{if-true, if-false, if_case, failed-taken}
 use Rattle.jiter_scan.proofs.Digits.{digit-bounds, decimal_of-above}
 use Rattle.jiter_scan.proofs.NumberBytes.{number-not_empty}
-use Rattle.jiter_scan.proofs.NumberComplete.{continues_number, number_extent-complete}
+use Rattle.jiter_scan.specs.NumberWithin.{continues_number}
+use Rattle.jiter_scan.proofs.NumberComplete.{number_extent-complete}
 use Rattle.jiter_scan.proofs.NumberSound.{number_extent-sound}
 use Rattle.jiter_scan.proofs.NumberValues.{number_value-digits, number_value-minus, Tail, no_tail, a_tail, tail}
 use Rattle.jiter_scan.proofs.NumberValues.{any-float}
@@ -171,7 +172,7 @@ module _ (w : List ℕ) (s : Stage) (begun : IsBegun w s) (whole : is_whole s �
 
 -- ---- behind its minus
 -- the last bytes stand behind the others
-stands-last : (w u : List ℕ) → Stands (w ++ u) (length w) (length (w ++ u)) u
+pub stands-last : (w u : List ℕ) → Stands (w ++ u) (length w) (length (w ++ u)) u
 stands-last w u =
     let t = w ++ u in
     let all : Stands t 0 (length t) t =

@@ -14,5 +14,6 @@ pub mod NumberReading
 pub mod NumberDecoder
 pub mod OpenNumber
 pub mod OpenWord
+pub mod NumberWithin
 pub mod Simd
 pub mod PlainNumber

@@ -1,10 +1,11 @@
 -- A number that is read byte by byte: what its reading is from the stage that was reached, in any text.
-use Rattle.std.specs.Prelude.{◌≡◌, ℕ, ◌+◌, ◌<◌, ◌==◌, ◌||◌, ◌&&◌, Bool, true, false, not, if◌then◌else◌, List, []}
-use Rattle.std.specs.Prelude.{◌∷◌, ◌++◌}
+use Rattle.std.specs.Prelude.{◌≡◌, ℕ, ◌+◌, ◌-◌, ◌<◌, ◌==◌, ◌||◌, ◌&&◌, Bool, true, false, not, if◌then◌else◌, List}
+use Rattle.std.specs.Prelude.{[], ◌∷◌, ◌++◌, min}
 use Rattle.std.specs.Prelude.{codes, length, nat_le, slice_get, string_bytes, ℤ, Option, Some, None}
 use Rattle.jiter_scan.specs.Ascii as ascii
 use Rattle.jiter_scan.specs.Kind.{invalid_number, number_out_of_range, eof_value}
 use Rattle.jiter_scan.specs.Scanned.{Scanned, taken, failed}
+use Rattle.jiter_scan.specs.Stands.{Stands}
 use Rattle.jiter_scan.specs.Word.{Extent, word_at}
 use Rattle.jiter_scan.specs.Digits.{is_digit, digit_run_end}
 use Rattle.jiter_scan.specs.Number.{Number, integer, big, float, is_float_byte, is_integral}
@@ -14,6 +15,8 @@ use Rattle.jiter_scan.specs.declared.open_number.Stage.{Stage}
 use Rattle.jiter_scan.specs.declared.open_number.Stage.TheVariants as stage
 use Rattle.jiter_scan.specs.declared.open_number.Went.{Went}
 use Rattle.jiter_scan.specs.declared.open_number.Went.TheVariants as went
+use Rattle.jiter_scan.specs.declared.open_number.NumberKind.{NumberKind}
+use Rattle.jiter_scan.specs.declared.open_number.NumberKind.TheVariants as kind
 use Rattle.jiter_scan.specs.declared.open_number.OwnNumber.{OwnNumber}
 use Rattle.jiter_scan.specs.declared.open_number.OwnNumber.TheVariants as own
 
@@ -63,6 +66,24 @@ abbrev pub bytes_after : List ℕ → ℕ → Went → List ℕ
 bytes_after w b (went.Taken new) = w ++ b ∷ []
 bytes_after w b other = w
 
+-- how many of so many digits go on with a number of this stage
+abbrev pub digits_for : Stage → ℕ → ℕ
+digits_for (stage.Digits room) n = min n room
+digits_for stage.Fraction n = n
+digits_for stage.Exponent n = n
+digits_for s n = 0
+
+-- the stage behind so many
+abbrev pub stage_behind : Stage → ℕ → Stage
+stage_behind (stage.Digits room) n = stage.Digits (room - n)
+stage_behind s n = s
+
+-- these bytes lead from the one stage to the other, in every text where they stand
+abbrev pub LeadsOver : Stage → List ℕ → Stage → Type 0
+LeadsOver s w new =
+    (names : Bool) (t : List ℕ) (j : ℕ) → Stands t j (j + length w) w
+    → number_from names s t j ≡ number_from names new t (j + length w)
+
 -- what was read so far is a number
 abbrev pub is_whole : Stage → Bool
 is_whole stage.Zero = true
@@ -104,6 +125,12 @@ abbrev pub own_view : OwnNumber → Number
 own_view (own.Int n) = integer n
 own_view (own.BigInt s) = big (string_bytes s)
 own_view (own.Float s) = float (string_bytes s)
+
+-- a number of these bytes that is of this kind
+abbrev pub kind_view : NumberKind → List ℕ → Number
+kind_view (kind.Int n) w = integer n
+kind_view kind.BigInt w = big w
+kind_view kind.Float w = float w
 
 -- an integer of 64 bits, if that was read
 abbrev pub int_of : Scanned Number → Option ℤ

@@ -1,17 +1,18 @@
 //! Numbers that arrive byte by byte (RFC 8259, 6): each byte is looked at once, and behind each is said how the
 //! number stands.
-ghost use Rattle.std.specs.Prelude.{◌≡◌, ◌+◌, ◌<◌, ◌≤◌, ◌∷◌, [], Bool, IfOk, IfSome, List, None, OnErr, Some, length};
-ghost use Rattle.std.specs.Prelude.{false, slice_get, string_bytes, string_capacity, string_len, true, ℕ};
-ghost use Rattle.jiter_scan.specs.Number.{big, integer, is_float_byte, number_value};
+ghost use Rattle.std.specs.Prelude.{◌≡◌, ◌+◌, ◌-◌, ◌<◌, ◌≤◌, ◌∷◌, ◌++◌, [], Bool, IfOk, IfSome, List, None, OnErr, Some};
+ghost use Rattle.std.specs.Prelude.{false, length, slice_get, slice_range, string_bytes, string_capacity, string_len};
+ghost use Rattle.std.specs.Prelude.{true, ℕ};
+ghost use Rattle.jiter_scan.specs.Digits.{digit_run_end};
+ghost use Rattle.jiter_scan.specs.Number.{AreDigits, big, integer, is_float_byte, number_value};
 ghost use Rattle.jiter_scan.specs.NumberReading.{exponent_at, decimal_at, number_extent, number_at};
-ghost use Rattle.jiter_scan.specs.OpenNumber.{Fits, IsBegun, Leads, at_end, begins_decimal, bytes_after};
-ghost use Rattle.jiter_scan.specs.OpenNumber.{int_of, is_int_stage, is_whole, kept_bytes, number_by, number_from};
-ghost use Rattle.jiter_scan.specs.OpenNumber.{own_view, stage_after};
-ghost use Rattle.jiter_scan.specs.OpenNumber.{tail_at};
+ghost use Rattle.jiter_scan.specs.OpenNumber.{Fits, IsBegun, Leads, LeadsOver, at_end, begins_decimal, bytes_after};
+ghost use Rattle.jiter_scan.specs.OpenNumber.{digits_for, int_of, is_int_stage, is_whole, kept_bytes, kind_view};
+ghost use Rattle.jiter_scan.specs.OpenNumber.{number_by, number_from, own_view, stage_after, stage_behind, tail_at};
 
 use crate::memory::{Refused, push_text};
 use crate::number_decoder::{NumberAny, NumberInt, number_at};
-use crate::simd::is_digit;
+use crate::simd::{digit_run_end, is_digit};
 use crate::text::ascii_text;
 use std::alloc::Global;
 use std::mem;
@@ -56,6 +57,17 @@ pub enum Went {
     Invalid,
     /// A digit that is one too many.
     TooLong,
+}
+
+/// What a number is that is whole.
+#[derive(Clone, Copy, Debug, PartialEq, Eq)]
+pub enum NumberKind {
+    /// An integer that 64 signed bits hold.
+    Int(i64),
+    /// One that they do not hold.
+    BigInt,
+    /// One with a point or an exponent.
+    Float,
 }
 
 /// A number with a text of its own.
@@ -244,6 +256,35 @@ fn next_of(stage: Stage, byte: u8) -> Went
     }
 }
 
+// How many of the digits at a place go on with a number of this stage.
+fn digits_for(stage: Stage, piece: &[u8], at: usize) -> usize
+    requires { at ≤ length piece.now }
+    ensures count { result ≡ digits_for stage (digit_run_end piece.now at - at) }
+    ensures within { at + result ≤ length piece.now }
+{
+    match stage {
+        Stage::Digits(room) => (digit_run_end(piece, at) - at).min(room),
+        Stage::Fraction => digit_run_end(piece, at) - at,
+        Stage::Exponent => digit_run_end(piece, at) - at,
+        Stage::Minus => 0,
+        Stage::Zero => 0,
+        Stage::Point => 0,
+        Stage::Letter => 0,
+        Stage::Sign => 0,
+    }
+}
+
+// The stage behind so many digits more.
+fn stage_behind(stage: Stage, count: usize) -> Stage
+    requires { digits_for stage count ≡ count }
+    ensures { result ≡ stage_behind stage count }
+{
+    match stage {
+        Stage::Digits(room) => Stage::Digits(room - count),
+        _ => stage,
+    }
+}
+
 // The integer of 64 signed bits that stands at the front of a text, if one does.
 fn integer_in(text: &[u8]) -> Option<i64>
     requires { 0 < length text.now }
@@ -313,6 +354,35 @@ impl OpenNumber {
         Ok(went)
     }
 
+    /// Takes the digits that stand at a place of a piece, and says how many: as many as the number has room for, and
+    /// none where it goes on with no digit, or where it awaits its first one, or that of its fraction or its exponent.
+    /// Where memory is refused, nothing changes.
+    pub fn digits(&mut self, piece: &[u8], at: usize) -> Result<usize, Refused>
+        requires { at ≤ length piece.now }
+        ensures count { IfOk result (λ n. n ≡ digits_for self.old.stage (digit_run_end piece.now at - at)) }
+        ensures part { IfOk result (λ n. at + n ≤ length piece.now) }
+        ensures none { IfOk result (λ n. n ≡ 0 → self.new ≡ self.old) }
+        ensures digits { IfOk result (λ n. AreDigits (slice_range piece.now at (at + n))) }
+        ensures leads { IfOk result (λ n.
+            LeadsOver self.old.stage (slice_range piece.now at (at + n)) self.new.stage) }
+        ensures stage { IfOk result (λ n. self.new.stage ≡ stage_behind self.old.stage n) }
+        ensures text { IfOk result (λ n. string_bytes self.new.text
+            ≡ string_bytes self.old.text ++ slice_range piece.now at (at + n)) }
+        ensures begun { IsBegun (string_bytes self.old.text) self.old.stage
+            → IsBegun (string_bytes self.new.text) self.new.stage }
+        ensures refused { OnErr result
+            ((string_bytes self.new.text ≡ string_bytes self.old.text) × (self.new.stage ≡ self.old.stage)) }
+        ensures full { OnErr result (string_capacity self.old.text
+            < string_len self.old.text + (digit_run_end piece.now at - at)) }
+    {
+        let count = digits_for(self.stage, piece, at);
+        if 0 < count {
+            push_text(&mut self.text, ascii_text(&piece[at..at + count]))?;
+            self.stage = stage_behind(self.stage, count);
+        }
+        Ok(count)
+    }
+
     /// Whether the bytes so far are a number.
     pub fn is_whole(&self) -> bool
         ensures value { result ≡ is_whole self.now.stage }
@@ -361,8 +431,30 @@ impl OpenNumber {
         }
     }
 
-    // The text, and an empty one in its place.
-    fn take_text(&mut self) -> String
+    /// What the number is whose bytes were taken. At most 20 bytes are looked at.
+    pub fn kind(&self) -> NumberKind
+        requires begun { IsBegun (string_bytes self.now.text) self.now.stage }
+        requires whole { is_whole self.now.stage ≡ true }
+        ensures { kind_view result (string_bytes self.now.text) ≡ number_value (string_bytes self.now.text) }
+    {
+        if !self.is_integer() {
+            return NumberKind::Float;
+        }
+        match self.small_integer() {
+            Some(number) => NumberKind::Int(number),
+            None => NumberKind::BigInt,
+        }
+    }
+
+    /// The bytes so far.
+    pub fn text(&self) -> &str
+        ensures { result.now ≡ string_bytes self.now.text }
+    {
+        self.text.as_str()
+    }
+
+    /// Takes the bytes so far out, and leaves none in their place. It takes no memory.
+    pub fn take_text(&mut self) -> String
         ensures text { string_bytes result ≡ string_bytes self.old.text }
         ensures none { string_bytes self.new.text ≡ [] }
         ensures stage { self.new.stage ≡ self.old.stage }
@@ -380,12 +472,10 @@ impl OpenNumber {
         ensures kept { kept_bytes result (string_bytes self.new.text) ≡ string_bytes self.old.text }
         ensures stage { self.new.stage ≡ self.old.stage }
     {
-        if !self.is_integer() {
-            return OwnNumber::Float(self.take_text());
-        }
-        match self.small_integer() {
-            Some(number) => OwnNumber::Int(number),
-            None => OwnNumber::BigInt(self.take_text()),
+        match self.kind() {
+            NumberKind::Int(number) => OwnNumber::Int(number),
+            NumberKind::BigInt => OwnNumber::BigInt(self.take_text()),
+            NumberKind::Float => OwnNumber::Float(self.take_text()),
         }
     }
 

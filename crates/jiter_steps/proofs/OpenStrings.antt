@@ -4,19 +4,23 @@ use Rattle.std.proofs.Common.{length, take, drop, refl, sym, ap, ap₂, ◌∙�
 use Rattle.std.proofs.Common.{length-append, take-take}
 use Rattle.std.specs.Prelude.{slice_get, slice_range, Option, Some, None, IfSome, is_some}
 use Rattle.std.specs.Char.{encode_utf8}
+use Rattle.std.specs.Str.{IsUtf8}
 use Rattle.std.proofs.lemmas.Bool.{false≢true, lt-ltb, ne_eqb}
 use Rattle.std.proofs.lemmas.Bool.Decides.{nat_tests}
+use Rattle.std.proofs.lemmas.Option.{slice_get_within}
 use Rattle.jiter_scan.specs.Kind.{fault_kind, control_character, eof_string}
-use Rattle.jiter_scan.specs.Scan.{Pass, is_plain}
-use Rattle.jiter_scan.specs.Scanned.{failed}
+use Rattle.jiter_scan.specs.Scan.{Pass, is_plain, scan_stop}
+use Rattle.jiter_scan.specs.Scanned.{failed, taken}
 use Rattle.jiter_scan.specs.Stands.{Stands}
-use Rattle.jiter_scan.proofs.Standing.{stands-length, stands-append, stands-split, slice-one, slice-stands}
+use Rattle.jiter_scan.proofs.Chunks.{prefix_len-pass}
+use Rattle.jiter_scan.proofs.Standing.{stands-length, stands-append, stands-slice, stands-split, slice-one}
+use Rattle.jiter_scan.proofs.Standing.{slice-stands}
 use Rattle.jiter_steps.specs.OpenEscape.{IsSpelled}
-use Rattle.jiter_steps.specs.OpenString.{Goes, HasTaken, held_bytes}
+use Rattle.jiter_steps.specs.OpenString.{Goes, HasTaken, IsTextWithin, held_bytes}
 use Rattle.jiter_steps.specs.OpenText.{HoldsText, SoFar}
-use Rattle.jiter_steps.specs.StringReading.{Body, Form, Stop, before, body_at, checked, closed, content_at, cut}
-use Rattle.jiter_steps.specs.StringReading.{is_cut, kept, over, part, portion_at, text_form, text_in_form, unclosed}
-use Rattle.jiter_steps.specs.StringReading.{whole, wrong}
+use Rattle.jiter_steps.specs.StringReading.{Body, Form, Stop, before, between, body_at, checked, closed, content_at}
+use Rattle.jiter_steps.specs.StringReading.{cut, is_cut, kept, over, part, portion_at, raw, raw_kept, text_form}
+use Rattle.jiter_steps.specs.StringReading.{text_in_form, unclosed, whole, wrong}
 use Rattle.jiter_steps.specs.declared.open_escape.Spelled.TheVariants as spelled
 use Rattle.jiter_steps.specs.declared.open_string.OpenString.{OpenString}
 use Rattle.jiter_steps.specs.declared.open_string.Went.TheVariants as went
@@ -27,7 +31,7 @@ use Rattle.jiter_steps.proofs.Grammar.StringComplete.{ArePrinted, IsPrinted, byt
 use Rattle.jiter_steps.proofs.Grammar.StringComplete.{portion_by-quote}
 use Rattle.jiter_steps.proofs.Grammar.Places.{Explains, portion_at-explains}
 use Rattle.jiter_steps.proofs.OpenEscapes.{spelled-cut}
-use Rattle.jiter_steps.proofs.Calls.StringAnswers.{string_closed}
+use Rattle.jiter_steps.proofs.Calls.StringAnswers.{string-checked, string_closed}
 use Rattle.jiter_steps.proofs.Reading.Bodies.{before-before, body_at-portion_by, portion_by-end}
 
 -- the first bytes of some that pass
@@ -359,3 +363,70 @@ escape-ahead piece at end c found =
 pub none_open : (o : Option (List ℕ)) (b : Bool) → b ≡ is_some o → b ≡ false → o ≡ None
 none_open None b is answer = refl
 none_open (Some e) b is answer = absurd (false≢true (sym answer ∙ is))
+
+-- A string of plain bytes, wherever it stands with its quotes.
+module _ (v t : List ℕ) (i j : ℕ) (pass : Pass is_plain v) (utf8 : IsUtf8 v)
+    (stands : Stands t i j (34 ∷ v ++ 34 ∷ [])) where
+  abbrev inner : (k : ℕ) × Stands t (i + 1) k v × Stands t k j (34 ∷ [])
+  inner = stands-split t (i + 1) j v (34 ∷ []) stands.1
+
+  -- the bytes between its quotes are these
+  same-source : (k : ℕ) → Stands t (i + 1) k v
+      → taken (between t (i + 1) (k + 1 - 1)) (k + 1) ≡ taken (record { owned = false; bytes = v }) (k + 1)
+  same-source k s =
+      let back : k + 1 - 1 ≡ k = omega arith in
+      ap (λ n. taken (between t (i + 1) n) (k + 1)) back
+      ∙ ap (λ b. taken (record { owned = false; bytes = b }) (k + 1)) (sym (slice-stands t (i + 1) k v s))
+
+  -- and so it is read in each form
+  closed-so : (form : Form) (k : ℕ) → Stands t (i + 1) k v
+      → text_in_form form t (i + 1) v false (closed (k + 1))
+      ≡ taken (record { owned = false; bytes = v }) (k + 1)
+  closed-so whole k s = string-checked (i + 1) (k + 1) false v false utf8
+  closed-so kept k s = string-checked (i + 1) (k + 1) false v true utf8
+  closed-so raw k s = same-source k s
+  closed-so raw_kept k s = same-source k s
+
+  pub plain-string : (form : Form) → content_at form t (i + 1) ≡ taken (record { owned = false; bytes = v }) j
+  plain-string form =
+      let k = inner.0 in
+      let s = inner.1 in
+      let end = inner.2 in
+      stops-so t (i + 1) k v false (bytes-read t (i + 1) k v (plain-all v pass) s) (closed (k + 1))
+      (portion_by-quote t k end.0) form
+      ∙ ap (λ b. text_in_form form t (i + 1) b false (closed (k + 1))) (append-nil v)
+      ∙ closed-so form k s
+      ∙ ap (taken (record { owned = false; bytes = v })) end.1
+
+-- What stands between a quote in a piece and the next byte that stops, which is a quote, is the string's text.
+module _ (piece : List ℕ) (at to : ℕ) (stop : to ≡ scan_stop piece (at + 1))
+    (first : slice_get piece at ≡ Some 34) (last : slice_get piece to ≡ Some 34) where
+  abbrev inside : List ℕ
+  inside = slice_range piece (at + 1) to
+
+  abbrev quoted : List ℕ
+  quoted = slice_range piece at (to + 1)
+
+  inside-plain : Pass is_plain inside
+  inside-plain = prefix_len-pass is_plain (to - (at + 1)) (drop (at + 1) piece) (omega (arith, stop))
+
+  quoted-is : quoted ≡ 34 ∷ inside ++ 34 ∷ []
+  quoted-is =
+      let ahead : at + 1 ≤ to = omega (arith, stop) in
+      let within : to ≤ length piece = omega (arith, slice_get_within piece to 34 last) in
+      let between_stands = stands-slice piece (at + 1) to ahead within in
+      let behind = stands-append piece (at + 1) to (to + 1) inside (34 ∷ []) between_stands (last, refl) in
+      sym (slice-stands piece at (to + 1) (34 ∷ inside ++ 34 ∷ []) (first, behind))
+
+  pub text-within : (text : List ℕ) → text ≡ inside → IsUtf8 text → IsTextWithin piece at text (to + 1)
+  text-within text is utf8 = record {
+    first = first;
+    within = (omega (arith, stop), omega (arith, slice_get_within piece to 34 last));
+    quoted = λ t i s. (here t i s).0;
+    reads = λ form t i s.
+        plain-string inside t i (i + length quoted) inside-plain (subst IsUtf8 is utf8) (here t i s) form
+        ∙ ap (λ b. taken (record { owned = false; bytes = b }) (i + length quoted)) (sym is);
+  } where
+    here : (t : List ℕ) (i : ℕ) → Stands t i (i + length quoted) quoted
+        → Stands t i (i + length quoted) (34 ∷ inside ++ 34 ∷ [])
+    here t i s = subst (Stands t i (i + length quoted)) quoted-is s

@@ -1,20 +1,22 @@
 //! Strings that arrive in pieces (RFC 8259, 7 and 8.1): each byte is looked at once, wherever a piece ends, within a
-//! character or an escape too.
-ghost use Rattle.std.specs.Prelude.{◌≡◌, ◌+◌, ◌<◌, ◌≤◌, [], IfOk, List, None, OnErr, Some, length};
-ghost use Rattle.std.specs.Prelude.{◌||◌, is_some, slice_get, slice_index, slice_range, string_bytes, true, ℕ};
+//! character or an escape too; and those that lie whole in a piece.
+ghost use Rattle.std.specs.Prelude.{◌≡◌, ◌+◌, ◌<◌, ◌≤◌, [], IfOk, IfSome, List, None, OnErr, Some, length};
+ghost use Rattle.std.specs.Prelude.{◌||◌, is_some, not, slice_get, slice_index, slice_range, string_bytes, true, ℕ};
 ghost use Rattle.jiter_scan.specs.Ascii as ascii;
 ghost use Rattle.jiter_scan.specs.Kind.{eof_string};
 ghost use Rattle.jiter_scan.specs.Scan.{Pass, is_plain};
 ghost use Rattle.jiter_scan.specs.Scanned.{failed};
-ghost use Rattle.jiter_steps.specs.OpenString.{Goes, HasTaken, IsPart, Wherever, text_or};
+ghost use Rattle.jiter_steps.specs.OpenString.{Goes, HasTaken, IsPart, IsTextWithin, Wherever, text_or};
 ghost use Rattle.jiter_steps.specs.OpenText.{with_text};
 ghost use Rattle.jiter_steps.specs.StringReading.{content_at, kept, text_form, whole};
 
 use crate::escape::{AtStop, next_portion};
 use crate::open_escape::{OpenEscape, Spelled};
 use crate::open_text::{FEW, OpenText};
+use crate::plain::{ascii_between, text_between};
 use jiter_scan::errors::FaultKind;
-use jiter_scan::memory::Refused;
+use jiter_scan::memory::{Refused, copy_text};
+use jiter_scan::short_scan::scan_short;
 use jiter_scan::simd::string_stop;
 use std::alloc::Global;
 
@@ -48,6 +50,31 @@ fn plain_run(piece: &[u8], at: usize, most: usize) -> &[u8]
 {
     let near = &piece[..at + (piece.len() - at).min(most)];
     &near[at..string_stop(near, at)]
+}
+
+/// The string whose opening quote stands at a place of a piece, if it ends within the piece and holds no escape: its
+/// text, owned, and the place behind its closing quote. None where it does not, where it is no text, and where memory
+/// is refused: then it is read as one that goes on.
+pub fn text_within(alloc: Global, piece: &[u8], at: usize) -> Option<(String, usize)>
+    requires { at < length piece.now }
+    ensures { IfSome result (λ x. IsTextWithin piece.now at (string_bytes x.0) x.1) }
+{
+    if piece[at] != b'"' {
+        return None;
+    }
+    let (to, low) = scan_short(piece, at + 1);
+    if to >= piece.len() || piece[to] != b'"' {
+        return None;
+    }
+    let text = if low {
+        ascii_between(piece, at, to)
+    } else {
+        text_between(piece, at, to)?
+    };
+    match copy_text(alloc, text) {
+        Ok(own) => Some((own, to + 1)),
+        Err(_) => None,
+    }
 }
 
 impl OpenString {
@@ -154,6 +181,7 @@ impl OpenString {
         ensures cut { (w : List ℕ) → (h : HasTaken self.now w) → keep ≡ true → Wherever w (λ t i j. length t ≡ j
             → content_at kept t i
             ≡ text_or result i (h.escaped || is_some self.now.escape) self.now.text.text j) }
+        ensures kept { keep ≡ true → result ≡ not self.now.text.broken }
         ensures unclosed { (w : List ℕ) → HasTaken self.now w → Wherever w (λ t i j. length t ≡ j
             → content_at whole t i ≡ failed eof_string j) }
     {

@@ -1,6 +1,6 @@
 //! Text that arrives in parts, of which any may end within a character (RFC 8259, 8.1): each byte is looked at once.
 ghost use Rattle.std.specs.Prelude.{◌≡◌, ℕ, ◌+◌, ◌<◌, ◌≤◌, ◌++◌, [], Bool, IfOk, List, OnErr, OnOk, false, length};
-ghost use Rattle.std.specs.Prelude.{◌&&◌, nat_lt, not, string_bytes, take};
+ghost use Rattle.std.specs.Prelude.{◌&&◌, nat_lt, not, string_bytes, take, true};
 ghost use Rattle.std.specs.Prelude.{if◌then◌else◌};
 ghost use Rattle.std.specs.Char.{encode_utf8};
 ghost use Rattle.jiter_scan.specs.Kind.{invalid_code_point};
@@ -116,7 +116,8 @@ impl OpenText {
     /// Whether the bytes so far are a text: all of them, or, of one that is kept, as far as its whole characters.
     /// Where they are not, the characters so far stand before the first byte that is wrong.
     pub fn is_text(&self, keep: bool) -> bool
-        ensures { (d : List ℕ) → HoldsText self.now d → (i e : ℕ) → (owned : Bool)
+        ensures kept { keep ≡ true → result ≡ not self.now.broken }
+        ensures checked { (d : List ℕ) → HoldsText self.now d → (i e : ℕ) → (owned : Bool)
             → checked keep i owned d e
             ≡ (if result then taken (record { owned = owned; bytes = self.now.text }) e
             else failed invalid_code_point (i + length self.now.text)) }

@@ -94,9 +94,9 @@ pub enum Shape {
 }
 
 impl Shape {
-    // The byte that closes.
+    /// The byte that closes.
     #[inline(always)]
-    pub(crate) fn closer(self) -> u8
+    pub fn closer(self) -> u8
         ensures { result ≡ closer_of self }
     {
         match self {
@@ -105,9 +105,9 @@ impl Shape {
         }
     }
 
-    // Whether a part begins with the byte: an item with any but the closer, a member with its key's quote.
+    /// Whether a part begins with the byte: an item with any but the closer, a member with its key's quote.
     #[inline(always)]
-    pub(crate) fn begins_part(self, byte: u8) -> bool
+    pub fn begins_part(self, byte: u8) -> bool
         ensures { result ≡ begins_part self byte }
     {
         match self {
@@ -116,9 +116,9 @@ impl Shape {
         }
     }
 
-    // The fault where the input ends before the closer.
+    /// The fault where the input ends before the closer.
     #[inline(always)]
-    fn end_kind(self) -> FaultKind
+    pub fn end_kind(self) -> FaultKind
         ensures { fault_kind result ≡ end_kind_of self }
     {
         match self {
@@ -127,9 +127,9 @@ impl Shape {
         }
     }
 
-    // The fault where neither a comma nor the closer stands behind a part.
+    /// The fault where neither a comma nor the closer stands behind a part.
     #[inline(always)]
-    fn comma_kind(self) -> FaultKind
+    pub fn comma_kind(self) -> FaultKind
         ensures { fault_kind result ≡ comma_kind_of self }
     {
         match self {

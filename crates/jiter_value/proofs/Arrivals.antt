@@ -7,12 +7,12 @@ use Rattle.jiter_scan.proofs.Choices.{if-true, if-false}
 use Rattle.jiter_scan.specs.Scanned.{failed}
 use Rattle.jiter_scan.specs.Word.{Extent}
 use Rattle.jiter_steps.proofs.Reading.WholeTexts.{whole-is}
-use Rattle.jiter_scan.specs.Kind.{Kind, is_forgiven, eof_list, eof_object, eof_value}
+use Rattle.jiter_scan.specs.Kind.{Kind, is_forgiven, eof_object, eof_value}
 use Rattle.jiter_scan.specs.PartialMode.{is_active}
 use Rattle.jiter_scan.specs.NumberReading.{extent_then}
 use Rattle.jiter_steps.specs.Frames.{items_frame, members_frame, resume, parts_from, array_in, object_in, parts_step}
 use Rattle.jiter_steps.specs.Read.{Reading, Rules, done, fault, follow, front_answer, whole_answer, to_end}
-use Rattle.jiter_steps.specs.Step.{Step, stuck, step, end_kind_of, colon, value_first}
+use Rattle.jiter_steps.specs.Step.{Step, container_step, stuck, step, end_kind_of, colon, value_first}
 use Rattle.jiter_steps.specs.Tree.{Text, Tree, array, object, items_of, members_of}
 use Rattle.jiter_steps.specs.declared.parse.Shape.{Shape}
 use Rattle.jiter_steps.specs.declared.parse.Shape.TheVariants as shape
@@ -24,7 +24,7 @@ use Rattle.jiter_value.specs.Arrived.{Arrived, at_value, between_parts, at_end, 
 use Rattle.jiter_value.specs.Arrived.{part_row, leads_on, owned, Holds, HasRead}
 use Rattle.jiter_value.specs.Parses.{reading_as}
 use Rattle.jiter_value.specs.Owned.{owned_tree}
-use Rattle.jiter_value.specs.Settings.{rules_as, answer_by}
+use Rattle.jiter_value.specs.Settings.{answer_as, rules_as, answer_by}
 use Rattle.jiter_value.specs.Spine.{OpenFrame, begun, around, filled, StandsFor}
 use Rattle.jiter_value.specs.Stacks.{PartTree, built}
 use Rattle.jiter_value.specs.declared.open_value.Awaits.{Awaits}
@@ -38,42 +38,59 @@ step-past : {A : Type 0} (t : List ℕ) (row : ℕ → Option ℕ → A) (j : �
 step-past t row j h =
     ap (λ m. row m (slice_get t m)) (past_blanks-end t j h) ∙ ap (row j) (slice_get_past t j h)
 
+-- At a place where a comma and the closer are missing, each open container is closed in a partial mode;
+abbrev pub Sticks : List ℕ → ℕ → Type 0
+Sticks t j = (h : Shape) → (k : Kind) × (step t (container_step h t) j ≡ stuck k j) × (is_forgiven k ≡ true)
+
+-- at the end of the text too.
+pub sticks-past : (t : List ℕ) (j : ℕ) → length t ≤ j → Sticks t j
+sticks-past t j past = λ h.
+    (end_kind_of h, step-past t (container_step h t) j past, end-forgiven _ (end_kind-early h))
+
+module _ (p : Settings) (t : List ℕ) (on : is_active p.mode ≡ true) (j : ℕ) (sticks : Sticks t j) where
+  abbrev mild : Rules Text Tree
+  mild = rules_as owned p
+
+  forgiven : (k : Kind) → is_forgiven k ≡ true → mild.forgives k ≡ true
+  forgiven k h = rw on h
+
+  -- a container ends there
+  pub stuck-closes : (next : ℕ → Reading Tree) (close : ℕ → Tree) (k : Kind) (s : Step) → s ≡ stuck k j
+      → is_forgiven k ≡ true
+      → follow mild next close s ≡ done (close j) j
+  stuck-closes next close k s is h = ap (follow mild next close) is ∙ if_forgiven-yes mild t close k j j (forgiven k h)
+
+  -- and so do all round it
+  pub all-close : (fs : List OpenFrame) (x : Tree) → resume mild t fs (done x j) ≡ done (filled fs x) j
+  all-close [] x = refl
+  all-close (items_frame xs ∷ fs) x =
+      let c = array_in mild t (length fs) in
+      let s = sticks shape.Array in
+      ap (resume mild t fs)
+      (stuck-closes (parts_from mild t c (xs ++ x ∷ [])) (λ e. c.build e (xs ++ x ∷ [])) s.0 (step t c.next j) s.1 s.2)
+      ∙ all-close fs (around (items_frame xs) x)
+  all-close (members_frame ms k ∷ fs) x =
+      let c = object_in mild t (length fs) in
+      let s = sticks shape.Object in
+      ap (resume mild t fs)
+      (stuck-closes (parts_from mild t c (ms ++ (k, x) ∷ [])) (λ e. c.build e (ms ++ (k, x) ∷ [])) s.0
+      (step t c.next j) s.1 s.2)
+      ∙ all-close fs (around (members_frame ms k) x)
+
+  -- a fault of the value that is awaited
+  pub fault-closes : (f : OpenFrame) (fs : List OpenFrame) (k : Kind) (i : ℕ) → is_forgiven k ≡ true
+      → resume mild t (f ∷ fs) (fault k i j) ≡ done (filled fs (begun f)) j
+  fault-closes (items_frame xs) fs k i h =
+      resume-forgiven mild t (items_frame xs) fs k i j (forgiven k h) ∙ all-close fs (array (items_of xs))
+  fault-closes (members_frame ms key) fs k i h =
+      resume-forgiven mild t (members_frame ms key) fs k i j (forgiven k h) ∙ all-close fs (object (members_of ms))
+
 module _ (p : Settings) (t : List ℕ) (on : is_active p.mode ≡ true) (j : ℕ) (past : length t ≤ j) where
   abbrev r : Rules Text Tree
   r = rules_as owned p
 
-  forgiven : (k : Kind) → is_forgiven k ≡ true → r.forgives k ≡ true
-  forgiven k h = rw on h
-
-  -- a container ends there
-  stuck-closes : (next : ℕ → Reading Tree) (close : ℕ → Tree) (k : Kind) (s : Step) → s ≡ stuck k j
-      → is_forgiven k ≡ true
-      → follow r next close s ≡ done (close j) j
-  stuck-closes next close k s is h = ap (follow r next close) is ∙ if_forgiven-yes r t close k j j (forgiven k h)
-
-  -- and so do all round it
-  all-close : (fs : List OpenFrame) (x : Tree) → resume r t fs (done x j) ≡ done (filled fs x) j
-  all-close [] x = refl
-  all-close (items_frame xs ∷ fs) x =
-      let c = array_in r t (length fs) in
-      ap (resume r t fs)
-      (stuck-closes (parts_from r t c (xs ++ x ∷ [])) (λ e. c.build e (xs ++ x ∷ [])) eof_list (step t c.next j)
-      (step-past t c.next j past) refl)
-      ∙ all-close fs (around (items_frame xs) x)
-  all-close (members_frame ms k ∷ fs) x =
-      let c = object_in r t (length fs) in
-      ap (resume r t fs)
-      (stuck-closes (parts_from r t c (ms ++ (k, x) ∷ [])) (λ e. c.build e (ms ++ (k, x) ∷ [])) eof_object
-      (step t c.next j) (step-past t c.next j past) refl)
-      ∙ all-close fs (around (members_frame ms k) x)
-
-  -- a fault of the value that is awaited
-  fault-closes : (f : OpenFrame) (fs : List OpenFrame) (k : Kind) → is_forgiven k ≡ true
-      → resume r t (f ∷ fs) (fault k j j) ≡ done (filled fs (begun f)) j
-  fault-closes (items_frame xs) fs k h =
-      resume-forgiven r t (items_frame xs) fs k j j (forgiven k h) ∙ all-close fs (array (items_of xs))
-  fault-closes (members_frame ms key) fs k h =
-      resume-forgiven r t (members_frame ms key) fs k j j (forgiven k h) ∙ all-close fs (object (members_of ms))
+  ends : Sticks t j
+  ends = sticks-past t j past
 
   -- what is awaited there is a fault of the end
   record Fails (x : Reading Tree) : Type 0 where
@@ -106,20 +123,20 @@ module _ (p : Settings) (t : List ℕ) (on : is_active p.mode ≡ true) (j : ℕ
   built-closes a shape.Array xs fs =
       let c = array_in r t (length fs) in
       let s = part-stuck a shape.Array in
-      ap (resume r t fs) (stuck-closes (parts_from r t c xs) (λ e. c.build e xs) s.0 _ s.1 s.2)
-      ∙ all-close fs (array (items_of xs))
+      ap (resume r t fs) (stuck-closes p t on j ends (parts_from r t c xs) (λ e. c.build e xs) s.0 _ s.1 s.2)
+      ∙ all-close p t on j ends fs (array (items_of xs))
   built-closes a shape.Object xs fs =
       let c = object_in r t (length fs) in
       let s = part-stuck a shape.Object in
-      ap (resume r t fs) (stuck-closes (parts_from r t c xs) (λ e. c.build e xs) s.0 _ s.1 s.2)
-      ∙ all-close fs (object (members_of xs))
+      ap (resume r t fs) (stuck-closes p t on j ends (parts_from r t c xs) (λ e. c.build e xs) s.0 _ s.1 s.2)
+      ∙ all-close p t on j ends fs (object (members_of xs))
 
   -- All that is open ends there, and the value so far is what is read.
   shown-read : (s : Arrived) (v : Tree) → shown s ≡ Some v → (e : ℕ) × (leads_on r t s j ≡ done v e)
   shown-read (at_value a []) v h = absurd (none-some v h)
   shown-read (at_value a (f ∷ fs)) v h =
       let f' = value-fails a (suc (length fs)) in
-      (j, ap (resume r t (f ∷ fs)) f'.is ∙ fault-closes f fs f'.kind f'.ok ∙ ap (λ x. done x j) (same_Some _ _ h))
+      (j, ap (resume r t (f ∷ fs)) f'.is ∙ fault-closes p t on j ends f fs f'.kind j f'.ok ∙ ap (λ x. done x j) (same_Some _ _ h))
   shown-read (between_parts a k xs fs) v h = (j, built-closes a k xs fs ∙ ap (λ x. done x j) (same_Some _ _ h))
   shown-read (at_end w n) v h = (j - n, ap (λ x. done x (j - n)) (same_Some _ _ h))
 
@@ -133,18 +150,28 @@ shown-stands a spine root k (between_parts b shape xs fs) v h is =
     inr (record { frames = fs; innermost = built shape xs; apart = h.2; whole = sym (same_Some _ _ is) })
 shown-stands a spine root k (at_end w n) v h is = inl (h.1, h.2 ∙ same_Some _ _ is)
 
+-- What a front leads to is, where the text ends in a partial mode, the value so far.
+pub led-answers : (p : Settings) (t : List ℕ) (s : Arrived) (v : Tree) → is_active p.mode ≡ true
+    → front_answer (rules_as owned p) t ≡ leads_on (rules_as owned p) t s (length t) → shown s ≡ Some v
+    → (e : ℕ) × (answer_as owned p t ≡ done v e)
+led-answers p t s v on led h =
+    let end = shown-read p t on (length t) (omega arith) s v h in
+    let r = rules_as owned p in
+    (end.0, if-true (is_active p.mode) (front_answer r t) (whole_answer r t) on ∙ led ∙ end.1)
+
+-- what was read so far, and nothing comes
+read-led : (p : Settings) (t : List ℕ) (s : Arrived) → HasRead p t s
+    → front_answer (rules_as owned p) t ≡ leads_on (rules_as owned p) t s (length t)
+read-led p t s read =
+    let r = rules_as owned p in
+    subst (λ w. front_answer r w ≡ leads_on r w s (length t)) (append-nil t) (read.goes [])
+
 -- What was read so far, where the text ends in a partial mode, answers the value so far.
 pub shown-answers : (p : Settings) (t : List ℕ) (s : Arrived) (v : Tree) → is_active p.mode ≡ true → HasRead p t s
     → shown s ≡ Some v → (e : ℕ) × (reading_as owned_tree (answer_by p t) ≡ done v e)
 shown-answers p t s v on read h =
-    let end = shown-read p t on (length t) (omega arith) s v h in
-    let r = rules_as owned p in
-    let whole : front_answer r t ≡ leads_on r t s (length t) =
-    subst (λ w. front_answer r w ≡ leads_on r w s (length t)) (append-nil t) (read.goes []) in (
-      end.0,
-      sym (answer_as-is owned refl p t)
-          ∙ if-true (is_active p.mode) (front_answer r t) (whole_answer r t) on ∙ whole ∙ end.1,
-    )
+    let end = led-answers p t s v on (read-led p t s read) h in
+    (end.0, sym (answer_as-is owned refl p t) ∙ end.1)
 
 -- The same with partial reading off: the end is a fault there, unless the value is whole.
 module _ (p : Settings) (t : List ℕ) (off : is_active p.mode ≡ false) where
@@ -190,11 +217,14 @@ module _ (p : Settings) (t : List ℕ) (off : is_active p.mode ≡ false) where
       parts-end a shape xs fs k (ap (λ k. stuck k end) (same_Some _ _ h))
   leads-end (at_end v n) k h = absurd (none-some k h)
 
+  -- an answer with partial reading off is the front's, to the end
+  pub off-answers : answer_as owned p t ≡ to_end t (front_answer strict t)
+  off-answers = if-false (is_active p.mode) (front_answer strict t) (whole_answer strict t) off ∙ whole-is strict t
+
+  pub led-end : (s : Arrived) (k : Kind) → front_answer strict t ≡ leads_on strict t s end → end_of s ≡ Some k
+      → answer_as owned p t ≡ fault k end end
+  led-end s k led h = off-answers ∙ ap (to_end t) (led ∙ leads-end s k h)
+
   pub end-answers : (s : Arrived) (k : Kind) → HasRead p t s → end_of s ≡ Some k
       → reading_as owned_tree (answer_by p t) ≡ fault k end end
-  end-answers s k read h =
-      let all : front_answer strict t ≡ leads_on strict t s end =
-      subst (λ w. front_answer strict w ≡ leads_on strict w s end) (append-nil t) (read.goes []) in
-      sym (answer_as-is owned refl p t)
-      ∙ if-false (is_active p.mode) (front_answer strict t) (whole_answer strict t) off ∙ whole-is strict t
-      ∙ ap (to_end t) (all ∙ leads-end s k h)
+  end-answers s k read h = sym (answer_as-is owned refl p t) ∙ led-end s k (read-led p t s read) h

@@ -22,7 +22,17 @@ pub mod Placed
 pub mod Repeats
 pub mod KeptKeys
 pub mod Spines
+pub mod Settled
 pub mod Arrivals
 pub mod OpenValues
+pub mod DocumentEnds
+pub mod Documents
+pub mod Pieces
+pub mod DocumentTokens
+pub mod DocumentNames
 pub mod KeySets
+pub mod DocumentStrings
+pub mod DocumentTexts
+pub mod Received
+pub mod DocumentBlanks
 mod Rows

@@ -1,13 +1,14 @@
 -- What a byte makes of a value that arrives, by the rules of its reading.
-use Rattle.std.proofs.Common.{◌≡◌, ℕ, suc, ◌+◌, ◌-◌, ◌<◌, ◌≤◌, ◌==◌, Bool, true, false, List, [], ◌∷◌, length, get_or}
-use Rattle.std.proofs.Common.{refl, sym, subst, ap, ◌∙◌, ◌++◌, arith, map, add-one, append_assoc, inl, length-append}
+use Rattle.std.proofs.Common.{◌≡◌, ℕ, suc, ◌+◌, ◌-◌, ◌<◌, ◌≤◌, ◌==◌, ◌⊎◌, Bool, true, false, List, [], ◌∷◌, length, get_or}
+use Rattle.std.proofs.Common.{refl, sym, subst, ap, ◌∙◌, ◌++◌, arith, map, add-one, append_assoc, inl, inr, length-append, Vec, Global}
 use Rattle.std.proofs.Math.Seq.{get_or-append_seam}
+use Rattle.std.proofs.lemmas.Bool.{eq-eqb, ne_eqb, eqb-true}
 use Rattle.std.proofs.lemmas.List.{length-map}
 use Rattle.std.specs.Prelude.{slice_get, Option, Some, None, Result, Ok, Err, IfOk}
 use Rattle.jiter_scan.specs.declared.memory.Refused.{Refused}
 use Rattle.std.proofs.lemmas.Option.{slice_get_within, slice_get-get_or, get_or_from_slice_get}
 use Rattle.jiter_scan.proofs.Choices.{if_case, if-true, if-false}
-use Rattle.jiter_scan.specs.Kind.{Kind, fault_kind, is_forgiven, recursion_limit, expected_value, expected_colon}
+use Rattle.jiter_scan.specs.Kind.{Kind, is_forgiven, recursion_limit, expected_value, expected_colon}
 use Rattle.jiter_scan.specs.NumberReading.{extent_then}
 use Rattle.jiter_scan.specs.PartialMode.{is_active}
 use Rattle.jiter_scan.specs.Scanned.{taken, failed}
@@ -18,7 +19,7 @@ use Rattle.jiter_steps.specs.Frames.{items_frame, members_frame, resolve_step, r
 use Rattle.jiter_steps.specs.Frames.{array_in, object_in, parts_from, parts_step}
 use Rattle.jiter_steps.specs.Literal.{start_of}
 use Rattle.jiter_steps.specs.Step.{Step, more, closed, stuck, step, colon, object_colon, value_first, container_first}
-use Rattle.jiter_steps.specs.Step.{opening}
+use Rattle.jiter_steps.specs.Step.{opening, begins_part, closer_of, comma_kind_of, container_comma, end_kind_of}
 use Rattle.jiter_steps.specs.Read.{Rules, done, fault, behind_colon, behind_key, behind_part, front_answer}
 use Rattle.jiter_steps.specs.Read.{if_begun, with_key}
 use Rattle.jiter_scan.specs.declared.errors.FaultKind.{FaultKind}
@@ -26,15 +27,18 @@ use Rattle.jiter_steps.specs.StringDecoder.{text_view}
 use Rattle.jiter_steps.specs.Tree.{Text, Tree, null, object, members_of}
 use Rattle.jiter_steps.specs.declared.parse.Shape.{Shape}
 use Rattle.jiter_steps.specs.declared.parse.Shape.TheVariants as shape
+use Rattle.jiter_steps.specs.declared.parse.Literal.{Literal}
+use Rattle.jiter_steps.specs.declared.parse.Start.{Start}
 use Rattle.jiter_steps.specs.declared.parse.Start.TheVariants as start
 use Rattle.jiter_steps.proofs.Calls.Resumed.{IgnoresBegin, if_forgiven-yes, if_forgiven-no, resume-fault, step-to}
 use Rattle.jiter_steps.proofs.Calls.Resumed.{items-value, container-begins, container_in-goes, value_in-levels}
 use Rattle.jiter_steps.proofs.Grammar.Blanks.{past_blanks-blank, past_blanks-other}
 use Rattle.jiter_steps.proofs.Reading.Values.{Advances, inside_at-none, inside_at-starts, parts_at_is}
 use Rattle.jiter_value.specs.Arrived.{Arrived, at_value, between_parts, at_end, value_then, part_row}
-use Rattle.jiter_value.specs.Arrived.{container_of, owned, HasRead, IsBeforeValue, IsBetweenParts, Holds}
-use Rattle.jiter_value.specs.OpenValue.{behind_value, completed, step_by, IsLeft, Everywhere, TakesByte, BeginsScalar}
-use Rattle.jiter_value.specs.OpenValue.{BeginsKey, ClosesBefore, Goes, ReadsOn, text_of}
+use Rattle.jiter_value.specs.Arrived.{container_of, end_of, owned, HasRead, IsBeforeValue, IsBetweenParts, Holds}
+use Rattle.jiter_value.specs.OpenValue.{behind_value, completed, IsLeft, Everywhere, EndsHere, TakesByte, BeginsScalar}
+use Rattle.jiter_value.specs.OpenValue.{BeginsKey, ClosesBefore, ClosesOver, Goes, ReadsOn, passed, text_of, IsScalarStart}
+use Rattle.jiter_value.specs.OpenValue.{IsBehind, IsEnding}
 use Rattle.jiter_value.specs.Settings.{rules_as}
 use Rattle.jiter_value.specs.Spine.{OpenFrame, around, begun, parents_of, spine_of, AwaitsPart, IsOfKey, HasRoomInside, HasValue, StandsFor, filled}
 use Rattle.jiter_value.specs.Stacks.{PartTree, built, empty_tree}
@@ -42,8 +46,6 @@ use Rattle.jiter_value.specs.declared.open_value.Awaits.{Awaits}
 use Rattle.jiter_value.specs.declared.open_value.Awaits.TheVariants as awaits
 use Rattle.jiter_value.specs.Value.{view}
 use Rattle.jiter_value.specs.declared.open_value.OpenValue.{OpenValue}
-use Rattle.jiter_value.specs.declared.open_value.Sign.{Sign}
-use Rattle.jiter_value.specs.declared.open_value.Sign.TheVariants as sign
 use Rattle.jiter_value.specs.declared.open_value.Went.{Went}
 use Rattle.jiter_value.specs.declared.open_value.Went.TheVariants as went
 use Rattle.jiter_value.specs.declared.settings.Settings.{Settings}
@@ -55,12 +57,6 @@ use Rattle.jiter_value.proofs.MadeTexts.{rules_as-advances}
 pub no-parts : (h : Shape) → empty_tree h ≡ built h []
 no-parts shape.Array = refl
 no-parts shape.Object = refl
-
--- what is left open behind a blank
-abbrev pub passed : Arrived → Arrived
-passed (at_value a fs) = at_value a fs
-passed (between_parts a h xs fs) = between_parts a h xs fs
-passed (at_end v n) = at_end v (n + 1)
 
 module _ (p : Settings) (t : List ℕ) where
   abbrev r : Rules Text Tree
@@ -230,7 +226,7 @@ none-read p = record { goes = λ u. by u (past_blanks u 0) (slice_get u (past_bl
   by u i (Some c) = sym (value_in-levels (rules_as owned p) u 0 i (omega arith))
 
 -- How many containers are open
-length-parents : (fs : List OpenFrame) → length (parents_of fs) ≡ length fs
+pub length-parents : (fs : List OpenFrame) → length (parents_of fs) ≡ length fs
 length-parents [] = refl
 length-parents (f ∷ fs) = length-append (parents_of fs) (around f null ∷ []) ∙ ap (λ n. n + 1) (length-parents fs)
     ∙ add-one (length fs)
@@ -267,14 +263,21 @@ pub begins-container : (new : OpenValue) (h : Shape) (fs : List OpenFrame) (c : 
 begins-container new h fs c other few starts left = record {
   next = between_parts awaits.First h [] fs;
   left = left;
+  ends = tt;
   goes = λ p t j here. value-begins p t j c here other h fs few starts;
 }
+
+pub scalar-starts : (s : Start)
+    → (s ≡ start.String) ⊎ ((s ≡ start.Number) ⊎ ((x : Literal) × (s ≡ start.Literal x))) → IsScalarStart s
+scalar-starts s (inl h) = subst IsScalarStart (sym h) tt
+scalar-starts s (inr (inl h)) = subst IsScalarStart (sym h) tt
+scalar-starts s (inr (inr h)) = subst IsScalarStart (sym h.1) tt
 
 pub begins-scalar : (old new : OpenValue) (fs : List OpenFrame) (c : ℕ) → is_blank c ≡ false → length fs ≤ 200
     → AwaitsPart old.spine.items fs → IsOfKey (text_view old.key) fs
     → map view new.spine.items ≡ map view old.spine.items → new.key ≡ old.key → new.awaits ≡ awaits.Value
-    → HasRoomInside new.spine.items → BeginsScalar new (at_value awaits.Value fs) c
-begins-scalar old new fs c other few h of same key is room = record {
+    → HasRoomInside new.spine.items → IsScalarStart (start_of c) → BeginsScalar new (at_value awaits.Value fs) c
+begins-scalar old new fs c other few h of same key is room starts = record {
   frames = fs;
   left = (
     is,
@@ -283,6 +286,7 @@ begins-scalar old new fs c other few h of same key is room = record {
     subst (λ k. IsOfKey (text_view k) fs) (sym key) of,
   );
   low = few;
+  starts = starts;
   room = room;
   goes = λ p t j here. value-here p t j c here other fs;
 }
@@ -292,14 +296,32 @@ pub begins-key : (old new : OpenValue) (a : Awaits) (ms : List (Text × Tree)) (
     → is_blank c ≡ false
     → ((p : Settings) (t : List ℕ) (j : ℕ) → part_row (rules_as owned p) t a shape.Object j (Some c) ≡ more j)
     → map view old.spine.items ≡ spine_of fs (object (members_of ms)) → new.spine ≡ old.spine
-    → new.awaits ≡ awaits.Colon → BeginsKey new (between_parts a shape.Object ms fs) c
-begins-key old new a ms fs c other row h same is = record {
+    → new.awaits ≡ awaits.Colon → (c == 34) ≡ true → BeginsKey new (between_parts a shape.Object ms fs) c
+begins-key old new a ms fs c other row h same is quote = record {
   frames = fs;
   members = ms;
   awaits = is;
   left = ap (λ v. map view v.items) same ∙ h;
   goes = λ p t j here. key-begins p t j c here other a ms fs (row p t j);
+  quote = eqb-true c 34 quote;
 }
+
+-- Where a value ends that is whole behind a byte
+ends-behind : (s : Arrived) (c : ℕ) (x : Tree) (fs : List OpenFrame) → EndsHere s c (behind_value x fs)
+ends-behind s c x [] = inl refl
+ends-behind s c x (items_frame xs ∷ fs) = tt
+ends-behind s c x (members_frame ms k ∷ fs) = tt
+
+ends-blank : (s : Arrived) (c : ℕ) → is_blank c ≡ true → EndsHere s c (passed s)
+ends-blank (at_value a fs) c blank = tt
+ends-blank (between_parts a k xs fs) c blank = tt
+ends-blank (at_end v n) c blank = inr (blank, refl)
+
+ends-other : (s u : Arrived) (c : ℕ) (next : Arrived) → is_blank c ≡ false → EndsHere s c next → EndsHere u c next
+ends-other s u c (at_value a fs) other h = tt
+ends-other s u c (between_parts a k xs fs) other h = tt
+ends-other s u c (at_end v n) other (inl h) = inl h
+ends-other s u c (at_end v n) other (inr h) = let no : true ≡ false = sym h.0 ∙ other in absurd (cc)
 
 -- What is told of a byte where an item is awaited is told of it between the items.
 module _ (a : Awaits) (xs : List Tree) (fs : List OpenFrame) (c : ℕ) (other : is_blank c ≡ false)
@@ -318,12 +340,14 @@ module _ (a : Awaits) (xs : List Tree) (fs : List OpenFrame) (c : ℕ) (other : 
     item-goes new went.Taken g = record {
       next = g.next;
       left = g.left;
+      ends = ends-other item between c g.next other g.ends;
       goes = λ p t j here. same-there p t j here ∙ g.goes p t j here;
     }
     item-goes new went.Scalar g = record {
       frames = g.frames;
       left = g.left;
       low = g.low;
+      starts = g.starts;
       room = g.room;
       goes = λ p t j here. same-there p t j here ∙ g.goes p t j here;
     }
@@ -333,6 +357,7 @@ module _ (a : Awaits) (xs : List Tree) (fs : List OpenFrame) (c : ℕ) (other : 
       awaits = g.awaits;
       left = g.left;
       goes = λ p t j here. same-there p t j here ∙ g.goes p t j here;
+      quote = g.quote;
     }
     item-goes new (went.Closed k) g = record {
       next = g.next;
@@ -343,45 +368,65 @@ module _ (a : Awaits) (xs : List Tree) (fs : List OpenFrame) (c : ℕ) (other : 
     item-goes new (went.Wrong k) g = λ p t j here. same-there p t j here ∙ g p t j here
     item-goes new went.Over g = let none : awaits.Value ≡ awaits.Nothing = sym g.0.0 ∙ g.1 in absurd (cc)
 
--- what another byte is between the parts of a container
-abbrev pub RowIs : Awaits → ℕ → Sign → Shape → Type 0
-RowIs a c u h =
-    (p : Settings) (t : List ℕ) (j : ℕ) → part_row (rules_as owned p) t a h j (Some c) ≡ step_by h t j u
+-- where another byte leads between the parts of a container
+abbrev pub RowIs : Awaits → ℕ → (List ℕ → ℕ → Step) → Shape → Type 0
+RowIs a c u h = (p : Settings) (t : List ℕ) (j : ℕ) → part_row (rules_as owned p) t a h j (Some c) ≡ u t j
+
+-- What a byte is behind a part
+row-comma : (h : Shape) (c : ℕ) → c ≡ 44 → RowIs awaits.Comma c (λ t j. step t (container_comma h) (j + 1)) h
+row-comma h c is = subst (λ c. RowIs awaits.Comma c (λ t j. step t (container_comma h) (j + 1)) h) (sym is) (by h) where
+  by : (h : Shape) → RowIs awaits.Comma 44 (λ t j. step t (container_comma h) (j + 1)) h
+  by shape.Array = λ p t j. refl
+  by shape.Object = λ p t j. refl
+
+row-end : (h : Shape) (c : ℕ) → c ≡ closer_of h → RowIs awaits.Comma c (λ t j. closed (j + 1)) h
+row-end h c closes = λ p t j. if-true (c == closer_of h) _ _ (eq-eqb c (closer_of h) closes)
+
+row-missing : (h : Shape) (c : ℕ) → ¬ (c ≡ 44) → ¬ (c ≡ closer_of h)
+    → RowIs awaits.Comma c (λ t j. stuck (comma_kind_of h) j) h
+row-missing h c one two = λ p t j.
+    if-false (c == closer_of h) _ _ (ne_eqb c (closer_of h) two) ∙ if-false (c == 44) _ _ (ne_eqb c 44 one)
+
+missing-forgiven : (h : Shape) → is_forgiven (comma_kind_of h) ≡ true
+missing-forgiven shape.Array = refl
+missing-forgiven shape.Object = refl
 
 -- What is told of it
 module _ (a : Awaits) (h : Shape) (xs : List (PartTree h)) (fs : List OpenFrame) (c : ℕ) (other : is_blank c ≡ false)
   where
-    pub goes-comma : (new : OpenValue) → RowIs a c sign.Comma h → new.awaits ≡ awaits.Next
-        → map view new.spine.items ≡ spine_of fs (built h xs) → TakesByte new (between_parts a h xs fs) c
+    abbrev there : Arrived
+    there = between_parts a h xs fs
+
+    pub goes-comma : (new : OpenValue) → RowIs a c (λ t j. step t (container_comma h) (j + 1)) h
+        → new.awaits ≡ awaits.Next → map view new.spine.items ≡ spine_of fs (built h xs) → TakesByte new there c
     goes-comma new row is left = record {
       next = between_parts awaits.Next h xs fs;
       left = (is, tt, left);
+      ends = tt;
       goes = λ p t j here. comma-taken p t j c here other a h xs fs (row p t j);
     }
 
-    pub goes-end : (new : OpenValue) → RowIs a c sign.End h → IsLeft new (behind_value (built h xs) fs)
-        → TakesByte new (between_parts a h xs fs) c
+    pub goes-end : (new : OpenValue) → RowIs a c (λ t j. closed (j + 1)) h → IsLeft new (behind_value (built h xs) fs)
+        → TakesByte new there c
     goes-end new row left = record {
       next = behind_value (built h xs) fs;
       left = left;
+      ends = ends-behind there c (built h xs) fs;
       goes = λ p t j here. part-ends p t j c here other a h xs fs (row p t j);
     }
 
-    pub goes-missing : (new : OpenValue) (k : FaultKind) → RowIs a c (sign.Missing k) h → is_forgiven (fault_kind k) ≡ true
-        → IsLeft new (behind_value (built h xs) fs) → ClosesBefore new (between_parts a h xs fs) c (fault_kind k)
+    pub goes-missing : (new : OpenValue) (k : Kind) → RowIs a c (λ t j. stuck k j) h → is_forgiven k ≡ true
+        → IsLeft new (behind_value (built h xs) fs) → ClosesBefore new there c k
     goes-missing new k row ok left = record {
       next = behind_value (built h xs) fs;
       left = left;
-      goes = λ p t j here on.
-          part-missing p t j c here other a h xs fs (fault_kind k) (row p t j) (forgives-on p (fault_kind k) on ok);
-      fails = λ p t j here off.
-          part-wrong p t j c here other a h xs fs (fault_kind k) (row p t j) (forgives-off p (fault_kind k) off);
+      goes = λ p t j here on. part-missing p t j c here other a h xs fs k (row p t j) (forgives-on p k on ok);
+      fails = λ p t j here off. part-wrong p t j c here other a h xs fs k (row p t j) (forgives-off p k off);
     }
 
-    pub goes-wrong : (k : FaultKind) → RowIs a c (sign.Wrong k) h → is_forgiven (fault_kind k) ≡ false
-        → Everywhere c (λ p t j. completed p t (between_parts a h xs fs) j ≡ fault (fault_kind k) j j)
-    goes-wrong k row bad = λ p t j here.
-        part-wrong p t j c here other a h xs fs (fault_kind k) (row p t j) (kept p t (fault_kind k) bad)
+    pub goes-wrong : (k : Kind) → RowIs a c (λ t j. stuck k j) h → is_forgiven k ≡ false
+        → Everywhere c (λ p t j. completed p t there j ≡ fault k j j)
+    goes-wrong k row bad = λ p t j here. part-wrong p t j c here other a h xs fs k (row p t j) (kept p t k bad)
 
 -- and of a blank.
 passed-left : (v : OpenValue) (s : Arrived) → IsLeft v s → IsLeft v (passed s)
@@ -393,6 +438,7 @@ pub goes-blank : (v : OpenValue) (s : Arrived) (c : ℕ) → is_blank c ≡ true
 goes-blank v s c blank h = record {
   next = passed s;
   left = passed-left v s h;
+  ends = ends-blank s c blank;
   goes = λ p t j here. leads-blank p t j c here s blank;
 }
 
@@ -408,6 +454,7 @@ goes-colon old new fs c other colon h of spine key is = record {
     subst (λ v. AwaitsPart v.items fs) (sym spine) h,
     subst (λ k. IsOfKey (text_view k) fs) (sym key) of,
   );
+  ends = tt;
   goes = λ p t j here. colon-taken p t j c here other fs colon;
 }
 
@@ -428,23 +475,72 @@ at-value v a (at_value b fs) is before h = record {
 at-value v a (between_parts b k xs fs) is before h = absurd (not-both a before (subst IsBetweenParts (sym h.0 ∙ is) h.1))
 at-value v a (at_end x n) is before h = absurd (subst IsBeforeValue (sym is ∙ h.0) before)
 
-pub record BetweenParts (v : OpenValue) (s : Arrived) : Type 0 where
+pub record BetweenParts (v : OpenValue) (a : Awaits) (s : Arrived) : Type 0 where
   pub shape : Shape
   pub parts : List (PartTree shape)
   pub frames : List OpenFrame
-  pub all : s ≡ between_parts v.awaits shape parts frames
+  pub all : s ≡ between_parts a shape parts frames
   pub left : map view v.spine.items ≡ spine_of frames (built shape parts)
 
-pub between-parts : (v : OpenValue) (s : Arrived) → IsBetweenParts v.awaits → IsLeft v s → BetweenParts v s
-between-parts v (at_value b fs) inside h = absurd (not-both b h.1 (subst IsBetweenParts h.0 inside))
-between-parts v (between_parts b k xs fs) inside h = record {
+pub between-parts : (v : OpenValue) (a : Awaits) (s : Arrived) → v.awaits ≡ a → IsBetweenParts a → IsLeft v s
+    → BetweenParts v a s
+between-parts v a (at_value b fs) is inside h =
+    absurd (not-both a (subst IsBeforeValue (sym h.0 ∙ is) h.1) inside)
+between-parts v a (between_parts b k xs fs) is inside h = record {
   shape = k;
   parts = xs;
   frames = fs;
-  all = ap (λ c. between_parts c k xs fs) (sym h.0);
+  all = ap (λ c. between_parts c k xs fs) (sym h.0 ∙ is);
   left = h.2;
 }
-between-parts v (at_end x n) inside h = absurd (subst IsBetweenParts h.0 inside)
+between-parts v a (at_end x n) is inside h = absurd (subst IsBetweenParts (sym is ∙ h.0) inside)
+
+-- Behind a part a comma is awaited, or the end.
+at-comma : (a : Awaits) → IsBehind a → ¬ (a ≡ awaits.Nothing) → a ≡ awaits.Comma
+at-comma awaits.Comma behind inside = refl
+at-comma awaits.Nothing behind inside = absurd (inside refl)
+at-comma a behind inside = absurd behind
+
+-- What is told of another byte there
+module _ (v : OpenValue) (behind : IsBehind v.awaits) (inside : ¬ (v.awaits ≡ awaits.Nothing)) (c : ℕ)
+    (other : is_blank c ≡ false)
+  where
+    pub behind-parts : (s : Arrived) → IsLeft v s → BetweenParts v awaits.Comma s
+    behind-parts s left = between-parts v awaits.Comma s (at-comma v.awaits behind inside) tt left
+
+    pub comma-behind : (new : OpenValue) → c ≡ 44 → new.spine ≡ v.spine → new.awaits ≡ awaits.Next
+        → (s : Arrived) → IsLeft v s → TakesByte new s c
+    comma-behind new comma same is = λ s left.
+        let b = behind-parts s left in
+        let spine = ap (λ (w : Vec JsonValue Global). map view w.items) same ∙ b.left in
+        let goes = goes-comma awaits.Comma b.shape b.parts b.frames c other new (row-comma b.shape c comma) is spine in
+        subst (λ x. TakesByte new x c) (sym b.all) goes
+
+    -- The innermost container ends.
+    module _ (new : OpenValue) (h : Shape)
+        (same : (g : Shape) (xs : List (PartTree g)) (fs : List OpenFrame)
+        → map view v.spine.items ≡ spine_of fs (built g xs) → h ≡ g)
+        (ends : (g : Shape) (xs : List (PartTree g)) (fs : List OpenFrame)
+        → map view v.spine.items ≡ spine_of fs (built g xs) → IsLeft new (behind_value (built g xs) fs))
+      where
+        pub end-behind : c ≡ closer_of h → (s : Arrived) → IsLeft v s → TakesByte new s c
+        end-behind closes = λ s left.
+            let b = behind-parts s left in
+            let is = same b.shape b.parts b.frames b.left in
+            let row = row-end b.shape c (closes ∙ ap closer_of is) in
+            let goes = goes-end awaits.Comma b.shape b.parts b.frames c other new row (ends b.shape b.parts b.frames b.left) in
+            subst (λ x. TakesByte new x c) (sym b.all) goes
+
+        pub missing-behind : (k : Kind) → ¬ (c ≡ 44) → ¬ (c ≡ closer_of h) → k ≡ comma_kind_of h
+            → (s : Arrived) → IsLeft v s → ClosesBefore new s c k
+        missing-behind k one two kind = λ s left.
+            let b = behind-parts s left in
+            let is = same b.shape b.parts b.frames b.left in
+            let row = row-missing b.shape c one (subst (λ g. ¬ (c ≡ closer_of g)) is two) in
+            let goes = goes-missing awaits.Comma b.shape b.parts b.frames c other new (comma_kind_of b.shape) row
+            (missing-forgiven b.shape) (ends b.shape b.parts b.frames b.left) in
+            subst (λ k. ClosesBefore new s c k) (sym (kind ∙ ap comma_kind_of is))
+            (subst (λ x. ClosesBefore new x c (comma_kind_of b.shape)) (sym b.all) goes)
 
 -- A container between its parts is one that awaits a part, by its shape.
 pub between-awaits : (h : Shape) (xs : List (PartTree h)) (fs : List OpenFrame) (spine : List JsonValue)
@@ -462,7 +558,7 @@ BetweenGoes old new c r a h =
 abbrev pub PartGoes : OpenValue → OpenValue → ℕ → Result Went Refused → Shape → Type 0
 PartGoes old new c r h =
     (a : Awaits) (xs : List (PartTree h)) (fs : List OpenFrame)
-    → map view old.spine.items ≡ spine_of fs (built h xs) → is_blank c ≡ false
+    → map view old.spine.items ≡ spine_of fs (built h xs) → is_blank c ≡ false → begins_part h c ≡ true
     → ((p : Settings) (t : List ℕ) (j : ℕ) → part_row (rules_as owned p) t a h j (Some c) ≡ more j)
     → IfOk r (Goes new (between_parts a h xs fs) c)
 
@@ -470,7 +566,7 @@ pub item-part : (old new : OpenValue) (c : ℕ) (r : Result Went Refused)
     → ((fs : List OpenFrame) → AwaitsPart old.spine.items fs → IsOfKey (text_view old.key) fs → is_blank c ≡ false
     → IfOk r (Goes new (at_value awaits.Value fs) c))
     → PartGoes old new c r shape.Array
-item-part old new c r goes = λ a xs fs h other row.
+item-part old new c r goes = λ a xs fs h other begins row.
     by a xs fs other row r (goes (items_frame xs ∷ fs) h tt other) where
       by : (a : Awaits) (xs : List Tree) (fs : List OpenFrame) → is_blank c ≡ false
           → ((p : Settings) (t : List ℕ) (j : ℕ) → part_row (rules_as owned p) t a shape.Array j (Some c) ≡ more j)
@@ -487,6 +583,17 @@ long : (f : OpenFrame) (fs : List OpenFrame) (spine : List JsonValue) (x : Tree)
     → map view spine ≡ spine_of fs (around f x) → 0 < length spine
 long f fs spine x h =
     omega (arith, ap length h, length-map spine view, length-append (parents_of fs) (around f x ∷ []))
+
+-- where the input ends behind a part of the innermost container
+pub container-end : (x : Tree) (fs : List OpenFrame) (spine : List JsonValue) (h : Shape) (k : Kind) → ¬ (spine ≡ [])
+    → AwaitsPart spine fs
+    → ((g : Shape) (xs : List (PartTree g)) (gs : List OpenFrame) → map view spine ≡ spine_of gs (built g xs) → h ≡ g)
+    → k ≡ end_kind_of h → Some k ≡ end_of (behind_value x fs)
+container-end x [] spine h k inside awaits same kind = absurd (inside awaits)
+container-end x (items_frame xs ∷ fs) spine h k inside awaits same kind =
+    ap Some (kind ∙ ap end_kind_of (same shape.Array xs fs awaits))
+container-end x (members_frame ms l ∷ fs) spine h k inside awaits same kind =
+    ap Some (kind ∙ ap end_kind_of (same shape.Object ms fs awaits))
 
 -- Behind a value that is put somewhere
 pub put-left : (a : Awaits) (spine : List JsonValue) (root : JsonValue) (k : Text) (x : Tree) (fs : List OpenFrame)
@@ -519,6 +626,39 @@ pub scalar-read : (x : Tree) (p : Settings) (t : List ℕ) (j e : ℕ) (fs : Lis
     → value_in (rules_as owned p) t (length fs) j ≡ done x e
     → value_from (rules_as owned p) t fs j ≡ completed p t (behind_value x fs) e
 scalar-read x p t j e fs h = ap (resume (rules_as owned p) t fs) h ∙ behind-is p t x e fs
+
+-- In a partial mode what is left open at first leads, before the byte, to what is left now.
+pub record ClosesTo (new : OpenValue) (s : Arrived) (c : ℕ) : Type 0 where
+  pub next : Arrived
+  pub left : IsLeft new next
+  pub goes : Everywhere c (λ p t j. is_active p.mode ≡ true → completed p t s j ≡ completed p t next j)
+
+-- There the byte is taken, or the value is whole, and the byte is one more behind it.
+whole-on : (v : OpenValue) (s : Arrived) → IsLeft v s → v.awaits ≡ awaits.Nothing → (p : Settings) (t : List ℕ) (j : ℕ)
+    → completed p t s j ≡ completed p t (passed s) (j + 1)
+whole-on v (at_value a fs) left is p t j = absurd (subst IsBeforeValue (sym left.0 ∙ is) left.1)
+whole-on v (between_parts a k xs fs) left is p t j = absurd (subst IsBetweenParts (sym left.0 ∙ is) left.1)
+whole-on v (at_end x n) left is p t j = let same : j - n ≡ j + 1 - (n + 1) = omega arith in ap (done x) same
+
+pub closes-over : (old new : OpenValue) (s : Arrived) (c : ℕ) (w : Went) → ClosesTo old s c
+    → ((u : Arrived) → IsLeft old u → Goes new u c w) → IsEnding w → ((k : FaultKind) → ¬ (w ≡ went.Closed k))
+    → ClosesOver new s c
+closes-over old new s c went.Taken to goes ending last =
+    let g = goes to.next to.left in
+    record {
+      next = g.next;
+      left = g.left;
+      goes = λ p t j here on. to.goes p t j here on ∙ g.goes p t j here;
+    }
+closes-over old new s c went.Over to goes ending last =
+    let g = goes to.next to.left in
+    record {
+      next = passed to.next;
+      left = passed-left new to.next g.0;
+      goes = λ p t j here on. to.goes p t j here on ∙ whole-on new to.next g.0 g.1 p t j;
+    }
+closes-over old new s c (went.Closed k) to goes ending last = absurd (last k refl)
+closes-over old new s c w to goes ending last = absurd ending
 
 -- What was read, and a byte that is taken behind it
 pub read-on : (p : Settings) (t : List ℕ) (c : ℕ) (s : Arrived) (new : OpenValue) (g : TakesByte new s c)

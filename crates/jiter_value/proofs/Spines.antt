@@ -1,5 +1,6 @@
 -- Open containers, taken apart and put together.
-use Rattle.std.proofs.Common.{◌≡◌, ℕ, ◌+◌, ◌-◌, ◌<◌, ◌≤◌, List, [], ◌∷◌, ◌++◌, length, take, map, get_or, refl}
+use Rattle.std.proofs.Common.{◌≡◌, ℕ, zero, suc, ◌+◌, ◌-◌, ◌<◌, ◌≤◌, List, [], ◌∷◌, ◌++◌, length, take, map, get_or}
+use Rattle.std.proofs.Common.{refl}
 use Rattle.std.proofs.Common.{sym, subst, ap, ap₂, ◌∙◌, arith, length-append, inl, inr, Vec, rules}
 use Rattle.std.specs.Prelude.{slice_set}
 use Rattle.std.specs.declared.alloc.Global.{Global}
@@ -11,7 +12,8 @@ use Rattle.jiter_steps.specs.StringDecoder.{text_view}
 use Rattle.jiter_steps.specs.Tree.{Text, Tree, Items, no_items, item, Members, no_members, member, null, array, object}
 use Rattle.jiter_steps.specs.Tree.{items_of, members_of}
 use Rattle.jiter_value.specs.Spine.{OpenFrame, around, begun, filled, parents_of, spine_of, HasPart, StandsFor}
-use Rattle.jiter_value.specs.Spine.{HasValue, AwaitsPart, IsOfKey, HasRoomInside, IsRoomy}
+use Rattle.jiter_value.specs.Spine.{HasValue, AwaitsPart, IsOfKey, HasRoomInside, IsRoomy, IsLastPart, IsInside}
+use Rattle.jiter_value.specs.Spine.{IsInPlace}
 use Rattle.jiter_value.specs.Stacks.{Member, member_view}
 use Rattle.jiter_value.specs.Value.{view}
 use Rattle.jiter_value.specs.declared.value.JsonValue.{JsonValue, Array, Object, out-JsonValue, the_lemmas}
@@ -19,11 +21,15 @@ use Rattle.jiter_value.specs.declared.value.JsonValue.TheOpen.{JsonValue-F}
 use Rattle.jiter_value.proofs.Views.{view_array, view_object}
 
 -- a list that is not empty, by its last
-last-of : {X : Type 0} (xs : List X) → 0 < length xs → (x : X) × (xs ≡ take (length xs - 1) xs ++ x ∷ [])
+pub last-of : {X : Type 0} (xs : List X) → 0 < length xs → (x : X) × (xs ≡ take (length xs - 1) xs ++ x ∷ [])
 last-of [] h = let no : ⊥ = omega arith in absurd no
 last-of (y ∷ ys) h =
     let n = length (y ∷ ys) - 1 in
     (get_or (y ∷ ys) n y, sym (take_all (n + 1) (y ∷ ys) (omega arith)) ∙ take_more (y ∷ ys) n y (omega arith))
+
+-- and one with a last is not empty
+pub not-empty : {X : Type 0} (xs : List X) (x : X) → xs ++ x ∷ [] ≡ [] → ⊥
+not-empty xs x h = let long = length-append xs (x ∷ []) in omega (arith, ap length h, long)
 
 -- the last, read at its index
 pub last-read : {X : Type 0} (xs before : List X) (n : ℕ) (old got : X) → xs ≡ before ++ old ∷ []
@@ -387,3 +393,164 @@ goes-to-top [] spine value none h = (h, refl)
 goes-to-top (f ∷ fs) spine value none h =
     let long = length-append (parents_of fs) (begun f ∷ []) in
     absurd (omega (arith, ap length h, length-map spine view, none, long))
+
+-- The last part of an array, and of an object
+pub array-ends : (w : Vec JsonValue Global) (before : List JsonValue) (v : JsonValue) → w.items ≡ before ++ v ∷ []
+    → IsLastPart v (Array w)
+array-ends w before v h = rw (out-array w) (before, h)
+
+pub object-ends : (w : Vec Member Global) (before : List Member) (k : CowStr Global) (v : JsonValue)
+    → w.items ≡ before ++ (k, v) ∷ [] → IsLastPart v (Object w)
+object-ends w before k v h = rw (out-object w) (before, k, h)
+
+pub object-end : (w : Vec Member Global) (v : JsonValue) → IsLastPart v (Object w)
+    → (before : List Member) × (k : CowStr Global) × (w.items ≡ before ++ (k, v) ∷ [])
+object-end w v h = rw (out-object w) at h
+
+-- An array without its last item awaits it again,
+pub array-without : (w : Vec JsonValue Global) (old : List JsonValue) (v : JsonValue) (k : Text) (f : OpenFrame)
+    (x : Tree) → old ≡ w.items ++ v ∷ [] → array (items_of (map view old)) ≡ around f x
+    → (view (Array w) ≡ begun f) × IsOfKey k (f ∷ [])
+array-without w old v k f x is h =
+    let last = last-item old f x h in
+    let same = same_from_push w.items last.before v last.old (sym is ∙ last.items) in (
+      view_array w ∙ ap (λ vs. array (items_of (map view vs))) same.0 ∙ ap begun (sym last.frame),
+      subst (λ g. IsOfKey k (g ∷ [])) (sym last.frame) tt,
+    )
+
+-- and an object its last member, by its key.
+pub object-without : (w : Vec Member Global) (old : List Member) (k : CowStr Global) (v : JsonValue) (f : OpenFrame)
+    (x : Tree) → old ≡ w.items ++ (k, v) ∷ [] → object (members_of (map member_view old)) ≡ around f x
+    → (view (Object w) ≡ begun f) × IsOfKey (text_view k) (f ∷ [])
+object-without w old k v f x is h =
+    let last = last-member old f x h in
+    let same = same_from_push w.items last.before (k, v) (last.key, last.old) (sym is ∙ last.members) in (
+      view_object w ∙ ap (λ ms. object (members_of (map member_view ms))) same.0 ∙ ap begun (sym last.frame),
+      subst (λ g. IsOfKey (text_view k) (g ∷ [])) (sym last.frame) (ap (λ m. text_view m.0) (sym same.1)),
+    )
+
+-- A value that is the last part of the innermost container is in its place;
+pub in-place : (spine : List JsonValue) (root got new v : JsonValue) (n : ℕ) → n + 1 ≡ length spine
+    → got ≡ get_or spine n got → IsLastPart v new → IsInPlace (slice_set spine n new) root v
+in-place spine root got new v n at g h =
+    let i = innermost-of spine got n at g in
+    inr (i.before, new, last-set spine i.before n got new i.all i.at, h)
+
+-- and one that is there is its last part.
+pub placed-in : (spine : List JsonValue) (root got v : JsonValue) (n : ℕ) → n + 1 ≡ length spine
+    → got ≡ get_or spine n got → IsInPlace spine root v → IsLastPart v got
+placed-in spine root got v n at g (inl h) = absurd (omega (arith, ap length h.0, at))
+placed-in spine root got v n at g (inr p) =
+    let i = innermost-of spine got n at g in
+    let same = same_from_push i.before p.0 got p.1 (sym i.all ∙ p.2) in
+    subst (λ w. IsLastPart v w) (sym same.1) p.3
+
+-- Where a value stands inside the open containers, the innermost has a part,
+pub innermost-part : (fs : List OpenFrame) (spine : List JsonValue) (root got : JsonValue) (n : ℕ) (x : Tree)
+    → n + 1 ≡ length spine → got ≡ get_or spine n got → HasValue spine root fs x → HasPart (view got)
+innermost-part [] spine root got n x at g h = absurd (omega (arith, ap length h.0, at))
+innermost-part (f ∷ fs) spine root got n x at g h =
+    let i = innermost-of spine got n at g in
+    record {
+      frame = f;
+      part = x;
+      is = (innermost-behind i.before got fs (around f x) (ap (map view) (sym i.all) ∙ h)).1;
+    }
+
+-- and without it it is awaited again.
+key-of-all : (k : Text) (f : OpenFrame) (fs : List OpenFrame) → IsOfKey k (f ∷ []) → IsOfKey k (f ∷ fs)
+key-of-all k (items_frame xs) fs h = tt
+key-of-all k (members_frame ms l) fs h = h
+
+pub awaits-again : (fs : List OpenFrame) (spine : List JsonValue) (root got new : JsonValue) (k : Text) (n : ℕ)
+    (x : Tree) → n + 1 ≡ length spine → got ≡ get_or spine n got
+    → ((f : OpenFrame) → (y : Tree) → view got ≡ around f y → (view new ≡ begun f) × IsOfKey k (f ∷ []))
+    → HasValue spine root fs x → AwaitsPart (slice_set spine n new) fs × IsOfKey k fs
+awaits-again [] spine root got new k n x at g without h = absurd (omega (arith, ap length h.0, at))
+awaits-again (f ∷ fs) spine root got new k n x at g without h =
+    let i = innermost-of spine got n at g in
+    let was = innermost-behind i.before got fs (around f x) (ap (map view) (sym i.all) ∙ h) in
+    let now = without f x was.1 in
+    let awaits : map view (slice_set spine n new) ≡ spine_of fs (begun f) =
+    rw (last-set spine i.before n got new i.all i.at)
+    (map_push view i.before new ∙ ap₂ (λ ss y. ss ++ y ∷ []) was.0 now.0) in
+    (awaits, key-of-all k f fs now.1)
+
+-- With none it is the root.
+pub placed-root : (spine : List JsonValue) (root v : JsonValue) → length spine ≡ 0 → IsInPlace spine root v → root ≡ v
+placed-root spine root v none (inl h) = h.1
+placed-root spine root v none (inr p) =
+    let long = length-append p.0 (p.1 ∷ []) in absurd (omega (arith, ap length p.2, none, long))
+
+-- While the containers are put together, the innermost one stands in the last of the spine, or in the root:
+pub record Carried (spine : List JsonValue) (root v : JsonValue) (deep : ℕ) : Type 0 where
+  pub count : ℕ
+  pub all : count + length spine ≡ deep + 1
+  pub inside : (others : List JsonValue) (w : JsonValue) → spine ≡ others ++ w ∷ [] → IsInside count v w
+  pub whole : length spine ≡ 0 → IsInside deep v root
+
+-- first it is the last of the spine;
+pub carried-first : (spine before : List JsonValue) (root v : JsonValue) → spine ≡ before ++ v ∷ []
+    → Carried spine root v (length before)
+carried-first spine before root v h =
+    let long = length-append before (v ∷ []) in
+    record {
+      count = 0;
+      all = omega (arith, ap length h, long);
+      inside = λ others w is. (same_from_push others before w v (sym is ∙ h)).1;
+      whole = λ none. absurd (omega (arith, ap length h, long, none));
+    }
+
+-- then each goes into its parent.
+inside-parent : (spine : List JsonValue) (root child v : JsonValue) (count : ℕ) → IsInPlace spine root child
+    → IsInside count v child → (others : List JsonValue) (w : JsonValue) → spine ≡ others ++ w ∷ []
+    → IsInside (suc count) v w
+inside-parent spine root child v count (inl h) low others w is =
+    let long = length-append others (w ∷ []) in absurd (omega (arith, ap length h.0, ap length is, long))
+inside-parent spine root child v count (inr p) low others w is =
+    let same = same_from_push p.0 others p.1 w (sym p.2 ∙ is) in
+    (child, subst (λ u. IsLastPart child u) same.1 p.3, low)
+
+pub carried-on : (spine rest new : List JsonValue) (root root-new child v : JsonValue) (deep : ℕ)
+    → Carried spine root v deep → spine ≡ rest ++ child ∷ [] → IsInPlace new root-new child
+    → length new ≡ length rest → Carried new root-new v deep
+carried-on spine rest new root root-new child v deep h is place same =
+    let long = length-append rest (child ∷ []) in
+    let low = h.inside rest child is in
+    record {
+      count = suc h.count;
+      all = omega (arith, h.all, ap length is, long, same);
+      inside = inside-parent new root-new child v h.count place low;
+      whole = λ none.
+          let deep-is : h.count ≡ deep = omega (arith, h.all, ap length is, long, same, none) in
+          subst (λ n. IsInside n v root-new) deep-is
+          (subst (λ w. IsInside h.count v w) (sym (placed-root new root-new child none place)) low);
+    }
+
+-- While they are taken apart, it stands in what is left.
+pub record Lowered (inner v : JsonValue) (counter depth : ℕ) : Type 0 where
+  pub count : ℕ
+  pub all : count + counter ≡ depth
+  pub inside : IsInside count v inner
+
+lowered-by : (inner part v : JsonValue) (count counter depth : ℕ) → count + counter ≡ depth → IsInside count v inner
+    → counter < depth → ((w : JsonValue) → IsLastPart w inner → part ≡ w) → Lowered part v (counter + 1) depth
+lowered-by inner part v zero counter depth all h more moved = absurd (omega (arith, all, more))
+lowered-by inner part v (suc count) counter depth all h more moved = record {
+  count = count;
+  all = omega (arith, all);
+  inside = subst (λ w. IsInside count v w) (sym (moved h.0 h.1)) h.2;
+}
+
+pub lowered-on : (inner part v : JsonValue) (counter depth : ℕ) → Lowered inner v counter depth → counter < depth
+    → ((w : JsonValue) → IsLastPart w inner → part ≡ w) → Lowered part v (counter + 1) depth
+lowered-on inner part v counter depth h more moved =
+    lowered-by inner part v h.count counter depth h.all h.inside more moved
+
+lowered-to : (inner v : JsonValue) (count : ℕ) → count ≡ 0 → IsInside count v inner → inner ≡ v
+lowered-to inner v zero none h = h
+lowered-to inner v (suc count) none h = absurd (omega (arith, none))
+
+-- At last it is what is left.
+pub lowered : (inner v : JsonValue) (counter depth : ℕ) → Lowered inner v counter depth → depth ≤ counter → inner ≡ v
+lowered inner v counter depth h low = lowered-to inner v h.count (omega (arith, h.all, low)) h.inside

@@ -21,5 +21,11 @@ pub mod Equality
 pub mod Spine
 pub mod Arrived
 pub mod OpenValue
+pub mod Names
+pub mod OpenDocument
+pub mod DocumentStrings
+pub mod DocumentEnds
+pub mod Together
+pub mod Arriving
 pub mod ValueCode
 pub mod KeySets

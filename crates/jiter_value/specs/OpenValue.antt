@@ -1,19 +1,26 @@
 -- A value that arrives byte by byte: what the next byte makes of it, whatever comes behind it.
-use Rattle.std.specs.Prelude.{◌≡◌, ℕ, ◌+◌, ◌≤◌, true, false, List, [], ◌∷◌, ◌++◌, length, map, slice_get, Some}
+use Rattle.std.specs.Prelude.{◌≡◌, ◌⊎◌, ℕ, ◌+◌, ◌≤◌, ◌<◌, true, false, List, [], ◌∷◌, ◌++◌, length, map}
+use Rattle.std.specs.Prelude.{slice_get, vec_capacity, Some}
+use Rattle.jiter_scan.specs.Ascii as ascii
 use Rattle.jiter_scan.specs.Kind.{Kind, fault_kind, is_forgiven}
 use Rattle.jiter_scan.specs.PartialMode.{is_active}
+use Rattle.jiter_steps.specs.Blank.{is_blank}
 use Rattle.jiter_steps.specs.Frames.{items_frame, members_frame, value_from, key_from}
+use Rattle.jiter_steps.specs.Literal.{start_of}
 use Rattle.jiter_steps.specs.Node.{nesting_limit}
 use Rattle.jiter_steps.specs.Read.{Reading, fault}
-use Rattle.jiter_steps.specs.Step.{Step, more, closed, stuck, step, container_comma}
+use Rattle.jiter_steps.specs.Step.{Step, more, closed, stuck}
 use Rattle.jiter_steps.specs.StringDecoder.{text_view}
 use Rattle.jiter_steps.specs.Tree.{Text, Tree, object, members_of}
-use Rattle.jiter_steps.specs.declared.parse.Shape.{Shape}
 use Rattle.jiter_steps.specs.declared.parse.Shape.TheVariants as shape
+use Rattle.jiter_steps.specs.declared.parse.Start.{Start}
+use Rattle.jiter_steps.specs.declared.parse.Start.TheVariants as start
 use Rattle.jiter_value.specs.Arrived.{Arrived, at_value, between_parts, at_end, HasRead, Holds, leads_on, owned}
 use Rattle.jiter_value.specs.Settings.{rules_as}
-use Rattle.jiter_value.specs.Spine.{OpenFrame, spine_of, HasRoomInside}
+use Rattle.jiter_value.specs.Spine.{OpenFrame, spine_of, AwaitsPart, HasRoomInside, HasValue, HoldsInnermost, IsInPlace}
+use Rattle.jiter_value.specs.Spine.{IsOfKey, StandsFor}
 use Rattle.jiter_value.specs.Value.{view}
+use Rattle.jiter_value.specs.declared.open_value.Awaits.{Awaits}
 use Rattle.jiter_value.specs.declared.open_value.Awaits.TheVariants as awaits
 use Rattle.jiter_value.specs.declared.open_value.OpenValue.{OpenValue}
 use Rattle.jiter_value.specs.declared.open_value.Sign.{Sign}
@@ -21,18 +28,16 @@ use Rattle.jiter_value.specs.declared.open_value.Sign.TheVariants as sign
 use Rattle.jiter_value.specs.declared.open_value.Went.{Went}
 use Rattle.jiter_value.specs.declared.open_value.Went.TheVariants as went
 use Rattle.jiter_value.specs.declared.settings.Settings.{Settings}
+use Rattle.jiter_value.specs.declared.value.JsonValue.{JsonValue}
 
--- where the step leads that a byte at j decides between the parts of a container
-abbrev pub step_by : Shape → List ℕ → ℕ → Sign → Step
-step_by h t j sign.Part = more j
-step_by h t j sign.Comma = step t (container_comma h) (j + 1)
-step_by h t j sign.End = closed (j + 1)
-step_by h t j (sign.Missing k) = stuck (fault_kind k) j
-step_by h t j (sign.Wrong k) = stuck (fault_kind k) j
+-- where the step leads that a byte at j decides where a part may begin
+abbrev pub step_by : ℕ → Sign → Step
+step_by j sign.Part = more j
+step_by j sign.End = closed (j + 1)
+step_by j (sign.Wrong k) = stuck (fault_kind k) j
 
--- a fault is missing punctuation where a partial mode forgives it
+-- a fault there is forgiven in no mode
 abbrev pub IsRightSign : Sign → Type 0
-IsRightSign (sign.Missing k) = is_forgiven (fault_kind k) ≡ true
 IsRightSign (sign.Wrong k) = is_forgiven (fault_kind k) ≡ false
 IsRightSign other = Unit {0}
 
@@ -58,17 +63,37 @@ Everywhere c P = (p : Settings) (t : List ℕ) (j : ℕ) → slice_get t j ≡ S
 abbrev pub completed : Settings → List ℕ → Arrived → ℕ → Reading Tree
 completed p t s j = leads_on (rules_as owned p) t s j
 
+-- what is left open where the blank c is passed
+abbrev pub passed : Arrived → Arrived
+passed (at_value a fs) = at_value a fs
+passed (between_parts a h xs fs) = between_parts a h xs fs
+passed (at_end v n) = at_end v (n + 1)
+
+-- A value that is whole ended right here, or a blank was passed behind it.
+abbrev pub EndsHere : Arrived → ℕ → Arrived → Type 0
+EndsHere s c (at_end v n) = (n ≡ 0) ⊎ ((is_blank c ≡ true) × (passed s ≡ at_end v n))
+EndsHere s c other = Unit {0}
+
 -- The byte is taken.
 pub record TakesByte (new : OpenValue) (s : Arrived) (c : ℕ) : Type 0 where
   pub next : Arrived
   pub left : IsLeft new next
+  pub ends : EndsHere s c next
   pub goes : Everywhere c (λ p t j. completed p t s j ≡ completed p t next (j + 1))
+
+-- a first byte of a string, a number or a literal
+abbrev pub IsScalarStart : Start → Type 0
+IsScalarStart start.Array = ⊥
+IsScalarStart start.Object = ⊥
+IsScalarStart start.Nothing = ⊥
+IsScalarStart other = Unit {0}
 
 -- A scalar begins with the byte: inside these containers, within the limit, and there is room for it.
 pub record BeginsScalar (new : OpenValue) (s : Arrived) (c : ℕ) : Type 0 where
   pub frames : List OpenFrame
   pub left : IsLeft new (at_value awaits.Value frames)
   pub low : length frames ≤ nesting_limit
+  pub starts : IsScalarStart (start_of c)
   pub room : HasRoomInside new.spine.items
   pub goes : Everywhere c (λ p t j. completed p t s j ≡ value_from (rules_as owned p) t frames j)
 
@@ -79,6 +104,7 @@ pub record BeginsKey (new : OpenValue) (s : Arrived) (c : ℕ) : Type 0 where
   pub awaits : new.awaits ≡ awaits.Colon
   pub left : map view new.spine.items ≡ spine_of frames (object (members_of members))
   pub goes : Everywhere c (λ p t j. completed p t s j ≡ key_from (rules_as owned p) t frames members j)
+  pub quote : c ≡ ascii.quote
 
 -- A comma or the end is missing before the byte: in a partial mode the container ends there, else that is a fault.
 pub record ClosesBefore (new : OpenValue) (s : Arrived) (c : ℕ) (k : Kind) : Type 0 where
@@ -94,9 +120,67 @@ Goes new s c went.Scalar = BeginsScalar new s c
 Goes new s c went.Key = BeginsKey new s c
 Goes new s c (went.Closed k) = ClosesBefore new s c (fault_kind k)
 Goes new s c (went.Wrong k) = Everywhere c (λ p t j. completed p t s j ≡ fault (fault_kind k) j j)
-Goes new s c went.Over = IsLeft new s × (new.awaits ≡ awaits.Nothing)
+Goes new s c went.Over = IsLeft new s × (new.awaits ≡ awaits.Nothing) × (is_blank c ≡ false)
 
 -- A byte that is taken was read behind those before it: these bytes leave open what is left then.
 abbrev pub ReadsOn : OpenValue → Settings → List ℕ → Went → Type 0
 ReadsOn new p t went.Taken = (s : Arrived) × IsLeft new s × HasRead p t s
 ReadsOn new p t other = Unit {0}
+
+-- a part of a container is awaited
+abbrev pub IsBeforePart : Awaits → Type 0
+IsBeforePart awaits.First = Unit {0}
+IsBeforePart awaits.Next = Unit {0}
+IsBeforePart other = ⊥
+
+-- a comma or the end of a container is awaited, or nothing
+abbrev pub IsBehind : Awaits → Type 0
+IsBehind awaits.Comma = Unit {0}
+IsBehind awaits.Nothing = Unit {0}
+IsBehind other = ⊥
+
+-- behind a value a byte is taken, or closes the container, or stands behind the whole
+abbrev pub IsEnding : Went → Type 0
+IsEnding went.Taken = Unit {0}
+IsEnding (went.Closed k) = Unit {0}
+IsEnding went.Over = Unit {0}
+IsEnding other = ⊥
+
+-- Where the container was closed, one is open less, and what stands behind it is awaited.
+abbrev pub ClosesOne : OpenValue → OpenValue → Went → Type 0
+ClosesOne old new (went.Closed k) = IsBehind new.awaits × (length new.spine.items < length old.spine.items)
+ClosesOne old new other = Unit {0}
+
+-- In a partial mode the byte is taken, which closes each container that it ends.
+pub record ClosesOver (new : OpenValue) (s : Arrived) (c : ℕ) : Type 0 where
+  pub next : Arrived
+  pub left : IsLeft new next
+  pub goes : Everywhere c (λ p t j. is_active p.mode ≡ true → completed p t s j ≡ completed p t next (j + 1))
+
+-- This value is shown where one was awaited.
+pub record IsShown (old new : OpenValue) (x : JsonValue) : Type 0 where
+  pub value : (fs : List OpenFrame) → AwaitsPart old.spine.items fs → IsOfKey (text_view old.key) fs
+      → HasValue new.spine.items new.root fs (view x)
+  pub place : IsInPlace new.spine.items new.root x
+  pub awaits : new.awaits ≡ old.awaits
+
+-- The open containers were put together, so many as there are: the innermost stands in the root as it was. With none
+-- the root stays.
+pub record IsPutTogether (old new : OpenValue) (depth : ℕ) : Type 0 where
+  pub deep : depth ≡ length old.spine.items
+  pub stands : StandsFor old.spine.items old.root (view new.root)
+  pub innermost : HoldsInnermost old.spine.items new.root
+  pub root : old.spine.items ≡ [] → new.root ≡ old.root
+  pub empty : new.spine.items ≡ []
+  pub room : depth ≤ vec_capacity new.spine
+  pub awaits : new.awaits ≡ old.awaits
+  pub key : new.key ≡ old.key
+
+-- They stand apart again: each is seen as it was, and the innermost is the same.
+pub record IsApartAs (old new : OpenValue) : Type 0 where
+  pub spine : map view new.spine.items ≡ map view old.spine.items
+  pub innermost : (before : List JsonValue) (v : JsonValue) → old.spine.items ≡ before ++ v ∷ []
+      → (others : List JsonValue) × (new.spine.items ≡ others ++ v ∷ [])
+  pub root : old.spine.items ≡ [] → new.root ≡ old.root
+  pub awaits : new.awaits ≡ old.awaits
+  pub key : new.key ≡ old.key

@@ -1,7 +1,10 @@
 -- The open containers of a document that arrives in pieces: inside each other, and one behind the other.
-use Rattle.std.specs.Prelude.{◌≡◌, ◌⊎◌, ℕ, ◌+◌, ◌<◌, List, [], ◌∷◌, ◌++◌, length, map, vec_len, vec_capacity}
+use Rattle.std.specs.Prelude.{◌≡◌, ◌⊎◌, ℕ, zero, suc, ◌+◌, ◌<◌, List, [], ◌∷◌, ◌++◌, length, map, vec_len, vec_capacity}
+use Rattle.std.specs.declared.alloc.Global.{Global}
+use Rattle.std.specs.declared.borrow.CowStr.{CowStr}
 use Rattle.jiter_steps.specs.Frames.{Frame, items_frame, members_frame}
 use Rattle.jiter_steps.specs.Tree.{Text, Tree, null, array, object, items_of, members_of}
+use Rattle.jiter_value.specs.Stacks.{Member}
 use Rattle.jiter_value.specs.Value.{view}
 use Rattle.jiter_value.specs.declared.value.JsonValue.{JsonValue, out-JsonValue}
 use Rattle.jiter_value.specs.declared.value.JsonValue.TheOpen.{JsonValue-F}
@@ -81,3 +84,29 @@ IsRoomy scalar = ⊥
 -- the innermost container, if one is open, has room for a part more
 abbrev pub HasRoomInside : List JsonValue → Type 0
 HasRoomInside spine = (before : List JsonValue) (v : JsonValue) → spine ≡ before ++ v ∷ [] → IsRoomy (out-JsonValue v)
+
+-- the last part of a container, in an object with a key
+abbrev pub IsLastIn : JsonValue → JsonValue-F JsonValue → Type 0
+IsLastIn v (JsonValue-F.Array items) = (before : List JsonValue) × (items.items ≡ before ++ v ∷ [])
+IsLastIn v (JsonValue-F.Object members) =
+    (before : List Member) × (key : CowStr Global) × (members.items ≡ before ++ (key, v) ∷ [])
+IsLastIn v scalar = ⊥
+
+abbrev pub IsLastPart : JsonValue → JsonValue → Type 0
+IsLastPart v container = IsLastIn v (out-JsonValue container)
+
+-- So many containers deep inside the root, each the last part of the next, stands this value.
+abbrev pub IsInside : ℕ → JsonValue → JsonValue → Type 0
+IsInside zero v root = root ≡ v
+IsInside (suc n) v root = (w : JsonValue) × IsLastPart w root × IsInside n v w
+
+-- The innermost of these open containers, if there is one, stands in the root as it is.
+abbrev pub HoldsInnermost : List JsonValue → JsonValue → Type 0
+HoldsInnermost spine root =
+    (before : List JsonValue) (v : JsonValue) → spine ≡ before ++ v ∷ [] → IsInside (length before) v root
+
+-- This value is the last part of the innermost container, or the root.
+abbrev pub IsInPlace : List JsonValue → JsonValue → JsonValue → Type 0
+IsInPlace spine root v =
+    ((spine ≡ []) × (root ≡ v))
+    ⊎ ((before : List JsonValue) × (w : JsonValue) × (spine ≡ before ++ w ∷ []) × IsLastPart v w)

@@ -2,10 +2,15 @@
 #![tactic(auto)]
 
 pub mod access;
+pub mod arriving;
 pub mod copies;
+pub mod document_strings;
+pub mod ends;
 pub mod equality;
 pub mod machine;
+pub mod names;
 pub mod number_text;
+pub mod open_document;
 pub mod open_value;
 pub mod parse_owned;
 pub mod pointer;
@@ -16,11 +21,14 @@ pub mod settings;
 pub mod spine;
 pub mod stacks;
 pub mod texts;
+pub mod together;
 pub(crate) mod turns;
 pub mod unique;
 pub mod unique_error;
 pub mod value;
+pub mod whole_tokens;
 
+pub use arriving::{Arriving, parse_pieces};
 pub use machine::{Machine, Turn};
 pub use number_text::{NumberText, ShortText};
 pub use scratch::JsonValueScratch;

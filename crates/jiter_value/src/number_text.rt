@@ -1,9 +1,10 @@
 //! The text of a number in a value. One that is owned takes no memory where it is short: it lies in the value.
-ghost use Rattle.std.specs.Prelude.{◌≡◌, ◌<◌, ◌≤◌, IfOk, OnErr, Some, false, length, true};
-ghost use Rattle.jiter_value.specs.NumberText.{number_text_view, short_limit};
+ghost use Rattle.std.specs.Prelude.{◌≡◌, ◌<◌, ◌≤◌, IfOk, OnErr, Some, false, length, string_bytes, string_len, true, IfSome, None};
+ghost use Rattle.jiter_value.specs.NumberText.{long_bytes, number_text_view, short_limit};
 ghost use Rattle.jiter_value.specs.Owned.{owned_text};
 
 use jiter_scan::memory::{Refused, copy_text};
+use jiter_scan::open_number::OpenNumber;
 use jiter_scan::text::utf8_text;
 use std::alloc::Global;
 use std::marker::Model;
@@ -42,7 +43,7 @@ impl Drop for ShortText {
 impl ShortText {
     // A copy of the text.
     #[inline(always)]
-    fn new(text: &str) -> ShortText
+    pub(crate) fn new(text: &str) -> ShortText
         requires { length text.now ≤ short_limit }
         ensures { result ≡ text.now }
     {
@@ -115,6 +116,34 @@ impl<'s> NumberText<'s> {
         Ok(NumberText::Long(copy_text(alloc, text)?))
     }
 
+    // A text that is owned, in the value, if it is short. It takes no memory.
+    #[inline(always)]
+    pub(crate) fn short(text: &str) -> Option<NumberText<'s>>
+        ensures value { IfSome result (λ own.
+            number_text_view own ≡ record { owned = true; bytes = text.now }) }
+        ensures none { result ≡ None → short_limit < length text.now }
+    {
+        if text.len() <= SHORT_LIMIT {
+            Some(NumberText::Short(ShortText::new(text)))
+        } else {
+            None
+        }
+    }
+
+    // That of a number that arrived in pieces: a copy in the value where it is short, and the number keeps its memory
+    // for the next one; else it is taken out of it. It takes no memory.
+    pub(crate) fn of_number(number: &mut OpenNumber) -> NumberText<'s>
+        ensures value { number_text_view result
+            ≡ record { owned = true; bytes = string_bytes number.old.text } }
+        ensures kept { string_len number.old.text ≤ short_limit → number.new ≡ number.old }
+    {
+        if number.text().len() <= SHORT_LIMIT {
+            NumberText::Short(ShortText::new(number.text()))
+        } else {
+            NumberText::Long(number.take_text())
+        }
+    }
+
     /// The text.
     #[inline(always)]
     pub fn as_str(&self) -> &str
@@ -149,6 +178,17 @@ impl<'s> NumberText<'s> {
             NumberText::Borrowed(text) => NumberText::owned(alloc, text),
             NumberText::Short(text) => Ok(NumberText::Short(text)),
             NumberText::Long(text) => Ok(NumberText::Long(text)),
+        }
+    }
+
+    // Its memory, if it has some of its own; else no text. It takes none.
+    pub(crate) fn into_long(self, alloc: Global) -> String
+        ensures { string_bytes result ≡ long_bytes self.entry }
+    {
+        match self {
+            NumberText::Long(text) => text,
+            NumberText::Short(_) => String::new(alloc),
+            NumberText::Borrowed(_) => String::new(alloc),
         }
     }
 

@@ -10,19 +10,26 @@ ghost use Rattle.jiter_steps.specs.Frames.{key_from, members_frame, value_from, 
 ghost use Rattle.jiter_steps.specs.Read.{done, fault};
 ghost use Rattle.jiter_steps.specs.Tree.{Text, Tree, members_of, object};
 ghost use Rattle.jiter_steps.specs.Blank.{is_blank};
-ghost use Rattle.jiter_steps.specs.Step.{container_first, container_comma, container_step, end_kind_of, more};
+ghost use Rattle.jiter_steps.specs.Step.{begins_part, more};
 ghost use Rattle.jiter_steps.specs.StringDecoder.{text_view};
 ghost use Rattle.jiter_value.specs.Arrived.{Arrived, HasRead, at_value, between_parts, end_of, owned, part_row, shown};
-ghost use Rattle.jiter_value.specs.OpenValue.{Goes, IsLeft, IsRightSign, ReadsOn, behind_value, completed, step_by, text_of};
+ghost use Rattle.jiter_value.specs.OpenValue.{ClosesOne, ClosesOver, Goes, IsApartAs, IsBeforePart, IsBehind, IsEnding};
+ghost use Rattle.jiter_value.specs.OpenValue.{IsLeft, IsPutTogether, IsRightSign, IsShown, ReadsOn, behind_value};
+ghost use Rattle.jiter_value.specs.OpenValue.{completed, step_by, text_of};
 ghost use Rattle.jiter_value.specs.Owned.{owned_tree};
 ghost use Rattle.jiter_value.specs.Parses.{reading_as};
 ghost use Rattle.jiter_value.specs.Settings.{answer_by, rules_as};
-ghost use Rattle.jiter_value.specs.Spine.{OpenFrame, AwaitsPart, HasRoomInside, IsOfKey, spine_of};
+ghost use Rattle.jiter_value.specs.Spine.{OpenFrame, AwaitsPart, HasRoomInside, HasValue, IsInPlace, IsOfKey};
+ghost use Rattle.jiter_value.specs.Spine.{StandsFor, spine_of};
 ghost use Rattle.jiter_value.specs.Stacks.{PartTree, built};
 ghost use Rattle.jiter_value.specs.Value.{view};
+ghost use Rattle.jiter_value.specs.declared.open_value.OpenValue.{OpenValue as OpenValueView};
 ghost use Rattle.jiter_value.specs.declared.settings.Settings.{Settings};
+ghost use Rattle.jiter_value.specs.declared.value.JsonValue.{JsonValue as JsonValueView};
 
-use crate::spine::{close, make_room_inside, open_container, put, put_together};
+use crate::spine::{
+    close, make_room_inside, open_container, put, put_together, take_apart, take_back,
+};
 use crate::value::JsonValue;
 use jiter_scan::errors::FaultKind;
 use jiter_scan::memory::Refused;
@@ -47,17 +54,13 @@ pub enum Awaits {
     Nothing,
 }
 
-/// What a byte is between the parts of a container.
+/// What a byte is where a part of a container may begin.
 #[derive(Clone, Copy, Debug)]
 pub enum Sign {
     /// It begins a part.
     Part,
-    /// A comma.
-    Comma,
     /// The end of the container.
     End,
-    /// None of these, where a comma or the end is missing.
-    Missing(FaultKind),
     /// None of these.
     Wrong(FaultKind),
 }
@@ -97,97 +100,23 @@ fn is_blank(byte: u8) -> bool
     matches!(byte, b' ' | b'\t' | b'\n' | b'\r')
 }
 
-// Behind the bracket of a container.
-fn first_sign(shape: Shape, byte: u8) -> Sign
-    ensures step { (t : List ℕ) → (j : ℕ) → container_first shape j (Some byte) ≡ step_by shape t j result }
-    ensures kind { IsRightSign result }
-{
-    match shape {
-        Shape::Array => { if byte == b']' { Sign::End } else { Sign::Part } }
-        Shape::Object => {
-            if byte == b'"' {
-                Sign::Part
-            } else if byte == b'}' {
-                Sign::End
-            } else {
-                Sign::Wrong(FaultKind::KeyMustBeAString)
-            }
-        }
-    }
-}
-
-// Behind a comma.
-fn next_sign(shape: Shape, byte: u8) -> Sign
-    ensures step { (t : List ℕ) → (j : ℕ) → container_comma shape j (Some byte) ≡ step_by shape t j result }
-    ensures kind { IsRightSign result }
-{
-    match shape {
-        Shape::Array => {
-            if byte == b']' {
-                Sign::Wrong(FaultKind::TrailingComma)
-            } else {
-                Sign::Part
-            }
-        }
-        Shape::Object => {
-            if byte == b'"' {
-                Sign::Part
-            } else if byte == b'}' {
-                Sign::Wrong(FaultKind::TrailingComma)
-            } else {
-                Sign::Wrong(FaultKind::KeyMustBeAString)
-            }
-        }
-    }
-}
-
-// Behind a part.
-fn comma_sign(shape: Shape, byte: u8) -> Sign
-    ensures step { (t : List ℕ) → (j : ℕ) → container_step shape t j (Some byte) ≡ step_by shape t j result }
-    ensures kind { IsRightSign result }
-{
-    match shape {
-        Shape::Array => {
-            if byte == b']' {
-                Sign::End
-            } else if byte == b',' {
-                Sign::Comma
-            } else {
-                Sign::Missing(FaultKind::ExpectedListCommaOrEnd)
-            }
-        }
-        Shape::Object => {
-            if byte == b'}' {
-                Sign::End
-            } else if byte == b',' {
-                Sign::Comma
-            } else {
-                Sign::Missing(FaultKind::ExpectedObjectCommaOrEnd)
-            }
-        }
-    }
-}
-
-// What a byte is between the parts of a container, by what is awaited there.
+// What a byte is where a part may begin, by what is awaited there.
 fn sign_of(awaits: Awaits, shape: Shape, byte: u8) -> Sign
+    requires { IsBeforePart awaits }
     ensures step { (p : Settings) → (t : List ℕ) → (j : ℕ)
-        → part_row (rules_as owned p) t awaits shape j (Some byte) ≡ step_by shape t j result }
+        → part_row (rules_as owned p) t awaits shape j (Some byte) ≡ step_by j result }
+    ensures part { result ≡ Sign.Part → begins_part shape byte ≡ true }
     ensures kind { IsRightSign result }
 {
-    match awaits {
-        Awaits::First => first_sign(shape, byte),
-        Awaits::Next => next_sign(shape, byte),
-        _ => comma_sign(shape, byte),
+    if shape.begins_part(byte) {
+        return Sign::Part;
     }
-}
-
-// The fault where the input ends in a container of this shape.
-fn end_kind(shape: Shape) -> FaultKind
-    ensures { fault_kind result ≡ end_kind_of shape }
-{
-    match shape {
-        Shape::Array => FaultKind::EofWhileParsingList,
-        Shape::Object => FaultKind::EofWhileParsingObject,
+    if byte != shape.closer() {
+        return Sign::Wrong(FaultKind::KeyMustBeAString);
+    }
+    match awaits {
+        Awaits::First => Sign::End,
+        _ => Sign::Wrong(FaultKind::TrailingComma),
     }
 }
 
@@ -284,6 +213,7 @@ impl OpenValue {
         ensures goes { (fs : List OpenFrame) → AwaitsPart self.old.spine.items fs
             → IsOfKey (text_view self.old.key) fs → is_blank byte ≡ false
             → IfOk result (Goes self.new (at_value Awaits.Value fs) byte) }
+        ensures closed { IfOk result (λ went. ClosesOne self.old self.new went) }
         ensures refused { (s : Arrived) → IsLeft self.old s → OnErr result (IsLeft self.new s) }
     {
         if self.spine.len() > NESTING_LIMIT {
@@ -299,7 +229,7 @@ impl OpenValue {
                 Ok(Went::Taken)
             }
             Start::Nothing => Ok(Went::Wrong(FaultKind::ExpectedSomeValue)),
-            _ => {
+            Start::String | Start::Number | Start::Literal(_) => {
                 self.begin_scalar()?;
                 Ok(Went::Scalar)
             }
@@ -312,9 +242,10 @@ impl OpenValue {
             × (map view self.old.spine.items ≡ spine_of fs (built shape xs)) }
         ensures goes { (a : Awaits) → (xs : List (PartTree shape)) → (fs : List OpenFrame)
             → map view self.old.spine.items ≡ spine_of fs (built shape xs) → is_blank byte ≡ false
-            → ((p : Settings) → (t : List ℕ) → (j : ℕ)
+            → begins_part shape byte ≡ true → ((p : Settings) → (t : List ℕ) → (j : ℕ)
             → part_row (rules_as owned p) t a shape j (Some byte) ≡ more j)
             → IfOk result (Goes self.new (between_parts a shape xs fs) byte) }
+        ensures closed { IfOk result (λ went. ClosesOne self.old self.new went) }
         ensures refused { (s : Arrived) → IsLeft self.old s → OnErr result (IsLeft self.new s) }
     {
         match shape {
@@ -326,39 +257,78 @@ impl OpenValue {
         }
     }
 
-    // What a byte is, which is no blank, between the parts of a container.
+    // What a byte is, which is no blank, where a part of a container may begin.
     fn between(&mut self, byte: u8) -> Result<Went, Refused>
-        requires { (h : Shape) × (xs : List (PartTree h)) × (fs : List OpenFrame)
+        requires inside { (h : Shape) × (xs : List (PartTree h)) × (fs : List OpenFrame)
             × (map view self.old.spine.items ≡ spine_of fs (built h xs)) }
+        requires before { IsBeforePart self.old.awaits }
         ensures goes { (h : Shape) → (xs : List (PartTree h)) → (fs : List OpenFrame)
             → map view self.old.spine.items ≡ spine_of fs (built h xs) → is_blank byte ≡ false
             → IfOk result (Goes self.new (between_parts self.old.awaits h xs fs) byte) }
+        ensures closed { IfOk result (λ went. ClosesOne self.old self.new went) }
         ensures refused { (s : Arrived) → IsLeft self.old s → OnErr result (IsLeft self.new s) }
     {
         let shape = shape_inside(&self.spine);
         match sign_of(self.awaits, shape, byte) {
             Sign::Part => self.part(shape, byte),
-            Sign::Comma => {
-                self.awaits = Awaits::Next;
-                Ok(Went::Taken)
-            }
             Sign::End => {
                 self.end();
                 Ok(Went::Taken)
-            }
-            Sign::Missing(kind) => {
-                self.end();
-                Ok(Went::Closed(kind))
             }
             Sign::Wrong(kind) => Ok(Went::Wrong(kind)),
         }
     }
 
+    /// Whether the document's value is whole.
+    pub fn is_whole(&self) -> bool
+        ensures whole { result ≡ true → self.now.awaits ≡ Awaits.Nothing }
+        ensures open { result ≡ false → ¬ (self.now.awaits ≡ Awaits.Nothing) }
+    {
+        matches!(self.awaits, Awaits::Nothing)
+    }
+
+    /// What the next byte is behind a value. It takes no memory.
+    pub fn behind(&mut self, byte: u8) -> Went
+        requires left { (s : Arrived) × IsLeft self.old s }
+        requires behind { IsBehind self.old.awaits }
+        ensures goes { (s : Arrived) → IsLeft self.old s → Goes self.new s byte result }
+        ensures which { IsEnding result }
+        ensures one { ClosesOne self.old self.new result }
+    {
+        if is_blank(byte) {
+            return Went::Taken;
+        }
+        if self.is_whole() {
+            return Went::Over;
+        }
+        if byte == b',' {
+            self.awaits = Awaits::Next;
+            return Went::Taken;
+        }
+        let shape = shape_inside(&self.spine);
+        self.end();
+        if byte == shape.closer() {
+            Went::Taken
+        } else {
+            Went::Closed(shape.comma_kind())
+        }
+    }
+
+    /// Closes, where a comma or the end was missing before the byte, each container that it ends too, and takes it.
+    pub fn close_before(&mut self, byte: u8)
+        requires left { (s : Arrived) × IsLeft self.old s }
+        requires behind { IsBehind self.old.awaits }
+        ensures { (s : Arrived) → IsLeft self.old s → ClosesOver self.new s byte }
+    {
+        while let Went::Closed(_) = self.behind(byte) {}
+    }
+
     // What a byte is, which is no blank, behind a key.
     fn colon(&mut self, byte: u8) -> Went
-        ensures { (fs : List OpenFrame) → AwaitsPart self.old.spine.items fs
+        ensures goes { (fs : List OpenFrame) → AwaitsPart self.old.spine.items fs
             → IsOfKey (text_view self.old.key) fs → is_blank byte ≡ false
             → Goes self.new (at_value Awaits.Colon fs) byte result }
+        ensures closed { ClosesOne self.old self.new result }
     {
         if byte != b':' {
             return Went::Wrong(FaultKind::ExpectedColon);
@@ -371,6 +341,7 @@ impl OpenValue {
     fn turn(&mut self, byte: u8) -> Result<Went, Refused>
         requires { (s : Arrived) × IsLeft self.old s }
         ensures goes { (s : Arrived) → IsLeft self.old s → IfOk result (Goes self.new s byte) }
+        ensures closed { IfOk result (λ went. ClosesOne self.old self.new went) }
         ensures refused { (s : Arrived) → IsLeft self.old s → OnErr result (IsLeft self.new s) }
     {
         if is_blank(byte) {
@@ -379,8 +350,8 @@ impl OpenValue {
         match self.awaits {
             Awaits::Value => self.value(byte),
             Awaits::Colon => Ok(self.colon(byte)),
-            Awaits::Nothing => Ok(Went::Over),
-            _ => self.between(byte),
+            Awaits::First | Awaits::Next => self.between(byte),
+            _ => Ok(self.behind(byte)),
         }
     }
 
@@ -390,6 +361,8 @@ impl OpenValue {
         requires { (s : Arrived) × IsLeft self.old s }
         ensures goes { (s : Arrived) → IsLeft self.old s → IfOk result (Goes self.new s byte) }
         ensures refused { (s : Arrived) → IsLeft self.old s → OnErr result (IsLeft self.new s) }
+        // Where a container was closed, what stands behind it is awaited.
+        ensures closed { IfOk result (λ went. ClosesOne self.old self.new went) }
         ensures read { (s : Arrived) → (p : Settings) → (t : List ℕ) → IsLeft self.old s → HasRead p t s
             → IfOk result (ReadsOn self.new p (t ++ byte ∷ [])) }
     {
@@ -399,6 +372,7 @@ impl OpenValue {
     /// The scalar that was begun is whole, and is put where it was awaited. It takes no memory.
     pub fn put_scalar(&mut self, value: JsonValue<'static>)
         requires { HasRoomInside self.old.spine.items }
+        ensures behind { IsBehind self.new.awaits }
         ensures left { (fs : List OpenFrame) → IsLeft self.old (at_value Awaits.Value fs)
             → IsLeft self.new (behind_value (view value.entry) fs) }
         // Where it is read from j to before e, the rest of a text goes on there.
@@ -406,7 +380,7 @@ impl OpenValue {
             → value_in (rules_as owned p) t (length fs) j ≡ done (view value.entry) e
             → value_from (rules_as owned p) t fs j ≡ completed p t (behind_value (view value.entry) fs) e }
     {
-        put(&mut self.spine, &mut self.root, &mut self.key, value);
+        self.show(value);
         self.awaits = behind_part(&self.spine);
     }
 
@@ -439,8 +413,81 @@ impl OpenValue {
             Awaits::Colon => Some(FaultKind::EofWhileParsingObject),
             Awaits::Next => Some(FaultKind::EofWhileParsingValue),
             Awaits::Nothing => None,
-            _ => Some(end_kind(shape_inside(&self.spine))),
+            _ => Some(shape_inside(&self.spine).end_kind()),
         }
+    }
+
+    /// How many containers are open.
+    pub fn depth(&self) -> usize
+        ensures { result ≡ length self.now.spine.items }
+    {
+        self.spine.len()
+    }
+
+    /// The fault where the input ends behind a part of the innermost container, if one is open.
+    pub fn container_end(&self) -> Option<FaultKind>
+        requires { (fs : List OpenFrame) × IsLeft self.now (at_value Awaits.Value fs) }
+        ensures { (x : Tree) → (fs : List OpenFrame) → IsLeft self.now (at_value Awaits.Value fs)
+            → option_map fault_kind result ≡ end_of (behind_value x fs) }
+    {
+        if self.spine.is_empty() {
+            None
+        } else {
+            Some(shape_inside(&self.spine).end_kind())
+        }
+    }
+
+    /// A scalar that is not whole is shown where it is awaited. It takes no memory.
+    pub fn show(&mut self, value: JsonValue<'static>)
+        requires { HasRoomInside self.old.spine.items }
+        ensures { IsShown self.old self.new value.entry }
+    {
+        put(&mut self.spine, &mut self.root, &mut self.key, value);
+    }
+
+    /// Takes back what was shown: its place is awaited again, and there is room in it.
+    pub fn hide(&mut self) -> JsonValue<'static>
+        requires { (fs : List OpenFrame) × (x : Tree) × HasValue self.old.spine.items self.old.root fs x }
+        ensures value { (v : JsonValueView) → IsInPlace self.old.spine.items self.old.root v → result ≡ v }
+        ensures place { (fs : List OpenFrame) → (x : Tree) → HasValue self.old.spine.items self.old.root fs x
+            → AwaitsPart self.new.spine.items fs × IsOfKey (text_view self.new.key) fs }
+        ensures room { HasRoomInside self.new.spine.items }
+        ensures awaits { self.new.awaits ≡ self.old.awaits }
+    {
+        take_back(&mut self.spine, &mut self.root, &mut self.key)
+    }
+
+    /// The open containers are put together, and so many they are.
+    pub fn put_together(&mut self) -> usize
+        requires { (v : Tree) × StandsFor self.old.spine.items self.old.root v }
+        ensures root { (v : Tree) → StandsFor self.old.spine.items self.old.root v → view self.new.root ≡ v }
+        ensures together { IsPutTogether self.old self.new result }
+    {
+        let depth = self.spine.len();
+        put_together(&mut self.spine, &mut self.root);
+        depth
+    }
+
+    /// They are taken apart again.
+    pub fn take_apart(&mut self, depth: usize)
+        requires { (old : OpenValueView) × IsPutTogether old self.old depth }
+        ensures { (old : OpenValueView) → IsPutTogether old self.old depth → IsApartAs old self.new }
+    {
+        take_apart(&mut self.spine, &mut self.root, depth);
+    }
+
+    /// The value so far, where its containers are together.
+    pub fn root(&self) -> &JsonValue<'static>
+        ensures { result.now ≡ self.now.root }
+    {
+        &self.root
+    }
+
+    /// The same, moved out.
+    pub fn into_root(self) -> JsonValue<'static>
+        ensures { result ≡ self.root }
+    {
+        self.root
     }
 
     /// The value so far, each container that is open ended; `null` where none of it was read. It takes no memory.

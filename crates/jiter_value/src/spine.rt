@@ -12,7 +12,8 @@ ghost use Rattle.jiter_value.specs.Owned.{owned_tree};
 ghost use Rattle.jiter_value.specs.Parses.{reading_as};
 ghost use Rattle.jiter_value.specs.Settings.{answer_by};
 ghost use Rattle.jiter_value.specs.Spine.{OpenFrame, around, begun, filled, parents_of, spine_of, HasPart, IsOpen};
-ghost use Rattle.jiter_value.specs.Spine.{StandsFor, HasValue, AwaitsPart, IsOfKey, IsRoomy, HasRoomInside};
+ghost use Rattle.jiter_value.specs.Spine.{StandsFor, HasValue, AwaitsPart, IsOfKey, IsRoomy, HasRoomInside, IsLastPart};
+ghost use Rattle.jiter_value.specs.Spine.{IsInside, HoldsInnermost, IsInPlace};
 ghost use Rattle.jiter_value.specs.Stacks.{Member, empty_tree};
 ghost use Rattle.jiter_value.specs.Value.{view};
 ghost use Rattle.std.specs.declared.alloc.Global.{Global};
@@ -52,8 +53,10 @@ fn replace_value<'j>(members: &mut JsonObject<'j>, value: JsonValue<'j>) -> Json
 // The last part of a container, replaced.
 fn replace_part<'j>(container: &mut JsonValue<'j>, value: JsonValue<'j>) -> JsonValue<'j>
     requires { HasPart (view container.old) }
-    ensures { (f : OpenFrame) → (x : Tree) → view container.old ≡ around f x
+    ensures part { (f : OpenFrame) → (x : Tree) → view container.old ≡ around f x
         → (view container.new ≡ around f (view value.entry)) × (view result ≡ x) }
+    ensures last { IsLastPart value.entry container.new }
+    ensures was { (v : JsonValueView) → IsLastPart v container.old → result ≡ v }
 {
     match container {
         JsonValue::Array(items) => replace_item(items, value),
@@ -69,6 +72,8 @@ pub fn take_apart<'j>(spine: &mut Vec<JsonValue<'j>>, root: &mut JsonValue<'j>, 
     requires opened { 0 < depth → IsOpen depth (view root.old) }
     ensures spine { (fs : List OpenFrame) → (x : Tree) → depth ≡ length fs + 1
         → view root.old ≡ filled fs x → map view spine.new.items ≡ spine_of fs x }
+    ensures innermost { (n : ℕ) → (v : JsonValueView) → depth ≡ n + 1 → IsInside n v root.old
+        → (before : List JsonValueView) × (spine.new.items ≡ before ++ v ∷ []) }
     ensures root { 0 < depth → root.new ≡ JsonValue.Null }
     ensures none { depth ≡ 0 → (spine.new.items ≡ []) × (root.new ≡ root.old) }
     ensures capacity { vec_capacity spine.new ≡ vec_capacity spine.old }
@@ -89,6 +94,7 @@ fn put_back<'j>(spine: &mut Vec<JsonValue<'j>>, root: &mut JsonValue<'j>, value:
     requires { (fs : List OpenFrame) × (map view spine.old.items ≡ parents_of fs) }
     ensures value { (fs : List OpenFrame) → map view spine.old.items ≡ parents_of fs
         → HasValue spine.new.items root.new fs (view value.entry) }
+    ensures place { IsInPlace spine.new.items root.new value.entry }
     ensures length { vec_len spine.new ≡ vec_len spine.old }
     ensures capacity { vec_capacity spine.new ≡ vec_capacity spine.old }
 {
@@ -122,6 +128,8 @@ pub fn put_together<'j>(spine: &mut Vec<JsonValue<'j>>, root: &mut JsonValue<'j>
     ensures answer { (p : Settings) → (t : List ℕ) → (a : Awaits) → (k : Text) → (s : Arrived) → (v : Tree)
         → is_active p.mode ≡ true → HasRead p t s → Holds a spine.old.items root.old k s → shown s ≡ Some v
         → (view root.new ≡ v) × ((e : ℕ) × (reading_as owned_tree (answer_by p t) ≡ done v e)) }
+    ensures innermost { HoldsInnermost spine.old.items root.new }
+    ensures none { spine.old.items ≡ [] → root.new ≡ root.old }
     ensures empty { spine.new.items ≡ [] }
     ensures capacity { vec_capacity spine.new ≡ vec_capacity spine.old }
 {
@@ -160,8 +168,9 @@ pub fn make_room_inside<'j>(spine: &mut Vec<JsonValue<'j>>) -> Result<(), Refuse
 // A part more of a container; in an object it has the key.
 fn append<'j>(container: &mut JsonValue<'j>, key: &mut CowStr<'j>, value: JsonValue<'j>)
     requires { IsRoomy (out-JsonValue container.old) }
-    ensures { (f : OpenFrame) → view container.old ≡ begun f → IsOfKey (text_view key.old) (f ∷ [])
+    ensures part { (f : OpenFrame) → view container.old ≡ begun f → IsOfKey (text_view key.old) (f ∷ [])
         → view container.new ≡ around f (view value.entry) }
+    ensures last { IsLastPart value.entry container.new }
 {
     match container {
         JsonValue::Array(items) => items.push_reserved(value),
@@ -184,6 +193,7 @@ pub fn put<'j>(
     requires { HasRoomInside spine.old.items }
     ensures value { (fs : List OpenFrame) → AwaitsPart spine.old.items fs → IsOfKey (text_view key.old) fs
         → HasValue spine.new.items root.new fs (view value.entry) }
+    ensures place { IsInPlace spine.new.items root.new value.entry }
     ensures length { vec_len spine.new ≡ vec_len spine.old }
     ensures capacity { vec_capacity spine.new ≡ vec_capacity spine.old }
 {
@@ -225,4 +235,47 @@ pub fn open_container<'j>(
     put(spine, root, key, JsonValue::Null);
     spine.push_reserved(empty(alloc, shape));
     Ok(())
+}
+
+// The last part of a container, taken out; in an object its key is the one that awaits a value again.
+fn remove<'j>(container: &mut JsonValue<'j>, key: &mut CowStr<'j>) -> JsonValue<'j>
+    requires { HasPart (view container.old) }
+    ensures value { (v : JsonValueView) → IsLastPart v container.old → result ≡ v }
+    ensures rest { (f : OpenFrame) → (x : Tree) → view container.old ≡ around f x
+        → (view container.new ≡ begun f) × IsOfKey (text_view key.new) (f ∷ []) }
+    ensures room { IsRoomy (out-JsonValue container.new) }
+{
+    match container {
+        JsonValue::Array(items) => match items.pop() {
+            Some(value) => value,
+            None => unreachable!(),
+        },
+        JsonValue::Object(members) => match members.pop() {
+            Some((name, value)) => {
+                *key = name;
+                value
+            }
+            None => unreachable!(),
+        },
+        _ => unreachable!(),
+    }
+}
+
+/// Takes back what [`put`] put: the last part of the innermost container, or the root. There is room for it again.
+pub fn take_back<'j>(
+    spine: &mut Vec<JsonValue<'j>>,
+    root: &mut JsonValue<'j>,
+    key: &mut CowStr<'j>,
+) -> JsonValue<'j>
+    requires { (fs : List OpenFrame) × (x : Tree) × HasValue spine.old.items root.old fs x }
+    ensures value { (v : JsonValueView) → IsInPlace spine.old.items root.old v → result ≡ v }
+    ensures place { (fs : List OpenFrame) → (x : Tree) → HasValue spine.old.items root.old fs x
+        → AwaitsPart spine.new.items fs × IsOfKey (text_view key.new) fs }
+    ensures room { HasRoomInside spine.new.items }
+{
+    let depth = spine.len();
+    if depth == 0 {
+        return mem::replace(root, JsonValue::Null);
+    }
+    remove(&mut spine[depth - 1], key)
 }

@@ -67,6 +67,8 @@ pub enum Call {
     Texts(bool),
     /// One that copies or tells.
     Copy(Copying),
+    /// `Arriving::push`, of pieces of so many bytes.
+    Pieces(usize),
 }
 
 /// A call and the mode of its reading.
@@ -100,6 +102,8 @@ fn call_named(word: &str) -> Option<Call> {
         "scratch-owned" => Some(Call::Whole(Whole::OwnedByScratch)),
         "next-str" => Some(Call::Texts(false)),
         "known-str" => Some(Call::Texts(true)),
+        "pieces" => Some(Call::Pieces(5)),
+        "one-piece" => Some(Call::Pieces(usize::MAX)),
         _ => match reading_named(word) {
             Some(reading) => Some(Call::Reading(reading)),
             None => Some(Call::Copy(copying_named(word)?)),

@@ -6,6 +6,7 @@ mod answers;
 mod asking;
 mod copies;
 mod outcome;
+mod pieces;
 mod reading;
 mod walk;
 mod whole;
@@ -59,5 +60,6 @@ fn outcome_of(alloc: Global, bytes: &[u8], asked: Asked) -> Result<Outcome, Allo
         Call::Reading(call) => reading::outcome(alloc, bytes, call),
         Call::Texts(known) => walk::outcome(alloc, bytes, known),
         Call::Copy(call) => copies::outcome(alloc, bytes, asked.mode, call),
+        Call::Pieces(size) => pieces::outcome(alloc, bytes, asked.mode, size),
     }
 }

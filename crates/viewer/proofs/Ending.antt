@@ -1,11 +1,11 @@
 -- What is shown of a document that is cut, and how a run ends.
-use Rattle.std.proofs.Common.{◌≡◌, refl, sym, subst, ℕ, Bool, true, false, List, Option, Some, IfSome}
+use Rattle.std.proofs.Common.{◌≡◌, refl, subst, ℕ, Bool, true, false, List, Option, Some, None, IfSome}
 use Rattle.std.proofs.Common.{inl, inr}
 use Rattle.std.specs.Prelude.{Result, Ok, Err, IsErr, OnErr, OnOk}
 use Rattle.std.specs.Result.{result_and, result_unwrap_or}
-use Rattle.std.specs.Io.KnownBytes.{Appends}
+use Rattle.std.specs.Io.KnownBytes.{Appends, Keeps}
 use Rattle.viewer.specs.Program.{WroteUsage, usage_line}
-use Rattle.std.proofs.KnownBytes.{Keeps-refl}
+use Rattle.std.proofs.KnownBytes.{Appends-nil, Keeps-refl}
 use Rattle.std.proofs.lemmas.Option.{IfSome_then}
 use Rattle.jiter_print.specs.Written.{AppendsFront}
 use Rattle.jiter.specs.Caller.{Reading, done, fault, Tree, answer, answer_in, is_active, IsBegunContainer}
@@ -37,26 +37,39 @@ ends-as {E = E} names t end err err' h = by (answer names t) end (answer-is name
   by (fault k i stop) (Ok false) is told = is
   by (fault k i stop) (Err x) is told = tt
 
-pub ended : {E : Type 0} (names : Bool) (from err err' : Option (List ℕ)) (end : Result Bool E) (arrived : List ℕ)
-    → IfSome from (λ t. arrived ≡ t) → Finishes names arrived end err err' → IfSome from (λ t. EndsAs names t end)
-ended names from err err' end arrived all told =
-    IfSome_then from all (λ t is. subst (λ u. EndsAs names u end) is (ends-as names arrived end err err' told))
+pub ended : {E : Type 0} (names : Bool) (from err err' : Option (List ℕ)) (end : Result Bool E)
+    → IfSome from (λ t. Finishes names t end err err') → IfSome from (λ t. EndsAs names t end)
+ended names from err err' end told = IfSome_then from told (λ t h. ends-as names t end err err' h)
 
--- a front of the line of the fault was written
+-- the line of the fault was written, if there is one
+pub nothing-told : (E : Type 0) (o : Option (List ℕ)) → None ≡ o → (err err' : Option (List ℕ)) → Keeps err err'
+    → Tells {E = E} o (Ok true) err err'
+nothing-told E o same err err' kept = subst (λ l. Tells {E = E} l (Ok true) err err') same kept
+
+pub all-told : (E : Type 0) (o : Option (List ℕ)) (line : List ℕ) → Some line ≡ o → (err err' : Option (List ℕ))
+    → Appends err err' line → Tells {E = E} o (Ok false) err err'
+all-told E o line same err err' whole = subst (λ l. Tells {E = E} l (Ok false) err err') same whole
+
+-- nothing of it was written
+pub untold : {E : Type 0} (o : Option (List ℕ)) (end : Result Bool E) → IsErr end → (err : Option (List ℕ))
+    → Tells o end err err
+untold o (Ok whole) is err = absurd (cc)
+untold None (Err e) is err = Keeps-refl err
+untold (Some line) (Err e) is err = (0, Appends-nil err)
+
+-- a front of it was
 pub half-told : {E : Type 0} (end : Result Bool E) → IsErr end → (o : Option (List ℕ)) (line : List ℕ)
-    → o ≡ Some line → (err err' : Option (List ℕ)) → AppendsFront err err' line → Tells o end err err'
+    → Some line ≡ o → (err err' : Option (List ℕ)) → AppendsFront err err' line → Tells o end err err'
 half-told (Ok whole) is o line same err err' front = absurd (cc)
-half-told (Err e) is o line same err err' front = subst (λ l. Tells l (Err e) err err') (sym same) front
+half-told (Err e) is o line same err err' front = subst (λ l. Tells l (Err e) err err') same front
 
 -- all was shown, and then the fault
-pub ran : {E : Type 0} (words : Words) (from out out' err err' : Option (List ℕ)) (end : Result Bool E) (arrived : List ℕ)
-    → IfSome from (λ t. arrived ≡ t) → ShowsAll words arrived out out'
-    → Finishes words.inf_nan arrived end err err' → IfSome from (λ t. Ran words t end out out' err err')
-ran {E = E} words from out out' err err' end arrived all shown told =
-    IfSome_then from all (λ t is. subst (λ u. Ran words u end out out' err err') is (by end told)) where
-      by : (end : Result Bool E) → Finishes words.inf_nan arrived end err err' → Ran words arrived end out out' err err'
-      by (Ok whole) told = (shown, told)
-      by (Err e) told = inl (shown, told)
+pub ran : {E : Type 0} (words : Words) (from out out' err err' : Option (List ℕ)) (end : Result Bool E)
+    → IfSome from (λ t. ShowsAll words t out out') → IfSome from (λ t. Finishes words.inf_nan t end err err')
+    → IfSome from (λ t. Ran words t end out out' err err')
+ran words None out out' err err' end shown told = tt
+ran words (Some t) out out' err err' (Ok whole) shown told = (shown, told)
+ran words (Some t) out out' err err' (Err e) shown told = inl (shown, told)
 
 -- not all was read, or shown
 pub broke-off : {E : Type 0} (words : Words) (from out out' err : Option (List ℕ))

@@ -1,3 +1,5 @@
 mod Lines
+mod Feeds
+mod Told
 mod Arriving
 mod Ending

@@ -75,6 +75,13 @@ line-shown last line other = by (bytes_eq line last) refl where
   by true e = let no = sym (ap not e) ∙ other in absurd (cc)
   by false e = rw e refl
 
+-- the last line again is not
+pub same-line : (last line : List ℕ) → not (bytes_eq line last) ≡ false → new_line last (Some line) ≡ []
+same-line last line same = by (bytes_eq line last) refl where
+  by : (b : Bool) → bytes_eq line last ≡ b → new_line last (Some line) ≡ []
+  by true e = rw e refl
+  by false e = let no = sym (ap not e) ∙ same in absurd (cc)
+
 -- the last line then
 pub last-more : (d : List ℕ) (xs : List (List ℕ)) (o : Option (List ℕ))
     → last_of d (xs ++ if_any o) ≡ last_line (last_of d xs) o

@@ -1,3 +1,4 @@
 pub mod Words
+pub mod Arrived
 pub mod Shown
 pub mod Program

@@ -1,6 +1,7 @@
 //! Shows a document while it arrives on standard input: a line for each read that changed its value.
 #![tactic(auto)]
 
+mod arrived;
 mod program;
 #[cfg(test)]
 mod tests;

@@ -1,13 +1,15 @@
 //! A whole run, over one reader and two writers.
-ghost use Rattle.std.specs.Prelude.{◌≡◌, List, ℕ, true, IfOk, IfSome, OnErr, OnOk};
+ghost use Rattle.std.specs.Prelude.{◌≡◌, [], List, ℕ, true, IfOk, IfSome, OnErr, OnOk};
 ghost use Rattle.std.specs.Io.KnownBytes.{Appends};
 ghost use Rattle.jiter.specs.Caller.{answer_in, is_active, IsBegunContainer};
 ghost use Rattle.jiter_print.specs.Written.{AppendsFront};
+ghost use Rattle.viewer.specs.Arrived.{HasArrived};
 ghost use Rattle.viewer.specs.Shown.{EndsAs, Finishes, IsLineOfCut, last_line, new_line, Ran};
 ghost use Rattle.viewer.specs.Shown.{ShowsAll, ShowsFront, value_line};
+ghost use Rattle.viewer.specs.declared.words.Words.{Words};
 
+use crate::arrived::Arrived;
 use crate::words::Words;
-use jiter::JsonValue;
 use jiter_print::{print, write_line};
 use std::alloc::{AllocError, Global};
 use std::io;
@@ -33,32 +35,36 @@ pub fn run<R: Read, O: Write, E: Write>(
         → (f : IsBegunContainer words.inf_nan front)
         → IsLineOfCut words f (value_line (answer_in words.inf_nan words.mode front)) }
 {
-    let arrived = follow(alloc, words, reader, out)?;
-    finish(alloc, arrived.as_slice(), words.inf_nan, err)
+    let mut arrived = Arrived::new(alloc, words);
+    follow(alloc, &mut arrived, reader, out)?;
+    finish(alloc, arrived, err)
 }
 
-// Reads to the end, shows what has arrived after each read, and gives all that arrived.
+// Reads to the end, and shows what has arrived after each read.
 fn follow<R: Read, O: Write>(
     alloc: Global,
-    words: Words,
+    arrived: &mut Arrived,
     reader: &mut R,
     out: &mut O,
-) -> io::Result<Vec<u8>>
-    ensures all { IfOk result (λ arrived. IfSome (R.remaining reader.old) (λ t. arrived.items ≡ t)) }
-    ensures shown { IfOk result (λ arrived. ShowsAll words arrived.items
-        (O.contents out.old) (O.contents out.new)) }
-    ensures front { OnErr result (IfSome (R.remaining reader.old) (λ t. ShowsFront words t
+) -> io::Result<()>
+    // Where nothing had arrived before: all that is read arrives, and is shown.
+    ensures all { (words : Words) → HasArrived words arrived.old []
+        → OnOk result (IfSome (R.remaining reader.old) (λ t. HasArrived words arrived.new t)) }
+    ensures shown { (words : Words) → HasArrived words arrived.old []
+        → OnOk result (IfSome (R.remaining reader.old) (λ t. ShowsAll words t
+        (O.contents out.old) (O.contents out.new))) }
+    ensures front { (words : Words) → HasArrived words arrived.old []
+        → OnErr result (IfSome (R.remaining reader.old) (λ t. ShowsFront words t
         (O.contents out.old) (O.contents out.new))) }
 {
-    let mut arrived = Vec::new(alloc);
     let mut last = Vec::new(alloc);
     let mut piece = [0; 4096];
     for _ in 0..u64::MAX {
         match reader.read(&mut piece) {
-            Ok(0) => return Ok(arrived),
+            Ok(0) => return Ok(()),
             Ok(count) => {
-                arrived.extend_from_slice(&piece[..count])?;
-                last = show(alloc, words, arrived.as_slice(), last, out)?;
+                arrived.push(&piece[..count])?;
+                last = show(alloc, arrived, last, out)?;
             }
             Err(error) if error.kind() == ErrorKind::Interrupted => {}
             Err(error) => return Err(error),
@@ -70,21 +76,21 @@ fn follow<R: Read, O: Write>(
 // Writes the line of what has arrived, unless it is the last line, and gives the line that is the last one then.
 fn show<O: Write>(
     alloc: Global,
-    words: Words,
-    bytes: &[u8],
+    arrived: &Arrived,
     last: Vec<u8>,
     out: &mut O,
 ) -> io::Result<Vec<u8>>
-    ensures last { IfOk result (λ line. line.items
-        ≡ last_line last.items (value_line (answer_in words.inf_nan words.mode bytes.now))) }
-    ensures whole { OnOk result (Appends (O.contents out.old) (O.contents out.new)
-        (new_line last.items (value_line (answer_in words.inf_nan words.mode bytes.now)))) }
-    ensures front { OnErr result (AppendsFront (O.contents out.old) (O.contents out.new)
-        (new_line last.items (value_line (answer_in words.inf_nan words.mode bytes.now)))) }
+    ensures last { (words : Words) → (t : List ℕ) → HasArrived words arrived.now t → IfOk result (λ line. line.items
+        ≡ last_line last.items (value_line (answer_in words.inf_nan words.mode t))) }
+    ensures whole { (words : Words) → (t : List ℕ) → HasArrived words arrived.now t
+        → OnOk result (Appends (O.contents out.old) (O.contents out.new)
+        (new_line last.items (value_line (answer_in words.inf_nan words.mode t)))) }
+    ensures front { (words : Words) → (t : List ℕ) → HasArrived words arrived.now t
+        → OnErr result (AppendsFront (O.contents out.old) (O.contents out.new)
+        (new_line last.items (value_line (answer_in words.inf_nan words.mode t)))) }
 {
-    let mut line = match JsonValue::parse_with_config(alloc, bytes, words.inf_nan, words.mode) {
-        Ok(value) => print(alloc, &value).or(Err(AllocError))?,
-        Err(error) if error.is_memory() => return Err(io::Error::from(AllocError)),
+    let mut line = match arrived.reading.value() {
+        Ok(value) => print(alloc, value).or(Err(AllocError))?,
         Err(_) => return Ok(last),
     };
     line.push(b'\n')?;
@@ -95,16 +101,14 @@ fn show<O: Write>(
 }
 
 // Writes the fault of a whole text, if it is no document, and tells whether it is one.
-fn finish<E: Write>(alloc: Global, bytes: &[u8], names: bool, err: &mut E) -> io::Result<bool>
-    ensures { Finishes names bytes.now result (E.contents err.old) (E.contents err.new) }
+fn finish<E: Write>(alloc: Global, arrived: Arrived, err: &mut E) -> io::Result<bool>
+    ensures { (words : Words) → (t : List ℕ) → HasArrived words arrived t
+        → Finishes words.inf_nan t result (E.contents err.old) (E.contents err.new) }
 {
-    match JsonValue::parse(alloc, bytes, names) {
-        Ok(_) => Ok(true),
-        Err(error) if error.is_memory() => Err(io::Error::from(AllocError)),
-        Err(error) => {
-            let mut line = error.description(alloc, bytes)?.into_bytes();
-            line.push(b'\n')?;
-            write_line(err, line.as_slice())?;
+    match arrived.fault_line(alloc)? {
+        None => Ok(true),
+        Some(line) => {
+            write_line(err, line.as_bytes())?;
             Ok(false)
         }
     }

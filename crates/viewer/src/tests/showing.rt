@@ -170,6 +170,49 @@ fn bad_input_is_shown_as_far_as_it_goes_and_refused_at_its_end(rt: HostRuntime) 
     }
 }
 
+// Whether a text is refused so at its end, in pieces of so many bytes.
+fn tells(alloc: Global, text: &[u8], most: usize, out: &str, err: &str) -> bool {
+    let wanted = Wanted {
+        status: 1,
+        out,
+        err,
+    };
+    does(alloc, &["on"], text, most, wanted)
+}
+
+#[test]
+fn a_fault_is_told_at_its_line_and_column(rt: HostRuntime) {
+    for (text, by_byte, at_once, err) in [
+        (
+            b"[\n\n1 2]\n\n3".as_slice(),
+            "[]\n[1]\n",
+            "[1]\n",
+            "expected `,` or `]` at line 3 column 3\n",
+        ),
+        (
+            b"\n[1\n\n",
+            "[]\n[1]\n",
+            "[1]\n",
+            "EOF while parsing a list at line 4 column 0\n",
+        ),
+        (
+            b"[\n\"a\n\"]",
+            "[]\n",
+            "",
+            "control character (\\u0000-\\u001F) found while parsing a string at line 3 column 0\n",
+        ),
+        (
+            b"[\n \"a\xff, and so on\"]\n\n",
+            "[]\n",
+            "",
+            "invalid unicode code point at line 2 column 4\n",
+        ),
+    ] {
+        assert!(rt; tells(rt.alloc(), text, 1, by_byte, err), "{err}");
+        assert!(rt; tells(rt.alloc(), text, 100, at_once, err), "{err}");
+    }
+}
+
 #[test]
 fn names_are_numbers_where_they_are_asked_for(rt: HostRuntime) {
     let wanted = Wanted {

@@ -1,12 +1,11 @@
-use Rattle.std.proofs.Common.{ℕ, ◌≡◌, ◌-◌, ◌≤◌, ◌∙◌, refl, sym, ap, subst}
-use Rattle.std.specs.Prelude.{IfSome, Some, option_map, string_bytes}
-use Rattle.config.specs.declared.settings.Name.{Name}
-use Rattle.config.specs.Settings.{config_view, configured, set, unfit}
+use Rattle.std.proofs.Common.{◌-◌, ◌≤◌, ◌∙◌, refl, sym, ap, subst}
+use Rattle.std.specs.Prelude.{IfSome, option_map, string_bytes}
+use Rattle.config.specs.Settings.{config_view, configured}
 use Rattle.config.proofs.Held.{held-by}
 use Rattle.config.proofs.Judged.{judged-refused, passed-on, text-refused, truth-refused}
 use Rattle.config.proofs.Members.{all_set, debug-read, debug-unfit, host-read, host-unfit, no_host, no_port_set}
 use Rattle.config.proofs.Members.{none-refused, other-read, passed-not_refused, port-read, port-unfit, read-as}
-use Rattle.config.proofs.Walk.{ReadsMember, WalkAt, end-refused, first-refused, key-refused, less-left, named-given, seen}
+use Rattle.config.proofs.Walk.{ReadsMember, end-refused, first-refused, key-refused, less-left, named-given, seen}
 use Rattle.config.proofs.Walk.{settled, value-refused, walk-begins, walk-goes_on}
 use Rattle.config.proofs.config.read_config.Goals as goal
 use Rattle.config.proofs.config.read_config.Goals.{After-next_key, in-Host+in_ok-read_host-in-Host}

@@ -1,8 +1,10 @@
-use Rattle.std.proofs.Common.{◌≡◌, ◌∙◌, ℕ, sym, ap, subst, arith, to_z, of_z, w64, to_z-of_z}
-use Rattle.jiter.specs.Caller.{byte_of, int_read, known, next}
+use Rattle.std.proofs.Common.{◌≡◌, ◌∙◌, refl, sym, ap, arith, to_z, of_z, w64, to_z-of_z}
+use Rattle.jiter.specs.Caller.{byte_of, int_read}
+use Rattle.jiter.proofs.Peeking.{known-behind_peek}
+use Rattle.jiter.proofs.Walking.{moves-on}
 use Rattle.config.specs.Settings.{no_port, port_in, port_of, unfit}
-use Rattle.config.proofs.Judged.{int-behind_peek, integer-given, integer-refused, judged-refused, no_integer-given}
-use Rattle.config.proofs.Judged.{moves-twice, no-value, port-fits, port-high, port-low}
+use Rattle.config.proofs.Judged.{integer-given, integer-refused, judged-refused, no_integer-given}
+use Rattle.config.proofs.Judged.{no-value, port-fits, port-high, port-low}
 use Rattle.config.proofs.settings.read_port.Goals as goal
 use Rattle.config.proofs.settings.read_port.Goals.{in_default-via-in-Int+then-number-ge1+else-number-le65535}
 use Rattle.config.proofs.settings.read_port.Goals.{in_default-via-in-Int+else-number-ge1, in_default-via-in_default}
@@ -11,9 +13,11 @@ pub returns-in_err-number-clause-reads : goal.returns-in_err-number-clause-reads
 returns-in_err-number-clause-reads c =
     let s = c.args.jiter.now in
     let p = c.in_ok-peek in
-    let same = int-behind_peek s c.peek.new.self (byte_of p.peek) p.ensures.moves p.ensures.place p.ensures.here in
+    let same =
+    known-behind_peek int_read s c.peek.new.self (byte_of p.peek) (λ i. refl) p.ensures.moves p.ensures.place
+    p.ensures.here in
     record {
-      moves = moves-twice s _ _ p.ensures.moves c.in_err-number.ensures.moves;
+      moves = moves-on s _ _ p.ensures.moves c.in_err-number.ensures.moves;
       value = λ v b e told.
           judged-refused (λ n. n) c.from_residual-in_err-number.result c.in_err-number.field-0.0 (port_in v b)
           c.from_residual-in_err-number.ensures.1
@@ -25,12 +29,14 @@ pub returns-in-Int-clause-reads : goal.returns-in-Int-clause-reads
 returns-in-Int-clause-reads c =
     let s = c.args.jiter.now in
     let p = c.in_ok-peek in
-    let same = int-behind_peek s c.peek.new.self (byte_of p.peek) p.ensures.moves p.ensures.place p.ensures.here in
+    let same =
+    known-behind_peek int_read s c.peek.new.self (byte_of p.peek) (λ i. refl) p.ensures.moves p.ensures.place
+    p.ensures.here in
     let value = rw c.in-Int.is at c.in_ok-number.ensures.value in
     let z = to_z w64 (of_z w64 c.in-Int.number) in
     let read : to_z w64 (of_z w64 c.in-Int.number) ≡ c.in-Int.number = grind (arith, to_z-of_z) in
     record {
-      moves = moves-twice s _ _ p.ensures.moves c.in_ok-number.ensures.moves;
+      moves = moves-on s _ _ p.ensures.moves c.in_ok-number.ensures.moves;
       value = λ v b e told.
           (integer-given s b e v told c.in-Int.number _ (sym same ∙ value)).0 ∙ ap (λ x. port_of x b) (sym read)
           ∙ port-fits z b c.if-number-ge1.true c.if-number-le65535.true;
@@ -41,10 +47,12 @@ pub returns-in_default-clause-reads : goal.returns-in_default-clause-reads
 returns-in_default-clause-reads c =
     let s = c.args.jiter.now in
     let p = c.in_ok-peek in
-    let same = int-behind_peek s c.peek.new.self (byte_of p.peek) p.ensures.moves p.ensures.place p.ensures.here in
+    let same =
+    known-behind_peek int_read s c.peek.new.self (byte_of p.peek) (λ i. refl) p.ensures.moves p.ensures.place
+    p.ensures.here in
     let at = c.current_index-at.ensures.value ∙ p.ensures.place in
     record {
-      moves = moves-twice s _ _ p.ensures.moves c.in_ok-number.ensures.moves;
+      moves = moves-on s _ _ p.ensures.moves c.in_ok-number.ensures.moves;
       value = λ v b e told bytes.
           let no : port_in v b ≡ unfit no_port b = elim c.in_default.branch [
             | in_default-via-in-Int+then-number-ge1+else-number-le65535 w ↦

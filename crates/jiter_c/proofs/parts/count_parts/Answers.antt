@@ -1,10 +1,13 @@
-use Rattle.std.proofs.Common.{ℕ}
+use Rattle.std.proofs.Common.{ℕ, ◌∙◌, Ok, sym}
 use Rattle.jiter.specs.Errors.{cause_of}
 use Rattle.jiter.specs.Jiter.{byte_of}
 use Rattle.jiter.specs.Parts.{RefusedBehind}
-use Rattle.jiter_c.specs.Replies.{state_of}
+use Rattle.jiter_c.specs.Parts.{into_read}
+use Rattle.jiter_c.specs.Replies.{next_reply, state_of}
+use Rattle.jiter_c.proofs.Into.{into-refused, peek-gave, peek-into}
+use Rattle.jiter.proofs.Walking.{moves-on}
 use Rattle.jiter_c.proofs.Walks.{count-begins, count-ends, count-goes_on, count-less, first-not_refused, is-bracket}
-use Rattle.jiter_c.proofs.Walks.{moves-twice, next-not_refused, next-refuses, part-refuses, passed-on}
+use Rattle.jiter_c.proofs.Walks.{next-not_refused, next-refuses, part-refuses, passed-on}
 use Rattle.jiter_c.proofs.Walks.{refused-behind, skip-not_refused}
 use Rattle.jiter_c.proofs.parts.count_parts.Goals as goal
 
@@ -55,7 +58,7 @@ returns-in_err-more-2-clause-refusal c =
     c.from_residual-in_err-more-2.ensures.1 (
       _,
       refused-behind s c.next_skip.new.self c.next_part.new.jiter _ _
-          (moves-twice s _ _ c.loop-more.invariant.moves c.in_ok-next_skip.ensures.moves)
+          (moves-on s _ _ c.loop-more.invariant.moves c.in_ok-next_skip.ensures.moves)
           c.in_err-more-2.ensures.moves
           (next-refuses c.eq-object.result _ _ _ _ c.in_err-more-2.ensures.value),
     )
@@ -79,3 +82,36 @@ pub returns-clause-counts : goal.returns-clause-counts
 returns-clause-counts c =
     let inv = rw c.loop-more-test.false at c.loop-more.invariant in
     count-ends (state_of c.args.reader.now) c.loop-more.jiter c.eq-object.result c.loop-more.count inv
+
+pub returns-in_err-more-clause-into : goal.returns-in_err-more-clause-into
+returns-in_err-more-clause-into c =
+    let s = state_of c.args.reader.now in
+    let p = rw c.jiter_at-jiter.ensures at c.in_ok-peek.ensures in
+    let is = is-bracket _ _ c.eq-object.ensures in (
+      _,
+      into-refused (next_reply c.args.reader.now into_read) c.from_residual-in_err-more.result _ _
+          (sym (peek-into s c.peek.new.self (byte_of c.in_ok-peek.field-0) c.eq-object.result p.value p.moves p.place is)
+          ∙ c.in_err-more.ensures.value)
+          c.from_residual-in_err-more.ensures.1,
+    )
+
+pub returns-in_err-next_skip-clause-into : goal.returns-in_err-next_skip-clause-into
+returns-in_err-next_skip-clause-into c =
+    let p = rw c.jiter_at-jiter.ensures at c.in_ok-peek.ensures in
+    peek-gave (state_of c.args.reader.now) c.peek.new.self c.first_part.new.jiter (byte_of c.in_ok-peek.field-0)
+    c.eq-object.result c.in_ok-more.more p.value p.moves p.place (is-bracket _ _ c.eq-object.ensures)
+    c.in_ok-more.ensures.value c.from_residual-in_err-next_skip.result
+
+pub returns-in_err-more-2-clause-into : goal.returns-in_err-more-2-clause-into
+returns-in_err-more-2-clause-into c =
+    let p = rw c.jiter_at-jiter.ensures at c.in_ok-peek.ensures in
+    peek-gave (state_of c.args.reader.now) c.peek.new.self c.first_part.new.jiter (byte_of c.in_ok-peek.field-0)
+    c.eq-object.result c.in_ok-more.more p.value p.moves p.place (is-bracket _ _ c.eq-object.ensures)
+    c.in_ok-more.ensures.value c.from_residual-in_err-more-2.result
+
+pub returns-clause-into : goal.returns-clause-into
+returns-clause-into c =
+    let p = rw c.jiter_at-jiter.ensures at c.in_ok-peek.ensures in
+    peek-gave (state_of c.args.reader.now) c.peek.new.self c.first_part.new.jiter (byte_of c.in_ok-peek.field-0)
+    c.eq-object.result c.in_ok-more.more p.value p.moves p.place (is-bracket _ _ c.eq-object.ensures)
+    c.in_ok-more.ensures.value (Ok c.loop-more.count)

@@ -4,8 +4,9 @@ use Rattle.std.proofs.lemmas.Bool.{false≢true}
 use Rattle.jiter.specs.Errors.{cause_of}
 use Rattle.jiter.specs.Jiter.{byte_of}
 use Rattle.jiter.specs.Parts.{RefusedBehind, Refuses}
+use Rattle.jiter.proofs.Walking.{moves-on}
 use Rattle.jiter_c.proofs.Walks.{has-item, item-found, item-not_refused, items-begin, items-end, items-go_on, items-not_refused}
-use Rattle.jiter_c.proofs.Walks.{moves-twice, passed-on, place-not_refused, refused-behind, stays, step-not_refused}
+use Rattle.jiter_c.proofs.Walks.{passed-on, place-not_refused, refused-behind, stays, step-not_refused}
 use Rattle.jiter_c.proofs.parts.find_item.Goals as goal
 use Rattle.jiter_c.proofs.parts.find_item.Goals.{else-loop-item-test, then-loop-item-test+else-before-gt0}
 
@@ -28,7 +29,7 @@ loop-item-init c =
 
 pub returns-in_err-next_skip-clause-moves : goal.returns-in_err-next_skip-clause-moves
 returns-in_err-next_skip-clause-moves c =
-    moves-twice c.args.jiter.now _ _ c.loop-item.invariant.moves c.in_err-next_skip.ensures.moves
+    moves-on c.args.jiter.now _ _ c.loop-item.invariant.moves c.in_err-next_skip.ensures.moves
 
 pub returns-in_err-next_skip-clause-led : goal.returns-in_err-next_skip-clause-led
 returns-in_err-next_skip-clause-led c = λ b e ns h.
@@ -47,8 +48,8 @@ returns-in_err-next_skip-clause-refusal c =
 
 pub returns-in_err-item-2-clause-moves : goal.returns-in_err-item-2-clause-moves
 returns-in_err-item-2-clause-moves c =
-    moves-twice c.args.jiter.now _ _ c.loop-item.invariant.moves
-    (moves-twice c.loop-item.jiter _ _ c.in_ok-next_skip.ensures.moves c.in_err-item-2.ensures.moves)
+    moves-on c.args.jiter.now _ _ c.loop-item.invariant.moves
+    (moves-on c.loop-item.jiter _ _ c.in_ok-next_skip.ensures.moves c.in_err-item-2.ensures.moves)
 
 pub returns-in_err-item-2-clause-led : goal.returns-in_err-item-2-clause-led
 returns-in_err-item-2-clause-led c = λ b e ns h.
@@ -64,7 +65,7 @@ returns-in_err-item-2-clause-refusal c =
     passed-on (λ e. RefusedBehind s (cause_of e.error_type) e.index c.array_step.new.self.position) _ _
     c.from_residual-in_err-item-2.ensures.1
     (refused-behind s c.next_skip.new.self c.array_step.new.self _ _
-    (moves-twice s _ _ c.loop-item.invariant.moves c.in_ok-next_skip.ensures.moves)
+    (moves-on s _ _ c.loop-item.invariant.moves c.in_ok-next_skip.ensures.moves)
     c.in_err-item-2.ensures.moves (Refuses.at_item c.in_err-item-2.ensures.value))
 
 pub loop-item-preserved : goal.loop-item-preserved
@@ -88,7 +89,7 @@ returns-then-is_none-clause-led c =
 
 pub returns-in_err-peek-clause-moves : goal.returns-in_err-peek-clause-moves
 returns-in_err-peek-clause-moves c =
-    moves-twice c.args.jiter.now _ _ c.loop-item.invariant.moves c.in_err-peek.ensures.moves
+    moves-on c.args.jiter.now _ _ c.loop-item.invariant.moves c.in_err-peek.ensures.moves
 
 pub returns-in_err-peek-clause-led : goal.returns-in_err-peek-clause-led
 returns-in_err-peek-clause-led c = λ b e ns h.
@@ -112,7 +113,7 @@ returns-in_err-peek-clause-refusal c =
     c.in_err-peek.ensures.moves (Refuses.at_peek c.in_err-peek.ensures.value))
 
 pub returns-clause-moves : goal.returns-clause-moves
-returns-clause-moves c = moves-twice c.args.jiter.now _ _ c.loop-item.invariant.moves c.in_ok-peek.ensures.moves
+returns-clause-moves c = moves-on c.args.jiter.now _ _ c.loop-item.invariant.moves c.in_ok-peek.ensures.moves
 
 pub returns-clause-led : goal.returns-clause-led
 returns-clause-led c = λ b e ns h.

@@ -6,8 +6,9 @@ use Rattle.jiter.specs.Parts.{RefusedBehind, Refuses}
 use Rattle.jiter.specs.Reader.{ReaderState}
 use Rattle.jiter_steps.specs.StringDecoder.{WantsMemory}
 use Rattle.jiter_steps.specs.StringReading.{whole}
+use Rattle.jiter.proofs.Walking.{moves-on}
 use Rattle.jiter_c.proofs.Walks.{MembersTo, member-not_refused, members-begin, members-end, members-go_on, members-less}
-use Rattle.jiter_c.proofs.Walks.{members-not_refused, moves-twice, named-given, next_key-not_refused, passed-on}
+use Rattle.jiter_c.proofs.Walks.{members-not_refused, named-given, next_key-not_refused, passed-on}
 use Rattle.jiter_c.proofs.Walks.{refused-behind, seen-refused, stays, unless-memory, where-memory}
 use Rattle.jiter_c.proofs.parts.last_member.Goals as goal
 use Rattle.jiter_c.proofs.parts.last_member.Goals.{else-same, then-same}
@@ -38,7 +39,7 @@ loop-named-init c =
 
 pub returns-in_err-start-clause-moves : goal.returns-in_err-start-clause-moves
 returns-in_err-start-clause-moves c =
-    moves-twice c.args.jiter.now _ _ c.loop-named.invariant.moves c.in_err-start.ensures.moves
+    moves-on c.args.jiter.now _ _ c.loop-named.invariant.moves c.in_err-start.ensures.moves
 
 pub returns-in_err-start-clause-led : goal.returns-in_err-start-clause-led
 returns-in_err-start-clause-led c = λ b e ms h.
@@ -70,8 +71,8 @@ returns-in_err-start-clause-place c =
 pub returns-in_err-next_key-clause-moves : goal.returns-in_err-next_key-clause-moves
 returns-in_err-next_key-clause-moves c =
     let left = rw c.in_err-next_key.was at c.next_key.follows.holds-at-none in
-    moves-twice c.args.jiter.now _ _ c.loop-named.invariant.moves
-    (moves-twice c.loop-named.jiter _ _ c.in_ok-start.ensures.moves left.moves)
+    moves-on c.args.jiter.now _ _ c.loop-named.invariant.moves
+    (moves-on c.loop-named.jiter _ _ c.in_ok-start.ensures.moves left.moves)
 
 pub returns-in_err-next_key-clause-led : goal.returns-in_err-next_key-clause-led
 returns-in_err-next_key-clause-led c = λ b e ms h.
@@ -93,13 +94,13 @@ returns-in_err-next_key-clause-refusal c =
     (λ bytes. passed-on (λ e. RefusedBehind s (cause_of e.error_type) e.index s2.position)
     c.from_residual-in_err-next_key.result _ is
     (refused-behind s c.pass.new.jiter s2 _ _
-    (moves-twice s _ _ c.loop-named.invariant.moves c.in_ok-start.ensures.moves) left.moves
+    (moves-on s _ _ c.loop-named.invariant.moves c.in_ok-start.ensures.moves) left.moves
     (Refuses.at_key whole (seen-refused key_bytes _ _ _ _ (left.value bytes)))))
 
 pub returns-in_err-next_key-clause-memory : goal.returns-in_err-next_key-clause-memory
 returns-in_err-next_key-clause-memory c =
     let s = c.args.jiter.now in
-    let m = moves-twice s _ _ c.loop-named.invariant.moves c.in_ok-start.ensures.moves in
+    let m = moves-on s _ _ c.loop-named.invariant.moves c.in_ok-start.ensures.moves in
     let text : c.pass.new.jiter.text ≡ s.text = ap (λ (v : ReaderState). v.text) m.same in
     where-memory (λ e. WantsMemory s.text e.index) c.from_residual-in_err-next_key.result _
     c.from_residual-in_err-next_key.ensures.1

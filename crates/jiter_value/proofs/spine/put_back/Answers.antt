@@ -1,6 +1,6 @@
 use Rattle.std.proofs.Common.{◌-◌, arith}
 use Rattle.jiter_value.specs.Value.{view}
-use Rattle.jiter_value.proofs.Spines.{goes-to-root, parent-awaits, goes-to-parent}
+use Rattle.jiter_value.proofs.Spines.{goes-to-root, parent-awaits, goes-to-parent, in-place}
 use Rattle.jiter_value.proofs.spine.put_back.Goals as goal
 
 pub returns-then-depth-eq0-clause-value : goal.returns-then-depth-eq0-clause-value
@@ -19,4 +19,11 @@ returns-clause-value c = λ fs h.
     goes-to-parent fs c.args.spine.now.items c.args.root.now c.index_mut.result.now c.replace_part.new.container
     (c.len-depth.result - 1) (view c.args.value)
     (omega (arith, c.if-depth-eq0.false, c.len-depth.ensures, c.args.spine.now.ok.0)) c.index_mut.ensures.value h
-    (λ f y is. (c.replace_part.ensures f y is).0)
+    (λ f y is. (c.replace_part.ensures.part f y is).0)
+
+pub returns-clause-place : goal.returns-clause-place
+returns-clause-place c =
+    in-place c.args.spine.now.items c.args.root.now c.index_mut.result.now c.replace_part.new.container c.args.value
+    (c.len-depth.result - 1)
+    (omega (arith, c.if-depth-eq0.false, c.len-depth.ensures, c.args.spine.now.ok.0)) c.index_mut.ensures.value
+    c.replace_part.ensures.last

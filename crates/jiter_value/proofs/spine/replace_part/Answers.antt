@@ -1,9 +1,13 @@
-use Rattle.std.proofs.Common.{◌≡◌, ◌<◌, ◌∷◌, [], ◌∙◌, ap, sym, arith, length, length-append, vec_len}
+use Rattle.std.proofs.Common.{◌≡◌, ◌<◌, List, ◌∷◌, ◌++◌, [], ◌∙◌, ap, sym, arith, length, length-append, vec_len}
+use Rattle.std.specs.declared.alloc.Global.{Global}
+use Rattle.std.specs.declared.borrow.CowStr.{CowStr}
 use Rattle.jiter_steps.specs.Tree.{Tree}
 use Rattle.jiter_value.specs.Spine.{OpenFrame, around}
+use Rattle.jiter_value.specs.Stacks.{Member}
 use Rattle.jiter_value.specs.Value.{view}
-use Rattle.jiter_value.specs.declared.value.JsonValue.{Array, Object}
+use Rattle.jiter_value.specs.declared.value.JsonValue.{JsonValue, Array, Object}
 use Rattle.jiter_value.proofs.Spines.{last-item, last-member, array-around, object-around, out-array, out-object}
+use Rattle.jiter_value.proofs.Spines.{array-ends, object-ends}
 use Rattle.jiter_value.proofs.Views.{view_array, view_object}
 use Rattle.jiter_value.proofs.spine.replace_part.Goals as goal
 
@@ -38,7 +42,16 @@ returns-in-Array c =
           ∙ ap (λ g. around g (view value)) (sym last.frame),
       ap view set.1 ∙ last.part,
     ) in
-    rw (c.in-Array.is, out-array items) put
+    let set : (v : JsonValue) (before : List JsonValue) → items.items ≡ before ++ v ∷ []
+    → (c.replace_item.new.items.items ≡ before ++ value ∷ []) × (c.replace_item.result ≡ v) =
+    λ v before h. c.replace_item.ensures before v (ap (λ w. w.items) c.in-Array.items-is ∙ h) in
+    let there = last-item items.items c.requires.frame c.requires.part
+    (sym (view_array items) ∙ ap view (sym c.in-Array.is) ∙ c.requires.is) in
+    let last = array-ends c.replace_item.new.items there.before value (set there.old there.before there.items).0 in
+    let was : (v : JsonValue) → (before : List JsonValue) × (items.items ≡ before ++ v ∷ [])
+    → c.replace_item.result ≡ v =
+    λ v h. (set v h.0 h.1).1 in
+    rw (c.in-Array.is, out-array items) (record { part = put; last = last; was = was })
 
 pub returns-in-Object : goal.returns-in-Object
 returns-in-Object c =
@@ -54,4 +67,15 @@ returns-in-Object c =
           ∙ ap (λ g. around g (view value)) (sym last.frame),
       ap view set.1 ∙ last.part,
     ) in
-    rw (c.in-Object.is, out-object members) put
+    let set : (k : CowStr Global) (v : JsonValue) (before : List Member) → members.items ≡ before ++ (k, v) ∷ []
+    → (c.replace_value.new.members.items ≡ before ++ (k, value) ∷ []) × (c.replace_value.result ≡ v) =
+    λ k v before h. c.replace_value.ensures before k v (ap (λ w. w.items) c.in-Object.members-is ∙ h) in
+    let there = last-member members.items c.requires.frame c.requires.part
+    (sym (view_object members) ∙ ap view (sym c.in-Object.is) ∙ c.requires.is) in
+    let last = object-ends c.replace_value.new.members there.before there.key value
+    (set there.key there.old there.before there.members).0 in
+    let was : (v : JsonValue)
+    → (before : List Member) × (k : CowStr Global) × (members.items ≡ before ++ (k, v) ∷ [])
+    → c.replace_value.result ≡ v =
+    λ v h. (set h.1 v h.0 h.2).1 in
+    rw (c.in-Object.is, out-object members) (record { part = put; last = last; was = was })

@@ -1,7 +1,10 @@
+use Rattle.std.proofs.Common.{[]}
 use Rattle.viewer.proofs.Arriving.{Follows}
+use Rattle.viewer.specs.Arrived.{HasArrived}
+use Rattle.viewer.specs.declared.words.Words.{Words}
 use Rattle.viewer.proofs.view.follow.Given as goal
 
 abbrev pub invariant-loop : goal.invariant-loop
-invariant-loop g l =
-    Follows l.words (g.R.Read.remaining l.initial.reader) (g.R.Read.remaining l.reader)
-    (g.O.Write.contents l.initial.out) (g.O.Write.contents l.out) l.arrived.items l.last.items
+invariant-loop g l = (words : Words) → HasArrived words l.fn.arrived [] →
+    Follows words (g.R.Read.remaining l.initial.reader) (g.R.Read.remaining l.reader)
+    (g.O.Write.contents l.initial.out) (g.O.Write.contents l.out) l.arrived l.last.items

@@ -1,23 +1,28 @@
+use Rattle.std.proofs.lemmas.Option.{IfSome_then}
 use Rattle.viewer.proofs.Ending.{broke-off, cut-shown, ended, ran}
 use Rattle.viewer.proofs.view.run.Goals as goal
 
-pub returns-in_err-arrived-clause-wrote : goal.returns-in_err-arrived-clause-wrote
-returns-in_err-arrived-clause-wrote g c =
-    broke-off c.args.words _ _ _ _ _ c.from_residual.ensures.0 c.in_err-arrived.ensures.front
+pub returns-in_err-follow-clause-wrote : goal.returns-in_err-follow-clause-wrote
+returns-in_err-follow-clause-wrote g c =
+    broke-off c.args.words _ _ _ _ _ c.from_residual.ensures.0
+    (c.in_err-follow.ensures.front c.args.words c.new-arrived.ensures)
 
-pub returns-in_err-arrived-clause-cut : goal.returns-in_err-arrived-clause-cut
-returns-in_err-arrived-clause-cut g c = cut-shown c.args.words
+pub returns-in_err-follow-clause-cut : goal.returns-in_err-follow-clause-cut
+returns-in_err-follow-clause-cut g c = cut-shown c.args.words
 
 pub returns-clause-wrote : goal.returns-clause-wrote
 returns-clause-wrote g c =
-    let told = rw c.as_slice.ensures.value at c.finish.ensures in
-    ran c.args.words _ _ _ _ _ c.finish.result c.in_ok-arrived.arrived.items c.in_ok-arrived.ensures.all
-    c.in_ok-arrived.ensures.shown told
+    let words = c.args.words in
+    let followed = c.in_ok-follow.ensures in
+    let begun = c.new-arrived.ensures in
+    ran words _ _ _ _ _ c.finish.result (followed.shown words begun)
+    (IfSome_then _ (followed.all words begun) (c.finish.ensures words))
 
 pub returns-clause-document : goal.returns-clause-document
 returns-clause-document g c =
-    let told = rw c.as_slice.ensures.value at c.finish.ensures in
-    ended c.args.words.inf_nan _ _ _ c.finish.result c.in_ok-arrived.arrived.items c.in_ok-arrived.ensures.all told
+    let words = c.args.words in
+    let arrived = c.in_ok-follow.ensures.all words c.new-arrived.ensures in
+    ended words.inf_nan _ _ _ c.finish.result (IfSome_then _ arrived (c.finish.ensures words))
 
 pub returns-clause-cut : goal.returns-clause-cut
 returns-clause-cut g c = cut-shown c.args.words

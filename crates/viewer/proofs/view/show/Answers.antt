@@ -1,32 +1,47 @@
-use Rattle.std.proofs.Common.{◌≡◌, ◌∙◌, Some, sym, arith}
+use Rattle.std.proofs.Common.{◌≡◌, ◌∙◌, List, ℕ, Some, refl, sym, arith}
 use Rattle.std.proofs.lemmas.Grind.{common_steps}
 use Rattle.std.proofs.KnownBytes.{Appends-nil}
-use Rattle.jiter_print.specs.Written.{AppendsFront}
-use Rattle.jiter.specs.Caller.{answer_in}
-use Rattle.viewer.specs.Shown.{new_line, value_line}
+use Rattle.jiter.specs.Caller.{answer_in, view}
+use Rattle.jiter_print.specs.Print.{print_of, with_line_feed}
+use Rattle.viewer.specs.Arrived.{HasArrived}
+use Rattle.viewer.specs.Shown.{value_line}
+use Rattle.viewer.specs.declared.words.Words.{Words}
 use Rattle.viewer.proofs.Arriving.{if-err}
-use Rattle.viewer.proofs.Lines.{line-shown}
+use Rattle.viewer.proofs.Lines.{line-shown, same-line}
+use Rattle.viewer.proofs.Told.{line-told}
+use Rattle.viewer.proofs.view.show.Given.{Over}
 use Rattle.viewer.proofs.view.show.Goals as goal
+use Rattle.viewer.proofs.view.show.Goals.{In_ok-push, then-ne+in_ok-write_line, else-ne}
+
+-- what has arrived has this line
+told : (g : Over) (c : In_ok-push g) (words : Words) (t : List ℕ) → HasArrived words c.args.arrived.now t
+    → value_line (answer_in words.inf_nan words.mode t) ≡ Some c.push.new.self.items
+told g c words t h =
+    let text : c.push.new.self.items ≡ with_line_feed (print_of (view c.in-Ok.value.now)) = grind (arith, common_steps) in
+    line-told words c.args.arrived.now t h c.in-Ok.value.now c.in-Ok.ensures c.push.new.self.items text
 
 pub returns-in_err-line-in-Ok-clause-front : goal.returns-in_err-line-in-Ok-clause-front
-returns-in_err-line-in-Ok-clause-front g c =
-    let none : AppendsFront (g.O.Write.contents c.args.out.now) (g.O.Write.contents c.args.out.now) _ =
-    (0, Appends-nil _) in
-    if-err c.from_residual.result none
+returns-in_err-line-in-Ok-clause-front g c = λ words t h. if-err c.from_residual.result (0, Appends-nil _)
 
 pub returns-in_err-push-clause-front : goal.returns-in_err-push-clause-front
-returns-in_err-push-clause-front g c =
-    let none : AppendsFront (g.O.Write.contents c.args.out.now) (g.O.Write.contents c.args.out.now) _ =
-    (0, Appends-nil _) in
-    if-err c.from_residual-in_err-push.result none
+returns-in_err-push-clause-front g c = λ words t h. if-err c.from_residual-in_err-push.result (0, Appends-nil _)
 
 pub returns-in_err-write_line-clause-front : goal.returns-in_err-write_line-clause-front
-returns-in_err-write_line-clause-front g c =
-    let read = answer_in c.args.words.inf_nan c.args.words.mode c.args.bytes.now in
-    let line : value_line read ≡ Some c.push.new.self.items = grind (arith, common_steps) in
+returns-in_err-write_line-clause-front g c = λ words t h.
     let other = line-shown c.args.last.items c.push.new.self.items (sym c.ne.ensures ∙ c.if-ne.true) in
     let written = rw c.as_slice.ensures.value at c.in_err-write_line.ensures.front in
-    let front : AppendsFront (g.O.Write.contents c.args.out.now) (g.O.Write.contents c.write_line.new.writer)
-    (new_line c.args.last.items (value_line read)) =
-    rw line (rw other written) in
-    if-err c.from_residual-in_err-write_line.result front
+    rw (told g (goal.at.returns-in_err-write_line-clause-front g c).In_ok-push words t h)
+    (if-err c.from_residual-in_err-write_line.result (rw other written))
+
+pub returns-clause-last : goal.returns-clause-last
+returns-clause-last g c = λ words t h. rw (told g (goal.at.returns-clause-last g c).In_ok-push words t h) refl
+
+pub returns-clause-whole : goal.returns-clause-whole
+returns-clause-whole g c = λ words t h.
+    rw (told g (goal.at.returns-clause-whole g c).In_ok-push words t h) (elim c.if-ne.branch [
+      | then-ne+in_ok-write_line w ↦ (
+          let written = rw w.as_slice.ensures.value at w.in_ok-write_line.ensures.whole in
+          rw w.out-is (rw (line-shown c.args.last.items c.push.new.self.items (sym c.ne.ensures ∙ w.if-ne.true)) written))
+      | else-ne w ↦ rw w.out-is
+          (rw (same-line c.args.last.items c.push.new.self.items (sym c.ne.ensures ∙ w.if-ne.false)) (Appends-nil _))
+    ])

@@ -4,16 +4,16 @@ use Rattle.std.specs.Str.{IsUtf8}
 use Rattle.jiter_steps.proofs.OpenTexts.{is_text-kept, is_text-whole, is_text-broken}
 use Rattle.jiter_steps.proofs.open_text.OpenText.is_text.Goals as goal
 
-pub returns-then-keep : goal.returns-then-keep
-returns-then-keep c =
+pub returns-then-keep-clause-checked : goal.returns-then-keep-clause-checked
+returns-then-keep-clause-checked c =
     λ d h i e owned.
     let s = c.args.self.now in
     let utf8 : IsUtf8 s.text = subst (λ x. IsUtf8 x.text) c.self.view_is (IsUtf8-string_bytes c.self.inside.text) in
     let unbroken : s.broken ≡ false = ap (λ x. x.broken) (sym c.self.view_is) ∙ c.if-not-self.true in
     is_text-kept s d utf8 i e owned h unbroken c.args.keep c.if-keep.true
 
-pub returns-else-keep : goal.returns-else-keep
-returns-else-keep c =
+pub returns-else-keep-clause-checked : goal.returns-else-keep-clause-checked
+returns-else-keep-clause-checked c =
     λ d h i e owned.
     let s = c.args.self.now in
     let utf8 : IsUtf8 s.text = subst (λ x. IsUtf8 x.text) c.self.view_is (IsUtf8-string_bytes c.self.inside.text) in
@@ -22,8 +22,8 @@ returns-else-keep c =
     c.is_empty.ensures ∙ ap (λ l. nat_eq (length l) 0) (c.as_slice.ensures.value ∙ ap (λ x. x.rest) c.self.view_is) in
     is_text-whole s d utf8 i e owned h unbroken c.args.keep c.if-keep.false c.is_empty.result rest
 
-pub returns-else-not-self : goal.returns-else-not-self
-returns-else-not-self c =
+pub returns-else-not-self-clause-checked : goal.returns-else-not-self-clause-checked
+returns-else-not-self-clause-checked c =
     λ d h i e owned.
     let s = c.args.self.now in
     let utf8 : IsUtf8 s.text = subst (λ x. IsUtf8 x.text) c.self.view_is (IsUtf8-string_bytes c.self.inside.text) in

@@ -21,5 +21,5 @@ returns-in-Object-clause-goes c =
     let v = c.args.self.now in
     let new = record v { awaits = awaits.Colon } in
     let at : PartGoes v new c.args.byte (Ok went.Key) shape.Object =
-    λ a ms fs h other row. begins-key v new a ms fs c.args.byte other row h refl refl in
+    λ a ms fs h other begins row. begins-key v new a ms fs c.args.byte other row h refl refl begins in
     subst (PartGoes v new c.args.byte (Ok went.Key)) (sym c.in-Object.is) at

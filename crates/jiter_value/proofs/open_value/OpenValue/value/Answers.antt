@@ -1,6 +1,7 @@
-use Rattle.std.proofs.Common.{◌∙◌, sym, arith}
+use Rattle.std.proofs.Common.{◌∙◌, sym, subst, arith}
 use Rattle.jiter_steps.specs.declared.parse.Shape.TheVariants as shape
-use Rattle.jiter_value.proofs.OpenValues.{begins-container, begins-scalar, depth-is, value-too_deep, value-none}
+use Rattle.jiter_value.specs.OpenValue.{IsScalarStart}
+use Rattle.jiter_value.proofs.OpenValues.{begins-container, begins-scalar, scalar-starts, depth-is, value-too_deep, value-none}
 use Rattle.jiter_value.proofs.open_value.OpenValue.value.Goals as goal
 
 pub returns-then-len-gt-NESTING_LIMIT-clause-goes : goal.returns-then-len-gt-NESTING_LIMIT-clause-goes
@@ -30,10 +31,10 @@ returns-in-Nothing-clause-goes c = λ fs h of other p t j here.
     (omega (arith, c.if-len-gt-NESTING_LIMIT.false, c.len.ensures, v.spine.ok.0, depth-is fs v.spine.items h))
     (sym c.start_of.ensures ∙ c.in-Nothing.is)
 
-pub returns-in_ok-begin_scalar-in_default-clause-goes : goal.returns-in_ok-begin_scalar-in_default-clause-goes
-returns-in_ok-begin_scalar-in_default-clause-goes c = λ fs h of other.
+pub returns-in_ok-begin_scalar-in-String-clause-goes : goal.returns-in_ok-begin_scalar-in-String-clause-goes
+returns-in_ok-begin_scalar-in-String-clause-goes c = λ fs h of other.
     let v = c.args.self.now in
-    let e = c.in_ok-begin_scalar-in_default.ensures in
+    let e = c.in_ok-begin_scalar-in-String.ensures in
     begins-scalar v c.begin_scalar.new.self fs c.args.byte other
     (omega (arith, c.if-len-gt-NESTING_LIMIT.false, c.len.ensures, v.spine.ok.0, depth-is fs v.spine.items h)) h of
-    e.spine e.key e.awaits e.room
+    e.spine e.key e.awaits e.room (subst IsScalarStart c.start_of.ensures (scalar-starts c.start_of.result c.in-String.is))

@@ -1,0 +1,5 @@
+use Rattle.std.proofs.Common.{[]}
+use Rattle.jiter_value.proofs.arriving.Arriving.new.Goals as goal
+
+pub invariant_of-result : goal.invariant_of-result
+invariant_of-result c = ([], c.settle.ensures.received [] c.new.ensures.arrived)

@@ -1,0 +1,7 @@
+use Rattle.std.proofs.Common.{refl}
+use Rattle.jiter_value.proofs.Documents.{new-arrived}
+use Rattle.jiter_value.proofs.open_document.OpenDocument.new.Goals as goal
+
+pub returns-clause-arrived : goal.returns-clause-arrived
+returns-clause-arrived c =
+    let read = c.new-3.ensures in new-arrived _ refl refl refl refl read.left read.read
