@@ -53,27 +53,31 @@ fn plain_run(piece: &[u8], at: usize, most: usize) -> &[u8]
 }
 
 /// The string whose opening quote stands at a place of a piece, if it ends within the piece and holds no escape: its
-/// text, owned, and the place behind its closing quote. None where it does not, where it is no text, and where memory
-/// is refused: then it is read as one that goes on.
-pub fn text_within(alloc: Global, piece: &[u8], at: usize) -> Option<(String, usize)>
+/// text, owned, and the place behind its closing quote. None where it does not, and where it is no text: then it is
+/// read as one that goes on.
+pub fn text_within(
+    alloc: Global,
+    piece: &[u8],
+    at: usize,
+) -> Result<Option<(String, usize)>, Refused>
     requires { at < length piece.now }
-    ensures { IfSome result (λ x. IsTextWithin piece.now at (string_bytes x.0) x.1) }
+    ensures { IfOk result (λ found. IfSome found (λ x. IsTextWithin piece.now at (string_bytes x.0) x.1)) }
 {
     if piece[at] != b'"' {
-        return None;
+        return Ok(None);
     }
     let (to, low) = scan_short(piece, at + 1);
     if to >= piece.len() || piece[to] != b'"' {
-        return None;
+        return Ok(None);
     }
-    let text = if low {
-        ascii_between(piece, at, to)
+    let found = if low {
+        Some(ascii_between(piece, at, to))
     } else {
-        text_between(piece, at, to)?
+        text_between(piece, at, to)
     };
-    match copy_text(alloc, text) {
-        Ok(own) => Some((own, to + 1)),
-        Err(_) => None,
+    match found {
+        Some(text) => Ok(Some((copy_text(alloc, text)?, to + 1))),
+        None => Ok(None),
     }
 }
 

@@ -79,17 +79,17 @@ fn number_at(number: &mut OpenNumber, piece: &[u8], at: usize) -> Result<Whole, 
 
 // The string that begins at a place of a piece, if it ends within the piece and holds no escape.
 #[inline(always)]
-fn string_at(alloc: Global, piece: &[u8], at: usize) -> Whole
+fn string_at(alloc: Global, piece: &[u8], at: usize) -> Result<Whole, Refused>
     requires within { at < length piece.now }
     requires decimal { begins_decimal (slice_index piece.now at) ≡ false }
-    ensures { (n : OpenNumber) → IsWholeAt n piece.now at result }
+    ensures { (n : OpenNumber) → IfOk result (IsWholeAt n piece.now at) }
 {
     if piece[at] != b'"' {
-        return Whole::Nothing;
+        return Ok(Whole::Nothing);
     }
-    match text_within(alloc, piece, at) {
-        Some((text, end)) => Whole::Text(text, end),
-        None => Whole::Nothing,
+    match text_within(alloc, piece, at)? {
+        Some((text, end)) => Ok(Whole::Text(text, end)),
+        None => Ok(Whole::Nothing),
     }
 }
 
@@ -107,7 +107,7 @@ fn whole_at(
     if begins_decimal(piece[at]) {
         number_at(number, piece, at)
     } else {
-        Ok(string_at(alloc, piece, at))
+        string_at(alloc, piece, at)
     }
 }
 
