@@ -10,6 +10,7 @@ pub mod NumberComplete
 pub mod NumberBytes
 pub mod NumberBounds
 pub mod NumberValues
+pub mod NumberEnds
 pub mod NumberExtents
 pub mod NumberTests
 pub mod OpenNumbers

@@ -1,8 +1,10 @@
 -- Plain numbers as the numbers that are read.
-use Rattle.std.proofs.Common.{◌≡◌, inr, ℕ, ◌+◌, ◌≤◌, Bool, List, refl, sym, ap, ◌∙◌, slice_range, arith}
-use Rattle.std.specs.Prelude.{◌^◌, slice_get, Some, pos, nat_lt, nat_le}
+use Rattle.std.proofs.Common.{◌≡◌, inl, inr, ℕ, ◌+◌, ◌≤◌, Bool, true, false, List, refl, sym, ap, ◌∙◌, slice_range, arith}
+use Rattle.std.specs.Prelude.{◌^◌, slice_get, Some, pos, nat_lt, nat_le, if◌then◌else◌}
 use Rattle.std.proofs.lemmas.Bool.{lt-ltb, le-leb}
+use Rattle.std.proofs.lemmas.Bool.Decides.{nat_tests}
 use Rattle.jiter_scan.specs.Number.{integer, float, number_value, minus_of}
+use Rattle.jiter_scan.specs.NumberDecoder.{IsMinusTo}
 use Rattle.jiter_scan.specs.NumberReading.{number_extent, with_value, number_at}
 use Rattle.jiter_scan.specs.Scanned.{taken}
 use Rattle.jiter_scan.specs.PlainNumber.{IsPlainInteger, IsPlainFloat}
@@ -39,3 +41,19 @@ module _ (t : List ℕ) (names : Bool) (e : ℕ) where
         ∙ ap (λ x. taken x e)
         (sym (integer_value-negative t i (i + 1) e n (inr (refl, minus)) (omega arith) s.int_part s.magnitude)
         ∙ if-true (nat_le n (2 ^ 63)) _ _ (le-leb n (2 ^ 63) small))
+
+-- short numbers with their sign
+module _ (t : List ℕ) (names : Bool) (i e : ℕ) where
+  pub short-signed : (j n : ℕ) → IsMinusTo t i j → IsPlainInteger t j n e
+      → number_at names t i ≡ taken (integer (if nat_lt i j then minus_of n else pos n)) e
+  short-signed j n (inl same) s =
+      let no : nat_lt i j ≡ false = grind (arith, nat_tests, same) in
+      rw no (plain-integer t names e i n (rw same at s))
+  short-signed j n (inr (next, minus)) s =
+      let yes : nat_lt i j ≡ true = grind (arith, nat_tests, next) in
+      rw yes (plain-negative t names e i minus n (rw next at s))
+
+  pub short-signed_float : (j : ℕ) → IsMinusTo t i j → IsPlainFloat t j e
+      → number_at names t i ≡ taken (float (slice_range t i e)) e
+  short-signed_float j (inl same) s = plain-float t names e i (rw same at s)
+  short-signed_float j (inr (next, minus)) s = plain-negative_float t names e i minus (rw next at s)

@@ -1,11 +1,14 @@
 -- A number that lies whole in a piece of a text (RFC 8259, 6).
-use Rattle.std.specs.Prelude.{◌≡◌, ◌+◌, ◌-◌, ◌<◌, ◌==◌, ◌||◌, ℕ, Bool, List, length, slice_get, slice_range}
+use Rattle.std.specs.Prelude.{◌≡◌, ◌+◌, ◌-◌, ◌<◌, ◌==◌, ◌||◌, ℕ, Bool, false, List, length, slice_get, slice_index, slice_range}
+use Rattle.std.specs.Str.{IsAscii}
 use Rattle.jiter_scan.specs.Ascii as ascii
 use Rattle.jiter_scan.specs.Digits.{is_digit}
-use Rattle.jiter_scan.specs.Number.{Number, number_value}
+use Rattle.jiter_scan.specs.Number.{Number, float, integer, number_value}
 use Rattle.jiter_scan.specs.NumberReading.{number_extent}
 use Rattle.jiter_scan.specs.Scanned.{taken}
 use Rattle.jiter_scan.specs.Stands.{Stands}
+use Rattle.jiter_scan.specs.declared.number_within.ShortWithin.{ShortWithin}
+use Rattle.jiter_scan.specs.declared.number_within.ShortWithin.TheVariants as short
 
 -- a byte with which a number may go on: a digit, a point or the letter of an exponent
 abbrev pub continues_number : ℕ → Bool
@@ -19,3 +22,15 @@ pub record EndsWithin (piece : List ℕ) (at : ℕ) (n : Number) (e : ℕ) : Typ
   pub value : n ≡ number_value (slice_range piece at e)
   pub reads : (names : Bool) (t : List ℕ) (b : ℕ) → Stands t b (b + (e - at)) (slice_range piece at e)
       → slice_get t (b + (e - at)) ≡ slice_get piece e → number_extent names t b ≡ taken tt (b + (e - at))
+
+-- a byte stands there with which no number goes on
+pub record EndsNumber (piece : List ℕ) (e : ℕ) : Type 0 where
+  pub within : e < length piece
+  pub stops : continues_number (slice_index piece e) ≡ false
+
+-- what was found at a place of a piece
+abbrev pub IsShortWithin : List ℕ → ℕ → ShortWithin → Type 0
+IsShortWithin piece at (short.Int n e) = EndsWithin piece at (integer n) e
+IsShortWithin piece at (short.Float e) =
+    EndsWithin piece at (float (slice_range piece at e)) e × IsAscii (slice_range piece at e)
+IsShortWithin piece at short.Other = Unit {0}

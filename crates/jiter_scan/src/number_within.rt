@@ -1,27 +1,74 @@
 //! Numbers that lie whole in a piece of a document (RFC 8259, 6), with a byte behind them that ends them.
-ghost use Rattle.std.specs.Prelude.{◌≡◌, ◌<◌, IfSome, length};
+ghost use Rattle.std.specs.Prelude.{◌≡◌, ◌<◌, IfSome, length, true};
 ghost use Rattle.jiter_scan.specs.NumberDecoder.{number_view};
-ghost use Rattle.jiter_scan.specs.NumberWithin.{EndsWithin, continues_number};
+ghost use Rattle.jiter_scan.specs.NumberWithin.{EndsWithin, EndsNumber, IsShortWithin, continues_number};
 
 use crate::number_decoder::{NumberAny, number_at};
+use crate::number_extent::minus_end;
+use crate::plain_number::{PlainNumber, short_number_at, signed};
+
+/// A short number that lies whole in a piece.
+#[derive(Clone, Copy, Debug)]
+pub enum ShortWithin {
+    /// An integer, and the place behind it.
+    Int(i64, usize),
+    /// A number with a point or an exponent: the place behind it.
+    Float(usize),
+    /// None that is known.
+    Other,
+}
 
 // Whether a number may go on with the byte.
+#[inline(always)]
 fn continues_number(byte: u8) -> bool
     ensures { result ≡ continues_number byte }
 {
     matches!(byte, b'0'..=b'9' | b'.' | b'e' | b'E')
 }
 
+// Whether a byte stands at a place with which no number goes on.
+#[inline(always)]
+fn ends_number(piece: &[u8], end: usize) -> bool
+    ensures { result ≡ true → EndsNumber piece.now end }
+{
+    end < piece.len() && !continues_number(piece[end])
+}
+
+/// The short number at a place of a piece, if a byte stands behind it with which no number goes on.
+#[inline(always)]
+pub fn short_within(piece: &[u8], at: usize) -> ShortWithin
+    requires { at < length piece.now }
+    ensures { IsShortWithin piece.now at result }
+{
+    let from = minus_end(piece, at);
+    match short_number_at(piece, from) {
+        PlainNumber::Int(magnitude, end) => {
+            if ends_number(piece, end) {
+                ShortWithin::Int(signed(magnitude, from > at), end)
+            } else {
+                ShortWithin::Other
+            }
+        }
+        PlainNumber::Float(end) => {
+            if ends_number(piece, end) {
+                ShortWithin::Float(end)
+            } else {
+                ShortWithin::Other
+            }
+        }
+        PlainNumber::Other => ShortWithin::Other,
+    }
+}
+
 /// The number at a place of a piece, and the place behind it, if a byte stands there with which no number goes on. Where
 /// there is none, the number may go on in the next piece, or none begins there.
-#[inline(always)]
 pub fn number_within(piece: &[u8], at: usize) -> Option<(NumberAny<'_>, usize)>
     requires { at < length piece.now }
     ensures { IfSome result (λ found. EndsWithin piece.now at (number_view found.0) found.1) }
 {
     match number_at(piece, at, false) {
         Ok((number, end)) => {
-            if end < piece.len() && !continues_number(piece[end]) {
+            if ends_number(piece, end) {
                 Some((number, end))
             } else {
                 None

@@ -1,15 +1,17 @@
 //! Plain numbers: short ones with as many bytes ahead as are looked at, sixteen at a time, with the answer in
 //! registers.
-ghost use Rattle.std.specs.Prelude.{◌≡◌, ◌==◌, ◌||◌, ◌<◌, ◌≤◌, ◌+◌, IfSome, length, slice_get};
+ghost use Rattle.std.specs.Prelude.{◌≡◌, ◌==◌, ◌||◌, ◌<◌, ◌≤◌, ◌+◌, ◌^◌, IfSome, length, pos, slice_get};
+ghost use Rattle.std.specs.Prelude.{if◌then◌else◌};
 ghost use Rattle.jiter_scan.specs.Ascii as ascii;
 ghost use Rattle.jiter_scan.specs.Digits.{digit_run_end};
+ghost use Rattle.jiter_scan.specs.Number.{minus_of};
 ghost use Rattle.jiter_scan.specs.NumberReading.{extent_then, digits_from, fraction_at, power_from, exponent_at};
 ghost use Rattle.jiter_scan.specs.NumberReading.{is_float_sign};
 ghost use Rattle.jiter_scan.specs.Scanned.{taken};
-ghost use Rattle.jiter_scan.specs.PlainNumber.{IsPlainNumber};
+ghost use Rattle.jiter_scan.specs.PlainNumber.{IsPlainInteger, IsPlainNumber};
 
 use crate::number_decoder::{digits_magnitude, is_float_sign};
-use crate::simd::{digit_count, digit_word, full_chunk_at};
+use crate::simd::{chunk_at, digit_count, digit_word, full_chunk_at};
 
 // The bytes from a number's first digit on that are looked at at once.
 const REACH: usize = 16;
@@ -195,4 +197,51 @@ pub fn plain_number_at(bytes: &[u8], at: usize) -> PlainNumber
         return PlainNumber::Other;
     }
     roomy_number_at(bytes, at)
+}
+
+/// The magnitude of the digits at a byte index, and the place behind them, where fewer bytes stand from there on than
+/// are looked at, and the digits are an integer. Where they are none, no place behind the first one is told.
+pub fn near_integer_at(bytes: &[u8], at: usize) -> (u64, usize)
+    requires within { at ≤ length bytes.now }
+    requires near { length bytes.now < at + 16 }
+    ensures integer { at < result.1 → IsPlainInteger bytes.now at result.0 result.1 }
+{
+    let rest = bytes.len() - at;
+    let chunk = chunk_at(bytes, at);
+    let count = digit_count(chunk).min(rest);
+    if count == 0 || bytes[at] == b'0' && count != 1 {
+        return (0, at);
+    }
+    let end = at + count;
+    if count < rest && goes_on(bytes[end]) {
+        return (0, at);
+    }
+    (digit_word(chunk, count), end)
+}
+
+/// The number whose first digit stands at a byte index, if it is short, or if it is an integer near the input's end.
+#[inline(always)]
+pub fn short_number_at(bytes: &[u8], at: usize) -> PlainNumber
+    requires { at ≤ length bytes.now }
+    ensures { IsPlainNumber bytes.now at result }
+{
+    if bytes.len() - at >= REACH {
+        return roomy_number_at(bytes, at);
+    }
+    let (magnitude, end) = near_integer_at(bytes, at);
+    if at < end {
+        PlainNumber::Int(magnitude, end)
+    } else {
+        PlainNumber::Other
+    }
+}
+
+/// The integer of a magnitude, with a minus or none.
+#[inline(always)]
+pub fn signed(magnitude: u64, negative: bool) -> i64
+    requires { magnitude < 2 ^ 63 }
+    ensures { result ≡ (if negative then minus_of magnitude else pos magnitude) }
+{
+    let number = magnitude as i64;
+    if negative { 0 - number } else { number }
 }

@@ -35,4 +35,6 @@ pub mod DocumentStrings
 pub mod DocumentTexts
 pub mod Received
 pub mod DocumentBlanks
+pub mod DocumentBytes
+pub mod WholeLiterals
 mod Rows

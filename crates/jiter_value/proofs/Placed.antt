@@ -6,7 +6,6 @@ use Rattle.std.proofs.lemmas.Bool.Decides.{nat_tests}
 use Rattle.jiter_scan.specs.Number.{Number, integer, float, minus_of}
 use Rattle.jiter_scan.specs.NumberDecoder.{IsMinusTo}
 use Rattle.jiter_scan.specs.PlainNumber.{IsPlainInteger, IsPlainFloat}
-use Rattle.jiter_scan.proofs.PlainNumberValues.{plain-integer, plain-negative, plain-float, plain-negative_float}
 use Rattle.jiter_scan.specs.NumberReading.{number_at}
 use Rattle.jiter_scan.specs.Scanned.{taken}
 use Rattle.jiter_scan.specs.PartialMode.{allows_trailing_strings}
@@ -80,22 +79,6 @@ module _ {made : Keeping} {t : List ℕ} {old new : Stacks} {a : Slot} {i e : �
         ahead = ahead;
         within = within;
       }
-
--- short numbers with their sign
-module _ (t : List ℕ) (names : Bool) (i e : ℕ) where
-  pub short-signed : (j n : ℕ) → IsMinusTo t i j → IsPlainInteger t j n e
-      → number_at names t i ≡ taken (integer (if nat_lt i j then minus_of n else pos n)) e
-  short-signed j n (inl same) s =
-      let no : nat_lt i j ≡ false = grind (arith, nat_tests, same) in
-      rw no (plain-integer t names e i n (rw same at s))
-  short-signed j n (inr (next, minus)) s =
-      let yes : nat_lt i j ≡ true = grind (arith, nat_tests, next) in
-      rw yes (plain-negative t names e i minus n (rw next at s))
-
-  pub short-signed_float : (j : ℕ) → IsMinusTo t i j → IsPlainFloat t j e
-      → number_at names t i ≡ taken (float (slice_range t i e)) e
-  short-signed_float j (inl same) s = plain-float t names e i (rw same at s)
-  short-signed_float j (inr (next, minus)) s = plain-negative_float t names e i minus (rw next at s)
 
 -- a key that was read so, kept so and put so
 pub key-at : (made : Keeping) (t : List ℕ) (s : Stacks) (ms : Vec Member Global) (i e j : ℕ) (k : Text)

@@ -20,14 +20,14 @@ use Rattle.jiter_steps.specs.Blank.{past_blanks}
 use Rattle.jiter_steps.specs.Frames.{key_from, value_from, value_in}
 use Rattle.jiter_steps.specs.Literal.{start_of}
 use Rattle.jiter_steps.specs.Node.{nesting_limit, number_tree}
-use Rattle.jiter_steps.specs.OpenString.{HasTaken, IsTextWithin}
+use Rattle.jiter_steps.specs.OpenString.{HasTaken}
 use Rattle.jiter_steps.specs.Read.{Reading, done, fault, front_answer}
 use Rattle.jiter_steps.specs.Tree.{Text, Tree, object, members_of}
 use Rattle.jiter_steps.specs.declared.parse.Start.{Start}
 use Rattle.jiter_steps.specs.declared.parse.Start.TheVariants as start
 use Rattle.jiter_value.specs.Arrived.{Arrived, at_value, at_end, owned}
 use Rattle.jiter_value.specs.Names.{name_bytes, name_extent, name_start, name_word}
-use Rattle.jiter_value.specs.OpenValue.{IsLeft, completed}
+use Rattle.jiter_value.specs.OpenValue.{Goes, IsBehind, IsLeft, completed}
 use Rattle.jiter_value.specs.Owned.{owned_text, tree_as}
 use Rattle.jiter_value.specs.Settings.{answer_as, rules_as}
 use Rattle.jiter_value.specs.Spine.{OpenFrame, spine_of, HasRoomInside}
@@ -37,9 +37,10 @@ use Rattle.jiter_value.specs.declared.names.Name.TheVariants as name
 use Rattle.jiter_value.specs.declared.open_document.OpenDocument.{OpenDocument}
 use Rattle.jiter_value.specs.declared.open_document.Token.{Token}
 use Rattle.jiter_value.specs.declared.open_document.Token.TheVariants as token
-use Rattle.jiter_value.specs.declared.whole_tokens.Whole.{Whole}
-use Rattle.jiter_value.specs.declared.whole_tokens.Whole.TheVariants as whole
 use Rattle.jiter_value.specs.declared.open_value.Awaits.TheVariants as awaits
+use Rattle.jiter_value.specs.declared.open_value.OpenValue.{OpenValue}
+use Rattle.jiter_value.specs.declared.open_value.Went.{Went}
+use Rattle.jiter_value.specs.declared.open_value.Went.TheVariants as went
 use Rattle.jiter_value.specs.declared.settings.Settings.{Settings}
 
 -- the same with partial reading off
@@ -168,6 +169,18 @@ pub record StandsAt (c : ℕ) (d : OpenDocument) (t : List ℕ) (s : Arrived) : 
   pub unset : d.fault ≡ None
   pub position : d.position ≡ length t
 
+-- Where the container was closed, a comma or its end is awaited.
+abbrev pub IsClosed : OpenValue → Went → Type 0
+IsClosed v (went.Closed k) = IsBehind v.awaits
+IsClosed v other = Unit {0}
+
+-- The byte c comes next, and this is what it is there.
+pub record Meets (c : ℕ) (d : OpenDocument) (t : List ℕ) (w : Went) : Type 0 where
+  pub state : Arrived
+  pub stands : StandsAt c d t state
+  pub goes : Goes d.value state c w
+  pub closed : IsClosed d.value w
+
 -- A scalar begins with the byte c, which comes next, inside these containers.
 pub record BeginsHere (c : ℕ) (d : OpenDocument) (t : List ℕ) (fs : List OpenFrame) : Type 0 where
   pub known : Known (with_byte c) d t (in_scalar fs (length t))
@@ -226,12 +239,6 @@ pub record IsNumberWithin (piece : List ℕ) (at : ℕ) (v : Tree) (e : ℕ) : T
   pub number : Number
   pub ends : EndsWithin piece at number e
   pub is : v ≡ tree_as owned_text (number_tree number)
-
--- What is whole at a place of a piece is so; where nothing is and a number begins there, its first byte is held.
-abbrev pub IsWholeAt : OpenNumber → List ℕ → ℕ → Whole → Type 0
-IsWholeAt n piece at whole.Nothing = begins_decimal (slice_index piece at) ≡ true → HoldsNumber n (slice_index piece at ∷ [])
-IsWholeAt n piece at (whole.Number v e) = IsNumberWithin piece at (view v) e
-IsWholeAt n piece at (whole.Text s e) = IsTextWithin piece at (string_bytes s) e
 
 -- A name that begins with this byte, wherever it stands, where names are allowed; else no value does.
 pub record NameBegins (k : Name) (c : ℕ) : Type 0 where

@@ -161,6 +161,7 @@ impl OpenDocument {
     }
 
     // The value stands behind the scalar that was unfinished.
+    #[inline(always)]
     pub(crate) fn put(&mut self, value: JsonValue<'static>)
         requires { HasRoomInside self.old.value.spine.items }
         ensures put { (n m : Next) → (t w : List ℕ) → (fs : List OpenFrame) → (b : ℕ)
@@ -291,6 +292,7 @@ impl OpenDocument {
     }
 
     // Takes a byte behind a number that ended before it.
+    #[inline(always)]
     pub(crate) fn behind(&mut self, byte: u8)
         requires read { (t : List ℕ) × HasTakenIn (with_byte byte) self.old t }
         requires behind { IsBehind self.old.value.awaits }
@@ -396,6 +398,7 @@ impl OpenDocument {
     }
 
     // Whether no byte changes the answers any more.
+    #[inline(always)]
     fn is_over(&self) -> bool
         ensures over { result ≡ true → IsOver self.now }
         ensures unset { result ≡ false → self.now.fault ≡ None }
@@ -405,6 +408,7 @@ impl OpenDocument {
     }
 
     // Takes a run of blanks, or another byte and what is whole there, where no token is unfinished.
+    #[inline(always)]
     fn take_between(&mut self, piece: &[u8], at: usize) -> Result<usize, Refused>
         requires within { at < length piece.now }
         requires token { IsIn self.old Token.Nothing }
@@ -423,6 +427,7 @@ impl OpenDocument {
     }
 
     // Takes bytes, and does not count them yet.
+    #[inline(always)]
     fn turn(&mut self, piece: &[u8], at: usize) -> Result<usize, Refused>
         requires within { at < length piece.now }
         requires arrived { (t : List ℕ) × HasArrived self.old t }
@@ -448,6 +453,7 @@ impl OpenDocument {
 
     /// Takes bytes of a piece from the place `at` on, and says how many: at least one. Where memory is refused, all
     /// stays as it is, and the bytes can be taken again.
+    #[inline(always)]
     pub fn take(&mut self, piece: &[u8], at: usize) -> Result<usize, Refused>
         requires within { at < length piece.now }
         requires arrived { (t : List ℕ) × HasArrived self.old t }

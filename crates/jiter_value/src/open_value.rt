@@ -94,6 +94,7 @@ pub struct OpenValue {
 }
 
 // A space, a tab, a line feed or a carriage return.
+#[inline(always)]
 fn is_blank(byte: u8) -> bool
     ensures { result ≡ is_blank byte }
 {
@@ -101,6 +102,7 @@ fn is_blank(byte: u8) -> bool
 }
 
 // What a byte is where a part may begin, by what is awaited there.
+#[inline(always)]
 fn sign_of(awaits: Awaits, shape: Shape, byte: u8) -> Sign
     requires { IsBeforePart awaits }
     ensures step { (p : Settings) → (t : List ℕ) → (j : ℕ)
@@ -121,6 +123,7 @@ fn sign_of(awaits: Awaits, shape: Shape, byte: u8) -> Sign
 }
 
 // The shape of the innermost container.
+#[inline(always)]
 fn shape_inside(spine: &Vec<JsonValue<'_>>) -> Shape
     requires { (h : Shape) × (xs : List (PartTree h)) × (fs : List OpenFrame)
         × (map view spine.now.items ≡ spine_of fs (built h xs)) }
@@ -135,6 +138,7 @@ fn shape_inside(spine: &Vec<JsonValue<'_>>) -> Shape
 }
 
 // What is awaited behind a value inside these containers.
+#[inline(always)]
 fn behind_part(spine: &Vec<JsonValue<'_>>) -> Awaits
     ensures root { spine.now.items ≡ [] → result ≡ Awaits.Nothing }
     ensures inside { 0 < length spine.now.items → result ≡ Awaits.Comma }
@@ -174,6 +178,7 @@ impl OpenValue {
     }
 
     // A container begins where a value is awaited.
+    #[inline(never)]
     fn begin(&mut self, shape: Shape) -> Result<(), Refused>
         requires { (fs : List OpenFrame) × AwaitsPart self.old.spine.items fs }
         ensures left { (fs : List OpenFrame) → AwaitsPart self.old.spine.items fs
@@ -193,6 +198,7 @@ impl OpenValue {
     }
 
     // A scalar begins: there is room for it then.
+    #[inline(always)]
     fn begin_scalar(&mut self) -> Result<(), Refused>
         requires { (fs : List OpenFrame) × AwaitsPart self.old.spine.items fs }
         ensures spine { map view self.new.spine.items ≡ map view self.old.spine.items }
@@ -208,6 +214,7 @@ impl OpenValue {
     }
 
     // What a byte is, which is no blank, where a value is awaited.
+    #[inline(always)]
     fn value(&mut self, byte: u8) -> Result<Went, Refused>
         requires { (fs : List OpenFrame) × AwaitsPart self.old.spine.items fs }
         ensures goes { (fs : List OpenFrame) → AwaitsPart self.old.spine.items fs
@@ -237,6 +244,7 @@ impl OpenValue {
     }
 
     // A part begins with the byte.
+    #[inline(always)]
     fn part(&mut self, shape: Shape, byte: u8) -> Result<Went, Refused>
         requires { (xs : List (PartTree shape)) × (fs : List OpenFrame)
             × (map view self.old.spine.items ≡ spine_of fs (built shape xs)) }
@@ -258,6 +266,7 @@ impl OpenValue {
     }
 
     // What a byte is, which is no blank, where a part of a container may begin.
+    #[inline(always)]
     fn between(&mut self, byte: u8) -> Result<Went, Refused>
         requires inside { (h : Shape) × (xs : List (PartTree h)) × (fs : List OpenFrame)
             × (map view self.old.spine.items ≡ spine_of fs (built h xs)) }
@@ -288,6 +297,7 @@ impl OpenValue {
     }
 
     /// What the next byte is behind a value. It takes no memory.
+    #[inline(always)]
     pub fn behind(&mut self, byte: u8) -> Went
         requires left { (s : Arrived) × IsLeft self.old s }
         requires behind { IsBehind self.old.awaits }
@@ -324,6 +334,7 @@ impl OpenValue {
     }
 
     // What a byte is, which is no blank, behind a key.
+    #[inline(always)]
     fn colon(&mut self, byte: u8) -> Went
         ensures goes { (fs : List OpenFrame) → AwaitsPart self.old.spine.items fs
             → IsOfKey (text_view self.old.key) fs → is_blank byte ≡ false
@@ -338,6 +349,7 @@ impl OpenValue {
     }
 
     // What the next byte is.
+    #[inline(always)]
     fn turn(&mut self, byte: u8) -> Result<Went, Refused>
         requires { (s : Arrived) × IsLeft self.old s }
         ensures goes { (s : Arrived) → IsLeft self.old s → IfOk result (Goes self.new s byte) }
@@ -357,6 +369,7 @@ impl OpenValue {
 
     /// What the next byte is: it is taken, a scalar or a key begins with it, or it ends what is open. Where memory is
     /// refused, the value so far stays as it is.
+    #[inline(always)]
     pub fn next(&mut self, byte: u8) -> Result<Went, Refused>
         requires { (s : Arrived) × IsLeft self.old s }
         ensures goes { (s : Arrived) → IsLeft self.old s → IfOk result (Goes self.new s byte) }
@@ -370,6 +383,7 @@ impl OpenValue {
     }
 
     /// The scalar that was begun is whole, and is put where it was awaited. It takes no memory.
+    #[inline(always)]
     pub fn put_scalar(&mut self, value: JsonValue<'static>)
         requires { HasRoomInside self.old.spine.items }
         ensures behind { IsBehind self.new.awaits }
@@ -385,6 +399,7 @@ impl OpenValue {
     }
 
     /// The key that was begun is whole, and its colon is awaited. It takes no memory.
+    #[inline(always)]
     pub fn put_key(&mut self, key: String)
         requires { self.old.awaits ≡ Awaits.Colon }
         ensures left { (ms : List (Text × Tree)) → (fs : List OpenFrame)
@@ -438,6 +453,7 @@ impl OpenValue {
     }
 
     /// A scalar that is not whole is shown where it is awaited. It takes no memory.
+    #[inline(always)]
     pub fn show(&mut self, value: JsonValue<'static>)
         requires { HasRoomInside self.old.spine.items }
         ensures { IsShown self.old self.new value.entry }

@@ -90,6 +90,7 @@ pub fn take_apart<'j>(spine: &mut Vec<JsonValue<'j>>, root: &mut JsonValue<'j>, 
 }
 
 // A value goes back into the innermost parent, where a null stands in its place; with no parent it is the root.
+#[inline(always)]
 fn put_back<'j>(spine: &mut Vec<JsonValue<'j>>, root: &mut JsonValue<'j>, value: JsonValue<'j>)
     requires { (fs : List OpenFrame) × (map view spine.old.items ≡ parents_of fs) }
     ensures value { (fs : List OpenFrame) → map view spine.old.items ≡ parents_of fs
@@ -139,6 +140,7 @@ pub fn put_together<'j>(spine: &mut Vec<JsonValue<'j>>, root: &mut JsonValue<'j>
 }
 
 // Room for a part more of a container.
+#[inline(always)]
 fn widen<'j>(container: &mut JsonValue<'j>) -> Result<(), Refused>
     requires { (f : OpenFrame) × (view container.old ≡ begun f) }
     ensures same { view container.new ≡ view container.old }
@@ -152,6 +154,7 @@ fn widen<'j>(container: &mut JsonValue<'j>) -> Result<(), Refused>
 }
 
 /// Room for a part more of the innermost container, if one is open.
+#[inline(always)]
 pub fn make_room_inside<'j>(spine: &mut Vec<JsonValue<'j>>) -> Result<(), Refused>
     requires { (fs : List OpenFrame) × AwaitsPart spine.old.items fs }
     ensures same { map view spine.new.items ≡ map view spine.old.items }
@@ -166,6 +169,7 @@ pub fn make_room_inside<'j>(spine: &mut Vec<JsonValue<'j>>) -> Result<(), Refuse
 }
 
 // A part more of a container; in an object it has the key.
+#[inline(always)]
 fn append<'j>(container: &mut JsonValue<'j>, key: &mut CowStr<'j>, value: JsonValue<'j>)
     requires { IsRoomy (out-JsonValue container.old) }
     ensures part { (f : OpenFrame) → view container.old ≡ begun f → IsOfKey (text_view key.old) (f ∷ [])
@@ -184,6 +188,7 @@ fn append<'j>(container: &mut JsonValue<'j>, key: &mut CowStr<'j>, value: JsonVa
 
 /// The value that is awaited becomes the last part of the innermost container, which has room for it, or the root. In
 /// an object it has the key.
+#[inline(always)]
 pub fn put<'j>(
     spine: &mut Vec<JsonValue<'j>>,
     root: &mut JsonValue<'j>,

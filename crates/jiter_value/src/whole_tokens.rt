@@ -1,20 +1,17 @@
-//! A number, a string or a key that lies whole in a piece of a document that arrives (RFC 8259, 6 and 7): it is taken at
-//! once.
-ghost use Rattle.std.specs.Prelude.{◌≡◌, ◌+◌, ◌-◌, ◌^◌, ◌<◌, ◌≤◌, ◌∷◌, ◌++◌, [], IfOk, IfSome, List, None, OnErr, Some, length};
-ghost use Rattle.std.specs.Prelude.{false, slice_index, slice_range, true, ℕ};
+//! A number, a literal, a string or a key that lies whole in a piece of a document that arrives (RFC 8259, 3, 6 and 7): it
+//! is taken at once.
+ghost use Rattle.std.specs.Prelude.{◌≡◌, ◌+◌, ◌-◌, ◌^◌, ◌<◌, ◌≤◌, ◌∷◌, ◌++◌, [], IfOk, IfSome, List, OnErr, length};
+ghost use Rattle.std.specs.Prelude.{None, OnOk, false, slice_index, slice_range, string_bytes, true, ℕ};
+ghost use Rattle.std.specs.Str.{IsAscii};
 ghost use Rattle.jiter_scan.specs.NumberDecoder.{number_view};
-ghost use Rattle.jiter_scan.specs.declared.open_number.OpenNumber.{OpenNumber};
 ghost use Rattle.jiter_scan.specs.OpenNumber.{begins_decimal};
-ghost use Rattle.jiter_scan.specs.Ascii.{quote};
 ghost use Rattle.jiter_steps.specs.Literal.{start_of};
 ghost use Rattle.jiter_steps.specs.Node.{number_tree};
-ghost use Rattle.jiter_steps.specs.Tree.{Text, string};
-ghost use Rattle.jiter_value.specs.Arrived.{Arrived};
-ghost use Rattle.jiter_value.specs.OpenDocument.{BeginsHere, EndsBefore, HasTakenIn};
-ghost use Rattle.jiter_value.specs.OpenDocument.{IsIn};
-ghost use Rattle.jiter_value.specs.OpenDocument.{IsWholeAt, StandsAt, Stays};
-ghost use Rattle.jiter_value.specs.OpenDocument.{StaysSo, Takes, anything};
-ghost use Rattle.jiter_value.specs.OpenValue.{BeginsKey, IsScalarStart};
+ghost use Rattle.jiter_steps.specs.Tree.{float, int};
+ghost use Rattle.jiter_steps.specs.OpenString.{IsTextWithin};
+ghost use Rattle.jiter_steps.specs.declared.parse.Start.{Start};
+ghost use Rattle.jiter_value.specs.OpenDocument.{EndsBefore, HasArrived, HasTakenIn, HoldsNumber, IsIn, IsNumberWithin};
+ghost use Rattle.jiter_value.specs.OpenDocument.{Meets, Stays, StaysSo, Takes, anything};
 ghost use Rattle.jiter_value.specs.Owned.{owned_text, tree_as};
 ghost use Rattle.jiter_value.specs.Spine.{OpenFrame};
 ghost use Rattle.jiter_value.specs.Value.{view};
@@ -22,20 +19,20 @@ ghost use Rattle.jiter_value.specs.declared.open_document.Token.{Token};
 ghost use Rattle.jiter_value.specs.declared.open_value.Went.{Went};
 
 use crate::document_strings::text_value;
+use crate::names::Name;
 use crate::number_text::NumberText;
 use crate::open_document::{OpenDocument, Token, begins_decimal};
 use crate::open_value::Went;
 use crate::value::JsonValue;
 use jiter_scan::memory::Refused;
-use jiter_scan::number_within::number_within;
-use jiter_scan::open_number::OpenNumber;
+use jiter_scan::number_within::{ShortWithin, number_within, short_within};
+use jiter_scan::text::ascii_text;
 use jiter_scan::{NumberAny, NumberInt};
 use jiter_steps::open_string::text_within;
-use jiter_steps::parse::start_of;
-use std::alloc::Global;
+use jiter_steps::parse::Literal;
+use jiter_steps::plain::plain_literal_end;
 
 // A number that was read as a value, if it is an integer of 64 signed bits or its text is short. It takes no memory.
-#[inline(always)]
 fn short_value(number: NumberAny<'_>) -> Option<JsonValue<'static>>
     ensures { IfSome result (λ v.
         view v ≡ tree_as owned_text (number_tree (number_view number.entry))) }
@@ -49,70 +46,99 @@ fn short_value(number: NumberAny<'_>) -> Option<JsonValue<'static>>
     }
 }
 
-// What begins at a place of a piece and ends within it.
-#[derive(Drop)]
-enum Whole {
-    // Nothing that is known.
-    Nothing,
-    // A number as a value, and the place behind it, where a byte stands that ends it.
-    Number(JsonValue<'static>, usize),
-    // The text of a string, and the place behind its closing quote.
-    Text(String, usize),
+// An integer as a value. It takes no memory.
+#[inline(always)]
+fn int_value(number: i64) -> JsonValue<'static>
+    ensures { view result ≡ int number }
+{
+    JsonValue::Int(number)
 }
 
-// The number that begins at a place of a piece: all of it where it ends within the piece, else its first byte is kept.
+// A float of these bytes, if they are few. It takes no memory.
 #[inline(always)]
-fn number_at(number: &mut OpenNumber, piece: &[u8], at: usize) -> Result<Whole, Refused>
-    requires within { at < length piece.now }
-    requires begins { begins_decimal (slice_index piece.now at) ≡ true }
-    ensures { IfOk result (IsWholeAt number.new piece.now at) }
+fn short_float(bytes: &[u8]) -> Option<JsonValue<'static>>
+    requires { IsAscii bytes.now }
+    ensures { IfSome result (λ v. view v ≡ float (owned_text (record { owned = false; bytes = bytes.now }))) }
 {
-    if let Some((found, end)) = number_within(piece, at) {
-        if let Some(value) = short_value(found) {
-            return Ok(Whole::Number(value, end));
-        }
-    }
-    number.clear();
-    number.begin(piece[at])?;
-    Ok(Whole::Nothing)
-}
-
-// The string that begins at a place of a piece, if it ends within the piece and holds no escape.
-#[inline(always)]
-fn string_at(alloc: Global, piece: &[u8], at: usize) -> Result<Whole, Refused>
-    requires within { at < length piece.now }
-    requires decimal { begins_decimal (slice_index piece.now at) ≡ false }
-    ensures { (n : OpenNumber) → IfOk result (IsWholeAt n piece.now at) }
-{
-    if piece[at] != b'"' {
-        return Ok(Whole::Nothing);
-    }
-    match text_within(alloc, piece, at)? {
-        Some((text, end)) => Ok(Whole::Text(text, end)),
-        None => Ok(Whole::Nothing),
-    }
-}
-
-// What begins at a place of a piece.
-#[inline(always)]
-fn whole_at(
-    alloc: Global,
-    number: &mut OpenNumber,
-    piece: &[u8],
-    at: usize,
-) -> Result<Whole, Refused>
-    requires { at < length piece.now }
-    ensures { IfOk result (IsWholeAt number.new piece.now at) }
-{
-    if begins_decimal(piece[at]) {
-        number_at(number, piece, at)
-    } else {
-        string_at(alloc, piece, at)
-    }
+    Some(JsonValue::Float(NumberText::short(ascii_text(bytes))?))
 }
 
 impl OpenDocument {
+    // What the next byte is, where no token is unfinished. It is not taken yet.
+    #[inline(always)]
+    fn look(&mut self, byte: u8) -> Result<Went, Refused>
+        requires token { IsIn self.old Token.Nothing }
+        ensures met { (t : List ℕ) → HasArrived self.old t → IfOk result (Meets byte self.new t) }
+        ensures refused { OnErr result (Stays self.old self.new) }
+        ensures number { self.new.number ≡ self.old.number }
+        ensures unset { self.new.fault ≡ None }
+        ensures same { StaysSo self.old self.new }
+    {
+        self.value.next(byte)
+    }
+
+    // Takes the byte, which is this where it comes. The number that it may begin is begun.
+    fn follow(&mut self, went: Went, byte: u8)
+        requires met { (t : List ℕ) × Meets byte self.old t went }
+        requires held { went ≡ Went.Scalar → begins_decimal byte ≡ true → HoldsNumber self.old.number (byte ∷ []) }
+        requires unset { self.old.fault ≡ None }
+        ensures taken { (t : List ℕ) → Meets byte self.old t went → HasTakenIn anything self.new (t ++ byte ∷ []) }
+        ensures same { StaysSo self.old self.new }
+    {
+        match went {
+            Went::Taken => {}
+            Went::Scalar => self.begin_scalar(byte),
+            Went::Key => self.begin_string(Token::Key),
+            Went::Closed(kind) => self.close(kind, byte),
+            Went::Wrong(kind) => self.refuse(kind, self.position),
+            Went::Over => self.trail(),
+        }
+    }
+
+    // The number that the byte begins, if it begins one, is begun: it is no part of what is read so far.
+    #[inline(always)]
+    fn hold(&mut self, byte: u8) -> Result<(), Refused>
+        requires token { IsIn self.old Token.Nothing }
+        ensures held { OnOk result (begins_decimal byte ≡ true → HoldsNumber self.new.number (byte ∷ [])) }
+        ensures stays { Stays self.old self.new }
+        ensures token { IsIn self.new Token.Nothing }
+        ensures same { StaysSo self.old self.new }
+    {
+        if begins_decimal(byte) {
+            self.number.clear();
+            self.number.begin(byte)?;
+        }
+        Ok(())
+    }
+
+    // Takes the byte alone, of what it begins there.
+    fn begin_at(&mut self, byte: u8) -> Result<(), Refused>
+        requires token { IsIn self.old Token.Nothing }
+        ensures taken { IfOk result (λ _. Takes self.old self.new (byte ∷ [])) }
+        ensures refused { OnErr result (Stays self.old self.new) }
+        ensures same { StaysSo self.old self.new }
+    {
+        self.hold(byte)?;
+        let went = self.look(byte)?;
+        self.follow(went, byte);
+        Ok(())
+    }
+
+    // The same at a place of a piece: so many bytes are taken.
+    fn step_byte(&mut self, piece: &[u8], at: usize) -> Result<usize, Refused>
+        requires within { at < length piece.now }
+        requires token { IsIn self.old Token.Nothing }
+        ensures taken { IfOk result (λ n. Takes self.old self.new (slice_range piece.now at (at + n))) }
+        ensures part { IfOk result (λ n. (0 < n) × (at + n ≤ length piece.now)) }
+        ensures refused { OnErr result (Stays self.old self.new) }
+        ensures same { StaysSo self.old self.new }
+    {
+        self.begin_at(piece[at])?;
+        Ok(1)
+    }
+
     // A number of so many bytes is put, and the byte behind it, which ended it, is taken.
+    #[inline(always)]
     fn put_ended(&mut self, value: JsonValue<'static>, bytes: usize, byte: u8)
         requires ends { (t w : List ℕ) × (fs : List OpenFrame)
             × EndsBefore self.old t w byte fs (view value) × (length w ≡ bytes) }
@@ -128,60 +154,17 @@ impl OpenDocument {
         self.position -= bytes;
     }
 
-    // Takes a scalar that begins at a place of a piece: its first byte, or all of it where it is whole.
-    fn scalar(&mut self, piece: &[u8], at: usize, whole: Whole) -> usize
-        requires within { at < length piece.now }
-        requires starts { IsScalarStart (start_of (slice_index piece.now at)) }
-        requires begins { (t : List ℕ) × (fs : List OpenFrame) × BeginsHere (slice_index piece.now at) self.old t fs }
-        requires whole { IsWholeAt self.old.number piece.now at whole }
-        requires room { self.old.position + (length piece.now - at) < 2 ^ 64 }
-        ensures taken { (t : List ℕ) → (fs : List OpenFrame) → BeginsHere (slice_index piece.now at) self.old t fs
-            → HasTakenIn anything self.new (t ++ slice_range piece.now at (at + result)) }
-        ensures part { (0 < result) × (at + result ≤ length piece.now) }
-        ensures same { StaysSo self.old self.new }
-    {
-        match whole {
-            Whole::Nothing => {
-                self.begin_scalar(piece[at]);
-                1
-            }
-            Whole::Number(value, end) => {
-                self.put_ended(value, end - at, piece[end]);
-                end + 1 - at
-            }
-            Whole::Text(text, end) => {
-                self.put(text_value(text));
-                end - at
-            }
-        }
-    }
-
-    // Takes a key that begins at a place of a piece: its quote, or all of it where it is whole.
-    fn key(&mut self, piece: &[u8], at: usize, whole: Whole) -> usize
-        requires within { at < length piece.now }
-        requires begins { (t : List ℕ) × (s : Arrived) × StandsAt (slice_index piece.now at) self.old t s
-            × BeginsKey self.old.value s (slice_index piece.now at) }
-        requires whole { IsWholeAt self.old.number piece.now at whole }
-        requires unset { self.old.fault ≡ None }
-        ensures taken { (t : List ℕ) → (s : Arrived) → StandsAt (slice_index piece.now at) self.old t s
-            → BeginsKey self.old.value s (slice_index piece.now at)
-            → HasTakenIn anything self.new (t ++ slice_range piece.now at (at + result)) }
-        ensures part { (0 < result) × (at + result ≤ length piece.now) }
-        ensures same { StaysSo self.old self.new }
-    {
-        if let Whole::Text(text, end) = whole {
-            self.end_key(text);
-            return end - at;
-        }
-        self.begin_string(Token::Key);
-        1
-    }
-
-    // Takes the byte at a place of a piece, between scalars and keys, and with it what is whole there.
-    fn between(&mut self, piece: &[u8], at: usize, whole: Whole) -> Result<usize, Refused>
-        requires within { at < length piece.now }
+    // Takes a number that lies whole in a piece, and the byte behind it.
+    #[inline(always)]
+    fn whole_number(
+        &mut self,
+        piece: &[u8],
+        at: usize,
+        value: JsonValue<'static>,
+        end: usize,
+    ) -> Result<usize, Refused>
         requires token { IsIn self.old Token.Nothing }
-        requires whole { IsWholeAt self.old.number piece.now at whole }
+        requires number { IsNumberWithin piece.now at (view value) end }
         requires room { self.old.position + (length piece.now - at) < 2 ^ 64 }
         ensures taken { IfOk result (λ n. Takes self.old self.new (slice_range piece.now at (at + n))) }
         ensures part { IfOk result (λ n. (0 < n) × (at + n ≤ length piece.now)) }
@@ -189,20 +172,138 @@ impl OpenDocument {
         ensures same { StaysSo self.old self.new }
     {
         let byte = piece[at];
-        match self.value.next(byte)? {
-            Went::Taken => Ok(1),
-            Went::Scalar => Ok(self.scalar(piece, at, whole)),
-            Went::Key => Ok(self.key(piece, at, whole)),
-            Went::Closed(kind) => {
-                self.close(kind, byte);
+        match self.look(byte)? {
+            Went::Scalar => {
+                self.put_ended(value, end - at, piece[end]);
+                Ok(end + 1 - at)
+            }
+            went => {
+                self.follow(went, byte);
                 Ok(1)
             }
-            Went::Wrong(kind) => {
-                self.refuse(kind, self.position);
+        }
+    }
+
+    // Takes a number that may be long, or may not lie whole in the piece: then its first byte.
+    #[inline(never)]
+    fn step_long_number(&mut self, piece: &[u8], at: usize) -> Result<usize, Refused>
+        requires within { at < length piece.now }
+        requires begins { begins_decimal (slice_index piece.now at) ≡ true }
+        requires token { IsIn self.old Token.Nothing }
+        requires room { self.old.position + (length piece.now - at) < 2 ^ 64 }
+        ensures taken { IfOk result (λ n. Takes self.old self.new (slice_range piece.now at (at + n))) }
+        ensures part { IfOk result (λ n. (0 < n) × (at + n ≤ length piece.now)) }
+        ensures refused { OnErr result (Stays self.old self.new) }
+        ensures same { StaysSo self.old self.new }
+    {
+        if let Some((number, end)) = number_within(piece, at) {
+            if let Some(value) = short_value(number) {
+                return self.whole_number(piece, at, value, end);
+            }
+        }
+        self.step_byte(piece, at)
+    }
+
+    // Takes a number, all of it where it lies whole in the piece and is short.
+    #[inline(always)]
+    fn step_number(&mut self, piece: &[u8], at: usize) -> Result<usize, Refused>
+        requires within { at < length piece.now }
+        requires begins { begins_decimal (slice_index piece.now at) ≡ true }
+        requires token { IsIn self.old Token.Nothing }
+        requires room { self.old.position + (length piece.now - at) < 2 ^ 64 }
+        ensures taken { IfOk result (λ n. Takes self.old self.new (slice_range piece.now at (at + n))) }
+        ensures part { IfOk result (λ n. (0 < n) × (at + n ≤ length piece.now)) }
+        ensures refused { OnErr result (Stays self.old self.new) }
+        ensures same { StaysSo self.old self.new }
+    {
+        match short_within(piece, at) {
+            ShortWithin::Int(number, end) => {
+                self.whole_number(piece, at, int_value(number), end)
+            }
+            ShortWithin::Float(end) => match short_float(&piece[at..end]) {
+                Some(value) => self.whole_number(piece, at, value, end),
+                None => self.step_byte(piece, at),
+            },
+            ShortWithin::Other => self.step_long_number(piece, at),
+        }
+    }
+
+    // Takes a string or a key, all of it where it lies whole in the piece and holds no escape.
+    #[inline(always)]
+    fn step_text(&mut self, piece: &[u8], at: usize) -> Result<usize, Refused>
+        requires within { at < length piece.now }
+        requires token { IsIn self.old Token.Nothing }
+        ensures taken { IfOk result (λ n. Takes self.old self.new (slice_range piece.now at (at + n))) }
+        ensures part { IfOk result (λ n. (0 < n) × (at + n ≤ length piece.now)) }
+        ensures refused { OnErr result (Stays self.old self.new) }
+        ensures same { StaysSo self.old self.new }
+    {
+        match text_within(self.alloc, piece, at)? {
+            Some((text, end)) => self.whole_text(piece, at, text, end),
+            None => self.step_byte(piece, at),
+        }
+    }
+
+    // Takes a string or a key that lies whole in a piece.
+    #[inline(always)]
+    fn whole_text(
+        &mut self,
+        piece: &[u8],
+        at: usize,
+        text: String,
+        end: usize,
+    ) -> Result<usize, Refused>
+        requires token { IsIn self.old Token.Nothing }
+        requires text { IsTextWithin piece.now at (string_bytes text) end }
+        ensures taken { IfOk result (λ n. Takes self.old self.new (slice_range piece.now at (at + n))) }
+        ensures part { IfOk result (λ n. (0 < n) × (at + n ≤ length piece.now)) }
+        ensures refused { OnErr result (Stays self.old self.new) }
+        ensures same { StaysSo self.old self.new }
+    {
+        let byte = piece[at];
+        match self.look(byte)? {
+            Went::Scalar => {
+                self.put(text_value(text));
+                Ok(end - at)
+            }
+            Went::Key => {
+                self.end_key(text);
+                Ok(end - at)
+            }
+            went => {
+                self.follow(went, byte);
                 Ok(1)
             }
-            Went::Over => {
-                self.trail();
+        }
+    }
+
+    // Takes a literal that begins with its first byte, all of it where it lies whole in the piece.
+    #[inline(always)]
+    fn step_literal(
+        &mut self,
+        piece: &[u8],
+        at: usize,
+        literal: Literal,
+    ) -> Result<usize, Refused>
+        requires within { at < length piece.now }
+        requires begins { start_of (slice_index piece.now at) ≡ Start.Literal literal }
+        requires token { IsIn self.old Token.Nothing }
+        ensures taken { IfOk result (λ n. Takes self.old self.new (slice_range piece.now at (at + n))) }
+        ensures part { IfOk result (λ n. (0 < n) × (at + n ≤ length piece.now)) }
+        ensures refused { OnErr result (Stays self.old self.new) }
+        ensures same { StaysSo self.old self.new }
+    {
+        let Some(end) = plain_literal_end(piece, at, literal) else {
+            return self.step_byte(piece, at);
+        };
+        let byte = piece[at];
+        match self.look(byte)? {
+            Went::Scalar => {
+                self.put(Name::Literal(literal).value());
+                Ok(end - at)
+            }
+            went => {
+                self.follow(went, byte);
                 Ok(1)
             }
         }
@@ -218,7 +319,16 @@ impl OpenDocument {
         ensures refused { OnErr result (Stays self.old self.new) }
         ensures same { StaysSo self.old self.new }
     {
-        let whole = whole_at(self.alloc, &mut self.number, piece, at)?;
-        self.between(piece, at, whole)
+        let byte = piece[at];
+        if begins_decimal(byte) {
+            return self.step_number(piece, at);
+        }
+        match byte {
+            b'"' => self.step_text(piece, at),
+            b'n' => self.step_literal(piece, at, Literal::Null),
+            b't' => self.step_literal(piece, at, Literal::True),
+            b'f' => self.step_literal(piece, at, Literal::False),
+            _ => self.step_byte(piece, at),
+        }
     }
 }

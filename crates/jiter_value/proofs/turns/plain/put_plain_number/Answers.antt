@@ -5,7 +5,8 @@ use Rattle.jiter_scan.specs.Number as number
 use Rattle.jiter_scan.proofs.NumberBytes.{IsAscii-decimal, IsMinusTo-le}
 use Rattle.jiter_steps.specs.Tree.{int, float}
 use Rattle.jiter_value.proofs.LentTexts.{range-lies}
-use Rattle.jiter_value.proofs.Placed.{put-at, number-read, short-signed, short-signed_float}
+use Rattle.jiter_scan.proofs.PlainNumberValues.{short-signed, short-signed_float}
+use Rattle.jiter_value.proofs.Placed.{put-at, number-read}
 use Rattle.jiter_value.proofs.Views.{view_float}
 use Rattle.jiter_value.proofs.turns.plain.put_plain_number.Goals as goal
 

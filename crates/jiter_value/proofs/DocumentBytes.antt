@@ -1,0 +1,59 @@
+-- What the next byte is to a document that arrives, where no token is unfinished.
+use Rattle.std.proofs.Common.{◌≡◌, ◌+◌, ◌<◌, ◌∷◌, ◌++◌, ℕ, List, [], get_or, length, subst, sym}
+use Rattle.std.proofs.lemmas.Option.{slice_get-get_or}
+use Rattle.std.specs.Prelude.{IfOk, Result, Ok, Err, None, slice_range}
+use Rattle.jiter_scan.proofs.Standing.{slice-one}
+use Rattle.jiter_scan.specs.declared.memory.Refused.{Refused}
+use Rattle.jiter_value.specs.Arrived.{Arrived}
+use Rattle.jiter_value.specs.OpenDocument.{BeginsHere, HasArrived, HasTakenIn, IsClosed, Meets, StandsAt, anything}
+use Rattle.jiter_value.specs.OpenValue.{BeginsKey, ClosesOne, Goes, IsLeft}
+use Rattle.jiter_value.specs.Spine.{OpenFrame}
+use Rattle.jiter_value.specs.declared.open_document.OpenDocument.{OpenDocument}
+use Rattle.jiter_value.specs.declared.open_document.Token.TheVariants as token
+use Rattle.jiter_value.specs.declared.open_value.OpenValue.{OpenValue}
+use Rattle.jiter_value.specs.declared.open_value.Went.{Went}
+use Rattle.jiter_value.specs.declared.open_value.Went.TheVariants as went
+use Rattle.jiter_value.proofs.Documents.{begins-here, between-before, stands-at}
+
+-- the container that was closed
+closes : (old new : OpenValue) (w : Went) → ClosesOne old new w → IsClosed new w
+closes old new (went.Closed k) h = h.0
+closes old new went.Taken h = tt
+closes old new went.Scalar h = tt
+closes old new went.Key h = tt
+closes old new (went.Wrong k) h = tt
+closes old new went.Over h = tt
+
+-- What is told of the byte is right.
+pub meets : (c : ℕ) (d : OpenDocument) (v : OpenValue) (t : List ℕ) → HasArrived d t → d.fault ≡ None
+    → d.token ≡ token.Nothing → (r : Result Went Refused)
+    → ((s : Arrived) → IsLeft d.value s → IfOk r (Goes v s c)) → IfOk r (ClosesOne d.value v)
+    → IfOk r (Meets c (record d { value = v }) t)
+meets c d v t h unset none (Ok w) goes one =
+    let b = between-before c d t h unset none in
+    record {
+      state = b.state;
+      stands = stands-at d v c t b.state b.known none unset h.position;
+      goes = goes b.state b.left;
+      closed = closes d.value v w one;
+    }
+meets c d v t h unset none (Err e) goes one = tt
+
+-- A scalar begins with it,
+pub meets-scalar : (c : ℕ) (d : OpenDocument) (t : List ℕ) (w : Went) → Meets c d t w → w ≡ went.Scalar
+    → (fs : List OpenFrame) × BeginsHere c d t fs
+meets-scalar c d t w m is =
+    let goes = subst (Goes d.value m.state c) is m.goes in
+    (goes.frames, begins-here d d.value c t m.state m.stands.known m.stands.unset m.stands.position goes)
+
+-- or a key.
+pub meets-key : (c : ℕ) (d : OpenDocument) (t : List ℕ) (w : Went) → Meets c d t w → w ≡ went.Key
+    → (s : Arrived) × StandsAt c d t s × BeginsKey d.value s c
+meets-key c d t w m is = (m.state, m.stands, subst (Goes d.value m.state c) is m.goes)
+
+-- It is taken alone.
+pub one-byte : (e : OpenDocument) (piece : List ℕ) (at : ℕ) (t : List ℕ) → at < length piece
+    → HasTakenIn anything e (t ++ get_or piece at 0 ∷ []) → HasTakenIn anything e (t ++ slice_range piece at (at + 1))
+one-byte e piece at t within h =
+    subst (λ w. HasTakenIn anything e (t ++ w))
+    (sym (slice-one piece at (get_or piece at 0) (slice_get-get_or piece at 0 within))) h
