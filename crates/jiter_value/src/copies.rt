@@ -1,7 +1,7 @@
 //! Copies of a value: each text borrowed or owned as it was, or each text owned.
 ghost use Rattle.std.specs.Prelude.{◌≡◌, ◌<◌, IfOk, OnErr, false, length, map, true};
 ghost use Rattle.jiter_steps.specs.StringDecoder.{text_view};
-ghost use Rattle.jiter_value.specs.NumberText.{number_text_view};
+ghost use Rattle.jiter_value.specs.NumberText.{number_text_view, short_limit};
 ghost use Rattle.jiter_value.specs.Owned.{owned_text, owned_tree, owned_member, HoldsTextOrPart};
 ghost use Rattle.jiter_value.specs.Owned.{HoldsOwnedTextOrPart, HoldsBorrowedTextOrPart};
 ghost use Rattle.jiter_value.specs.Stacks.{member_view};
@@ -172,7 +172,8 @@ fn own_text(alloc: Global, text: &CowStr<'_>) -> Result<CowStr<'static>, Refused
 
 // A copy of a number's text.
 fn own_number(alloc: Global, text: &NumberText<'_>) -> Result<NumberText<'static>, Refused>
-    ensures { IfOk result (λ copy. number_text_view copy ≡ owned_text (number_text_view text.now)) }
+    ensures value { IfOk result (λ copy. number_text_view copy ≡ owned_text (number_text_view text.now)) }
+    ensures memory { OnErr result (short_limit < length (number_text_view text.now).bytes) }
 {
     NumberText::owned(alloc, text.as_str())
 }

@@ -159,12 +159,13 @@ impl<'s> NumberText<'s> {
     // A copy, borrowed or owned as it is.
     pub(crate) fn copy(&self, alloc: Global) -> Result<NumberText<'s>, Refused>
         ensures value { IfOk result (λ copy. number_text_view copy ≡ number_text_view self.now) }
-        ensures memory { OnErr result ((number_text_view self.now).owned ≡ true) }
+        ensures memory { OnErr result (((number_text_view self.now).owned ≡ true)
+            × (short_limit < length (number_text_view self.now).bytes)) }
     {
         match self {
             NumberText::Borrowed(text) => Ok(NumberText::Borrowed(*text)),
             NumberText::Short(text) => Ok(NumberText::Short(text.again())),
-            NumberText::Long(text) => Ok(NumberText::Long(copy_text(alloc, text.as_str())?)),
+            NumberText::Long(text) => NumberText::owned(alloc, text.as_str()),
         }
     }
 
@@ -172,7 +173,8 @@ impl<'s> NumberText<'s> {
     fn made_owned(self, alloc: Global) -> Result<NumberText<'static>, Refused>
         ensures value { IfOk result (λ own.
             number_text_view own ≡ owned_text (number_text_view self.entry)) }
-        ensures memory { OnErr result ((number_text_view self.entry).owned ≡ false) }
+        ensures memory { OnErr result (((number_text_view self.entry).owned ≡ false)
+            × (short_limit < length (number_text_view self.entry).bytes)) }
     {
         match self {
             NumberText::Borrowed(text) => NumberText::owned(alloc, text),
@@ -196,7 +198,8 @@ impl<'s> NumberText<'s> {
     pub(crate) fn take(&mut self, alloc: Global) -> Result<NumberText<'static>, Refused>
         ensures value { IfOk result (λ own.
             number_text_view own ≡ owned_text (number_text_view self.old)) }
-        ensures memory { OnErr result ((number_text_view self.old).owned ≡ false) }
+        ensures memory { OnErr result (((number_text_view self.old).owned ≡ false)
+            × (short_limit < length (number_text_view self.old).bytes)) }
     {
         mem::replace(self, NumberText::Borrowed("")).made_owned(alloc)
     }

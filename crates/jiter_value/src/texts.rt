@@ -1,7 +1,7 @@
 //! What becomes of a text that is read: it is lent where it lies, or owned.
-ghost use Rattle.std.specs.Prelude.{◌≡◌, ℕ, List, false, true, IfOk, OnErr};
+ghost use Rattle.std.specs.Prelude.{◌≡◌, ◌<◌, ℕ, List, false, length, true, IfOk, OnErr};
 ghost use Rattle.jiter_steps.specs.StringDecoder.{text_view};
-ghost use Rattle.jiter_value.specs.NumberText.{number_text_view};
+ghost use Rattle.jiter_value.specs.NumberText.{number_text_view, short_limit};
 ghost use Rattle.jiter_value.specs.Owned.{owned_text};
 ghost use Rattle.jiter_value.specs.Settings.{Keeping, each, lent, lent_unique};
 ghost use Rattle.jiter_value.specs.Texts.{IsLentAt, LieAt};
@@ -37,7 +37,7 @@ pub trait Texts<'s>: Copy {
         requires lent { LieAt bytes.now from text.now }
         ensures value { IfOk result (λ kept.
             number_text_view kept ≡ made.text (record { owned = false; bytes = text.now })) }
-        ensures memory { OnErr result wants };
+        ensures memory { OnErr result (wants × (short_limit < length text.now)) };
 }
 
 /// A text without a backslash is lent where it lies in the bytes.
@@ -186,7 +186,7 @@ pub fn keep_number<'s, T: Texts<'s>>(
     requires lent { LieAt bytes.now from text.now }
     ensures value { IfOk result (λ kept.
         number_text_view kept ≡ T.made.text (record { owned = false; bytes = text.now })) }
-    ensures memory { OnErr result T.wants }
+    ensures memory { OnErr result (T.wants × (short_limit < length text.now)) }
 {
     texts.keep_number(bytes, from, text)
 }
