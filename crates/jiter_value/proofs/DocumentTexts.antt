@@ -14,7 +14,7 @@ use Rattle.jiter_steps.specs.Tree.{string}
 use Rattle.jiter_value.proofs.DocumentStrings.{key-done, scalar-done}
 use Rattle.jiter_value.proofs.DocumentTokens.{held-stands}
 use Rattle.jiter_value.specs.DocumentStrings.{IsKeyAs}
-use Rattle.jiter_value.specs.OpenDocument.{Follows, IsReadAs, anything, with_byte}
+use Rattle.jiter_value.specs.OpenDocument.{Follows, IsScalarWithin, anything, with_byte}
 use Rattle.jiter_value.specs.OpenValue.{text_of}
 use Rattle.jiter_value.specs.declared.open_document.OpenDocument.{OpenDocument}
 
@@ -34,7 +34,7 @@ module _ (piece : List ℕ) (at : ℕ) (text : List ℕ) (e : ℕ) (h : IsTextWi
   pub text-some : (t : List ℕ) → length t < length (t ++ bytes)
   text-some t = omega (arith, length-append t bytes, ap (λ w. length w) bytes-are)
 
-  module _ (d : OpenDocument) (t : List ℕ) where
+  module _ (t : List ℕ) where
     abbrev all : List ℕ → List ℕ
     all u = (t ++ bytes) ++ u
 
@@ -51,15 +51,18 @@ module _ (piece : List ℕ) (at : ℕ) (text : List ℕ) (e : ℕ) (h : IsTextWi
     quoted : (u : List ℕ) → slice_get (all u) (length t) ≡ Some 34
     quoted u = h.quoted (all u) (length t) (stands u)
 
-    -- it is read as a value,
-    pub text-value : (depth : ℕ) → depth ≤ nesting_limit
-        → IsReadAs d anything (t ++ bytes) depth (length t) (string (text_of text))
-    text-value depth few = λ p u reading comes.
-        scalar-done p (all u) (length t) (quoted u) depth (length (t ++ bytes)) (record { owned = false; bytes = text })
-        few (reads u (value_form p.mode))
-
-    -- and as a key.
-    pub text-key : IsKeyAs d anything (t ++ bytes) (length t) (text_of text)
-    text-key = λ p u reading comes.
+    -- it is read as a key,
+    pub text-key : (d : OpenDocument) → IsKeyAs d anything (t ++ bytes) (length t) (text_of text)
+    text-key d = λ p u reading comes.
         key-done p (all u) (length t) (quoted u) (length (t ++ bytes)) (record { owned = false; bytes = text })
         (reads u whole)
+
+  -- and as a value.
+  pub text-scalar : IsScalarWithin piece at (string (text_of text)) e
+  text-scalar = record {
+    begins = omega (arith, h.within.0);
+    within = h.within.1;
+    reads = λ p t u depth few.
+        scalar-done p (all t u) (length t) (quoted t u) depth (length (t ++ bytes))
+        (record { owned = false; bytes = text }) few (reads t u (value_form p.mode));
+  }

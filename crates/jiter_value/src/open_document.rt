@@ -407,6 +407,23 @@ impl OpenDocument {
             || self.first.is_some() && matches!(self.token, Token::Nothing) && self.value.is_whole()
     }
 
+    // How many blanks stand at a place of a piece, if no token is unfinished there: they are taken.
+    #[inline(always)]
+    fn blanks_behind(&self, piece: &[u8], at: usize) -> usize
+        requires within { at ≤ length piece.now }
+        ensures taken { (t : List ℕ) → HasTakenIn anything self.now t
+            → HasTakenIn anything self.now (t ++ slice_range piece.now at (at + result)) }
+        ensures part { at + result ≤ length piece.now }
+    {
+        if self.fault.is_some() {
+            return 0;
+        }
+        match self.token {
+            Token::Nothing => past_blanks(piece, at) - at,
+            _ => 0,
+        }
+    }
+
     // Takes a run of blanks, or another byte and what is whole there, where no token is unfinished.
     #[inline(always)]
     fn take_between(&mut self, piece: &[u8], at: usize) -> Result<usize, Refused>
@@ -423,7 +440,8 @@ impl OpenDocument {
         if at < end {
             return Ok(end - at);
         }
-        self.step(piece, at)
+        let count = self.step(piece, at)?;
+        Ok(count + self.blanks_behind(piece, at + count))
     }
 
     // Takes bytes, and does not count them yet.

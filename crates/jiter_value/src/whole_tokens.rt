@@ -10,12 +10,13 @@ ghost use Rattle.jiter_steps.specs.Node.{number_tree};
 ghost use Rattle.jiter_steps.specs.Tree.{float, int};
 ghost use Rattle.jiter_steps.specs.OpenString.{IsTextWithin};
 ghost use Rattle.jiter_steps.specs.declared.parse.Start.{Start};
-ghost use Rattle.jiter_value.specs.OpenDocument.{EndsBefore, HasArrived, HasTakenIn, HoldsNumber, IsIn, IsNumberWithin};
+ghost use Rattle.jiter_value.specs.OpenDocument.{BeginsHere, EndsBefore, IsScalarWithin, HasArrived, HasTakenIn, HoldsNumber, IsIn, IsNumberWithin};
 ghost use Rattle.jiter_value.specs.OpenDocument.{Meets, Stays, StaysSo, Takes, anything};
 ghost use Rattle.jiter_value.specs.Owned.{owned_text, tree_as};
 ghost use Rattle.jiter_value.specs.Spine.{OpenFrame};
 ghost use Rattle.jiter_value.specs.Value.{view};
 ghost use Rattle.jiter_value.specs.declared.open_document.Token.{Token};
+ghost use Rattle.jiter_value.specs.declared.open_value.Awaits.{Awaits};
 ghost use Rattle.jiter_value.specs.declared.open_value.Went.{Went};
 
 use crate::document_strings::text_value;
@@ -154,6 +155,51 @@ impl OpenDocument {
         self.position -= bytes;
     }
 
+    // Puts a scalar that ends in a piece, and takes the byte behind it, if one stands there: so many bytes are taken.
+    #[inline(always)]
+    fn put_whole(
+        &mut self,
+        piece: &[u8],
+        at: usize,
+        value: JsonValue<'static>,
+        end: usize,
+    ) -> usize
+        requires scalar { IsScalarWithin piece.now at (view value) end }
+        requires begins { (t : List ℕ) × (fs : List OpenFrame) × BeginsHere (slice_index piece.now at) self.old t fs }
+        requires room { self.old.position + (length piece.now - at) < 2 ^ 64 }
+        ensures taken { (t : List ℕ) → (fs : List OpenFrame) → BeginsHere (slice_index piece.now at) self.old t fs
+            → HasTakenIn anything self.new (t ++ slice_range piece.now at (at + result)) }
+        ensures part { (0 < result) × (at + result ≤ length piece.now) }
+        ensures same { StaysSo self.old self.new }
+    {
+        if end < piece.len() {
+            self.put_ended(value, end - at, piece[end]);
+            return end + 1 - at;
+        }
+        self.put(value);
+        end - at
+    }
+
+    // Takes the colon at a place of a piece, behind a key, if one stands there: so many bytes.
+    #[inline(always)]
+    fn colon_behind(&mut self, piece: &[u8], at: usize) -> usize
+        requires within { at ≤ length piece.now }
+        requires read { (t : List ℕ) × HasTakenIn anything self.old t }
+        requires token { self.old.token ≡ Token.Nothing }
+        requires unset { self.old.fault ≡ None }
+        requires awaits { self.old.value.awaits ≡ Awaits.Colon }
+        ensures taken { (t : List ℕ) → HasTakenIn anything self.old t
+            → HasTakenIn anything self.new (t ++ slice_range piece.now at (at + result)) }
+        ensures part { at + result ≤ length piece.now }
+        ensures same { StaysSo self.old self.new }
+    {
+        if at < piece.len() && piece[at] == b':' {
+            self.value.pass_colon();
+            return 1;
+        }
+        0
+    }
+
     // Takes a number that lies whole in a piece, and the byte behind it.
     #[inline(always)]
     fn whole_number(
@@ -233,6 +279,7 @@ impl OpenDocument {
     fn step_text(&mut self, piece: &[u8], at: usize) -> Result<usize, Refused>
         requires within { at < length piece.now }
         requires token { IsIn self.old Token.Nothing }
+        requires room { self.old.position + (length piece.now - at) < 2 ^ 64 }
         ensures taken { IfOk result (λ n. Takes self.old self.new (slice_range piece.now at (at + n))) }
         ensures part { IfOk result (λ n. (0 < n) × (at + n ≤ length piece.now)) }
         ensures refused { OnErr result (Stays self.old self.new) }
@@ -255,6 +302,7 @@ impl OpenDocument {
     ) -> Result<usize, Refused>
         requires token { IsIn self.old Token.Nothing }
         requires text { IsTextWithin piece.now at (string_bytes text) end }
+        requires room { self.old.position + (length piece.now - at) < 2 ^ 64 }
         ensures taken { IfOk result (λ n. Takes self.old self.new (slice_range piece.now at (at + n))) }
         ensures part { IfOk result (λ n. (0 < n) × (at + n ≤ length piece.now)) }
         ensures refused { OnErr result (Stays self.old self.new) }
@@ -262,13 +310,10 @@ impl OpenDocument {
     {
         let byte = piece[at];
         match self.look(byte)? {
-            Went::Scalar => {
-                self.put(text_value(text));
-                Ok(end - at)
-            }
+            Went::Scalar => Ok(self.put_whole(piece, at, text_value(text), end)),
             Went::Key => {
                 self.end_key(text);
-                Ok(end - at)
+                Ok(end - at + self.colon_behind(piece, end))
             }
             went => {
                 self.follow(went, byte);
@@ -288,6 +333,7 @@ impl OpenDocument {
         requires within { at < length piece.now }
         requires begins { start_of (slice_index piece.now at) ≡ Start.Literal literal }
         requires token { IsIn self.old Token.Nothing }
+        requires room { self.old.position + (length piece.now - at) < 2 ^ 64 }
         ensures taken { IfOk result (λ n. Takes self.old self.new (slice_range piece.now at (at + n))) }
         ensures part { IfOk result (λ n. (0 < n) × (at + n ≤ length piece.now)) }
         ensures refused { OnErr result (Stays self.old self.new) }
@@ -299,8 +345,7 @@ impl OpenDocument {
         let byte = piece[at];
         match self.look(byte)? {
             Went::Scalar => {
-                self.put(Name::Literal(literal).value());
-                Ok(end - at)
+                Ok(self.put_whole(piece, at, Name::Literal(literal).value(), end))
             }
             went => {
                 self.follow(went, byte);
