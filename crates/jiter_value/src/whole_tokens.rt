@@ -355,6 +355,7 @@ impl OpenDocument {
     }
 
     // Takes a byte where no token is unfinished, and with it what is whole there.
+    #[inline(always)]
     pub(crate) fn step(&mut self, piece: &[u8], at: usize) -> Result<usize, Refused>
         requires within { at < length piece.now }
         requires token { IsIn self.old Token.Nothing }
