@@ -42,7 +42,13 @@ meets c d v t h unset none (Ok w) goes one =
     }
 meets c d v t h unset none (Err e) goes one = tt
 
--- A scalar begins with it,
+-- It is taken,
+pub meets-taken : (c : ℕ) (d : OpenDocument) (t : List ℕ) (w : Went) → Meets c d t w → w ≡ went.Taken
+    → HasTakenIn anything d (t ++ c ∷ [])
+meets-taken c d t w m is =
+    takes-byte d d.value c t m.state m.stands.known m.stands.token (subst (Goes d.value m.state c) is m.goes)
+
+-- or a scalar begins with it,
 pub meets-scalar : (c : ℕ) (d : OpenDocument) (t : List ℕ) (w : Went) → Meets c d t w → w ≡ went.Scalar
     → (fs : List OpenFrame) × BeginsHere c d t fs
 meets-scalar c d t w m is =

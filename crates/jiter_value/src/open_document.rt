@@ -397,14 +397,21 @@ impl OpenDocument {
         Ok(1)
     }
 
+    // Whether no token is unfinished and the value is whole.
+    #[inline(never)]
+    fn is_done(&self) -> bool
+        ensures { result ≡ true → (self.now.token ≡ Token.Nothing) × (self.now.value.awaits ≡ Awaits.Nothing) }
+    {
+        matches!(self.token, Token::Nothing) && self.value.is_whole()
+    }
+
     // Whether no byte changes the answers any more.
     #[inline(always)]
     fn is_over(&self) -> bool
         ensures over { result ≡ true → IsOver self.now }
         ensures unset { result ≡ false → self.now.fault ≡ None }
     {
-        self.fault.is_some()
-            || self.first.is_some() && matches!(self.token, Token::Nothing) && self.value.is_whole()
+        self.fault.is_some() || self.first.is_some() && self.is_done()
     }
 
     // How many blanks stand at a place of a piece, if no token is unfinished there: they are taken.

@@ -306,15 +306,18 @@ impl OpenValue {
         ensures which { IsEnding result }
         ensures one { ClosesOne self.old self.new result }
     {
+        if byte == b',' {
+            if self.is_whole() {
+                return Went::Over;
+            }
+            self.awaits = Awaits::Next;
+            return Went::Taken;
+        }
         if is_blank(byte) {
             return Went::Taken;
         }
         if self.is_whole() {
             return Went::Over;
-        }
-        if byte == b',' {
-            self.awaits = Awaits::Next;
-            return Went::Taken;
         }
         let shape = shape_inside(&self.spine);
         self.end();

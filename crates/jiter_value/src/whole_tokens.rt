@@ -138,6 +138,25 @@ impl OpenDocument {
         Ok(1)
     }
 
+    // The same of a byte that begins no decimal number.
+    #[inline(always)]
+    fn step_sign(&mut self, piece: &[u8], at: usize) -> Result<usize, Refused>
+        requires within { at < length piece.now }
+        requires other { begins_decimal (slice_index piece.now at) ≡ false }
+        requires token { IsIn self.old Token.Nothing }
+        ensures taken { IfOk result (λ n. Takes self.old self.new (slice_range piece.now at (at + n))) }
+        ensures part { IfOk result (λ n. (0 < n) × (at + n ≤ length piece.now)) }
+        ensures refused { OnErr result (Stays self.old self.new) }
+        ensures same { StaysSo self.old self.new }
+    {
+        let byte = piece[at];
+        match self.look(byte)? {
+            Went::Taken => {}
+            went => self.follow(went, byte),
+        }
+        Ok(1)
+    }
+
     // A number of so many bytes is put, and the byte behind it, which ended it, is taken.
     #[inline(always)]
     fn put_ended(&mut self, value: JsonValue<'static>, bytes: usize, byte: u8)
@@ -374,7 +393,7 @@ impl OpenDocument {
             b'n' => self.step_literal(piece, at, Literal::Null),
             b't' => self.step_literal(piece, at, Literal::True),
             b'f' => self.step_literal(piece, at, Literal::False),
-            _ => self.step_byte(piece, at),
+            _ => self.step_sign(piece, at),
         }
     }
 }
