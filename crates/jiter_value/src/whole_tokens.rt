@@ -139,7 +139,6 @@ impl OpenDocument {
     }
 
     // The same of a byte that begins no decimal number.
-    #[inline(always)]
     fn step_sign(&mut self, piece: &[u8], at: usize) -> Result<usize, Refused>
         requires within { at < length piece.now }
         requires other { begins_decimal (slice_index piece.now at) ≡ false }
