@@ -34,5 +34,6 @@ pub mod KeySets
 pub mod DocumentStrings
 pub mod DocumentTexts
 pub mod Received
+pub mod GrownTexts
 pub mod DocumentBlanks
 mod Rows

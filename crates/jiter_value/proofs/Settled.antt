@@ -191,22 +191,23 @@ known-parts m d n s v t o h =
     record { mode = h.mode; strict = h.strict; ends = h.ends; noted = h.noted; same = h.same }
 
 module _ (d : OpenDocument) (t : List ℕ) (h : HasArrived d t) (unset : d.fault ≡ None) (depth : ℕ) where
-  pub settled-plain : (v : OpenValue) → IsPutTogether d.value v depth
+  pub settled-plain : (v : OpenValue) → is_shown d ≡ false → IsPutTogether d.value v depth
       → IsTogether (with_parts d d.number d.string v) depth false t
-  settled-plain v put = record {
+  settled-plain v shows put = record {
     opened = h.read.opened;
     known = known-parts anything d d.number d.string v t h.read.opened h.read.known;
     position = h.position;
-    held = λ _. record { apart = d; held = h.read.held unset; same = refl; settled = (refl, refl, put) };
+    held = λ _. record { apart = d; held = h.read.held unset; shows = shows; same = refl; settled = (refl, refl, put) };
   }
 
-  pub settled-shown : (n : OpenNumber) (s : OpenString) (x : JsonValue) (v w : OpenValue) → HasMoved d.token d n s x
+  pub settled-shown : (n : OpenNumber) (s : OpenString) (x : JsonValue) (v w : OpenValue) → is_shown d ≡ true
+      → HasMoved d.token d n s x
       → IsShown d.value v x → IsPutTogether v w depth → IsTogether (with_parts d n s w) depth true t
-  settled-shown n s x v w moved shows put = record {
+  settled-shown n s x v w on moved shows put = record {
     opened = h.read.opened;
     known = known-parts anything d n s w t h.read.opened h.read.known;
     position = h.position;
-    held = λ _. record { apart = d; held = h.read.held unset; same = refl; settled = (x, v, moved, shows, put) };
+    held = λ _. record { apart = d; held = h.read.held unset; shows = on; same = refl; settled = (x, v, moved, shows, put) };
   }
 
 -- What was put together,

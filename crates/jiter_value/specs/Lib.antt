@@ -27,5 +27,6 @@ pub mod DocumentStrings
 pub mod DocumentEnds
 pub mod Together
 pub mod Arriving
+pub mod Growing
 pub mod ValueCode
 pub mod KeySets

@@ -4,6 +4,7 @@ use Rattle.jiter_scan.specs.declared.open_number.OpenNumber.{OpenNumber}
 use Rattle.jiter_steps.specs.OpenText.{with_text}
 use Rattle.jiter_steps.specs.Tree.{string}
 use Rattle.jiter_steps.specs.declared.open_string.OpenString.{OpenString}
+use Rattle.jiter_value.specs.DocumentEnds.{is_shown}
 use Rattle.jiter_value.specs.NumberText.{long_bytes}
 use Rattle.jiter_value.specs.OpenDocument.{Holding, Known, Opened, anything}
 use Rattle.jiter_value.specs.OpenValue.{IsPutTogether, IsShown, text_of}
@@ -63,6 +64,7 @@ IsSettled true old new depth =
 pub record HoldsTogether (d : OpenDocument) (depth : ℕ) (shown : Bool) (t : List ℕ) (o : Opened) : Type 0 where
   pub apart : OpenDocument
   pub held : Holding apart t o
+  pub shows : is_shown apart ≡ shown
   pub same : d ≡ with_parts apart d.number d.string d.value
   pub settled : IsSettled shown apart d depth
 

@@ -12,6 +12,7 @@ ghost use Rattle.jiter_value.specs.Parses.{Parses};
 ghost use Rattle.jiter_value.specs.Value.{view};
 ghost use Rattle.jiter_value.specs.declared.settings.Settings.{Settings};
 
+use crate::growing::plain_text;
 use crate::open_document::OpenDocument;
 use crate::settings::Settings;
 use crate::value::JsonValue;
@@ -23,14 +24,14 @@ use std::marker::Model;
 
 // A document whose value so far is together, and what its bytes answer.
 #[derive(Drop)]
-struct Settled {
-    document: OpenDocument,
+pub(crate) struct Settled {
+    pub(crate) document: OpenDocument,
     // how many containers are open, and whether the unfinished scalar is shown
-    depth: usize,
-    shown: bool,
+    pub(crate) depth: usize,
+    pub(crate) shown: bool,
     // the fault in the document's mode, and with partial reading off
-    fault: Option<Fault>,
-    first: Option<Fault>,
+    pub(crate) fault: Option<Fault>,
+    pub(crate) first: Option<Fault>,
 }
 
 // The answer of a document: its fault, or else its value.
@@ -72,8 +73,9 @@ impl Settled {
         }
     }
 
-    // Takes a piece.
-    fn take(&mut self, piece: &[u8]) -> Result<(), Refused>
+    // Takes a piece, the value taken apart.
+    #[inline(never)]
+    fn take_apart(&mut self, piece: &[u8]) -> Result<(), Refused>
         requires received { (t : List ℕ) × HasReceived (received self.old) t }
         requires room { self.old.document.position + length piece.now < 2 ^ 64 }
         ensures ok { (t : List ℕ) → HasReceived (received self.old) t
@@ -91,6 +93,30 @@ impl Settled {
         let taken = self.document.take_all(piece);
         self.settle();
         taken
+    }
+
+    // Takes a piece.
+    #[inline(always)]
+    fn take(&mut self, piece: &[u8]) -> Result<(), Refused>
+        requires received { (t : List ℕ) × HasReceived (received self.old) t }
+        requires room { self.old.document.position + length piece.now < 2 ^ 64 }
+        ensures ok { (t : List ℕ) → HasReceived (received self.old) t
+            → OnOk result (HasReceived (received self.new) (t ++ piece.now)) }
+        ensures refused { (t : List ℕ) → HasReceived (received self.old) t → OnErr result
+            (HasReceived (received self.new)
+            (t ++ take (self.new.document.position - self.old.document.position) piece.now)) }
+        ensures wanted { (t : List ℕ) → HasReceived (received self.old) t
+            → OnErr result (MayRefuseAt (t ++ piece.now) self.new.document.position) }
+        ensures within { (self.old.document.position ≤ self.new.document.position)
+            × (self.new.document.position ≤ self.old.document.position + length piece.now) }
+        ensures settings { self.new.document.settings ≡ self.old.document.settings }
+    {
+        if self.is_growing() {
+            if let Some(more) = plain_text(piece) {
+                return self.grow(more);
+            }
+        }
+        self.take_apart(piece)
     }
 }
 
