@@ -4,12 +4,13 @@ use Rattle.std.proofs.Common.{length, take, drop, refl, sym, ap, ap₂, ◌∙�
 use Rattle.std.proofs.Common.{length-append, take-take}
 use Rattle.std.specs.Prelude.{slice_get, slice_range, Option, Some, None, IfSome, is_some}
 use Rattle.std.specs.Char.{encode_utf8}
-use Rattle.std.specs.Str.{IsUtf8}
-use Rattle.std.proofs.lemmas.Bool.{false≢true, lt-ltb, ne_eqb}
+use Rattle.std.specs.Str.{IsAscii, IsUtf8}
+use Rattle.std.proofs.lemmas.Bool.{and_parts, false≢true, lt-ltb, ltb-true, ne_eqb}
 use Rattle.std.proofs.lemmas.Bool.Decides.{nat_tests}
 use Rattle.std.proofs.lemmas.Option.{slice_get_within}
+use Rattle.std.proofs.lemmas.Str.Ascii.{IsAscii-cons, IsAscii-nil}
 use Rattle.jiter_scan.specs.Kind.{fault_kind, control_character, eof_string}
-use Rattle.jiter_scan.specs.Scan.{Pass, is_plain, scan_stop}
+use Rattle.jiter_scan.specs.Scan.{Pass, is_plain, is_plain_ascii, scan_stop}
 use Rattle.jiter_scan.specs.Scanned.{failed, taken}
 use Rattle.jiter_scan.specs.Stands.{Stands}
 use Rattle.jiter_scan.proofs.Chunks.{prefix_len-pass}
@@ -343,7 +344,16 @@ module _ (old : OpenString) (w : List ℕ) (h : HasTaken old w) where
         ∙ before-before h.decoded v h.escaped false (body_at t (i + length (w ++ v)));
   }
 
--- Plain characters behind whole ones are taken.
+-- plain bytes below 80 hex
+pub plain-of : (v : List ℕ) → Pass is_plain_ascii v → Pass is_plain v
+plain-of [] h = tt
+plain-of (c ∷ v) h = ((and_parts _ _ h.0).0, plain-of v h.1)
+
+pub ascii-of : (v : List ℕ) → Pass is_plain_ascii v → IsAscii v
+ascii-of [] h = IsAscii-nil
+ascii-of (c ∷ v) h = IsAscii-cons c v (ltb-true c 128 (and_parts _ _ h.0).1) (ascii-of v h.1)
+
+-- Plain bytes behind whole characters are taken.
 pub grown-taken : (s : OpenString) (w v : List ℕ) → IsEven s → Pass is_plain v → HasTaken s w → HasTaken (grown s v) (w ++ v)
 grown-taken s w v even pass h =
     let new = grown s v in

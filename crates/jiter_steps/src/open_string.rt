@@ -4,7 +4,7 @@ ghost use Rattle.std.specs.Prelude.{◌≡◌, ◌+◌, ◌<◌, ◌≤◌, [], 
 ghost use Rattle.std.specs.Prelude.{◌++◌, ◌||◌, is_some, not, slice_get, slice_index, slice_range, string_bytes, true, ℕ};
 ghost use Rattle.jiter_scan.specs.Ascii as ascii;
 ghost use Rattle.jiter_scan.specs.Kind.{eof_string};
-ghost use Rattle.jiter_scan.specs.Scan.{Pass, is_plain};
+ghost use Rattle.jiter_scan.specs.Scan.{Pass, is_plain, is_plain_ascii};
 ghost use Rattle.jiter_scan.specs.Scanned.{failed};
 ghost use Rattle.jiter_steps.specs.OpenString.{Goes, HasTaken, IsEven, IsPart, IsTextWithin, Wherever, grown, text_or};
 ghost use Rattle.jiter_steps.specs.OpenText.{with_text};
@@ -183,17 +183,17 @@ impl OpenString {
         self.escape.is_none() && self.text.is_whole()
     }
 
-    /// Takes plain characters. Where memory is refused, nothing changes.
+    /// Takes plain bytes below 80 hex. Where memory is refused, nothing changes.
     #[inline(always)]
-    pub fn add_plain(&mut self, more: &str) -> Result<(), Refused>
+    pub fn add_plain(&mut self, bytes: &[u8]) -> Result<(), Refused>
         requires even { IsEven self.old }
-        requires plain { Pass is_plain more.now }
-        ensures taken { (w : List ℕ) → HasTaken self.old w → OnOk result (HasTaken self.new (w ++ more.now)) }
-        ensures ok { OnOk result (self.new ≡ grown self.old more.now) }
+        requires plain { Pass is_plain_ascii bytes.now }
+        ensures taken { (w : List ℕ) → HasTaken self.old w → OnOk result (HasTaken self.new (w ++ bytes.now)) }
+        ensures ok { OnOk result (self.new ≡ grown self.old bytes.now) }
         ensures refused { OnErr result (self.new ≡ self.old) }
-        ensures some { OnErr result (0 < length more.now) }
+        ensures some { OnErr result (0 < length bytes.now) }
     {
-        self.text.add_text(more)
+        self.text.add_ascii(bytes)
     }
 
     /// Whether the string is a text where it ends: all of its bytes, or, of one that is kept, as far as its whole

@@ -3,13 +3,14 @@ ghost use Rattle.std.specs.Prelude.{◌≡◌, ℕ, ◌+◌, ◌<◌, ◌≤◌,
 ghost use Rattle.std.specs.Prelude.{◌&&◌, nat_lt, not, string_bytes, take, true};
 ghost use Rattle.std.specs.Prelude.{if◌then◌else◌};
 ghost use Rattle.std.specs.Char.{encode_utf8};
+ghost use Rattle.std.specs.Str.{IsAscii};
 ghost use Rattle.jiter_scan.specs.Kind.{invalid_code_point};
 ghost use Rattle.jiter_scan.specs.Scanned.{taken, failed};
 ghost use Rattle.jiter_steps.specs.OpenText.{HoldsText, IsWhole, nothing, with_text};
 ghost use Rattle.jiter_steps.specs.StringReading.{checked};
 
 use crate::held::Held;
-use jiter_scan::memory::{Refused, push_text};
+use jiter_scan::memory::{Refused, push_ascii, push_text};
 use jiter_scan::text::utf8_text;
 use std::alloc::Global;
 use std::marker::Model;
@@ -113,14 +114,16 @@ impl OpenText {
         self.absorb(held.as_slice())
     }
 
-    /// Takes characters behind those so far, where none is unfinished. Where memory is refused, nothing changes.
+    /// Takes bytes below 80 hex behind the characters so far, where none is unfinished. Where memory is refused, nothing
+    /// changes.
     #[inline(always)]
-    pub fn add_text(&mut self, more: &str) -> Result<(), Refused>
-        ensures ok { OnOk result (self.new ≡ with_text self.old (self.old.text ++ more.now)) }
+    pub fn add_ascii(&mut self, bytes: &[u8]) -> Result<(), Refused>
+        requires { IsAscii bytes.now }
+        ensures ok { OnOk result (self.new ≡ with_text self.old (self.old.text ++ bytes.now)) }
         ensures refused { OnErr result (self.new ≡ self.old) }
-        ensures some { OnErr result (0 < length more.now) }
+        ensures some { OnErr result (0 < length bytes.now) }
     {
-        push_text(&mut self.text, more)
+        push_ascii(&mut self.text, bytes)
     }
 
     /// Whether the bytes so far are whole characters.

@@ -22,7 +22,9 @@ pub mod Placed
 pub mod Repeats
 pub mod KeptKeys
 pub mod Spines
+pub mod ReplacedTexts
 pub mod Settled
+pub mod ShownTexts
 pub mod Arrivals
 pub mod OpenValues
 pub mod DocumentEnds

@@ -1,5 +1,6 @@
 -- A document that arrives in pieces, between two of them: its value so far is put together, to be shown.
 use Rattle.std.specs.Prelude.{◌≡◌, ℕ, Bool, true, false, List, [], length, string_bytes, None}
+use Rattle.std.specs.Str.{IsUtf8}
 use Rattle.jiter_scan.specs.declared.open_number.OpenNumber.{OpenNumber}
 use Rattle.jiter_steps.specs.OpenText.{with_text}
 use Rattle.jiter_steps.specs.Tree.{string}
@@ -33,6 +34,7 @@ HasMoved token.Text d n s v =
     (view v ≡ string (text_of d.string.text.text))
     × (s.text ≡ with_text d.string.text [])
     × (s.escape ≡ d.string.escape)
+    × IsUtf8 d.string.text.text
 HasMoved other d n s v = ⊥
 
 -- the same document, with this number, string and value

@@ -12,7 +12,7 @@ ghost use Rattle.jiter_value.specs.Parses.{Parses};
 ghost use Rattle.jiter_value.specs.Value.{view};
 ghost use Rattle.jiter_value.specs.declared.settings.Settings.{Settings};
 
-use crate::growing::plain_text;
+use crate::growing::is_plain;
 use crate::open_document::OpenDocument;
 use crate::settings::Settings;
 use crate::value::JsonValue;
@@ -29,6 +29,8 @@ pub(crate) struct Settled {
     // how many containers are open, and whether the unfinished scalar is shown
     pub(crate) depth: usize,
     pub(crate) shown: bool,
+    // whether plain bytes go on with an unfinished string or key
+    pub(crate) growing: bool,
     // the fault in the document's mode, and with partial reading off
     pub(crate) fault: Option<Fault>,
     pub(crate) first: Option<Fault>,
@@ -55,10 +57,12 @@ impl Settled {
     {
         self.fault = self.document.mode_fault();
         self.first = self.document.strict_fault();
+        self.growing = false;
         if self.document.fault.is_none() {
             let (depth, shown) = self.document.settle();
             self.depth = depth;
             self.shown = shown;
+            self.growing = self.document.is_growing();
         }
     }
 
@@ -111,10 +115,8 @@ impl Settled {
             × (self.new.document.position ≤ self.old.document.position + length piece.now) }
         ensures settings { self.new.document.settings ≡ self.old.document.settings }
     {
-        if self.is_growing() {
-            if let Some(more) = plain_text(piece) {
-                return self.grow(more);
-            }
+        if self.growing && is_plain(piece) {
+            return self.grow(piece);
         }
         self.take_apart(piece)
     }
@@ -167,6 +169,7 @@ impl Arriving {
             document: OpenDocument::new(alloc, settings),
             depth: 0,
             shown: false,
+            growing: false,
             fault: None,
             first: None,
         };

@@ -75,7 +75,7 @@ pub struct OpenDocument {
 }
 
 // The first fault, where this one is met.
-pub(crate) fn first_of(first: Option<Fault>, fault: Fault) -> Option<Fault>
+fn first_of(first: Option<Fault>, fault: Fault) -> Option<Fault>
     ensures { result ≡ noted_in first fault.kind fault.index }
 {
     match first {
