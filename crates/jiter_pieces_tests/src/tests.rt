@@ -7,6 +7,7 @@ use std::test::*;
 mod bounds;
 mod broken;
 mod deep;
+mod growing;
 mod long;
 mod readings;
 mod rows;

@@ -351,22 +351,22 @@ module _ (s : Settled) (t : List ℕ) (h : HasReceived (received s) t) (grows : 
   module _ (u : List ℕ) (b : OpenDocument) (behind : InText b u o) (e : OpenDocument)
       (holds : HoldsTogether e s.depth s.shown u o) (settings : e.settings ≡ b.settings) (unset : e.fault ≡ b.fault)
       (noted : e.first ≡ b.first) (place : e.position ≡ b.position) (kind : e.token ≡ d.token) (string : IsEven e.string)
-      where
-    received-so : (f x : Option Fault) → AnswersSo e.settings u f (Some (view e.value.root))
-        → AnswersSo (strictly e.settings) u x (Some (view e.value.root))
-        → HasReceived (received (record s { document = e; fault = f; first = x })) u
-    received-so f x told-so first-so = record {
-      together = record {
-        opened = o;
-        known = known-as anything b e u o settings unset noted behind.known;
+    where
+      received-so : (f x : Option Fault) → AnswersSo e.settings u f (Some (view e.value.root))
+          → AnswersSo (strictly e.settings) u x (Some (view e.value.root))
+          → HasReceived (received (record s { document = e; fault = f; first = x })) u
+      received-so f x told-so first-so = record {
+        together = record {
+          opened = o;
+          known = known-as anything b e u o settings unset noted behind.known;
+          position = place ∙ behind.place;
+          held = λ _. holds;
+        };
         position = place ∙ behind.place;
-        held = λ _. holds;
-      };
-      position = place ∙ behind.place;
-      mode = told-so;
-      strict = first-so;
-      growing = λ _. (unset ∙ behind.unset, subst IsOfString (sym kind) growing.1, string);
-    }
+        mode = told-so;
+        strict = first-so;
+        growing = λ _. (unset ∙ behind.unset, subst IsOfString (sym kind) growing.1, string);
+      }
 
   -- One that is not shown goes on.
   module _ (v : List ℕ) (plain : Pass is_plain_ascii v) (hides : s.shown ≡ false) where

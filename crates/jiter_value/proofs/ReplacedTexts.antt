@@ -1,10 +1,9 @@
 -- A text that stands inside open containers, and a longer one in its place.
-use Rattle.std.proofs.Common.{◌≡◌, ◌≢◌, ℕ, zero, suc, ◌+◌, ◌-◌, ◌<◌, List, [], ◌∷◌, ◌++◌, length, take, map, get_or}
+use Rattle.std.proofs.Common.{◌≡◌, ◌≢◌, ℕ, zero, suc, ◌+◌, ◌-◌, ◌<◌, List, [], ◌∷◌, ◌++◌, length, take, get_or}
 use Rattle.std.proofs.Common.{refl, sym, subst, ap, ◌∙◌, arith, length-append, Vec, vec_len}
-use Rattle.std.specs.Prelude.{slice_set, OnErr, OnOk}
+use Rattle.std.specs.Prelude.{slice_set}
 use Rattle.std.specs.declared.alloc.Global.{Global}
 use Rattle.std.specs.declared.borrow.CowStr.{CowStr}
-use Rattle.std.proofs.lemmas.List.{same_from_push}
 use Rattle.jiter_steps.specs.Tree.{Tree, string}
 use Rattle.jiter_value.specs.OpenValue.{text_of}
 use Rattle.jiter_value.specs.Replaced.{HasReplaced, HoldsTextInside, IsReplaced, StandsRound}

@@ -307,11 +307,7 @@ fn append_here(value: &mut JsonValue<'static>, bytes: &[u8]) -> Result<(), Refus
 
 /// Bytes below 80 hex behind the text that stands so many containers deep inside the root, each the last part of the
 /// next. Where memory is refused, the text is the same.
-pub fn append_text(
-    root: &mut JsonValue<'static>,
-    depth: usize,
-    bytes: &[u8],
-) -> Result<(), Refused>
+pub fn append_text(root: &mut JsonValue<'static>, depth: usize, bytes: &[u8]) -> Result<(), Refused>
     requires text { (w : List ℕ) × HoldsTextInside depth root.old w }
     requires ascii { IsAscii bytes.now }
     ensures ok { (w : List ℕ) → HoldsTextInside depth root.old w
