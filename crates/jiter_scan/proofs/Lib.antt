@@ -15,6 +15,7 @@ pub mod NumberExtents
 pub mod NumberTests
 pub mod OpenNumbers
 pub mod NumberRuns
+pub mod NumberParts
 pub mod OpenValues
 pub mod NumberLaws
 pub mod Pins

@@ -1,26 +1,19 @@
 -- A number that arrives in pieces goes on with digits.
-use Rattle.std.proofs.Common.{◌≡◌, ℕ, ◌+◌, ◌-◌, ◌≤◌, ◌||◌, Bool, true, false, List, [], ◌∷◌, ◌++◌, drop, length, take}
-use Rattle.std.proofs.Common.{append_assoc, length-append, refl, sym, ap, ap₂, subst, ◌∙◌, arith, nat_le}
+use Rattle.std.proofs.Common.{◌≡◌, ℕ, ◌+◌, ◌-◌, ◌≤◌, List, [], ◌∷◌, drop, length, take, refl, sym, ap, ap₂, subst, ◌∙◌}
+use Rattle.std.proofs.Common.{arith, nat_le}
 use Rattle.std.specs.Prelude.{slice_range, if◌then◌else◌}
-use Rattle.std.specs.List.{list_any}
-use Rattle.std.proofs.Math.Bool.{or-false}
-use Rattle.std.proofs.lemmas.List.Folds.{list_any-append}
 use Rattle.jiter_scan.specs.Digits.{is_digit, digit_run_end}
 use Rattle.jiter_scan.specs.Kind.{number_out_of_range}
-use Rattle.jiter_scan.specs.Number.{AreDigits, is_float_byte, is_integral}
-use Rattle.jiter_scan.specs.NumberReading.{extent_then, exponent_at, number_extent}
-use Rattle.jiter_scan.specs.OpenNumber.{digits_for, IsBegun, is_int_stage, Leads, LeadsOver, number_from, stage_behind}
-use Rattle.jiter_scan.specs.OpenNumber.{tail_at, within_room}
+use Rattle.jiter_scan.specs.Number.{AreDigits}
+use Rattle.jiter_scan.specs.NumberReading.{extent_then, exponent_at}
+use Rattle.jiter_scan.specs.OpenNumber.{digits_for, is_int_stage, LeadsOver, number_from, stage_behind, tail_at, within_room}
 use Rattle.jiter_scan.specs.Scanned.{taken, failed}
 use Rattle.jiter_scan.specs.Stands.{Stands}
 use Rattle.jiter_scan.specs.declared.open_number.Stage.{Stage}
 use Rattle.jiter_scan.specs.declared.open_number.Stage.TheVariants as stage
-use Rattle.jiter_scan.specs.declared.open_number.Went.TheVariants as went
 use Rattle.jiter_scan.proofs.Chunks.{prefix_len-pass}
-use Rattle.jiter_scan.proofs.NumberValues.{digits-no_float}
 use Rattle.jiter_scan.proofs.OpenNumbers.{run-on}
-use Rattle.jiter_scan.proofs.OpenValues.{stands-last}
-use Rattle.jiter_scan.proofs.Standing.{stands-length, stands-slice, stands-split}
+use Rattle.jiter_scan.proofs.Standing.{stands-length, stands-slice}
 
 -- the first bytes of a run of digits
 pub run-digits : (t : List ℕ) (i n : ℕ) → n ≤ digit_run_end t i - i → AreDigits (slice_range t i (i + n))
@@ -70,10 +63,6 @@ room-behind room n j e few =
     let behind : j + (room + 1) ≡ j + n + (room - n + 1) = omega arith in
     ap₂ (λ most wrong. if nat_le e most then taken tt e else failed number_out_of_range wrong) place behind
 
--- one byte that is taken
-pub one-over : (s new : Stage) (b : ℕ) → Leads s b (went.Taken new) → LeadsOver s (b ∷ []) new
-one-over s new b leads = λ names t j h. leads names t j h.0
-
 -- no digit goes on with a number of such a stage
 none-over : (s : Stage) (w : List ℕ) → 0 ≡ length w → LeadsOver s w s
 none-over s w none = λ names t j h.
@@ -96,7 +85,7 @@ digits-over stage.Sign w digits fits = none-over stage.Sign w fits
 digits-over stage.Exponent w digits fits = λ names t j h.
     ap (taken tt) (run-behind t w j (j + length w) digits h)
 
-stage-int : (s : Stage) (n : ℕ) → is_int_stage (stage_behind s n) ≡ is_int_stage s
+pub stage-int : (s : Stage) (n : ℕ) → is_int_stage (stage_behind s n) ≡ is_int_stage s
 stage-int stage.Minus n = refl
 stage-int stage.Zero n = refl
 stage-int (stage.Digits room) n = refl
@@ -105,34 +94,3 @@ stage-int stage.Fraction n = refl
 stage-int stage.Letter n = refl
 stage-int stage.Sign n = refl
 stage-int stage.Exponent n = refl
-
--- digits show no float
-integral-over : (w v : List ℕ) → AreDigits v → is_integral (w ++ v) ≡ is_integral w
-integral-over w v digits =
-    let same : list_any is_float_byte (w ++ v) ≡ list_any is_float_byte w =
-    list_any-append is_float_byte w v ∙ ap (λ b. list_any is_float_byte w || b) (digits-no_float v digits)
-    ∙ or-false (list_any is_float_byte w) in
-    ap (λ (b : Bool). if b then false else true) same
-
--- bytes stand between those before them and those behind
-stands-between : (w v u : List ℕ) → Stands (w ++ (v ++ u)) (length w) (length w + length v) v
-stands-between w v u =
-    let t = w ++ (v ++ u) in
-    let r = stands-split t (length w) (length t) v u (stands-last w (v ++ u)) in
-    subst (λ j. Stands t (length w) j v) (stands-length t (length w) r.0 v r.1) r.1
-
--- digits behind the bytes of a number that has begun
-pub begun-over : (w v : List ℕ) (s : Stage) → AreDigits v → digits_for s (length v) ≡ length v → IsBegun w s
-    → IsBegun (w ++ v) (stage_behind s (length v))
-begun-over w v s digits fits begun =
-    let new = stage_behind s (length v) in
-    let long : length (w ++ v) ≡ length w + length v = length-append w v in
-    record {
-      goes = λ names u.
-          let same : (w ++ v) ++ u ≡ w ++ (v ++ u) = append_assoc w v u in
-          ap (λ t. number_extent names t 0) same
-          ∙ begun.goes names (v ++ u)
-          ∙ digits-over s v digits fits names (w ++ (v ++ u)) (length w) (stands-between w v u)
-          ∙ ap₂ (number_from names new) (sym same) (sym long);
-      whole = integral-over w v digits ∙ begun.whole ∙ sym (stage-int s (length v));
-    }

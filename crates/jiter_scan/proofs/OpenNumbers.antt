@@ -1,19 +1,14 @@
--- A number that is read byte by byte: what its reading is from the byte at a place on, and at the end of the input.
-use Rattle.std.proofs.Common.{◌≡◌, ℕ, ◌+◌, ◌-◌, ◌<◌, ◌==◌, ◌||◌, ◌&&◌, Bool, true, false, not, List, [], ◌∷◌, ◌++◌}
-use Rattle.std.proofs.Common.{append_assoc, length, refl, sym, ap, ap₂, ◌∙◌, arith, nat_le}
+-- A number that arrives in pieces: what its reading is from the byte at a place on, and at the end of the input.
+use Rattle.std.proofs.Common.{◌≡◌, ℕ, ◌+◌, ◌-◌, ◌<◌, ◌==◌, ◌||◌, Bool, true, false, List, [], ◌∷◌, ◌++◌, length}
+use Rattle.std.proofs.Common.{refl, sym, ap, ◌∙◌, arith, nat_le}
 use Rattle.std.specs.Prelude.{slice_get, Some, None, if◌then◌else◌}
-use Rattle.std.specs.List.{list_any}
 use Rattle.std.proofs.lemmas.Bool.Decides.{nat_tests}
-use Rattle.std.proofs.lemmas.List.{length-append}
 use Rattle.jiter_scan.specs.Digits.{is_digit, digit_run_end}
 use Rattle.jiter_scan.specs.Kind.{number_out_of_range}
-use Rattle.jiter_scan.specs.Number.{is_float_byte, is_integral}
 use Rattle.jiter_scan.specs.NumberReading.{extent_then, digits_from, int_part_from, int_part_at, decimal_at}
 use Rattle.jiter_scan.specs.NumberReading.{extent_from, number_extent, fraction_from, exponent_from, exponent_at}
-use Rattle.jiter_scan.specs.OpenNumber.{within_room, tail_at, number_from, Leads, IsBegun, is_int_stage, begins_decimal}
+use Rattle.jiter_scan.specs.OpenNumber.{within_room, tail_at, begins_decimal}
 use Rattle.jiter_scan.specs.Scanned.{taken, failed}
-use Rattle.jiter_scan.specs.declared.open_number.Stage.{Stage}
-use Rattle.jiter_scan.specs.declared.open_number.Went.TheVariants as went
 use Rattle.jiter_scan.proofs.Choices.{if-true, if-false}
 use Rattle.jiter_scan.proofs.Runs.{run_end-more, run_end-here}
 
@@ -92,35 +87,3 @@ begins-digit b h g = left-of (is_digit b) (b == 45) h g
 pub get-behind : (w u : List ℕ) (b : ℕ) → slice_get (w ++ b ∷ u) (length w) ≡ Some b
 get-behind [] u b = refl
 get-behind (c ∷ w) u b = get-behind w u b
-
-integral-one : (f : Bool) → (if (f || false) then false else true) ≡ not f
-integral-one true = refl
-integral-one false = refl
-
-integral-more : (f x y g : Bool) → (if x then false else true) ≡ ((if y then false else true) && g)
-    → (if (f || x) then false else true) ≡ ((if (f || y) then false else true) && g)
-integral-more true x y g h = refl
-integral-more false x y g h = h
-
--- one more byte shows a float or not
-pub integral-on : (w : List ℕ) (b : ℕ) → is_integral (w ++ b ∷ []) ≡ (is_integral w && not (is_float_byte b))
-integral-on [] b = integral-one (is_float_byte b)
-integral-on (c ∷ w) b =
-    integral-more (is_float_byte c) (list_any is_float_byte (w ++ b ∷ [])) (list_any is_float_byte w)
-    (not (is_float_byte b)) (integral-on w b)
-
--- one more byte goes on with it
-pub begun-on : (w : List ℕ) (b : ℕ) (s new : Stage) → IsBegun w s → Leads s b (went.Taken new)
-    → is_int_stage new ≡ (is_int_stage s && not (is_float_byte b))
-    → IsBegun (w ++ b ∷ []) new
-begun-on w b s new begun leads int =
-    let long : length (w ++ b ∷ []) ≡ length w + 1 = length-append w (b ∷ []) in
-    record {
-      goes = λ names u.
-          let same : (w ++ b ∷ []) ++ u ≡ w ++ b ∷ u = append_assoc w (b ∷ []) u in
-          ap (λ t. number_extent names t 0) same
-          ∙ begun.goes names (b ∷ u)
-          ∙ leads names (w ++ b ∷ u) (length w) (get-behind w u b)
-          ∙ ap₂ (number_from names new) (sym same) (sym long);
-      whole = integral-on w b ∙ ap (λ x. x && not (is_float_byte b)) begun.whole ∙ sym int;
-    }

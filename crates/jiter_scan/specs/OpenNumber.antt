@@ -1,7 +1,8 @@
--- A number that is read byte by byte: what its reading is from the stage that was reached, in any text.
+-- A number that arrives in pieces: what its reading is from the stage that was reached, in any text.
 use Rattle.std.specs.Prelude.{◌≡◌, ℕ, ◌+◌, ◌-◌, ◌<◌, ◌==◌, ◌||◌, ◌&&◌, Bool, true, false, not, if◌then◌else◌, List}
-use Rattle.std.specs.Prelude.{[], ◌∷◌, ◌++◌, min}
-use Rattle.std.specs.Prelude.{codes, length, nat_le, slice_get, string_bytes, ℤ, Option, Some, None}
+use Rattle.std.specs.Prelude.{◌++◌, min}
+use Rattle.std.specs.Prelude.{codes, length, nat_le, slice_get, slice_range, string_bytes, ℤ, Option, Some, None, ◌≤◌}
+use Rattle.std.specs.Str.{IsAscii}
 use Rattle.jiter_scan.specs.Ascii as ascii
 use Rattle.jiter_scan.specs.Kind.{invalid_number, number_out_of_range, eof_value}
 use Rattle.jiter_scan.specs.Scanned.{Scanned, taken, failed}
@@ -11,6 +12,7 @@ use Rattle.jiter_scan.specs.Digits.{is_digit, digit_run_end}
 use Rattle.jiter_scan.specs.Number.{Number, integer, big, float, is_float_byte, is_integral}
 use Rattle.jiter_scan.specs.NumberReading.{extent_then, behind_minus, behind_zero, digits_from, fraction_at}
 use Rattle.jiter_scan.specs.NumberReading.{exponent_at, power_from, number_extent}
+use Rattle.jiter_scan.specs.declared.open_number.OpenNumber.{OpenNumber}
 use Rattle.jiter_scan.specs.declared.open_number.Stage.{Stage}
 use Rattle.jiter_scan.specs.declared.open_number.Stage.TheVariants as stage
 use Rattle.jiter_scan.specs.declared.open_number.Went.{Went}
@@ -56,16 +58,6 @@ abbrev pub Leads : Stage → ℕ → Went → Type 0
 Leads s b w =
     (names : Bool) (t : List ℕ) (j : ℕ) → slice_get t j ≡ Some b → number_from names s t j ≡ number_by names t j w
 
--- the stage then
-abbrev pub stage_after : Stage → Went → Stage
-stage_after s (went.Taken new) = new
-stage_after s w = s
-
--- the bytes that were taken then
-abbrev pub bytes_after : List ℕ → ℕ → Went → List ℕ
-bytes_after w b (went.Taken new) = w ++ b ∷ []
-bytes_after w b other = w
-
 -- how many of so many digits go on with a number of this stage
 abbrev pub digits_for : Stage → ℕ → ℕ
 digits_for (stage.Digits room) n = min n room
@@ -103,6 +95,15 @@ is_int_stage s = false
 abbrev pub at_end : Bool → ℕ → Extent
 at_end whole j = if whole then taken tt j else failed eof_value j
 
+-- The bytes of a text from i to before e go on with a number of the one stage, bring it to the other, and show a float
+-- where that says so.
+pub record GoesTo (s : Stage) (t : List ℕ) (i : ℕ) (new : Stage) (e : ℕ) : Type 0 where
+  pub ahead : i ≤ e
+  pub within : e ≤ length t
+  pub ascii : IsAscii (slice_range t i e)
+  pub leads : LeadsOver s (slice_range t i e) new
+  pub int : is_int_stage new ≡ (is_int_stage s && is_integral (slice_range t i e))
+
 -- A byte that is taken is one below 80 hex, and shows a float where the stage says so. Only a whole number ends, and
 -- only behind a minus a name begins, with its `I`.
 abbrev pub Fits : Stage → ℕ → Went → Type 0
@@ -115,10 +116,22 @@ Fits s b w = Unit {0}
 abbrev pub begins_decimal : ℕ → Bool
 begins_decimal c = is_digit c || (c == ascii.minus)
 
+-- wherever these bytes stand, they begin a number that has come to this stage
+abbrev pub BeginsTo : List ℕ → Stage → Type 0
+BeginsTo w s =
+    (names : Bool) (t : List ℕ) (j : ℕ) → Stands t j (j + length w) w
+    → number_extent names t j ≡ number_from names s t (j + length w)
+
 -- These bytes begin a number that has come to this stage, whatever follows them.
 pub record IsBegun (w : List ℕ) (s : Stage) : Type 0 where
   pub goes : (names : Bool) (u : List ℕ) → number_extent names (w ++ u) 0 ≡ number_from names s (w ++ u) (length w)
   pub whole : is_integral w ≡ is_int_stage s
+
+-- These bytes are kept, and begin a number that has come so far.
+pub record HoldsNumber (n : OpenNumber) (w : List ℕ) : Type 0 where
+  pub text : string_bytes n.text ≡ w
+  pub begun : IsBegun w n.stage
+  pub goes : BeginsTo w n.stage
 
 -- a number with a text of its own
 abbrev pub own_view : OwnNumber → Number

@@ -1,14 +1,14 @@
-//! Numbers that arrive byte by byte (RFC 8259, 6): each byte is looked at once, and behind each is said how the
-//! number stands.
-ghost use Rattle.std.specs.Prelude.{◌≡◌, ◌+◌, ◌-◌, ◌<◌, ◌≤◌, ◌∷◌, ◌++◌, [], Bool, IfOk, IfSome, List, None, OnErr, Some};
-ghost use Rattle.std.specs.Prelude.{false, length, slice_get, slice_range, string_bytes, string_capacity, string_len};
-ghost use Rattle.std.specs.Prelude.{true, ℕ};
+//! Numbers that arrive in pieces (RFC 8259, 6): the bytes of a piece that are parts of a number are taken at once, and
+//! behind them is said how the number stands.
+ghost use Rattle.std.specs.Prelude.{◌≡◌, ◌+◌, ◌-◌, ◌<◌, ◌≤◌, ◌++◌, [], Bool, IfOk, IfSome, List, None, OnErr, OnOk, Some};
+ghost use Rattle.std.specs.Prelude.{false, length, slice_get, slice_index, slice_range, string_bytes, string_capacity};
+ghost use Rattle.std.specs.Prelude.{string_len, true, ℕ};
 ghost use Rattle.jiter_scan.specs.Digits.{digit_run_end};
-ghost use Rattle.jiter_scan.specs.Number.{AreDigits, big, integer, is_float_byte, number_value};
+ghost use Rattle.jiter_scan.specs.Number.{big, integer, is_float_byte, number_value};
 ghost use Rattle.jiter_scan.specs.NumberReading.{exponent_at, decimal_at, number_extent, number_at};
-ghost use Rattle.jiter_scan.specs.OpenNumber.{Fits, IsBegun, Leads, LeadsOver, at_end, begins_decimal, bytes_after};
+ghost use Rattle.jiter_scan.specs.OpenNumber.{Fits, GoesTo, HoldsNumber, IsBegun, Leads, at_end, begins_decimal};
 ghost use Rattle.jiter_scan.specs.OpenNumber.{digits_for, int_of, is_int_stage, is_whole, kept_bytes, kind_view};
-ghost use Rattle.jiter_scan.specs.OpenNumber.{number_by, number_from, own_view, stage_after, stage_behind, tail_at};
+ghost use Rattle.jiter_scan.specs.OpenNumber.{number_by, number_from, own_view, stage_behind, tail_at};
 
 use crate::memory::{Refused, push_text};
 use crate::number_decoder::{NumberAny, NumberInt, number_at};
@@ -287,6 +287,40 @@ fn stage_behind(stage: Stage, count: usize) -> Stage
     }
 }
 
+// What stands at a place and goes on with a number of this stage: digits, another byte, or nothing. The stage behind it,
+// and the place.
+fn part_end(stage: Stage, piece: &[u8], at: usize) -> (Stage, usize)
+    requires { at < length piece.now }
+    ensures { GoesTo stage piece.now at result.0 result.1 }
+{
+    let count = digits_for(stage, piece, at);
+    if 0 < count {
+        return (stage_behind(stage, count), at + count);
+    }
+    match next_of(stage, piece[at]) {
+        Went::Taken(next) => (next, at + 1),
+        _ => (stage, at),
+    }
+}
+
+// The same of all that goes on with it.
+fn parts_end(stage: Stage, piece: &[u8], at: usize) -> (Stage, usize)
+    requires { at ≤ length piece.now }
+    ensures { GoesTo stage piece.now at result.0 result.1 }
+{
+    let mut now = stage;
+    let mut end = at;
+    while end < piece.len() {
+        let (next, behind) = part_end(now, piece, end);
+        if behind == end {
+            return (now, end);
+        }
+        now = next;
+        end = behind;
+    }
+    (now, end)
+}
+
 // The integer of 64 signed bits that stands at the front of a text, if one does.
 fn integer_in(text: &[u8]) -> Option<i64>
     requires { 0 < length text.now }
@@ -320,73 +354,61 @@ impl OpenNumber {
         }
     }
 
-    /// Takes the first byte of a number, a minus or a digit. Where memory is refused, nothing changes.
-    pub fn begin(&mut self, byte: u8) -> Result<(), Refused>
-        requires none { string_bytes self.old.text ≡ [] }
-        requires begins { begins_decimal byte ≡ true }
-        ensures leads { IfOk result (λ _. (names : Bool) (t : List ℕ) (j : ℕ) → slice_get t j ≡ Some byte
-            → number_extent names t j ≡ number_from names self.new.stage t (j + 1)) }
-        ensures text { IfOk result (λ _. string_bytes self.new.text ≡ byte ∷ []) }
-        ensures begun { IfOk result (λ _. IsBegun (string_bytes self.new.text) self.new.stage) }
-        ensures refused { OnErr result
-            ((string_bytes self.new.text ≡ []) × (self.new.stage ≡ self.old.stage)) }
-        ensures full { OnErr result (string_capacity self.old.text ≤ 0) }
-    {
-        let stage = first_stage(byte);
-        push_text(&mut self.text, ascii_text(&[byte]))?;
-        self.stage = stage;
-        Ok(())
-    }
-
-    /// Takes the next byte, if it is a part of the number, and says what it is. Where memory is refused, nothing
-    /// changes.
-    pub fn next(&mut self, byte: u8) -> Result<Went, Refused>
-        ensures leads { IfOk result (Leads self.old.stage byte) }
-        ensures fits { IfOk result (Fits self.old.stage byte) }
-        ensures stage { IfOk result (λ went. self.new.stage ≡ stage_after self.old.stage went) }
-        ensures text { IfOk result (λ went.
-            string_bytes self.new.text ≡ bytes_after (string_bytes self.old.text) byte went) }
-        ensures begun { IsBegun (string_bytes self.old.text) self.old.stage
-            → IsBegun (string_bytes self.new.text) self.new.stage }
-        ensures refused { OnErr result
-            ((string_bytes self.new.text ≡ string_bytes self.old.text) × (self.new.stage ≡ self.old.stage)) }
-        ensures full { OnErr result (string_capacity self.old.text ≤ string_len self.old.text) }
-    {
-        let went = next_of(self.stage, byte);
-        if let Went::Taken(stage) = went {
-            push_text(&mut self.text, ascii_text(&[byte]))?;
-            self.stage = stage;
-        }
-        Ok(went)
-    }
-
-    /// Takes the digits that stand at a place of a piece, and says how many: as many as the number has room for, and
-    /// none where it goes on with no digit, or where it awaits its first one, or that of its fraction or its exponent.
-    /// Where memory is refused, nothing changes.
-    pub fn digits(&mut self, piece: &[u8], at: usize) -> Result<usize, Refused>
-        requires { at ≤ length piece.now }
-        ensures count { IfOk result (λ n. n ≡ digits_for self.old.stage (digit_run_end piece.now at - at)) }
-        ensures part { IfOk result (λ n. at + n ≤ length piece.now) }
-        ensures none { IfOk result (λ n. n ≡ 0 → self.new ≡ self.old) }
-        ensures digits { IfOk result (λ n. AreDigits (slice_range piece.now at (at + n))) }
-        ensures leads { IfOk result (λ n.
-            LeadsOver self.old.stage (slice_range piece.now at (at + n)) self.new.stage) }
-        ensures stage { IfOk result (λ n. self.new.stage ≡ stage_behind self.old.stage n) }
-        ensures text { IfOk result (λ n. string_bytes self.new.text
-            ≡ string_bytes self.old.text ++ slice_range piece.now at (at + n)) }
-        ensures begun { IsBegun (string_bytes self.old.text) self.old.stage
-            → IsBegun (string_bytes self.new.text) self.new.stage }
+    // Takes the byte at a place of a piece, which brings the number to this stage, and those behind it that go on with it.
+    fn take_from(&mut self, stage: Stage, piece: &[u8], at: usize) -> Result<usize, Refused>
+        requires within { at < length piece.now }
+        requires ascii { slice_index piece.now at < 128 }
+        ensures taken { IfOk result (λ n. GoesTo stage piece.now (at + 1) self.new.stage (at + n)
+            × (string_bytes self.new.text ≡ string_bytes self.old.text ++ slice_range piece.now at (at + n))) }
         ensures refused { OnErr result
             ((string_bytes self.new.text ≡ string_bytes self.old.text) × (self.new.stage ≡ self.old.stage)) }
         ensures full { OnErr result (string_capacity self.old.text
-            < string_len self.old.text + (digit_run_end piece.now at - at)) }
+            < string_len self.old.text + (length piece.now - at)) }
     {
-        let count = digits_for(self.stage, piece, at);
-        if 0 < count {
-            push_text(&mut self.text, ascii_text(&piece[at..at + count]))?;
-            self.stage = stage_behind(self.stage, count);
-        }
-        Ok(count)
+        let (behind, end) = parts_end(stage, piece, at + 1);
+        push_text(&mut self.text, ascii_text(&piece[at..end]))?;
+        self.stage = behind;
+        Ok(end - at)
+    }
+
+    /// Takes the first byte of a number, a minus or a digit, at a place of a piece, and the bytes behind it that go on
+    /// with the number, and says how many. Where memory is refused, nothing changes.
+    pub fn begin(&mut self, piece: &[u8], at: usize) -> Result<usize, Refused>
+        requires none { string_bytes self.old.text ≡ [] }
+        requires within { at < length piece.now }
+        requires begins { begins_decimal (slice_index piece.now at) ≡ true }
+        ensures part { IfOk result (λ n. (0 < n) × (at + n ≤ length piece.now)) }
+        ensures held { IfOk result (λ n. HoldsNumber self.new (slice_range piece.now at (at + n))) }
+        ensures refused { OnErr result
+            ((string_bytes self.new.text ≡ []) × (self.new.stage ≡ self.old.stage)) }
+        ensures full { OnErr result (string_capacity self.old.text < length piece.now - at) }
+    {
+        self.take_from(first_stage(piece[at]), piece, at)
+    }
+
+    /// What the next byte is to the number. It is not taken.
+    pub fn next(&self, byte: u8) -> Went
+        ensures leads { Leads self.now.stage byte result }
+        ensures fits { Fits self.now.stage byte result }
+    {
+        next_of(self.stage, byte)
+    }
+
+    /// Takes the byte at a place of a piece, which brings the number to this stage, as [`next`](OpenNumber::next) said,
+    /// and the bytes behind it that go on with the number, and says how many. Where memory is refused, nothing changes.
+    pub fn more(&mut self, stage: Stage, piece: &[u8], at: usize) -> Result<usize, Refused>
+        requires within { at < length piece.now }
+        requires leads { Leads self.old.stage (slice_index piece.now at) (Went.Taken stage) }
+        requires fits { Fits self.old.stage (slice_index piece.now at) (Went.Taken stage) }
+        ensures part { IfOk result (λ n. (0 < n) × (at + n ≤ length piece.now)) }
+        ensures held { IfOk result (λ n. (w : List ℕ) → HoldsNumber self.old w
+            → HoldsNumber self.new (w ++ slice_range piece.now at (at + n))) }
+        ensures refused { OnErr result
+            ((string_bytes self.new.text ≡ string_bytes self.old.text) × (self.new.stage ≡ self.old.stage)) }
+        ensures full { OnErr result (string_capacity self.old.text
+            < string_len self.old.text + (length piece.now - at)) }
+    {
+        self.take_from(stage, piece, at)
     }
 
     /// Whether the bytes so far are a number.

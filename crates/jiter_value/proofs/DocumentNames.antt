@@ -9,7 +9,7 @@ use Rattle.jiter_scan.proofs.Standing.{stands-length}
 use Rattle.jiter_scan.proofs.WordLaws.{word_at-complete, word_at-sound}
 use Rattle.jiter_scan.specs.Kind.{eof_value, invalid_number}
 use Rattle.jiter_scan.specs.NumberReading.{behind_minus, decimal_at, extent_from, name_at, number_extent}
-use Rattle.jiter_scan.specs.OpenNumber.{IsBegun}
+use Rattle.jiter_scan.specs.OpenNumber.{HoldsNumber, IsBegun}
 use Rattle.jiter_scan.specs.OpenWord.{word_from}
 use Rattle.jiter_scan.specs.Scanned.{taken, failed}
 use Rattle.jiter_scan.specs.Stands.{Stands}
@@ -18,7 +18,7 @@ use Rattle.jiter_scan.specs.declared.open_number.OpenNumber.{OpenNumber}
 use Rattle.jiter_scan.specs.declared.open_number.Stage.TheVariants as stage
 use Rattle.jiter_value.specs.Arrived.{at_value}
 use Rattle.jiter_value.specs.Names.{name_start}
-use Rattle.jiter_value.specs.OpenDocument.{BeginsAs, HasTakenIn, HoldsMinus, HoldsNumber, HoldsScalar, HoldsWord}
+use Rattle.jiter_value.specs.OpenDocument.{BeginsAs, HasTakenIn, HoldsMinus, HoldsScalar, HoldsWord}
 use Rattle.jiter_value.specs.OpenDocument.{IsAllowed, IsRefused, Known, anything, in_scalar}
 use Rattle.jiter_value.specs.OpenValue.{IsLeft}
 use Rattle.jiter_value.specs.Spine.{OpenFrame, HasRoomInside}

@@ -14,7 +14,7 @@ use Rattle.jiter_scan.specs.Kind.{Kind, expected_ident, expected_value, invalid_
 use Rattle.jiter_scan.specs.Number.{number_value}
 use Rattle.jiter_scan.specs.NumberReading.{behind_minus, extent_from, number_at, number_extent}
 use Rattle.jiter_scan.specs.NumberReading.{with_value}
-use Rattle.jiter_scan.specs.OpenNumber.{IsBegun, Leads, LeadsOver, begins_decimal, number_by, number_from}
+use Rattle.jiter_scan.specs.OpenNumber.{HoldsNumber, IsBegun, Leads, begins_decimal, number_by, number_from}
 use Rattle.jiter_scan.specs.OpenWord.{word_by, word_from}
 use Rattle.jiter_scan.specs.PartialMode.{is_active}
 use Rattle.jiter_scan.specs.Scanned.{taken, failed}
@@ -44,7 +44,7 @@ use Rattle.jiter_value.specs.Arrived.{Arrived, at_value, owned}
 use Rattle.jiter_value.specs.Names.{name_bytes, name_extent, name_start, name_tree, name_word}
 use Rattle.jiter_value.specs.OpenDocument.{EndsBefore, IsNumberWithin}
 use Rattle.jiter_value.specs.OpenDocument.{BeginsAs, BeginsHere, Comes, EndsRight, Follows, HasArrived, HasTakenIn}
-use Rattle.jiter_value.specs.OpenDocument.{Holding, HoldsMinus, HoldsNumber, HoldsScalar, HoldsString, HoldsWord, IsAllowed}
+use Rattle.jiter_value.specs.OpenDocument.{Holding, HoldsMinus, HoldsScalar, HoldsString, HoldsWord, IsAllowed}
 use Rattle.jiter_value.specs.OpenDocument.{IsReadAs, IsReading, IsRefused, Known, NameBegins, Next, Opened, ReadsAt}
 use Rattle.jiter_value.specs.OpenDocument.{StandsAt, TakenFrom, WordBegins, anything, between_tokens, in_key, in_scalar}
 use Rattle.jiter_value.specs.OpenDocument.{opened_to, own_number, strictly, with_byte}
@@ -339,15 +339,16 @@ scalar-refused n m d t w fs b k i known follows bad fails = λ p u reading comes
 pub follows-here : (c : ℕ) → Follows (with_byte c) (c ∷ []) anything
 follows-here c = λ u comes. (u, refl)
 
--- a scalar
-pub scalar-begins : (d e : OpenDocument) (t : List ℕ) (c : ℕ) (fs : List OpenFrame) → BeginsHere c d t fs → Keeps d e
-    → e.value ≡ d.value → e.begin ≡ d.position → HoldsScalar e e.token (c ∷ []) → HasTakenIn anything e (t ++ c ∷ [])
-scalar-begins d e t c fs h k value begin held = record {
+-- a scalar, of which these bytes begin with the one that comes
+pub scalar-begins : (d e : OpenDocument) (t : List ℕ) (c : ℕ) (w : List ℕ) (fs : List OpenFrame) → BeginsHere c d t fs
+    → Keeps d e → e.value ≡ d.value → e.begin ≡ d.position → HoldsScalar e e.token (c ∷ w)
+    → HasTakenIn anything e (t ++ c ∷ w)
+scalar-begins d e t c w fs h k value begin held = record {
   opened = in_scalar fs (length t);
-  known = known-on (with_byte c) anything d e t (c ∷ []) (in_scalar fs (length t)) (scalar-token fs (length t)) k
-      (follows-here c) h.known;
+  known = known-on (with_byte c) anything d e t (c ∷ w) (in_scalar fs (length t)) (scalar-token fs (length t)) k
+      (λ u comes. (w ++ u, refl)) h.known;
   held = λ unset. (
-    c ∷ [],
+    c ∷ w,
     record { front = t; is = refl; begin = refl; place = begin ∙ h.position },
     held,
     subst (λ v. IsLeft v (at_value awaits.Value fs)) (sym value) h.left,
@@ -370,7 +371,7 @@ pub word-begins : (d e : OpenDocument) (k : Name) (t : List ℕ) (c : ℕ) (fs :
     → HoldsWord k e.word (c ∷ []) → IsAllowed d.settings k → start_of c ≡ name_start k
     → HasTakenIn anything e (t ++ c ∷ [])
 word-begins d e k t c fs h keeps value begin tok is held ok starts =
-    scalar-begins d e t c fs h keeps value begin
+    scalar-begins d e t c [] fs h keeps value begin
     (subst (λ o. HoldsScalar e o (c ∷ [])) (sym tok)
     (subst (λ n. HoldsWord n e.word (c ∷ []) × IsAllowed e.settings n × BeginsAs (c ∷ []) (name_start n)) (sym is) (
       held,
@@ -378,21 +379,20 @@ word-begins d e k t c fs h keeps value begin tok is held ok starts =
       record { first = c; rest = []; is = refl; starts = starts },
     )))
 
--- a number
-pub number-begins : (d e : OpenDocument) (t : List ℕ) (c : ℕ) (fs : List OpenFrame) → BeginsHere c d t fs → Keeps d e
-    → e.value ≡ d.value → e.begin ≡ d.position → e.token ≡ token.Number → e.number ≡ d.number
-    → start_of c ≡ start.Number → HoldsNumber d.number (c ∷ []) → HasTakenIn anything e (t ++ c ∷ [])
-number-begins d e t c fs h keeps value begin tok is starts held =
-    scalar-begins d e t c fs h keeps value begin
-    (subst (λ o. HoldsScalar e o (c ∷ [])) (sym tok) (
-      subst (λ n. HoldsNumber n (c ∷ [])) (sym is) held,
-      record { first = c; rest = []; is = refl; starts = starts },
+-- a number, with bytes behind its first one
+pub number-begins : (d e : OpenDocument) (t : List ℕ) (c : ℕ) (w : List ℕ) (fs : List OpenFrame) → BeginsHere c d t fs
+    → Keeps d e → e.value ≡ d.value → e.begin ≡ d.position → e.token ≡ token.Number → e.number ≡ d.number
+    → start_of c ≡ start.Number → HoldsNumber d.number (c ∷ w) → HasTakenIn anything e (t ++ c ∷ w)
+number-begins d e t c w fs h keeps value begin tok is starts held =
+    scalar-begins d e t c w fs h keeps value begin
+    (subst (λ o. HoldsScalar e o (c ∷ w)) (sym tok) (
+      subst (λ n. HoldsNumber n (c ∷ w)) (sym is) held,
+      record { first = c; rest = w; is = refl; starts = starts },
     ))
 
 -- No other byte than the letter of a name begins a number that is no decimal one.
-pub decimal-begins : (c : ℕ) → start_of c ≡ start.Number → (c == 78) ≡ false → (c == 73) ≡ false
-    → begins_decimal c ≡ true
-decimal-begins c h n i = grind (arith, nat_tests, h, n, i)
+pub infinity-first : (c : ℕ) → start_of c ≡ start.Number → begins_decimal c ≡ false → (c == 78) ≡ false → c ≡ 73
+infinity-first c h named n = grind (arith, nat_tests, h, named, n)
 
 -- a name where names are not allowed
 pub name-denied : (d : OpenDocument) (k : Name) (t : List ℕ) (c : ℕ) (fs : List OpenFrame) → BeginsHere c d t fs
@@ -417,7 +417,7 @@ pub string-begins : (d e : OpenDocument) (t : List ℕ) (c : ℕ) (fs : List Ope
     → e.value ≡ d.value → e.begin ≡ d.position → e.token ≡ token.Text → c ≡ 34 → HasTaken e.string []
     → HasTakenIn anything e (t ++ c ∷ [])
 string-begins d e t c fs h keeps value begin tok is fresh =
-    scalar-begins d e t c fs h keeps value begin
+    scalar-begins d e t c [] fs h keeps value begin
     (subst (λ o. HoldsScalar e o (c ∷ [])) (sym tok) (string-held e c is fresh))
 
 -- a key
@@ -688,40 +688,16 @@ number-stays d m t h unset is text stage =
       position = h.position;
     }
 
--- more of them
-number-on : (n m : OpenNumber) (w v : List ℕ) → HoldsNumber n w → LeadsOver n.stage v m.stage
-    → string_bytes m.text ≡ string_bytes n.text ++ v
-    → (IsBegun (string_bytes n.text) n.stage → IsBegun (string_bytes m.text) m.stage) → HoldsNumber m (w ++ v)
-number-on n m w v h leads text begun =
-    let is = text ∙ ap (λ x. x ++ v) h.text in
-    record {
-      text = is;
-      begun = subst (λ x. IsBegun x m.stage) is (begun (subst (λ x. IsBegun x n.stage) (sym h.text) h.begun));
-      goes = λ names t b stands.
-          let a = stands-split t b (b + length (w ++ v)) w v stands in
-          let place = stands-length t b a.0 w a.1 in
-          let more : b + length (w ++ v) ≡ b + length w + length v = omega (arith, length-append w v) in
-          h.goes names t b (subst (λ j. Stands t b j w) place a.1)
-          ∙ leads names t (b + length w)
-          (subst (λ j. Stands t (b + length w) j v) more
-          (subst (λ j. Stands t j (b + length (w ++ v)) v) place a.2))
-          ∙ ap (number_from names m.stage t) (sym more);
-    }
-
 -- It goes on with these bytes.
 pub number-takes : (d : OpenDocument) (m : OpenNumber) (t v : List ℕ) → HasArrived d t → d.fault ≡ None
-    → d.token ≡ token.Number → LeadsOver d.number.stage v m.stage
-    → string_bytes m.text ≡ string_bytes d.number.text ++ v
-    → (IsBegun (string_bytes d.number.text) d.number.stage → IsBegun (string_bytes m.text) m.stage)
+    → d.token ≡ token.Number → ((w : List ℕ) → HoldsNumber d.number w → HoldsNumber m (w ++ v))
     → HasTakenIn anything (record d { number = m }) (t ++ v)
-number-takes d m t v h unset is leads text begun =
+number-takes d m t v h unset is more =
     let x = number-open d t h unset is in
     let e : OpenDocument = record d { number = m } in
     token-on d t token.Number x e v record { settings = refl; fault = refl; first = refl } refl refl
-    (subst (λ k. HoldsScalar e k (x.bytes ++ v)) (sym is) (
-      number-on d.number m x.bytes v x.held.0 leads text begun,
-      begins-more x.bytes v start.Number x.held.1,
-    ))
+    (subst (λ k. HoldsScalar e k (x.bytes ++ v)) (sym is)
+    (more x.bytes x.held.0, begins-more x.bytes v start.Number x.held.1))
 
 module _ (d : OpenDocument) (t : List ℕ) (x : Unfinished d t token.Number) (c : ℕ) where
   -- what is said of the byte behind its bytes
@@ -756,30 +732,37 @@ module _ (d : OpenDocument) (t : List ℕ) (x : Unfinished d t token.Number) (c 
       (first-stands d t token.Number x start.Number x.held.1 (c ∷ u)) k i x.held.1.starts
       (extent-by w leads p.allow_inf_nan u ∙ fails p.allow_inf_nan (t ++ c ∷ u)))
 
-  module _ (m : OpenNumber) where
-    -- or ends before the byte,
-    pub number-ends : Leads d.number.stage c went.Over → string_bytes m.text ≡ string_bytes d.number.text
-        → IsReadAs (record d { number = m }) (with_byte c) t (length x.frames) x.begin (own_number (string_bytes m.text))
-    number-ends leads text =
-        subst (λ w. IsReadAs d (with_byte c) t (length x.frames) x.begin (own_number w)) (sym (text ∙ x.held.0.text))
-        (number-reads leads)
+  -- or ends before the byte,
+  pub number-ends : Leads d.number.stage c went.Over
+      → IsReadAs d (with_byte c) t (length x.frames) x.begin (own_number (string_bytes d.number.text))
+  number-ends leads =
+      subst (λ w. IsReadAs d (with_byte c) t (length x.frames) x.begin (own_number w)) (sym x.held.0.text)
+      (number-reads leads)
 
-    -- or its minus stands alone.
-    pub number-minus : x.bytes ≡ 45 ∷ [] → HoldsMinus (record d { number = m }) t x.frames x.begin
-    number-minus minus = record {
-      front = x.from.front;
-      is = x.from.is ∙ ap (λ w. x.from.front ++ w) minus;
-      begin = x.from.begin;
-      place = x.from.place;
-      left = x.left;
-      low = x.low;
-      room = x.room;
-    }
+  -- or its minus stands alone.
+  pub number-minus : x.bytes ≡ 45 ∷ [] → HoldsMinus d t x.frames x.begin
+  number-minus minus = record {
+    front = x.from.front;
+    is = x.from.is ∙ ap (λ w. x.from.front ++ w) minus;
+    begin = x.from.begin;
+    place = x.from.place;
+    left = x.left;
+    low = x.low;
+    room = x.room;
+  }
 
 -- ---- a number that lies whole in a piece, with the byte behind it
 
-decimal-starts : (c : ℕ) → begins_decimal c ≡ true → start_of c ≡ start.Number
+pub decimal-starts : (c : ℕ) → begins_decimal c ≡ true → start_of c ≡ start.Number
 decimal-starts c h = grind (arith, nat_tests, h)
+
+-- the bytes of a piece from a place on begin with the one there
+pub range-first : (piece : List ℕ) (at e : ℕ) → at < e → e ≤ length piece
+    → slice_range piece at e ≡ get_or piece at 0 ∷ slice_range piece (at + 1) e
+range-first piece at e lt le =
+    slice_range-split piece at (at + 1) (omega arith) e (omega arith)
+    ∙ ap (λ w. w ++ slice_range piece (at + 1) e)
+    (slice-one piece at (get_or piece at 0) (slice_get-get_or piece at 0 (omega arith)))
 
 module _ (d : OpenDocument) (t : List ℕ) (fs : List OpenFrame) (piece : List ℕ) (at : ℕ) (v : Tree) (e : ℕ)
     (here : BeginsHere (get_or piece at 0) d t fs) (h : IsNumberWithin piece at v e) where
@@ -789,13 +772,8 @@ module _ (d : OpenDocument) (t : List ℕ) (fs : List OpenFrame) (piece : List �
   abbrev bytes : List ℕ
   bytes = slice_range piece at e
 
-  stands-first : slice_get piece at ≡ Some first
-  stands-first = slice_get-get_or piece at 0 (omega (arith, h.ends.begins, h.ends.within))
-
   bytes-are : bytes ≡ first ∷ slice_range piece (at + 1) e
-  bytes-are =
-      slice_range-split piece at (at + 1) (omega arith) e (omega (arith, h.ends.begins))
-      ∙ ap (λ w. w ++ slice_range piece (at + 1) e) (slice-one piece at first stands-first)
+  bytes-are = range-first piece at e (omega (arith, h.ends.begins)) (omega (arith, h.ends.within))
 
   bytes-long : length bytes ≡ e - at
   bytes-long =

@@ -22,7 +22,8 @@ use Rattle.jiter_steps.specs.declared.parse.Shape.{Shape}
 use Rattle.jiter_value.specs.Arrived.{Arrived, at_value, between_parts, at_end, owned, HasRead, IsBeforeValue, IsBetweenParts}
 use Rattle.jiter_value.specs.OpenDocument.{EndsRight, Follows, HasTakenIn, IsAnswered, IsEnded, IsFaulty, IsReadAs, IsReading, IsRefused, Known}
 use Rattle.jiter_value.specs.OpenDocument.{Next, Comes, Opened, ReadsAt, between_tokens, in_scalar, noted_in, opened_to}
-use Rattle.jiter_value.specs.OpenDocument.{BeginsAs, HasArrived, HoldsNumber, HoldsWord, IsAllowed, IsOver}
+use Rattle.jiter_scan.specs.OpenNumber.{HoldsNumber}
+use Rattle.jiter_value.specs.OpenDocument.{BeginsAs, HasArrived, HoldsWord, IsAllowed, IsOver}
 use Rattle.jiter_value.specs.OpenDocument.{BeginsHere, Holding, in_key, HoldsScalar, StandsAt, anything, strictly, with_byte, with_first}
 use Rattle.jiter_value.specs.OpenValue.{Goes, IsEnding, ClosesBefore, ClosesOver}
 use Rattle.jiter_value.specs.OpenValue.{BeginsScalar, EndsHere, Everywhere, IsLeft, TakesByte, behind_value, completed, passed}

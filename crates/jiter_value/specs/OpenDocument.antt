@@ -1,19 +1,18 @@
 -- A document that arrives in pieces: what its bytes so far leave open, and what they answer whatever comes behind them.
-use Rattle.std.specs.Prelude.{◌≡◌, ◌⊎◌, ℕ, ◌+◌, ◌-◌, ◌≤◌, ◌<◌, Bool, true, false, List, [], ◌∷◌, ◌++◌, drop, length, map}
-use Rattle.std.specs.Prelude.{slice_get, slice_index, slice_range, string_bytes, Option, Some, None}
+use Rattle.std.specs.Prelude.{◌≡◌, ◌⊎◌, ℕ, ◌+◌, ◌-◌, ◌≤◌, ◌<◌, true, false, List, [], ◌∷◌, ◌++◌, drop, length, map}
+use Rattle.std.specs.Prelude.{slice_get, slice_index, slice_range, Option, Some, None}
 use Rattle.jiter_scan.specs.Ascii as ascii
 use Rattle.jiter_scan.specs.Kind.{Kind, expected_value, fault_kind}
 use Rattle.jiter_scan.specs.Number.{Number, number_value}
 use Rattle.jiter_scan.specs.NumberReading.{number_extent}
 use Rattle.jiter_scan.specs.NumberWithin.{EndsWithin}
-use Rattle.jiter_scan.specs.OpenNumber.{IsBegun, begins_decimal, number_from}
+use Rattle.jiter_scan.specs.OpenNumber.{HoldsNumber, begins_decimal}
 use Rattle.jiter_scan.specs.OpenWord.{word_from}
 use Rattle.jiter_scan.specs.PartialMode.{is_active}
 use Rattle.jiter_scan.specs.Scanned.{failed}
 use Rattle.jiter_scan.specs.Stands.{Stands}
 use Rattle.jiter_scan.specs.declared.errors.Fault.{Fault}
 use Rattle.jiter_scan.specs.declared.errors.FaultKind.{FaultKind}
-use Rattle.jiter_scan.specs.declared.open_number.OpenNumber.{OpenNumber}
 use Rattle.jiter_scan.specs.declared.open_word.OpenWord.{OpenWord}
 use Rattle.jiter_scan.specs.declared.partial_mode.PartialMode.TheVariants.{Off}
 use Rattle.jiter_steps.specs.Blank.{past_blanks}
@@ -72,14 +71,7 @@ EndsRight t (between_tokens (at_end v n)) =
     (n ≤ length t) × ((u : List ℕ) → past_blanks (t ++ u) (length t - n) ≡ past_blanks (t ++ u) (length t))
 EndsRight t other = Unit {0}
 
--- the bytes w, wherever they stand, begin a number that has come so far
-pub record HoldsNumber (n : OpenNumber) (w : List ℕ) : Type 0 where
-  pub text : string_bytes n.text ≡ w
-  pub begun : IsBegun w n.stage
-  pub goes : (names : Bool) (t : List ℕ) (b : ℕ) → Stands t b (b + length w) w
-      → number_extent names t b ≡ number_from names n.stage t (b + length w)
-
--- and the word of a name
+-- the bytes w, wherever they stand, begin the word of a name that has come so far
 pub record HoldsWord (k : Name) (o : OpenWord) (w : List ℕ) : Type 0 where
   pub word : o.word.now ≡ name_word k
   pub spelled : w ++ drop o.seen o.word.now ≡ name_bytes k

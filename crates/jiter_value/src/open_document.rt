@@ -14,7 +14,7 @@ ghost use Rattle.jiter_steps.specs.Tree.{Text, string};
 ghost use Rattle.jiter_value.specs.Arrived.{Arrived, at_value};
 ghost use Rattle.jiter_value.specs.Names.{name_start};
 ghost use Rattle.jiter_value.specs.OpenDocument.{BeginsHere, Follows, HasArrived, HasTakenIn, HoldsMinus};
-ghost use Rattle.jiter_value.specs.OpenDocument.{HoldsNumber, IsAllowed, IsEnded, IsIn, IsOver, IsReadAs};
+ghost use Rattle.jiter_value.specs.OpenDocument.{IsAllowed, IsEnded, IsIn, IsOver, IsReadAs};
 ghost use Rattle.jiter_value.specs.OpenDocument.{IsRefused, Known, MayRefuseAt, NameBegins, Next, Opened, StandsAt, Stays};
 ghost use Rattle.jiter_value.specs.OpenDocument.{StaysSo, Takes, WordBegins, anything, in_scalar, noted_in};
 ghost use Rattle.jiter_value.specs.OpenDocument.{own_number, with_byte, with_first, with_token};
@@ -178,7 +178,7 @@ impl OpenDocument {
     }
 
     // A token begins with the next byte.
-    fn begin_token(&mut self, token: Token)
+    pub(crate) fn begin_token(&mut self, token: Token)
         ensures { self.new ≡ with_token self.old self.old.position token }
     {
         self.begin = self.position;
@@ -224,36 +224,34 @@ impl OpenDocument {
         }
     }
 
-    // A number begins, of which the first byte was taken, or a name.
-    fn begin_number(&mut self, byte: u8)
+    // The name of a float begins with the byte.
+    fn begin_float_name(&mut self, byte: u8)
         requires starts { start_of byte ≡ Start.Number }
+        requires named { begins_decimal byte ≡ false }
         requires unset { self.old.fault ≡ None }
         ensures begun { (t : List ℕ) → (fs : List OpenFrame) → BeginsHere byte self.old t fs
-            → (begins_decimal byte ≡ true → HoldsNumber self.old.number (byte ∷ []))
             → HasTakenIn anything self.new (t ++ byte ∷ []) }
         ensures same { StaysSo self.old self.new }
     {
         if byte == b'N' {
             self.begin_name(Name::NaN);
-        } else if byte == b'I' {
-            self.begin_name(Name::Infinity);
         } else {
-            self.begin_token(Token::Number);
+            self.begin_name(Name::Infinity);
         }
     }
 
-    // A scalar begins with the byte.
+    // Another scalar than a decimal number begins with the byte.
     pub(crate) fn begin_scalar(&mut self, byte: u8)
         requires starts { IsScalarStart (start_of byte) }
+        requires named { begins_decimal byte ≡ false }
         requires unset { self.old.fault ≡ None }
         ensures begun { (t : List ℕ) → (fs : List OpenFrame) → BeginsHere byte self.old t fs
-            → (begins_decimal byte ≡ true → HoldsNumber self.old.number (byte ∷ []))
             → HasTakenIn anything self.new (t ++ byte ∷ []) }
         ensures same { StaysSo self.old self.new }
     {
         match start_of(byte) {
             Start::String => self.begin_string(Token::Text),
-            Start::Number => self.begin_number(byte),
+            Start::Number => self.begin_float_name(byte),
             Start::Literal(literal) => self.begin_word(Name::Literal(literal)),
             _ => unreachable!(),
         }
@@ -358,28 +356,7 @@ impl OpenDocument {
         }
     }
 
-    // Takes a byte of a number, or behind it.
-    fn take_number_byte(&mut self, byte: u8) -> Result<(), Refused>
-        requires token { IsIn self.old Token.Number }
-        requires room { self.old.position + 1 < 2 ^ 64 }
-        ensures taken { IfOk result (λ _. Takes self.old self.new (byte ∷ [])) }
-        ensures refused { OnErr result (Stays self.old self.new) }
-        ensures same { StaysSo self.old self.new }
-    {
-        match self.number.next(byte)? {
-            NumberWent::Taken(_) => {}
-            NumberWent::Over => {
-                self.put_number();
-                self.behind(byte);
-            }
-            NumberWent::Named => self.take_name(),
-            NumberWent::Invalid => self.refuse(FaultKind::InvalidNumber, self.position),
-            NumberWent::TooLong => self.refuse(FaultKind::NumberOutOfRange, self.position + 1),
-        }
-        Ok(())
-    }
-
-    // Takes digits of a number from the place `at` on, and says how many, or takes another byte of it, or behind it.
+    // Takes the bytes of a number from the place `at` on, and says how many, or takes the byte behind it.
     fn take_number(&mut self, piece: &[u8], at: usize) -> Result<usize, Refused>
         requires within { at < length piece.now }
         requires token { IsIn self.old Token.Number }
@@ -389,11 +366,16 @@ impl OpenDocument {
         ensures refused { OnErr result (Stays self.old self.new) }
         ensures same { StaysSo self.old self.new }
     {
-        let count = self.number.digits(piece, at)?;
-        if 0 < count {
-            return Ok(count);
+        match self.number.next(piece[at]) {
+            NumberWent::Taken(stage) => return self.number.more(stage, piece, at),
+            NumberWent::Over => {
+                self.put_number();
+                self.behind(piece[at]);
+            }
+            NumberWent::Named => self.take_name(),
+            NumberWent::Invalid => self.refuse(FaultKind::InvalidNumber, self.position),
+            NumberWent::TooLong => self.refuse(FaultKind::NumberOutOfRange, self.position + 1),
         }
-        self.take_number_byte(piece[at])?;
         Ok(1)
     }
 

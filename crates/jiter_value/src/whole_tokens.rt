@@ -1,16 +1,17 @@
 //! A number, a literal, a string or a key that lies whole in a piece of a document that arrives (RFC 8259, 3, 6 and 7): it
 //! is taken at once.
 ghost use Rattle.std.specs.Prelude.{◌≡◌, ◌+◌, ◌-◌, ◌^◌, ◌<◌, ◌≤◌, ◌∷◌, ◌++◌, [], IfOk, IfSome, List, OnErr, length};
-ghost use Rattle.std.specs.Prelude.{None, OnOk, false, slice_index, slice_range, string_bytes, true, ℕ};
+ghost use Rattle.std.specs.Prelude.{None, false, slice_index, slice_range, string_bytes, true, ℕ};
 ghost use Rattle.std.specs.Str.{IsAscii};
 ghost use Rattle.jiter_scan.specs.NumberDecoder.{number_view};
-ghost use Rattle.jiter_scan.specs.OpenNumber.{begins_decimal};
+ghost use Rattle.jiter_scan.specs.OpenNumber.{HoldsNumber, begins_decimal};
 ghost use Rattle.jiter_steps.specs.Literal.{start_of};
 ghost use Rattle.jiter_steps.specs.Node.{number_tree};
 ghost use Rattle.jiter_steps.specs.Tree.{float, int};
 ghost use Rattle.jiter_steps.specs.OpenString.{IsTextWithin};
 ghost use Rattle.jiter_steps.specs.declared.parse.Start.{Start};
-ghost use Rattle.jiter_value.specs.OpenDocument.{BeginsHere, EndsBefore, IsScalarWithin, HasArrived, HasTakenIn, HoldsNumber, IsIn, IsNumberWithin};
+ghost use Rattle.jiter_value.specs.OpenDocument.{BeginsHere, EndsBefore, HasArrived, HasTakenIn, HoldsNumber, IsIn};
+ghost use Rattle.jiter_value.specs.OpenDocument.{IsNumberWithin, IsScalarWithin};
 ghost use Rattle.jiter_value.specs.OpenDocument.{Meets, Stays, StaysSo, Takes, anything};
 ghost use Rattle.jiter_value.specs.Owned.{owned_text, tree_as};
 ghost use Rattle.jiter_value.specs.Spine.{OpenFrame};
@@ -32,6 +33,9 @@ use jiter_scan::{NumberAny, NumberInt};
 use jiter_steps::open_string::text_within;
 use jiter_steps::parse::{Literal, Start, start_of};
 use jiter_steps::plain::plain_literal_end;
+
+// A number that is not known to be short is looked for where so many bytes are left in a piece.
+const LONG_REACH: usize = 33;
 
 // A number that was read as a value, if it is an integer of 64 signed bits or its text is short. It takes no memory.
 fn short_value(number: NumberAny<'_>) -> Option<JsonValue<'static>>
@@ -78,10 +82,10 @@ impl OpenDocument {
         self.value.next(byte)
     }
 
-    // Takes the byte, which is this where it comes. The number that it may begin is begun.
+    // Takes the byte, which is this where it comes, and begins no decimal number.
     fn follow(&mut self, went: Went, byte: u8)
         requires met { (t : List ℕ) × Meets byte self.old t went }
-        requires held { went ≡ Went.Scalar → begins_decimal byte ≡ true → HoldsNumber self.old.number (byte ∷ []) }
+        requires named { went ≡ Went.Scalar → begins_decimal byte ≡ false }
         requires unset { self.old.fault ≡ None }
         ensures taken { (t : List ℕ) → Meets byte self.old t went → HasTakenIn anything self.new (t ++ byte ∷ []) }
         ensures same { StaysSo self.old self.new }
@@ -96,52 +100,10 @@ impl OpenDocument {
         }
     }
 
-    // The number that the byte begins, if it begins one, is begun: it is no part of what is read so far.
-    #[inline(always)]
-    fn hold(&mut self, byte: u8) -> Result<(), Refused>
-        requires token { IsIn self.old Token.Nothing }
-        ensures held { OnOk result (begins_decimal byte ≡ true → HoldsNumber self.new.number (byte ∷ [])) }
-        ensures stays { Stays self.old self.new }
-        ensures token { IsIn self.new Token.Nothing }
-        ensures same { StaysSo self.old self.new }
-    {
-        if begins_decimal(byte) {
-            self.number.clear();
-            self.number.begin(byte)?;
-        }
-        Ok(())
-    }
-
-    // Takes the byte alone, of what it begins there.
-    fn begin_at(&mut self, byte: u8) -> Result<(), Refused>
-        requires token { IsIn self.old Token.Nothing }
-        ensures taken { IfOk result (λ _. Takes self.old self.new (byte ∷ [])) }
-        ensures refused { OnErr result (Stays self.old self.new) }
-        ensures same { StaysSo self.old self.new }
-    {
-        self.hold(byte)?;
-        let went = self.look(byte)?;
-        self.follow(went, byte);
-        Ok(())
-    }
-
-    // The same at a place of a piece: so many bytes are taken.
+    // Takes the byte at a place of a piece, alone of what it begins there, which is no decimal number.
     fn step_byte(&mut self, piece: &[u8], at: usize) -> Result<usize, Refused>
         requires within { at < length piece.now }
-        requires token { IsIn self.old Token.Nothing }
-        ensures taken { IfOk result (λ n. Takes self.old self.new (slice_range piece.now at (at + n))) }
-        ensures part { IfOk result (λ n. (0 < n) × (at + n ≤ length piece.now)) }
-        ensures refused { OnErr result (Stays self.old self.new) }
-        ensures same { StaysSo self.old self.new }
-    {
-        self.begin_at(piece[at])?;
-        Ok(1)
-    }
-
-    // The same of a byte that begins no decimal number.
-    fn step_sign(&mut self, piece: &[u8], at: usize) -> Result<usize, Refused>
-        requires within { at < length piece.now }
-        requires other { begins_decimal (slice_index piece.now at) ≡ false }
+        requires named { begins_decimal (slice_index piece.now at) ≡ false }
         requires token { IsIn self.old Token.Nothing }
         ensures taken { IfOk result (λ n. Takes self.old self.new (slice_range piece.now at (at + n))) }
         ensures part { IfOk result (λ n. (0 < n) × (at + n ≤ length piece.now)) }
@@ -154,6 +116,46 @@ impl OpenDocument {
             went => self.follow(went, byte),
         }
         Ok(1)
+    }
+
+    // The number that begins at a place of a piece is begun, with its bytes there: it is no part of what is read so far.
+    #[inline(always)]
+    fn hold(&mut self, piece: &[u8], at: usize) -> Result<usize, Refused>
+        requires within { at < length piece.now }
+        requires begins { begins_decimal (slice_index piece.now at) ≡ true }
+        requires token { IsIn self.old Token.Nothing }
+        ensures part { IfOk result (λ n. (0 < n) × (at + n ≤ length piece.now)) }
+        ensures held { IfOk result (λ n. HoldsNumber self.new.number (slice_range piece.now at (at + n))) }
+        ensures stays { Stays self.old self.new }
+        ensures token { IsIn self.new Token.Nothing }
+        ensures same { StaysSo self.old self.new }
+    {
+        self.number.clear();
+        self.number.begin(piece, at)
+    }
+
+    // Takes the bytes of a number that begins there, as far as the piece has them.
+    fn begin_number(&mut self, piece: &[u8], at: usize) -> Result<usize, Refused>
+        requires within { at < length piece.now }
+        requires begins { begins_decimal (slice_index piece.now at) ≡ true }
+        requires token { IsIn self.old Token.Nothing }
+        ensures taken { IfOk result (λ n. Takes self.old self.new (slice_range piece.now at (at + n))) }
+        ensures part { IfOk result (λ n. (0 < n) × (at + n ≤ length piece.now)) }
+        ensures refused { OnErr result (Stays self.old self.new) }
+        ensures same { StaysSo self.old self.new }
+    {
+        let count = self.hold(piece, at)?;
+        let byte = piece[at];
+        match self.look(byte)? {
+            Went::Scalar => {
+                self.begin_token(Token::Number);
+                Ok(count)
+            }
+            went => {
+                self.follow(went, byte);
+                Ok(1)
+            }
+        }
     }
 
     // A number of so many bytes is put, and the byte behind it, which ended it, is taken.
@@ -248,7 +250,7 @@ impl OpenDocument {
         }
     }
 
-    // Takes a number that may be long, or may not lie whole in the piece: then its first byte.
+    // Takes a number that may be long, or may not lie whole in the piece: then its bytes there.
     #[inline(never)]
     fn step_long_number(&mut self, piece: &[u8], at: usize) -> Result<usize, Refused>
         requires within { at < length piece.now }
@@ -260,12 +262,15 @@ impl OpenDocument {
         ensures refused { OnErr result (Stays self.old self.new) }
         ensures same { StaysSo self.old self.new }
     {
+        if piece.len() - at < LONG_REACH {
+            return self.begin_number(piece, at);
+        }
         if let Some((number, end)) = number_within(piece, at) {
             if let Some(value) = short_value(number) {
                 return self.whole_number(piece, at, value, end);
             }
         }
-        self.step_byte(piece, at)
+        self.begin_number(piece, at)
     }
 
     // Takes a number, all of it where it lies whole in the piece and is short.
@@ -286,7 +291,7 @@ impl OpenDocument {
             }
             ShortWithin::Float(end) => match short_float(&piece[at..end]) {
                 Some(value) => self.whole_number(piece, at, value, end),
-                None => self.step_byte(piece, at),
+                None => self.begin_number(piece, at),
             },
             ShortWithin::Other => self.step_long_number(piece, at),
         }
@@ -296,6 +301,7 @@ impl OpenDocument {
     #[inline(always)]
     fn step_text(&mut self, piece: &[u8], at: usize) -> Result<usize, Refused>
         requires within { at < length piece.now }
+        requires named { begins_decimal (slice_index piece.now at) ≡ false }
         requires token { IsIn self.old Token.Nothing }
         requires room { self.old.position + (length piece.now - at) < 2 ^ 64 }
         ensures taken { IfOk result (λ n. Takes self.old self.new (slice_range piece.now at (at + n))) }
@@ -350,6 +356,7 @@ impl OpenDocument {
     ) -> Result<usize, Refused>
         requires within { at < length piece.now }
         requires begins { start_of (slice_index piece.now at) ≡ Start.Literal literal }
+        requires named { begins_decimal (slice_index piece.now at) ≡ false }
         requires token { IsIn self.old Token.Nothing }
         requires room { self.old.position + (length piece.now - at) < 2 ^ 64 }
         ensures taken { IfOk result (λ n. Takes self.old self.new (slice_range piece.now at (at + n))) }
@@ -390,7 +397,7 @@ impl OpenDocument {
         match start_of(byte) {
             Start::String => self.step_text(piece, at),
             Start::Literal(literal) => self.step_literal(piece, at, literal),
-            _ => self.step_sign(piece, at),
+            _ => self.step_byte(piece, at),
         }
     }
 }

@@ -1,26 +1,30 @@
-use Rattle.std.proofs.Common.{◌∷◌, ◌++◌, [], refl, subst, sym}
-use Rattle.std.proofs.lemmas.Bool.{ne_eqb}
-use Rattle.jiter_value.specs.OpenDocument.{HasTakenIn, NameBegins, anything}
-use Rattle.jiter_value.specs.declared.names.Name.TheVariants as name
-use Rattle.jiter_value.proofs.DocumentTokens.{decimal-begins, infinity-begins, nan-begins, number-begins}
+use Rattle.std.proofs.Common.{◌+◌, ◌++◌, ◌∷◌, arith, get_or, refl, subst, sym}
+use Rattle.std.specs.Prelude.{slice_range}
+use Rattle.jiter_scan.specs.OpenNumber.{HoldsNumber}
+use Rattle.jiter_value.specs.OpenDocument.{HasTakenIn, anything}
+use Rattle.jiter_value.proofs.DocumentBytes.{meets-scalar, one-byte}
+use Rattle.jiter_value.proofs.DocumentTokens.{decimal-starts, number-begins, range-first}
 use Rattle.jiter_value.proofs.open_document.OpenDocument.begin_number.Goals as goal
 
--- the first letter of a name
-pub returns-then-byte-eq78-clause-begun : goal.returns-then-byte-eq78-clause-begun
-returns-then-byte-eq78-clause-begun c = λ t fs here held.
-    c.begin_name.ensures.begun t c.args.byte fs here
-    (subst (NameBegins name.NaN) (sym c.if-byte-eq78.true) nan-begins)
+pub returns-in-Scalar-clause-taken : goal.returns-in-Scalar-clause-taken
+returns-in-Scalar-clause-taken c = λ t arrived.
+    let d = c.look.new.self in
+    let piece = c.args.piece.now in
+    let at = c.args.at in
+    let e = at + c.in_ok-count.count in
+    let first = get_or piece at 0 in
+    let hold = c.in_ok-count.ensures in
+    let m = c.in_ok-went.ensures.met t (hold.stays t arrived) in
+    let b = meets-scalar first d t c.in_ok-went.went m c.in-Scalar.is in
+    let is = range-first piece at e (omega (arith, hold.part.0)) hold.part.1 in
+    let held = subst (HoldsNumber d.number) is
+    (subst (λ n. HoldsNumber n (slice_range piece at e)) (sym c.in_ok-went.ensures.number) hold.held) in
+    subst (λ w. HasTakenIn anything c.begin_token.new.self (t ++ w)) (sym is)
+    (subst (λ x. HasTakenIn anything x (t ++ first ∷ slice_range piece (at + 1) e)) (sym c.begin_token.ensures)
+    (number-begins d _ t first (slice_range piece (at + 1) e) b.0 b.1 record { settings = refl; fault = refl; first = refl }
+    refl refl refl refl (decimal-starts first c.requires.begins) held))
 
-pub returns-then-byte-eq73-clause-begun : goal.returns-then-byte-eq73-clause-begun
-returns-then-byte-eq73-clause-begun c = λ t fs here held.
-    c.begin_name-then-byte-eq73.ensures.begun t c.args.byte fs here
-    (subst (NameBegins name.Infinity) (sym c.if-byte-eq73.true) infinity-begins)
-
--- a decimal number
-pub returns-else-byte-eq73-clause-begun : goal.returns-else-byte-eq73-clause-begun
-returns-else-byte-eq73-clause-begun c = λ t fs here held.
-    subst (λ d. HasTakenIn anything d (t ++ c.args.byte ∷ [])) (sym c.begin_token.ensures)
-    (number-begins c.args.self.now _ t c.args.byte fs here record { settings = refl; fault = refl; first = refl } refl
-    refl refl refl c.requires.starts
-    (held (decimal-begins c.args.byte c.requires.starts (ne_eqb c.args.byte 78 c.if-byte-eq78.false)
-    (ne_eqb c.args.byte 73 c.if-byte-eq73.false))))
+pub returns-in_default-clause-taken : goal.returns-in_default-clause-taken
+returns-in_default-clause-taken c = λ t arrived.
+    one-byte c.follow.new.self c.args.piece.now c.args.at t c.requires.within
+    (c.follow.ensures.taken t (c.in_ok-went.ensures.met t (c.in_ok-count.ensures.stays t arrived)))

@@ -17,7 +17,6 @@ returns-in-Scalar-clause-taken c = λ t m.
     let goes = subst (Goes d.value m.state byte) c.in-Scalar.is m.goes in
     c.begin_scalar.ensures.begun t goes.frames
     (begins-here d d.value byte t m.state m.stands.known m.stands.unset m.stands.position goes)
-    (c.requires.held c.in-Scalar.is)
 
 pub returns-in-Wrong-clause-taken : goal.returns-in-Wrong-clause-taken
 returns-in-Wrong-clause-taken c = λ t m.

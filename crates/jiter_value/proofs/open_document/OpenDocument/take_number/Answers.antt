@@ -1,55 +1,99 @@
-use Rattle.std.proofs.Common.{◌≡◌, ◌++◌, ◌+◌, arith, get_or, subst, sym}
-use Rattle.std.proofs.lemmas.Option.{slice_get-get_or}
-use Rattle.std.proofs.lemmas.Result.{err_from_is_err_and}
+use Rattle.std.proofs.Common.{◌++◌, ◌∷◌, ◌+◌, ◌∙◌, ℕ, List, [], ap, get_or, refl, subst, sym}
+use Rattle.std.proofs.lemmas.Result.{IfOk-weaker, on_err_weaker}
 use Rattle.std.specs.Prelude.{slice_range}
-use Rattle.jiter_scan.proofs.Standing.{slice-one}
-use Rattle.jiter_value.specs.OpenDocument.{HasArrived, HasTakenIn, anything}
-use Rattle.jiter_value.proofs.DocumentTokens.{number-stays, number-takes}
+use Rattle.jiter_scan.specs.Kind.{invalid_number, number_out_of_range}
+use Rattle.jiter_scan.specs.OpenNumber.{Fits, HoldsNumber, Leads}
+use Rattle.jiter_scan.specs.Scanned.{failed}
+use Rattle.jiter_scan.specs.declared.open_number.Went.TheVariants as went
+use Rattle.jiter_value.specs.OpenDocument.{HasTakenIn, Takes, anything, in_scalar}
+use Rattle.jiter_value.proofs.DocumentBytes.{one-byte}
+use Rattle.jiter_value.proofs.DocumentNames.{minus-alone}
+use Rattle.jiter_value.proofs.DocumentTokens.{number-ends, number-minus, number-open, number-refused, number-stays}
+use Rattle.jiter_value.proofs.DocumentTokens.{number-takes}
 use Rattle.jiter_value.proofs.open_document.OpenDocument.take_number.Goals as goal
 
--- where memory is refused
-pub returns-in_err-count-clause-refused : goal.returns-in_err-count-clause-refused
-returns-in_err-count-clause-refused c =
+-- parts of the number
+pub returns-in-Taken-clause-taken : goal.returns-in-Taken-clause-taken
+returns-in-Taken-clause-taken c =
     let d = c.args.self.now in
-    let is = c.requires.token in
-    let refused = c.in_err-count.ensures.refused in
-    let e = err_from_is_err_and c.from_residual.result c.from_residual.ensures.1 in
-    rw (e.1)
-    (λ t h. number-stays d c.digits.new.self t h is.1 is.2 refused.0 refused.1)
-
--- digits
-pub returns-then-count-gt0-clause-taken : goal.returns-then-count-gt0-clause-taken
-returns-then-count-gt0-clause-taken c = λ t h.
-    let d = c.args.self.now in
-    let w = slice_range c.args.piece.now c.args.at (c.args.at + c.in_ok-count.count) in
-    let is = c.requires.token in
-    let digits = c.in_ok-count.ensures in
-    number-takes d c.digits.new.self t w h is.1 is.2 digits.leads digits.text digits.begun
-
--- another byte
-pub returns-in_err-take_number_byte-clause-refused : goal.returns-in_err-take_number_byte-clause-refused
-returns-in_err-take_number_byte-clause-refused c =
-    let d = c.args.self.now in
-    let m = c.digits.new.self in
-    let none : c.in_ok-count.count ≡ 0 = omega (arith, c.if-count-gt0.false) in
-    let same : m ≡ d.number = c.in_ok-count.ensures.none none in
-    let e = err_from_is_err_and c.from_residual-in_err-take_number_byte.result
-    c.from_residual-in_err-take_number_byte.ensures.1 in
-    rw (e.1)
-    (λ t h.
-    c.in_err-take_number_byte.ensures.refused t
-    (subst (λ n. HasArrived (record d { number = n }) t) (sym same) h))
-
-pub returns-clause-taken : goal.returns-clause-taken
-returns-clause-taken c = λ t h.
-    let d = c.args.self.now in
-    let m = c.digits.new.self in
+    let m = c.more.new.self in
     let piece = c.args.piece.now in
     let at = c.args.at in
-    let none : c.in_ok-count.count ≡ 0 = omega (arith, c.if-count-gt0.false) in
-    let same : m ≡ d.number = c.in_ok-count.ensures.none none in
-    let here = slice_get-get_or piece at 0 c.requires.within in
-    subst (λ w. HasTakenIn anything c.take_number_byte.new.self (t ++ w))
-    (sym (slice-one piece at (get_or piece at 0) here))
-    (c.in_ok-take_number_byte.ensures.taken t
-    (subst (λ n. HasArrived (record d { number = n }) t) (sym same) h))
+    let is = c.requires.token in
+    IfOk-weaker c.more.result
+    (λ n. (w : List ℕ) → HoldsNumber d.number w → HoldsNumber m (w ++ slice_range piece at (at + n)))
+    (λ n. Takes d (record d { number = m }) (slice_range piece at (at + n)))
+    (λ n held t h. number-takes d m t (slice_range piece at (at + n)) h is.1 is.2 held)
+    c.more.ensures.held
+
+pub returns-in-Taken-clause-refused : goal.returns-in-Taken-clause-refused
+returns-in-Taken-clause-refused c =
+    let is = c.requires.token in
+    on_err_weaker c.more.result
+    (λ same t h. number-stays c.args.self.now c.more.new.self t h is.1 is.2 same.0 same.1)
+    c.more.ensures.refused
+
+-- the number ends before the byte
+pub behind-requires-clause-read : goal.behind-requires-clause-read
+behind-requires-clause-read c =
+    let d = c.args.self.now in
+    let byte = get_or c.args.piece.now c.args.at 0 in
+    let is = c.requires.token in
+    let t = is.0.0 in
+    let x = number-open d t is.0.1 is.1 is.2 in (
+      t,
+      c.put_number.ensures.put byte t x.frames x.begin x.known is.1 x.left
+          (number-ends d t x byte (subst (Leads d.number.stage byte) c.in-Over.is c.next.ensures.leads)),
+    )
+
+pub returns-in-Over-clause-taken : goal.returns-in-Over-clause-taken
+returns-in-Over-clause-taken c = λ t h.
+    let d = c.args.self.now in
+    let byte = get_or c.args.piece.now c.args.at 0 in
+    let is = c.requires.token in
+    let x = number-open d t h is.1 is.2 in
+    one-byte c.behind.new.self c.args.piece.now c.args.at t c.requires.within
+    (c.behind.ensures.taken t
+    (c.put_number.ensures.put byte t x.frames x.begin x.known is.1 x.left
+    (number-ends d t x byte (subst (Leads d.number.stage byte) c.in-Over.is c.next.ensures.leads)))
+    (c.put_number.ensures.same.1 ∙ h.position))
+
+-- a name
+pub returns-in-Named-clause-taken : goal.returns-in-Named-clause-taken
+returns-in-Named-clause-taken c = λ t h.
+    let d = c.args.self.now in
+    let byte = get_or c.args.piece.now c.args.at 0 in
+    let is = c.requires.token in
+    let x = number-open d t h is.1 is.2 in
+    let fits = subst (Fits d.number.stage byte) c.in-Named.is c.next.ensures.fits in
+    one-byte c.take_name.new.self c.args.piece.now c.args.at t c.requires.within
+    (subst (λ b. HasTakenIn anything c.take_name.new.self (t ++ b ∷ [])) (sym fits.1)
+    (c.take_name.ensures.taken t x.frames x.begin x.known h.position
+    (number-minus d t x byte (minus-alone d.number x.bytes x.held.0 fits.0))))
+
+-- a byte that does not fit
+pub returns-in-Invalid-clause-taken : goal.returns-in-Invalid-clause-taken
+returns-in-Invalid-clause-taken c = λ t h.
+    let d = c.args.self.now in
+    let byte = get_or c.args.piece.now c.args.at 0 in
+    let is = c.requires.token in
+    let x = number-open d t h is.1 is.2 in
+    one-byte c.refuse.new.self c.args.piece.now c.args.at t c.requires.within
+    (c.refuse.ensures.refused anything anything t (byte ∷ []) (in_scalar x.frames x.begin) x.known (λ u comes. tt)
+    (number-refused d t x byte went.Invalid invalid_number d.position refl
+    (subst (Leads d.number.stage byte) c.in-Invalid.is c.next.ensures.leads)
+    (λ names u. ap (failed invalid_number) (sym h.position))))
+
+-- a digit too many
+pub returns-in-TooLong-clause-taken : goal.returns-in-TooLong-clause-taken
+returns-in-TooLong-clause-taken c = λ t h.
+    let d = c.args.self.now in
+    let byte = get_or c.args.piece.now c.args.at 0 in
+    let is = c.requires.token in
+    let x = number-open d t h is.1 is.2 in
+    one-byte c.refuse-in-TooLong.new.self c.args.piece.now c.args.at t c.requires.within
+    (c.refuse-in-TooLong.ensures.refused anything anything t (byte ∷ []) (in_scalar x.frames x.begin) x.known
+    (λ u comes. tt)
+    (number-refused d t x byte went.TooLong number_out_of_range (d.position + 1) refl
+    (subst (Leads d.number.stage byte) c.in-TooLong.is c.next.ensures.leads)
+    (λ names u. ap (λ i. failed number_out_of_range (i + 1)) (sym h.position))))

@@ -1,6 +1,6 @@
 use Rattle.std.proofs.Common.{get_or}
 use Rattle.jiter_value.proofs.DocumentBytes.{meets-taken, one-byte}
-use Rattle.jiter_value.proofs.open_document.OpenDocument.step_sign.Goals as goal
+use Rattle.jiter_value.proofs.open_document.OpenDocument.step_byte.Goals as goal
 
 pub returns-in-Taken-clause-taken : goal.returns-in-Taken-clause-taken
 returns-in-Taken-clause-taken c = λ t arrived.

@@ -1,0 +1,174 @@
+-- The parts of a number that arrives in pieces: each goes on with the ones before it.
+use Rattle.std.proofs.Common.{◌≡◌, ℕ, ◌+◌, ◌-◌, ◌≤◌, ◌||◌, ◌&&◌, Bool, true, false, not, List, [], ◌∷◌, ◌++◌}
+use Rattle.std.proofs.Common.{append_assoc, length, length-append, refl, sym, ap, ap₂, subst, ◌∙◌, arith}
+use Rattle.std.specs.Prelude.{slice_get, slice_range, string_bytes, Some, if◌then◌else◌}
+use Rattle.std.specs.List.{list_any}
+use Rattle.std.specs.Str.{IsAscii}
+use Rattle.std.proofs.lemmas.List.Folds.{list_any-append}
+use Rattle.std.proofs.lemmas.Option.{slice_get_within}
+use Rattle.std.proofs.lemmas.Str.{IsAscii-append}
+use Rattle.std.proofs.lemmas.Str.Ascii.{IsAscii-cons, IsAscii-nil}
+use Rattle.jiter_scan.specs.Digits.{digit_run_end}
+use Rattle.jiter_scan.specs.Number.{is_float_byte, is_integral}
+use Rattle.jiter_scan.specs.NumberReading.{number_extent}
+use Rattle.jiter_scan.specs.OpenNumber.{BeginsTo, digits_for, Fits, GoesTo, HoldsNumber, IsBegun, is_int_stage, Leads}
+use Rattle.jiter_scan.specs.OpenNumber.{LeadsOver, number_from, stage_behind}
+use Rattle.jiter_scan.specs.declared.open_number.OpenNumber.{OpenNumber}
+use Rattle.jiter_scan.specs.Stands.{Stands}
+use Rattle.jiter_scan.specs.Word.{Extent}
+use Rattle.jiter_scan.specs.declared.open_number.Stage.{Stage}
+use Rattle.jiter_scan.specs.declared.open_number.Went.TheVariants as went
+use Rattle.jiter_scan.proofs.NumberBytes.{digits-ascii}
+use Rattle.jiter_scan.proofs.NumberRuns.{digits-over, go-on, stage-int}
+use Rattle.jiter_scan.proofs.NumberValues.{digits-no_float}
+use Rattle.jiter_scan.proofs.OpenValues.{stands-last}
+use Rattle.jiter_scan.proofs.Standing.{slice-one, slice_range-split, stands-length, stands-split}
+
+-- ---- bytes that show a float
+neither : (x y : Bool) → (if (x || y) then false else true) ≡ ((if x then false else true) && (if y then false else true))
+neither true y = refl
+neither false y = refl
+
+integral-append : (w v : List ℕ) → is_integral (w ++ v) ≡ (is_integral w && is_integral v)
+integral-append w v =
+    ap (λ (b : Bool). if b then false else true) (list_any-append is_float_byte w v)
+    ∙ neither (list_any is_float_byte w) (list_any is_float_byte v)
+
+one-not : (x : Bool) → not x ≡ (if (x || false) then false else true)
+one-not true = refl
+one-not false = refl
+
+all-of : (x y : Bool) → y ≡ true → x ≡ (x && y)
+all-of true y h = sym h
+all-of false y h = refl
+
+three : (x y z : Bool) → ((x && y) && z) ≡ (x && (y && z))
+three true y z = refl
+three false y z = refl
+
+-- ---- one part behind the other
+
+-- what is read where some bytes stand, and others behind them
+joined : (read : Bool → List ℕ → ℕ → Extent) (m new : Stage) (w v : List ℕ)
+    → ((names : Bool) (t : List ℕ) (j : ℕ) → Stands t j (j + length w) w
+    → read names t j ≡ number_from names m t (j + length w))
+    → LeadsOver m v new
+    → (names : Bool) (t : List ℕ) (j : ℕ) → Stands t j (j + length (w ++ v)) (w ++ v)
+    → read names t j ≡ number_from names new t (j + length (w ++ v))
+joined read m new w v first leads = λ names t j h.
+    let r = stands-split t j (j + length (w ++ v)) w v h in
+    let place = stands-length t j r.0 w r.1 in
+    let more : j + length (w ++ v) ≡ j + length w + length v = omega (arith, length-append w v) in
+    first names t j (subst (λ k. Stands t j k w) place r.1)
+    ∙ leads names t (j + length w)
+    (subst (λ k. Stands t (j + length w) k v) more
+    (subst (λ k. Stands t k (j + length (w ++ v)) v) place r.2))
+    ∙ ap (number_from names new t) (sym more)
+
+over-over : (s m new : Stage) (w v : List ℕ) → LeadsOver s w m → LeadsOver m v new → LeadsOver s (w ++ v) new
+over-over s m new w v a b = joined (λ names t. number_from names s t) m new w v a b
+
+begins-over : (s new : Stage) (w v : List ℕ) → BeginsTo w s → LeadsOver s v new → BeginsTo (w ++ v) new
+begins-over s new w v a b = joined number_extent s new w v a b
+
+pub goes-on : (s m new : Stage) (t : List ℕ) (i j e : ℕ) → GoesTo s t i m j → GoesTo m t j new e → GoesTo s t i new e
+goes-on s m new t i j e a b =
+    let w = slice_range t i j in
+    let v = slice_range t j e in
+    let is : slice_range t i e ≡ w ++ v = slice_range-split t i j a.ahead e b.ahead in
+    record {
+      ahead = omega (arith, a.ahead, b.ahead);
+      within = b.within;
+      ascii = subst IsAscii (sym is) (IsAscii-append w v a.ascii b.ascii);
+      leads = subst (λ x. LeadsOver s x new) (sym is) (over-over s m new w v a.leads b.leads);
+      int = b.int ∙ ap (λ x. x && is_integral v) a.int ∙ three (is_int_stage s) (is_integral w) (is_integral v)
+          ∙ ap (λ x. is_int_stage s && x) (sym (ap is_integral is ∙ integral-append w v));
+    }
+
+-- ---- the parts
+
+-- one byte that is taken
+pub goes-byte : (s new : Stage) (t : List ℕ) (i b : ℕ) → slice_get t i ≡ Some b → Leads s b (went.Taken new)
+    → Fits s b (went.Taken new) → GoesTo s t i new (i + 1)
+goes-byte s new t i b here leads fits =
+    let one = sym (slice-one t i b here) in
+    record {
+      ahead = omega arith;
+      within = omega (arith, slice_get_within t i b here);
+      ascii = subst IsAscii one (IsAscii-cons b [] fits.0 IsAscii-nil);
+      leads = subst (λ w. LeadsOver s w new) one (λ names u j h. leads names u j h.0);
+      int = fits.1 ∙ ap (λ x. is_int_stage s && x) (one-not (is_float_byte b) ∙ ap is_integral one);
+    }
+
+-- digits
+pub goes-digits : (s : Stage) (t : List ℕ) (i n : ℕ) → n ≡ digits_for s (digit_run_end t i - i) → i + n ≤ length t
+    → GoesTo s t i (stage_behind s n) (i + n)
+goes-digits s t i n is within =
+    let w = slice_range t i (i + n) in
+    let run = go-on s t i n is within in
+    record {
+      ahead = omega arith;
+      within = within;
+      ascii = digits-ascii w run.digits;
+      leads = subst (LeadsOver s w) (ap (stage_behind s) run.long) (digits-over s w run.digits run.fits);
+      int = stage-int s n
+          ∙ all-of (is_int_stage s) (is_integral w)
+          (ap (λ (b : Bool). if b then false else true) (digits-no_float w run.digits));
+    }
+
+-- ---- a number that has begun
+
+-- bytes stand between those before them and those behind
+stands-between : (w v u : List ℕ) → Stands (w ++ (v ++ u)) (length w) (length w + length v) v
+stands-between w v u =
+    let t = w ++ (v ++ u) in
+    let r = stands-split t (length w) (length t) v u (stands-last w (v ++ u)) in
+    subst (λ j. Stands t (length w) j v) (stands-length t (length w) r.0 v r.1) r.1
+
+begun-goes : (w : List ℕ) (s new : Stage) (t : List ℕ) (i e : ℕ) → IsBegun w s → GoesTo s t i new e
+    → IsBegun (w ++ slice_range t i e) new
+begun-goes w s new t i e begun go =
+    let v = slice_range t i e in
+    let long : length (w ++ v) ≡ length w + length v = length-append w v in
+    record {
+      goes = λ names u.
+          let same : (w ++ v) ++ u ≡ w ++ (v ++ u) = append_assoc w v u in
+          ap (λ x. number_extent names x 0) same
+          ∙ begun.goes names (v ++ u)
+          ∙ go.leads names (w ++ (v ++ u)) (length w) (stands-between w v u)
+          ∙ ap₂ (number_from names new) (sym same) (sym long);
+      whole = integral-append w v ∙ ap (λ x. x && is_integral v) begun.whole ∙ sym go.int;
+    }
+
+-- It goes on,
+pub held-on : (n m : OpenNumber) (w t : List ℕ) (i e : ℕ) → HoldsNumber n w → GoesTo n.stage t i m.stage e
+    → string_bytes m.text ≡ string_bytes n.text ++ slice_range t i e → HoldsNumber m (w ++ slice_range t i e)
+held-on n m w t i e h go text =
+    let v = slice_range t i e in
+    record {
+      text = text ∙ ap (λ x. x ++ v) h.text;
+      begun = begun-goes w n.stage m.stage t i e h.begun go;
+      goes = begins-over n.stage m.stage w v h.goes go.leads;
+    }
+
+-- and so it does behind its first byte.
+pub held-first : (s : Stage) (m : OpenNumber) (t : List ℕ) (i b e : ℕ) → slice_get t i ≡ Some b
+    → ((names : Bool) (u : List ℕ) (j : ℕ) → slice_get u j ≡ Some b
+    → number_extent names u j ≡ number_from names s u (j + 1))
+    → is_int_stage s ≡ true → is_float_byte b ≡ false → GoesTo s t (i + 1) m.stage e
+    → string_bytes m.text ≡ slice_range t i e → HoldsNumber m (slice_range t i e)
+held-first s m t i b e here leads int float go text =
+    let v = slice_range t (i + 1) e in
+    let first : BeginsTo (b ∷ []) s = λ names u j h. leads names u j h.0 in
+    let is : (b ∷ []) ++ v ≡ slice_range t i e =
+    ap (λ x. x ++ v) (sym (slice-one t i b here)) ∙ sym (slice_range-split t i (i + 1) (omega arith) e go.ahead) in
+    let begun : IsBegun (b ∷ []) s =
+    record {
+      goes = λ names u. first names (b ∷ u) 0 (refl, refl);
+      whole = sym (one-not (is_float_byte b)) ∙ ap not float ∙ sym int;
+    } in
+    record {
+      text = text;
+      begun = subst (λ w. IsBegun w m.stage) is (begun-goes (b ∷ []) s m.stage t (i + 1) e begun go);
+      goes = subst (λ w. BeginsTo w m.stage) is (begins-over s m.stage (b ∷ []) v first go.leads);
+    }
