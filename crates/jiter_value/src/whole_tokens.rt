@@ -10,7 +10,7 @@ ghost use Rattle.jiter_steps.specs.Node.{number_tree};
 ghost use Rattle.jiter_steps.specs.Tree.{float, int};
 ghost use Rattle.jiter_steps.specs.OpenString.{IsTextWithin};
 ghost use Rattle.jiter_steps.specs.declared.parse.Start.{Start};
-ghost use Rattle.jiter_value.specs.OpenDocument.{BeginsHere, EndsBefore, HasArrived, HasTakenIn, HoldsNumber, IsIn};
+ghost use Rattle.jiter_value.specs.OpenDocument.{BeginsHere, EndsBefore, HasArrived, HasTakenIn, IsIn};
 ghost use Rattle.jiter_value.specs.OpenDocument.{IsNumberWithin, IsScalarWithin};
 ghost use Rattle.jiter_value.specs.OpenDocument.{Meets, Stays, StaysSo, Takes, anything};
 ghost use Rattle.jiter_value.specs.Owned.{owned_text, tree_as};
