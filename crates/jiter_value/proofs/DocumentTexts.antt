@@ -1,16 +1,16 @@
 -- A string or a key of a document that arrives, which lies whole in a piece.
 use Rattle.std.proofs.Common.{◌≡◌, ℕ, ◌+◌, ◌<◌, ◌≤◌, List, ◌∷◌, ◌++◌, length, get_or, refl, ap, ◌∙◌, arith}
-use Rattle.std.proofs.Common.{false, length-append}
+use Rattle.std.proofs.Common.{Bool, false, length-append}
 use Rattle.std.proofs.lemmas.Option.{slice_get-get_or}
 use Rattle.std.specs.Prelude.{slice_get, slice_range, Some}
 use Rattle.jiter_scan.proofs.Standing.{slice-one, slice_range-split}
+use Rattle.jiter_scan.specs.PartialMode.{allows_trailing_strings}
 use Rattle.jiter_scan.specs.Scanned.{taken}
 use Rattle.jiter_scan.specs.Stands.{Stands}
-use Rattle.jiter_steps.specs.Answer.{value_form}
 use Rattle.jiter_steps.specs.Node.{nesting_limit}
 use Rattle.jiter_steps.specs.OpenString.{IsTextWithin}
-use Rattle.jiter_steps.specs.StringReading.{Form, content_at, whole}
-use Rattle.jiter_steps.specs.Tree.{string}
+use Rattle.jiter_steps.specs.StringReading.{content_at, text_form}
+use Rattle.jiter_steps.specs.Tree.{Text, string}
 use Rattle.jiter_value.proofs.DocumentStrings.{key-done, scalar-done}
 use Rattle.jiter_value.proofs.DocumentTokens.{held-stands}
 use Rattle.jiter_value.specs.DocumentStrings.{IsKeyAs}
@@ -41,12 +41,14 @@ module _ (piece : List ℕ) (at : ℕ) (text : List ℕ) (e : ℕ) (h : IsTextWi
     stands : (u : List ℕ) → Stands (all u) (length t) (length t + length bytes) bytes
     stands u = held-stands t bytes (t ++ bytes) (length t) refl refl u
 
-    reads : (u : List ℕ) (form : Form)
-        → content_at form (all u) (length t + 1)
-        ≡ taken (record { owned = false; bytes = text }) (length (t ++ bytes))
-    reads u form =
+    abbrev it : Text
+    it = record { owned = h.owned; bytes = text }
+
+    reads : (u : List ℕ) (keep : Bool)
+        → content_at (text_form keep) (all u) (length t + 1) ≡ taken it (length (t ++ bytes))
+    reads u keep =
         let place : length t + length bytes ≡ length (t ++ bytes) = omega (arith, length-append t bytes) in
-        h.reads form (all u) (length t) (stands u) ∙ ap (taken (record { owned = false; bytes = text })) place
+        h.reads keep (all u) (length t) (stands u) ∙ ap (taken it) place
 
     quoted : (u : List ℕ) → slice_get (all u) (length t) ≡ Some 34
     quoted u = h.quoted (all u) (length t) (stands u)
@@ -55,11 +57,10 @@ module _ (piece : List ℕ) (at : ℕ) (text : List ℕ) (e : ℕ) (h : IsTextWi
     pub text-value : (depth : ℕ) → depth ≤ nesting_limit
         → IsReadAs d anything (t ++ bytes) depth (length t) (string (text_of text))
     text-value depth few = λ p u reading comes.
-        scalar-done p (all u) (length t) (quoted u) depth (length (t ++ bytes)) (record { owned = false; bytes = text })
-        few (reads u (value_form p.mode))
+        scalar-done p (all u) (length t) (quoted u) depth (length (t ++ bytes)) it few
+        (reads u (allows_trailing_strings p.mode))
 
     -- and as a key.
     pub text-key : IsKeyAs d anything (t ++ bytes) (length t) (text_of text)
     text-key = λ p u reading comes.
-        key-done p (all u) (length t) (quoted u) (length (t ++ bytes)) (record { owned = false; bytes = text })
-        (reads u whole)
+        key-done p (all u) (length t) (quoted u) (length (t ++ bytes)) it (reads u false)

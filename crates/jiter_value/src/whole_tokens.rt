@@ -228,7 +228,20 @@ impl OpenDocument {
         }
     }
 
-    // Takes a string or a key, all of it where it lies whole in the piece and holds no escape.
+    // The text of the string or key there, if it lies whole in the piece, and the place behind it.
+    #[inline(always)]
+    fn text_there(&mut self, piece: &[u8], at: usize) -> Result<Option<(String, usize)>, Refused>
+        requires within { at < length piece.now }
+        requires token { IsIn self.old Token.Nothing }
+        ensures text { IfOk result (λ found. IfSome found (λ x. IsTextWithin piece.now at (string_bytes x.0) x.1)) }
+        ensures stays { Stays self.old self.new }
+        ensures token { IsIn self.new Token.Nothing }
+        ensures same { StaysSo self.old self.new }
+    {
+        text_within(self.alloc, &mut self.tape, piece, at)
+    }
+
+    // Takes a string or a key, all of it where it lies whole in the piece.
     #[inline(always)]
     fn step_text(&mut self, piece: &[u8], at: usize) -> Result<usize, Refused>
         requires within { at < length piece.now }
@@ -238,7 +251,7 @@ impl OpenDocument {
         ensures refused { OnErr result (Stays self.old self.new) }
         ensures same { StaysSo self.old self.new }
     {
-        match text_within(self.alloc, piece, at)? {
+        match self.text_there(piece, at)? {
             Some((text, end)) => self.whole_text(piece, at, text, end),
             None => self.step_byte(piece, at),
         }
