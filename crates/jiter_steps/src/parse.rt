@@ -60,6 +60,7 @@ pub enum Start {
 }
 
 /// What kind of value the byte begins.
+#[inline(always)]
 pub fn start_of(byte: u8) -> Start
     ensures { result ≡ start_of byte }
 {

@@ -1,19 +1,22 @@
 -- What the next byte is to a document that arrives, where no token is unfinished.
-use Rattle.std.proofs.Common.{◌≡◌, ◌+◌, ◌<◌, ◌∷◌, ◌++◌, ℕ, List, [], get_or, length, subst, sym}
+use Rattle.std.proofs.Common.{◌≡◌, ◌+◌, ◌<◌, ◌≤◌, ◌∷◌, ◌++◌, ◌∙◌, ℕ, List, [], ap, append_assoc, arith, get_or, length, subst, sym}
 use Rattle.std.proofs.lemmas.Option.{slice_get-get_or}
 use Rattle.std.specs.Prelude.{IfOk, Result, Ok, Err, None, slice_range}
-use Rattle.jiter_scan.proofs.Standing.{slice-one}
+use Rattle.jiter_scan.proofs.Standing.{slice-one, slice_range-split}
+use Rattle.jiter_steps.specs.Node.{nesting_limit}
+use Rattle.jiter_steps.specs.Tree.{Tree}
 use Rattle.jiter_scan.specs.declared.memory.Refused.{Refused}
 use Rattle.jiter_value.specs.Arrived.{Arrived}
+use Rattle.jiter_value.specs.OpenDocument.{EndsBefore, Follows, IsReadAs, IsScalarWithin, between_tokens, with_byte}
 use Rattle.jiter_value.specs.OpenDocument.{BeginsHere, HasArrived, HasTakenIn, IsClosed, Meets, StandsAt, anything}
-use Rattle.jiter_value.specs.OpenValue.{BeginsKey, ClosesOne, Goes, IsLeft}
+use Rattle.jiter_value.specs.OpenValue.{BeginsKey, ClosesOne, Goes, IsLeft, TakesByte}
 use Rattle.jiter_value.specs.Spine.{OpenFrame}
 use Rattle.jiter_value.specs.declared.open_document.OpenDocument.{OpenDocument}
 use Rattle.jiter_value.specs.declared.open_document.Token.TheVariants as token
 use Rattle.jiter_value.specs.declared.open_value.OpenValue.{OpenValue}
 use Rattle.jiter_value.specs.declared.open_value.Went.{Went}
 use Rattle.jiter_value.specs.declared.open_value.Went.TheVariants as went
-use Rattle.jiter_value.proofs.Documents.{begins-here, between-before, stands-at}
+use Rattle.jiter_value.proofs.Documents.{begins-here, between-before, known-before, stands-at, taken-between, takes-byte}
 
 -- the container that was closed
 closes : (old new : OpenValue) (w : Went) → ClosesOne old new w → IsClosed new w
@@ -39,7 +42,13 @@ meets c d v t h unset none (Ok w) goes one =
     }
 meets c d v t h unset none (Err e) goes one = tt
 
--- A scalar begins with it,
+-- It is taken,
+pub meets-taken : (c : ℕ) (d : OpenDocument) (t : List ℕ) (w : Went) → Meets c d t w → w ≡ went.Taken
+    → HasTakenIn anything d (t ++ c ∷ [])
+meets-taken c d t w m is =
+    takes-byte d d.value c t m.state m.stands.known m.stands.token (subst (Goes d.value m.state c) is m.goes)
+
+-- or a scalar begins with it,
 pub meets-scalar : (c : ℕ) (d : OpenDocument) (t : List ℕ) (w : Went) → Meets c d t w → w ≡ went.Scalar
     → (fs : List OpenFrame) × BeginsHere c d t fs
 meets-scalar c d t w m is =
@@ -57,3 +66,52 @@ pub one-byte : (e : OpenDocument) (piece : List ℕ) (at : ℕ) (t : List ℕ) �
 one-byte e piece at t within h =
     subst (λ w. HasTakenIn anything e (t ++ w))
     (sym (slice-one piece at (get_or piece at 0) (slice_get-get_or piece at 0 within))) h
+
+-- A scalar that ends within a piece: it is followed by what comes then,
+module _ (piece : List ℕ) (at : ℕ) (v : Tree) (e : ℕ) (h : IsScalarWithin piece at v e) where
+  abbrev first : ℕ
+  first = get_or piece at 0
+
+  abbrev bytes : List ℕ
+  bytes = slice_range piece at e
+
+  scalar-bytes : bytes ≡ first ∷ slice_range piece (at + 1) e
+  scalar-bytes =
+      slice_range-split piece at (at + 1) (omega arith) e (omega (arith, h.begins))
+      ∙ ap (λ w. w ++ slice_range piece (at + 1) e)
+      (slice-one piece at first (slice_get-get_or piece at 0 (omega (arith, h.begins, h.within))))
+
+  pub scalar-follows : Follows (with_byte first) bytes anything
+  scalar-follows u comes = (slice_range piece (at + 1) e ++ u, ap (λ w. w ++ u) scalar-bytes)
+
+  pub scalar-read : (d : OpenDocument) (t : List ℕ) (depth : ℕ) → depth ≤ nesting_limit
+      → IsReadAs d anything (t ++ bytes) depth (length t) v
+  scalar-read d t depth few = λ p u reading comes. h.reads p t u depth few
+
+  -- or ends before the byte behind it.
+  pub scalar-ends : (d : OpenDocument) (t : List ℕ) (fs : List OpenFrame) (c : ℕ) → BeginsHere first d t fs
+      → EndsBefore d t bytes c fs v
+  scalar-ends d t fs c here = record {
+    first = first;
+    rest = slice_range piece (at + 1) e;
+    is = scalar-bytes;
+    begins = here;
+    reads = λ p u reading comes. h.reads p t u (length fs) here.low;
+  }
+
+-- A byte that the value passes is taken.
+pub takes-here : (c : ℕ) (d : OpenDocument) (v : OpenValue) (t : List ℕ) → HasTakenIn anything d t → d.fault ≡ None
+    → d.token ≡ token.Nothing → ((s : Arrived) → IsLeft d.value s → TakesByte v s c)
+    → HasTakenIn anything (record d { value = v }) (t ++ c ∷ [])
+takes-here c d v t h unset none passes =
+    let b = taken-between anything d t h unset none in
+    takes-byte d v c t b.state (known-before c d t (between_tokens b.state) b.known) none (passes b.state b.left)
+
+-- Bytes of a piece are taken, and those behind them.
+pub two-parts : (d : OpenDocument) (piece : List ℕ) (at e n k : ℕ) (t : List ℕ) → at ≤ e → at + k ≡ e + n
+    → HasTakenIn anything d ((t ++ slice_range piece at e) ++ slice_range piece e (e + n))
+    → HasTakenIn anything d (t ++ slice_range piece at (at + k))
+two-parts d piece at e n k t le is h =
+    let whole : slice_range piece at (at + k) ≡ slice_range piece at e ++ slice_range piece e (e + n) =
+    ap (slice_range piece at) is ∙ slice_range-split piece at e le (e + n) (omega arith) in
+    subst (HasTakenIn anything d) (append_assoc t (slice_range piece at e) (slice_range piece e (e + n)) ∙ ap (λ w. t ++ w) (sym whole)) h

@@ -8,13 +8,11 @@ use Rattle.jiter_scan.proofs.WordLaws.{word_at-complete, word_at-sound}
 use Rattle.jiter_scan.specs.Scanned.{taken}
 use Rattle.jiter_scan.specs.Stands.{Stands}
 use Rattle.jiter_steps.specs.Literal.{literal_at, literal_tree, start_of, word_of}
-use Rattle.jiter_steps.specs.Node.{nesting_limit}
 use Rattle.jiter_steps.specs.Read.{done}
 use Rattle.jiter_steps.specs.declared.parse.Literal.{Literal}
 use Rattle.jiter_steps.specs.declared.parse.Start.TheVariants as start
-use Rattle.jiter_value.specs.OpenDocument.{Follows, IsReadAs, anything, with_byte}
+use Rattle.jiter_value.specs.OpenDocument.{IsScalarWithin}
 use Rattle.jiter_value.specs.declared.names.Name.TheVariants as name
-use Rattle.jiter_value.specs.declared.open_document.OpenDocument.{OpenDocument}
 use Rattle.jiter_value.proofs.DocumentTokens.{held-stands, word-done}
 
 module _ (piece : List ℕ) (at : ℕ) (l : Literal) (e : ℕ) (starts : start_of (get_or piece at 0) ≡ start.Literal l)
@@ -34,21 +32,21 @@ module _ (piece : List ℕ) (at : ℕ) (l : Literal) (e : ℕ) (starts : start_o
   word-is : bytes ≡ word_of l
   word-is = sym (slice-stands piece at e (word_of l) (word_at-sound piece (word_of l) at e tt read))
 
-  pub literal-follows : Follows (with_byte first) bytes anything
-  literal-follows u comes = (slice_range piece (at + 1) e ++ u, ap (λ w. w ++ u) bytes-are)
-
   -- It is read as a value.
-  pub literal-value : (d : OpenDocument) (t : List ℕ) (depth : ℕ) → depth ≤ nesting_limit
-      → IsReadAs d anything (t ++ bytes) depth (length t) (literal_tree l)
-  literal-value d t depth few = λ p u reading comes.
-      let all = (t ++ bytes) ++ u in
-      let b = length t in
-      let end = b + length bytes in
-      let stands = held-stands t bytes (t ++ bytes) b refl refl u in
-      let word : Stands all b end (word_of l) = subst (Stands all b end) word-is stands in
-      let begun = subst (Stands all b end) bytes-are stands in
-      let place : end ≡ length (t ++ bytes) = omega (arith, length-append t bytes) in
-      word-done p all depth b first few begun.0 (name.Literal l) end starts tt
-      (word_at-complete all (word_of l) b end word)
-      (sym (slice-stands all b end (word_of l) word))
-      ∙ ap (done (literal_tree l)) place
+  pub literal-scalar : IsScalarWithin piece at (literal_tree l) e
+  literal-scalar = record {
+    begins = some;
+    within = within;
+    reads = λ p t u depth few.
+        let all = (t ++ bytes) ++ u in
+        let b = length t in
+        let end = b + length bytes in
+        let stands = held-stands t bytes (t ++ bytes) b refl refl u in
+        let word : Stands all b end (word_of l) = subst (Stands all b end) word-is stands in
+        let begun = subst (Stands all b end) bytes-are stands in
+        let place : end ≡ length (t ++ bytes) = omega (arith, length-append t bytes) in
+        word-done p all depth b first few begun.0 (name.Literal l) end starts tt
+        (word_at-complete all (word_of l) b end word)
+        (sym (slice-stands all b end (word_of l) word))
+        ∙ ap (done (literal_tree l)) place;
+  }

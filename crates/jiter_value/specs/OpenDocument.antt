@@ -1,6 +1,6 @@
 -- A document that arrives in pieces: what its bytes so far leave open, and what they answer whatever comes behind them.
 use Rattle.std.specs.Prelude.{◌≡◌, ◌⊎◌, ℕ, ◌+◌, ◌-◌, ◌≤◌, ◌<◌, Bool, true, false, List, [], ◌∷◌, ◌++◌, drop, length, map}
-use Rattle.std.specs.Prelude.{slice_get, slice_index, string_bytes, Option, Some, None}
+use Rattle.std.specs.Prelude.{slice_get, slice_index, slice_range, string_bytes, Option, Some, None}
 use Rattle.jiter_scan.specs.Ascii as ascii
 use Rattle.jiter_scan.specs.Kind.{Kind, expected_value, fault_kind}
 use Rattle.jiter_scan.specs.Number.{Number, number_value}
@@ -239,6 +239,15 @@ pub record IsNumberWithin (piece : List ℕ) (at : ℕ) (v : Tree) (e : ℕ) : T
   pub number : Number
   pub ends : EndsWithin piece at number e
   pub is : v ≡ tree_as owned_text (number_tree number)
+
+-- A scalar of this value stands in a piece from a place on to before e: behind whatever bytes it stands, and whatever
+-- comes, it is read to there.
+pub record IsScalarWithin (piece : List ℕ) (at : ℕ) (v : Tree) (e : ℕ) : Type 0 where
+  pub begins : at < e
+  pub within : e ≤ length piece
+  pub reads : (p : Settings) (t u : List ℕ) (depth : ℕ) → depth ≤ nesting_limit
+      → value_in (rules_as owned p) ((t ++ slice_range piece at e) ++ u) depth (length t)
+      ≡ done v (length (t ++ slice_range piece at e))
 
 -- A name that begins with this byte, wherever it stands, where names are allowed; else no value does.
 pub record NameBegins (k : Name) (c : ℕ) : Type 0 where

@@ -46,6 +46,9 @@ impl OpenDocument {
             → Known n self.old t (in_key fs ms b) → Follows n w m → self.old.fault ≡ None
             → map view self.old.value.spine.items ≡ spine_of fs (object (members_of ms)) → b < length (t ++ w)
             → IsKeyAs self.old m (t ++ w) b (text_of (string_bytes key)) → HasTakenIn m self.new (t ++ w) }
+        ensures token { self.new.token ≡ Token.Nothing }
+        ensures fault { self.new.fault ≡ self.old.fault }
+        ensures awaits { self.new.value.awaits ≡ Awaits.Colon }
         ensures same { StaysSo self.old self.new }
     {
         self.value.put_key(key);

@@ -399,14 +399,38 @@ impl OpenDocument {
         Ok(1)
     }
 
+    // Whether no token is unfinished and the value is whole.
+    #[inline(never)]
+    fn is_done(&self) -> bool
+        ensures { result ≡ true → (self.now.token ≡ Token.Nothing) × (self.now.value.awaits ≡ Awaits.Nothing) }
+    {
+        matches!(self.token, Token::Nothing) && self.value.is_whole()
+    }
+
     // Whether no byte changes the answers any more.
     #[inline(always)]
     fn is_over(&self) -> bool
         ensures over { result ≡ true → IsOver self.now }
         ensures unset { result ≡ false → self.now.fault ≡ None }
     {
-        self.fault.is_some()
-            || self.first.is_some() && matches!(self.token, Token::Nothing) && self.value.is_whole()
+        self.fault.is_some() || self.first.is_some() && self.is_done()
+    }
+
+    // How many blanks stand at a place of a piece, if no token is unfinished there: they are taken.
+    #[inline(always)]
+    fn blanks_behind(&self, piece: &[u8], at: usize) -> usize
+        requires within { at ≤ length piece.now }
+        ensures taken { (t : List ℕ) → HasTakenIn anything self.now t
+            → HasTakenIn anything self.now (t ++ slice_range piece.now at (at + result)) }
+        ensures part { at + result ≤ length piece.now }
+    {
+        if self.fault.is_some() {
+            return 0;
+        }
+        match self.token {
+            Token::Nothing => past_blanks(piece, at) - at,
+            _ => 0,
+        }
     }
 
     // Takes a run of blanks, or another byte and what is whole there, where no token is unfinished.
@@ -425,7 +449,8 @@ impl OpenDocument {
         if at < end {
             return Ok(end - at);
         }
-        self.step(piece, at)
+        let count = self.step(piece, at)?;
+        Ok(count + self.blanks_behind(piece, at + count))
     }
 
     // Takes bytes, and does not count them yet.

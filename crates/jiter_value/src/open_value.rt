@@ -3,6 +3,7 @@
 ghost use Rattle.std.specs.Prelude.{◌≡◌, ◌∷◌, ◌++◌, ◌<◌, [], IfOk, List, OnErr, OnOk, Some, false, length, map, string_bytes};
 ghost use Rattle.std.specs.Prelude.{true, ℕ};
 ghost use Rattle.std.specs.Prelude.{option_map};
+ghost use Rattle.jiter_scan.specs.Ascii.{colon};
 ghost use Rattle.jiter_scan.specs.Kind.{Kind, fault_kind};
 ghost use Rattle.jiter_scan.specs.PartialMode.{is_active};
 ghost use Rattle.jiter_scan.specs.Scanned.{taken};
@@ -15,7 +16,7 @@ ghost use Rattle.jiter_steps.specs.StringDecoder.{text_view};
 ghost use Rattle.jiter_value.specs.Arrived.{Arrived, HasRead, at_value, between_parts, end_of, owned, part_row, shown};
 ghost use Rattle.jiter_value.specs.OpenValue.{ClosesOne, ClosesOver, Goes, IsApartAs, IsBeforePart, IsBehind, IsEnding};
 ghost use Rattle.jiter_value.specs.OpenValue.{IsLeft, IsPutTogether, IsRightSign, IsShown, ReadsOn, behind_value};
-ghost use Rattle.jiter_value.specs.OpenValue.{completed, step_by, text_of};
+ghost use Rattle.jiter_value.specs.OpenValue.{TakesByte, completed, step_by, text_of};
 ghost use Rattle.jiter_value.specs.Owned.{owned_tree};
 ghost use Rattle.jiter_value.specs.Parses.{reading_as};
 ghost use Rattle.jiter_value.specs.Settings.{answer_by, rules_as};
@@ -305,15 +306,18 @@ impl OpenValue {
         ensures which { IsEnding result }
         ensures one { ClosesOne self.old self.new result }
     {
+        if byte == b',' {
+            if self.is_whole() {
+                return Went::Over;
+            }
+            self.awaits = Awaits::Next;
+            return Went::Taken;
+        }
         if is_blank(byte) {
             return Went::Taken;
         }
         if self.is_whole() {
             return Went::Over;
-        }
-        if byte == b',' {
-            self.awaits = Awaits::Next;
-            return Went::Taken;
         }
         let shape = shape_inside(&self.spine);
         self.end();
@@ -346,6 +350,15 @@ impl OpenValue {
         }
         self.awaits = Awaits::Value;
         Went::Taken
+    }
+
+    /// Takes the colon behind a key. It takes no memory.
+    #[inline(always)]
+    pub fn pass_colon(&mut self)
+        requires { self.old.awaits ≡ Awaits.Colon }
+        ensures { (s : Arrived) → IsLeft self.old s → TakesByte self.new s colon }
+    {
+        self.awaits = Awaits::Value;
     }
 
     // What the next byte is.
@@ -405,6 +418,7 @@ impl OpenValue {
         ensures left { (ms : List (Text × Tree)) → (fs : List OpenFrame)
             → map view self.old.spine.items ≡ spine_of fs (object (members_of ms))
             → IsLeft self.new (at_value Awaits.Colon (members_frame ms (text_of (string_bytes key)) ∷ fs)) }
+        ensures awaits { self.new.awaits ≡ self.old.awaits }
         // Where it is read from j to before e, the rest of a text goes on there.
         ensures read { (p : Settings) → (t : List ℕ) → (j e : ℕ) → (ms : List (Text × Tree)) → (fs : List OpenFrame)
             → j < length t → (rules_as owned p).key t j ≡ taken (text_of (string_bytes key)) e

@@ -10,12 +10,13 @@ ghost use Rattle.jiter_steps.specs.Node.{number_tree};
 ghost use Rattle.jiter_steps.specs.Tree.{float, int};
 ghost use Rattle.jiter_steps.specs.OpenString.{IsTextWithin};
 ghost use Rattle.jiter_steps.specs.declared.parse.Start.{Start};
-ghost use Rattle.jiter_value.specs.OpenDocument.{EndsBefore, HasArrived, HasTakenIn, HoldsNumber, IsIn, IsNumberWithin};
+ghost use Rattle.jiter_value.specs.OpenDocument.{BeginsHere, EndsBefore, IsScalarWithin, HasArrived, HasTakenIn, HoldsNumber, IsIn, IsNumberWithin};
 ghost use Rattle.jiter_value.specs.OpenDocument.{Meets, Stays, StaysSo, Takes, anything};
 ghost use Rattle.jiter_value.specs.Owned.{owned_text, tree_as};
 ghost use Rattle.jiter_value.specs.Spine.{OpenFrame};
 ghost use Rattle.jiter_value.specs.Value.{view};
 ghost use Rattle.jiter_value.specs.declared.open_document.Token.{Token};
+ghost use Rattle.jiter_value.specs.declared.open_value.Awaits.{Awaits};
 ghost use Rattle.jiter_value.specs.declared.open_value.Went.{Went};
 
 use crate::document_strings::text_value;
@@ -137,6 +138,25 @@ impl OpenDocument {
         Ok(1)
     }
 
+    // The same of a byte that begins no decimal number.
+    #[inline(always)]
+    fn step_sign(&mut self, piece: &[u8], at: usize) -> Result<usize, Refused>
+        requires within { at < length piece.now }
+        requires other { begins_decimal (slice_index piece.now at) ≡ false }
+        requires token { IsIn self.old Token.Nothing }
+        ensures taken { IfOk result (λ n. Takes self.old self.new (slice_range piece.now at (at + n))) }
+        ensures part { IfOk result (λ n. (0 < n) × (at + n ≤ length piece.now)) }
+        ensures refused { OnErr result (Stays self.old self.new) }
+        ensures same { StaysSo self.old self.new }
+    {
+        let byte = piece[at];
+        match self.look(byte)? {
+            Went::Taken => {}
+            went => self.follow(went, byte),
+        }
+        Ok(1)
+    }
+
     // A number of so many bytes is put, and the byte behind it, which ended it, is taken.
     #[inline(always)]
     fn put_ended(&mut self, value: JsonValue<'static>, bytes: usize, byte: u8)
@@ -152,6 +172,45 @@ impl OpenDocument {
         self.position += bytes;
         self.behind(byte);
         self.position -= bytes;
+    }
+
+    // Puts a scalar that ends in a piece, and takes the byte behind it, if one stands there: so many bytes are taken.
+    #[inline(always)]
+    fn put_whole(&mut self, piece: &[u8], at: usize, value: JsonValue<'static>, end: usize) -> usize
+        requires scalar { IsScalarWithin piece.now at (view value) end }
+        requires begins { (t : List ℕ) × (fs : List OpenFrame) × BeginsHere (slice_index piece.now at) self.old t fs }
+        requires room { self.old.position + (length piece.now - at) < 2 ^ 64 }
+        ensures taken { (t : List ℕ) → (fs : List OpenFrame) → BeginsHere (slice_index piece.now at) self.old t fs
+            → HasTakenIn anything self.new (t ++ slice_range piece.now at (at + result)) }
+        ensures part { (0 < result) × (at + result ≤ length piece.now) }
+        ensures same { StaysSo self.old self.new }
+    {
+        if end < piece.len() {
+            self.put_ended(value, end - at, piece[end]);
+            return end + 1 - at;
+        }
+        self.put(value);
+        end - at
+    }
+
+    // Takes the colon at a place of a piece, behind a key, if one stands there: so many bytes.
+    #[inline(always)]
+    fn colon_behind(&mut self, piece: &[u8], at: usize) -> usize
+        requires within { at ≤ length piece.now }
+        requires read { (t : List ℕ) × HasTakenIn anything self.old t }
+        requires token { self.old.token ≡ Token.Nothing }
+        requires unset { self.old.fault ≡ None }
+        requires awaits { self.old.value.awaits ≡ Awaits.Colon }
+        ensures taken { (t : List ℕ) → HasTakenIn anything self.old t
+            → HasTakenIn anything self.new (t ++ slice_range piece.now at (at + result)) }
+        ensures part { at + result ≤ length piece.now }
+        ensures same { StaysSo self.old self.new }
+    {
+        if at < piece.len() && piece[at] == b':' {
+            self.value.pass_colon();
+            return 1;
+        }
+        0
     }
 
     // Takes a number that lies whole in a piece, and the byte behind it.
@@ -246,6 +305,7 @@ impl OpenDocument {
     fn step_text(&mut self, piece: &[u8], at: usize) -> Result<usize, Refused>
         requires within { at < length piece.now }
         requires token { IsIn self.old Token.Nothing }
+        requires room { self.old.position + (length piece.now - at) < 2 ^ 64 }
         ensures taken { IfOk result (λ n. Takes self.old self.new (slice_range piece.now at (at + n))) }
         ensures part { IfOk result (λ n. (0 < n) × (at + n ≤ length piece.now)) }
         ensures refused { OnErr result (Stays self.old self.new) }
@@ -268,6 +328,7 @@ impl OpenDocument {
     ) -> Result<usize, Refused>
         requires token { IsIn self.old Token.Nothing }
         requires text { IsTextWithin piece.now at (string_bytes text) end }
+        requires room { self.old.position + (length piece.now - at) < 2 ^ 64 }
         ensures taken { IfOk result (λ n. Takes self.old self.new (slice_range piece.now at (at + n))) }
         ensures part { IfOk result (λ n. (0 < n) × (at + n ≤ length piece.now)) }
         ensures refused { OnErr result (Stays self.old self.new) }
@@ -275,13 +336,10 @@ impl OpenDocument {
     {
         let byte = piece[at];
         match self.look(byte)? {
-            Went::Scalar => {
-                self.put(text_value(text));
-                Ok(end - at)
-            }
+            Went::Scalar => Ok(self.put_whole(piece, at, text_value(text), end)),
             Went::Key => {
                 self.end_key(text);
-                Ok(end - at)
+                Ok(end - at + self.colon_behind(piece, end))
             }
             went => {
                 self.follow(went, byte);
@@ -292,15 +350,11 @@ impl OpenDocument {
 
     // Takes a literal that begins with its first byte, all of it where it lies whole in the piece.
     #[inline(always)]
-    fn step_literal(
-        &mut self,
-        piece: &[u8],
-        at: usize,
-        literal: Literal,
-    ) -> Result<usize, Refused>
+    fn step_literal(&mut self, piece: &[u8], at: usize, literal: Literal) -> Result<usize, Refused>
         requires within { at < length piece.now }
         requires begins { start_of (slice_index piece.now at) ≡ Start.Literal literal }
         requires token { IsIn self.old Token.Nothing }
+        requires room { self.old.position + (length piece.now - at) < 2 ^ 64 }
         ensures taken { IfOk result (λ n. Takes self.old self.new (slice_range piece.now at (at + n))) }
         ensures part { IfOk result (λ n. (0 < n) × (at + n ≤ length piece.now)) }
         ensures refused { OnErr result (Stays self.old self.new) }
@@ -311,10 +365,7 @@ impl OpenDocument {
         };
         let byte = piece[at];
         match self.look(byte)? {
-            Went::Scalar => {
-                self.put(Name::Literal(literal).value());
-                Ok(end - at)
-            }
+            Went::Scalar => { Ok(self.put_whole(piece, at, Name::Literal(literal).value(), end)) }
             went => {
                 self.follow(went, byte);
                 Ok(1)
@@ -323,6 +374,7 @@ impl OpenDocument {
     }
 
     // Takes a byte where no token is unfinished, and with it what is whole there.
+    #[inline(always)]
     pub(crate) fn step(&mut self, piece: &[u8], at: usize) -> Result<usize, Refused>
         requires within { at < length piece.now }
         requires token { IsIn self.old Token.Nothing }
@@ -341,7 +393,7 @@ impl OpenDocument {
             b'n' => self.step_literal(piece, at, Literal::Null),
             b't' => self.step_literal(piece, at, Literal::True),
             b'f' => self.step_literal(piece, at, Literal::False),
-            _ => self.step_byte(piece, at),
+            _ => self.step_sign(piece, at),
         }
     }
 }
