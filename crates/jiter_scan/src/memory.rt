@@ -4,8 +4,10 @@ ghost use Rattle.std.specs.Prelude.{◌≡◌, ◌+◌, ◌^◌, ◌<◌, ◌≤
 ghost use Rattle.std.specs.Prelude.{length, replicate, string_bytes, string_capacity, string_len, vec_capacity};
 ghost use Rattle.std.specs.Prelude.{false, not, true, vec_len};
 ghost use Rattle.std.specs.BTreeSet.{contains, insert_key};
+ghost use Rattle.std.specs.Str.{IsAscii};
 ghost use Rattle.smallvec.specs.SmallVec.{HasRoomFor};
 
+use crate::text::ascii_text;
 use smallvec::SmallVec;
 use std::alloc::{AllocError, Global};
 use std::collections::BTreeSet;
@@ -147,6 +149,23 @@ pub fn push_text(text: &mut String, more: &str) -> Result<(), Refused>
         Ok(()) => Ok(()),
         Err(error) => Err(Refused { error }),
     }
+}
+
+/// Appends bytes below 80 hex.
+#[inline(always)]
+pub fn push_ascii(text: &mut String, bytes: &[u8]) -> Result<(), Refused>
+    requires { IsAscii bytes.now }
+    ensures ok { OnOk result (string_bytes text.new ≡ string_bytes text.old ++ bytes.now) }
+    ensures err { OnErr result (string_bytes text.new ≡ string_bytes text.old) }
+    ensures some { OnErr result (0 < length bytes.now) }
+{
+    if let [byte] = bytes {
+        return match text.push(*byte as char) {
+            Ok(()) => Ok(()),
+            Err(error) => Err(Refused { error }),
+        };
+    }
+    push_text(text, ascii_text(bytes))
 }
 
 /// Appends the decimal digits of a number.

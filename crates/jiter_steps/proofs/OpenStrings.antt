@@ -4,20 +4,21 @@ use Rattle.std.proofs.Common.{length, take, drop, refl, sym, ap, ap₂, ◌∙�
 use Rattle.std.proofs.Common.{length-append, take-take}
 use Rattle.std.specs.Prelude.{slice_get, slice_range, Option, Some, None, IfSome, is_some}
 use Rattle.std.specs.Char.{encode_utf8}
-use Rattle.std.specs.Str.{IsUtf8}
-use Rattle.std.proofs.lemmas.Bool.{false≢true, lt-ltb, ne_eqb}
+use Rattle.std.specs.Str.{IsAscii, IsUtf8}
+use Rattle.std.proofs.lemmas.Bool.{and_parts, false≢true, lt-ltb, ltb-true, ne_eqb}
 use Rattle.std.proofs.lemmas.Bool.Decides.{nat_tests}
 use Rattle.std.proofs.lemmas.Option.{slice_get_within}
+use Rattle.std.proofs.lemmas.Str.Ascii.{IsAscii-cons, IsAscii-nil}
 use Rattle.jiter_scan.specs.Kind.{fault_kind, control_character, eof_string}
-use Rattle.jiter_scan.specs.Scan.{Pass, is_plain, scan_stop}
+use Rattle.jiter_scan.specs.Scan.{Pass, is_plain, is_plain_ascii, scan_stop}
 use Rattle.jiter_scan.specs.Scanned.{failed, taken}
 use Rattle.jiter_scan.specs.Stands.{Stands}
 use Rattle.jiter_scan.proofs.Chunks.{prefix_len-pass}
 use Rattle.jiter_scan.proofs.Standing.{stands-length, stands-append, stands-slice, stands-split, slice-one}
 use Rattle.jiter_scan.proofs.Standing.{slice-stands}
 use Rattle.jiter_steps.specs.OpenEscape.{IsSpelled}
-use Rattle.jiter_steps.specs.OpenString.{Goes, HasTaken, IsTextWithin, held_bytes}
-use Rattle.jiter_steps.specs.OpenText.{HoldsText, SoFar}
+use Rattle.jiter_steps.specs.OpenString.{Goes, HasTaken, IsEven, IsTextWithin, grown, held_bytes}
+use Rattle.jiter_steps.specs.OpenText.{HoldsBytes, HoldsText, SoFar}
 use Rattle.jiter_steps.specs.StringReading.{Body, Form, Stop, before, body_at, checked, closed, content_at}
 use Rattle.jiter_steps.specs.StringReading.{cut, is_cut, kept, over, part, portion_at, text_form}
 use Rattle.jiter_steps.specs.StringReading.{text_in_form, unclosed, whole, wrong}
@@ -32,6 +33,7 @@ use Rattle.jiter_steps.proofs.Grammar.StringComplete.{portion_by-quote}
 use Rattle.jiter_steps.proofs.Grammar.Places.{Explains, portion_at-explains}
 use Rattle.jiter_steps.proofs.OpenEscapes.{spelled-cut}
 use Rattle.jiter_steps.proofs.Calls.StringAnswers.{string-checked, string_closed}
+use Rattle.jiter_steps.proofs.OpenTexts.{absorbed-whole}
 use Rattle.jiter_steps.proofs.Reading.Bodies.{before-before, body_at-portion_by, portion_by-end}
 
 -- the first bytes of some that pass
@@ -341,6 +343,27 @@ module _ (old : OpenString) (w : List ℕ) (h : HasTaken old w) where
         (bytes-read t (i + length w) (i + length (w ++ v)) v (plain-all v pass) (rest-stand v t i s))
         ∙ before-before h.decoded v h.escaped false (body_at t (i + length (w ++ v)));
   }
+
+-- plain bytes below 80 hex
+pub plain-of : (v : List ℕ) → Pass is_plain_ascii v → Pass is_plain v
+plain-of [] h = tt
+plain-of (c ∷ v) h = ((and_parts _ _ h.0).0, plain-of v h.1)
+
+pub ascii-of : (v : List ℕ) → Pass is_plain_ascii v → IsAscii v
+ascii-of [] h = IsAscii-nil
+ascii-of (c ∷ v) h = IsAscii-cons c v (ltb-true c 128 (and_parts _ _ h.0).1) (ascii-of v h.1)
+
+-- Plain bytes behind whole characters are taken.
+pub grown-taken : (s : OpenString) (w v : List ℕ) → IsEven s → Pass is_plain v → HasTaken s w → HasTaken (grown s v) (w ++ v)
+grown-taken s w v even pass h =
+    let new = grown s v in
+    let held : HoldsBytes false s.text.text s.text.rest h.decoded =
+    subst (λ b. HoldsBytes b s.text.text s.text.rest h.decoded) even.1.0 h.holds in
+    let all : h.decoded ++ v ≡ s.text.text ++ v =
+    ap (λ d. d ++ v) (held.0 ∙ ap (λ r. s.text.text ++ r) even.1.1 ∙ append-nil s.text.text) in
+    plain-goes s w h v new.text s.escape even.0 even.0 pass
+    (subst (λ b. HoldsBytes b new.text.text s.text.rest (h.decoded ++ v)) (sym even.1.0)
+    (absorbed-whole s.text.text new.text.text v (h.decoded ++ v) all s.text.rest refl even.1.1))
 
 -- A range within the front of a piece is one of the piece.
 pub near-range : (piece : List ℕ) (at end stop : ℕ) → end ≤ length piece → at ≤ stop → stop ≤ length (take end piece)

@@ -5,7 +5,7 @@ use Rattle.jiter_scan.specs.Ascii as ascii
 use Rattle.jiter_scan.specs.Kind.{fault_kind, invalid_code_point}
 use Rattle.jiter_scan.specs.Scanned.{Scanned, taken, failed}
 use Rattle.jiter_scan.specs.Stands.{Stands}
-use Rattle.jiter_steps.specs.OpenText.{HoldsText}
+use Rattle.jiter_steps.specs.OpenText.{HoldsText, IsWhole, with_text}
 use Rattle.jiter_steps.specs.StringReading.{Form, before, body_at, content_at, cut, over, portion_at, string_at}
 use Rattle.jiter_steps.specs.StringReading.{text_form}
 use Rattle.jiter_steps.specs.Tree.{Text}
@@ -21,6 +21,14 @@ Wherever w P = (t : List ℕ) (i : ℕ) → Stands t i (i + length w) w → P t 
 abbrev pub held_bytes : Option (List ℕ) → List ℕ
 held_bytes None = []
 held_bytes (Some h) = h
+
+-- the bytes so far are whole characters and whole escapes
+abbrev pub IsEven : OpenString → Type 0
+IsEven s = (s.escape ≡ None) × IsWhole s.text
+
+-- the same string, with these characters behind those so far
+abbrev pub grown : OpenString → List ℕ → OpenString
+grown s v = record { text = with_text s.text (s.text.text ++ v); escape = s.escape }
 
 -- The string has taken these bytes behind its quote: those before an escape that is not whole are decoded, and
 -- wherever they stand, the string's body is what was decoded, and what is read from there on.

@@ -17,6 +17,10 @@ nothing = record { text = []; rest = []; broken = false }
 abbrev pub with_text : SoFar → List ℕ → SoFar
 with_text s text = record { text = text; rest = s.rest; broken = s.broken }
 
+-- it is whole characters
+abbrev pub IsWhole : SoFar → Type 0
+IsWhole s = (s.broken ≡ false) × (s.rest ≡ [])
+
 -- no front of these bytes is a text, but the empty one
 abbrev pub BeginsNoText : List ℕ → Type 0
 BeginsNoText w = (m : ℕ) → IsUtf8 (take m w) → take m w ≡ []

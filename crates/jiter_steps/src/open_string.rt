@@ -1,12 +1,12 @@
 //! Strings that arrive in pieces (RFC 8259, 7 and 8.1): each byte is looked at once, wherever a piece ends, within a
 //! character or an escape too; and those that lie whole in a piece.
-ghost use Rattle.std.specs.Prelude.{◌≡◌, ◌+◌, ◌<◌, ◌≤◌, [], IfOk, IfSome, List, None, OnErr, Some, length};
-ghost use Rattle.std.specs.Prelude.{◌||◌, is_some, not, slice_get, slice_index, slice_range, string_bytes, true, ℕ};
+ghost use Rattle.std.specs.Prelude.{◌≡◌, ◌+◌, ◌<◌, ◌≤◌, [], IfOk, IfSome, List, None, OnErr, OnOk, Some, length};
+ghost use Rattle.std.specs.Prelude.{◌++◌, ◌||◌, is_some, not, slice_get, slice_index, slice_range, string_bytes, true, ℕ};
 ghost use Rattle.jiter_scan.specs.Ascii as ascii;
 ghost use Rattle.jiter_scan.specs.Kind.{eof_string};
-ghost use Rattle.jiter_scan.specs.Scan.{Pass, is_plain};
+ghost use Rattle.jiter_scan.specs.Scan.{Pass, is_plain, is_plain_ascii};
 ghost use Rattle.jiter_scan.specs.Scanned.{failed};
-ghost use Rattle.jiter_steps.specs.OpenString.{Goes, HasTaken, IsPart, IsTextWithin, Wherever, text_or};
+ghost use Rattle.jiter_steps.specs.OpenString.{Goes, HasTaken, IsEven, IsPart, IsTextWithin, Wherever, grown, text_or};
 ghost use Rattle.jiter_steps.specs.OpenText.{with_text};
 ghost use Rattle.jiter_steps.specs.StringDecoder.{WantsMemory};
 ghost use Rattle.jiter_steps.specs.StringReading.{content_at, kept, text_form, whole};
@@ -206,6 +206,27 @@ impl OpenString {
             0..=31 => Ok(Went::Wrong(FaultKind::ControlCharacterWhileParsingString, 0)),
             _ => self.plain(piece, at),
         }
+    }
+
+    /// Whether the bytes so far are whole characters and whole escapes.
+    #[inline(always)]
+    pub fn is_even(&self) -> bool
+        ensures { result ≡ true → IsEven self.now }
+    {
+        self.escape.is_none() && self.text.is_whole()
+    }
+
+    /// Takes plain bytes below 80 hex. Where memory is refused, nothing changes.
+    #[inline(always)]
+    pub fn add_plain(&mut self, bytes: &[u8]) -> Result<(), Refused>
+        requires even { IsEven self.old }
+        requires plain { Pass is_plain_ascii bytes.now }
+        ensures taken { (w : List ℕ) → HasTaken self.old w → OnOk result (HasTaken self.new (w ++ bytes.now)) }
+        ensures ok { OnOk result (self.new ≡ grown self.old bytes.now) }
+        ensures refused { OnErr result (self.new ≡ self.old) }
+        ensures some { OnErr result (0 < length bytes.now) }
+    {
+        self.text.add_ascii(bytes)
     }
 
     /// Whether the string is a text where it ends: all of its bytes, or, of one that is kept, as far as its whole

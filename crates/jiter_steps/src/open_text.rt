@@ -3,13 +3,14 @@ ghost use Rattle.std.specs.Prelude.{◌≡◌, ℕ, ◌+◌, ◌<◌, ◌≤◌,
 ghost use Rattle.std.specs.Prelude.{◌&&◌, nat_lt, not, string_bytes, take, true};
 ghost use Rattle.std.specs.Prelude.{if◌then◌else◌};
 ghost use Rattle.std.specs.Char.{encode_utf8};
+ghost use Rattle.std.specs.Str.{IsAscii};
 ghost use Rattle.jiter_scan.specs.Kind.{invalid_code_point};
 ghost use Rattle.jiter_scan.specs.Scanned.{taken, failed};
-ghost use Rattle.jiter_steps.specs.OpenText.{HoldsText, nothing, with_text};
+ghost use Rattle.jiter_steps.specs.OpenText.{HoldsText, IsWhole, nothing, with_text};
 ghost use Rattle.jiter_steps.specs.StringReading.{checked};
 
 use crate::held::Held;
-use jiter_scan::memory::{Refused, push_text};
+use jiter_scan::memory::{Refused, push_ascii, push_text};
 use jiter_scan::text::utf8_text;
 use std::alloc::Global;
 use std::marker::Model;
@@ -111,6 +112,26 @@ impl OpenText {
         let mut bytes = [0; 4];
         let held = self.rest.with(c.encode_utf8(&mut bytes).as_bytes());
         self.absorb(held.as_slice())
+    }
+
+    /// Takes bytes below 80 hex behind the characters so far, where none is unfinished. Where memory is refused, nothing
+    /// changes.
+    #[inline(always)]
+    pub fn add_ascii(&mut self, bytes: &[u8]) -> Result<(), Refused>
+        requires { IsAscii bytes.now }
+        ensures ok { OnOk result (self.new ≡ with_text self.old (self.old.text ++ bytes.now)) }
+        ensures refused { OnErr result (self.new ≡ self.old) }
+        ensures some { OnErr result (0 < length bytes.now) }
+    {
+        push_ascii(&mut self.text, bytes)
+    }
+
+    /// Whether the bytes so far are whole characters.
+    #[inline(always)]
+    pub fn is_whole(&self) -> bool
+        ensures { result ≡ true → IsWhole self.now }
+    {
+        !self.broken && self.rest.as_slice().is_empty()
     }
 
     /// Whether the bytes so far are a text: all of them, or, of one that is kept, as far as its whole characters.

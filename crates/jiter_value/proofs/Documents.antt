@@ -653,7 +653,7 @@ scalar-as d new token.Text w settings names words numbers strings h =
 scalar-as d new token.Nothing w settings names words numbers strings h = h
 scalar-as d new token.Key w settings names words numbers strings h = h
 
-counted-holding : (d : OpenDocument) (j : ℕ) (t : List ℕ) (o : Opened) → Holding d t o
+pub counted-holding : (d : OpenDocument) (j : ℕ) (t : List ℕ) (o : Opened) → Holding d t o
     → Holding (record d { position = j }) t o
 counted-holding d j t (between_tokens s) h = h
 counted-holding d j t (in_scalar fs b) h =

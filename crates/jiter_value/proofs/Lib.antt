@@ -22,7 +22,9 @@ pub mod Placed
 pub mod Repeats
 pub mod KeptKeys
 pub mod Spines
+pub mod ReplacedTexts
 pub mod Settled
+pub mod ShownTexts
 pub mod Arrivals
 pub mod OpenValues
 pub mod DocumentEnds
@@ -34,6 +36,7 @@ pub mod KeySets
 pub mod DocumentStrings
 pub mod DocumentTexts
 pub mod Received
+pub mod GrownTexts
 pub mod DocumentBlanks
 pub mod DocumentBytes
 pub mod WholeLiterals

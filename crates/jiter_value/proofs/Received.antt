@@ -1,5 +1,5 @@
 -- What a reading of a document that arrives in pieces has received.
-use Rattle.std.proofs.Common.{◌≡◌, Bool, true, ℕ, ◌+◌, ◌^◌, ◌<◌, ◌≤◌, List, [], ◌∷◌, ◌++◌, length, take, drop, get_or, Bor}
+use Rattle.std.proofs.Common.{◌≡◌, Bool, true, false, ℕ, ◌+◌, ◌^◌, ◌<◌, ◌≤◌, List, [], ◌∷◌, ◌++◌, length, take, drop, get_or, Bor}
 use Rattle.std.proofs.Common.{refl, sym, ap, ap₂, ◌∙◌, subst, inl, inr, arith, length-append}
 use Rattle.std.specs.List.{flat_map}
 use Rattle.std.specs.Prelude.{Option, Some, None, is_some, Result, Ok, Err, OnOk, OnErr}
@@ -18,6 +18,7 @@ use Rattle.jiter_steps.specs.Tree.{Tree}
 use Rattle.jiter_value.specs.Arrived.{owned, shown}
 use Rattle.jiter_value.specs.Arriving.{HasReceived, received}
 use Rattle.jiter_value.specs.DocumentEnds.{AnswersSo, so_far}
+use Rattle.jiter_value.specs.Growing.{IsGrowing}
 use Rattle.jiter_value.specs.OpenDocument.{HasArrived, MayRefuseAt, Opened, ReadsAt, strictly}
 use Rattle.jiter_value.specs.Owned.{owned_tree}
 use Rattle.jiter_value.specs.Parses.{Parses, keeping_repeats, reading_as}
@@ -58,8 +59,8 @@ pub settled : (s : Settled) (old : OpenDocument) (t : List ℕ) (h : HasArrived 
     → ((v : Tree) → shown (so_far old h.read.opened) ≡ Some v → view s.document.value.root ≡ v)
     → AnswersSo old.settings t s.fault (shown (so_far old h.read.opened))
     → AnswersSo (strictly old.settings) t s.first (shown (so_far old h.read.opened))
-    → HasReceived (received s) t
-settled s old t h together same value mode strict =
+    → (s.growing ≡ true → IsGrowing s.document) → HasReceived (received s) t
+settled s old t h together same value mode strict growing =
     let o = shown (so_far old h.read.opened) in
     let root = view s.document.value.root in
     record {
@@ -67,14 +68,15 @@ settled s old t h together same value mode strict =
       position = together.position;
       mode = rw same (root-told old.settings t s.fault o root value mode);
       strict = rw same (root-told (strictly old.settings) t s.first o root value strict);
+      growing = growing;
     }
 
 -- The bytes are refused for good.
 pub refused : (s : Settled) (t : List ℕ) (h : HasArrived s.document t) → is_some s.document.fault ≡ true
     → AnswersSo s.document.settings t s.fault (shown (so_far s.document h.read.opened))
     → AnswersSo (strictly s.document.settings) t s.first (shown (so_far s.document h.read.opened))
-    → HasReceived (received s) t
-refused s t h some mode strict =
+    → s.growing ≡ false → HasReceived (received s) t
+refused s t h some mode strict still =
     let d = s.document in
     let p = d.settings in
     let o = h.read.opened in
@@ -92,6 +94,7 @@ refused s t h some mode strict =
       mode = refused-told p t d.fault s.fault o v root some (k.mode [] tt) mode;
       strict = refused-told (strictly p) t d.first s.first o v root (first-set d.fault d.first some k.noted)
           (k.strict [] tt) strict;
+      growing = λ on. absurd (false≢true (sym still ∙ on));
     }
 
 -- Bytes have arrived, whether memory was refused or not.

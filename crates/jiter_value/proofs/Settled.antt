@@ -2,6 +2,8 @@
 use Rattle.std.proofs.Common.{◌≡◌, ℕ, ◌+◌, ◌<◌, Bool, true, false, List, [], ◌∷◌, ◌++◌, length, map, refl, sym}
 use Rattle.std.proofs.Common.{subst, ap, ap₂, ◌∙◌, arith, inl, inr, length-append}
 use Rattle.std.specs.Prelude.{string_bytes, Some, None}
+use Rattle.std.specs.Str.{IsUtf8}
+use Rattle.std.proofs.lemmas.Bool.{false≢true}
 use Rattle.std.proofs.lemmas.List.{length-map, same_from_push}
 use Rattle.std.proofs.lemmas.Option.{same_Some}
 use Rattle.jiter_scan.proofs.Choices.{if-true, if-false}
@@ -33,7 +35,7 @@ use Rattle.jiter_value.proofs.OpenValues.{awaits-same, held-stands, length-paren
 use Rattle.jiter_value.proofs.Spines.{last-of, stands-in-place}
 
 -- how many containers a spine has
-spine-length : (spine : List JsonValue) (fs : List OpenFrame) (x : Tree) → map view spine ≡ spine_of fs x
+pub spine-length : (spine : List JsonValue) (fs : List OpenFrame) (x : Tree) → map view spine ≡ spine_of fs x
     → length spine ≡ length fs + 1
 spine-length spine fs x h =
     sym (length-map spine view) ∙ ap length h ∙ length-append (parents_of fs) (x ∷ [])
@@ -147,8 +149,18 @@ in-scalar-by d t (between_tokens s) h some no-key = absurd (some h.0)
 in-scalar-by d t (in_scalar fs b) h some no-key = record { frames = fs; begin = b; is = refl; held = h }
 in-scalar-by d t (in_key fs ms b) h some no-key = absurd (no-key h.2)
 
+-- one whose text moved into its value,
+pub text-moved : (k : Token) (d : OpenDocument) (s : OpenString) (x : JsonValue) → shown_as d k ≡ true
+    → (k ≡ token.Number → ⊥) → view x ≡ string (text_of d.string.text.text) → s.text ≡ with_text d.string.text []
+    → s.escape ≡ d.string.escape → IsUtf8 d.string.text.text → HasMoved k d d.number s x
+text-moved token.Text d s x on other seen text escape utf8 = (seen, text, escape, utf8)
+text-moved token.Number d s x on other seen text escape utf8 = absurd (other refl)
+text-moved token.Nothing d s x on other seen text escape utf8 = absurd (false≢true on)
+text-moved token.Word d s x on other seen text escape utf8 = absurd (false≢true on)
+text-moved token.Key d s x on other seen text escape utf8 = absurd (false≢true on)
+
 -- one that is shown,
-not-shown : (d : OpenDocument) (k : Token) → is_shown d ≡ true → d.token ≡ k → shown_as d k ≡ false → ⊥
+pub not-shown : (d : OpenDocument) (k : Token) → is_shown d ≡ true → d.token ≡ k → shown_as d k ≡ false → ⊥
 not-shown d k on is off = let no : true ≡ false = sym on ∙ ap (shown_as d) is ∙ off in cc
 
 pub in-scalar : (d : OpenDocument) (t : List ℕ) (o : Opened) → Holding d t o → is_shown d ≡ true → InScalar d t o
@@ -168,7 +180,7 @@ pub shown-there : (d : OpenDocument) (t : List ℕ) (o : Opened) (x : JsonValue)
 shown-there d t o x w i shows = shows.value i.frames i.held.3.2 i.held.3.3
 
 -- and it is the value so far.
-shown-behind : (x : Tree) (fs : List OpenFrame) → shown (behind_value x fs) ≡ Some (filled fs x)
+pub shown-behind : (x : Tree) (fs : List OpenFrame) → shown (behind_value x fs) ≡ Some (filled fs x)
 shown-behind x [] = refl
 shown-behind x (items_frame xs ∷ fs) = refl
 shown-behind x (members_frame ms k ∷ fs) = refl
@@ -191,22 +203,23 @@ known-parts m d n s v t o h =
     record { mode = h.mode; strict = h.strict; ends = h.ends; noted = h.noted; same = h.same }
 
 module _ (d : OpenDocument) (t : List ℕ) (h : HasArrived d t) (unset : d.fault ≡ None) (depth : ℕ) where
-  pub settled-plain : (v : OpenValue) → IsPutTogether d.value v depth
+  pub settled-plain : (v : OpenValue) → is_shown d ≡ false → IsPutTogether d.value v depth
       → IsTogether (with_parts d d.number d.string v) depth false t
-  settled-plain v put = record {
+  settled-plain v shows put = record {
     opened = h.read.opened;
     known = known-parts anything d d.number d.string v t h.read.opened h.read.known;
     position = h.position;
-    held = λ _. record { apart = d; held = h.read.held unset; same = refl; settled = (refl, refl, put) };
+    held = λ _. record { apart = d; held = h.read.held unset; shows = shows; same = refl; settled = (refl, refl, put) };
   }
 
-  pub settled-shown : (n : OpenNumber) (s : OpenString) (x : JsonValue) (v w : OpenValue) → HasMoved d.token d n s x
+  pub settled-shown : (n : OpenNumber) (s : OpenString) (x : JsonValue) (v w : OpenValue) → is_shown d ≡ true
+      → HasMoved d.token d n s x
       → IsShown d.value v x → IsPutTogether v w depth → IsTogether (with_parts d n s w) depth true t
-  settled-shown n s x v w moved shows put = record {
+  settled-shown n s x v w on moved shows put = record {
     opened = h.read.opened;
     known = known-parts anything d n s w t h.read.opened h.read.known;
     position = h.position;
-    held = λ _. record { apart = d; held = h.read.held unset; same = refl; settled = (x, v, moved, shows, put) };
+    held = λ _. record { apart = d; held = h.read.held unset; shows = on; same = refl; settled = (x, v, moved, shows, put) };
   }
 
 -- What was put together,

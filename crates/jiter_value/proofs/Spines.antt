@@ -159,7 +159,7 @@ pub record Descended (fs : List OpenFrame) (x : Tree) (spine : List Tree) (inner
   pub rest : inner ≡ filled below x
 
 -- an outermost container more
-filled-push : (gs : List OpenFrame) (f : OpenFrame) (x : Tree) → filled (gs ++ f ∷ []) x ≡ around f (filled gs x)
+pub filled-push : (gs : List OpenFrame) (f : OpenFrame) (x : Tree) → filled (gs ++ f ∷ []) x ≡ around f (filled gs x)
 filled-push [] f x = refl
 filled-push (g ∷ gs) f x = filled-push gs f (around g x)
 

@@ -1,6 +1,7 @@
 -- A reading of a document that arrives in pieces: what it holds of the bytes that were pushed, and what they answer.
-use Rattle.std.specs.Prelude.{◌≡◌, ℕ, List, Some, length}
+use Rattle.std.specs.Prelude.{◌≡◌, ℕ, List, Some, length, true}
 use Rattle.jiter_value.specs.DocumentEnds.{AnswersSo}
+use Rattle.jiter_value.specs.Growing.{IsGrowing}
 use Rattle.jiter_value.specs.OpenDocument.{strictly}
 use Rattle.jiter_value.specs.Together.{IsTogether}
 use Rattle.jiter_value.specs.Value.{view}
@@ -21,9 +22,10 @@ received s = record {
 }
 
 -- The reading has received the bytes t: the value so far is together, and it is told what they answer in the document's
--- mode and with partial reading off, the first fault or the value.
+-- mode and with partial reading off, the first fault or the value. It is known where plain bytes go on with a string.
 pub record HasReceived (r : Received) (t : List ℕ) : Type 0 where
   pub together : IsTogether r.held.document r.held.depth r.held.shown t
   pub position : r.position ≡ length t
   pub mode : AnswersSo r.settings t r.held.fault (Some (view r.held.document.value.root))
   pub strict : AnswersSo (strictly r.settings) t r.held.first (Some (view r.held.document.value.root))
+  pub growing : r.held.growing ≡ true → IsGrowing r.held.document

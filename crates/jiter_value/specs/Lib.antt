@@ -21,11 +21,13 @@ pub mod Equality
 pub mod Spine
 pub mod Arrived
 pub mod OpenValue
+pub mod Replaced
 pub mod Names
 pub mod OpenDocument
 pub mod DocumentStrings
 pub mod DocumentEnds
 pub mod Together
+pub mod Growing
 pub mod Arriving
 pub mod ValueCode
 pub mod KeySets

@@ -1,9 +1,11 @@
 -- A document that arrives in pieces, between two of them: its value so far is put together, to be shown.
 use Rattle.std.specs.Prelude.{◌≡◌, ℕ, Bool, true, false, List, [], length, string_bytes, None}
+use Rattle.std.specs.Str.{IsUtf8}
 use Rattle.jiter_scan.specs.declared.open_number.OpenNumber.{OpenNumber}
 use Rattle.jiter_steps.specs.OpenText.{with_text}
 use Rattle.jiter_steps.specs.Tree.{string}
 use Rattle.jiter_steps.specs.declared.open_string.OpenString.{OpenString}
+use Rattle.jiter_value.specs.DocumentEnds.{is_shown}
 use Rattle.jiter_value.specs.NumberText.{long_bytes}
 use Rattle.jiter_value.specs.OpenDocument.{Holding, Known, Opened, anything}
 use Rattle.jiter_value.specs.OpenValue.{IsPutTogether, IsShown, text_of}
@@ -32,6 +34,7 @@ HasMoved token.Text d n s v =
     (view v ≡ string (text_of d.string.text.text))
     × (s.text ≡ with_text d.string.text [])
     × (s.escape ≡ d.string.escape)
+    × IsUtf8 d.string.text.text
 HasMoved other d n s v = ⊥
 
 -- the same document, with this number, string and value
@@ -64,6 +67,7 @@ IsSettled true old new depth =
 pub record HoldsTogether (d : OpenDocument) (depth : ℕ) (shown : Bool) (t : List ℕ) (o : Opened) : Type 0 where
   pub apart : OpenDocument
   pub held : Holding apart t o
+  pub shows : is_shown apart ≡ shown
   pub same : d ≡ with_parts apart d.number d.string d.value
   pub settled : IsSettled shown apart d depth
 

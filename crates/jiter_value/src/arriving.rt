@@ -12,6 +12,7 @@ ghost use Rattle.jiter_value.specs.Parses.{Parses};
 ghost use Rattle.jiter_value.specs.Value.{view};
 ghost use Rattle.jiter_value.specs.declared.settings.Settings.{Settings};
 
+use crate::growing::is_plain;
 use crate::open_document::OpenDocument;
 use crate::settings::Settings;
 use crate::value::JsonValue;
@@ -23,14 +24,16 @@ use std::marker::Model;
 
 // A document whose value so far is together, and what its bytes answer.
 #[derive(Drop)]
-struct Settled {
-    document: OpenDocument,
+pub(crate) struct Settled {
+    pub(crate) document: OpenDocument,
     // how many containers are open, and whether the unfinished scalar is shown
-    depth: usize,
-    shown: bool,
+    pub(crate) depth: usize,
+    pub(crate) shown: bool,
+    // whether plain bytes go on with an unfinished string or key
+    pub(crate) growing: bool,
     // the fault in the document's mode, and with partial reading off
-    fault: Option<Fault>,
-    first: Option<Fault>,
+    pub(crate) fault: Option<Fault>,
+    pub(crate) first: Option<Fault>,
 }
 
 // The answer of a document: its fault, or else its value.
@@ -54,10 +57,12 @@ impl Settled {
     {
         self.fault = self.document.mode_fault();
         self.first = self.document.strict_fault();
+        self.growing = false;
         if self.document.fault.is_none() {
             let (depth, shown) = self.document.settle();
             self.depth = depth;
             self.shown = shown;
+            self.growing = self.document.is_growing();
         }
     }
 
@@ -72,8 +77,9 @@ impl Settled {
         }
     }
 
-    // Takes a piece.
-    fn take(&mut self, piece: &[u8]) -> Result<(), Refused>
+    // Takes a piece, the value taken apart.
+    #[inline(never)]
+    fn take_apart(&mut self, piece: &[u8]) -> Result<(), Refused>
         requires received { (t : List ℕ) × HasReceived (received self.old) t }
         requires room { self.old.document.position + length piece.now < 2 ^ 64 }
         ensures ok { (t : List ℕ) → HasReceived (received self.old) t
@@ -91,6 +97,28 @@ impl Settled {
         let taken = self.document.take_all(piece);
         self.settle();
         taken
+    }
+
+    // Takes a piece.
+    #[inline(always)]
+    fn take(&mut self, piece: &[u8]) -> Result<(), Refused>
+        requires received { (t : List ℕ) × HasReceived (received self.old) t }
+        requires room { self.old.document.position + length piece.now < 2 ^ 64 }
+        ensures ok { (t : List ℕ) → HasReceived (received self.old) t
+            → OnOk result (HasReceived (received self.new) (t ++ piece.now)) }
+        ensures refused { (t : List ℕ) → HasReceived (received self.old) t → OnErr result
+            (HasReceived (received self.new)
+            (t ++ take (self.new.document.position - self.old.document.position) piece.now)) }
+        ensures wanted { (t : List ℕ) → HasReceived (received self.old) t
+            → OnErr result (MayRefuseAt (t ++ piece.now) self.new.document.position) }
+        ensures within { (self.old.document.position ≤ self.new.document.position)
+            × (self.new.document.position ≤ self.old.document.position + length piece.now) }
+        ensures settings { self.new.document.settings ≡ self.old.document.settings }
+    {
+        if self.growing && is_plain(piece) {
+            return self.grow(piece);
+        }
+        self.take_apart(piece)
     }
 }
 
@@ -141,6 +169,7 @@ impl Arriving {
             document: OpenDocument::new(alloc, settings),
             depth: 0,
             shown: false,
+            growing: false,
             fault: None,
             first: None,
         };

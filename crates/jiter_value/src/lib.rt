@@ -7,6 +7,7 @@ pub mod copies;
 pub mod document_strings;
 pub mod ends;
 pub mod equality;
+mod growing;
 pub mod machine;
 pub mod names;
 pub mod number_text;

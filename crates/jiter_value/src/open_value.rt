@@ -4,6 +4,7 @@ ghost use Rattle.std.specs.Prelude.{◌≡◌, ◌∷◌, ◌++◌, ◌<◌, [],
 ghost use Rattle.std.specs.Prelude.{true, ℕ};
 ghost use Rattle.std.specs.Prelude.{option_map};
 ghost use Rattle.jiter_scan.specs.Ascii.{colon};
+ghost use Rattle.std.specs.Str.{IsAscii};
 ghost use Rattle.jiter_scan.specs.Kind.{Kind, fault_kind};
 ghost use Rattle.jiter_scan.specs.PartialMode.{is_active};
 ghost use Rattle.jiter_scan.specs.Scanned.{taken};
@@ -19,6 +20,7 @@ ghost use Rattle.jiter_value.specs.OpenValue.{IsLeft, IsPutTogether, IsRightSign
 ghost use Rattle.jiter_value.specs.OpenValue.{TakesByte, completed, step_by, text_of};
 ghost use Rattle.jiter_value.specs.Owned.{owned_tree};
 ghost use Rattle.jiter_value.specs.Parses.{reading_as};
+ghost use Rattle.jiter_value.specs.Replaced.{HasReplaced, HoldsTextInside, with_root};
 ghost use Rattle.jiter_value.specs.Settings.{answer_by, rules_as};
 ghost use Rattle.jiter_value.specs.Spine.{OpenFrame, AwaitsPart, HasRoomInside, HasValue, IsInPlace, IsOfKey};
 ghost use Rattle.jiter_value.specs.Spine.{StandsFor, spine_of};
@@ -29,7 +31,7 @@ ghost use Rattle.jiter_value.specs.declared.settings.Settings.{Settings};
 ghost use Rattle.jiter_value.specs.declared.value.JsonValue.{JsonValue as JsonValueView};
 
 use crate::spine::{
-    close, make_room_inside, open_container, put, put_together, take_apart, take_back,
+    append_text, close, make_room_inside, open_container, put, put_together, take_apart, take_back,
 };
 use crate::value::JsonValue;
 use jiter_scan::errors::FaultKind;
@@ -504,6 +506,22 @@ impl OpenValue {
         ensures { (old : OpenValueView) → IsPutTogether old self.old depth → IsApartAs old self.new }
     {
         take_apart(&mut self.spine, &mut self.root, depth);
+    }
+
+    /// Bytes below 80 hex behind the text that is shown, so many containers deep, where these are together. Where memory
+    /// is refused, the text is the same.
+    #[inline(always)]
+    pub fn append_text(&mut self, depth: usize, bytes: &[u8]) -> Result<(), Refused>
+        requires text { (w : List ℕ) × HoldsTextInside depth self.old.root w }
+        requires ascii { IsAscii bytes.now }
+        ensures ok { (w : List ℕ) → HoldsTextInside depth self.old.root w
+            → OnOk result (HasReplaced depth self.old.root self.new.root (w ++ bytes.now)) }
+        ensures refused { (w : List ℕ) → HoldsTextInside depth self.old.root w
+            → OnErr result (HasReplaced depth self.old.root self.new.root w) }
+        ensures some { OnErr result (0 < length bytes.now) }
+        ensures same { self.new ≡ with_root self.old self.new.root }
+    {
+        append_text(&mut self.root, depth, bytes)
     }
 
     /// The value so far, where its containers are together.

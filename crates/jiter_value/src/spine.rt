@@ -3,13 +3,16 @@
 //! in the place of the one inside it. To go from one to the other takes no memory.
 ghost use Rattle.std.specs.Prelude.{◌≡◌, ◌+◌, ◌≤◌, ◌<◌, ◌∷◌, ◌++◌, [], List, OnErr, OnOk, length, map, vec_len};
 ghost use Rattle.std.specs.Prelude.{vec_capacity, ℕ, true};
+ghost use Rattle.std.specs.Str.{IsAscii};
 ghost use Rattle.jiter_scan.specs.PartialMode.{is_active};
 ghost use Rattle.jiter_steps.specs.Read.{done};
 ghost use Rattle.jiter_steps.specs.StringDecoder.{text_view};
-ghost use Rattle.jiter_steps.specs.Tree.{Text, Tree};
+ghost use Rattle.jiter_steps.specs.Tree.{Text, Tree, string};
 ghost use Rattle.jiter_value.specs.Arrived.{Arrived, HasRead, Holds, shown};
+ghost use Rattle.jiter_value.specs.OpenValue.{text_of};
 ghost use Rattle.jiter_value.specs.Owned.{owned_tree};
 ghost use Rattle.jiter_value.specs.Parses.{reading_as};
+ghost use Rattle.jiter_value.specs.Replaced.{HasReplaced, HoldsTextInside};
 ghost use Rattle.jiter_value.specs.Settings.{answer_by};
 ghost use Rattle.jiter_value.specs.Spine.{OpenFrame, around, begun, filled, parents_of, spine_of, HasPart, IsOpen};
 ghost use Rattle.jiter_value.specs.Spine.{StandsFor, HasValue, AwaitsPart, IsOfKey, IsRoomy, HasRoomInside, IsLastPart};
@@ -23,7 +26,7 @@ ghost use Rattle.jiter_value.specs.declared.settings.Settings.{Settings};
 ghost use Rattle.jiter_value.specs.declared.value.JsonValue.{JsonValue as JsonValueView, out-JsonValue};
 
 use crate::value::{JsonArray, JsonObject, JsonValue};
-use jiter_scan::memory::{Refused, make_room};
+use jiter_scan::memory::{Refused, make_room, push_ascii};
 use jiter_steps::parse::Shape;
 use std::alloc::Global;
 use std::borrow::CowStr;
@@ -283,4 +286,52 @@ pub fn take_back<'j>(
         return mem::replace(root, JsonValue::Null);
     }
     remove(&mut spine[depth - 1], key)
+}
+
+// Bytes below 80 hex behind a text.
+#[inline(always)]
+fn append_here(value: &mut JsonValue<'static>, bytes: &[u8]) -> Result<(), Refused>
+    requires text { (w : List ℕ) × (view value.old ≡ string (text_of w)) }
+    requires ascii { IsAscii bytes.now }
+    ensures ok { (w : List ℕ) → view value.old ≡ string (text_of w)
+        → OnOk result (view value.new ≡ string (text_of (w ++ bytes.now))) }
+    ensures refused { (w : List ℕ) → view value.old ≡ string (text_of w)
+        → OnErr result (view value.new ≡ string (text_of w)) }
+    ensures some { OnErr result (0 < length bytes.now) }
+{
+    match value {
+        JsonValue::Str(CowStr::Owned(text)) => push_ascii(text, bytes),
+        _ => unreachable!(),
+    }
+}
+
+/// Bytes below 80 hex behind the text that stands so many containers deep inside the root, each the last part of the
+/// next. Where memory is refused, the text is the same.
+pub fn append_text(
+    root: &mut JsonValue<'static>,
+    depth: usize,
+    bytes: &[u8],
+) -> Result<(), Refused>
+    requires text { (w : List ℕ) × HoldsTextInside depth root.old w }
+    requires ascii { IsAscii bytes.now }
+    ensures ok { (w : List ℕ) → HoldsTextInside depth root.old w
+        → OnOk result (HasReplaced depth root.old root.new (w ++ bytes.now)) }
+    ensures refused { (w : List ℕ) → HoldsTextInside depth root.old w
+        → OnErr result (HasReplaced depth root.old root.new w) }
+    ensures some { OnErr result (0 < length bytes.now) }
+{
+    if depth == 0 {
+        return append_here(root, bytes);
+    }
+    match root {
+        JsonValue::Array(items) => {
+            let last = items.len() - 1;
+            append_text(&mut items[last], depth - 1, bytes)
+        }
+        JsonValue::Object(members) => {
+            let last = members.len() - 1;
+            append_text(&mut members[last].1, depth - 1, bytes)
+        }
+        _ => unreachable!(),
+    }
 }

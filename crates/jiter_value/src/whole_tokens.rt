@@ -30,7 +30,7 @@ use jiter_scan::number_within::{ShortWithin, number_within, short_within};
 use jiter_scan::text::ascii_text;
 use jiter_scan::{NumberAny, NumberInt};
 use jiter_steps::open_string::text_within;
-use jiter_steps::parse::Literal;
+use jiter_steps::parse::{Literal, Start, start_of};
 use jiter_steps::plain::plain_literal_end;
 
 // A number that was read as a value, if it is an integer of 64 signed bits or its text is short. It takes no memory.
@@ -139,7 +139,6 @@ impl OpenDocument {
     }
 
     // The same of a byte that begins no decimal number.
-    #[inline(always)]
     fn step_sign(&mut self, piece: &[u8], at: usize) -> Result<usize, Refused>
         requires within { at < length piece.now }
         requires other { begins_decimal (slice_index piece.now at) ≡ false }
@@ -388,11 +387,9 @@ impl OpenDocument {
         if begins_decimal(byte) {
             return self.step_number(piece, at);
         }
-        match byte {
-            b'"' => self.step_text(piece, at),
-            b'n' => self.step_literal(piece, at, Literal::Null),
-            b't' => self.step_literal(piece, at, Literal::True),
-            b'f' => self.step_literal(piece, at, Literal::False),
+        match start_of(byte) {
+            Start::String => self.step_text(piece, at),
+            Start::Literal(literal) => self.step_literal(piece, at, literal),
             _ => self.step_sign(piece, at),
         }
     }

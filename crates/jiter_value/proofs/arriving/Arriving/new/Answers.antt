@@ -3,3 +3,6 @@ use Rattle.jiter_value.proofs.arriving.Arriving.new.Goals as goal
 
 pub invariant_of-result : goal.invariant_of-result
 invariant_of-result c = ([], c.settle.ensures.received [] c.new.ensures.arrived)
+
+pub returns-clause-begun : goal.returns-clause-begun
+returns-clause-begun c = c.settle.ensures.received [] c.new.ensures.arrived

@@ -16,7 +16,7 @@ put_together-requires c =
 pub returns-then-not-is_shown-clause-together : goal.returns-then-not-is_shown-clause-together
 returns-then-not-is_shown-clause-together c = λ t h.
     settled-plain c.args.self.now t h c.requires.unset c.put_together.result c.put_together.new.self
-    c.put_together.ensures.together
+    (sym c.is_shown.ensures ∙ c.if-not-is_shown.true) c.put_together.ensures.together
 
 pub returns-then-not-is_shown-clause-value : goal.returns-then-not-is_shown-clause-value
 returns-then-not-is_shown-clause-value c = λ t h v is.
@@ -52,7 +52,8 @@ returns-clause-together c = λ t h.
     let same : with_parts left left.number left.string new ≡ with_parts d left.number left.string new =
     ap (λ e. with_parts e left.number left.string new) c.take_shown-value.ensures.same in
     subst (λ e. IsTogether e depth true t) (sym same)
-    (settled-shown d t h c.requires.unset depth left.number left.string x w new c.take_shown-value.ensures.moved shows
+    (settled-shown d t h c.requires.unset depth left.number left.string x w new
+    (sym c.is_shown.ensures ∙ c.if-not-is_shown.false) c.take_shown-value.ensures.moved shows
     c.put_together-2.ensures.together)
 
 pub returns-clause-value : goal.returns-clause-value

@@ -1,0 +1,32 @@
+-- A piece that lies whole in a string or a key, which it does not end.
+use Rattle.std.specs.Prelude.{◌≡◌, ℕ, Option, Some, None}
+use Rattle.jiter_scan.specs.declared.errors.Fault.{Fault}
+use Rattle.jiter_steps.specs.OpenString.{IsEven}
+use Rattle.jiter_value.specs.DocumentStrings.{IsOfString}
+use Rattle.jiter_value.specs.declared.arriving.Settled.{Settled}
+use Rattle.jiter_value.specs.declared.open_document.OpenDocument.{OpenDocument}
+
+-- A string or a key is unfinished, and plain bytes go on with it.
+abbrev pub IsGrowing : OpenDocument → Type 0
+IsGrowing d = (d.fault ≡ None) × IsOfString d.token × IsEven d.string
+
+-- the fault of the end, if one is told, where the bytes end now
+abbrev pub moved_to : ℕ → Option Fault → Option Fault
+moved_to j None = None
+moved_to j (Some f) = Some (record { kind = f.kind; index = j })
+
+-- the same unless there is a first fault
+abbrev pub moved_unless : Option Fault → ℕ → Option Fault → Option Fault
+moved_unless None j x = moved_to j x
+moved_unless (Some f) j x = x
+
+-- the faults of the end where the bytes end now
+abbrev pub with_ends : Settled → Settled
+with_ends s = record {
+  document = s.document;
+  depth = s.depth;
+  shown = s.shown;
+  growing = s.growing;
+  fault = moved_to s.document.position s.fault;
+  first = moved_unless s.document.first s.document.position s.first;
+}
