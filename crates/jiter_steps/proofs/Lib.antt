@@ -8,5 +8,6 @@ pub mod OpenStrings
 pub mod OpenTexts
 pub mod Pins
 pub mod Reading
+pub mod StringsWithin
 pub mod Unique
 mod Rows

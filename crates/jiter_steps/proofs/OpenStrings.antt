@@ -19,8 +19,8 @@ use Rattle.jiter_scan.proofs.Standing.{slice-stands}
 use Rattle.jiter_steps.specs.OpenEscape.{IsSpelled}
 use Rattle.jiter_steps.specs.OpenString.{Goes, HasTaken, IsEven, IsTextWithin, grown, held_bytes}
 use Rattle.jiter_steps.specs.OpenText.{HoldsBytes, HoldsText, SoFar}
-use Rattle.jiter_steps.specs.StringReading.{Body, Form, Stop, before, between, body_at, checked, closed, content_at}
-use Rattle.jiter_steps.specs.StringReading.{cut, is_cut, kept, over, part, portion_at, raw, raw_kept, text_form}
+use Rattle.jiter_steps.specs.StringReading.{Body, Form, Stop, before, body_at, checked, closed, content_at}
+use Rattle.jiter_steps.specs.StringReading.{cut, is_cut, kept, over, part, portion_at, text_form}
 use Rattle.jiter_steps.specs.StringReading.{text_in_form, unclosed, whole, wrong}
 use Rattle.jiter_steps.specs.declared.open_escape.Spelled.TheVariants as spelled
 use Rattle.jiter_steps.specs.declared.open_string.OpenString.{OpenString}
@@ -393,32 +393,17 @@ module _ (v t : List ℕ) (i j : ℕ) (pass : Pass is_plain v) (utf8 : IsUtf8 v)
   abbrev inner : (k : ℕ) × Stands t (i + 1) k v × Stands t k j (34 ∷ [])
   inner = stands-split t (i + 1) j v (34 ∷ []) stands.1
 
-  -- the bytes between its quotes are these
-  same-source : (k : ℕ) → Stands t (i + 1) k v
-      → taken (between t (i + 1) (k + 1 - 1)) (k + 1) ≡ taken (record { owned = false; bytes = v }) (k + 1)
-  same-source k s =
-      let back : k + 1 - 1 ≡ k = omega arith in
-      ap (λ n. taken (between t (i + 1) n) (k + 1)) back
-      ∙ ap (λ b. taken (record { owned = false; bytes = b }) (k + 1)) (sym (slice-stands t (i + 1) k v s))
-
-  -- and so it is read in each form
-  closed-so : (form : Form) (k : ℕ) → Stands t (i + 1) k v
-      → text_in_form form t (i + 1) v false (closed (k + 1))
-      ≡ taken (record { owned = false; bytes = v }) (k + 1)
-  closed-so whole k s = string-checked (i + 1) (k + 1) false v false utf8
-  closed-so kept k s = string-checked (i + 1) (k + 1) false v true utf8
-  closed-so raw k s = same-source k s
-  closed-so raw_kept k s = same-source k s
-
-  pub plain-string : (form : Form) → content_at form t (i + 1) ≡ taken (record { owned = false; bytes = v }) j
-  plain-string form =
+  -- and so it is read
+  pub plain-string : (keep : Bool)
+      → content_at (text_form keep) t (i + 1) ≡ taken (record { owned = false; bytes = v }) j
+  plain-string keep =
       let k = inner.0 in
-      let s = inner.1 in
       let end = inner.2 in
-      stops-so t (i + 1) k v false (bytes-read t (i + 1) k v (plain-all v pass) s) (closed (k + 1))
-      (portion_by-quote t k end.0) form
-      ∙ ap (λ b. text_in_form form t (i + 1) b false (closed (k + 1))) (append-nil v)
-      ∙ closed-so form k s
+      stops-so t (i + 1) k v false (bytes-read t (i + 1) k v (plain-all v pass) inner.1) (closed (k + 1))
+      (portion_by-quote t k end.0) (text_form keep)
+      ∙ ap (λ b. text_in_form (text_form keep) t (i + 1) b false (closed (k + 1))) (append-nil v)
+      ∙ string_closed keep t (i + 1) v false (k + 1)
+      ∙ string-checked (i + 1) (k + 1) false v keep utf8
       ∙ ap (taken (record { owned = false; bytes = v })) end.1
 
 -- What stands between a quote in a piece and the next byte that stops, which is a quote, is the string's text.
@@ -443,11 +428,12 @@ module _ (piece : List ℕ) (at to : ℕ) (stop : to ≡ scan_stop piece (at + 1
 
   pub text-within : (text : List ℕ) → text ≡ inside → IsUtf8 text → IsTextWithin piece at text (to + 1)
   text-within text is utf8 = record {
+    owned = false;
     first = first;
     within = (omega (arith, stop), omega (arith, slice_get_within piece to 34 last));
     quoted = λ t i s. (here t i s).0;
-    reads = λ form t i s.
-        plain-string inside t i (i + length quoted) inside-plain (subst IsUtf8 is utf8) (here t i s) form
+    reads = λ keep t i s.
+        plain-string inside t i (i + length quoted) inside-plain (subst IsUtf8 is utf8) (here t i s) keep
         ∙ ap (λ b. taken (record { owned = false; bytes = b }) (i + length quoted)) (sym is);
   } where
     here : (t : List ℕ) (i : ℕ) → Stands t i (i + length quoted) quoted

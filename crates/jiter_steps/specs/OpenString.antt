@@ -1,12 +1,13 @@
 -- A string that arrives in pieces: what its bytes so far make of it, wherever they stand and whatever comes.
 use Rattle.std.specs.Prelude.{◌≡◌, ℕ, ◌+◌, ◌-◌, ◌≤◌, ◌<◌, Bool, List, [], ◌++◌, length, slice_get, slice_range}
-use Rattle.std.specs.Prelude.{Option, Some, None, IfSome, false, if◌then◌else◌}
+use Rattle.std.specs.Prelude.{Option, Some, None, IfSome, if◌then◌else◌}
 use Rattle.jiter_scan.specs.Ascii as ascii
 use Rattle.jiter_scan.specs.Kind.{fault_kind, invalid_code_point}
 use Rattle.jiter_scan.specs.Scanned.{Scanned, taken, failed}
 use Rattle.jiter_scan.specs.Stands.{Stands}
 use Rattle.jiter_steps.specs.OpenText.{HoldsText, IsWhole, with_text}
 use Rattle.jiter_steps.specs.StringReading.{Form, before, body_at, content_at, cut, over, portion_at, string_at}
+use Rattle.jiter_steps.specs.StringReading.{text_form}
 use Rattle.jiter_steps.specs.Tree.{Text}
 use Rattle.jiter_steps.specs.declared.open_string.OpenString.{OpenString}
 use Rattle.jiter_steps.specs.declared.open_string.Went.{Went}
@@ -63,10 +64,11 @@ text_or whole i escaped text e =
     else failed invalid_code_point (i + length text)
 
 -- The string whose opening quote stands at a place of a piece ends before e: wherever its bytes stand, the quote among
--- them, its text is read, in each form.
+-- them, its text is read, whether cut strings are kept or not.
 pub record IsTextWithin (piece : List ℕ) (at : ℕ) (text : List ℕ) (e : ℕ) : Type 0 where
+  pub owned : Bool
   pub first : slice_get piece at ≡ Some ascii.quote
   pub within : (at + 1 < e) × (e ≤ length piece)
   pub quoted : Wherever (slice_range piece at e) (λ t i j. slice_get t i ≡ Some ascii.quote)
-  pub reads : (form : Form) → Wherever (slice_range piece at e) (λ t i j. string_at form t i
-      ≡ taken (record { owned = false; bytes = text }) j)
+  pub reads : (keep : Bool) → Wherever (slice_range piece at e) (λ t i j. string_at (text_form keep) t i
+      ≡ taken (record { owned = owned; bytes = text }) j)

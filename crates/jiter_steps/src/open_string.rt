@@ -8,16 +8,19 @@ ghost use Rattle.jiter_scan.specs.Scan.{Pass, is_plain, is_plain_ascii};
 ghost use Rattle.jiter_scan.specs.Scanned.{failed};
 ghost use Rattle.jiter_steps.specs.OpenString.{Goes, HasTaken, IsEven, IsPart, IsTextWithin, Wherever, grown, text_or};
 ghost use Rattle.jiter_steps.specs.OpenText.{with_text};
+ghost use Rattle.jiter_steps.specs.StringDecoder.{WantsMemory};
 ghost use Rattle.jiter_steps.specs.StringReading.{content_at, kept, text_form, whole};
 
 use crate::escape::{AtStop, next_portion};
 use crate::open_escape::{OpenEscape, Spelled};
 use crate::open_text::{FEW, OpenText};
 use crate::plain::{ascii_between, text_between};
+use crate::string_decoder::decode_whole;
 use jiter_scan::errors::FaultKind;
 use jiter_scan::memory::{Refused, copy_text};
 use jiter_scan::short_scan::scan_short;
 use jiter_scan::simd::string_stop;
+use jiter_scan::text::utf8_text;
 use std::alloc::Global;
 
 /// What the next bytes are to a string.
@@ -52,11 +55,35 @@ fn plain_run(piece: &[u8], at: usize, most: usize) -> &[u8]
     &near[at..string_stop(near, at)]
 }
 
-/// The string whose opening quote stands at a place of a piece, if it ends within the piece and holds no escape: its
-/// text, owned, and the place behind its closing quote. None where it does not, and where it is no text: then it is
-/// read as one that goes on.
+// The string with a backslash whose opening quote stands at a place of a piece, if it is whole there: its text, decoded
+// on the tape and owned, and the place behind its closing quote.
+#[inline(never)]
+fn decoded_within(
+    alloc: Global,
+    tape: &mut Vec<u8>,
+    piece: &[u8],
+    at: usize,
+) -> Result<Option<(String, usize)>, Refused>
+    requires first { slice_get piece.now at ≡ Some ascii.quote }
+    requires backslash { WantsMemory piece.now at }
+    ensures { IfOk result (λ found. IfSome found (λ x. IsTextWithin piece.now at (string_bytes x.0) x.1)) }
+{
+    match decode_whole(tape, piece, at) {
+        Ok((count, end)) => {
+            let text = utf8_text(&tape.as_slice()[..count]);
+            Ok(Some((copy_text(alloc, text)?, end)))
+        }
+        Err(Some(refused)) => Err(refused),
+        Err(None) => Ok(None),
+    }
+}
+
+/// The string whose opening quote stands at a place of a piece, if it is whole there: its text, owned, and the place
+/// behind its closing quote. One with a backslash is decoded on the tape. None where the piece ends within it, and
+/// where it is no text: then it is read as one that goes on.
 pub fn text_within(
     alloc: Global,
+    tape: &mut Vec<u8>,
     piece: &[u8],
     at: usize,
 ) -> Result<Option<(String, usize)>, Refused>
@@ -67,8 +94,14 @@ pub fn text_within(
         return Ok(None);
     }
     let (to, low) = scan_short(piece, at + 1);
-    if to >= piece.len() || piece[to] != b'"' {
+    if to >= piece.len() {
         return Ok(None);
+    }
+    if piece[to] != b'"' {
+        if piece[to] != b'\\' {
+            return Ok(None);
+        }
+        return decoded_within(alloc, tape, piece, at);
     }
     let found = if low {
         Some(ascii_between(piece, at, to))

@@ -1,26 +1,29 @@
 -- A string or a key of a document that arrives, which lies whole in a piece.
 use Rattle.std.proofs.Common.{◌≡◌, ℕ, ◌+◌, ◌<◌, ◌≤◌, List, ◌∷◌, ◌++◌, length, get_or, refl, ap, ◌∙◌, arith}
-use Rattle.std.proofs.Common.{false, length-append}
+use Rattle.std.proofs.Common.{Bool, false, length-append}
 use Rattle.std.proofs.lemmas.Option.{slice_get-get_or}
-use Rattle.std.specs.Prelude.{slice_get, slice_range, Some}
+use Rattle.std.specs.Prelude.{Err, IfOk, Ok, OnErr, Result, slice_get, slice_range, Some}
 use Rattle.jiter_scan.proofs.Standing.{slice-one, slice_range-split}
+use Rattle.jiter_scan.specs.PartialMode.{allows_trailing_strings}
 use Rattle.jiter_scan.specs.Scanned.{taken}
 use Rattle.jiter_scan.specs.Stands.{Stands}
-use Rattle.jiter_steps.specs.Answer.{value_form}
 use Rattle.jiter_steps.specs.Node.{nesting_limit}
 use Rattle.jiter_steps.specs.OpenString.{IsTextWithin}
-use Rattle.jiter_steps.specs.StringReading.{Form, content_at, whole}
-use Rattle.jiter_steps.specs.Tree.{string}
+use Rattle.jiter_steps.specs.StringReading.{content_at, text_form}
+use Rattle.jiter_steps.specs.Tree.{Text, string}
 use Rattle.jiter_value.proofs.DocumentStrings.{key-done, scalar-done}
 use Rattle.jiter_value.proofs.DocumentTokens.{held-stands}
 use Rattle.jiter_value.specs.DocumentStrings.{IsKeyAs}
-use Rattle.jiter_value.specs.OpenDocument.{Follows, IsScalarWithin, anything, with_byte}
+use Rattle.jiter_value.specs.OpenDocument.{Follows, IsScalarWithin, Stays, Takes, anything, with_byte}
 use Rattle.jiter_value.specs.OpenValue.{text_of}
 use Rattle.jiter_value.specs.declared.open_document.OpenDocument.{OpenDocument}
 
 module _ (piece : List ℕ) (at : ℕ) (text : List ℕ) (e : ℕ) (h : IsTextWithin piece at text e) where
   abbrev bytes : List ℕ
   bytes = slice_range piece at e
+
+  abbrev it : Text
+  it = record { owned = h.owned; bytes = text }
 
   bytes-are : bytes ≡ get_or piece at 0 ∷ slice_range piece (at + 1) e
   bytes-are =
@@ -41,12 +44,11 @@ module _ (piece : List ℕ) (at : ℕ) (text : List ℕ) (e : ℕ) (h : IsTextWi
     stands : (u : List ℕ) → Stands (all u) (length t) (length t + length bytes) bytes
     stands u = held-stands t bytes (t ++ bytes) (length t) refl refl u
 
-    reads : (u : List ℕ) (form : Form)
-        → content_at form (all u) (length t + 1)
-        ≡ taken (record { owned = false; bytes = text }) (length (t ++ bytes))
-    reads u form =
+    reads : (u : List ℕ) (keep : Bool)
+        → content_at (text_form keep) (all u) (length t + 1) ≡ taken it (length (t ++ bytes))
+    reads u keep =
         let place : length t + length bytes ≡ length (t ++ bytes) = omega (arith, length-append t bytes) in
-        h.reads form (all u) (length t) (stands u) ∙ ap (taken (record { owned = false; bytes = text })) place
+        h.reads keep (all u) (length t) (stands u) ∙ ap (taken it) place
 
     quoted : (u : List ℕ) → slice_get (all u) (length t) ≡ Some 34
     quoted u = h.quoted (all u) (length t) (stands u)
@@ -54,8 +56,7 @@ module _ (piece : List ℕ) (at : ℕ) (text : List ℕ) (e : ℕ) (h : IsTextWi
     -- it is read as a key,
     pub text-key : (d : OpenDocument) → IsKeyAs d anything (t ++ bytes) (length t) (text_of text)
     text-key d = λ p u reading comes.
-        key-done p (all u) (length t) (quoted u) (length (t ++ bytes)) (record { owned = false; bytes = text })
-        (reads u whole)
+        key-done p (all u) (length t) (quoted u) (length (t ++ bytes)) it (reads u false)
 
   -- and as a value.
   pub text-scalar : IsScalarWithin piece at (string (text_of text)) e
@@ -63,6 +64,17 @@ module _ (piece : List ℕ) (at : ℕ) (text : List ℕ) (e : ℕ) (h : IsTextWi
     begins = omega (arith, h.within.0);
     within = h.within.1;
     reads = λ p t u depth few.
-        scalar-done p (all t u) (length t) (quoted t u) depth (length (t ++ bytes))
-        (record { owned = false; bytes = text }) few (reads t u (value_form p.mode));
+        scalar-done p (all t u) (length t) (quoted t u) depth (length (t ++ bytes)) it few
+        (reads t u (allows_trailing_strings p.mode));
   }
+
+-- What is taken where all had stayed is taken of the document before it; so is what stays where memory is refused.
+pub taken-after : {E : Type 0} (old mid new : OpenDocument) (w : ℕ → List ℕ) (r : Result ℕ E) → Stays old mid
+    → IfOk r (λ n. Takes mid new (w n)) → IfOk r (λ n. Takes old new (w n))
+taken-after old mid new w (Ok n) stays h = λ t arrived. h t (stays t arrived)
+taken-after old mid new w (Err e) stays h = tt
+
+pub refused-after : {E : Type 0} (old mid new : OpenDocument) (r : Result ℕ E) → Stays old mid
+    → OnErr r (Stays mid new) → OnErr r (Stays old new)
+refused-after old mid new (Ok n) stays h = tt
+refused-after old mid new (Err e) stays h = λ t arrived. h t (stays t arrived)

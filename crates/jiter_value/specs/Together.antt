@@ -49,6 +49,7 @@ with_parts d n s v = record {
   word = d.word;
   number = n;
   string = s;
+  tape = d.tape;
   value = v;
   fault = d.fault;
   first = d.first;

@@ -177,13 +177,7 @@ impl OpenDocument {
 
     // Puts a scalar that ends in a piece, and takes the byte behind it, if one stands there: so many bytes are taken.
     #[inline(always)]
-    fn put_whole(
-        &mut self,
-        piece: &[u8],
-        at: usize,
-        value: JsonValue<'static>,
-        end: usize,
-    ) -> usize
+    fn put_whole(&mut self, piece: &[u8], at: usize, value: JsonValue<'static>, end: usize) -> usize
         requires scalar { IsScalarWithin piece.now at (view value) end }
         requires begins { (t : List ℕ) × (fs : List OpenFrame) × BeginsHere (slice_index piece.now at) self.old t fs }
         requires room { self.old.position + (length piece.now - at) < 2 ^ 64 }
@@ -297,7 +291,20 @@ impl OpenDocument {
         }
     }
 
-    // Takes a string or a key, all of it where it lies whole in the piece and holds no escape.
+    // The text of the string or key there, if it lies whole in the piece, and the place behind it.
+    #[inline(always)]
+    fn text_there(&mut self, piece: &[u8], at: usize) -> Result<Option<(String, usize)>, Refused>
+        requires within { at < length piece.now }
+        requires token { IsIn self.old Token.Nothing }
+        ensures text { IfOk result (λ found. IfSome found (λ x. IsTextWithin piece.now at (string_bytes x.0) x.1)) }
+        ensures stays { Stays self.old self.new }
+        ensures token { IsIn self.new Token.Nothing }
+        ensures same { StaysSo self.old self.new }
+    {
+        text_within(self.alloc, &mut self.tape, piece, at)
+    }
+
+    // Takes a string or a key, all of it where it lies whole in the piece.
     #[inline(always)]
     fn step_text(&mut self, piece: &[u8], at: usize) -> Result<usize, Refused>
         requires within { at < length piece.now }
@@ -309,7 +316,7 @@ impl OpenDocument {
         ensures refused { OnErr result (Stays self.old self.new) }
         ensures same { StaysSo self.old self.new }
     {
-        match text_within(self.alloc, piece, at)? {
+        match self.text_there(piece, at)? {
             Some((text, end)) => self.whole_text(piece, at, text, end),
             None => self.step_byte(piece, at),
         }
@@ -348,12 +355,7 @@ impl OpenDocument {
 
     // Takes a literal that begins with its first byte, all of it where it lies whole in the piece.
     #[inline(always)]
-    fn step_literal(
-        &mut self,
-        piece: &[u8],
-        at: usize,
-        literal: Literal,
-    ) -> Result<usize, Refused>
+    fn step_literal(&mut self, piece: &[u8], at: usize, literal: Literal) -> Result<usize, Refused>
         requires within { at < length piece.now }
         requires begins { start_of (slice_index piece.now at) ≡ Start.Literal literal }
         requires named { begins_decimal (slice_index piece.now at) ≡ false }
@@ -369,9 +371,7 @@ impl OpenDocument {
         };
         let byte = piece[at];
         match self.look(byte)? {
-            Went::Scalar => {
-                Ok(self.put_whole(piece, at, Name::Literal(literal).value(), end))
-            }
+            Went::Scalar => { Ok(self.put_whole(piece, at, Name::Literal(literal).value(), end)) }
             went => {
                 self.follow(went, byte);
                 Ok(1)

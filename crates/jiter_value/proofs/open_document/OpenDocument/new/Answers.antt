@@ -4,4 +4,4 @@ use Rattle.jiter_value.proofs.open_document.OpenDocument.new.Goals as goal
 
 pub returns-clause-arrived : goal.returns-clause-arrived
 returns-clause-arrived c =
-    let read = c.new-3.ensures in new-arrived _ refl refl refl refl read.left read.read
+    let read = c.new-4.ensures in new-arrived _ refl refl refl refl read.left read.read

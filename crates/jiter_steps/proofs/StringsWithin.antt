@@ -1,0 +1,103 @@
+-- A string that lies whole in a piece is read as the same text wherever its bytes stand.
+use Rattle.std.proofs.Common.{◌≡◌, ℕ, ◌+◌, ◌<◌, ◌≤◌, Bool, true, false, List, [], ◌∷◌, ◌++◌, length, sym, ap}
+use Rattle.std.proofs.Common.{◌∙◌, subst, arith}
+use Rattle.std.specs.Prelude.{slice_get, slice_range, Some}
+use Rattle.std.specs.Str.{IsUtf8}
+use Rattle.jiter_scan.proofs.Standing.{slice-one, slice_range-split, slice-stands, stands-split}
+use Rattle.jiter_scan.specs.Scanned.{taken}
+use Rattle.jiter_scan.specs.Stands.{Stands}
+use Rattle.jiter_steps.specs.OpenString.{IsTextWithin}
+use Rattle.jiter_steps.specs.StringReading.{Body, Stop, before, body_at, closed, content_at, over, part}
+use Rattle.jiter_steps.specs.StringReading.{checked, is_cut, portion_at, string_at, text_form, text_in_form, whole}
+use Rattle.jiter_steps.specs.Tree.{Text}
+use Rattle.jiter_steps.proofs.Calls.StringAnswers.{string-checked, string_closed}
+use Rattle.jiter_steps.proofs.Grammar.Places.{Explains}
+use Rattle.jiter_steps.proofs.Grammar.StringComplete.{portion_by-byte, portion_by-escape, portion_by-quote}
+use Rattle.jiter_steps.proofs.Grammar.StringSound.{closed-text}
+use Rattle.jiter_steps.proofs.Reading.Bodies.{StopWithin, body_at-portion_by, body_at-within, each-body}
+use Rattle.jiter_steps.proofs.Reading.Bodies.{part-ahead}
+
+module _ (piece : List ℕ) where
+  -- the bytes of a part are the same part, wherever they stand
+  part-again : (m j : ℕ) (bs : List ℕ) (o : Bool) → Explains piece m (part bs o j) → (t : List ℕ) (i k : ℕ)
+      → Stands t i k (slice_range piece m j) → portion_at t i ≡ part bs o k
+  part-again m j bs true h t i k s =
+      portion_by-escape t i k h.character h.bytes h.escape
+      (subst (Stands t i k) (sym (slice-stands piece m j h.bytes h.stands)) s)
+      ∙ ap (λ x. part x true k) (sym h.is)
+  part-again m j bs false h t i k s =
+      let one : slice_range piece m j ≡ h.byte ∷ [] =
+      sym (slice-stands piece m j (h.byte ∷ []) (h.here, sym h.ends)) in
+      let there : Stands t i k (h.byte ∷ []) = subst (Stands t i k) one s in
+      portion_by-byte t i h.byte there.0 (record {
+        printed = h.printed;
+        no_quote = h.no_quote;
+        no_backslash = h.no_backslash;
+      })
+      ∙ ap (λ x. part x false (i + 1)) (sym h.is)
+      ∙ ap (part bs false) there.1
+
+  -- the body from m on, which ends before e, is the same wherever its bytes stand
+  abbrev Again : ℕ → Body → Type 0
+  Again m b = (e : ℕ) → b.stop ≡ closed e → (t : List ℕ) (i k : ℕ) → Stands t i k (slice_range piece m e)
+      → body_at t i ≡ record { bytes = b.bytes; owned = b.owned; stop = closed k }
+
+  body-again : (m : ℕ) → Again m (body_at piece m)
+  body-again =
+      each-body piece Again
+      (λ m j bs o h go e stop t i k s.
+      let ahead = part-ahead piece m j bs o h in
+      let behind = subst (StopWithin piece j) stop (body_at-within piece j) in
+      let split = slice_range-split piece m j (omega (arith, ahead.0)) e (omega (arith, behind.0)) in
+      let two = stands-split t i k (slice_range piece m j) (slice_range piece j e) (subst (Stands t i k) split s) in
+      body_at-portion_by t i (part bs o two.0) (part-again m j bs o h t i two.0 two.1)
+      ∙ ap (before bs o) (go e stop t two.0 k two.2))
+      (λ m x h e stop t i k s.
+      let quote : (slice_get piece m ≡ Some 34) × (e ≡ m + 1) =
+      subst (λ (y : Stop). Explains piece m (over y)) stop h in
+      let there : Stands t i k (34 ∷ []) =
+      subst (Stands t i k) (ap (slice_range piece m) quote.1 ∙ slice-one piece m 34 quote.0) s in
+      body_at-portion_by t i (over (closed (i + 1))) (portion_by-quote t i there.0)
+      ∙ ap (λ (y : Stop). record { bytes = []; owned = is_cut y; stop = y }) (ap closed there.1)
+      ∙ ap (λ (y : Stop). record { bytes = []; owned = is_cut y; stop = closed k }) (sym stop))
+
+-- So the string whose opening quote stands at a place is the same text, where the piece reads it whole.
+module _ (piece : List ℕ) (at e : ℕ) (x : Text) (utf8 : IsUtf8 x.bytes)
+    (reads : string_at whole piece at ≡ taken x e) where
+  text-again : (keep : Bool) (t : List ℕ) (i k : ℕ) → Stands t (i + 1) k (slice_range piece (at + 1) e)
+      → string_at (text_form keep) t i ≡ taken x k
+  unfolding content_at
+  text-again keep t i k s =
+      let b = body_at piece (at + 1) in
+      let c = closed-text piece (at + 1) b.bytes b.owned b.stop x e reads in
+      ap (λ (d : Body). text_in_form (text_form keep) t (i + 1) d.bytes d.owned d.stop)
+      (body-again piece (at + 1) e c.1 t (i + 1) k s)
+      ∙ string_closed keep t (i + 1) b.bytes b.owned k
+      ∙ ap (λ (y : Text). checked keep (i + 1) y.owned y.bytes k) (sym c.0)
+      ∙ string-checked (i + 1) k x.owned x.bytes keep utf8
+
+  abbrev quoted : List ℕ
+  quoted = slice_range piece at e
+
+  -- it ends behind its quote
+  ends : (at + 1 < e) × (e ≤ length piece)
+  unfolding content_at
+  ends =
+      let b = body_at piece (at + 1) in
+      let c = closed-text piece (at + 1) b.bytes b.owned b.stop x e reads in
+      subst (StopWithin piece (at + 1)) c.1 (body_at-within piece (at + 1))
+
+  pub decoded-within : slice_get piece at ≡ Some 34 → IsTextWithin piece at x.bytes e
+  decoded-within first = record {
+    owned = x.owned;
+    first = first;
+    within = ends;
+    quoted = λ t i s. (here t i s).0;
+    reads = λ keep t i s. text-again keep t i (i + length quoted) (here t i s).1;
+  } where
+    here : (t : List ℕ) (i : ℕ) → Stands t i (i + length quoted) quoted
+        → Stands t i (i + length quoted) (34 ∷ slice_range piece (at + 1) e)
+    here t i s =
+        subst (Stands t i (i + length quoted))
+        (slice_range-split piece at (at + 1) (omega arith) e (omega (arith, ends.0))
+        ∙ ap (λ w. w ++ slice_range piece (at + 1) e) (slice-one piece at 34 first)) s
