@@ -1,6 +1,6 @@
 -- Runs of bytes that pass two tests, and where the weaker one ends with the stronger.
 use Rattle.std.proofs.Common.{◌≡◌, ℕ, ◌+◌, ◌<◌, Bool, true, false, ◌&&◌, cond, List, [], ◌∷◌, length, take, get_or}
-use Rattle.std.proofs.Common.{refl, ap, sym, subst, ◌∙◌, ◌≤◌, arith, zero, suc, drop, eqb}
+use Rattle.std.proofs.Common.{refl, ap, sym, subst, ◌∙◌, ◌≤◌, arith, suc, drop, eqb}
 use Rattle.std.specs.Prelude.{slice_get, Some}
 use Rattle.std.specs.List.{prefix_len, list_all}
 use Rattle.std.proofs.lemmas.Bool.{eqb-true}

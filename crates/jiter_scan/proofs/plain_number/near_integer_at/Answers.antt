@@ -1,5 +1,4 @@
 use Rattle.std.proofs.Common.{◌≡◌, ◌+◌, get_or, sym, ap, ◌∙◌, arith}
-use Rattle.std.specs.Prelude.{slice_get, None}
 use Rattle.std.proofs.lemmas.Option.{slice_get-get_or, slice_get_past}
 use Rattle.jiter_scan.specs.Digits.{decimal_of}
 use Rattle.jiter_scan.specs.NumberReading.{decimal_at}
@@ -25,10 +24,10 @@ returns c = record {
       let decimal : decimal_at t i ≡ taken tt (i + n) =
       elim c.else-count-rest.branch [
         | else-count-rest-via-then-count-rest+else-goes_on w ↦
-          decimal_at-int_part t i (i + n) (get_or t (i + n) 0) int_part
-          (slice_get-get_or t (i + n) 0 (omega arith)) (sym w.goes_on.ensures ∙ w.if-goes_on.false)
+            decimal_at-int_part t i (i + n) (get_or t (i + n) 0) int_part
+            (slice_get-get_or t (i + n) 0 (omega arith)) (sym w.goes_on.ensures ∙ w.if-goes_on.false)
         | else-count-rest-via-else-count-rest w ↦
-          decimal_at-over t i (i + n) int_part (slice_get_past t (i + n) (omega arith))
+            decimal_at-over t i (i + n) int_part (slice_get_past t (i + n) (omega arith))
       ] in
       record {
         int_part = int_part;

@@ -1,4 +1,4 @@
-use Rattle.std.proofs.Common.{◌+◌, ◌∙◌, sym, arith}
+use Rattle.std.proofs.Common.{◌∙◌, sym, arith}
 use Rattle.jiter_scan.specs.Scan.{is_plain_ascii}
 use Rattle.jiter_scan.proofs.AsciiRuns.{quote-stops, quote-ascii, text-through, ascii-through}
 use Rattle.jiter_scan.proofs.Chunks.{run_end-stopped}
