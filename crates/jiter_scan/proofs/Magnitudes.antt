@@ -69,6 +69,17 @@ module _ (t : List ℕ) where
         subst (λ w. 10 ^ length rest ≤ decimal_of w) (sym whole) (decimal_of-above (get_or t i 0) rest first) in
         omega arith
 
+  -- a digit more
+  pub decimal_of-more : (i e : ℕ) → i ≤ e → e < length t
+      → decimal_of (slice_range t i (e + 1)) ≡ decimal_of (slice_range t i e) * 10 + (get_or t e 0 - 48)
+  decimal_of-more i e le lt =
+      let w = slice_range t i e in
+      let c = get_or t e 0 in
+      let one : slice_range t e (e + 1) ≡ c ∷ [] = slice_range-count t e 1 ∙ ap (take 1) (drop-cons t e 0 lt) in
+      let is : slice_range t i (e + 1) ≡ w ++ c ∷ [] =
+      slice_range-split t i e le (e + 1) (omega arith) ∙ ap (λ v. w ++ v) one in
+      ap decimal_of is ∙ omega (arith, decimal_of-append w (c ∷ []))
+
   -- the value of sixteen digits, and that of those behind them
   pub decimal_of-joined : (i e a b : ℕ) → i + 16 ≤ e → e ≤ length t → a ≡ decimal_of (slice_range t i (i + 16))
       → b ≡ decimal_of (slice_range t (i + 16) e) → a * 10 ^ (e - i - 16) + b ≡ decimal_of (slice_range t i e)

@@ -1,7 +1,7 @@
 -- Numbers whose digits end within a chunk.
 use Rattle.std.proofs.Common.{◌≡◌, ◌≢◌, ◌⊎◌, inl, inr, ℕ, ◌+◌, ◌-◌, ◌<◌, ◌≤◌, ◌==◌, ◌||◌, Bool, true, false, List, []}
 use Rattle.std.proofs.Common.{◌∷◌, ◌++◌, length, take, drop, get_or, refl, sym, ap, ◌∙◌, slice_range, arith}
-use Rattle.std.specs.Prelude.{slice_get, min, Option, Some, None}
+use Rattle.std.specs.Prelude.{slice_get, Option, Some, None}
 use Rattle.std.specs.List.{prefix_len}
 use Rattle.std.proofs.lemmas.Bool.{cases_lt}
 use Rattle.std.proofs.lemmas.Bool.Decides.{nat_tests}
@@ -20,7 +20,7 @@ use Rattle.jiter_scan.proofs.Magnitudes.{slice_range-count}
 use Rattle.jiter_scan.proofs.NumberComplete.{int_part_at-complete}
 use Rattle.jiter_scan.proofs.NumberExtents.{decimal_at-tail, tail-parts}
 use Rattle.jiter_scan.proofs.NumberSound.{digits-sound, power-sound, exponent_at-sound}
-use Rattle.jiter_scan.proofs.Runs.{run_end-passes, run_end-stops, run_end-within, NoDigit}
+use Rattle.jiter_scan.proofs.Runs.{run_end-passes, run_end-stops, NoDigit}
 use Rattle.jiter_scan.proofs.Standing.{stands-slice, stands-length, stands-within, stands-append}
 
 module _ (t : List ℕ) where
@@ -94,29 +94,14 @@ module _ (t : List ℕ) where
       sym (run_end-on is_digit t i 16 run (omega arith))
       ∙ digits-counted back (i + 16) n counted few (omega arith) front
 
-  -- digits that are counted in a chunk near the text's end, those behind it left out
-  module _ (chunk : List ℕ) (i n c : ℕ) (counted : c ≡ digit_run_end chunk 0) (within : i ≤ length t)
-      (near : length t < i + 16) (front : (m : ℕ) → m ≤ 16 → i + m ≤ length t → take m chunk ≡ slice_range t i (i + m))
+  -- the integer part that is fewer digits than are looked at
+  pub int_part_at-near : (i e : ℕ) → digit_run_end t i ≡ e → e ≤ length t → length t < i + 16 → i < e
+      → ((get_or t i 0 ≡ 48) × (e - i ≡ 1)) ⊎ (get_or t i 0 ≢ 48) → int_part_at t i ≡ taken tt e
+  int_part_at-near i e run within near some first = int_part_at-run i e run some within (omega arith) (by first)
     where
-      pub digits-near : n ≡ min c (length t - i) → digit_run_end t i ≡ i + n
-      digits-near is = by (cases_lt c (length t - i)) where
-        by : (c < length t - i) ⊎ (length t - i ≤ c) → digit_run_end t i ≡ i + n
-        by (inl less) =
-            let all : n ≡ c = omega arith in
-            run_end-counted chunk i n (all ∙ counted) (front n (omega arith) (omega arith))
-            (front (n + 1) (omega arith) (omega arith))
-        by (inr more) =
-            let all : n ≡ length t - i = omega arith in
-            let low = digits-of_chunk chunk i n (omega arith) (front n (omega arith) (omega arith)) in
-            omega (arith, low, run_end-within is_digit t i within)
-
-      pub int_part_at-near : n ≡ min c (length t - i) → 0 < n → ((get_or t i 0 ≡ 48) × (n ≡ 1)) ⊎ (get_or t i 0 ≢ 48)
-          → int_part_at t i ≡ taken tt (i + n)
-      int_part_at-near is some first =
-          int_part_at-run i (i + n) (digits-near is) (omega arith) (omega arith) (omega arith) (by first) where
-            by : ((get_or t i 0 ≡ 48) × (n ≡ 1)) ⊎ (get_or t i 0 ≢ 48) → (i + n ≡ i + 1) ⊎ (get_or t i 0 ≢ 48)
-            by (inl zero) = let one = zero.1 in inl (ap (λ k. i + k) one)
-            by (inr other) = inr other
+      by : ((get_or t i 0 ≡ 48) × (e - i ≡ 1)) ⊎ (get_or t i 0 ≢ 48) → (e ≡ i + 1) ⊎ (get_or t i 0 ≢ 48)
+      by (inl zero) = let one = zero.1 in inl (omega arith)
+      by (inr other) = inr other
 
   -- one digit or more
   digits_from-run : (i e : ℕ) → digit_run_end t i ≡ e → i < e → i < length t

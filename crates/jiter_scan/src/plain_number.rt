@@ -1,9 +1,9 @@
 //! Plain numbers: short ones with as many bytes ahead as are looked at, sixteen at a time, with the answer in
 //! registers.
-ghost use Rattle.std.specs.Prelude.{◌≡◌, ◌==◌, ◌||◌, ◌<◌, ◌≤◌, ◌+◌, ◌^◌, IfSome, length, pos, slice_get};
+ghost use Rattle.std.specs.Prelude.{◌≡◌, ◌==◌, ◌||◌, ◌<◌, ◌≤◌, ◌+◌, ◌^◌, IfSome, length, pos, slice_get, slice_range};
 ghost use Rattle.std.specs.Prelude.{if◌then◌else◌};
 ghost use Rattle.jiter_scan.specs.Ascii as ascii;
-ghost use Rattle.jiter_scan.specs.Digits.{digit_run_end};
+ghost use Rattle.jiter_scan.specs.Digits.{decimal_of, digit_run_end};
 ghost use Rattle.jiter_scan.specs.Number.{minus_of};
 ghost use Rattle.jiter_scan.specs.NumberReading.{extent_then, digits_from, fraction_at, power_from, exponent_at};
 ghost use Rattle.jiter_scan.specs.NumberReading.{is_float_sign};
@@ -11,7 +11,7 @@ ghost use Rattle.jiter_scan.specs.Scanned.{taken};
 ghost use Rattle.jiter_scan.specs.PlainNumber.{IsPlainInteger, IsPlainNumber};
 
 use crate::number_decoder::{digits_magnitude, is_float_sign};
-use crate::simd::{chunk_at, digit_count, digit_word, full_chunk_at};
+use crate::simd::{digit_count, digit_word, full_chunk_at, is_digit};
 
 // The bytes from a number's first digit on that are looked at at once.
 const REACH: usize = 16;
@@ -199,6 +199,24 @@ pub fn plain_number_at(bytes: &[u8], at: usize) -> PlainNumber
     roomy_number_at(bytes, at)
 }
 
+// What the digits at `at` write, fewer than sixteen, and the place behind them, perhaps none.
+#[inline(always)]
+fn near_digits(bytes: &[u8], at: usize) -> (u64, usize)
+    requires within { at ≤ length bytes.now }
+    requires near { length bytes.now < at + 16 }
+    ensures end { digit_run_end bytes.now at ≡ result.1 }
+    ensures place { (at ≤ result.1) × (result.1 ≤ length bytes.now) }
+    ensures value { result.0 ≡ decimal_of (slice_range bytes.now at result.1) }
+{
+    let mut number = 0;
+    let mut end = at;
+    while end < bytes.len() && is_digit(bytes[end]) {
+        number = number * 10 + u64::from(bytes[end] - b'0');
+        end += 1;
+    }
+    (number, end)
+}
+
 /// The magnitude of the digits at a byte index, and the place behind them, where fewer bytes stand from there on than
 /// are looked at, and the digits are an integer. Where they are none, no place behind the first one is told.
 pub fn near_integer_at(bytes: &[u8], at: usize) -> (u64, usize)
@@ -206,17 +224,15 @@ pub fn near_integer_at(bytes: &[u8], at: usize) -> (u64, usize)
     requires near { length bytes.now < at + 16 }
     ensures integer { at < result.1 → IsPlainInteger bytes.now at result.0 result.1 }
 {
-    let rest = bytes.len() - at;
-    let chunk = chunk_at(bytes, at);
-    let count = digit_count(chunk).min(rest);
-    if count == 0 || bytes[at] == b'0' && count != 1 {
+    let (number, end) = near_digits(bytes, at);
+    let count = end - at;
+    if end == at || bytes[at] == b'0' && count != 1 {
         return (0, at);
     }
-    let end = at + count;
-    if count < rest && goes_on(bytes[end]) {
+    if end < bytes.len() && goes_on(bytes[end]) {
         return (0, at);
     }
-    (digit_word(chunk, count), end)
+    (number, end)
 }
 
 /// The number whose first digit stands at a byte index, if it is short, or if it is an integer near the input's end.

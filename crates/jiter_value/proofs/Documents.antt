@@ -7,6 +7,7 @@ use Rattle.std.proofs.lemmas.List.{append-nil}
 use Rattle.std.proofs.lemmas.Option.{none-some, slice_get-get_or, get_or_from_slice_get}
 use Rattle.jiter_scan.proofs.Choices.{if_case, if-false}
 use Rattle.jiter_scan.specs.Kind.{Kind, fault_kind, trailing_characters}
+use Rattle.jiter_scan.specs.OpenNumber.{HoldsNumber}
 use Rattle.jiter_scan.specs.PartialMode.{is_active}
 use Rattle.jiter_scan.specs.declared.errors.Fault.{Fault}
 use Rattle.jiter_scan.specs.declared.errors.FaultKind.{FaultKind}
@@ -22,7 +23,6 @@ use Rattle.jiter_steps.specs.declared.parse.Shape.{Shape}
 use Rattle.jiter_value.specs.Arrived.{Arrived, at_value, between_parts, at_end, owned, HasRead, IsBeforeValue, IsBetweenParts}
 use Rattle.jiter_value.specs.OpenDocument.{EndsRight, Follows, HasTakenIn, IsAnswered, IsEnded, IsFaulty, IsReadAs, IsReading, IsRefused, Known}
 use Rattle.jiter_value.specs.OpenDocument.{Next, Comes, Opened, ReadsAt, between_tokens, in_scalar, noted_in, opened_to}
-use Rattle.jiter_scan.specs.OpenNumber.{HoldsNumber}
 use Rattle.jiter_value.specs.OpenDocument.{BeginsAs, HasArrived, HoldsWord, IsAllowed, IsOver}
 use Rattle.jiter_value.specs.OpenDocument.{BeginsHere, Holding, in_key, HoldsScalar, StandsAt, anything, strictly, with_byte, with_first}
 use Rattle.jiter_value.specs.OpenValue.{Goes, IsEnding, ClosesBefore, ClosesOver}
