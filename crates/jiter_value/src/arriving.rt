@@ -22,6 +22,10 @@ use jiter_scan::{JsonError, JsonErrorType, PartialMode};
 use std::alloc::{AllocError, Global};
 use std::marker::Model;
 
+// Of so many bytes a piece is looked through whether it lies whole within a string: of more it costs little to take the
+// value apart.
+const FEW: usize = 256;
+
 // A document whose value so far is together, and what its bytes answer.
 #[derive(Drop)]
 pub(crate) struct Settled {
@@ -115,7 +119,7 @@ impl Settled {
             × (self.new.document.position ≤ self.old.document.position + length piece.now) }
         ensures settings { self.new.document.settings ≡ self.old.document.settings }
     {
-        if self.growing && is_plain(piece) {
+        if self.growing && piece.len() <= FEW && is_plain(piece) {
             return self.grow(piece);
         }
         self.take_apart(piece)
