@@ -379,25 +379,6 @@ impl OpenDocument {
         }
     }
 
-    // Takes a byte that begins no decimal number, and with it what is whole there.
-    #[inline(never)]
-    fn step_other(&mut self, piece: &[u8], at: usize) -> Result<usize, Refused>
-        requires within { at < length piece.now }
-        requires named { begins_decimal (slice_index piece.now at) ≡ false }
-        requires token { IsIn self.old Token.Nothing }
-        requires room { self.old.position + (length piece.now - at) < 2 ^ 64 }
-        ensures taken { IfOk result (λ n. Takes self.old self.new (slice_range piece.now at (at + n))) }
-        ensures part { IfOk result (λ n. (0 < n) × (at + n ≤ length piece.now)) }
-        ensures refused { OnErr result (Stays self.old self.new) }
-        ensures same { StaysSo self.old self.new }
-    {
-        match start_of(piece[at]) {
-            Start::String => self.step_text(piece, at),
-            Start::Literal(literal) => self.step_literal(piece, at, literal),
-            _ => self.step_byte(piece, at),
-        }
-    }
-
     // Takes a byte where no token is unfinished, and with it what is whole there.
     #[inline(always)]
     pub(crate) fn step(&mut self, piece: &[u8], at: usize) -> Result<usize, Refused>
@@ -409,10 +390,14 @@ impl OpenDocument {
         ensures refused { OnErr result (Stays self.old self.new) }
         ensures same { StaysSo self.old self.new }
     {
-        if begins_decimal(piece[at]) {
-            self.step_number(piece, at)
-        } else {
-            self.step_other(piece, at)
+        let byte = piece[at];
+        if begins_decimal(byte) {
+            return self.step_number(piece, at);
+        }
+        match start_of(byte) {
+            Start::String => self.step_text(piece, at),
+            Start::Literal(literal) => self.step_literal(piece, at, literal),
+            _ => self.step_byte(piece, at),
         }
     }
 }
