@@ -1,11 +1,8 @@
 -- Plain scalars, read and put where they belong.
-use Rattle.std.proofs.Common.{◌≡◌, inl, inr, ℕ, ◌+◌, ◌<◌, ◌≤◌, Bool, true, false, List, [], ◌∷◌, ◌++◌, length}
-use Rattle.std.proofs.Common.{Vec, refl, sym, ap, ◌∙◌, slice_range, arith}
-use Rattle.std.specs.Prelude.{reverse, slice_index, nat_lt, pos, if◌then◌else◌}
-use Rattle.std.proofs.lemmas.Bool.Decides.{nat_tests}
-use Rattle.jiter_scan.specs.Number.{Number, integer, float, minus_of}
-use Rattle.jiter_scan.specs.NumberDecoder.{IsMinusTo}
-use Rattle.jiter_scan.specs.PlainNumber.{IsPlainInteger, IsPlainFloat}
+use Rattle.std.proofs.Common.{◌≡◌, ℕ, ◌+◌, ◌<◌, ◌≤◌, Bool, List, [], ◌∷◌, ◌++◌, length}
+use Rattle.std.proofs.Common.{Vec, refl, sym, ap, ◌∙◌, arith}
+use Rattle.std.specs.Prelude.{reverse, slice_index}
+use Rattle.jiter_scan.specs.Number.{Number}
 use Rattle.jiter_scan.specs.NumberReading.{number_at}
 use Rattle.jiter_scan.specs.Scanned.{taken}
 use Rattle.jiter_scan.specs.PartialMode.{allows_trailing_strings}

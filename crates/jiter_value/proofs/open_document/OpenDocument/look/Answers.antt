@@ -1,4 +1,3 @@
-use Rattle.std.proofs.Common.{get_or}
 use Rattle.jiter_value.proofs.Documents.{between-before}
 use Rattle.jiter_value.proofs.DocumentBytes.{meets}
 use Rattle.jiter_value.proofs.open_document.OpenDocument.look.Goals as goal
