@@ -85,6 +85,11 @@ goes-on s m new t i j e a b =
           ∙ ap (λ x. is_int_stage s && x) (sym (ap is_integral is ∙ integral-append w v));
     }
 
+-- where the stage is known that was come to
+pub goes-then : (s m mid new : Stage) (t : List ℕ) (i j e : ℕ) → GoesTo s t i m j → m ≡ mid → GoesTo mid t j new e
+    → GoesTo s t i new e
+goes-then s m mid new t i j e a is b = goes-on s m new t i j e a (subst (λ x. GoesTo x t j new e) (sym is) b)
+
 -- ---- the parts
 
 -- one byte that is taken

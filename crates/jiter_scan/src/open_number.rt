@@ -101,6 +101,7 @@ fn first_stage(byte: u8) -> Stage
 }
 
 // At the first digit.
+#[inline(always)]
 fn first_digit(byte: u8) -> Went
     ensures leads { (names : Bool) (t : List ℕ) (j : ℕ) → slice_get t j ≡ Some byte
         → decimal_at t j ≡ number_by names t j result }
@@ -116,6 +117,7 @@ fn first_digit(byte: u8) -> Went
 }
 
 // Behind a minus.
+#[inline(always)]
 fn behind_minus(byte: u8) -> Went
     ensures leads { Leads Stage.Minus byte result }
     ensures fits { Fits Stage.Minus byte result }
@@ -128,6 +130,7 @@ fn behind_minus(byte: u8) -> Went
 }
 
 // Behind the digits of a fraction, or of an integer part with none.
+#[inline(always)]
 fn behind_fraction(byte: u8) -> Went
     ensures leads { (names : Bool) (t : List ℕ) (j : ℕ) → slice_get t j ≡ Some byte
         → exponent_at t j ≡ number_by names t j result }
@@ -141,6 +144,7 @@ fn behind_fraction(byte: u8) -> Went
 }
 
 // Behind the digits of an integer part.
+#[inline(always)]
 fn behind_int_part(byte: u8) -> Went
     ensures leads { (names : Bool) (t : List ℕ) (j : ℕ) → slice_get t j ≡ Some byte
         → tail_at t j ≡ number_by names t j result }
@@ -154,6 +158,7 @@ fn behind_int_part(byte: u8) -> Went
 }
 
 // Behind the digit `0` of an integer part.
+#[inline(always)]
 fn behind_zero(byte: u8) -> Went
     ensures leads { Leads Stage.Zero byte result }
     ensures fits { Fits Stage.Zero byte result }
@@ -166,6 +171,7 @@ fn behind_zero(byte: u8) -> Went
 }
 
 // Behind a digit of an integer part that may have so many more.
+#[inline(always)]
 fn behind_digit(room: usize, byte: u8) -> Went
     ensures leads { Leads (Stage.Digits room) byte result }
     ensures fits { Fits (Stage.Digits room) byte result }
@@ -182,6 +188,7 @@ fn behind_digit(room: usize, byte: u8) -> Went
 }
 
 // Behind a point.
+#[inline(always)]
 fn behind_point(byte: u8) -> Went
     ensures leads { Leads Stage.Point byte result }
     ensures fits { Fits Stage.Point byte result }
@@ -194,6 +201,7 @@ fn behind_point(byte: u8) -> Went
 }
 
 // Behind a digit of a fraction.
+#[inline(always)]
 fn behind_fraction_digit(byte: u8) -> Went
     ensures leads { Leads Stage.Fraction byte result }
     ensures fits { Fits Stage.Fraction byte result }
@@ -206,6 +214,7 @@ fn behind_fraction_digit(byte: u8) -> Went
 }
 
 // Behind the sign of an exponent.
+#[inline(always)]
 fn behind_sign(byte: u8) -> Went
     ensures leads { Leads Stage.Sign byte result }
     ensures fits { (s : Stage) → is_int_stage s ≡ false → Fits s byte result }
@@ -218,6 +227,7 @@ fn behind_sign(byte: u8) -> Went
 }
 
 // Behind the letter of an exponent.
+#[inline(always)]
 fn behind_letter(byte: u8) -> Went
     ensures leads { Leads Stage.Letter byte result }
     ensures fits { Fits Stage.Letter byte result }
@@ -230,6 +240,7 @@ fn behind_letter(byte: u8) -> Went
 }
 
 // Behind a digit of an exponent.
+#[inline(always)]
 fn behind_exponent_digit(byte: u8) -> Went
     ensures leads { Leads Stage.Exponent byte result }
     ensures fits { Fits Stage.Exponent byte result }
@@ -242,6 +253,7 @@ fn behind_exponent_digit(byte: u8) -> Went
 }
 
 // What a byte is to a number that has come to a stage.
+#[inline(always)]
 fn next_of(stage: Stage, byte: u8) -> Went
     ensures leads { Leads stage byte result }
     ensures fits { Fits stage byte result }
@@ -259,6 +271,7 @@ fn next_of(stage: Stage, byte: u8) -> Went
 }
 
 // How many of the digits at a place go on with a number of this stage.
+#[inline(always)]
 fn digits_for(stage: Stage, piece: &[u8], at: usize) -> usize
     requires { at ≤ length piece.now }
     ensures count { result ≡ digits_for stage (digit_run_end piece.now at - at) }
@@ -277,6 +290,7 @@ fn digits_for(stage: Stage, piece: &[u8], at: usize) -> usize
 }
 
 // The stage behind so many digits more.
+#[inline(always)]
 fn stage_behind(stage: Stage, count: usize) -> Stage
     requires { digits_for stage count ≡ count }
     ensures { result ≡ stage_behind stage count }
@@ -287,15 +301,14 @@ fn stage_behind(stage: Stage, count: usize) -> Stage
     }
 }
 
-// What stands at a place and goes on with a number of this stage: digits, another byte, or nothing. The stage behind it,
-// and the place.
-fn part_end(stage: Stage, piece: &[u8], at: usize) -> (Stage, usize)
-    requires { at < length piece.now }
+// The byte at a place, if one stands there and goes on with a number of this stage. The stage behind it, and the place.
+#[inline(always)]
+fn byte_end(stage: Stage, piece: &[u8], at: usize) -> (Stage, usize)
+    requires { at ≤ length piece.now }
     ensures { GoesTo stage piece.now at result.0 result.1 }
 {
-    let count = digits_for(stage, piece, at);
-    if 0 < count {
-        return (stage_behind(stage, count), at + count);
+    if at == piece.len() {
+        return (stage, at);
     }
     match next_of(stage, piece[at]) {
         Went::Taken(next) => (next, at + 1),
@@ -303,22 +316,117 @@ fn part_end(stage: Stage, piece: &[u8], at: usize) -> (Stage, usize)
     }
 }
 
-// The same of all that goes on with it.
+// The same of the digits at a place.
+#[inline(always)]
+fn digits_end(stage: Stage, piece: &[u8], at: usize) -> (Stage, usize)
+    requires { at ≤ length piece.now }
+    ensures { GoesTo stage piece.now at result.0 result.1 }
+{
+    let count = digits_for(stage, piece, at);
+    (stage_behind(stage, count), at + count)
+}
+
+// All that goes on with a number behind the sign of its exponent.
+#[inline(always)]
+fn sign_end(piece: &[u8], at: usize) -> (Stage, usize)
+    requires { at ≤ length piece.now }
+    ensures { GoesTo Stage.Sign piece.now at result.0 result.1 }
+{
+    match byte_end(Stage::Sign, piece, at) {
+        (Stage::Exponent, behind) => digits_end(Stage::Exponent, piece, behind),
+        other => other,
+    }
+}
+
+// Behind the letter of its exponent.
+#[inline(always)]
+fn letter_end(piece: &[u8], at: usize) -> (Stage, usize)
+    requires { at ≤ length piece.now }
+    ensures { GoesTo Stage.Letter piece.now at result.0 result.1 }
+{
+    match byte_end(Stage::Letter, piece, at) {
+        (Stage::Sign, behind) => sign_end(piece, behind),
+        (Stage::Exponent, behind) => digits_end(Stage::Exponent, piece, behind),
+        other => other,
+    }
+}
+
+// Behind a digit of its fraction.
+#[inline(always)]
+fn fraction_end(piece: &[u8], at: usize) -> (Stage, usize)
+    requires { at ≤ length piece.now }
+    ensures { GoesTo Stage.Fraction piece.now at result.0 result.1 }
+{
+    let (stage, end) = digits_end(Stage::Fraction, piece, at);
+    match byte_end(stage, piece, end) {
+        (Stage::Letter, behind) => letter_end(piece, behind),
+        other => other,
+    }
+}
+
+// Behind its point.
+#[inline(always)]
+fn point_end(piece: &[u8], at: usize) -> (Stage, usize)
+    requires { at ≤ length piece.now }
+    ensures { GoesTo Stage.Point piece.now at result.0 result.1 }
+{
+    match byte_end(Stage::Point, piece, at) {
+        (Stage::Fraction, behind) => fraction_end(piece, behind),
+        other => other,
+    }
+}
+
+// Behind its integer part.
+#[inline(always)]
+fn int_part_end(stage: Stage, piece: &[u8], at: usize) -> (Stage, usize)
+    requires { at ≤ length piece.now }
+    ensures { GoesTo stage piece.now at result.0 result.1 }
+{
+    match byte_end(stage, piece, at) {
+        (Stage::Point, behind) => point_end(piece, behind),
+        (Stage::Letter, behind) => letter_end(piece, behind),
+        other => other,
+    }
+}
+
+// Behind a digit of an integer part that may have so many more.
+#[inline(always)]
+fn int_digits_end(room: usize, piece: &[u8], at: usize) -> (Stage, usize)
+    requires { at ≤ length piece.now }
+    ensures { GoesTo (Stage.Digits room) piece.now at result.0 result.1 }
+{
+    let (stage, end) = digits_end(Stage::Digits(room), piece, at);
+    int_part_end(stage, piece, end)
+}
+
+// Behind its minus.
+#[inline(always)]
+fn minus_parts_end(piece: &[u8], at: usize) -> (Stage, usize)
+    requires { at ≤ length piece.now }
+    ensures { GoesTo Stage.Minus piece.now at result.0 result.1 }
+{
+    match byte_end(Stage::Minus, piece, at) {
+        (Stage::Zero, behind) => int_part_end(Stage::Zero, piece, behind),
+        (Stage::Digits(room), behind) => int_digits_end(room, piece, behind),
+        other => other,
+    }
+}
+
+// All that stands at a place and goes on with a number of this stage. The stage behind it, and the place.
 fn parts_end(stage: Stage, piece: &[u8], at: usize) -> (Stage, usize)
     requires { at ≤ length piece.now }
     ensures { GoesTo stage piece.now at result.0 result.1 }
 {
-    let mut now = stage;
-    let mut end = at;
-    while end < piece.len() {
-        let (next, behind) = part_end(now, piece, end);
-        if behind == end {
-            return (now, end);
-        }
-        now = next;
-        end = behind;
+    match stage {
+        Stage::Digits(room) => int_digits_end(room, piece, at),
+        Stage::Fraction => fraction_end(piece, at),
+        Stage::Zero => int_part_end(stage, piece, at),
+        Stage::Minus => minus_parts_end(piece, at),
+        Stage::Point => point_end(piece, at),
+        Stage::Letter => letter_end(piece, at),
+        Stage::Sign => sign_end(piece, at),
+        Stage::Exponent => digits_end(stage, piece, at),
     }
-    (now, end)
 }
 
 // The integer of 64 signed bits that stands at the front of a text, if one does.
