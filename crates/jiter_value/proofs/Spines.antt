@@ -13,7 +13,7 @@ use Rattle.jiter_steps.specs.Tree.{Text, Tree, Items, no_items, item, Members, n
 use Rattle.jiter_steps.specs.Tree.{items_of, members_of}
 use Rattle.jiter_value.specs.Spine.{OpenFrame, around, begun, filled, parents_of, spine_of, HasPart, StandsFor}
 use Rattle.jiter_value.specs.Spine.{HasValue, AwaitsPart, IsOfKey, HasRoomInside, IsRoomy, IsLastPart, IsInside}
-use Rattle.jiter_value.specs.Spine.{IsInPlace}
+use Rattle.jiter_value.specs.Spine.{IsInPlace, IsOpen}
 use Rattle.jiter_value.specs.Stacks.{Member, member_view}
 use Rattle.jiter_value.specs.Value.{view}
 use Rattle.jiter_value.specs.declared.value.JsonValue.{JsonValue, Array, Object, out-JsonValue, the_lemmas}
@@ -554,3 +554,72 @@ lowered-to inner v (suc count) none h = absurd (omega (arith, none))
 -- At last it is what is left.
 pub lowered : (inner v : JsonValue) (counter depth : ℕ) → Lowered inner v counter depth → depth ≤ counter → inner ≡ v
 lowered inner v counter depth h low = lowered-to inner v h.count (omega (arith, h.all, low)) h.inside
+
+-- A root is taken apart as far as so many containers, counted from the outermost: what is left of it is the last of the
+-- spine.
+pub record TakenDown (root : JsonValue) (spine : List JsonValue) (n depth : ℕ) : Type 0 where
+  pub before : List JsonValue
+  pub inner : JsonValue
+  pub all : spine ≡ before ++ inner ∷ []
+  pub down : (fs : List OpenFrame) (x : Tree) → depth ≡ length fs + 1 → view root ≡ filled fs x
+      → Descended fs x (map view before) (view inner) n depth
+  pub low : (m : ℕ) (v : JsonValue) → depth ≡ m + 1 → IsInside m v root → Lowered inner v n depth
+
+pub down-first : (root : JsonValue) (spine : List JsonValue) (depth : ℕ) → spine ≡ root ∷ [] → TakenDown root spine 1 depth
+down-first root spine depth h = record {
+  before = [];
+  inner = root;
+  all = h;
+  down = λ fs x deep is. begins fs x (view root) depth deep is;
+  low = λ m v deep inside. record { count = m; all = sym deep; inside = inside };
+}
+
+-- What is left has a last part, where more is inside it,
+pub down-part : (root : JsonValue) (spine : List JsonValue) (got : JsonValue) (n m depth : ℕ)
+    → TakenDown root spine n depth → IsOpen depth (view root) → n < depth → m + 1 ≡ length spine → got ≡ get_or spine m got
+    → HasPart (view got)
+down-part root spine got n m depth t o more at g =
+    let i = innermost-of spine got m at g in
+    let same = same_from_push t.before i.before t.inner got (sym t.all ∙ i.all) in
+    subst (λ w. HasPart (view w)) same.1
+    (part-there o.frames o.innermost (map view t.before) (view t.inner) n depth
+    (t.down o.frames o.innermost o.deep o.whole) more)
+
+-- which is taken out of it.
+pub down-on : (root : JsonValue) (spine : List JsonValue) (got hollow child : JsonValue) (n m depth : ℕ)
+    → TakenDown root spine n depth → n < depth → m + 1 ≡ length spine → got ≡ get_or spine m got
+    → ((f : OpenFrame) → (y : Tree) → view got ≡ around f y → (view hollow ≡ around f null) × (view child ≡ y))
+    → ((w : JsonValue) → IsLastPart w got → child ≡ w)
+    → TakenDown root (slice_set spine m hollow ++ child ∷ []) (n + 1) depth
+down-on root spine got hollow child n m depth t more at g moved was =
+    let i = innermost-of spine got m at g in
+    let same = same_from_push t.before i.before t.inner got (sym t.all ∙ i.all) in
+    let set : slice_set spine m hollow ≡ t.before ++ hollow ∷ [] =
+    last-set spine i.before m got hollow i.all i.at ∙ ap (λ b. b ++ hollow ∷ []) (sym same.0) in
+    record {
+      before = t.before ++ hollow ∷ [];
+      inner = child;
+      all = ap (λ b. b ++ child ∷ []) set;
+      down = λ fs x deep is.
+          subst (λ ss. Descended fs x ss (view child) (n + 1) depth) (sym (map_push view t.before hollow))
+          (step-down fs x (map view t.before) (view t.inner) n depth (view hollow) (view child) (t.down fs x deep is) more
+          (subst (λ w. (f : OpenFrame) → (y : Tree) → view w ≡ around f y → (view hollow ≡ around f null) × (view child ≡ y))
+          (sym same.1) moved));
+      low = λ k v deep inside.
+          lowered-on t.inner child v n depth (t.low k v deep inside) more
+          (subst (λ u. (w : JsonValue) → IsLastPart w u → child ≡ w) (sym same.1) was);
+    }
+
+-- At last it is the innermost.
+pub down-all : (root : JsonValue) (spine : List JsonValue) (n depth : ℕ) (fs : List OpenFrame) (x : Tree)
+    → TakenDown root spine n depth → depth ≤ n → depth ≡ length fs + 1 → view root ≡ filled fs x
+    → map view spine ≡ spine_of fs x
+down-all root spine n depth fs x t low deep is =
+    ap (map view) t.all ∙ map_push view t.before t.inner
+    ∙ arrived fs x (map view t.before) (view t.inner) n depth (t.down fs x deep is) low
+
+pub down-innermost : (root : JsonValue) (spine : List JsonValue) (n m depth : ℕ) (v : JsonValue)
+    → TakenDown root spine n depth → depth ≤ n → depth ≡ m + 1 → IsInside m v root
+    → (before : List JsonValue) × (spine ≡ before ++ v ∷ [])
+down-innermost root spine n m depth v t low deep inside =
+    (t.before, t.all ∙ ap (λ w. t.before ++ w ∷ []) (lowered t.inner v n depth (t.low m v deep inside) low))

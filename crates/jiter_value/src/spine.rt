@@ -84,12 +84,11 @@ pub fn take_apart<'j>(spine: &mut Vec<JsonValue<'j>>, root: &mut JsonValue<'j>, 
     if depth == 0 {
         return;
     }
-    let mut inner = mem::replace(root, JsonValue::Null);
-    for _ in 1..depth {
-        let child = replace_part(&mut inner, JsonValue::Null);
-        spine.push_reserved(mem::replace(&mut inner, child));
+    spine.push_reserved(mem::replace(root, JsonValue::Null));
+    for count in 1..depth {
+        let child = replace_part(&mut spine[count - 1], JsonValue::Null);
+        spine.push_reserved(child);
     }
-    spine.push_reserved(inner);
 }
 
 // A value goes back into the innermost parent, where a null stands in its place; with no parent it is the root.
