@@ -13,7 +13,7 @@ ghost use Rattle.jiter_scan.specs.OpenNumber.{number_by, number_from, own_view, 
 use crate::memory::{Refused, push_text};
 use crate::number_decoder::{NumberAny, NumberInt, number_at};
 use crate::number_extent::minus_end;
-use crate::plain_number::{PlainNumber, short_number_at, signed};
+use crate::plain_number::{last_integer_at, signed};
 use crate::simd::{digit_run_end, is_digit};
 use crate::text::ascii_text;
 use std::alloc::Global;
@@ -435,7 +435,7 @@ fn integer_in(text: &[u8]) -> Option<i64>
     ensures { result ≡ int_of (number_at false text.now 0) }
 {
     let from = minus_end(text, 0);
-    if let PlainNumber::Int(magnitude, _) = short_number_at(text, from) {
+    if let Some(magnitude) = last_integer_at(text, from) {
         return Some(signed(magnitude, 0 < from));
     }
     match number_at(text, 0, false) {

@@ -1,17 +1,19 @@
 //! Plain numbers: short ones with as many bytes ahead as are looked at, sixteen at a time, with the answer in
 //! registers.
 ghost use Rattle.std.specs.Prelude.{◌≡◌, ◌==◌, ◌||◌, ◌<◌, ◌≤◌, ◌+◌, ◌^◌, IfSome, length, pos, slice_get, slice_range};
+ghost use Rattle.std.specs.Prelude.{slice_index};
 ghost use Rattle.std.specs.Prelude.{if◌then◌else◌};
 ghost use Rattle.jiter_scan.specs.Ascii as ascii;
 ghost use Rattle.jiter_scan.specs.Digits.{decimal_of, digit_run_end};
 ghost use Rattle.jiter_scan.specs.Number.{minus_of};
+ghost use Rattle.jiter_scan.specs.NumberDecoder.{magnitude_of};
 ghost use Rattle.jiter_scan.specs.NumberReading.{extent_then, digits_from, fraction_at, power_from, exponent_at};
 ghost use Rattle.jiter_scan.specs.NumberReading.{is_float_sign};
 ghost use Rattle.jiter_scan.specs.Scanned.{taken};
 ghost use Rattle.jiter_scan.specs.PlainNumber.{IsPlainInteger, IsPlainNumber};
 
 use crate::number_decoder::{digits_magnitude, is_float_sign};
-use crate::simd::{digit_count, digit_word, full_chunk_at, is_digit};
+use crate::simd::{chunk_at, digit_count, digit_run_end, digit_word, full_chunk_at, is_digit};
 
 // The bytes from a number's first digit on that are looked at at once.
 const REACH: usize = 16;
@@ -233,6 +235,54 @@ pub fn near_integer_at(bytes: &[u8], at: usize) -> (u64, usize)
         return (0, at);
     }
     (number, end)
+}
+
+// What the digits at `at` write, at most sixteen, if no other byte stands behind them.
+#[inline(always)]
+fn last_digits(bytes: &[u8], at: usize) -> Option<u64>
+    requires some { at < length bytes.now }
+    requires few { length bytes.now ≤ at + 16 }
+    ensures { IfSome result (λ n. (digit_run_end bytes.now at ≡ length bytes.now)
+        × (n ≡ decimal_of (slice_range bytes.now at (length bytes.now)))) }
+{
+    let count = bytes.len() - at;
+    let chunk = chunk_at(bytes, at);
+    if digit_count(chunk) < count {
+        return None;
+    }
+    Some(digit_word(chunk, count))
+}
+
+// The same of seventeen or eighteen, of which the first is no zero.
+fn last_digits_of_two(bytes: &[u8], at: usize) -> Option<u64>
+    requires some { at < length bytes.now }
+    requires few { length bytes.now ≤ at + 18 }
+    requires first { ascii.digit_zero < slice_index bytes.now at }
+    ensures { IfSome result (λ n. (digit_run_end bytes.now at ≡ length bytes.now)
+        × (n ≡ magnitude_of (slice_range bytes.now at (length bytes.now)))) }
+{
+    if digit_run_end(bytes, at) < bytes.len() {
+        return None;
+    }
+    Some(digits_magnitude(bytes, at, bytes.len()))
+}
+
+/// The magnitude of the integer at a byte index, if it has at most eighteen digits and they are the last bytes.
+pub fn last_integer_at(bytes: &[u8], at: usize) -> Option<u64>
+    requires { at ≤ length bytes.now }
+    ensures { IfSome result (λ n. IsPlainInteger bytes.now at n (length bytes.now)) }
+{
+    let count = bytes.len() - at;
+    if count == 0 || bytes[at] <= b'0' && count != 1 {
+        return None;
+    }
+    if count <= 16 {
+        return last_digits(bytes, at);
+    }
+    if count <= 18 {
+        return last_digits_of_two(bytes, at);
+    }
+    None
 }
 
 /// The number whose first digit stands at a byte index, if it is short, or if it is an integer near the input's end.
