@@ -6,7 +6,7 @@ ghost use Rattle.jiter_scan.specs.Ascii as ascii;
 ghost use Rattle.jiter_scan.specs.Kind.{eof_string};
 ghost use Rattle.jiter_scan.specs.Scan.{Pass, is_plain, is_plain_ascii};
 ghost use Rattle.jiter_scan.specs.Scanned.{failed};
-ghost use Rattle.jiter_steps.specs.OpenString.{Goes, HasTaken, HasTakenFrom, IsCountAt, IsEven, IsPart, IsTextWithin};
+ghost use Rattle.jiter_steps.specs.OpenString.{Goes, HasTaken, HasTakenFrom, IsCountAt, IsEven, IsLeft, IsPart, IsTextWithin};
 ghost use Rattle.jiter_steps.specs.OpenString.{Wherever, grown, text_or};
 ghost use Rattle.jiter_steps.specs.OpenText.{IsWhole, with_text};
 ghost use Rattle.jiter_steps.specs.StringDecoder.{WantsMemory};
@@ -133,6 +133,7 @@ impl OpenString {
         ensures goes { (w : List ℕ) → HasTaken self.old w → IfOk result (Goes self.new w piece.now at) }
         ensures part { IfOk result (IsPart piece.now at) }
         ensures whole { IsWhole self.old.text → IsWhole self.new.text }
+        ensures left { IfOk result (IsLeft self.old self.new) }
         ensures refused { OnErr result (self.new ≡ self.old) }
     {
         let Some(escape) = &mut self.escape else {

@@ -46,6 +46,7 @@ fn right_end(bytes: &[u8]) -> (usize, bool)
     ensures front { IsUtf8 (take result.0 bytes.now) }
     ensures open { result.1 ≡ false → IsUnfinished (drop result.0 bytes.now) }
     ensures wrong { result.1 ≡ true → IsBroken (drop result.0 bytes.now) }
+    ensures few { result.1 ≡ false → length bytes.now ≤ result.0 + 3 }
 {
     match simdutf8::compat::from_utf8(bytes) {
         Ok(_) => (bytes.len(), false),
@@ -84,6 +85,7 @@ impl OpenText {
         requires within { right ≤ length bytes.now }
         requires front { IsUtf8 (take right bytes.now) }
         requires open { IsUnfinished (drop right bytes.now) }
+        requires few { length bytes.now ≤ right + 3 }
         ensures taken { (d : List ℕ) → d ≡ self.old.text ++ bytes.now → OnOk result (HoldsText self.new d) }
         ensures unbroken { self.new.broken ≡ false }
         ensures refused { OnErr result (self.new ≡ self.old) }
