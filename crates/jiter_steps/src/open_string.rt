@@ -9,10 +9,10 @@ ghost use Rattle.jiter_scan.specs.Scanned.{failed};
 ghost use Rattle.jiter_steps.specs.OpenString.{Goes, HasTaken, HasTakenFrom, IsCountAt, IsEven, IsLeft, IsPart, IsTextWithin};
 ghost use Rattle.jiter_steps.specs.OpenString.{Wherever, grown, text_or};
 ghost use Rattle.jiter_steps.specs.OpenText.{IsWhole, with_text};
-ghost use Rattle.jiter_steps.specs.StringDecoder.{WantsMemory};
-ghost use Rattle.jiter_steps.specs.StringReading.{content_at, kept, text_form, whole};
+ghost use Rattle.jiter_steps.specs.StringDecoder.{WantsMemory, portion_view};
+ghost use Rattle.jiter_steps.specs.StringReading.{content_at, kept, portion_at, text_form, whole};
 
-use crate::escape::{AtStop, next_portion};
+use crate::escape::{AtStop, next_portion, sign_at};
 use crate::open_escape::{OpenEscape, Spelled};
 use crate::open_text::{FEW, OpenText};
 use crate::plain::{ascii_between, text_between};
@@ -54,6 +54,22 @@ fn plain_run(piece: &[u8], at: usize, most: usize) -> &[u8]
 {
     let near = &piece[..at + (piece.len() - at).min(most)];
     &near[at..string_stop(near, at)]
+}
+
+// What the escape comes to that stands at a place, one of one letter at once.
+#[inline(always)]
+fn escape_at(piece: &[u8], at: usize) -> AtStop
+    requires within { at < length piece.now }
+    requires backslash { slice_get piece.now at ≡ Some ascii.backslash }
+    ensures { portion_view result ≡ portion_at piece.now at }
+{
+    if piece.len() - at >= 2 {
+        let sign = sign_at(piece, at);
+        if sign != 0 {
+            return AtStop::Escape(sign as char, at + 2);
+        }
+    }
+    next_portion(piece, at)
 }
 
 // The string with a backslash whose opening quote stands at a place of a piece, if it is whole there: its text, decoded
@@ -162,7 +178,7 @@ impl OpenString {
         ensures whole { IsWhole self.old.text → IsWhole self.new.text }
         ensures refused { OnErr result (self.new ≡ self.old) }
     {
-        match next_portion(piece, at) {
+        match escape_at(piece, at) {
             AtStop::Escape(c, end) => {
                 self.text.add_char(c)?;
                 Ok(end - at)

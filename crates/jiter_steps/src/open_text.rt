@@ -6,9 +6,10 @@ ghost use Rattle.std.specs.Char.{encode_utf8};
 ghost use Rattle.std.specs.Str.{IsAscii, IsUtf8};
 ghost use Rattle.jiter_scan.specs.Kind.{invalid_code_point};
 ghost use Rattle.jiter_scan.specs.Scanned.{taken, failed};
-ghost use Rattle.jiter_steps.specs.OpenText.{HoldsText, IsBroken, IsUnfinished, IsWhole, nothing, with_text};
+ghost use Rattle.jiter_steps.specs.OpenText.{HoldsText, IsUnfinished, IsWhole, nothing, with_text};
 ghost use Rattle.jiter_steps.specs.StringReading.{checked};
 
+use crate::characters::right_end;
 use crate::held::Held;
 use jiter_scan::memory::{Refused, push_ascii, push_char, push_text};
 use jiter_scan::text::utf8_text;
@@ -38,20 +39,6 @@ impl Model for OpenText {
     ghost view = { λ o. record { text = string_bytes o.text; rest = o.rest; broken = o.broken } };
 
     ghost invariant = { λ o. length o.rest ≤ 3 };
-}
-
-// How many bytes at the front are whole characters, and whether the next one is wrong.
-fn right_end(bytes: &[u8]) -> (usize, bool)
-    ensures within { result.0 ≤ length bytes.now }
-    ensures front { IsUtf8 (take result.0 bytes.now) }
-    ensures open { result.1 ≡ false → IsUnfinished (drop result.0 bytes.now) }
-    ensures wrong { result.1 ≡ true → IsBroken (drop result.0 bytes.now) }
-    ensures few { result.1 ≡ false → length bytes.now ≤ result.0 + 3 }
-{
-    match simdutf8::compat::from_utf8(bytes) {
-        Ok(_) => (bytes.len(), false),
-        Err(e) => (e.valid_up_to(), e.error_len().is_some()),
-    }
 }
 
 // How many bytes a character has, by its first one (RFC 3629, 3).

@@ -4,7 +4,7 @@ use Rattle.std.specs.Str.{IsValidUpTo}
 use Rattle.std.specs.Str.Lossy.{utf8_error_len}
 use Rattle.jiter_steps.specs.OpenText.{IsUnfinished}
 use Rattle.jiter_steps.proofs.OpenTexts.{broken-behind, nil-unfinished, open-behind}
-use Rattle.jiter_steps.proofs.open_text.right_end.Goals as goal
+use Rattle.jiter_steps.proofs.characters.right_far.Goals as goal
 
 pub returns-in-Ok-clause-open : goal.returns-in-Ok-clause-open
 returns-in-Ok-clause-open c = λ _. subst IsUnfinished (sym (drop-length c.args.bytes.now)) nil-unfinished
