@@ -9,8 +9,8 @@ ghost use Rattle.jiter_scan.specs.Scanned.{failed};
 ghost use Rattle.jiter_steps.specs.OpenString.{Goes, HasTaken, HasTakenFrom, IsCountAt, IsEven, IsLeft, IsPart, IsTextWithin};
 ghost use Rattle.jiter_steps.specs.OpenString.{Wherever, grown, text_or};
 ghost use Rattle.jiter_steps.specs.OpenText.{IsWhole, with_text};
-ghost use Rattle.jiter_steps.specs.StringDecoder.{WantsMemory, portion_view};
-ghost use Rattle.jiter_steps.specs.StringReading.{content_at, kept, portion_at, text_form, whole};
+ghost use Rattle.jiter_steps.specs.StringDecoder.{WantsMemory};
+ghost use Rattle.jiter_steps.specs.StringReading.{content_at, kept, text_form, whole};
 
 use crate::escape::{AtStop, next_portion, sign_at};
 use crate::open_escape::{OpenEscape, Spelled};
@@ -54,22 +54,6 @@ fn plain_run(piece: &[u8], at: usize, most: usize) -> &[u8]
 {
     let near = &piece[..at + (piece.len() - at).min(most)];
     &near[at..string_stop(near, at)]
-}
-
-// What the escape comes to that stands at a place, one of one letter at once.
-#[inline(always)]
-fn escape_at(piece: &[u8], at: usize) -> AtStop
-    requires within { at < length piece.now }
-    requires backslash { slice_get piece.now at ≡ Some ascii.backslash }
-    ensures { portion_view result ≡ portion_at piece.now at }
-{
-    if piece.len() - at >= 2 {
-        let sign = sign_at(piece, at);
-        if sign != 0 {
-            return AtStop::Escape(sign as char, at + 2);
-        }
-    }
-    next_portion(piece, at)
 }
 
 // The string with a backslash whose opening quote stands at a place of a piece, if it is whole there: its text, decoded
@@ -169,7 +153,7 @@ impl OpenString {
     }
 
     // Takes an escape, or its backslash where the piece ends within it or it is wrong, and says how many bytes that is.
-    fn take_escape(&mut self, piece: &[u8], at: usize) -> Result<usize, Refused>
+    fn take_long_escape(&mut self, piece: &[u8], at: usize) -> Result<usize, Refused>
         requires within { at < length piece.now }
         requires none { self.old.escape ≡ None }
         requires backslash { slice_get piece.now at ≡ Some ascii.backslash }
@@ -178,7 +162,7 @@ impl OpenString {
         ensures whole { IsWhole self.old.text → IsWhole self.new.text }
         ensures refused { OnErr result (self.new ≡ self.old) }
     {
-        match escape_at(piece, at) {
+        match next_portion(piece, at) {
             AtStop::Escape(c, end) => {
                 self.text.add_char(c)?;
                 Ok(end - at)
@@ -188,6 +172,28 @@ impl OpenString {
                 Ok(1)
             }
         }
+    }
+
+    // The same, one of one letter at once.
+    #[inline(always)]
+    fn take_escape(&mut self, piece: &[u8], at: usize) -> Result<usize, Refused>
+        requires within { at < length piece.now }
+        requires none { self.old.escape ≡ None }
+        requires backslash { slice_get piece.now at ≡ Some ascii.backslash }
+        ensures taken { (w : List ℕ) → HasTaken self.old w → IfOk result (HasTakenFrom self.new w piece.now at) }
+        ensures part { IfOk result (IsCountAt piece.now at) }
+        ensures whole { IsWhole self.old.text → IsWhole self.new.text }
+        ensures refused { OnErr result (self.new ≡ self.old) }
+    {
+        if piece.len() - at < 2 {
+            return self.take_long_escape(piece, at);
+        }
+        let sign = sign_at(piece, at);
+        if sign == 0 {
+            return self.take_long_escape(piece, at);
+        }
+        self.text.add_char(sign as char)?;
+        Ok(2)
     }
 
     // Takes plain bytes behind whole characters, and says how many.

@@ -21,6 +21,9 @@ use std::mem;
 // one after three turns at most.
 pub(crate) const FEW: usize = 7;
 
+// A run of so many bytes or fewer is looked at beside an unfinished character as a whole.
+const SHORT: usize = 16;
+
 /// A text of which some bytes were read: its characters so far, and an unfinished one, or that what follows them
 /// is no UTF-8 whatever comes.
 #[derive(Drop)]
@@ -154,7 +157,11 @@ impl OpenText {
         if first.is_empty() {
             return Ok(0);
         }
-        let few = width(first[0]).saturating_sub(first.len()).min(run.len());
+        let few = if run.len() <= SHORT {
+            run.len()
+        } else {
+            width(first[0]).saturating_sub(first.len())
+        };
         let held = self.rest.with(&run[..few]);
         let right = self.absorb_right(held.as_slice())?;
         Ok(if right { few } else { 0 })

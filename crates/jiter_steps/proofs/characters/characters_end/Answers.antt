@@ -5,5 +5,5 @@ pub loop-at-preserved : goal.loop-at-preserved
 loop-at-preserved c = (
   c.character_len-count.ensures.within,
   longer c.args.bytes.now c.loop-at.at c.character_len-count.result c.loop-at.invariant.1
-  c.character_len-count.ensures.character,
+      c.character_len-count.ensures.character,
 )

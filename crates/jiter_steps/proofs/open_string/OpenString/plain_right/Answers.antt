@@ -1,4 +1,4 @@
-use Rattle.std.proofs.Common.{◌-◌, length}
+use Rattle.std.proofs.Common.{length}
 use Rattle.std.specs.Prelude.{slice_range}
 use Rattle.jiter_steps.proofs.OpenStrings.{grown-range, run-goes, run-plain, run-whole, range-length}
 use Rattle.jiter_steps.proofs.open_string.OpenString.plain_right.Goals as goal
