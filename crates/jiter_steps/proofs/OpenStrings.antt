@@ -2,31 +2,36 @@
 use Rattle.std.proofs.Common.{◌≡◌, ℕ, zero, suc, ◌+◌, ◌-◌, ◌<◌, ◌≤◌, ◌||◌, Bool, true, false, List, [], ◌∷◌, ◌++◌}
 use Rattle.std.proofs.Common.{length, take, drop, refl, sym, ap, ap₂, ◌∙◌, subst, arith, append-nil, append_assoc}
 use Rattle.std.proofs.Common.{length-append, take-take}
-use Rattle.std.specs.Prelude.{slice_get, slice_range, Option, Some, None, IfSome, is_some}
+use Rattle.std.specs.Prelude.{slice_get, slice_range, Option, Some, None, IfOk, IfSome, Result, Ok, Err, is_some}
 use Rattle.std.specs.Char.{encode_utf8}
 use Rattle.std.specs.Str.{IsAscii, IsUtf8}
+use Rattle.std.proofs.Math.Seq.{take-add}
 use Rattle.std.proofs.lemmas.Bool.{and_parts, false≢true, lt-ltb, ltb-true, ne_eqb}
 use Rattle.std.proofs.lemmas.Bool.Decides.{nat_tests}
 use Rattle.std.proofs.lemmas.Option.{slice_get_within}
 use Rattle.std.proofs.lemmas.Str.Ascii.{IsAscii-cons, IsAscii-nil}
 use Rattle.jiter_scan.specs.Kind.{fault_kind, control_character, eof_string}
-use Rattle.jiter_scan.specs.Scan.{Pass, is_plain, is_plain_ascii, scan_stop}
+use Rattle.jiter_scan.specs.Scan.{IsAsciiTo, Pass, is_ascii, is_plain, is_plain_ascii, scan_stop}
 use Rattle.jiter_scan.specs.Scanned.{failed, taken}
 use Rattle.jiter_scan.specs.Stands.{Stands}
 use Rattle.jiter_scan.proofs.Chunks.{prefix_len-pass}
 use Rattle.jiter_scan.proofs.Standing.{stands-length, stands-append, stands-slice, stands-split, slice-one}
 use Rattle.jiter_scan.proofs.Standing.{slice-stands}
 use Rattle.jiter_steps.specs.OpenEscape.{IsSpelled}
-use Rattle.jiter_steps.specs.OpenString.{Goes, HasTaken, IsEven, IsTextWithin, grown, held_bytes}
-use Rattle.jiter_steps.specs.OpenText.{HoldsBytes, HoldsText, SoFar}
+use Rattle.jiter_steps.specs.OpenString.{Goes, HasTaken, HasTakenFrom, IsEven, IsLeft, IsTextWithin, grown, held_bytes}
+use Rattle.jiter_steps.specs.OpenText.{HoldsBytes, HoldsText, SoFar, with_text}
 use Rattle.jiter_steps.specs.StringReading.{Body, Form, Stop, before, body_at, checked, closed, content_at}
 use Rattle.jiter_steps.specs.StringReading.{cut, is_cut, kept, over, part, portion_at, text_form}
 use Rattle.jiter_steps.specs.StringReading.{text_in_form, unclosed, whole, wrong}
 use Rattle.jiter_steps.specs.declared.open_escape.Spelled.TheVariants as spelled
 use Rattle.jiter_steps.specs.declared.open_string.OpenString.{OpenString}
+use Rattle.jiter_steps.specs.declared.open_string.Went.{Went}
 use Rattle.jiter_steps.specs.declared.open_string.Went.TheVariants as went
 use Rattle.jiter_scan.specs.declared.errors.FaultKind.{FaultKind}
-use Rattle.std.proofs.lemmas.List.{length-take, length-drop}
+use Rattle.std.proofs.lemmas.List.{get_or-replicate, length-take, length-drop, take-append-le}
+use Rattle.std.proofs.lemmas.List.Sums.{prefix_len-drop_no, prefix_len-le-length}
+use Rattle.std.specs.List.{AllPass, prefix_len}
+use Rattle.std.specs.Prelude.{cond, replicate}
 use Rattle.jiter_steps.proofs.Cut.Fronts.{front-length, front-range}
 use Rattle.jiter_steps.proofs.Grammar.StringComplete.{ArePrinted, IsPrinted, bytes-read, portion_by-escape}
 use Rattle.jiter_steps.proofs.Grammar.StringComplete.{portion_by-quote}
@@ -63,6 +68,43 @@ run-range piece run at n is few =
     let long : n ≤ at + length run - at = omega arith in
     let count : n ≡ at + n - at = omega arith in
     ap (take n) is ∙ take-take n (at + length run - at) (drop at piece) long ∙ ap (λ k. take k (drop at piece)) count
+
+-- The bytes before the first one that stops are plain.
+pub run-plain : (piece : List ℕ) (at to : ℕ) → to ≡ scan_stop piece at → Pass is_plain (slice_range piece at to)
+run-plain piece at to stop = prefix_len-pass is_plain (to - at) (drop at piece) (omega (arith, stop))
+
+-- Behind bytes stand others of which the first one stops: the scan ends where it ends without them.
+padded-run : (rest pad : List ℕ) → prefix_len is_plain pad ≡ 0
+    → prefix_len is_plain (rest ++ pad) ≡ prefix_len is_plain rest
+padded-run [] pad none = none
+padded-run (x ∷ rest) pad none = ap (λ n. cond (is_plain x) (1 + n) 0) (padded-run rest pad none)
+
+-- so of the last bytes of a piece
+module _ (piece pad chunk : List ℕ) (at count : ℕ) (within : at ≤ length piece) (is : chunk ≡ drop at piece ++ pad)
+    (none : prefix_len is_plain pad ≡ 0) (stop : count ≡ scan_stop chunk 0) where
+  pub padded-stop : at + count ≡ scan_stop piece at
+  padded-stop =
+      let run : prefix_len is_plain chunk ≡ prefix_len is_plain (drop at piece) =
+      ap (prefix_len is_plain) is ∙ padded-run (drop at piece) pad none in
+      omega arith
+
+  pub padded-within : at + count ≤ length piece
+  padded-within =
+      omega (arith, padded-stop, prefix_len-le-length is_plain (drop at piece), length-drop at piece)
+
+  pub padded-ascii : IsAsciiTo chunk 0 count → IsAsciiTo piece at (at + count)
+  padded-ascii low =
+      let few : count ≤ length (drop at piece) = omega (arith, padded-within, length-drop at piece) in
+      let here : count - 0 ≡ count = omega arith in
+      let there : count ≡ at + count - at = omega arith in
+      let same : take (count - 0) chunk ≡ take (at + count - at) (drop at piece) =
+      ap (λ k. take k chunk) here ∙ ap (take count) is ∙ take-append-le count (drop at piece) pad few
+      ∙ ap (λ k. take k (drop at piece)) there in
+      subst (AllPass is_ascii) same low
+
+-- quotes stop at once
+pub quotes-stop : (k : ℕ) → k < 16 → prefix_len is_plain (drop k (replicate 16 34)) ≡ 0
+quotes-stop k few = prefix_len-drop_no is_plain (replicate 16 34) k 0 few (ap is_plain (get_or-replicate 16 k 34 0 few))
 
 -- no escape is open at the beginning
 pub nothing-taken : (text : SoFar) → HoldsText text [] → HasTaken (record { text = text; escape = None }) []
@@ -365,6 +407,71 @@ grown-taken s w v even pass h =
     (subst (λ b. HoldsBytes b new.text.text s.text.rest (h.decoded ++ v)) (sym even.1.0)
     (absorbed-whole s.text.text new.text.text v (h.decoded ++ v) all s.text.rest refl even.1.1))
 
+-- Nothing is taken,
+pub none-taken : (s : OpenString) (w piece : List ℕ) (at : ℕ) → HasTaken s w → HasTakenFrom s w piece at 0
+none-taken s w piece at h =
+    let none : slice_range piece at (at + 0) ≡ [] = slice_range-none piece at in
+    subst (HasTaken s) (sym (append-nil w) ∙ ap (λ v. w ++ v) (sym none)) h where
+      slice_range-none : (piece : List ℕ) (at : ℕ) → slice_range piece at (at + 0) ≡ []
+      slice_range-none piece at =
+          let count : at + 0 - at ≡ 0 = omega arith in ap (λ k. take k (drop at piece)) count
+
+pub left-so : (old new : OpenString) (w : Went) → ((n : ℕ) → ¬ (w ≡ went.Taken n)) → IsLeft old new w → new ≡ old
+left-so old new (went.Taken n) other h = absurd (other n refl)
+left-so old new went.Quote other h = h
+left-so old new (went.Wrong k back) other h = h
+
+-- or bytes behind those at the front of a piece,
+pub taken-more : (s : OpenString) (w piece : List ℕ) (at n : ℕ) → HasTakenFrom s (w ++ take at piece) piece at n
+    → HasTaken s (w ++ take (at + n) piece)
+taken-more s w piece at n h =
+    let count : at + n - at ≡ n = omega arith in
+    subst (HasTaken s)
+    (append_assoc w (take at piece) (slice_range piece at (at + n))
+    ∙ ap (λ k. w ++ (take at piece ++ take k (drop at piece))) count
+    ∙ ap (λ v. w ++ v) (sym (take-add at n piece)))
+    h
+
+-- or the first of a run of plain bytes.
+pub run-goes : (s : OpenString) (w : List ℕ) (h : HasTaken s w) (piece run : List ℕ) (at n : ℕ) (new : SoFar)
+    → s.escape ≡ None → Pass is_plain run → run ≡ slice_range piece at (at + length run) → n ≤ length run
+    → HoldsText new (h.decoded ++ take n run) → HasTakenFrom (record { text = new; escape = s.escape }) w piece at n
+run-goes s w h piece run at n new none pass is within holds =
+    subst (λ v. HasTaken (record { text = new; escape = s.escape }) (w ++ v)) (run-range piece run at n is within)
+    (plain-goes s w h (take n run) new s.escape none none (pass-take is_plain n run pass) holds)
+
+-- The same of a run of which some bytes are taken, where memory was not refused.
+pub run-goes-if : {E : Type 0} → (s : OpenString) (w : List ℕ) (h : HasTaken s w) (piece run : List ℕ) (at : ℕ) (new : SoFar)
+    → s.escape ≡ None → Pass is_plain run → run ≡ slice_range piece at (at + length run) → (r : Result ℕ E)
+    → IfOk r (λ n. HoldsText new (h.decoded ++ take n run)) → IfOk r (λ n. n ≤ length run)
+    → IfOk r (HasTakenFrom (record { text = new; escape = s.escape }) w piece at)
+run-goes-if s w h piece run at new none pass is (Ok n) holds within =
+    run-goes s w h piece run at n new none pass is within holds
+run-goes-if s w h piece run at new none pass is (Err e) holds within = tt
+
+-- how long a range of a piece is
+pub range-length : (piece : List ℕ) (at to : ℕ) → at ≤ to → to ≤ length piece → length (slice_range piece at to) ≡ to - at
+range-length piece at to ahead within =
+    omega (arith, length-take (to - at) (drop at piece), length-drop at piece)
+
+-- so it is told by its length
+pub run-whole : (piece : List ℕ) (at to : ℕ) → at ≤ to → to ≤ length piece
+    → slice_range piece at to ≡ slice_range piece at (at + length (slice_range piece at to))
+run-whole piece at to ahead within =
+    let same : to ≡ at + length (slice_range piece at to) = omega (arith, range-length piece at to ahead within) in
+    ap (slice_range piece at) same
+
+-- Plain bytes of a piece behind whole characters are taken.
+pub grown-range : (s : OpenString) (w : List ℕ) (h : HasTaken s w) (piece : List ℕ) (at to : ℕ) → IsEven s → at ≤ to
+    → Pass is_plain (slice_range piece at to) → (new : SoFar)
+    → new ≡ with_text s.text (s.text.text ++ slice_range piece at to) → (n : ℕ) → n ≡ to - at
+    → HasTakenFrom (record { text = new; escape = s.escape }) w piece at n
+grown-range s w h piece at to even ahead pass new is n size =
+    let v = slice_range piece at to in
+    let same : to ≡ at + n = omega arith in
+    subst (λ (x : SoFar). HasTakenFrom (record { text = x; escape = s.escape }) w piece at n) (sym is)
+    (subst (λ j. HasTaken (grown s v) (w ++ slice_range piece at j)) same (grown-taken s w v even pass h))
+
 -- A range within the front of a piece is one of the piece.
 pub near-range : (piece : List ℕ) (at end stop : ℕ) → end ≤ length piece → at ≤ stop → stop ≤ length (take end piece)
     → slice_range (take end piece) at stop
@@ -416,7 +523,7 @@ module _ (piece : List ℕ) (at to : ℕ) (stop : to ≡ scan_stop piece (at + 1
   quoted = slice_range piece at (to + 1)
 
   inside-plain : Pass is_plain inside
-  inside-plain = prefix_len-pass is_plain (to - (at + 1)) (drop (at + 1) piece) (omega (arith, stop))
+  inside-plain = run-plain piece (at + 1) to stop
 
   quoted-is : quoted ≡ 34 ∷ inside ++ 34 ∷ []
   quoted-is =

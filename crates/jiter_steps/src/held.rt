@@ -3,10 +3,11 @@ ghost use Rattle.std.specs.Prelude.{◌≡◌, ◌+◌, ◌≤◌, ◌++◌, [],
 
 use std::marker::Model;
 
-// How many bytes are held at most: those of an escape of two numbers.
-const LIMIT: usize = 12;
+// How many bytes are held at most: an escape of two numbers has twelve, and sixteen may stand beside an unfinished
+// character.
+const LIMIT: usize = 20;
 
-// At most twelve bytes.
+// At most twenty bytes.
 #[derive(Drop)]
 pub(crate) struct Held {
     bytes: [u8; LIMIT],
@@ -20,7 +21,7 @@ impl Model for Held {
 
     ghost view = { λ h. take h.count h.bytes };
 
-    ghost invariant = { λ h. h.count ≤ 12 };
+    ghost invariant = { λ h. h.count ≤ 20 };
 }
 
 impl Held {
@@ -37,14 +38,14 @@ impl Held {
     // The bytes.
     pub(crate) fn as_slice(&self) -> &[u8]
         ensures value { result.now ≡ self.now }
-        ensures few { length result.now ≤ 12 }
+        ensures few { length result.now ≤ 20 }
     {
         &self.bytes[..self.count]
     }
 
     // The bytes, with others behind them.
     pub(crate) fn with(&self, more: &[u8]) -> Held
-        requires { length self.now + length more.now ≤ 12 }
+        requires { length self.now + length more.now ≤ 20 }
         ensures { result ≡ self.now ++ more.now }
     {
         let mut bytes = self.bytes;

@@ -18,10 +18,21 @@ enum Reached {
     End,
 }
 
-// Reads a piece that begins at this index of the whole. Each turn takes a byte at least.
-fn read_piece(string: &mut OpenString, piece: &[u8], begin: usize) -> Result<Reached, Refused> {
+// Reads a piece that begins at this index of the whole: what lies within the string at once, where that is asked for.
+// Each turn takes a byte at least.
+fn read_piece(
+    string: &mut OpenString,
+    piece: &[u8],
+    begin: usize,
+    inside: bool,
+) -> Result<Reached, Refused> {
     let mut at = 0;
     for _ in 0..piece.len() {
+        if inside && string.is_text(true) {
+            let (count, end) = string.take_inside(&piece[at..]);
+            end?;
+            at += count;
+        }
         if piece.len() <= at {
             break;
         }
@@ -41,12 +52,13 @@ fn read_pieces(
     content: &[u8],
     begin: usize,
     size: usize,
+    inside: bool,
 ) -> Result<Reached, Refused>
     requires { 0 < size }
 {
     let mut from = begin;
     for piece in content.chunks(size) {
-        let reached = read_piece(string, piece, from)?;
+        let reached = read_piece(string, piece, from, inside)?;
         if reached != Reached::End {
             return Ok(reached);
         }
@@ -61,15 +73,16 @@ fn read_cut(
     content: &[u8],
     cut: usize,
     size: usize,
+    inside: bool,
 ) -> Result<Reached, Refused>
     requires { 0 < size }
 {
     let cut = cut.min(content.len());
-    let reached = read_piece(string, &content[..cut], 1)?;
+    let reached = read_piece(string, &content[..cut], 1, inside)?;
     if reached != Reached::End {
         return Ok(reached);
     }
-    read_pieces(string, &content[cut..], cut.wrapping_add(1), size)
+    read_pieces(string, &content[cut..], cut.wrapping_add(1), size, inside)
 }
 
 // The place behind the string's text, or the fault that it has.
@@ -98,14 +111,14 @@ fn told(
 }
 
 // Whether the string, which is cut there, is told as the whole one is.
-fn agrees(alloc: Global, bytes: &[u8], cut: usize, size: usize, keep: bool) -> bool
+fn agrees(alloc: Global, bytes: &[u8], cut: usize, size: usize, keep: bool, inside: bool) -> bool
     requires { 0 < size }
 {
     if bytes.is_empty() {
         return false;
     }
     let mut string = OpenString::new(alloc);
-    let Ok(reached) = read_cut(&mut string, &bytes[1..], cut, size) else {
+    let Ok(reached) = read_cut(&mut string, &bytes[1..], cut, size, inside) else {
         return false;
     };
     let answer = told(&string, reached, keep, bytes.len());
@@ -173,8 +186,10 @@ fn hostile_strings_cut_at_every_byte(rt: HostRuntime) {
     ] {
         for cut in 0..bytes.len() {
             for size in [1, 3, 64usize] {
-                assert!(rt; agrees(rt.alloc(), bytes, cut, size, false));
-                assert!(rt; agrees(rt.alloc(), bytes, cut, size, true));
+                for inside in [false, true] {
+                    assert!(rt; agrees(rt.alloc(), bytes, cut, size, false, inside));
+                    assert!(rt; agrees(rt.alloc(), bytes, cut, size, true, inside));
+                }
             }
         }
     }
@@ -201,4 +216,70 @@ fn an_escape_is_taken_at_once_where_it_is_whole(rt: HostRuntime) {
     assert_eq!(rt; string.next(b"\\u20", 0), Ok(Went::Taken(1)));
     assert_eq!(rt; string.next(b"\\u20", 1), Ok(Went::Taken(1)));
     assert_eq!(rt; string.text(), "a\u{1f600}");
+}
+
+// Whether this is what the string takes of a piece, and its characters then.
+fn takes(string: &mut OpenString, piece: &[u8], count: usize, text: &str) -> bool {
+    if !string.is_text(true) {
+        return false;
+    }
+    string.take_inside(piece) == (count, Ok(())) && string.text() == text
+}
+
+#[test]
+fn what_lies_within_a_string_is_taken(rt: HostRuntime) {
+    let mut string = OpenString::new(rt.alloc());
+    assert!(rt; takes(&mut string, b"", 0, ""));
+    assert!(rt; takes(&mut string, b"a", 1, "a"));
+    assert!(rt; takes(&mut string, b"b\\n\xe2\x82", 5, "ab\n"));
+    assert!(rt; takes(&mut string, b"\xac\xc3\xa9\xf0", 4, "ab\n\u{20ac}\u{e9}"));
+    assert!(rt; takes(&mut string, b"\x9f", 1, "ab\n\u{20ac}\u{e9}"));
+    assert!(rt; takes(&mut string, b"\x98\x80\\", 3, "ab\n\u{20ac}\u{e9}\u{1f600}"));
+    assert!(rt; takes(&mut string, b"\"\\u00", 5, "ab\n\u{20ac}\u{e9}\u{1f600}\""));
+    assert!(rt;
+        takes(
+            &mut string,
+            b"e9\"c",
+            2,
+            "ab\n\u{20ac}\u{e9}\u{1f600}\"\u{e9}"
+        )
+    );
+    assert_eq!(rt; string.next(b"\"c", 0), Ok(Went::Quote));
+}
+
+#[test]
+fn what_lies_within_a_string_ends_before_what_is_wrong(rt: HostRuntime) {
+    for (first, second, count, text) in [
+        (
+            b"\\ud83d\\u".as_slice(),
+            b"de00!".as_slice(),
+            5,
+            "\u{1f600}!",
+        ),
+        (b"\\ud83d", b"x", 0, ""),
+        (b"a\\", b"x", 0, "a"),
+        (b"a", b"b\x1f", 1, "ab"),
+        (b"a", b"b\xff", 0, "a"),
+        (b"a\xe2\x82", b"b", 0, "a"),
+        (b"a\xe2\x82", b"\\n", 0, "a"),
+        (b"a\xe2\x82", b"\xac\\n\xed\xa0", 3, "a\u{20ac}\n"),
+        (
+            b"a\xe2\x82",
+            b"\xac234567890123456",
+            16,
+            "a\u{20ac}234567890123456",
+        ),
+        (
+            b"a\xe2\x82",
+            b"\xac2345678901234567890\"",
+            20,
+            "a\u{20ac}2345678901234567890",
+        ),
+    ] {
+        let mut string = OpenString::new(rt.alloc());
+        if string.is_text(true) {
+            assert_eq!(rt; string.take_inside(first), (first.len(), Ok(())));
+        }
+        assert!(rt; takes(&mut string, second, count, text));
+    }
 }

@@ -69,3 +69,21 @@ fn an_escape_ends_an_unfinished_character(rt: HostRuntime) {
     assert_eq!(rt; text.text(), "\u{e9}b");
     assert_eq!(rt; text.is_text(true), false);
 }
+
+#[test]
+fn right_bytes_alone_are_taken(rt: HostRuntime) {
+    let mut text = OpenText::new(rt.alloc());
+    for (run, count, characters) in [
+        (b"a\xe2\x82".as_slice(), 3, "a"),
+        (b"\xacb\xff", 0, "a"),
+        (b"\xacb", 2, "a\u{20ac}b"),
+        (b"\xc3\xa9", 2, "a\u{20ac}b\u{e9}"),
+        (b"\xc3\xc3", 0, "a\u{20ac}b\u{e9}"),
+    ] {
+        if text.is_text(true) && !run.is_empty() {
+            assert_eq!(rt; text.add_right(run), (count, Ok(())));
+        }
+        assert_eq!(rt; text.text(), characters);
+        assert!(rt; text.is_text(true));
+    }
+}
