@@ -216,7 +216,8 @@ impl<'j> Jiter<'j> {
     }
 
     /// Moves over blanks to the next byte, whatever it is, and tells it (RFC 8259, 2). At the end of input it
-    /// is `EofWhileParsingValue`. A second peek says the same, and leaves the reader where it stands.
+    /// is `EofWhileParsingValue`, and the reader stands there. A second peek says the same, and leaves the reader where
+    /// it stands.
     #[inline(always)]
     pub fn peek(&mut self) -> JiterResult<Peek>
         ensures moves { MovesOn self.old self.new }
@@ -249,7 +250,8 @@ impl<'j> Jiter<'j> {
         Ok(start_of(peek.into_inner()))
     }
 
-    /// Moves over blanks to the end of input. A byte that is left is `TrailingCharacters` at it.
+    /// Moves over blanks to the end of input. A byte that is left is `TrailingCharacters` at it, where the reader then
+    /// stands.
     pub fn finish(&mut self) -> JiterResult<()>
         ensures moves { MovesOn self.old self.new }
         ensures value { Replies (λ u. u) result self.new (finish self.old) }

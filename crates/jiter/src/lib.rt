@@ -12,6 +12,7 @@
 pub mod client;
 mod errors;
 mod jiter;
+mod line_feeds;
 mod peek;
 
 pub use errors::{JiterError, JiterErrorType, JiterResult, JsonType};
@@ -23,4 +24,5 @@ pub use jiter_value::{
     Arriving, JsonArray, JsonObject, JsonValue, JsonValueScratch, Machine, NumberText, ShortText,
     Turn, UniqueError, UniqueErrorType, parse_pieces,
 };
+pub use line_feeds::LineFeeds;
 pub use peek::Peek;

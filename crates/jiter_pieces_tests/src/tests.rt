@@ -8,6 +8,7 @@ mod bounds;
 mod broken;
 mod deep;
 mod growing;
+mod lines;
 mod long;
 mod readings;
 mod rows;

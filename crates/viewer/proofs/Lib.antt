@@ -1,5 +1,4 @@
 mod Lines
-mod Feeds
 mod Told
 mod Arriving
 mod Ending

@@ -1,16 +1,15 @@
 -- What a reading that has received bytes tells is what a parse of these bytes answers.
-use Rattle.std.proofs.Common.{◌≡◌, ◌∙◌, ap, ap₂, refl, sym, ℕ, Bool, List, [], ◌∷◌, ◌++◌, Some, inl, inr}
+use Rattle.std.proofs.Common.{◌≡◌, ◌∙◌, ap, ap₂, refl, sym, ℕ, Bool, List, [], ◌∷◌, ◌++◌, None, Some, inl, inr}
 use Rattle.std.specs.Prelude.{Ok, Err}
 use Rattle.std.specs.List.{join_with_byte}
 use Rattle.jiter.specs.Caller.{answer, answer_in, description_text, done, fault, HasReceived, JsonError, JsonValue}
-use Rattle.jiter.specs.Caller.{kind_of, owned_tree, Parses, PartialMode, Reading, reading_as, Tree, view}
+use Rattle.jiter.specs.Caller.{kind_of, owned_tree, Parses, PartialMode, Reading, reading_as, Received, Tree, view}
 use Rattle.jiter_print.specs.Print.{item_prints, member_prints, print_of, print_text, with_line_feed}
 use Rattle.jiter_steps.specs.Tree.{null, boolean, int, big, float, string, array, object, Items, no_items, item}
 use Rattle.jiter_steps.specs.Tree.{Members, no_members, member}
 use Rattle.jiter_value.specs.Owned.{owned_items, owned_members}
-use Rattle.viewer.specs.Arrived.{HasArrived}
+use Rattle.viewer.specs.Arrived.{ReadsAs}
 use Rattle.viewer.specs.Shown.{fault_line, value_line}
-use Rattle.viewer.specs.declared.arrived.Arrived.{Arrived}
 use Rattle.viewer.specs.declared.words.Words.{Words}
 
 -- The compact text of a value is the same wherever its texts lie.
@@ -46,13 +45,26 @@ value-told names mode t v h = by (answer_in names mode t) h.answer.1 where
   by (fault k i stop) same = absurd (cc)
 
 -- The line of a value that the reading tells: of the bytes that have arrived, read as the words ask.
-pub line-told : (words : Words) (a : Arrived) (t : List ℕ) → HasArrived words a t → (v : JsonValue)
-    → ((u : List ℕ) → HasReceived a.reading u
-    → Parses owned_tree ⊥ a.reading.settings.allow_inf_nan a.reading.settings.mode u (Ok v))
+pub line-told : (words : Words) (d : Received) (t : List ℕ) → ReadsAs words d t → (v : JsonValue)
+    → ((u : List ℕ) → HasReceived d u → Parses owned_tree ⊥ d.settings.allow_inf_nan d.settings.mode u (Ok v))
     → (line : List ℕ) → line ≡ with_line_feed (print_of (view v))
     → value_line (answer_in words.inf_nan words.mode t) ≡ Some line
-line-told words a t h v told line is =
+line-told words d t h v told line is =
     rw (← h.names) (rw (← h.mode) (value-told _ _ t v (told t h.received) ∙ ap Some (sym is)))
+
+-- a value that is answered with partial reading off has no fault
+faultless : (names : Bool) (t : List ℕ) (v : JsonValue) → Parses owned_tree ⊥ names PartialMode.Off t (Ok v)
+    → None ≡ fault_line (answer names t) t
+faultless names t v h = by (answer names t) h.answer.1 where
+  by : (x : Reading Tree) → reading_as owned_tree x ≡ done (view v) h.answer.0 → None ≡ fault_line x t
+  by (done w e) same = refl
+  by (fault k i stop) same = absurd (cc)
+
+-- Where the reading tells a value at the end, there is no fault.
+pub none-told : (words : Words) (d : Received) (t : List ℕ) → ReadsAs words d t → (v : JsonValue)
+    → ((u : List ℕ) → HasReceived d u → Parses owned_tree ⊥ d.settings.allow_inf_nan PartialMode.Off u (Ok v))
+    → None ≡ fault_line (answer words.inf_nan t) t
+none-told words d t h v told = rw (← h.names) (faultless _ t v (told t h.received))
 
 -- what is answered with partial reading off, if it is an error: the first fault, since it is never want of memory
 fault-is : (names : Bool) (t : List ℕ) (e : JsonError) → Parses owned_tree ⊥ names PartialMode.Off t (Err e)
@@ -67,10 +79,9 @@ fault-is names t e h = elim h.answer [
   by (fault k i at) stop same = ap (λ x. fault_line x t) same
 
 -- The line of the fault that the reading tells.
-pub fault-told : (words : Words) (a : Arrived) (t : List ℕ) → HasArrived words a t → (e : JsonError)
-    → ((u : List ℕ) → HasReceived a.reading u
-    → Parses owned_tree ⊥ a.reading.settings.allow_inf_nan PartialMode.Off u (Err e))
+pub fault-told : (words : Words) (d : Received) (t : List ℕ) → ReadsAs words d t → (e : JsonError)
+    → ((u : List ℕ) → HasReceived d u → Parses owned_tree ⊥ d.settings.allow_inf_nan PartialMode.Off u (Err e))
     → (line : List ℕ) → line ≡ with_line_feed (description_text (kind_of e.error_type) e.index t)
     → Some line ≡ fault_line (answer words.inf_nan t) t
-fault-told words a t h e told line is =
+fault-told words d t h e told line is =
     rw (← h.names) (ap Some is ∙ sym (fault-is _ t e (told t h.received)))

@@ -1,7 +1,6 @@
 //! Shows a document while it arrives on standard input: a line for each read that changed its value.
 #![tactic(auto)]
 
-mod arrived;
 mod program;
 #[cfg(test)]
 mod tests;

@@ -3,13 +3,13 @@ ghost use Rattle.std.specs.Prelude.{◌≡◌, [], List, ℕ, true, IfOk, IfSome
 ghost use Rattle.std.specs.Io.KnownBytes.{Appends};
 ghost use Rattle.jiter.specs.Caller.{answer_in, is_active, IsBegunContainer};
 ghost use Rattle.jiter_print.specs.Written.{AppendsFront};
-ghost use Rattle.viewer.specs.Arrived.{HasArrived};
+ghost use Rattle.viewer.specs.Arrived.{HasArrived, ReadsAs};
 ghost use Rattle.viewer.specs.Shown.{EndsAs, Finishes, IsLineOfCut, last_line, new_line, Ran};
 ghost use Rattle.viewer.specs.Shown.{ShowsAll, ShowsFront, value_line};
 ghost use Rattle.viewer.specs.declared.words.Words.{Words};
 
-use crate::arrived::Arrived;
 use crate::words::Words;
+use jiter::{Arriving, LineFeeds};
 use jiter_print::{print, write_line};
 use std::alloc::{AllocError, Global};
 use std::io;
@@ -35,25 +35,27 @@ pub fn run<R: Read, O: Write, E: Write>(
         → (f : IsBegunContainer words.inf_nan front)
         → IsLineOfCut words f (value_line (answer_in words.inf_nan words.mode front)) }
 {
-    let mut arrived = Arrived::new(alloc, words);
-    follow(alloc, &mut arrived, reader, out)?;
-    finish(alloc, arrived, err)
+    let mut document = Arriving::new(alloc, words.inf_nan, words.mode);
+    let mut lines = LineFeeds::new(alloc);
+    follow(alloc, &mut document, &mut lines, reader, out)?;
+    finish(alloc, document, &lines, err)
 }
 
 // Reads to the end, and shows what has arrived after each read.
 fn follow<R: Read, O: Write>(
     alloc: Global,
-    arrived: &mut Arrived,
+    document: &mut Arriving,
+    lines: &mut LineFeeds,
     reader: &mut R,
     out: &mut O,
 ) -> io::Result<()>
     // Where nothing had arrived before: all that is read arrives, and is shown.
-    ensures all { (words : Words) → HasArrived words arrived.old []
-        → OnOk result (IfSome (R.remaining reader.old) (λ t. HasArrived words arrived.new t)) }
-    ensures shown { (words : Words) → HasArrived words arrived.old []
+    ensures all { (words : Words) → HasArrived words document.old lines.old []
+        → OnOk result (IfSome (R.remaining reader.old) (λ t. HasArrived words document.new lines.new t)) }
+    ensures shown { (words : Words) → HasArrived words document.old lines.old []
         → OnOk result (IfSome (R.remaining reader.old) (λ t. ShowsAll words t
         (O.contents out.old) (O.contents out.new))) }
-    ensures front { (words : Words) → HasArrived words arrived.old []
+    ensures front { (words : Words) → HasArrived words document.old lines.old []
         → OnErr result (IfSome (R.remaining reader.old) (λ t. ShowsFront words t
         (O.contents out.old) (O.contents out.new))) }
 {
@@ -63,8 +65,9 @@ fn follow<R: Read, O: Write>(
         match reader.read(&mut piece) {
             Ok(0) => return Ok(()),
             Ok(count) => {
-                arrived.push(&piece[..count])?;
-                last = show(alloc, arrived, last, out)?;
+                document.push(&piece[..count])?;
+                lines.push(&piece[..count])?;
+                last = show(alloc, document, last, out)?;
             }
             Err(error) if error.kind() == ErrorKind::Interrupted => {}
             Err(error) => return Err(error),
@@ -76,20 +79,20 @@ fn follow<R: Read, O: Write>(
 // Writes the line of what has arrived, unless it is the last line, and gives the line that is the last one then.
 fn show<O: Write>(
     alloc: Global,
-    arrived: &Arrived,
+    document: &Arriving,
     last: Vec<u8>,
     out: &mut O,
 ) -> io::Result<Vec<u8>>
-    ensures last { (words : Words) → (t : List ℕ) → HasArrived words arrived.now t → IfOk result (λ line. line.items
+    ensures last { (words : Words) → (t : List ℕ) → ReadsAs words document.now t → IfOk result (λ line. line.items
         ≡ last_line last.items (value_line (answer_in words.inf_nan words.mode t))) }
-    ensures whole { (words : Words) → (t : List ℕ) → HasArrived words arrived.now t
+    ensures whole { (words : Words) → (t : List ℕ) → ReadsAs words document.now t
         → OnOk result (Appends (O.contents out.old) (O.contents out.new)
         (new_line last.items (value_line (answer_in words.inf_nan words.mode t)))) }
-    ensures front { (words : Words) → (t : List ℕ) → HasArrived words arrived.now t
+    ensures front { (words : Words) → (t : List ℕ) → ReadsAs words document.now t
         → OnErr result (AppendsFront (O.contents out.old) (O.contents out.new)
         (new_line last.items (value_line (answer_in words.inf_nan words.mode t)))) }
 {
-    let mut line = match arrived.reading.value() {
+    let mut line = match document.value() {
         Ok(value) => print(alloc, value).or(Err(AllocError))?,
         Err(_) => return Ok(last),
     };
@@ -101,15 +104,19 @@ fn show<O: Write>(
 }
 
 // Writes the fault of a whole text, if it is no document, and tells whether it is one.
-fn finish<E: Write>(alloc: Global, arrived: Arrived, err: &mut E) -> io::Result<bool>
-    ensures { (words : Words) → (t : List ℕ) → HasArrived words arrived t
+fn finish<E: Write>(
+    alloc: Global,
+    document: Arriving,
+    lines: &LineFeeds,
+    err: &mut E,
+) -> io::Result<bool>
+    ensures { (words : Words) → (t : List ℕ) → HasArrived words document lines.now t
         → Finishes words.inf_nan t result (E.contents err.old) (E.contents err.new) }
 {
-    match arrived.fault_line(alloc)? {
-        None => Ok(true),
-        Some(line) => {
-            write_line(err, line.as_bytes())?;
-            Ok(false)
-        }
-    }
+    let Err(error) = document.finish() else {
+        return Ok(true);
+    };
+    let line = format!(in alloc; "{} at {}\n", error.error_type, lines.position(error.index))?;
+    write_line(err, line.as_bytes())?;
+    Ok(false)
 }

@@ -79,7 +79,7 @@ impl<'j> Jiter<'j> {
     /// not consumed; None where the array is empty, and then its closing bracket is consumed (RFC 8259, 5).
     ///
     /// A value of another type is `WrongType` at its first byte, where the reader stays. The input's end behind the
-    /// bracket is `EofWhileParsingList`, at the length.
+    /// bracket is `EofWhileParsingList`, at the length, where the reader then stands.
     #[inline(always)]
     pub fn next_array(&mut self) -> JiterResult<Option<Peek>>
         ensures moves { MovesOn self.old self.new }

@@ -2,7 +2,7 @@
 //! that `jiter` exports.
 use crate::tests::expect::expect_text;
 use jiter::{
-    Jiter, JsonArray, JsonError, JsonErrorType, JsonObject, JsonResult, JsonValue,
+    Arriving, Jiter, JsonArray, JsonError, JsonErrorType, JsonObject, JsonResult, JsonValue,
     JsonValueScratch, LinePosition, Machine, NumberAny, NumberInt, PartialMode, Peek, Turn,
     UniqueErrorType,
 };
@@ -86,6 +86,18 @@ fn a_document_arrives_in_pieces(rt: HostRuntime) {
 }
 
 #[test]
+fn a_document_is_pushed_in_pieces(rt: HostRuntime) -> Result<(), Fail> {
+    let alloc = rt.alloc();
+    let mut arriving = Arriving::new(alloc, false, PartialMode::TrailingStrings);
+    arriving.push(b"[12, \"a ")?;
+    arriving.push(b"b")?;
+    let value = arriving.value()?;
+    let text = value.pointer("/1").and_then(|text| text.as_str());
+    assert_eq!(rt; text, Some("a b"));
+    Ok(())
+}
+
+#[test]
 fn a_document_is_read_by_steps(rt: HostRuntime) -> Result<(), Fail> {
     let alloc = rt.alloc();
     let document = br#"{"name": "John Doe", "age": 43, "phones": ["+44 1234567", "+44 2345678"]}"#;
@@ -111,11 +123,10 @@ fn another_type_may_be_tried(rt: HostRuntime) -> Result<(), Fail> {
     let mut jiter = Jiter::new(b"[1.5, 2]");
     assert_eq!(rt; jiter.next_array()?, Some(Peek::new(b'1')));
     let error = jiter.next_int().err().ok_or("an integer")?;
-    expect_text(
-        &rt,
-        error.description(alloc, &jiter),
-        "expected int but found float at line 1 column 2",
-        &error,
+    let told = error.description(alloc, &jiter)?;
+    assert_eq!(rt;
+        told.as_str(),
+        "expected int but found float at line 1 column 2"
     );
     assert_eq!(rt; jiter.next_number_bytes()?, b"1.5".as_slice());
     Ok(())
@@ -144,11 +155,15 @@ fn a_number_is_told(rt: HostRuntime) {
     }
 }
 
+// The line and the column of an index.
+fn place(alloc: Global, bytes: &[u8], index: usize) -> Result<String, AllocError> {
+    let position = LinePosition::find(bytes, index);
+    format!(in alloc; "{position}")
+}
+
 #[test]
 fn a_position_is_told(rt: HostRuntime) {
-    let position = LinePosition::find(b"ab\ncd", 4);
-    let told = format!(in rt.alloc(); "{position}");
-    expect_text(&rt, told, "line 2 column 2", &position);
+    expect_text(&rt, place(rt.alloc(), b"ab\ncd", 4), "line 2 column 2", &4);
 }
 
 // The values of the lines that are documents; each owns its texts, and the scratch serves all lines. Want of memory ends

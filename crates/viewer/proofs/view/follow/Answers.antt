@@ -1,46 +1,57 @@
 use Rattle.std.proofs.Common.{arith}
-use Rattle.viewer.proofs.Arriving.{all-arrived, all-shown, breaks-off, goes-on, if-err, stays, stopped}
+use Rattle.std.specs.List.{concat}
+use Rattle.viewer.proofs.Arriving.{all-arrived, all-shown, arrives, breaks-off, goes-on, if-err, stays, stopped}
 use Rattle.viewer.proofs.view.follow.Goals as goal
-use Rattle.viewer.proofs.view.follow.Goals.{in-Ok+in_ok-push-in-Ok+in_ok-last-in-Ok, in-Err}
+use Rattle.viewer.proofs.view.follow.Goals.{in-Ok+in_ok-push-in-Ok+in_ok-push-in-Ok-2+in_ok-last-in-Ok, in-Err}
 
 pub returns-in-Ok-eq0-clause-all : goal.returns-in-Ok-eq0-clause-all
 returns-in-Ok-eq0-clause-all g c = λ words none.
     let read = rw c.in-Ok-eq0.is at c.read.ensures.bytes in
     let end = read.1 c.in-Ok-eq0.field-0-test (omega arith) in
-    all-arrived words _ _ _ _ _ _ (c.loop.invariant words none) _ (rw c.in-Ok-eq0.field-0-test at read.0) end
+    all-arrived words _ _ _ _ _ _ _ (c.loop.invariant words none) _ (rw c.in-Ok-eq0.field-0-test at read.0) end
 
 pub returns-in-Ok-eq0-clause-shown : goal.returns-in-Ok-eq0-clause-shown
 returns-in-Ok-eq0-clause-shown g c = λ words none.
     let read = rw c.in-Ok-eq0.is at c.read.ensures.bytes in
     let end = read.1 c.in-Ok-eq0.field-0-test (omega arith) in
-    all-shown words _ _ _ _ _ _ (c.loop.invariant words none) _ (rw c.in-Ok-eq0.field-0-test at read.0) end
+    all-shown words _ _ _ _ _ _ _ (c.loop.invariant words none) _ (rw c.in-Ok-eq0.field-0-test at read.0) end
 
 pub returns-in_err-push-in-Ok-clause-front : goal.returns-in_err-push-in-Ok-clause-front
 returns-in_err-push-in-Ok-clause-front g c = λ words none.
-    if-err _ (stopped words _ _ _ _ _ _ (c.loop.invariant words none))
+    if-err _ (stopped words _ _ _ _ _ _ _ (c.loop.invariant words none))
+
+pub returns-in_err-push-in-Ok-2-clause-front : goal.returns-in_err-push-in-Ok-2-clause-front
+returns-in_err-push-in-Ok-2-clause-front g c = λ words none.
+    if-err _ (stopped words _ _ _ _ _ _ _ (c.loop.invariant words none))
 
 pub returns-in_err-last-in-Ok-clause-front : goal.returns-in_err-last-in-Ok-clause-front
 returns-in_err-last-in-Ok-clause-front g c = λ words none.
     let held = c.loop.invariant words none in
-    let more = c.in_ok-push-in-Ok.ensures words _ held.arrived in
-    let front = c.in_err-last-in-Ok.ensures.front words _ more in
-    if-err _ (breaks-off words _ _ _ _ _ _ held _ _ c.in-Ok.ensures.bytes.0 _ front)
+    let pushed = c.in_ok-push-in-Ok.ensures in
+    let t = concat held.pieces in
+    let more = arrives words _ _ _ _ t _ held.arrived (pushed.ok t held.arrived.read.received) pushed.settings
+    (c.in_ok-push-in-Ok-2.ensures.ok t held.arrived.passed) in
+    let front = c.in_err-last-in-Ok.ensures.front words _ more.read in
+    if-err _ (breaks-off words _ _ _ _ _ _ _ held _ _ c.in-Ok.ensures.bytes.0 _ front)
 
 pub returns-in-Err-2-clause-front : goal.returns-in-Err-2-clause-front
-returns-in-Err-2-clause-front g c = λ words none. stopped words _ _ _ _ _ _ (c.loop.invariant words none)
+returns-in-Err-2-clause-front g c = λ words none. stopped words _ _ _ _ _ _ _ (c.loop.invariant words none)
 
 pub loop-preserved : goal.loop-preserved
 loop-preserved g c = λ words none.
     let held = c.loop.invariant words none in
     elim c.match-read.branch [
-      | in-Ok+in_ok-push-in-Ok+in_ok-last-in-Ok w ↦ (
-          let more = w.in_ok-push-in-Ok.ensures words _ held.arrived in
+      | in-Ok+in_ok-push-in-Ok+in_ok-push-in-Ok-2+in_ok-last-in-Ok w ↦ (
+          let pushed = w.in_ok-push-in-Ok.ensures in
+          let t = concat held.pieces in
+          let more = arrives words _ _ _ _ t _ held.arrived (pushed.ok t held.arrived.read.received) pushed.settings
+          (w.in_ok-push-in-Ok-2.ensures.ok t held.arrived.passed) in
           let shown = w.in_ok-last-in-Ok.ensures in
-          rw w.out-is (rw w.arrived-is (rw w.last-is
-          (goes-on words _ _ _ _ _ _ held _ _ w.in-Ok.ensures.bytes.0 _ more _ _ (shown.whole words _ more)
-          (shown.last words _ more)))))
-      | in-Err w ↦ rw w.out-is (rw w.arrived-is (rw w.last-is (stays words _ _ _ _ _ _ held _ w.in-Err.ensures.bytes)))
+          rw w.out-is (rw w.document-is (rw w.lines-is (rw w.last-is
+          (goes-on words _ _ _ _ _ _ _ held _ _ w.in-Ok.ensures.bytes.0 _ _ more _ _ (shown.whole words _ more.read)
+          (shown.last words _ more.read))))))
+      | in-Err w ↦ rw w.out-is (rw w.document-is (rw w.lines-is (rw w.last-is (stays words _ _ _ _ _ _ _ held _ w.in-Err.ensures.bytes))))
     ]
 
 pub returns-clause-front : goal.returns-clause-front
-returns-clause-front g c = λ words none. stopped words _ _ _ _ _ _ (c.loop.invariant words none)
+returns-clause-front g c = λ words none. stopped words _ _ _ _ _ _ _ (c.loop.invariant words none)

@@ -5,6 +5,6 @@ use Rattle.viewer.specs.declared.words.Words.{Words}
 use Rattle.viewer.proofs.view.follow.Given as goal
 
 abbrev pub invariant-loop : goal.invariant-loop
-invariant-loop g l = (words : Words) → HasArrived words l.fn.arrived [] →
+invariant-loop g l = (words : Words) → HasArrived words l.fn.document l.fn.lines [] →
     Follows words (g.R.Read.remaining l.initial.reader) (g.R.Read.remaining l.reader)
-    (g.O.Write.contents l.initial.out) (g.O.Write.contents l.out) l.arrived l.last.items
+    (g.O.Write.contents l.initial.out) (g.O.Write.contents l.out) l.document l.lines l.last.items

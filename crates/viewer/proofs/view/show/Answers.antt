@@ -3,7 +3,7 @@ use Rattle.std.proofs.lemmas.Grind.{common_steps}
 use Rattle.std.proofs.KnownBytes.{Appends-nil}
 use Rattle.jiter.specs.Caller.{answer_in, view}
 use Rattle.jiter_print.specs.Print.{print_of, with_line_feed}
-use Rattle.viewer.specs.Arrived.{HasArrived}
+use Rattle.viewer.specs.Arrived.{ReadsAs}
 use Rattle.viewer.specs.Shown.{value_line}
 use Rattle.viewer.specs.declared.words.Words.{Words}
 use Rattle.viewer.proofs.Arriving.{if-err}
@@ -14,11 +14,11 @@ use Rattle.viewer.proofs.view.show.Goals as goal
 use Rattle.viewer.proofs.view.show.Goals.{In_ok-push, then-ne+in_ok-write_line, else-ne}
 
 -- what has arrived has this line
-told : (g : Over) (c : In_ok-push g) (words : Words) (t : List ℕ) → HasArrived words c.args.arrived.now t
+told : (g : Over) (c : In_ok-push g) (words : Words) (t : List ℕ) → ReadsAs words c.args.document.now t
     → value_line (answer_in words.inf_nan words.mode t) ≡ Some c.push.new.self.items
 told g c words t h =
     let text : c.push.new.self.items ≡ with_line_feed (print_of (view c.in-Ok.value.now)) = grind (arith, common_steps) in
-    line-told words c.args.arrived.now t h c.in-Ok.value.now c.in-Ok.ensures c.push.new.self.items text
+    line-told words c.args.document.now t h c.in-Ok.value.now c.in-Ok.ensures c.push.new.self.items text
 
 pub returns-in_err-line-in-Ok-clause-front : goal.returns-in_err-line-in-Ok-clause-front
 returns-in_err-line-in-Ok-clause-front g c = λ words t h. if-err c.from_residual.result (0, Appends-nil _)

@@ -10,7 +10,7 @@ use Rattle.std.proofs.lemmas.List.Sums.{sum_by-cons, take_while-cons}
 use mathlib.Core.List.{reverse_aux}
 use Rattle.jiter_scan.specs.Position.{is_newline, column_of, line_of, position_of}
 use Rattle.jiter_scan.specs.declared.errors.LinePosition.{LinePosition}
-use Rattle.viewer.specs.Arrived.{feeds_from, line_feeds}
+use Rattle.jiter.specs.LineFeeds.{feeds_from, line_feeds}
 
 -- the indices of the line feeds of two texts, one behind the other
 feeds-append : (n : ℕ) (a b : List ℕ) → feeds_from n (a ++ b) ≡ feeds_from n a ++ feeds_from (n + length a) b

@@ -1,8 +1,8 @@
 use Rattle.std.proofs.Common.{◌≡◌, ◌≤◌, ◌+◌, ◌∙◌, ap, arith, length, take}
 use Rattle.std.proofs.lemmas.List.{take_all}
-use Rattle.viewer.proofs.Feeds.{at_start, end-of-all, end-within, place-behind, place-stays, place_in, position-found}
-use Rattle.viewer.proofs.arrived.position_in.Goals as goal
-use Rattle.viewer.proofs.arrived.position_in.Goals.{then-index-size, else-index-size, then-feed-end, else-feed-end}
+use Rattle.jiter.proofs.LinePlaces.{at_start, end-of-all, end-within, place-behind, place-stays, place_in, position-found}
+use Rattle.jiter.proofs.line_feeds.position_in.Goals as goal
+use Rattle.jiter.proofs.line_feeds.position_in.Goals.{then-index-size, else-index-size, then-feed-end, else-feed-end}
 
 pub loop-feed-preserved : goal.loop-feed-preserved
 loop-feed-preserved c =

@@ -1,6 +1,6 @@
 use Rattle.std.proofs.Common.{◌≡◌, ◌+◌, ◌≤◌, take}
-use Rattle.viewer.proofs.Feeds.{Place, at_start, place_in}
-use Rattle.viewer.proofs.arrived.position_in.Given as goal
+use Rattle.jiter.proofs.LinePlaces.{Place, at_start, place_in}
+use Rattle.jiter.proofs.line_feeds.position_in.Given as goal
 
 abbrev pub invariant-loop-feed : goal.invariant-loop-feed
 invariant-loop-feed l = record {
