@@ -1,7 +1,7 @@
 //! A document that arrives in pieces, read once: no byte of an earlier piece is looked at again, and the value so far is
 //! there after each piece.
 ghost use Rattle.std.specs.Prelude.{◌≡◌, ◌+◌, ◌-◌, ◌^◌, ◌<◌, ◌≤◌, ◌++◌, [], IsErrAnd, List, MatchResult};
-ghost use Rattle.std.specs.Prelude.{OnErr, OnOk, length, take, ℕ};
+ghost use Rattle.std.specs.Prelude.{OnErr, OnOk, length, take, true, ℕ};
 ghost use Rattle.std.specs.List.{flat_map};
 ghost use Rattle.jiter_steps.specs.Blank.{past_blanks};
 ghost use Rattle.jiter_value.specs.Arriving.{HasReceived, received};
