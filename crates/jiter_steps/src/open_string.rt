@@ -1,7 +1,7 @@
 //! Strings that arrive in pieces (RFC 8259, 7 and 8.1): each byte is looked at once, wherever a piece ends, within a
 //! character or an escape too; and those that lie whole in a piece.
 ghost use Rattle.std.specs.Prelude.{◌≡◌, ◌+◌, ◌<◌, ◌≤◌, [], IfOk, IfSome, List, None, OnErr, OnOk, Some, length};
-ghost use Rattle.std.specs.Prelude.{◌++◌, ◌||◌, false, is_some, not, take, slice_get, slice_index, slice_range, string_bytes, true, ℕ};
+ghost use Rattle.std.specs.Prelude.{◌++◌, ◌||◌, is_some, not, slice_get, slice_index, slice_range, string_bytes, true, ℕ};
 ghost use Rattle.jiter_scan.specs.Ascii as ascii;
 ghost use Rattle.jiter_scan.specs.Kind.{eof_string};
 ghost use Rattle.jiter_scan.specs.Scan.{Pass, is_plain, is_plain_ascii};
@@ -227,17 +227,6 @@ impl OpenString {
         ensures some { OnErr result (0 < length bytes.now) }
     {
         self.text.add_ascii(bytes)
-    }
-
-    /// Takes bytes of a piece that go on with the string, and says how many.
-    pub fn take_inside(&mut self, piece: &[u8]) -> (usize, Result<(), Refused>)
-        requires whole { self.old.text.broken ≡ false }
-        ensures taken { (w : List ℕ) → HasTaken self.old w → HasTaken self.new (w ++ take result.0 piece.now) }
-        ensures within { result.0 ≤ length piece.now }
-        ensures whole { self.new.text.broken ≡ false }
-        ensures wanted { OnErr result.1 (result.0 < length piece.now) }
-    {
-        (0, Ok(()))
     }
 
     /// Whether the string is a text where it ends: all of its bytes, or, of one that is kept, as far as its whole
