@@ -4,6 +4,7 @@ ghost use Rattle.std.specs.Prelude.{◌≡◌, ◌+◌, ◌^◌, ◌<◌, ◌≤
 ghost use Rattle.std.specs.Prelude.{length, replicate, string_bytes, string_capacity, string_len, vec_capacity};
 ghost use Rattle.std.specs.Prelude.{false, not, true, vec_len};
 ghost use Rattle.std.specs.BTreeSet.{contains, insert_key};
+ghost use Rattle.std.specs.Char.{encode_utf8};
 ghost use Rattle.std.specs.Str.{IsAscii};
 ghost use Rattle.smallvec.specs.SmallVec.{HasRoomFor};
 
@@ -151,6 +152,19 @@ pub fn push_text(text: &mut String, more: &str) -> Result<(), Refused>
     }
 }
 
+/// Appends a character.
+#[inline(always)]
+pub fn push_char(text: &mut String, c: char) -> Result<(), Refused>
+    ensures ok { OnOk result (string_bytes text.new ≡ string_bytes text.old ++ encode_utf8 c) }
+    ensures err { OnErr result (string_bytes text.new ≡ string_bytes text.old) }
+    ensures full { OnErr result (string_capacity text.old < string_len text.old + length (encode_utf8 c)) }
+{
+    match text.push(c) {
+        Ok(()) => Ok(()),
+        Err(error) => Err(Refused { error }),
+    }
+}
+
 /// Appends bytes below 80 hex.
 #[inline(always)]
 pub fn push_ascii(text: &mut String, bytes: &[u8]) -> Result<(), Refused>
@@ -160,10 +174,7 @@ pub fn push_ascii(text: &mut String, bytes: &[u8]) -> Result<(), Refused>
     ensures some { OnErr result (0 < length bytes.now) }
 {
     if let [byte] = bytes {
-        return match text.push(*byte as char) {
-            Ok(()) => Ok(()),
-            Err(error) => Err(Refused { error }),
-        };
+        return push_char(text, *byte as char);
     }
     push_text(text, ascii_text(bytes))
 }

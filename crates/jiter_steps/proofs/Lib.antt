@@ -1,4 +1,5 @@
 pub mod Calls
+pub mod CharacterBytes
 pub mod Computed
 pub mod Cut
 pub mod Fault

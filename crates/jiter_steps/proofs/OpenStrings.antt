@@ -2,9 +2,10 @@
 use Rattle.std.proofs.Common.{◌≡◌, ℕ, zero, suc, ◌+◌, ◌-◌, ◌<◌, ◌≤◌, ◌||◌, Bool, true, false, List, [], ◌∷◌, ◌++◌}
 use Rattle.std.proofs.Common.{length, take, drop, refl, sym, ap, ap₂, ◌∙◌, subst, arith, append-nil, append_assoc}
 use Rattle.std.proofs.Common.{length-append, take-take}
-use Rattle.std.specs.Prelude.{slice_get, slice_range, Option, Some, None, IfSome, is_some}
+use Rattle.std.specs.Prelude.{slice_get, slice_range, Option, Some, None, IfOk, IfSome, Result, Ok, Err, is_some}
 use Rattle.std.specs.Char.{encode_utf8}
 use Rattle.std.specs.Str.{IsAscii, IsUtf8}
+use Rattle.std.proofs.Math.Seq.{take-add}
 use Rattle.std.proofs.lemmas.Bool.{and_parts, false≢true, lt-ltb, ltb-true, ne_eqb}
 use Rattle.std.proofs.lemmas.Bool.Decides.{nat_tests}
 use Rattle.std.proofs.lemmas.Option.{slice_get_within}
@@ -17,13 +18,14 @@ use Rattle.jiter_scan.proofs.Chunks.{prefix_len-pass}
 use Rattle.jiter_scan.proofs.Standing.{stands-length, stands-append, stands-slice, stands-split, slice-one}
 use Rattle.jiter_scan.proofs.Standing.{slice-stands}
 use Rattle.jiter_steps.specs.OpenEscape.{IsSpelled}
-use Rattle.jiter_steps.specs.OpenString.{Goes, HasTaken, IsEven, IsTextWithin, grown, held_bytes}
-use Rattle.jiter_steps.specs.OpenText.{HoldsBytes, HoldsText, SoFar}
+use Rattle.jiter_steps.specs.OpenString.{Goes, HasTaken, HasTakenFrom, IsEven, IsLeft, IsTextWithin, grown, held_bytes}
+use Rattle.jiter_steps.specs.OpenText.{HoldsBytes, HoldsText, SoFar, with_text}
 use Rattle.jiter_steps.specs.StringReading.{Body, Form, Stop, before, body_at, checked, closed, content_at}
 use Rattle.jiter_steps.specs.StringReading.{cut, is_cut, kept, over, part, portion_at, text_form}
 use Rattle.jiter_steps.specs.StringReading.{text_in_form, unclosed, whole, wrong}
 use Rattle.jiter_steps.specs.declared.open_escape.Spelled.TheVariants as spelled
 use Rattle.jiter_steps.specs.declared.open_string.OpenString.{OpenString}
+use Rattle.jiter_steps.specs.declared.open_string.Went.{Went}
 use Rattle.jiter_steps.specs.declared.open_string.Went.TheVariants as went
 use Rattle.jiter_scan.specs.declared.errors.FaultKind.{FaultKind}
 use Rattle.std.proofs.lemmas.List.{length-take, length-drop}
@@ -63,6 +65,10 @@ run-range piece run at n is few =
     let long : n ≤ at + length run - at = omega arith in
     let count : n ≡ at + n - at = omega arith in
     ap (take n) is ∙ take-take n (at + length run - at) (drop at piece) long ∙ ap (λ k. take k (drop at piece)) count
+
+-- The bytes before the first one that stops are plain.
+pub run-plain : (piece : List ℕ) (at to : ℕ) → to ≡ scan_stop piece at → Pass is_plain (slice_range piece at to)
+run-plain piece at to stop = prefix_len-pass is_plain (to - at) (drop at piece) (omega (arith, stop))
 
 -- no escape is open at the beginning
 pub nothing-taken : (text : SoFar) → HoldsText text [] → HasTaken (record { text = text; escape = None }) []
@@ -365,6 +371,71 @@ grown-taken s w v even pass h =
     (subst (λ b. HoldsBytes b new.text.text s.text.rest (h.decoded ++ v)) (sym even.1.0)
     (absorbed-whole s.text.text new.text.text v (h.decoded ++ v) all s.text.rest refl even.1.1))
 
+-- Nothing is taken,
+pub none-taken : (s : OpenString) (w piece : List ℕ) (at : ℕ) → HasTaken s w → HasTakenFrom s w piece at 0
+none-taken s w piece at h =
+    let none : slice_range piece at (at + 0) ≡ [] = slice_range-none piece at in
+    subst (HasTaken s) (sym (append-nil w) ∙ ap (λ v. w ++ v) (sym none)) h where
+      slice_range-none : (piece : List ℕ) (at : ℕ) → slice_range piece at (at + 0) ≡ []
+      slice_range-none piece at =
+          let count : at + 0 - at ≡ 0 = omega arith in ap (λ k. take k (drop at piece)) count
+
+pub left-so : (old new : OpenString) (w : Went) → ((n : ℕ) → ¬ (w ≡ went.Taken n)) → IsLeft old new w → new ≡ old
+left-so old new (went.Taken n) other h = absurd (other n refl)
+left-so old new went.Quote other h = h
+left-so old new (went.Wrong k back) other h = h
+
+-- or bytes behind those at the front of a piece,
+pub taken-more : (s : OpenString) (w piece : List ℕ) (at n : ℕ) → HasTakenFrom s (w ++ take at piece) piece at n
+    → HasTaken s (w ++ take (at + n) piece)
+taken-more s w piece at n h =
+    let count : at + n - at ≡ n = omega arith in
+    subst (HasTaken s)
+    (append_assoc w (take at piece) (slice_range piece at (at + n))
+    ∙ ap (λ k. w ++ (take at piece ++ take k (drop at piece))) count
+    ∙ ap (λ v. w ++ v) (sym (take-add at n piece)))
+    h
+
+-- or the first of a run of plain bytes.
+pub run-goes : (s : OpenString) (w : List ℕ) (h : HasTaken s w) (piece run : List ℕ) (at n : ℕ) (new : SoFar)
+    → s.escape ≡ None → Pass is_plain run → run ≡ slice_range piece at (at + length run) → n ≤ length run
+    → HoldsText new (h.decoded ++ take n run) → HasTakenFrom (record { text = new; escape = s.escape }) w piece at n
+run-goes s w h piece run at n new none pass is within holds =
+    subst (λ v. HasTaken (record { text = new; escape = s.escape }) (w ++ v)) (run-range piece run at n is within)
+    (plain-goes s w h (take n run) new s.escape none none (pass-take is_plain n run pass) holds)
+
+-- The same of a run of which some bytes are taken, where memory was not refused.
+pub run-goes-if : {E : Type 0} → (s : OpenString) (w : List ℕ) (h : HasTaken s w) (piece run : List ℕ) (at : ℕ) (new : SoFar)
+    → s.escape ≡ None → Pass is_plain run → run ≡ slice_range piece at (at + length run) → (r : Result ℕ E)
+    → IfOk r (λ n. HoldsText new (h.decoded ++ take n run)) → IfOk r (λ n. n ≤ length run)
+    → IfOk r (HasTakenFrom (record { text = new; escape = s.escape }) w piece at)
+run-goes-if s w h piece run at new none pass is (Ok n) holds within =
+    run-goes s w h piece run at n new none pass is within holds
+run-goes-if s w h piece run at new none pass is (Err e) holds within = tt
+
+-- how long a range of a piece is
+pub range-length : (piece : List ℕ) (at to : ℕ) → at ≤ to → to ≤ length piece → length (slice_range piece at to) ≡ to - at
+range-length piece at to ahead within =
+    omega (arith, length-take (to - at) (drop at piece), length-drop at piece)
+
+-- so it is told by its length
+pub run-whole : (piece : List ℕ) (at to : ℕ) → at ≤ to → to ≤ length piece
+    → slice_range piece at to ≡ slice_range piece at (at + length (slice_range piece at to))
+run-whole piece at to ahead within =
+    let same : to ≡ at + length (slice_range piece at to) = omega (arith, range-length piece at to ahead within) in
+    ap (slice_range piece at) same
+
+-- Plain bytes of a piece behind whole characters are taken.
+pub grown-range : (s : OpenString) (w : List ℕ) (h : HasTaken s w) (piece : List ℕ) (at to : ℕ) → IsEven s → at ≤ to
+    → Pass is_plain (slice_range piece at to) → (new : SoFar)
+    → new ≡ with_text s.text (s.text.text ++ slice_range piece at to) → (n : ℕ) → n ≡ to - at
+    → HasTakenFrom (record { text = new; escape = s.escape }) w piece at n
+grown-range s w h piece at to even ahead pass new is n size =
+    let v = slice_range piece at to in
+    let same : to ≡ at + n = omega arith in
+    subst (λ (x : SoFar). HasTakenFrom (record { text = x; escape = s.escape }) w piece at n) (sym is)
+    (subst (λ j. HasTaken (grown s v) (w ++ slice_range piece at j)) same (grown-taken s w v even pass h))
+
 -- A range within the front of a piece is one of the piece.
 pub near-range : (piece : List ℕ) (at end stop : ℕ) → end ≤ length piece → at ≤ stop → stop ≤ length (take end piece)
     → slice_range (take end piece) at stop
@@ -416,7 +487,7 @@ module _ (piece : List ℕ) (at to : ℕ) (stop : to ≡ scan_stop piece (at + 1
   quoted = slice_range piece at (to + 1)
 
   inside-plain : Pass is_plain inside
-  inside-plain = prefix_len-pass is_plain (to - (at + 1)) (drop (at + 1) piece) (omega (arith, stop))
+  inside-plain = run-plain piece (at + 1) to stop
 
   quoted-is : quoted ≡ 34 ∷ inside ++ 34 ∷ []
   quoted-is =

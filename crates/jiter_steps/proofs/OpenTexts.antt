@@ -2,7 +2,7 @@
 use Rattle.std.proofs.Common.{◌≡◌, ◌⊎◌, inl, inr, ℕ, zero, suc, ◌+◌, ◌-◌, ◌<◌, ◌≤◌, ◌==◌, Bool, true, false, not}
 use Rattle.std.proofs.Common.{List, [], ◌∷◌, ◌++◌, length, take, drop, refl, sym, ap, ◌∙◌, subst, arith}
 use Rattle.std.proofs.Common.{append-nil, append_assoc, length-append, nat_eq}
-use Rattle.std.specs.Prelude.{Option, Some, None, if◌then◌else◌}
+use Rattle.std.specs.Prelude.{Option, Some, None, is_some, if◌then◌else◌}
 use Rattle.std.specs.Int.{is_in_range}
 use Rattle.std.specs.Str.{IsUtf8, IsValidUpTo, all_scalars}
 use Rattle.std.specs.Str.Lossy.{utf8_valid_len, utf8_error_len, second_byte_min, second_byte_max}
@@ -221,7 +221,7 @@ module _ (old text bytes d : List ℕ) (is : d ≡ old ++ bytes) where
   )
 
   -- or they are up to some that are none,
-  module _ (n : ℕ) (v : IsValidUpTo bytes n) (front : text ≡ old ++ take n bytes) where
+  module _ (n : ℕ) (front : text ≡ old ++ take n bytes) where
     -- the bytes, parted there
     parted : d ≡ text ++ drop n bytes
     parted =
@@ -229,16 +229,23 @@ module _ (old text bytes d : List ℕ) (is : d ≡ old ++ bytes) where
         ∙ ap (λ x. x ++ drop n bytes) (sym front)
 
     -- an unfinished one's
-    pub absorbed-open : (rest : List ℕ) → rest ≡ drop n bytes → utf8_error_len (drop n bytes) ≡ None
-        → HoldsBytes false text rest d
-    absorbed-open rest r e = (
-      parted ∙ ap (λ x. text ++ x) (sym r),
-      subst IsUnfinished (sym r) (record { none = rest-none bytes n v; unended = e }),
-    )
+    pub absorbed-open : (rest : List ℕ) → rest ≡ drop n bytes → IsUnfinished (drop n bytes) → HoldsBytes false text rest d
+    absorbed-open rest r u = (parted ∙ ap (λ x. text ++ x) (sym r), subst IsUnfinished (sym r) u)
 
     -- or wrong ones
-    pub absorbed-broken : (rest : List ℕ) (k : ℕ) → utf8_error_len (drop n bytes) ≡ Some k → HoldsBytes true text rest d
-    absorbed-broken rest k e = (drop n bytes, parted, broken-is (drop n bytes) k (rest-none bytes n v) e)
+    pub absorbed-broken : (rest : List ℕ) → IsBroken (drop n bytes) → HoldsBytes true text rest d
+    absorbed-broken rest b = (drop n bytes, parted, b)
+
+-- What stands behind the longest front that is a text, by the error that is found there: an unfinished character,
+module _ (w : List ℕ) (n : ℕ) (v : IsValidUpTo w n) where
+  pub open-behind : (o : Option ℕ) → utf8_error_len (drop n w) ≡ o → is_some o ≡ false → IsUnfinished (drop n w)
+  open-behind None e s = record { none = rest-none w n v; unended = e }
+  open-behind (Some k) e s = absurd (cc)
+
+  -- or wrong bytes
+  pub broken-behind : (o : Option ℕ) → utf8_error_len (drop n w) ≡ o → is_some o ≡ true → IsBroken (drop n w)
+  broken-behind None e s = absurd (cc)
+  broken-behind (Some k) e s = broken-is (drop n w) k (rest-none w n v) e
 
 -- a broken text goes on as one
 pub broken-goes : (text rest d u : List ℕ) → HoldsBytes true text rest d → HoldsBytes true text rest (d ++ u)
@@ -341,3 +348,13 @@ module _ (s : SoFar) (d : List ℕ) (utf8 : IsUtf8 s.text) (i e : ℕ) (owned : 
 -- all that stands behind a place
 pub rest-all : (n : ℕ) (w : List ℕ) → take (length w - n) (drop n w) ≡ drop n w
 rest-all n w = take_all (length w - n) (drop n w) (omega (arith, length-drop n w))
+
+-- Parts that are taken one behind the other are one part.
+pub held-on : (s : SoFar) (d run : List ℕ) (n m : ℕ)
+    → HoldsText s ((d ++ take n run) ++ take m (take (length run - n) (drop n run)))
+    → HoldsText s (d ++ take (n + m) run)
+held-on s d run n m h =
+    subst (HoldsText s)
+    (append_assoc d (take n run) (take m (take (length run - n) (drop n run)))
+    ∙ ap (λ x. d ++ (take n run ++ take m x)) (rest-all n run) ∙ ap (λ x. d ++ x) (sym (take-add n m run)))
+    h

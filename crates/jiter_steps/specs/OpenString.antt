@@ -41,10 +41,18 @@ pub record HasTaken (s : OpenString) (w : List ℕ) : Type 0 where
   pub holds : HoldsText s.text decoded
   pub goes : Wherever w (λ t i j. body_at t i ≡ before decoded escaped (body_at t (i + length front)))
 
+-- behind the bytes w it has taken so many of a piece, from a place on
+abbrev pub HasTakenFrom : OpenString → List ℕ → List ℕ → ℕ → ℕ → Type 0
+HasTakenFrom s w piece at n = HasTaken s (w ++ slice_range piece at (at + n))
+
+-- so many bytes of a piece, one at least, from a place on
+abbrev pub IsCountAt : List ℕ → ℕ → ℕ → Type 0
+IsCountAt piece at n = (0 < n) × (at + n ≤ length piece)
+
 -- What is told of the byte at a place of a piece is right for a string that has taken the bytes w: bytes are taken
 -- from there on; or it is the closing quote; or the string has a fault so many bytes before it, whatever comes.
 abbrev pub Goes : OpenString → List ℕ → List ℕ → ℕ → Went → Type 0
-Goes new w piece at (went.Taken n) = HasTaken new (w ++ slice_range piece at (at + n))
+Goes new w piece at (went.Taken n) = HasTakenFrom new w piece at n
 Goes new w piece at went.Quote =
     HasTaken new w × (new.escape ≡ None) × (slice_get piece at ≡ Some ascii.quote)
 Goes new w piece at (went.Wrong k back) =
@@ -54,8 +62,13 @@ Goes new w piece at (went.Wrong k back) =
 
 -- What is taken is some bytes of the piece.
 abbrev pub IsPart : List ℕ → ℕ → Went → Type 0
-IsPart piece at (went.Taken n) = (0 < n) × (at + n ≤ length piece)
+IsPart piece at (went.Taken n) = IsCountAt piece at n
 IsPart piece at other = Unit {0}
+
+-- where nothing is taken, the string is as it was
+abbrev pub IsLeft : OpenString → OpenString → Went → Type 0
+IsLeft old new (went.Taken n) = Unit {0}
+IsLeft old new other = new ≡ old
 
 -- the string's text, or the place of a byte that is no UTF-8: it counts on by the decoded bytes before it
 abbrev pub text_or : Bool → ℕ → Bool → List ℕ → ℕ → Scanned Text

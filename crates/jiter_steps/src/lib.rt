@@ -3,6 +3,7 @@
 #![tactic(auto)]
 
 pub mod blank;
+mod characters;
 mod escape;
 mod held;
 pub mod open_escape;

@@ -1,17 +1,18 @@
 //! Strings that arrive in pieces (RFC 8259, 7 and 8.1): each byte is looked at once, wherever a piece ends, within a
 //! character or an escape too; and those that lie whole in a piece.
 ghost use Rattle.std.specs.Prelude.{◌≡◌, ◌+◌, ◌<◌, ◌≤◌, [], IfOk, IfSome, List, None, OnErr, OnOk, Some, length};
-ghost use Rattle.std.specs.Prelude.{◌++◌, ◌||◌, is_some, not, slice_get, slice_index, slice_range, string_bytes, true, ℕ};
+ghost use Rattle.std.specs.Prelude.{◌++◌, ◌||◌, is_some, false, not, slice_get, slice_index, slice_range, string_bytes, take, true, ℕ};
 ghost use Rattle.jiter_scan.specs.Ascii as ascii;
 ghost use Rattle.jiter_scan.specs.Kind.{eof_string};
 ghost use Rattle.jiter_scan.specs.Scan.{Pass, is_plain, is_plain_ascii};
 ghost use Rattle.jiter_scan.specs.Scanned.{failed};
-ghost use Rattle.jiter_steps.specs.OpenString.{Goes, HasTaken, IsEven, IsPart, IsTextWithin, Wherever, grown, text_or};
-ghost use Rattle.jiter_steps.specs.OpenText.{with_text};
-ghost use Rattle.jiter_steps.specs.StringDecoder.{WantsMemory};
-ghost use Rattle.jiter_steps.specs.StringReading.{content_at, kept, text_form, whole};
+ghost use Rattle.jiter_steps.specs.OpenString.{Goes, HasTaken, HasTakenFrom, IsCountAt, IsEven, IsLeft, IsPart, IsTextWithin};
+ghost use Rattle.jiter_steps.specs.OpenString.{Wherever, grown, text_or};
+ghost use Rattle.jiter_steps.specs.OpenText.{IsWhole, with_text};
+ghost use Rattle.jiter_steps.specs.StringDecoder.{WantsMemory, portion_view};
+ghost use Rattle.jiter_steps.specs.StringReading.{content_at, kept, portion_at, text_form, whole};
 
-use crate::escape::{AtStop, next_portion};
+use crate::escape::{AtStop, next_portion, sign_at};
 use crate::open_escape::{OpenEscape, Spelled};
 use crate::open_text::{FEW, OpenText};
 use crate::plain::{ascii_between, text_between};
@@ -53,6 +54,22 @@ fn plain_run(piece: &[u8], at: usize, most: usize) -> &[u8]
 {
     let near = &piece[..at + (piece.len() - at).min(most)];
     &near[at..string_stop(near, at)]
+}
+
+// What the escape comes to that stands at a place, one of one letter at once.
+#[inline(always)]
+fn escape_at(piece: &[u8], at: usize) -> AtStop
+    requires within { at < length piece.now }
+    requires backslash { slice_get piece.now at ≡ Some ascii.backslash }
+    ensures { portion_view result ≡ portion_at piece.now at }
+{
+    if piece.len() - at >= 2 {
+        let sign = sign_at(piece, at);
+        if sign != 0 {
+            return AtStop::Escape(sign as char, at + 2);
+        }
+    }
+    next_portion(piece, at)
 }
 
 // The string with a backslash whose opening quote stands at a place of a piece, if it is whole there: its text, decoded
@@ -131,6 +148,8 @@ impl OpenString {
         requires open { ¬ (self.old.escape ≡ None) }
         ensures goes { (w : List ℕ) → HasTaken self.old w → IfOk result (Goes self.new w piece.now at) }
         ensures part { IfOk result (IsPart piece.now at) }
+        ensures whole { IsWhole self.old.text → IsWhole self.new.text }
+        ensures left { IfOk result (IsLeft self.old self.new) }
         ensures refused { OnErr result (self.new ≡ self.old) }
     {
         let Some(escape) = &mut self.escape else {
@@ -149,44 +168,65 @@ impl OpenString {
         Ok(Went::Taken(1))
     }
 
-    // Takes an escape, or its backslash where the piece ends within it or it is wrong.
-    fn take_escape(&mut self, piece: &[u8], at: usize) -> Result<Went, Refused>
+    // Takes an escape, or its backslash where the piece ends within it or it is wrong, and says how many bytes that is.
+    fn take_escape(&mut self, piece: &[u8], at: usize) -> Result<usize, Refused>
         requires within { at < length piece.now }
         requires none { self.old.escape ≡ None }
         requires backslash { slice_get piece.now at ≡ Some ascii.backslash }
-        ensures goes { (w : List ℕ) → HasTaken self.old w → IfOk result (Goes self.new w piece.now at) }
-        ensures part { IfOk result (IsPart piece.now at) }
+        ensures taken { (w : List ℕ) → HasTaken self.old w → IfOk result (HasTakenFrom self.new w piece.now at) }
+        ensures part { IfOk result (IsCountAt piece.now at) }
+        ensures whole { IsWhole self.old.text → IsWhole self.new.text }
         ensures refused { OnErr result (self.new ≡ self.old) }
     {
-        match next_portion(piece, at) {
+        match escape_at(piece, at) {
             AtStop::Escape(c, end) => {
                 self.text.add_char(c)?;
-                Ok(Went::Taken(end - at))
+                Ok(end - at)
             }
             AtStop::End(_) => {
                 self.escape = Some(OpenEscape::new());
-                Ok(Went::Taken(1))
+                Ok(1)
             }
         }
     }
 
-    // Takes plain bytes.
-    fn plain(&mut self, piece: &[u8], at: usize) -> Result<Went, Refused>
+    // Takes plain bytes behind whole characters, and says how many.
+    #[inline(always)]
+    fn plain_whole(&mut self, piece: &[u8], at: usize) -> Result<usize, Refused>
+        requires within { at < length piece.now }
+        requires even { IsEven self.old }
+        requires plain { is_plain (slice_index piece.now at) ≡ true }
+        ensures taken { (w : List ℕ) → HasTaken self.old w → IfOk result (HasTakenFrom self.new w piece.now at) }
+        ensures part { IfOk result (IsCountAt piece.now at) }
+        ensures refused { OnErr result (self.new ≡ self.old) }
+    {
+        let (to, low) = scan_short(piece, at);
+        let run = &piece[at..to];
+        if low {
+            self.text.add_ascii(run)?;
+            return Ok(to - at);
+        }
+        self.text.add(run)
+    }
+
+    // Takes plain bytes, and says how many.
+    fn plain(&mut self, piece: &[u8], at: usize) -> Result<usize, Refused>
         requires within { at < length piece.now }
         requires none { self.old.escape ≡ None }
         requires plain { is_plain (slice_index piece.now at) ≡ true }
-        ensures goes { (w : List ℕ) → HasTaken self.old w → IfOk result (Goes self.new w piece.now at) }
-        ensures part { IfOk result (IsPart piece.now at) }
+        ensures taken { (w : List ℕ) → HasTaken self.old w → IfOk result (HasTakenFrom self.new w piece.now at) }
+        ensures part { IfOk result (IsCountAt piece.now at) }
         ensures refused { OnErr result (self.new ≡ self.old) }
     {
+        if self.text.is_whole() {
+            return self.plain_whole(piece, at);
+        }
         let most = if self.text.is_unfinished() {
             FEW
         } else {
             piece.len()
         };
-        let run = plain_run(piece, at, most);
-        let count = self.text.add(run)?;
-        Ok(Went::Taken(count))
+        self.text.add(plain_run(piece, at, most))
     }
 
     /// Takes bytes of a piece, from the place `at` on, and says how many, or what ends the string there. Where memory
@@ -202,10 +242,103 @@ impl OpenString {
         }
         match piece[at] {
             b'"' => Ok(Went::Quote),
-            b'\\' => self.take_escape(piece, at),
+            b'\\' => Ok(Went::Taken(self.take_escape(piece, at)?)),
             0..=31 => Ok(Went::Wrong(FaultKind::ControlCharacterWhileParsingString, 0)),
-            _ => self.plain(piece, at),
+            _ => Ok(Went::Taken(self.plain(piece, at)?)),
         }
+    }
+
+    // Takes plain bytes from the place `at` on, as far as their characters are right ones.
+    #[inline(always)]
+    fn plain_right(&mut self, piece: &[u8], at: usize) -> (usize, Result<(), Refused>)
+        requires within { at < length piece.now }
+        requires none { self.old.escape ≡ None }
+        requires plain { is_plain (slice_index piece.now at) ≡ true }
+        requires unbroken { self.old.text.broken ≡ false }
+        ensures taken { (w : List ℕ) → HasTaken self.old w → HasTakenFrom self.new w piece.now at result.0 }
+        ensures within { at + result.0 ≤ length piece.now }
+        ensures unbroken { self.new.text.broken ≡ false }
+        ensures wanted { OnErr result.1 (at + result.0 < length piece.now) }
+    {
+        let (to, low) = scan_short(piece, at);
+        let run = &piece[at..to];
+        if !low || !self.text.is_whole() {
+            return self.text.add_right(run);
+        }
+        match self.text.add_ascii(run) {
+            Ok(()) => (run.len(), Ok(())),
+            Err(refused) => (0, Err(refused)),
+        }
+    }
+
+    // Takes an escape or a byte of one, behind whole characters, and says how many bytes: none where one is wrong.
+    #[inline(always)]
+    fn escape_right(&mut self, piece: &[u8], at: usize) -> Result<usize, Refused>
+        requires within { at < length piece.now }
+        requires begins { self.old.escape ≡ None → slice_get piece.now at ≡ Some ascii.backslash }
+        requires unbroken { self.old.text.broken ≡ false }
+        ensures taken { (w : List ℕ) → HasTaken self.old w → IfOk result (HasTakenFrom self.new w piece.now at) }
+        ensures within { IfOk result (λ n. at + n ≤ length piece.now) }
+        ensures unbroken { self.new.text.broken ≡ false }
+        ensures refused { OnErr result (self.new ≡ self.old) }
+    {
+        if !self.text.is_whole() {
+            return Ok(0);
+        }
+        if self.escape.is_none() {
+            return self.take_escape(piece, at);
+        }
+        match self.spell(piece, at)? {
+            Went::Taken(count) => Ok(count),
+            _ => Ok(0),
+        }
+    }
+
+    // Takes a run of plain bytes, an escape or a byte of one, from the place `at` on, as far as its characters are right
+    // ones: nothing where the string ends or is wrong there.
+    #[inline(always)]
+    fn take_right(&mut self, piece: &[u8], at: usize) -> (usize, Result<(), Refused>)
+        requires within { at < length piece.now }
+        requires unbroken { self.old.text.broken ≡ false }
+        ensures taken { (w : List ℕ) → HasTaken self.old w → HasTakenFrom self.new w piece.now at result.0 }
+        ensures within { at + result.0 ≤ length piece.now }
+        ensures unbroken { self.new.text.broken ≡ false }
+        ensures wanted { OnErr result.1 (at + result.0 < length piece.now) }
+    {
+        if self.escape.is_none() && piece[at] != b'\\' {
+            if piece[at] == b'"' || piece[at] < b' ' {
+                return (0, Ok(()));
+            }
+            return self.plain_right(piece, at);
+        }
+        match self.escape_right(piece, at) {
+            Ok(count) => (count, Ok(())),
+            Err(refused) => (0, Err(refused)),
+        }
+    }
+
+    /// Takes bytes from the front of a piece while they go on with the string, as far as its characters are right ones,
+    /// and says how many, and whether memory was refused for those that follow. It stops before the closing quote and
+    /// before what is wrong.
+    pub fn take_inside(&mut self, piece: &[u8]) -> (usize, Result<(), Refused>)
+        requires whole { self.old.text.broken ≡ false }
+        ensures taken { (w : List ℕ) → HasTaken self.old w → HasTaken self.new (w ++ take result.0 piece.now) }
+        ensures within { result.0 ≤ length piece.now }
+        ensures whole { self.new.text.broken ≡ false }
+        ensures wanted { OnErr result.1 (result.0 < length piece.now) }
+    {
+        let mut at = 0;
+        while at < piece.len() {
+            let (count, end) = self.take_right(piece, at);
+            at += count;
+            if let Err(refused) = end {
+                return (at, Err(refused));
+            }
+            if count == 0 {
+                break;
+            }
+        }
+        (at, Ok(()))
     }
 
     /// Whether the bytes so far are whole characters and whole escapes.

@@ -1,16 +1,17 @@
 //! Text that arrives in parts, of which any may end within a character (RFC 8259, 8.1): each byte is looked at once.
 ghost use Rattle.std.specs.Prelude.{◌≡◌, ℕ, ◌+◌, ◌<◌, ◌≤◌, ◌++◌, [], Bool, IfOk, List, OnErr, OnOk, false, length};
-ghost use Rattle.std.specs.Prelude.{◌&&◌, nat_lt, not, string_bytes, take, true};
+ghost use Rattle.std.specs.Prelude.{◌&&◌, ◌↔◌, IsTrue, drop, nat_lt, not, string_bytes, take, true};
 ghost use Rattle.std.specs.Prelude.{if◌then◌else◌};
 ghost use Rattle.std.specs.Char.{encode_utf8};
-ghost use Rattle.std.specs.Str.{IsAscii};
+ghost use Rattle.std.specs.Str.{IsAscii, IsUtf8};
 ghost use Rattle.jiter_scan.specs.Kind.{invalid_code_point};
 ghost use Rattle.jiter_scan.specs.Scanned.{taken, failed};
-ghost use Rattle.jiter_steps.specs.OpenText.{HoldsText, IsWhole, nothing, with_text};
+ghost use Rattle.jiter_steps.specs.OpenText.{HoldsText, IsUnfinished, IsWhole, nothing, with_text};
 ghost use Rattle.jiter_steps.specs.StringReading.{checked};
 
+use crate::characters::right_end;
 use crate::held::Held;
-use jiter_scan::memory::{Refused, push_ascii, push_text};
+use jiter_scan::memory::{Refused, push_ascii, push_char, push_text};
 use jiter_scan::text::utf8_text;
 use std::alloc::Global;
 use std::marker::Model;
@@ -40,6 +41,17 @@ impl Model for OpenText {
     ghost invariant = { λ o. length o.rest ≤ 3 };
 }
 
+// How many bytes a character has, by its first one (RFC 3629, 3).
+fn width(first: u8) -> usize
+    ensures { result ≤ 4 }
+{
+    match first {
+        0xf0..=0xff => 4,
+        0xe0..=0xef => 3,
+        _ => 2,
+    }
+}
+
 impl OpenText {
     /// No bytes. It takes no memory.
     pub fn new(alloc: Global) -> OpenText
@@ -52,6 +64,25 @@ impl OpenText {
         }
     }
 
+    // Takes bytes behind the characters so far, an unfinished one's among them: so many are whole characters, and what
+    // follows them is unfinished.
+    #[inline(always)]
+    fn take_right(&mut self, bytes: &[u8], right: usize) -> Result<(), Refused>
+        requires unbroken { self.old.broken ≡ false }
+        requires within { right ≤ length bytes.now }
+        requires front { IsUtf8 (take right bytes.now) }
+        requires open { IsUnfinished (drop right bytes.now) }
+        requires few { length bytes.now ≤ right + 3 }
+        ensures taken { (d : List ℕ) → d ≡ self.old.text ++ bytes.now → OnOk result (HoldsText self.new d) }
+        ensures unbroken { self.new.broken ≡ false }
+        ensures refused { OnErr result (self.new ≡ self.old) }
+        ensures some { OnErr result (0 < length bytes.now) }
+    {
+        push_text(&mut self.text, utf8_text(&bytes[..right]))?;
+        self.rest = Held::new().with(&bytes[right..]);
+        Ok(())
+    }
+
     // Takes bytes behind the characters so far, an unfinished one's among them.
     fn absorb(&mut self, bytes: &[u8]) -> Result<(), Refused>
         requires { self.old.broken ≡ false }
@@ -59,21 +90,31 @@ impl OpenText {
             → OnOk result (HoldsText self.new d) }
         ensures refused { OnErr result (self.new ≡ self.old) }
     {
-        match simdutf8::compat::from_utf8(bytes) {
-            Ok(text) => {
-                push_text(&mut self.text, text)?;
-                self.rest = Held::new();
-            }
-            Err(e) => {
-                let right = e.valid_up_to();
-                push_text(&mut self.text, utf8_text(&bytes[..right]))?;
-                match e.error_len() {
-                    None => self.rest = Held::new().with(&bytes[right..]),
-                    Some(_) => self.broken = true,
-                }
-            }
+        let (right, wrong) = right_end(bytes);
+        if !wrong {
+            return self.take_right(bytes, right);
         }
+        push_text(&mut self.text, utf8_text(&bytes[..right]))?;
+        self.broken = true;
         Ok(())
+    }
+
+    // The same, if none of them is wrong; else nothing changes. Whether they were taken.
+    fn absorb_right(&mut self, bytes: &[u8]) -> Result<bool, Refused>
+        requires { self.old.broken ≡ false }
+        ensures taken { (d : List ℕ) → d ≡ self.old.text ++ bytes.now
+            → IfOk result (λ right. right ≡ true → HoldsText self.new d) }
+        ensures left { IfOk result (λ right. right ≡ false → self.new ≡ self.old) }
+        ensures unbroken { self.new.broken ≡ false }
+        ensures refused { OnErr result (self.new ≡ self.old) }
+        ensures some { OnErr result (0 < length bytes.now) }
+    {
+        let (right, wrong) = right_end(bytes);
+        if wrong {
+            return Ok(false);
+        }
+        self.take_right(bytes, right)?;
+        Ok(true)
     }
 
     /// Takes bytes from the front of some that follow those so far, and gives how many: at least one where there
@@ -100,18 +141,93 @@ impl OpenText {
         Ok(count)
     }
 
-    /// Takes the character of an escape behind the bytes so far. Where memory is refused, nothing changes.
-    pub fn add_char(&mut self, c: char) -> Result<(), Refused>
+    // Takes bytes from the front of some that go on with an unfinished character, if they are right, and says how many.
+    fn complete(&mut self, run: &[u8]) -> Result<usize, Refused>
+        requires { self.old.broken ≡ false }
+        ensures taken { (d : List ℕ) → HoldsText (self.old) d
+            → IfOk result (λ n. HoldsText self.new (d ++ take n run.now)) }
+        ensures within { IfOk result (λ n. n ≤ length run.now) }
+        ensures unbroken { self.new.broken ≡ false }
+        ensures refused { OnErr result (self.new ≡ self.old) }
+    {
+        let first = self.rest.as_slice();
+        if first.is_empty() {
+            return Ok(0);
+        }
+        let few = width(first[0]).saturating_sub(first.len()).min(run.len());
+        let held = self.rest.with(&run[..few]);
+        let right = self.absorb_right(held.as_slice())?;
+        Ok(if right { few } else { 0 })
+    }
+
+    // Takes bytes behind whole characters, if none of them is wrong, and says how many.
+    #[inline(always)]
+    fn add_whole(&mut self, run: &[u8]) -> (usize, Result<(), Refused>)
+        requires whole { IsWhole self.old }
+        ensures taken { (d : List ℕ) → HoldsText (self.old) d → HoldsText self.new (d ++ take result.0 run.now) }
+        ensures within { result.0 ≤ length run.now }
+        ensures unbroken { self.new.broken ≡ false }
+        ensures wanted { OnErr result.1 (result.0 < length run.now) }
+    {
+        match self.absorb_right(run) {
+            Ok(true) => (run.len(), Ok(())),
+            Ok(false) => (0, Ok(())),
+            Err(refused) => (0, Err(refused)),
+        }
+    }
+
+    /// Takes bytes from the front of some that follow those so far, where none that it takes is wrong, and says how many,
+    /// and whether memory was refused for those that follow.
+    #[inline(always)]
+    pub fn add_right(&mut self, run: &[u8]) -> (usize, Result<(), Refused>)
+        requires unbroken { self.old.broken ≡ false }
+        requires some { 0 < length run.now }
+        ensures taken { (d : List ℕ) → HoldsText (self.old) d → HoldsText self.new (d ++ take result.0 run.now) }
+        ensures within { result.0 ≤ length run.now }
+        ensures unbroken { self.new.broken ≡ false }
+        ensures wanted { OnErr result.1 (result.0 < length run.now) }
+    {
+        if self.is_whole() {
+            return self.add_whole(run);
+        }
+        let count = match self.complete(run) {
+            Ok(count) => count,
+            Err(refused) => return (0, Err(refused)),
+        };
+        if !self.is_whole() {
+            return (count, Ok(()));
+        }
+        let (more, end) = self.add_whole(&run[count..]);
+        (count + more, end)
+    }
+
+    // Takes the character of an escape behind an unfinished one.
+    fn add_behind(&mut self, c: char) -> Result<(), Refused>
+        requires { self.old.broken ≡ false }
         ensures taken { (d : List ℕ) → HoldsText (self.old) d
             → OnOk result (HoldsText self.new (d ++ encode_utf8 c)) }
         ensures refused { OnErr result (self.new ≡ self.old) }
     {
-        if self.broken {
-            return Ok(());
-        }
         let mut bytes = [0; 4];
         let held = self.rest.with(c.encode_utf8(&mut bytes).as_bytes());
         self.absorb(held.as_slice())
+    }
+
+    /// Takes the character of an escape behind the bytes so far. Where memory is refused, nothing changes.
+    #[inline(always)]
+    pub fn add_char(&mut self, c: char) -> Result<(), Refused>
+        ensures taken { (d : List ℕ) → HoldsText (self.old) d
+            → OnOk result (HoldsText self.new (d ++ encode_utf8 c)) }
+        ensures whole { IsWhole self.old → IsWhole self.new }
+        ensures refused { OnErr result (self.new ≡ self.old) }
+    {
+        if self.is_whole() {
+            return push_char(&mut self.text, c);
+        }
+        if self.broken {
+            return Ok(());
+        }
+        self.add_behind(c)
     }
 
     /// Takes bytes below 80 hex behind the characters so far, where none is unfinished. Where memory is refused, nothing
@@ -129,7 +245,7 @@ impl OpenText {
     /// Whether the bytes so far are whole characters.
     #[inline(always)]
     pub fn is_whole(&self) -> bool
-        ensures { result ≡ true → IsWhole self.now }
+        ensures { IsTrue result ↔ IsWhole self.now }
     {
         !self.broken && self.rest.as_slice().is_empty()
     }

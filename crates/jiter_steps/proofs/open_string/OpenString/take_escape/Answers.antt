@@ -3,8 +3,8 @@ use Rattle.std.specs.Prelude.{slice_range}
 use Rattle.jiter_steps.proofs.OpenStrings.{escape-ahead, escape-begins, escape-whole, one-byte}
 use Rattle.jiter_steps.proofs.open_string.OpenString.take_escape.Goals as goal
 
-pub returns-in-End-clause-goes : goal.returns-in-End-clause-goes
-returns-in-End-clause-goes c =
+pub returns-in-End-clause-taken : goal.returns-in-End-clause-taken
+returns-in-End-clause-taken c =
     λ w h.
     let piece = c.args.piece.now in
     let at = c.args.at in
@@ -16,8 +16,8 @@ overflow_sub-result c =
     let ahead = escape-ahead c.args.piece.now c.args.at c.in-Escape.end c.in-Escape.c c.in-Escape.ensures in
     omega (arith, ahead.0)
 
-pub returns-in_ok-add_char-in-Escape-clause-goes : goal.returns-in_ok-add_char-in-Escape-clause-goes
-returns-in_ok-add_char-in-Escape-clause-goes c =
+pub returns-in_ok-add_char-in-Escape-clause-taken : goal.returns-in_ok-add_char-in-Escape-clause-taken
+returns-in_ok-add_char-in-Escape-clause-taken c =
     λ w h.
     let s = c.args.self.now in
     let at = c.args.at in
