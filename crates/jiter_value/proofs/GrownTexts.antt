@@ -1,5 +1,5 @@
 -- A string or a key of a document goes on, while the value so far is together.
-use Rattle.std.proofs.Common.{◌≡◌, ◌≢◌, ℕ, suc, ◌+◌, ◌-◌, ◌<◌, Bool, true, false, List, [], ◌∷◌, ◌++◌, length, take}
+use Rattle.std.proofs.Common.{◌≡◌, ◌≢◌, ℕ, zero, suc, get_or, ◌+◌, ◌-◌, ◌<◌, Bool, true, false, List, [], ◌∷◌, ◌++◌, length, take}
 use Rattle.std.proofs.Common.{refl, sym, subst, ap, ap₂, ◌∙◌, inl, inr, arith, append_assoc, length-append}
 use Rattle.std.specs.List.{AllPass}
 use Rattle.std.specs.Prelude.{◌&&◌, ◌||◌, not, if◌then◌else◌, is_some, Option, Some, None, Result, Ok, Err, OnErr}
@@ -68,6 +68,13 @@ plain-run v n stop low all =
     let count : n - 0 ≡ n = omega arith in
     plain-each v (subst (Pass is_plain) whole (prefix_len-pass is_plain n v (omega arith)))
     (subst (AllPass is_ascii) (ap (λ m. take m v) count ∙ whole) low)
+
+-- Bytes that pass, and one more that does.
+pub pass-more : (test : ℕ → Bool) (v : List ℕ) (i : ℕ) → i < length v → Pass test (take i v)
+    → test (get_or v i 0) ≡ true → Pass test (take (suc i) v)
+pass-more test [] i within h is = absurd (omega arith)
+pass-more test (c ∷ v) zero within h is = (is, tt)
+pass-more test (c ∷ v) (suc i) within h is = (h.0, pass-more test v i (omega arith) h.1 is)
 
 -- ---- the document apart
 

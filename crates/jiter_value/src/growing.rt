@@ -12,6 +12,7 @@ use crate::arriving::Settled;
 use crate::open_document::{OpenDocument, Token};
 use jiter_scan::memory::Refused;
 use jiter_scan::short_scan::scan_short;
+use jiter_scan::simd::both;
 
 // A byte of ASCII that a string may hold as it stands.
 #[inline(always)]
@@ -26,7 +27,7 @@ fn is_plain_byte(byte: u8) -> bool
 pub(crate) enum Run {
     // Each byte is plain and below 80 hex.
     Plain,
-    // A byte is none of these before the string may end or a byte of it is wrong.
+    // Not so, and no quote and no control byte stands before its first backslash.
     Mixed,
     // Neither.
     Other,
@@ -46,6 +47,19 @@ fn run_of_byte(byte: u8) -> Run
     }
 }
 
+// Whether sixteen bytes are plain and below 80 hex, looked at with no branch.
+#[inline(always)]
+fn is_plain_chunk(piece: &[u8]) -> bool
+    requires { 16 ≤ length piece.now }
+    ensures { result ≡ true → Pass is_plain_ascii (take 16 piece.now) }
+{
+    let mut plain = true;
+    for i in 0..16 {
+        plain = both(plain, is_plain_byte(piece[i]));
+    }
+    plain
+}
+
 // How a piece does.
 #[inline(always)]
 pub(crate) fn run_of(piece: &[u8]) -> Run
@@ -53,6 +67,9 @@ pub(crate) fn run_of(piece: &[u8]) -> Run
 {
     if let [byte] = piece {
         return run_of_byte(*byte);
+    }
+    if piece.len() == 16 && is_plain_chunk(piece) {
+        return Run::Plain;
     }
     let (stop, low) = scan_short(piece, 0);
     if stop < piece.len() {
