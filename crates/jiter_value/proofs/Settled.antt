@@ -241,7 +241,7 @@ text-there token.Nothing d = tt
 text-there token.Word d = tt
 text-there token.Key d = tt
 
-same-string : (a b : OpenString) → a.text ≡ b.text → a.escape ≡ b.escape → a ≡ b
+pub same-string : (a b : OpenString) → a.text ≡ b.text → a.escape ≡ b.escape → a ≡ b
 same-string a b text escape = ap₂ (λ x y. record { text = x; escape = y }) text escape
 
 text-back : (k : Token) (d : OpenDocument) (n back : OpenNumber) (s again : OpenString) (x y : JsonValue)

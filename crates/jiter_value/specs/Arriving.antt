@@ -22,7 +22,7 @@ received s = record {
 }
 
 -- The reading has received the bytes t: the value so far is together, and it is told what they answer in the document's
--- mode and with partial reading off, the first fault or the value. It is known where plain bytes go on with a string.
+-- mode and with partial reading off, the first fault or the value. It is known where a string is unfinished, and right so far.
 pub record HasReceived (r : Received) (t : List ℕ) : Type 0 where
   pub together : IsTogether r.held.document r.held.depth r.held.shown t
   pub position : r.position ≡ length t

@@ -1,14 +1,13 @@
--- A piece that lies whole in a string or a key, which it does not end.
-use Rattle.std.specs.Prelude.{◌≡◌, ℕ, Option, Some, None}
+-- A piece that begins within a string or a key.
+use Rattle.std.specs.Prelude.{◌≡◌, ℕ, false, Option, Some, None}
 use Rattle.jiter_scan.specs.declared.errors.Fault.{Fault}
-use Rattle.jiter_steps.specs.OpenString.{IsEven}
 use Rattle.jiter_value.specs.DocumentStrings.{IsOfString}
 use Rattle.jiter_value.specs.declared.arriving.Settled.{Settled}
 use Rattle.jiter_value.specs.declared.open_document.OpenDocument.{OpenDocument}
 
--- A string or a key is unfinished, and plain bytes go on with it.
+-- A string or a key is unfinished, and no byte of it is wrong.
 abbrev pub IsGrowing : OpenDocument → Type 0
-IsGrowing d = (d.fault ≡ None) × IsOfString d.token × IsEven d.string
+IsGrowing d = (d.fault ≡ None) × IsOfString d.token × (d.string.text.broken ≡ false)
 
 -- the fault of the end, if one is told, where the bytes end now
 abbrev pub moved_to : ℕ → Option Fault → Option Fault

@@ -1,7 +1,7 @@
 //! A document that arrives in pieces, read once: no byte of an earlier piece is looked at again, and the value so far is
 //! there after each piece.
 ghost use Rattle.std.specs.Prelude.{◌≡◌, ◌+◌, ◌-◌, ◌^◌, ◌<◌, ◌≤◌, ◌++◌, [], IsErrAnd, List, MatchResult};
-ghost use Rattle.std.specs.Prelude.{OnErr, OnOk, length, take, ℕ};
+ghost use Rattle.std.specs.Prelude.{OnErr, OnOk, length, take, true, ℕ};
 ghost use Rattle.std.specs.List.{flat_map};
 ghost use Rattle.jiter_steps.specs.Blank.{past_blanks};
 ghost use Rattle.jiter_value.specs.Arriving.{HasReceived, received};
@@ -12,7 +12,7 @@ ghost use Rattle.jiter_value.specs.Parses.{Parses};
 ghost use Rattle.jiter_value.specs.Value.{view};
 ghost use Rattle.jiter_value.specs.declared.settings.Settings.{Settings};
 
-use crate::growing::is_plain;
+use crate::growing::{Run, run_of};
 use crate::open_document::OpenDocument;
 use crate::settings::Settings;
 use crate::value::JsonValue;
@@ -22,7 +22,7 @@ use jiter_scan::{JsonError, JsonErrorType, PartialMode};
 use std::alloc::{AllocError, Global};
 use std::marker::Model;
 
-// Of so many bytes a piece is looked through whether it lies whole within a string: of more it costs little to take the
+// Of so many bytes a piece is looked through how it goes on with an unfinished string: of more it costs little to take the
 // value apart.
 const FEW: usize = 256;
 
@@ -33,7 +33,7 @@ pub(crate) struct Settled {
     // how many containers are open, and whether the unfinished scalar is shown
     pub(crate) depth: usize,
     pub(crate) shown: bool,
-    // whether plain bytes go on with an unfinished string or key
+    // whether a string or a key is unfinished, and right so far
     pub(crate) growing: bool,
     // the fault in the document's mode, and with partial reading off
     pub(crate) fault: Option<Fault>,
@@ -103,6 +103,31 @@ impl Settled {
         taken
     }
 
+    // Takes a piece that begins within a string, as far as its bytes go on with it while the value stays together, and
+    // then the rest.
+    #[inline(never)]
+    fn take_within(&mut self, piece: &[u8]) -> Result<(), Refused>
+        requires received { (t : List ℕ) × HasReceived (received self.old) t }
+        requires growing { self.old.growing ≡ true }
+        requires room { self.old.document.position + length piece.now < 2 ^ 64 }
+        ensures ok { (t : List ℕ) → HasReceived (received self.old) t
+            → OnOk result (HasReceived (received self.new) (t ++ piece.now)) }
+        ensures refused { (t : List ℕ) → HasReceived (received self.old) t → OnErr result
+            (HasReceived (received self.new)
+            (t ++ take (self.new.document.position - self.old.document.position) piece.now)) }
+        ensures wanted { (t : List ℕ) → HasReceived (received self.old) t
+            → OnErr result (MayRefuseAt (t ++ piece.now) self.new.document.position) }
+        ensures within { (self.old.document.position ≤ self.new.document.position)
+            × (self.new.document.position ≤ self.old.document.position + length piece.now) }
+        ensures settings { self.new.document.settings ≡ self.old.document.settings }
+    {
+        let (count, taken) = self.absorb(piece);
+        if taken.is_ok() && count < piece.len() {
+            return self.take_apart(&piece[count..]);
+        }
+        taken
+    }
+
     // Takes a piece.
     #[inline(always)]
     fn take(&mut self, piece: &[u8]) -> Result<(), Refused>
@@ -119,10 +144,14 @@ impl Settled {
             × (self.new.document.position ≤ self.old.document.position + length piece.now) }
         ensures settings { self.new.document.settings ≡ self.old.document.settings }
     {
-        if self.growing && piece.len() <= FEW && is_plain(piece) {
-            return self.grow(piece);
+        if !self.growing || piece.len() > FEW {
+            return self.take_apart(piece);
         }
-        self.take_apart(piece)
+        match run_of(piece) {
+            Run::Plain if self.document.string.is_even() => self.grow(piece),
+            Run::Other => self.take_apart(piece),
+            _ => self.take_within(piece),
+        }
     }
 }
 

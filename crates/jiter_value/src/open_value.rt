@@ -1,7 +1,7 @@
 //! A value that arrives byte by byte (RFC 8259, 2 to 5): what stands between its scalars and keys. Each byte is looked
 //! at once, and behind each is said what it leaves open.
 ghost use Rattle.std.specs.Prelude.{◌≡◌, ◌∷◌, ◌++◌, ◌<◌, [], IfOk, List, OnErr, OnOk, Some, false, length, map, string_bytes};
-ghost use Rattle.std.specs.Prelude.{true, ℕ};
+ghost use Rattle.std.specs.Prelude.{◌≤◌, take, true, ℕ};
 ghost use Rattle.std.specs.Prelude.{option_map};
 ghost use Rattle.jiter_scan.specs.Ascii.{colon};
 ghost use Rattle.std.specs.Str.{IsAscii};
@@ -20,7 +20,7 @@ ghost use Rattle.jiter_value.specs.OpenValue.{IsLeft, IsPutTogether, IsRightSign
 ghost use Rattle.jiter_value.specs.OpenValue.{TakesByte, completed, step_by, text_of};
 ghost use Rattle.jiter_value.specs.Owned.{owned_tree};
 ghost use Rattle.jiter_value.specs.Parses.{reading_as};
-ghost use Rattle.jiter_value.specs.Replaced.{HasReplaced, HoldsTextInside, with_root};
+ghost use Rattle.jiter_value.specs.Replaced.{HasGoneOn, HasReplaced, HoldsTextInside, with_chars, with_root};
 ghost use Rattle.jiter_value.specs.Settings.{answer_by, rules_as};
 ghost use Rattle.jiter_value.specs.Spine.{OpenFrame, AwaitsPart, HasRoomInside, HasValue, IsInPlace, IsOfKey};
 ghost use Rattle.jiter_value.specs.Spine.{StandsFor, spine_of};
@@ -32,10 +32,12 @@ ghost use Rattle.jiter_value.specs.declared.value.JsonValue.{JsonValue as JsonVa
 
 use crate::spine::{
     append_text, close, make_room_inside, open_container, put, put_together, take_apart, take_back,
+    take_inside,
 };
 use crate::value::JsonValue;
 use jiter_scan::errors::FaultKind;
 use jiter_scan::memory::Refused;
+use jiter_steps::open_string::OpenString;
 use jiter_steps::parse::{NESTING_LIMIT, Shape, Start, start_of};
 use std::alloc::Global;
 use std::borrow::CowStr;
@@ -522,6 +524,28 @@ impl OpenValue {
         ensures same { self.new ≡ with_root self.old self.new.root }
     {
         append_text(&mut self.root, depth, bytes)
+    }
+
+    /// Bytes of a piece that go on with an unfinished string, whose characters so far are the text that is shown, so many
+    /// containers deep, where these are together: how many are taken, and whether memory was refused. What is taken
+    /// stands there too.
+    #[inline(always)]
+    pub fn take_inside(
+        &mut self,
+        depth: usize,
+        unfinished: &mut OpenString,
+        piece: &[u8],
+    ) -> (usize, Result<(), Refused>)
+        requires text { (w : List ℕ) × HoldsTextInside depth self.old.root w }
+        requires whole { unfinished.old.text.broken ≡ false }
+        ensures went { (w : List ℕ) → HoldsTextInside depth self.old.root w
+            → HasGoneOn depth self.old.root self.new.root (with_chars unfinished.old w) unfinished.new
+            (take result.0 piece.now) }
+        ensures within { result.0 ≤ length piece.now }
+        ensures wanted { OnErr result.1 (result.0 < length piece.now) }
+        ensures same { self.new ≡ with_root self.old self.new.root }
+    {
+        take_inside(&mut self.root, depth, unfinished, piece)
     }
 
     /// The value so far, where its containers are together.

@@ -2,7 +2,7 @@
 //! last part of the next; within a piece they lie in a vector, the spine: the outermost first, each parent with a null
 //! in the place of the one inside it. To go from one to the other takes no memory.
 ghost use Rattle.std.specs.Prelude.{◌≡◌, ◌+◌, ◌≤◌, ◌<◌, ◌∷◌, ◌++◌, [], List, OnErr, OnOk, length, map, vec_len};
-ghost use Rattle.std.specs.Prelude.{vec_capacity, ℕ, true};
+ghost use Rattle.std.specs.Prelude.{false, string_bytes, take, vec_capacity, ℕ, true};
 ghost use Rattle.std.specs.Str.{IsAscii};
 ghost use Rattle.jiter_scan.specs.PartialMode.{is_active};
 ghost use Rattle.jiter_steps.specs.Read.{done};
@@ -12,7 +12,7 @@ ghost use Rattle.jiter_value.specs.Arrived.{Arrived, HasRead, Holds, shown};
 ghost use Rattle.jiter_value.specs.OpenValue.{text_of};
 ghost use Rattle.jiter_value.specs.Owned.{owned_tree};
 ghost use Rattle.jiter_value.specs.Parses.{reading_as};
-ghost use Rattle.jiter_value.specs.Replaced.{HasReplaced, HoldsTextInside};
+ghost use Rattle.jiter_value.specs.Replaced.{GoesOn, HasGoneOn, HasReplaced, HoldsTextInside, with_chars};
 ghost use Rattle.jiter_value.specs.Settings.{answer_by};
 ghost use Rattle.jiter_value.specs.Spine.{OpenFrame, around, begun, filled, parents_of, spine_of, HasPart, IsOpen};
 ghost use Rattle.jiter_value.specs.Spine.{StandsFor, HasValue, AwaitsPart, IsOfKey, IsRoomy, HasRoomInside, IsLastPart};
@@ -21,12 +21,14 @@ ghost use Rattle.jiter_value.specs.Stacks.{Member, empty_tree};
 ghost use Rattle.jiter_value.specs.Value.{view};
 ghost use Rattle.std.specs.declared.alloc.Global.{Global};
 ghost use Rattle.std.specs.declared.borrow.CowStr.{CowStr as CowStrView};
+ghost use Rattle.jiter_steps.specs.declared.open_string.OpenString.{OpenString as OpenStringView};
 ghost use Rattle.jiter_value.specs.declared.open_value.Awaits.{Awaits};
 ghost use Rattle.jiter_value.specs.declared.settings.Settings.{Settings};
 ghost use Rattle.jiter_value.specs.declared.value.JsonValue.{JsonValue as JsonValueView, out-JsonValue};
 
 use crate::value::{JsonArray, JsonObject, JsonValue};
 use jiter_scan::memory::{Refused, make_room, push_ascii};
+use jiter_steps::open_string::OpenString;
 use jiter_steps::parse::Shape;
 use std::alloc::Global;
 use std::borrow::CowStr;
@@ -326,6 +328,80 @@ pub fn append_text(root: &mut JsonValue<'static>, depth: usize, bytes: &[u8]) ->
         JsonValue::Object(members) => {
             let last = members.len() - 1;
             append_text(&mut members[last].1, depth - 1, bytes)
+        }
+        _ => unreachable!(),
+    }
+}
+
+// Bytes of a piece that go on with an unfinished string, whose characters so far are this text: how many are taken, and
+// whether memory was refused.
+#[inline(always)]
+fn take_into(
+    text: &mut String,
+    unfinished: &mut OpenString,
+    piece: &[u8],
+) -> (usize, Result<(), Refused>)
+    requires whole { unfinished.old.text.broken ≡ false }
+    ensures went { (s : OpenStringView)
+        × GoesOn (with_chars unfinished.old (string_bytes text.old)) s (take result.0 piece.now)
+        × (unfinished.new ≡ with_chars s []) × (string_bytes text.new ≡ s.text.text) }
+    ensures within { result.0 ≤ length piece.now }
+    ensures wanted { OnErr result.1 (result.0 < length piece.now) }
+{
+    let alloc = *text.allocator();
+    unfinished.give_back(mem::replace(text, String::new(alloc)));
+    let (count, taken) = unfinished.take_inside(piece);
+    *text = unfinished.take_text();
+    (count, taken)
+}
+
+// The same, the text a value.
+#[inline(always)]
+fn take_here(
+    value: &mut JsonValue<'static>,
+    unfinished: &mut OpenString,
+    piece: &[u8],
+) -> (usize, Result<(), Refused>)
+    requires text { (w : List ℕ) × (view value.old ≡ string (text_of w)) }
+    requires whole { unfinished.old.text.broken ≡ false }
+    ensures went { (w : List ℕ) → view value.old ≡ string (text_of w)
+        → HasGoneOn 0 value.old value.new (with_chars unfinished.old w) unfinished.new (take result.0 piece.now) }
+    ensures within { result.0 ≤ length piece.now }
+    ensures wanted { OnErr result.1 (result.0 < length piece.now) }
+{
+    match value {
+        JsonValue::Str(CowStr::Owned(text)) => take_into(text, unfinished, piece),
+        _ => unreachable!(),
+    }
+}
+
+/// Bytes of a piece that go on with an unfinished string, whose characters so far are the text that stands so many
+/// containers deep inside the root, each the last part of the next: how many are taken, and whether memory was refused.
+/// What is taken stands there too.
+pub fn take_inside(
+    root: &mut JsonValue<'static>,
+    depth: usize,
+    unfinished: &mut OpenString,
+    piece: &[u8],
+) -> (usize, Result<(), Refused>)
+    requires text { (w : List ℕ) × HoldsTextInside depth root.old w }
+    requires whole { unfinished.old.text.broken ≡ false }
+    ensures went { (w : List ℕ) → HoldsTextInside depth root.old w
+        → HasGoneOn depth root.old root.new (with_chars unfinished.old w) unfinished.new (take result.0 piece.now) }
+    ensures within { result.0 ≤ length piece.now }
+    ensures wanted { OnErr result.1 (result.0 < length piece.now) }
+{
+    if depth == 0 {
+        return take_here(root, unfinished, piece);
+    }
+    match root {
+        JsonValue::Array(items) => {
+            let last = items.len() - 1;
+            take_inside(&mut items[last], depth - 1, unfinished, piece)
+        }
+        JsonValue::Object(members) => {
+            let last = members.len() - 1;
+            take_inside(&mut members[last].1, depth - 1, unfinished, piece)
         }
         _ => unreachable!(),
     }

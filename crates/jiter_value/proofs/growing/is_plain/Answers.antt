@@ -1,9 +1,0 @@
-use Rattle.std.proofs.Common.{eqb-true}
-use Rattle.jiter_value.proofs.GrownTexts.{plain-run}
-use Rattle.jiter_value.proofs.growing.is_plain.Goals as goal
-
-pub returns-then-low : goal.returns-then-low
-returns-then-low c = λ all.
-    let scan = c.scan_short-stop in
-    plain-run c.args.piece.now scan.result.0 scan.ensures.stop (scan.ensures.ascii.0 c.if-low.true)
-    (eqb-true _ _ all)
