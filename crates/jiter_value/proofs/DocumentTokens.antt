@@ -48,7 +48,7 @@ use Rattle.jiter_value.specs.OpenDocument.{Holding, HoldsMinus, HoldsScalar, Hol
 use Rattle.jiter_value.specs.OpenDocument.{IsReadAs, IsReading, IsRefused, Known, NameBegins, Next, Opened, ReadsAt}
 use Rattle.jiter_value.specs.OpenDocument.{StandsAt, TakenFrom, WordBegins, anything, between_tokens, in_key, in_scalar}
 use Rattle.jiter_value.specs.OpenDocument.{opened_to, own_number, strictly, with_byte}
-use Rattle.jiter_value.specs.OpenValue.{BeginsKey, IsLeft}
+use Rattle.jiter_value.specs.OpenValue.{BeginsItem, BeginsKey, IsLeft}
 use Rattle.jiter_value.specs.Owned.{owned_text, tree_as}
 use Rattle.jiter_value.specs.Settings.{answer_as, rules_as}
 use Rattle.jiter_value.specs.Spine.{OpenFrame, HasRoomInside}
@@ -755,6 +755,9 @@ module _ (d : OpenDocument) (t : List ℕ) (x : Unfinished d t token.Number) (c 
 
 pub decimal-starts : (c : ℕ) → begins_decimal c ≡ true → start_of c ≡ start.Number
 decimal-starts c h = grind (arith, nat_tests, h)
+
+pub decimal-item : (c : ℕ) → begins_decimal c ≡ true → BeginsItem c
+decimal-item c h = (grind (arith, nat_tests, h), grind (arith, nat_tests, h))
 
 -- the bytes of a piece from a place on begin with the one there
 pub range-first : (piece : List ℕ) (at e : ℕ) → at < e → e ≤ length piece

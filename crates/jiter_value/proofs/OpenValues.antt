@@ -38,7 +38,7 @@ use Rattle.jiter_value.specs.Arrived.{Arrived, at_value, between_parts, at_end, 
 use Rattle.jiter_value.specs.Arrived.{container_of, end_of, owned, HasRead, IsBeforeValue, IsBetweenParts, Holds}
 use Rattle.jiter_value.specs.OpenValue.{behind_value, completed, IsLeft, Everywhere, EndsHere, TakesByte, BeginsScalar}
 use Rattle.jiter_value.specs.OpenValue.{BeginsKey, ClosesBefore, ClosesOver, Goes, ReadsOn, passed, text_of, IsScalarStart}
-use Rattle.jiter_value.specs.OpenValue.{IsBehind, IsEnding}
+use Rattle.jiter_value.specs.OpenValue.{BeginsValue, IsBeforePart, IsBehind, IsEnding, ValueAt}
 use Rattle.jiter_value.specs.Settings.{rules_as}
 use Rattle.jiter_value.specs.Spine.{OpenFrame, around, begun, parents_of, spine_of, AwaitsPart, IsOfKey, HasRoomInside, HasValue, StandsFor, filled}
 use Rattle.jiter_value.specs.Stacks.{PartTree, built, empty_tree}
@@ -494,6 +494,75 @@ between-parts v a (between_parts b k xs fs) is inside h = record {
   left = h.2;
 }
 between-parts v a (at_end x n) is inside h = absurd (subst IsBetweenParts (sym is ∙ h.0) inside)
+
+-- Where a value is awaited, or a part of an array, whichever byte begins an item begins a value.
+pub value-at : (v : OpenValue) (s : Arrived) → v.awaits ≡ awaits.Value → IsLeft v s → ValueAt v s
+value-at v s is left =
+    let a = at-value v awaits.Value s is tt left in
+    record {
+      frames = a.frames;
+      spine = a.left;
+      key = a.key;
+      goes = λ c item p t j here.
+          ap (λ x. completed p t x j) a.all ∙ value-here p t j c here item.0 a.frames;
+    }
+
+row-item : (a : Awaits) (c : ℕ) → IsBeforePart a → begins_part shape.Array c ≡ true
+    → (p : Settings) (t : List ℕ) (j : ℕ) → part_row (rules_as owned p) t a shape.Array j (Some c) ≡ more j
+row-item awaits.First c before begins p t j = if-true (begins_part shape.Array c) _ _ begins
+row-item awaits.Next c before begins p t j = if-true (begins_part shape.Array c) _ _ begins
+row-item a c before begins p t j = absurd before
+
+pub before-part : (a : Awaits) → (a ≡ awaits.First) ⊎ (a ≡ awaits.Next) → IsBeforePart a
+before-part a (inl is) = subst IsBeforePart (sym is) tt
+before-part a (inr is) = subst IsBeforePart (sym is) tt
+
+between-of : (a : Awaits) → IsBeforePart a → IsBetweenParts a
+between-of awaits.First before = tt
+between-of awaits.Next before = tt
+between-of a before = absurd before
+
+object-array : shape.Object ≡ shape.Array → ⊥
+object-array h = cc
+
+item-at : (v : OpenValue) (s : Arrived) (h : Shape) (xs : List (PartTree h)) (fs : List OpenFrame) → IsBeforePart v.awaits
+    → h ≡ shape.Array → s ≡ between_parts v.awaits h xs fs → map view v.spine.items ≡ spine_of fs (built h xs)
+    → ValueAt v s
+item-at v s shape.Array xs fs before _ all left = record {
+  frames = items_frame xs ∷ fs;
+  spine = left;
+  key = tt;
+  goes = λ c item p t j here.
+      ap (λ x. completed p t x j) all
+      ∙ item-begins p t j c here item.0 v.awaits xs fs (row-item v.awaits c before item.1 p t j)
+      ∙ value-here p t j c here item.0 (items_frame xs ∷ fs);
+}
+item-at v s shape.Object xs fs before same all left = absurd (object-array same)
+
+pub item-awaited : (v : OpenValue) (s : Arrived) → IsBeforePart v.awaits
+    → ((h : Shape) (xs : List (PartTree h)) (fs : List OpenFrame)
+    → map view v.spine.items ≡ spine_of fs (built h xs) → h ≡ shape.Array)
+    → IsLeft v s → ValueAt v s
+item-awaited v s before array left =
+    let b = between-parts v v.awaits s refl (between-of v.awaits before) left in
+    item-at v s b.shape b.parts b.frames before (array b.shape b.parts b.frames b.left) b.all b.left
+
+-- There it begins.
+pub begins-value : (old new : OpenValue) (s : Arrived) (at : ValueAt old s) → length at.frames ≤ 200
+    → map view new.spine.items ≡ map view old.spine.items → new.key ≡ old.key → new.awaits ≡ awaits.Value
+    → HasRoomInside new.spine.items → BeginsValue new s
+begins-value old new s at low same key is room = record {
+  frames = at.frames;
+  left = (
+    is,
+    tt,
+    awaits-same at.frames old.spine.items new.spine.items same at.spine,
+    subst (λ k. IsOfKey (text_view k) at.frames) (sym key) at.key,
+  );
+  low = low;
+  room = room;
+  goes = at.goes;
+}
 
 -- Behind a part a comma is awaited, or the end.
 at-comma : (a : Awaits) → IsBehind a → ¬ (a ≡ awaits.Nothing) → a ≡ awaits.Comma

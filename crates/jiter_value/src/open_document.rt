@@ -415,10 +415,11 @@ impl OpenDocument {
         }
     }
 
-    // Takes a run of blanks, or another byte and what is whole there, where no token is unfinished.
-    #[inline(always)]
-    fn take_between(&mut self, piece: &[u8], at: usize) -> Result<usize, Refused>
+    // Takes a run of blanks, or another byte and what is whole there, where no token is unfinished and no number begins.
+    #[inline(never)]
+    fn take_other(&mut self, piece: &[u8], at: usize) -> Result<usize, Refused>
         requires within { at < length piece.now }
+        requires named { begins_decimal (slice_index piece.now at) ≡ false }
         requires token { IsIn self.old Token.Nothing }
         requires room { self.old.position + (length piece.now - at) < 2 ^ 64 }
         ensures taken { IfOk result (λ n. Takes self.old self.new (slice_range piece.now at (at + n))) }
@@ -432,6 +433,26 @@ impl OpenDocument {
             return Ok(end - at);
         }
         let count = self.step(piece, at)?;
+        Ok(count + self.blanks_behind(piece, at + count))
+    }
+
+    // Takes a run of blanks, or another byte and what is whole there, where no token is unfinished. A number is asked for
+    // first.
+    #[inline(always)]
+    fn take_between(&mut self, piece: &[u8], at: usize) -> Result<usize, Refused>
+        requires within { at < length piece.now }
+        requires token { IsIn self.old Token.Nothing }
+        requires room { self.old.position + (length piece.now - at) < 2 ^ 64 }
+        ensures taken { IfOk result (λ n. Takes self.old self.new (slice_range piece.now at (at + n))) }
+        ensures part { IfOk result (λ n. (0 < n) × (at + n ≤ length piece.now)) }
+        ensures refused { OnErr result (Stays self.old self.new) }
+        ensures wanted { OnErr result (is_blank (slice_index piece.now at) ≡ false) }
+        ensures same { StaysSo self.old self.new }
+    {
+        if !begins_decimal(piece[at]) {
+            return self.take_other(piece, at);
+        }
+        let count = self.step_number(piece, at)?;
         Ok(count + self.blanks_behind(piece, at + count))
     }
 

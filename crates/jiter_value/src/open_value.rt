@@ -15,6 +15,7 @@ ghost use Rattle.jiter_steps.specs.Blank.{is_blank};
 ghost use Rattle.jiter_steps.specs.Step.{begins_part, more};
 ghost use Rattle.jiter_steps.specs.StringDecoder.{text_view};
 ghost use Rattle.jiter_value.specs.Arrived.{Arrived, HasRead, at_value, between_parts, end_of, owned, part_row, shown};
+ghost use Rattle.jiter_value.specs.OpenValue.{AwaitsValue, BeginsValue};
 ghost use Rattle.jiter_value.specs.OpenValue.{ClosesOne, ClosesOver, Goes, IsApartAs, IsBeforePart, IsBehind, IsEnding};
 ghost use Rattle.jiter_value.specs.OpenValue.{IsLeft, IsPutTogether, IsRightSign, IsShown, ReadsOn, behind_value};
 ghost use Rattle.jiter_value.specs.OpenValue.{TakesByte, completed, step_by, text_of};
@@ -138,6 +139,17 @@ fn shape_inside(spine: &Vec<JsonValue<'_>>) -> Shape
         JsonValue::Object(_) => Shape::Object,
         _ => unreachable!(),
     }
+}
+
+// Whether the innermost container is an array.
+#[inline(always)]
+fn is_array_inside(spine: &Vec<JsonValue<'_>>) -> bool
+    requires { (h : Shape) × (xs : List (PartTree h)) × (fs : List OpenFrame)
+        × (map view spine.now.items ≡ spine_of fs (built h xs)) }
+    ensures { result ≡ true → (h : Shape) → (xs : List (PartTree h)) → (fs : List OpenFrame)
+        → map view spine.now.items ≡ spine_of fs (built h xs) → h ≡ Shape.Array }
+{
+    matches!(shape_inside(spine), Shape::Array)
 }
 
 // What is awaited behind a value inside these containers.
@@ -289,6 +301,35 @@ impl OpenValue {
             }
             Sign::Wrong(kind) => Ok(Went::Wrong(kind)),
         }
+    }
+
+    /// Whether a value is awaited where the next byte stands, within the limit: the document's, a member's or an item.
+    #[inline(always)]
+    pub fn awaits_value(&self) -> bool
+        requires { (s : Arrived) × IsLeft self.now s }
+        ensures { result ≡ true → AwaitsValue self.now }
+    {
+        if self.spine.len() > NESTING_LIMIT {
+            return false;
+        }
+        match self.awaits {
+            Awaits::Value => true,
+            Awaits::First | Awaits::Next => is_array_inside(&self.spine),
+            _ => false,
+        }
+    }
+
+    /// The value that is awaited begins with the next byte: there is room for it then. Where memory is refused, all
+    /// stays as it is.
+    #[inline(always)]
+    pub fn begin_value(&mut self) -> Result<(), Refused>
+        requires left { (s : Arrived) × IsLeft self.old s }
+        requires awaited { AwaitsValue self.old }
+        ensures begins { (s : Arrived) → IsLeft self.old s → OnOk result (BeginsValue self.new s) }
+        ensures refused { (s : Arrived) → IsLeft self.old s → OnErr result (IsLeft self.new s) }
+    {
+        self.begin_scalar()?;
+        Ok(())
     }
 
     /// Whether the document's value is whole.

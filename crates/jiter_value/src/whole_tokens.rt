@@ -1,6 +1,6 @@
 //! A number, a literal, a string or a key that lies whole in a piece of a document that arrives (RFC 8259, 3, 6 and 7): it
 //! is taken at once.
-ghost use Rattle.std.specs.Prelude.{◌≡◌, ◌+◌, ◌-◌, ◌^◌, ◌<◌, ◌≤◌, ◌∷◌, ◌++◌, [], IfOk, IfSome, List, OnErr, length};
+ghost use Rattle.std.specs.Prelude.{◌≡◌, ◌+◌, ◌-◌, ◌^◌, ◌<◌, ◌≤◌, ◌∷◌, ◌++◌, [], IfOk, IfSome, List, OnErr, OnOk, length};
 ghost use Rattle.std.specs.Prelude.{None, false, slice_index, slice_range, string_bytes, true, ℕ};
 ghost use Rattle.std.specs.Str.{IsAscii};
 ghost use Rattle.jiter_scan.specs.NumberDecoder.{number_view};
@@ -12,7 +12,8 @@ ghost use Rattle.jiter_steps.specs.OpenString.{IsTextWithin};
 ghost use Rattle.jiter_steps.specs.declared.parse.Start.{Start};
 ghost use Rattle.jiter_value.specs.OpenDocument.{BeginsHere, EndsBefore, HasArrived, HasTakenIn, IsIn};
 ghost use Rattle.jiter_value.specs.OpenDocument.{IsNumberWithin, IsScalarWithin};
-ghost use Rattle.jiter_value.specs.OpenDocument.{Meets, Stays, StaysSo, Takes, anything};
+ghost use Rattle.jiter_value.specs.OpenDocument.{Meets, MeetsBehind, Stays, StaysSo, Takes, anything};
+ghost use Rattle.jiter_value.specs.OpenValue.{AwaitsValue, BeginsItem, IsEnding};
 ghost use Rattle.jiter_value.specs.Owned.{owned_text, tree_as};
 ghost use Rattle.jiter_value.specs.Spine.{OpenFrame};
 ghost use Rattle.jiter_value.specs.Value.{view};
@@ -135,6 +136,7 @@ impl OpenDocument {
     }
 
     // Takes the bytes of a number that begins there, as far as the piece has them.
+    #[inline(never)]
     fn begin_number(&mut self, piece: &[u8], at: usize) -> Result<usize, Refused>
         requires within { at < length piece.now }
         requires begins { begins_decimal (slice_index piece.now at) ≡ true }
@@ -158,6 +160,22 @@ impl OpenDocument {
         }
     }
 
+    // Takes the byte behind a scalar of so many bytes, which are not counted yet: it is no comma, and closes no container
+    // in its place.
+    #[inline(never)]
+    fn end_before(&mut self, went: Went, bytes: usize, byte: u8)
+        requires met { (t : List ℕ) × MeetsBehind bytes byte self.old t went }
+        requires which { IsEnding went }
+        requires room { self.old.position + bytes < 2 ^ 64 }
+        ensures taken { (t : List ℕ) → MeetsBehind bytes byte self.old t went
+            → HasTakenIn anything self.new (t ++ byte ∷ []) }
+        ensures same { StaysSo self.old self.new }
+    {
+        self.position += bytes;
+        self.follow(went, byte);
+        self.position -= bytes;
+    }
+
     // A number of so many bytes is put, and the byte behind it, which ended it, is taken.
     #[inline(always)]
     fn put_ended(&mut self, value: JsonValue<'static>, bytes: usize, byte: u8)
@@ -170,9 +188,10 @@ impl OpenDocument {
         ensures same { StaysSo self.old self.new }
     {
         self.put(value);
-        self.position += bytes;
-        self.behind(byte);
-        self.position -= bytes;
+        match self.value.behind(byte) {
+            Went::Taken => {}
+            went => self.end_before(went, bytes, byte),
+        }
     }
 
     // Puts a scalar that ends in a piece, and takes the byte behind it, if one stands there: so many bytes are taken.
@@ -214,6 +233,20 @@ impl OpenDocument {
         0
     }
 
+    // The value that is awaited begins with the next byte.
+    #[inline(always)]
+    fn begin_value(&mut self) -> Result<(), Refused>
+        requires token { IsIn self.old Token.Nothing }
+        requires awaited { AwaitsValue self.old.value }
+        ensures begins { (t : List ℕ) → (c : ℕ) → HasArrived self.old t → BeginsItem c
+            → OnOk result ((fs : List OpenFrame) × BeginsHere c self.new t fs) }
+        ensures refused { OnErr result (Stays self.old self.new) }
+        ensures same { StaysSo self.old self.new }
+    {
+        self.value.begin_value()?;
+        Ok(())
+    }
+
     // Takes a number that lies whole in a piece, and the byte behind it.
     #[inline(always)]
     fn whole_number(
@@ -224,6 +257,7 @@ impl OpenDocument {
         end: usize,
     ) -> Result<usize, Refused>
         requires token { IsIn self.old Token.Nothing }
+        requires awaited { AwaitsValue self.old.value }
         requires number { IsNumberWithin piece.now at (view value) end }
         requires room { self.old.position + (length piece.now - at) < 2 ^ 64 }
         ensures taken { IfOk result (λ n. Takes self.old self.new (slice_range piece.now at (at + n))) }
@@ -231,17 +265,9 @@ impl OpenDocument {
         ensures refused { OnErr result (Stays self.old self.new) }
         ensures same { StaysSo self.old self.new }
     {
-        let byte = piece[at];
-        match self.look(byte)? {
-            Went::Scalar => {
-                self.put_ended(value, end - at, piece[end]);
-                Ok(end + 1 - at)
-            }
-            went => {
-                self.follow(went, byte);
-                Ok(1)
-            }
-        }
+        self.begin_value()?;
+        self.put_ended(value, end - at, piece[end]);
+        Ok(end + 1 - at)
     }
 
     // Takes a number that may be long, or may not lie whole in the piece: then its bytes there.
@@ -250,6 +276,7 @@ impl OpenDocument {
         requires within { at < length piece.now }
         requires begins { begins_decimal (slice_index piece.now at) ≡ true }
         requires token { IsIn self.old Token.Nothing }
+        requires awaited { AwaitsValue self.old.value }
         requires room { self.old.position + (length piece.now - at) < 2 ^ 64 }
         ensures taken { IfOk result (λ n. Takes self.old self.new (slice_range piece.now at (at + n))) }
         ensures part { IfOk result (λ n. (0 < n) × (at + n ≤ length piece.now)) }
@@ -269,7 +296,7 @@ impl OpenDocument {
 
     // Takes a number, all of it where it lies whole in the piece and is short.
     #[inline(always)]
-    fn step_number(&mut self, piece: &[u8], at: usize) -> Result<usize, Refused>
+    pub(crate) fn step_number(&mut self, piece: &[u8], at: usize) -> Result<usize, Refused>
         requires within { at < length piece.now }
         requires begins { begins_decimal (slice_index piece.now at) ≡ true }
         requires token { IsIn self.old Token.Nothing }
@@ -279,6 +306,9 @@ impl OpenDocument {
         ensures refused { OnErr result (Stays self.old self.new) }
         ensures same { StaysSo self.old self.new }
     {
+        if !self.value.awaits_value() {
+            return self.begin_number(piece, at);
+        }
         match short_within(piece, at) {
             ShortWithin::Int(number, end) => {
                 self.whole_number(piece, at, int_value(number), end)
@@ -379,10 +409,11 @@ impl OpenDocument {
         }
     }
 
-    // Takes a byte where no token is unfinished, and with it what is whole there.
+    // Takes a byte where no token is unfinished and no number begins, and with it what is whole there.
     #[inline(always)]
     pub(crate) fn step(&mut self, piece: &[u8], at: usize) -> Result<usize, Refused>
         requires within { at < length piece.now }
+        requires named { begins_decimal (slice_index piece.now at) ≡ false }
         requires token { IsIn self.old Token.Nothing }
         requires room { self.old.position + (length piece.now - at) < 2 ^ 64 }
         ensures taken { IfOk result (λ n. Takes self.old self.new (slice_range piece.now at (at + n))) }
@@ -390,11 +421,7 @@ impl OpenDocument {
         ensures refused { OnErr result (Stays self.old self.new) }
         ensures same { StaysSo self.old self.new }
     {
-        let byte = piece[at];
-        if begins_decimal(byte) {
-            return self.step_number(piece, at);
-        }
-        match start_of(byte) {
+        match start_of(piece[at]) {
             Start::String => self.step_text(piece, at),
             Start::Literal(literal) => self.step_literal(piece, at, literal),
             _ => self.step_byte(piece, at),
