@@ -107,7 +107,7 @@ module _ (p : Settings) (t : List ℕ) where
       if_case (λ (f : Kind → Bool). f k ≡ false) (is_active p.mode) is_forgiven nothing_forgiven (λ on. h) (λ off. refl)
 
   module _ (depth b c : ℕ) (few : depth ≤ 200) (here : slice_get t b ≡ Some c) where
-    begins-so : (s : Start) → start_of c ≡ s
+    pub begins-so : (s : Start) → start_of c ≡ s
         → value_in r t depth b ≡ value_with r (inside_at r t (201 - depth - 1)) t b s
     begins-so s h =
         inside_at-starts r t (201 - depth) b s (omega (arith, few)) (ap start_of (get_or_from_slice_get t b c 0 here) ∙ h)

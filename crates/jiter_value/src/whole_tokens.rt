@@ -1,12 +1,13 @@
-//! A number, a literal, a string or a key that lies whole in a piece of a document that arrives (RFC 8259, 3, 6 and 7): it
-//! is taken at once.
+//! A number, a literal, a string, a key or an empty container that lies whole in a piece of a document that arrives (RFC
+//! 8259, 3 to 7): it is taken at once.
 ghost use Rattle.std.specs.Prelude.{◌≡◌, ◌+◌, ◌-◌, ◌^◌, ◌<◌, ◌≤◌, ◌∷◌, ◌++◌, [], IfOk, IfSome, List, OnErr, OnOk, length};
-ghost use Rattle.std.specs.Prelude.{None, false, slice_index, slice_range, string_bytes, true, ℕ};
+ghost use Rattle.std.specs.Prelude.{None, Some, false, slice_get, slice_index, slice_range, string_bytes, true, ℕ};
 ghost use Rattle.std.specs.Str.{IsAscii};
 ghost use Rattle.jiter_scan.specs.NumberDecoder.{number_view};
 ghost use Rattle.jiter_scan.specs.OpenNumber.{HoldsNumber, begins_decimal};
 ghost use Rattle.jiter_steps.specs.Literal.{start_of};
 ghost use Rattle.jiter_steps.specs.Node.{number_tree};
+ghost use Rattle.jiter_steps.specs.Step.{closer_of, opening};
 ghost use Rattle.jiter_steps.specs.Tree.{float, int};
 ghost use Rattle.jiter_steps.specs.OpenString.{IsTextWithin};
 ghost use Rattle.jiter_steps.specs.declared.parse.Start.{Start};
@@ -16,6 +17,7 @@ ghost use Rattle.jiter_value.specs.OpenDocument.{Meets, MeetsBehind, Stays, Stay
 ghost use Rattle.jiter_value.specs.OpenValue.{AwaitsValue, BeginsItem, IsEnding};
 ghost use Rattle.jiter_value.specs.Owned.{owned_text, tree_as};
 ghost use Rattle.jiter_value.specs.Spine.{OpenFrame};
+ghost use Rattle.jiter_value.specs.Stacks.{empty_tree};
 ghost use Rattle.jiter_value.specs.Value.{view};
 ghost use Rattle.jiter_value.specs.declared.open_document.Token.{Token};
 ghost use Rattle.jiter_value.specs.declared.open_value.Awaits.{Awaits};
@@ -32,8 +34,9 @@ use jiter_scan::number_within::{ShortWithin, number_within, short_within};
 use jiter_scan::text::ascii_text;
 use jiter_scan::{NumberAny, NumberInt};
 use jiter_steps::open_string::text_within;
-use jiter_steps::parse::{Literal, Start, start_of};
+use jiter_steps::parse::{Literal, Shape, Start, start_of};
 use jiter_steps::plain::plain_literal_end;
+use std::alloc::Global;
 
 // A number that is not known to be short is looked for where so many bytes are left in a piece.
 const LONG_REACH: usize = 33;
@@ -67,6 +70,25 @@ fn short_float(bytes: &[u8]) -> Option<JsonValue<'static>>
     ensures { IfSome result (λ v. view v ≡ float (owned_text (record { owned = false; bytes = bytes.now }))) }
 {
     Some(JsonValue::Float(NumberText::short(ascii_text(bytes))?))
+}
+
+// Whether the container's closer stands at a place of a piece.
+#[inline(always)]
+fn closes_at(piece: &[u8], at: usize, shape: Shape) -> bool
+    ensures { result ≡ true → slice_get piece.now at ≡ Some (closer_of shape) }
+{
+    at < piece.len() && piece[at] == shape.closer()
+}
+
+// A container with no part. It takes no memory.
+#[inline(always)]
+fn empty_value(alloc: Global, shape: Shape) -> JsonValue<'static>
+    ensures { view result ≡ empty_tree shape }
+{
+    match shape {
+        Shape::Array => JsonValue::Array(Vec::new(alloc)),
+        Shape::Object => JsonValue::Object(Vec::new(alloc)),
+    }
 }
 
 impl OpenDocument {
@@ -383,6 +405,29 @@ impl OpenDocument {
         }
     }
 
+    // Takes a literal, or a container that is empty, which lies whole in a piece.
+    #[inline(always)]
+    fn whole_value(
+        &mut self,
+        piece: &[u8],
+        at: usize,
+        value: JsonValue<'static>,
+        end: usize,
+    ) -> Result<usize, Refused>
+        requires token { IsIn self.old Token.Nothing }
+        requires awaited { AwaitsValue self.old.value }
+        requires begins { BeginsItem (slice_index piece.now at) }
+        requires value { IsScalarWithin piece.now at (view value) end }
+        requires room { self.old.position + (length piece.now - at) < 2 ^ 64 }
+        ensures taken { IfOk result (λ n. Takes self.old self.new (slice_range piece.now at (at + n))) }
+        ensures part { IfOk result (λ n. (0 < n) × (at + n ≤ length piece.now)) }
+        ensures refused { OnErr result (Stays self.old self.new) }
+        ensures same { StaysSo self.old self.new }
+    {
+        self.begin_value()?;
+        Ok(self.put_whole(piece, at, value, end))
+    }
+
     // Takes a literal that begins with its first byte, all of it where it lies whole in the piece.
     #[inline(always)]
     fn step_literal(&mut self, piece: &[u8], at: usize, literal: Literal) -> Result<usize, Refused>
@@ -396,17 +441,32 @@ impl OpenDocument {
         ensures refused { OnErr result (Stays self.old self.new) }
         ensures same { StaysSo self.old self.new }
     {
-        let Some(end) = plain_literal_end(piece, at, literal) else {
+        if !self.value.awaits_value() {
             return self.step_byte(piece, at);
-        };
-        let byte = piece[at];
-        match self.look(byte)? {
-            Went::Scalar => { Ok(self.put_whole(piece, at, Name::Literal(literal).value(), end)) }
-            went => {
-                self.follow(went, byte);
-                Ok(1)
-            }
         }
+        match plain_literal_end(piece, at, literal) {
+            Some(end) => self.whole_value(piece, at, Name::Literal(literal).value(), end),
+            None => self.step_byte(piece, at),
+        }
+    }
+
+    // Takes an opening bracket, and with it its closer, if that is the next byte of the piece.
+    #[inline(always)]
+    fn step_opening(&mut self, piece: &[u8], at: usize, shape: Shape) -> Result<usize, Refused>
+        requires within { at < length piece.now }
+        requires begins { start_of (slice_index piece.now at) ≡ opening shape }
+        requires named { begins_decimal (slice_index piece.now at) ≡ false }
+        requires token { IsIn self.old Token.Nothing }
+        requires room { self.old.position + (length piece.now - at) < 2 ^ 64 }
+        ensures taken { IfOk result (λ n. Takes self.old self.new (slice_range piece.now at (at + n))) }
+        ensures part { IfOk result (λ n. (0 < n) × (at + n ≤ length piece.now)) }
+        ensures refused { OnErr result (Stays self.old self.new) }
+        ensures same { StaysSo self.old self.new }
+    {
+        if !closes_at(piece, at + 1, shape) || !self.value.awaits_value() {
+            return self.step_byte(piece, at);
+        }
+        self.whole_value(piece, at, empty_value(self.alloc, shape), at + 2)
     }
 
     // Takes a byte where no token is unfinished and no number begins, and with it what is whole there.
@@ -424,6 +484,8 @@ impl OpenDocument {
         match start_of(piece[at]) {
             Start::String => self.step_text(piece, at),
             Start::Literal(literal) => self.step_literal(piece, at, literal),
+            Start::Array => self.step_opening(piece, at, Shape::Array),
+            Start::Object => self.step_opening(piece, at, Shape::Object),
             _ => self.step_byte(piece, at),
         }
     }
