@@ -821,3 +821,8 @@ range-more piece at e le h =
     sym
     (slice_range-split piece at e le (e + 1) (omega arith)
     ∙ ap (λ w. slice_range piece at e ++ w) (slice-one piece e (get_or piece e 0) (slice_get-get_or piece e 0 h)))
+
+pub range-behind : (t piece : List ℕ) (at e : ℕ) → at ≤ e → e < length piece
+    → (t ++ slice_range piece at e) ++ get_or piece e 0 ∷ [] ≡ t ++ slice_range piece at (e + 1)
+range-behind t piece at e le h =
+    append_assoc t (slice_range piece at e) (get_or piece e 0 ∷ []) ∙ ap (λ w. t ++ w) (range-more piece at e le h)

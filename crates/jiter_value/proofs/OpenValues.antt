@@ -38,7 +38,7 @@ use Rattle.jiter_value.specs.Arrived.{Arrived, at_value, between_parts, at_end, 
 use Rattle.jiter_value.specs.Arrived.{container_of, end_of, owned, HasRead, IsBeforeValue, IsBetweenParts, Holds}
 use Rattle.jiter_value.specs.OpenValue.{behind_value, completed, IsLeft, Everywhere, EndsHere, TakesByte, BeginsScalar}
 use Rattle.jiter_value.specs.OpenValue.{BeginsKey, ClosesBefore, ClosesOver, Goes, ReadsOn, passed, text_of, IsScalarStart}
-use Rattle.jiter_value.specs.OpenValue.{BeginsValue, IsBeforePart, IsBehind, IsEnding, ValueAt}
+use Rattle.jiter_value.specs.OpenValue.{AwaitsValue, BeginsValue, IsBeforePart, IsBehind, IsEnding, IsSeenAs, ValueAt}
 use Rattle.jiter_value.specs.Settings.{rules_as}
 use Rattle.jiter_value.specs.Spine.{OpenFrame, around, begun, parents_of, spine_of, AwaitsPart, IsOfKey, HasRoomInside, HasValue, StandsFor, filled}
 use Rattle.jiter_value.specs.Stacks.{PartTree, built, empty_tree}
@@ -548,21 +548,51 @@ item-awaited v s before array left =
     item-at v s b.shape b.parts b.frames before (array b.shape b.parts b.frames b.left) b.all b.left
 
 -- There it begins.
-pub begins-value : (old new : OpenValue) (s : Arrived) (at : ValueAt old s) → length at.frames ≤ 200
-    → map view new.spine.items ≡ map view old.spine.items → new.key ≡ old.key → new.awaits ≡ awaits.Value
-    → HasRoomInside new.spine.items → BeginsValue new s
-begins-value old new s at low same key is room = record {
+pub begins-value : (v : OpenValue) (s : Arrived) (at : ValueAt v s) → length at.frames ≤ 200
+    → HasRoomInside v.spine.items → BeginsValue (record v { awaits = awaits.Value }) s
+begins-value v s at low room = record {
   frames = at.frames;
-  left = (
-    is,
-    tt,
-    awaits-same at.frames old.spine.items new.spine.items same at.spine,
-    subst (λ k. IsOfKey (text_view k) at.frames) (sym key) at.key,
-  );
+  left = (refl, tt, at.spine, at.key);
   low = low;
   room = room;
   goes = at.goes;
 }
+
+-- A value that is seen as another leaves the same open, and awaits the same.
+spine-empty : (old new : List JsonValue) → map view new ≡ map view old → old ≡ [] → new ≡ []
+spine-empty old [] same none = refl
+spine-empty old (v ∷ vs) same none = let is = same ∙ ap (map view) none in absurd (cc)
+
+pub seen-left : (old new : OpenValue) (s : Arrived) → IsSeenAs old new → IsLeft old s → IsLeft new s
+seen-left old new (at_value a fs) h left = (
+  h.awaits ∙ left.0,
+  left.1,
+  awaits-same fs old.spine.items new.spine.items h.spine left.2,
+  subst (λ k. IsOfKey (text_view k) fs) (sym h.key) left.3,
+)
+seen-left old new (between_parts a k xs fs) h left = (h.awaits ∙ left.0, left.1, h.spine ∙ left.2)
+seen-left old new (at_end x n) h left = (
+  h.awaits ∙ left.0,
+  spine-empty old.spine.items new.spine.items h.spine left.1,
+  ap view h.root ∙ left.2,
+)
+
+seen-back : (old new : OpenValue) → IsSeenAs old new → IsSeenAs new old
+seen-back old new h =
+    record { spine = sym h.spine; root = sym h.root; key = sym h.key; awaits = sym h.awaits }
+
+pub seen-awaits : (old new : OpenValue) → IsSeenAs old new → AwaitsValue old → AwaitsValue new
+seen-awaits old new h awaited = λ s left.
+    let x = awaited s (seen-left new old s (seen-back old new h) left) in
+    let at = x.0 in (
+      record {
+        frames = at.frames;
+        spine = awaits-same at.frames old.spine.items new.spine.items h.spine at.spine;
+        key = subst (λ k. IsOfKey (text_view k) at.frames) (sym h.key) at.key;
+        goes = at.goes;
+      },
+      x.1,
+    )
 
 -- Behind a part a comma is awaited, or the end.
 at-comma : (a : Awaits) → IsBehind a → ¬ (a ≡ awaits.Nothing) → a ≡ awaits.Comma

@@ -113,6 +113,13 @@ pub record ValueAt (v : OpenValue) (s : Arrived) : Type 0 where
 abbrev pub AwaitsValue : OpenValue → Type 0
 AwaitsValue v = (s : Arrived) → IsLeft v s → (at : ValueAt v s) × (length at.frames ≤ nesting_limit)
 
+-- The open containers are seen as they were, and all else is the same.
+pub record IsSeenAs (old new : OpenValue) : Type 0 where
+  pub spine : map view new.spine.items ≡ map view old.spine.items
+  pub root : new.root ≡ old.root
+  pub key : new.key ≡ old.key
+  pub awaits : new.awaits ≡ old.awaits
+
 -- There it begins, and there is room for it.
 pub record BeginsValue (new : OpenValue) (s : Arrived) : Type 0 where
   pub frames : List OpenFrame

@@ -15,7 +15,7 @@ ghost use Rattle.jiter_steps.specs.Blank.{is_blank};
 ghost use Rattle.jiter_steps.specs.Step.{begins_part, more};
 ghost use Rattle.jiter_steps.specs.StringDecoder.{text_view};
 ghost use Rattle.jiter_value.specs.Arrived.{Arrived, HasRead, at_value, between_parts, end_of, owned, part_row, shown};
-ghost use Rattle.jiter_value.specs.OpenValue.{AwaitsValue, BeginsValue};
+ghost use Rattle.jiter_value.specs.OpenValue.{AwaitsValue, BeginsValue, IsSeenAs};
 ghost use Rattle.jiter_value.specs.OpenValue.{ClosesOne, ClosesOver, Goes, IsApartAs, IsBeforePart, IsBehind, IsEnding};
 ghost use Rattle.jiter_value.specs.OpenValue.{IsLeft, IsPutTogether, IsRightSign, IsShown, ReadsOn, behind_value};
 ghost use Rattle.jiter_value.specs.OpenValue.{TakesByte, completed, step_by, text_of};
@@ -319,17 +319,25 @@ impl OpenValue {
         }
     }
 
-    /// The value that is awaited begins with the next byte: there is room for it then. Where memory is refused, all
-    /// stays as it is.
+    /// Room for the value that is awaited. All else stays as it is.
     #[inline(always)]
-    pub fn begin_value(&mut self) -> Result<(), Refused>
+    pub fn make_room(&mut self) -> Result<(), Refused>
         requires left { (s : Arrived) × IsLeft self.old s }
         requires awaited { AwaitsValue self.old }
-        ensures begins { (s : Arrived) → IsLeft self.old s → OnOk result (BeginsValue self.new s) }
-        ensures refused { (s : Arrived) → IsLeft self.old s → OnErr result (IsLeft self.new s) }
+        ensures same { IsSeenAs self.old self.new }
+        ensures room { OnOk result (HasRoomInside self.new.spine.items) }
     {
-        self.begin_scalar()?;
-        Ok(())
+        make_room_inside(&mut self.spine)
+    }
+
+    /// The value that is awaited begins with the next byte. It takes no memory.
+    #[inline(always)]
+    pub fn begin_value(&mut self)
+        requires awaited { AwaitsValue self.old }
+        requires room { HasRoomInside self.old.spine.items }
+        ensures begins { (s : Arrived) → IsLeft self.old s → BeginsValue self.new s }
+    {
+        self.awaits = Awaits::Value;
     }
 
     /// Whether the document's value is whole.

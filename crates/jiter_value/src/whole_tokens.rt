@@ -16,7 +16,7 @@ ghost use Rattle.jiter_value.specs.OpenDocument.{IsNumberWithin, IsScalarWithin}
 ghost use Rattle.jiter_value.specs.OpenDocument.{Meets, MeetsBehind, Stays, StaysSo, Takes, anything};
 ghost use Rattle.jiter_value.specs.OpenValue.{AwaitsValue, BeginsItem, IsEnding};
 ghost use Rattle.jiter_value.specs.Owned.{owned_text, tree_as};
-ghost use Rattle.jiter_value.specs.Spine.{OpenFrame};
+ghost use Rattle.jiter_value.specs.Spine.{HasRoomInside, OpenFrame};
 ghost use Rattle.jiter_value.specs.Stacks.{empty_tree};
 ghost use Rattle.jiter_value.specs.Value.{view};
 ghost use Rattle.jiter_value.specs.declared.open_document.Token.{Token};
@@ -33,6 +33,7 @@ use jiter_scan::memory::Refused;
 use jiter_scan::number_within::{ShortWithin, number_within, short_within};
 use jiter_scan::text::ascii_text;
 use jiter_scan::{NumberAny, NumberInt};
+use jiter_steps::blank::past_blanks;
 use jiter_steps::open_string::text_within;
 use jiter_steps::parse::{Literal, Shape, Start, start_of};
 use jiter_steps::plain::plain_literal_end;
@@ -123,7 +124,8 @@ impl OpenDocument {
         }
     }
 
-    // Takes the byte at a place of a piece, alone of what it begins there, which is no decimal number.
+    // Takes the byte at a place of a piece, alone of what it begins there, which is no decimal number; and the blanks
+    // behind it, where it begins nothing.
     fn step_byte(&mut self, piece: &[u8], at: usize) -> Result<usize, Refused>
         requires within { at < length piece.now }
         requires named { begins_decimal (slice_index piece.now at) ≡ false }
@@ -135,10 +137,12 @@ impl OpenDocument {
     {
         let byte = piece[at];
         match self.look(byte)? {
-            Went::Taken => {}
-            went => self.follow(went, byte),
+            Went::Taken => Ok(past_blanks(piece, at + 1) - at),
+            went => {
+                self.follow(went, byte);
+                Ok(1)
+            }
         }
-        Ok(1)
     }
 
     // The number that begins at a place of a piece is begun, with its bytes there: it is no part of what is read so far.
@@ -198,25 +202,31 @@ impl OpenDocument {
         self.position -= bytes;
     }
 
-    // A number of so many bytes is put, and the byte behind it, which ended it, is taken.
+    // A value that ends in a piece before a byte is put. That byte is taken, and the blanks behind it: so many bytes.
     #[inline(always)]
-    fn put_ended(&mut self, value: JsonValue<'static>, bytes: usize, byte: u8)
-        requires ends { (t w : List ℕ) × (fs : List OpenFrame)
-            × EndsBefore self.old t w byte fs (view value) × (length w ≡ bytes) }
-        requires room { self.old.position + bytes < 2 ^ 64 }
-        ensures taken { (t w : List ℕ) → (fs : List OpenFrame)
-            → EndsBefore self.old t w byte fs (view value.entry) → length w ≡ bytes
-            → HasTakenIn anything self.new ((t ++ w) ++ byte ∷ []) }
+    fn put_ended(&mut self, piece: &[u8], at: usize, value: JsonValue<'static>, end: usize) -> usize
+        requires within { (at < end) × (end < length piece.now) }
+        requires ends { (t : List ℕ) × (fs : List OpenFrame)
+            × EndsBefore self.old t (slice_range piece.now at end) (slice_index piece.now end) fs (view value) }
+        requires room { self.old.position + (length piece.now - at) < 2 ^ 64 }
+        ensures taken { (t : List ℕ) → (fs : List OpenFrame)
+            → EndsBefore self.old t (slice_range piece.now at end) (slice_index piece.now end) fs (view value.entry)
+            → HasTakenIn anything self.new (t ++ slice_range piece.now at (at + result)) }
+        ensures part { (0 < result) × (at + result ≤ length piece.now) }
         ensures same { StaysSo self.old self.new }
     {
         self.put(value);
-        match self.value.behind(byte) {
-            Went::Taken => {}
-            went => self.end_before(went, bytes, byte),
+        match self.value.behind(piece[end]) {
+            Went::Taken => past_blanks(piece, end + 1) - at,
+            went => {
+                self.end_before(went, end - at, piece[end]);
+                end + 1 - at
+            }
         }
     }
 
-    // Puts a scalar that ends in a piece, and takes the byte behind it, if one stands there: so many bytes are taken.
+    // Puts a value that ends in a piece, and takes the byte behind it, if one stands there, and the blanks behind that: so
+    // many bytes are taken.
     #[inline(always)]
     fn put_whole(&mut self, piece: &[u8], at: usize, value: JsonValue<'static>, end: usize) -> usize
         requires scalar { IsScalarWithin piece.now at (view value) end }
@@ -228,14 +238,13 @@ impl OpenDocument {
         ensures same { StaysSo self.old self.new }
     {
         if end < piece.len() {
-            self.put_ended(value, end - at, piece[end]);
-            return end + 1 - at;
+            return self.put_ended(piece, at, value, end);
         }
         self.put(value);
         end - at
     }
 
-    // Takes the colon at a place of a piece, behind a key, if one stands there: so many bytes.
+    // Takes the colon at a place of a piece, behind a key, if one stands there, and the blanks behind it: so many bytes.
     #[inline(always)]
     fn colon_behind(&mut self, piece: &[u8], at: usize) -> usize
         requires within { at ≤ length piece.now }
@@ -250,26 +259,39 @@ impl OpenDocument {
     {
         if at < piece.len() && piece[at] == b':' {
             self.value.pass_colon();
-            return 1;
+            return past_blanks(piece, at + 1) - at;
         }
         0
     }
 
-    // The value that is awaited begins with the next byte.
+    // Room for the value that is awaited.
     #[inline(always)]
-    fn begin_value(&mut self) -> Result<(), Refused>
+    fn make_room(&mut self) -> Result<(), Refused>
         requires token { IsIn self.old Token.Nothing }
         requires awaited { AwaitsValue self.old.value }
-        ensures begins { (t : List ℕ) → (c : ℕ) → HasArrived self.old t → BeginsItem c
-            → OnOk result ((fs : List OpenFrame) × BeginsHere c self.new t fs) }
-        ensures refused { OnErr result (Stays self.old self.new) }
+        ensures stays { Stays self.old self.new }
+        ensures token { IsIn self.new Token.Nothing }
+        ensures awaited { AwaitsValue self.new.value }
+        ensures room { OnOk result (HasRoomInside self.new.value.spine.items) }
         ensures same { StaysSo self.old self.new }
     {
-        self.value.begin_value()?;
-        Ok(())
+        self.value.make_room()
     }
 
-    // Takes a number that lies whole in a piece, and the byte behind it.
+    // The value that is awaited begins with the next byte.
+    #[inline(always)]
+    fn begin_value(&mut self)
+        requires token { IsIn self.old Token.Nothing }
+        requires awaited { AwaitsValue self.old.value }
+        requires room { HasRoomInside self.old.value.spine.items }
+        ensures begins { (t : List ℕ) → (c : ℕ) → HasArrived self.old t → BeginsItem c
+            → (fs : List OpenFrame) × BeginsHere c self.new t fs }
+        ensures same { StaysSo self.old self.new }
+    {
+        self.value.begin_value();
+    }
+
+    // Takes a number that lies whole in a piece, and the byte behind it: so many bytes.
     #[inline(always)]
     fn whole_number(
         &mut self,
@@ -277,19 +299,18 @@ impl OpenDocument {
         at: usize,
         value: JsonValue<'static>,
         end: usize,
-    ) -> Result<usize, Refused>
+    ) -> usize
         requires token { IsIn self.old Token.Nothing }
         requires awaited { AwaitsValue self.old.value }
+        requires space { HasRoomInside self.old.value.spine.items }
         requires number { IsNumberWithin piece.now at (view value) end }
         requires room { self.old.position + (length piece.now - at) < 2 ^ 64 }
-        ensures taken { IfOk result (λ n. Takes self.old self.new (slice_range piece.now at (at + n))) }
-        ensures part { IfOk result (λ n. (0 < n) × (at + n ≤ length piece.now)) }
-        ensures refused { OnErr result (Stays self.old self.new) }
+        ensures taken { Takes self.old self.new (slice_range piece.now at (at + result)) }
+        ensures part { (0 < result) × (at + result ≤ length piece.now) }
         ensures same { StaysSo self.old self.new }
     {
-        self.begin_value()?;
-        self.put_ended(value, end - at, piece[end]);
-        Ok(end + 1 - at)
+        self.begin_value();
+        self.put_ended(piece, at, value, end)
     }
 
     // Takes a number that may be long, or may not lie whole in the piece: then its bytes there.
@@ -299,6 +320,7 @@ impl OpenDocument {
         requires begins { begins_decimal (slice_index piece.now at) ≡ true }
         requires token { IsIn self.old Token.Nothing }
         requires awaited { AwaitsValue self.old.value }
+        requires space { HasRoomInside self.old.value.spine.items }
         requires room { self.old.position + (length piece.now - at) < 2 ^ 64 }
         ensures taken { IfOk result (λ n. Takes self.old self.new (slice_range piece.now at (at + n))) }
         ensures part { IfOk result (λ n. (0 < n) × (at + n ≤ length piece.now)) }
@@ -310,7 +332,7 @@ impl OpenDocument {
         }
         if let Some((number, end)) = number_within(piece, at) {
             if let Some(value) = short_value(number) {
-                return self.whole_number(piece, at, value, end);
+                return Ok(self.whole_number(piece, at, value, end));
             }
         }
         self.begin_number(piece, at)
@@ -331,12 +353,13 @@ impl OpenDocument {
         if !self.value.awaits_value() {
             return self.begin_number(piece, at);
         }
+        self.make_room()?;
         match short_within(piece, at) {
             ShortWithin::Int(number, end) => {
-                self.whole_number(piece, at, int_value(number), end)
+                Ok(self.whole_number(piece, at, int_value(number), end))
             }
             ShortWithin::Float(end) => match short_float(&piece[at..end]) {
-                Some(value) => self.whole_number(piece, at, value, end),
+                Some(value) => Ok(self.whole_number(piece, at, value, end)),
                 None => self.begin_number(piece, at),
             },
             ShortWithin::Other => self.step_long_number(piece, at),
@@ -424,7 +447,8 @@ impl OpenDocument {
         ensures refused { OnErr result (Stays self.old self.new) }
         ensures same { StaysSo self.old self.new }
     {
-        self.begin_value()?;
+        self.make_room()?;
+        self.begin_value();
         Ok(self.put_whole(piece, at, value, end))
     }
 

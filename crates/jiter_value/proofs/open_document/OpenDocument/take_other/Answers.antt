@@ -16,21 +16,10 @@ returns-then-at-end-clause-taken c = λ t h.
     let all : at + (end - at) ≡ past_blanks piece at = omega (arith, passed, c.if-at-end.true) in
     run-taken d t h.read is.1 is.2 piece at (end - at) all (omega (arith, c.requires.within))
 
-pub returns-in_err-count-clause-wanted : goal.returns-in_err-count-clause-wanted
-returns-in_err-count-clause-wanted c =
+pub returns-clause-wanted : goal.returns-clause-wanted
+returns-clause-wanted c =
     let piece = c.args.piece.now in
     let at = c.args.at in
     let e = c.past_blanks-end.ensures in
     let stays : past_blanks piece at ≡ at = omega (arith, e.value, e.after, c.if-at-end.false) in
     if-refused _ (not-passed piece at c.requires.within stays)
-
-pub returns-clause-taken : goal.returns-clause-taken
-returns-clause-taken c = λ t h.
-    let d = c.step.new.self in
-    let piece = c.args.piece.now in
-    let at = c.args.at in
-    let n = c.in_ok-count.count in
-    let m = c.blanks_behind.result in
-    let all : at + (n + m) ≡ at + n + m = omega arith in
-    two-parts d piece at (at + n) m (n + m) t (omega arith) all
-    (c.blanks_behind.ensures.taken (t ++ slice_range piece at (at + n)) (c.in_ok-count.ensures.taken t h))
