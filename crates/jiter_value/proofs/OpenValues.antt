@@ -3,6 +3,7 @@ use Rattle.std.proofs.Common.{◌≡◌, ℕ, suc, ◌+◌, ◌-◌, ◌<◌, �
 use Rattle.std.proofs.Common.{refl, sym, subst, ap, ◌∙◌, ◌++◌, arith, map, add-one, append_assoc, inl, inr, length-append, Vec, Global}
 use Rattle.std.proofs.Math.Seq.{get_or-append_seam}
 use Rattle.std.proofs.lemmas.Bool.{eq-eqb, ne_eqb, eqb-true}
+use Rattle.std.proofs.lemmas.Bool.Decides.{nat_tests}
 use Rattle.std.proofs.lemmas.List.{length-map}
 use Rattle.std.specs.Prelude.{slice_get, Option, Some, None, Result, Ok, Err, IfOk}
 use Rattle.jiter_scan.specs.declared.memory.Refused.{Refused}
@@ -38,7 +39,7 @@ use Rattle.jiter_value.specs.Arrived.{Arrived, at_value, between_parts, at_end, 
 use Rattle.jiter_value.specs.Arrived.{container_of, end_of, owned, HasRead, IsBeforeValue, IsBetweenParts, Holds}
 use Rattle.jiter_value.specs.OpenValue.{behind_value, completed, IsLeft, Everywhere, EndsHere, TakesByte, BeginsScalar}
 use Rattle.jiter_value.specs.OpenValue.{BeginsKey, ClosesBefore, ClosesOver, Goes, ReadsOn, passed, text_of, IsScalarStart}
-use Rattle.jiter_value.specs.OpenValue.{AwaitsValue, BeginsValue, IsBeforePart, IsBehind, IsEnding, IsSeenAs, ValueAt}
+use Rattle.jiter_value.specs.OpenValue.{AwaitsValue, BeginsItem, BeginsValue, IsBeforePart, IsBehind, IsEnding, IsSeenAs, ValueAt}
 use Rattle.jiter_value.specs.Settings.{rules_as}
 use Rattle.jiter_value.specs.Spine.{OpenFrame, around, begun, parents_of, spine_of, AwaitsPart, IsOfKey, HasRoomInside, HasValue, StandsFor, filled}
 use Rattle.jiter_value.specs.Stacks.{PartTree, built, empty_tree}
@@ -557,6 +558,25 @@ begins-value v s at low room = record {
   room = room;
   goes = at.goes;
 }
+
+-- A container begins there with its bracket.
+pub opens-item : (h : Shape) (c : ℕ) → start_of c ≡ opening h → BeginsItem c
+opens-item shape.Array c h = let is : c ≡ 91 = grind (arith, nat_tests, h) in subst BeginsItem (sym is) (refl, refl)
+opens-item shape.Object c h = let is : c ≡ 123 = grind (arith, nat_tests, h) in subst BeginsItem (sym is) (refl, refl)
+
+pub opens-value : (old new : OpenValue) (s : Arrived) (c : ℕ) (h : Shape) (at : ValueAt old s)
+    → length at.frames ≤ 200 → start_of c ≡ opening h → IsLeft new (between_parts awaits.First h [] at.frames)
+    → TakesByte new s c
+opens-value old new s c h at low starts left =
+    let item = opens-item h c starts in
+    record {
+      next = between_parts awaits.First h [] at.frames;
+      left = left;
+      ends = tt;
+      goes = λ p t j here.
+          at.goes c item p t j here ∙ sym (value-here p t j c here item.0 at.frames)
+          ∙ value-begins p t j c here item.0 h at.frames low starts;
+    }
 
 -- A value that is seen as another leaves the same open, and awaits the same.
 spine-empty : (old new : List JsonValue) → map view new ≡ map view old → old ≡ [] → new ≡ []

@@ -27,6 +27,7 @@ use Rattle.jiter_value.specs.Stacks.{empty_tree}
 use Rattle.jiter_value.specs.declared.names.Name.TheVariants as name
 use Rattle.jiter_value.specs.declared.settings.Settings.{Settings}
 use Rattle.jiter_value.proofs.DocumentTokens.{begins-so, held-stands, word-done}
+use Rattle.jiter_value.proofs.OpenValues.{opens-item}
 
 module _ (piece : List ℕ) (at : ℕ) (l : Literal) (e : ℕ) (starts : start_of (get_or piece at 0) ≡ start.Literal l)
     (read : literal_at piece l at ≡ taken tt e) (some : at < e) (within : e ≤ length piece) where
@@ -65,10 +66,6 @@ module _ (piece : List ℕ) (at : ℕ) (l : Literal) (e : ℕ) (starts : start_o
   }
 
 -- ---- a container that is empty
-
-opens-item : (h : Shape) (c : ℕ) → start_of c ≡ opening h → BeginsItem c
-opens-item shape.Array c h = let is : c ≡ 91 = grind (arith, nat_tests, h) in subst BeginsItem (sym is) (refl, refl)
-opens-item shape.Object c h = let is : c ≡ 123 = grind (arith, nat_tests, h) in subst BeginsItem (sym is) (refl, refl)
 
 pub literal-item : (c : ℕ) (l : Literal) → start_of c ≡ start.Literal l → BeginsItem c
 literal-item c literal.Null h = let is : c ≡ 110 = grind (arith, nat_tests, h) in subst BeginsItem (sym is) (refl, refl)

@@ -389,13 +389,17 @@ impl OpenDocument {
         matches!(self.token, Token::Nothing) && self.value.is_whole()
     }
 
-    // Whether no byte changes the answers any more.
+    // Whether no byte changes the answers any more. Where there is a fault, one was noted.
     #[inline(always)]
     fn is_over(&self) -> bool
+        requires { (t : List ℕ) × HasArrived self.now t }
         ensures over { result ≡ true → IsOver self.now }
         ensures unset { result ≡ false → self.now.fault ≡ None }
     {
-        self.fault.is_some() || self.first.is_some() && self.is_done()
+        match self.first {
+            None => false,
+            Some(_) => self.fault.is_some() || self.is_done(),
+        }
     }
 
     // Takes a run of blanks, or another byte and what is whole there, where no token is unfinished and no number begins.
@@ -438,7 +442,7 @@ impl OpenDocument {
     }
 
     // Takes bytes of the token that is unfinished.
-    #[inline(never)]
+    #[inline(always)]
     fn take_token(&mut self, piece: &[u8], at: usize) -> Result<usize, Refused>
         requires within { at < length piece.now }
         requires arrived { (t : List ℕ) × HasArrived self.old t }

@@ -12,7 +12,8 @@ ghost use Rattle.jiter_steps.specs.Frames.{key_from, members_frame, value_from, 
 ghost use Rattle.jiter_steps.specs.Read.{done, fault};
 ghost use Rattle.jiter_steps.specs.Tree.{Text, Tree, members_of, object};
 ghost use Rattle.jiter_steps.specs.Blank.{is_blank};
-ghost use Rattle.jiter_steps.specs.Step.{begins_part, more};
+ghost use Rattle.jiter_steps.specs.Literal.{start_of};
+ghost use Rattle.jiter_steps.specs.Step.{begins_part, more, opening};
 ghost use Rattle.jiter_steps.specs.StringDecoder.{text_view};
 ghost use Rattle.jiter_value.specs.Arrived.{Arrived, HasRead, at_value, between_parts, end_of, owned, part_row, shown};
 ghost use Rattle.jiter_value.specs.OpenValue.{AwaitsValue, BeginsValue, IsSeenAs};
@@ -328,6 +329,20 @@ impl OpenValue {
         ensures room { OnOk result (HasRoomInside self.new.spine.items) }
     {
         make_room_inside(&mut self.spine)
+    }
+
+    /// The value that is awaited is a container, which begins with the next byte: it is taken. Where memory is refused,
+    /// all stays as it is.
+    #[inline(always)]
+    pub fn begin_container(&mut self, shape: Shape) -> Result<(), Refused>
+        requires left { (s : Arrived) × IsLeft self.old s }
+        requires awaited { AwaitsValue self.old }
+        ensures taken { (s : Arrived) → (c : ℕ) → IsLeft self.old s → start_of c ≡ opening shape
+            → OnOk result (TakesByte self.new s c) }
+        ensures refused { (s : Arrived) → IsLeft self.old s → OnErr result (IsLeft self.new s) }
+    {
+        self.begin(shape)?;
+        Ok(())
     }
 
     /// The value that is awaited begins with the next byte. It takes no memory.

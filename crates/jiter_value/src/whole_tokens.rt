@@ -474,7 +474,7 @@ impl OpenDocument {
         }
     }
 
-    // Takes an opening bracket, and with it its closer, if that is the next byte of the piece.
+    // Takes an opening bracket, and with it its closer, if that is the next byte of the piece; or the blanks behind it.
     #[inline(always)]
     fn step_opening(&mut self, piece: &[u8], at: usize, shape: Shape) -> Result<usize, Refused>
         requires within { at < length piece.now }
@@ -487,10 +487,14 @@ impl OpenDocument {
         ensures refused { OnErr result (Stays self.old self.new) }
         ensures same { StaysSo self.old self.new }
     {
-        if !closes_at(piece, at + 1, shape) || !self.value.awaits_value() {
+        if !self.value.awaits_value() {
             return self.step_byte(piece, at);
         }
-        self.whole_value(piece, at, empty_value(self.alloc, shape), at + 2)
+        if closes_at(piece, at + 1, shape) {
+            return self.whole_value(piece, at, empty_value(self.alloc, shape), at + 2);
+        }
+        self.value.begin_container(shape)?;
+        Ok(past_blanks(piece, at + 1) - at)
     }
 
     // Takes a byte where no token is unfinished and no number begins, and with it what is whole there.
