@@ -9,7 +9,7 @@ use Rattle.std.proofs.lemmas.Option.{get_or_from_slice_get, slice_get-get_or, sl
 use Rattle.jiter_scan.proofs.Runs.{run_end-passes}
 use Rattle.jiter_scan.proofs.Standing.{slice-one, slice_range-split}
 use Rattle.jiter_steps.specs.Blank.{is_blank, past_blanks}
-use Rattle.jiter_steps.proofs.Grammar.Blanks.{no_blank-behind, past_blanks-bound}
+use Rattle.jiter_steps.proofs.Grammar.Blanks.{no_blank-behind, past_blanks-after, past_blanks-bound}
 use Rattle.jiter_value.specs.Names.{name_start}
 use Rattle.jiter_value.specs.OpenDocument.{HasArrived, HasTakenIn, HoldsScalar, Holding}
 use Rattle.jiter_value.specs.OpenDocument.{MayRefuseAt, Opened, anything, between_tokens, in_key, in_scalar}
@@ -19,6 +19,7 @@ use Rattle.jiter_value.specs.declared.names.Name.TheVariants as name
 use Rattle.jiter_value.specs.declared.open_document.OpenDocument.{OpenDocument}
 use Rattle.jiter_value.specs.declared.open_document.Token.{Token}
 use Rattle.jiter_value.specs.declared.open_document.Token.TheVariants as token
+use Rattle.jiter_value.proofs.DocumentBytes.{two-parts}
 use Rattle.jiter_value.proofs.DocumentEnds.{no-blank}
 use Rattle.jiter_value.proofs.DocumentTokens.{stands-last}
 use Rattle.jiter_value.proofs.Documents.{known-before, taken-between, takes-byte}
@@ -61,6 +62,16 @@ module _ (d : OpenDocument) (t : List ℕ) (h : HasTakenIn anything d t) (unset 
   run-taken n end le =
       let bound = past_blanks-bound s i le in
       blanks-taken n (omega arith) (λ k from to. run_end-passes is_blank s i k from (omega arith))
+
+-- Behind bytes of a piece that were taken the blanks are taken too.
+pub blanks-behind : (d : OpenDocument) (piece : List ℕ) (at e r : ℕ) (t : List ℕ) → at ≤ e → e ≤ length piece
+    → d.fault ≡ None → d.token ≡ token.Nothing → at + r ≡ past_blanks piece e
+    → HasTakenIn anything d (t ++ slice_range piece at e) → HasTakenIn anything d (t ++ slice_range piece at (at + r))
+blanks-behind d piece at e r t le within unset none is h =
+    let n = past_blanks piece e - e in
+    let all : e + n ≡ past_blanks piece e = omega (arith, past_blanks-after piece e) in
+    two-parts d piece at e n r t le (is ∙ sym all)
+    (run-taken d (t ++ slice_range piece at e) h unset none piece e n all within)
 
 -- a byte that is no blank is not passed
 blank-stops : (s : List ℕ) (i c : ℕ) → slice_get s i ≡ Some c → is_blank c ≡ false → past_blanks s 0 ≤ i

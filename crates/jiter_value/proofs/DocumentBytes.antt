@@ -6,17 +6,19 @@ use Rattle.jiter_scan.proofs.Standing.{slice-one, slice_range-split}
 use Rattle.jiter_steps.specs.Node.{nesting_limit}
 use Rattle.jiter_steps.specs.Tree.{Tree}
 use Rattle.jiter_scan.specs.declared.memory.Refused.{Refused}
-use Rattle.jiter_value.specs.Arrived.{Arrived}
-use Rattle.jiter_value.specs.OpenDocument.{EndsBefore, Follows, IsReadAs, IsScalarWithin, between_tokens, with_byte}
+use Rattle.jiter_value.specs.Arrived.{Arrived, at_value}
+use Rattle.jiter_value.specs.OpenDocument.{EndsBefore, Follows, IsReadAs, IsScalarWithin, Known, Next, between_tokens, in_scalar, with_byte}
 use Rattle.jiter_value.specs.OpenDocument.{BeginsHere, HasArrived, HasTakenIn, IsClosed, Meets, StandsAt, anything}
-use Rattle.jiter_value.specs.OpenValue.{BeginsKey, ClosesOne, Goes, IsLeft, TakesByte}
+use Rattle.jiter_value.specs.OpenValue.{BeginsItem, BeginsKey, BeginsValue, ClosesOne, Goes, IsLeft, TakesByte}
 use Rattle.jiter_value.specs.Spine.{OpenFrame}
 use Rattle.jiter_value.specs.declared.open_document.OpenDocument.{OpenDocument}
 use Rattle.jiter_value.specs.declared.open_document.Token.TheVariants as token
+use Rattle.jiter_value.specs.declared.open_value.Awaits.TheVariants as awaits
 use Rattle.jiter_value.specs.declared.open_value.OpenValue.{OpenValue}
 use Rattle.jiter_value.specs.declared.open_value.Went.{Went}
 use Rattle.jiter_value.specs.declared.open_value.Went.TheVariants as went
-use Rattle.jiter_value.proofs.Documents.{begins-here, between-before, known-before, stands-at, taken-between, takes-byte}
+use Rattle.jiter_value.proofs.Documents.{begins-here, between-before, known-before, moved, stands-at, taken-between, takes-byte}
+use Rattle.jiter_value.proofs.Documents.{value-here}
 
 -- the container that was closed
 closes : (old new : OpenValue) (w : Went) → ClosesOne old new w → IsClosed new w
@@ -42,6 +44,29 @@ meets c d v t h unset none (Ok w) goes one =
     }
 meets c d v t h unset none (Err e) goes one = tt
 
+-- Behind a value that was put, what is told of it is right, once the bytes of that are counted.
+pub meets-behind : (c : ℕ) (d : OpenDocument) (v : OpenValue) (j : ℕ) (t : List ℕ) (w : Went)
+    → HasTakenIn (with_byte c) d t → d.fault ≡ None → d.token ≡ token.Nothing → j ≡ length t
+    → ((s : Arrived) → IsLeft d.value s → Goes v s c w) → ClosesOne d.value v w
+    → Meets c (record d { value = v; position = j }) t w
+meets-behind c d v j t w h unset none place goes one =
+    let b = taken-between (with_byte c) (record d { position = j }) t (moved (with_byte c) d j t h) unset none in
+    record {
+      state = b.state;
+      stands = stands-at (record d { position = j }) v c t b.state b.known none unset place;
+      goes = goes b.state b.left;
+      closed = closes d.value v w one;
+    }
+
+-- A value begins with it.
+pub begins-value : (c : ℕ) (d : OpenDocument) (v : OpenValue) (t : List ℕ) → HasArrived d t → d.fault ≡ None
+    → d.token ≡ token.Nothing → BeginsItem c → ((s : Arrived) → IsLeft d.value s → BeginsValue v s)
+    → (fs : List OpenFrame) × BeginsHere c (record d { value = v }) t fs
+begins-value c d v t h unset none item begins =
+    let b = between-before c d t h unset none in
+    let g = begins b.state b.left in
+    (g.frames, value-here d v c t b.state b.known unset h.position item g)
+
 -- It is taken,
 pub meets-taken : (c : ℕ) (d : OpenDocument) (t : List ℕ) (w : Went) → Meets c d t w → w ≡ went.Taken
     → HasTakenIn anything d (t ++ c ∷ [])
@@ -59,6 +84,17 @@ meets-scalar c d t w m is =
 pub meets-key : (c : ℕ) (d : OpenDocument) (t : List ℕ) (w : Went) → Meets c d t w → w ≡ went.Key
     → (s : Arrived) × StandsAt c d t s × BeginsKey d.value s c
 meets-key c d t w m is = (m.state, m.stands, subst (Goes d.value m.state c) is m.goes)
+
+-- A scalar was put that ends before the byte c.
+pub put-before : (d e : OpenDocument) (v : Tree)
+    → ((n m : Next) (t w : List ℕ) (fs : List OpenFrame) (b : ℕ) → Known n d t (in_scalar fs b) → Follows n w m
+    → d.fault ≡ None → IsLeft d.value (at_value awaits.Value fs) → IsReadAs d m (t ++ w) (length fs) b v
+    → HasTakenIn m e (t ++ w))
+    → (t w : List ℕ) (c : ℕ) (fs : List OpenFrame) → EndsBefore d t w c fs v → HasTakenIn (with_byte c) e (t ++ w)
+put-before d e v puts t w c fs h =
+    let next = with_byte c in
+    let follows : Follows (with_byte h.first) w next = λ u comes. (h.rest ++ u, ap (λ x. x ++ u) h.is) in
+    puts (with_byte h.first) next t w fs (length t) h.begins.known follows h.begins.unset h.begins.left h.reads
 
 -- It is taken alone.
 pub one-byte : (e : OpenDocument) (piece : List ℕ) (at : ℕ) (t : List ℕ) → at < length piece

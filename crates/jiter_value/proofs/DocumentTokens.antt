@@ -48,7 +48,7 @@ use Rattle.jiter_value.specs.OpenDocument.{Holding, HoldsMinus, HoldsScalar, Hol
 use Rattle.jiter_value.specs.OpenDocument.{IsReadAs, IsReading, IsRefused, Known, NameBegins, Next, Opened, ReadsAt}
 use Rattle.jiter_value.specs.OpenDocument.{StandsAt, TakenFrom, WordBegins, anything, between_tokens, in_key, in_scalar}
 use Rattle.jiter_value.specs.OpenDocument.{opened_to, own_number, strictly, with_byte}
-use Rattle.jiter_value.specs.OpenValue.{BeginsKey, IsLeft}
+use Rattle.jiter_value.specs.OpenValue.{BeginsItem, BeginsKey, IsLeft}
 use Rattle.jiter_value.specs.Owned.{owned_text, tree_as}
 use Rattle.jiter_value.specs.Settings.{answer_as, rules_as}
 use Rattle.jiter_value.specs.Spine.{OpenFrame, HasRoomInside}
@@ -107,7 +107,7 @@ module _ (p : Settings) (t : List ℕ) where
       if_case (λ (f : Kind → Bool). f k ≡ false) (is_active p.mode) is_forgiven nothing_forgiven (λ on. h) (λ off. refl)
 
   module _ (depth b c : ℕ) (few : depth ≤ 200) (here : slice_get t b ≡ Some c) where
-    begins-so : (s : Start) → start_of c ≡ s
+    pub begins-so : (s : Start) → start_of c ≡ s
         → value_in r t depth b ≡ value_with r (inside_at r t (201 - depth - 1)) t b s
     begins-so s h =
         inside_at-starts r t (201 - depth) b s (omega (arith, few)) (ap start_of (get_or_from_slice_get t b c 0 here) ∙ h)
@@ -756,6 +756,9 @@ module _ (d : OpenDocument) (t : List ℕ) (x : Unfinished d t token.Number) (c 
 pub decimal-starts : (c : ℕ) → begins_decimal c ≡ true → start_of c ≡ start.Number
 decimal-starts c h = grind (arith, nat_tests, h)
 
+pub decimal-item : (c : ℕ) → begins_decimal c ≡ true → BeginsItem c
+decimal-item c h = (grind (arith, nat_tests, h), grind (arith, nat_tests, h))
+
 -- the bytes of a piece from a place on begin with the one there
 pub range-first : (piece : List ℕ) (at e : ℕ) → at < e → e ≤ length piece
     → slice_range piece at e ≡ get_or piece at 0 ∷ slice_range piece (at + 1) e
@@ -818,3 +821,8 @@ range-more piece at e le h =
     sym
     (slice_range-split piece at e le (e + 1) (omega arith)
     ∙ ap (λ w. slice_range piece at e ++ w) (slice-one piece e (get_or piece e 0) (slice_get-get_or piece e 0 h)))
+
+pub range-behind : (t piece : List ℕ) (at e : ℕ) → at ≤ e → e < length piece
+    → (t ++ slice_range piece at e) ++ get_or piece e 0 ∷ [] ≡ t ++ slice_range piece at (e + 1)
+range-behind t piece at e le h =
+    append_assoc t (slice_range piece at e) (get_or piece e 0 ∷ []) ∙ ap (λ w. t ++ w) (range-more piece at e le h)

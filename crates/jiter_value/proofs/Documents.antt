@@ -1,5 +1,5 @@
 -- What a document that arrives in pieces knows of its bytes, where some are taken.
-use Rattle.std.proofs.Common.{◌≡◌, ℕ, ◌+◌, ◌-◌, ◌<◌, true, false, List, [], ◌∷◌, ◌++◌, length, get_or}
+use Rattle.std.proofs.Common.{◌≡◌, ℕ, ◌+◌, ◌-◌, ◌<◌, ◌≤◌, true, false, List, [], ◌∷◌, ◌++◌, length, get_or}
 use Rattle.std.proofs.Common.{refl, sym, subst, ap, ◌∙◌, arith, append_assoc, inl, inr, length-append}
 use Rattle.std.specs.Prelude.{slice_get, Option, Some, None}
 use Rattle.std.proofs.Math.Seq.{get_or-append_seam}
@@ -25,11 +25,11 @@ use Rattle.jiter_value.specs.OpenDocument.{EndsRight, Follows, HasTakenIn, IsAns
 use Rattle.jiter_value.specs.OpenDocument.{Next, Comes, Opened, ReadsAt, between_tokens, in_scalar, noted_in, opened_to}
 use Rattle.jiter_value.specs.OpenDocument.{BeginsAs, HasArrived, HoldsWord, IsAllowed, IsOver}
 use Rattle.jiter_value.specs.OpenDocument.{BeginsHere, Holding, in_key, HoldsScalar, StandsAt, anything, strictly, with_byte, with_first}
-use Rattle.jiter_value.specs.OpenValue.{Goes, IsEnding, ClosesBefore, ClosesOver}
+use Rattle.jiter_value.specs.OpenValue.{BeginsItem, BeginsValue, Goes, IsEnding, ClosesBefore, ClosesOver}
 use Rattle.jiter_value.specs.OpenValue.{BeginsScalar, EndsHere, Everywhere, IsLeft, TakesByte, behind_value, completed, passed}
 use Rattle.jiter_value.specs.Names.{name_start}
 use Rattle.jiter_value.specs.Settings.{answer_as, rules_as}
-use Rattle.jiter_value.specs.Spine.{OpenFrame}
+use Rattle.jiter_value.specs.Spine.{HasRoomInside, OpenFrame}
 use Rattle.jiter_value.specs.Stacks.{PartTree}
 use Rattle.jiter_value.specs.declared.open_document.OpenDocument.{OpenDocument}
 use Rattle.jiter_value.specs.declared.open_document.Token.{Token}
@@ -347,32 +347,48 @@ takes-byte d v c t s k none g =
       held = λ unset. (none, g.left);
     }
 
--- A scalar begins with it.
-pub begins-here : (d : OpenDocument) (v : OpenValue) (c : ℕ) (t : List ℕ) (s : Arrived)
+-- Inside these containers it begins.
+begins-in : (d : OpenDocument) (v : OpenValue) (c : ℕ) (t : List ℕ) (s : Arrived) (fs : List OpenFrame)
     → Known (with_byte c) d t (between_tokens s) → d.fault ≡ None → d.position ≡ length t
-    → (g : BeginsScalar v s c) → BeginsHere c (record d { value = v }) t g.frames
-begins-here d v c t s k unset place g =
+    → IsLeft v (at_value awaits.Value fs) → length fs ≤ 200 → HasRoomInside v.spine.items
+    → Everywhere c (λ p u j. completed p u s j ≡ value_from (rules_as owned p) u fs j)
+    → BeginsHere c (record d { value = v }) t fs
+begins-in d v c t s fs k unset place left low room goes =
     let new = record d { value = v } in
     let n = with_byte c in
-    let o' = in_scalar g.frames (length t) in
+    let o' = in_scalar fs (length t) in
     let on : Known n d t o' =
     known-here n d t (between_tokens s) o' k
     (λ p reading u comes.
     let at : slice_get (t ++ u) (length t) ≡ Some c =
     subst (λ v. slice_get (t ++ v) (length t) ≡ Some c) (sym comes.1) (before-here c t comes.0) in
-    g.goes p (t ++ u) (length t) at)
+    goes p (t ++ u) (length t) at)
     (λ first. tt) in
     record {
       known = known-as n d new t o' refl refl refl on;
-      left = g.left;
-      low = g.low;
-      room = g.room;
+      left = left;
+      low = low;
+      room = room;
       unset = unset;
       position = place;
     }
   where
     before-here : (c : ℕ) (t u : List ℕ) → slice_get (t ++ c ∷ u) (length t) ≡ Some c
     before-here c t u = subst (λ v. slice_get v (length t) ≡ Some c) (append_assoc t (c ∷ []) u) (byte-here c t u)
+
+-- A scalar begins with it,
+pub begins-here : (d : OpenDocument) (v : OpenValue) (c : ℕ) (t : List ℕ) (s : Arrived)
+    → Known (with_byte c) d t (between_tokens s) → d.fault ≡ None → d.position ≡ length t
+    → (g : BeginsScalar v s c) → BeginsHere c (record d { value = v }) t g.frames
+begins-here d v c t s k unset place g =
+    begins-in d v c t s g.frames k unset place g.left g.low g.room g.goes
+
+-- or a value that is awaited.
+pub value-here : (d : OpenDocument) (v : OpenValue) (c : ℕ) (t : List ℕ) (s : Arrived)
+    → Known (with_byte c) d t (between_tokens s) → d.fault ≡ None → d.position ≡ length t → BeginsItem c
+    → (g : BeginsValue v s) → BeginsHere c (record d { value = v }) t g.frames
+value-here d v c t s k unset place item g =
+    begins-in d v c t s g.frames k unset place g.left g.low g.room (g.goes c item)
 
 -- It stands where the value has moved on already.
 pub stands-at : (d : OpenDocument) (v : OpenValue) (c : ℕ) (t : List ℕ) (s : Arrived)

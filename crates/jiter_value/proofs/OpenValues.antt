@@ -3,6 +3,7 @@ use Rattle.std.proofs.Common.{◌≡◌, ℕ, suc, ◌+◌, ◌-◌, ◌<◌, �
 use Rattle.std.proofs.Common.{refl, sym, subst, ap, ◌∙◌, ◌++◌, arith, map, add-one, append_assoc, inl, inr, length-append, Vec, Global}
 use Rattle.std.proofs.Math.Seq.{get_or-append_seam}
 use Rattle.std.proofs.lemmas.Bool.{eq-eqb, ne_eqb, eqb-true}
+use Rattle.std.proofs.lemmas.Bool.Decides.{nat_tests}
 use Rattle.std.proofs.lemmas.List.{length-map}
 use Rattle.std.specs.Prelude.{slice_get, Option, Some, None, Result, Ok, Err, IfOk}
 use Rattle.jiter_scan.specs.declared.memory.Refused.{Refused}
@@ -38,7 +39,7 @@ use Rattle.jiter_value.specs.Arrived.{Arrived, at_value, between_parts, at_end, 
 use Rattle.jiter_value.specs.Arrived.{container_of, end_of, owned, HasRead, IsBeforeValue, IsBetweenParts, Holds}
 use Rattle.jiter_value.specs.OpenValue.{behind_value, completed, IsLeft, Everywhere, EndsHere, TakesByte, BeginsScalar}
 use Rattle.jiter_value.specs.OpenValue.{BeginsKey, ClosesBefore, ClosesOver, Goes, ReadsOn, passed, text_of, IsScalarStart}
-use Rattle.jiter_value.specs.OpenValue.{IsBehind, IsEnding}
+use Rattle.jiter_value.specs.OpenValue.{AwaitsValue, BeginsItem, BeginsValue, IsBeforePart, IsBehind, IsEnding, IsSeenAs, ValueAt}
 use Rattle.jiter_value.specs.Settings.{rules_as}
 use Rattle.jiter_value.specs.Spine.{OpenFrame, around, begun, parents_of, spine_of, AwaitsPart, IsOfKey, HasRoomInside, HasValue, StandsFor, filled}
 use Rattle.jiter_value.specs.Stacks.{PartTree, built, empty_tree}
@@ -494,6 +495,124 @@ between-parts v a (between_parts b k xs fs) is inside h = record {
   left = h.2;
 }
 between-parts v a (at_end x n) is inside h = absurd (subst IsBetweenParts (sym is ∙ h.0) inside)
+
+-- Where a value is awaited, or a part of an array, whichever byte begins an item begins a value.
+pub value-at : (v : OpenValue) (s : Arrived) → v.awaits ≡ awaits.Value → IsLeft v s → ValueAt v s
+value-at v s is left =
+    let a = at-value v awaits.Value s is tt left in
+    record {
+      frames = a.frames;
+      spine = a.left;
+      key = a.key;
+      goes = λ c item p t j here.
+          ap (λ x. completed p t x j) a.all ∙ value-here p t j c here item.0 a.frames;
+    }
+
+row-item : (a : Awaits) (c : ℕ) → IsBeforePart a → begins_part shape.Array c ≡ true
+    → (p : Settings) (t : List ℕ) (j : ℕ) → part_row (rules_as owned p) t a shape.Array j (Some c) ≡ more j
+row-item awaits.First c before begins p t j = if-true (begins_part shape.Array c) _ _ begins
+row-item awaits.Next c before begins p t j = if-true (begins_part shape.Array c) _ _ begins
+row-item a c before begins p t j = absurd before
+
+pub before-part : (a : Awaits) → (a ≡ awaits.First) ⊎ (a ≡ awaits.Next) → IsBeforePart a
+before-part a (inl is) = subst IsBeforePart (sym is) tt
+before-part a (inr is) = subst IsBeforePart (sym is) tt
+
+between-of : (a : Awaits) → IsBeforePart a → IsBetweenParts a
+between-of awaits.First before = tt
+between-of awaits.Next before = tt
+between-of a before = absurd before
+
+object-array : shape.Object ≡ shape.Array → ⊥
+object-array h = cc
+
+item-at : (v : OpenValue) (s : Arrived) (h : Shape) (xs : List (PartTree h)) (fs : List OpenFrame) → IsBeforePart v.awaits
+    → h ≡ shape.Array → s ≡ between_parts v.awaits h xs fs → map view v.spine.items ≡ spine_of fs (built h xs)
+    → ValueAt v s
+item-at v s shape.Array xs fs before _ all left = record {
+  frames = items_frame xs ∷ fs;
+  spine = left;
+  key = tt;
+  goes = λ c item p t j here.
+      ap (λ x. completed p t x j) all
+      ∙ item-begins p t j c here item.0 v.awaits xs fs (row-item v.awaits c before item.1 p t j)
+      ∙ value-here p t j c here item.0 (items_frame xs ∷ fs);
+}
+item-at v s shape.Object xs fs before same all left = absurd (object-array same)
+
+pub item-awaited : (v : OpenValue) (s : Arrived) → IsBeforePart v.awaits
+    → ((h : Shape) (xs : List (PartTree h)) (fs : List OpenFrame)
+    → map view v.spine.items ≡ spine_of fs (built h xs) → h ≡ shape.Array)
+    → IsLeft v s → ValueAt v s
+item-awaited v s before array left =
+    let b = between-parts v v.awaits s refl (between-of v.awaits before) left in
+    item-at v s b.shape b.parts b.frames before (array b.shape b.parts b.frames b.left) b.all b.left
+
+-- There it begins.
+pub begins-value : (v : OpenValue) (s : Arrived) (at : ValueAt v s) → length at.frames ≤ 200
+    → HasRoomInside v.spine.items → BeginsValue (record v { awaits = awaits.Value }) s
+begins-value v s at low room = record {
+  frames = at.frames;
+  left = (refl, tt, at.spine, at.key);
+  low = low;
+  room = room;
+  goes = at.goes;
+}
+
+-- A container begins there with its bracket.
+pub opens-item : (h : Shape) (c : ℕ) → start_of c ≡ opening h → BeginsItem c
+opens-item shape.Array c h = let is : c ≡ 91 = grind (arith, nat_tests, h) in subst BeginsItem (sym is) (refl, refl)
+opens-item shape.Object c h = let is : c ≡ 123 = grind (arith, nat_tests, h) in subst BeginsItem (sym is) (refl, refl)
+
+pub opens-value : (old new : OpenValue) (s : Arrived) (c : ℕ) (h : Shape) (at : ValueAt old s)
+    → length at.frames ≤ 200 → start_of c ≡ opening h → IsLeft new (between_parts awaits.First h [] at.frames)
+    → TakesByte new s c
+opens-value old new s c h at low starts left =
+    let item = opens-item h c starts in
+    record {
+      next = between_parts awaits.First h [] at.frames;
+      left = left;
+      ends = tt;
+      goes = λ p t j here.
+          at.goes c item p t j here ∙ sym (value-here p t j c here item.0 at.frames)
+          ∙ value-begins p t j c here item.0 h at.frames low starts;
+    }
+
+-- A value that is seen as another leaves the same open, and awaits the same.
+spine-empty : (old new : List JsonValue) → map view new ≡ map view old → old ≡ [] → new ≡ []
+spine-empty old [] same none = refl
+spine-empty old (v ∷ vs) same none = let is = same ∙ ap (map view) none in absurd (cc)
+
+pub seen-left : (old new : OpenValue) (s : Arrived) → IsSeenAs old new → IsLeft old s → IsLeft new s
+seen-left old new (at_value a fs) h left = (
+  h.awaits ∙ left.0,
+  left.1,
+  awaits-same fs old.spine.items new.spine.items h.spine left.2,
+  subst (λ k. IsOfKey (text_view k) fs) (sym h.key) left.3,
+)
+seen-left old new (between_parts a k xs fs) h left = (h.awaits ∙ left.0, left.1, h.spine ∙ left.2)
+seen-left old new (at_end x n) h left = (
+  h.awaits ∙ left.0,
+  spine-empty old.spine.items new.spine.items h.spine left.1,
+  ap view h.root ∙ left.2,
+)
+
+seen-back : (old new : OpenValue) → IsSeenAs old new → IsSeenAs new old
+seen-back old new h =
+    record { spine = sym h.spine; root = sym h.root; key = sym h.key; awaits = sym h.awaits }
+
+pub seen-awaits : (old new : OpenValue) → IsSeenAs old new → AwaitsValue old → AwaitsValue new
+seen-awaits old new h awaited = λ s left.
+    let x = awaited s (seen-left new old s (seen-back old new h) left) in
+    let at = x.0 in (
+      record {
+        frames = at.frames;
+        spine = awaits-same at.frames old.spine.items new.spine.items h.spine at.spine;
+        key = subst (λ k. IsOfKey (text_view k) at.frames) (sym h.key) at.key;
+        goes = at.goes;
+      },
+      x.1,
+    )
 
 -- Behind a part a comma is awaited, or the end.
 at-comma : (a : Awaits) → IsBehind a → ¬ (a ≡ awaits.Nothing) → a ≡ awaits.Comma

@@ -173,6 +173,10 @@ pub record Meets (c : ℕ) (d : OpenDocument) (t : List ℕ) (w : Went) : Type 0
   pub goes : Goes d.value state c w
   pub closed : IsClosed d.value w
 
+-- It comes behind a scalar of so many bytes, which are not counted yet.
+abbrev pub MeetsBehind : ℕ → ℕ → OpenDocument → List ℕ → Went → Type 0
+MeetsBehind n c d t w = Meets c (record d { position = d.position + n }) t w
+
 -- A scalar begins with the byte c, which comes next, inside these containers.
 pub record BeginsHere (c : ℕ) (d : OpenDocument) (t : List ℕ) (fs : List OpenFrame) : Type 0 where
   pub known : Known (with_byte c) d t (in_scalar fs (length t))

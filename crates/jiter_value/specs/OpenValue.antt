@@ -9,7 +9,7 @@ use Rattle.jiter_steps.specs.Frames.{items_frame, members_frame, value_from, key
 use Rattle.jiter_steps.specs.Literal.{start_of}
 use Rattle.jiter_steps.specs.Node.{nesting_limit}
 use Rattle.jiter_steps.specs.Read.{Reading, fault}
-use Rattle.jiter_steps.specs.Step.{Step, more, closed, stuck}
+use Rattle.jiter_steps.specs.Step.{Step, begins_part, more, closed, stuck}
 use Rattle.jiter_steps.specs.StringDecoder.{text_view}
 use Rattle.jiter_steps.specs.Tree.{Text, Tree, object, members_of}
 use Rattle.jiter_steps.specs.declared.parse.Shape.TheVariants as shape
@@ -96,6 +96,38 @@ pub record BeginsScalar (new : OpenValue) (s : Arrived) (c : ℕ) : Type 0 where
   pub starts : IsScalarStart (start_of c)
   pub room : HasRoomInside new.spine.items
   pub goes : Everywhere c (λ p t j. completed p t s j ≡ value_from (rules_as owned p) t frames j)
+
+-- an item may begin with the byte: it is no blank, and ends no array
+abbrev pub BeginsItem : ℕ → Type 0
+BeginsItem c = (is_blank c ≡ false) × (begins_part shape.Array c ≡ true)
+
+-- Inside these containers a value is awaited, whichever byte it begins with.
+pub record ValueAt (v : OpenValue) (s : Arrived) : Type 0 where
+  pub frames : List OpenFrame
+  pub spine : AwaitsPart v.spine.items frames
+  pub key : IsOfKey (text_view v.key) frames
+  pub goes : (c : ℕ) → BeginsItem c
+      → Everywhere c (λ p t j. completed p t s j ≡ value_from (rules_as owned p) t frames j)
+
+-- It is, and within the limit.
+abbrev pub AwaitsValue : OpenValue → Type 0
+AwaitsValue v = (s : Arrived) → IsLeft v s → (at : ValueAt v s) × (length at.frames ≤ nesting_limit)
+
+-- The open containers are seen as they were, and all else is the same.
+pub record IsSeenAs (old new : OpenValue) : Type 0 where
+  pub spine : map view new.spine.items ≡ map view old.spine.items
+  pub root : new.root ≡ old.root
+  pub key : new.key ≡ old.key
+  pub awaits : new.awaits ≡ old.awaits
+
+-- There it begins, and there is room for it.
+pub record BeginsValue (new : OpenValue) (s : Arrived) : Type 0 where
+  pub frames : List OpenFrame
+  pub left : IsLeft new (at_value awaits.Value frames)
+  pub low : length frames ≤ nesting_limit
+  pub room : HasRoomInside new.spine.items
+  pub goes : (c : ℕ) → BeginsItem c
+      → Everywhere c (λ p t j. completed p t s j ≡ value_from (rules_as owned p) t frames j)
 
 -- A key begins with the byte, in an object that has these members.
 pub record BeginsKey (new : OpenValue) (s : Arrived) (c : ℕ) : Type 0 where

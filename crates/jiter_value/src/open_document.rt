@@ -389,36 +389,24 @@ impl OpenDocument {
         matches!(self.token, Token::Nothing) && self.value.is_whole()
     }
 
-    // Whether no byte changes the answers any more.
+    // Whether no byte changes the answers any more. Where there is a fault, one was noted.
     #[inline(always)]
     fn is_over(&self) -> bool
+        requires { (t : List ℕ) × HasArrived self.now t }
         ensures over { result ≡ true → IsOver self.now }
         ensures unset { result ≡ false → self.now.fault ≡ None }
     {
-        self.fault.is_some() || self.first.is_some() && self.is_done()
-    }
-
-    // How many blanks stand at a place of a piece, if no token is unfinished there: they are taken.
-    #[inline(always)]
-    fn blanks_behind(&self, piece: &[u8], at: usize) -> usize
-        requires within { at ≤ length piece.now }
-        ensures taken { (t : List ℕ) → HasTakenIn anything self.now t
-            → HasTakenIn anything self.now (t ++ slice_range piece.now at (at + result)) }
-        ensures part { at + result ≤ length piece.now }
-    {
-        if self.fault.is_some() {
-            return 0;
-        }
-        match self.token {
-            Token::Nothing => past_blanks(piece, at) - at,
-            _ => 0,
+        match self.first {
+            None => false,
+            Some(_) => self.fault.is_some() || self.is_done(),
         }
     }
 
-    // Takes a run of blanks, or another byte and what is whole there, where no token is unfinished.
+    // Takes a run of blanks, or another byte and what is whole there, where no token is unfinished and no number begins.
     #[inline(always)]
-    fn take_between(&mut self, piece: &[u8], at: usize) -> Result<usize, Refused>
+    fn take_other(&mut self, piece: &[u8], at: usize) -> Result<usize, Refused>
         requires within { at < length piece.now }
+        requires named { begins_decimal (slice_index piece.now at) ≡ false }
         requires token { IsIn self.old Token.Nothing }
         requires room { self.old.position + (length piece.now - at) < 2 ^ 64 }
         ensures taken { IfOk result (λ n. Takes self.old self.new (slice_range piece.now at (at + n))) }
@@ -431,8 +419,48 @@ impl OpenDocument {
         if at < end {
             return Ok(end - at);
         }
-        let count = self.step(piece, at)?;
-        Ok(count + self.blanks_behind(piece, at + count))
+        self.step(piece, at)
+    }
+
+    // Takes a run of blanks, or another byte and what is whole there, where no token is unfinished. A number is asked for
+    // first.
+    #[inline(always)]
+    fn take_between(&mut self, piece: &[u8], at: usize) -> Result<usize, Refused>
+        requires within { at < length piece.now }
+        requires token { IsIn self.old Token.Nothing }
+        requires room { self.old.position + (length piece.now - at) < 2 ^ 64 }
+        ensures taken { IfOk result (λ n. Takes self.old self.new (slice_range piece.now at (at + n))) }
+        ensures part { IfOk result (λ n. (0 < n) × (at + n ≤ length piece.now)) }
+        ensures refused { OnErr result (Stays self.old self.new) }
+        ensures wanted { OnErr result (is_blank (slice_index piece.now at) ≡ false) }
+        ensures same { StaysSo self.old self.new }
+    {
+        if !begins_decimal(piece[at]) {
+            return self.take_other(piece, at);
+        }
+        self.step_number(piece, at)
+    }
+
+    // Takes bytes of the token that is unfinished.
+    #[inline(always)]
+    fn take_token(&mut self, piece: &[u8], at: usize) -> Result<usize, Refused>
+        requires within { at < length piece.now }
+        requires arrived { (t : List ℕ) × HasArrived self.old t }
+        requires unset { self.old.fault ≡ None }
+        requires token { ¬ (self.old.token ≡ Token.Nothing) }
+        requires room { self.old.position + (length piece.now - at) < 2 ^ 64 }
+        ensures taken { IfOk result (λ n. Takes self.old self.new (slice_range piece.now at (at + n))) }
+        ensures part { IfOk result (λ n. (0 < n) × (at + n ≤ length piece.now)) }
+        ensures refused { OnErr result (Stays self.old self.new) }
+        ensures same { StaysSo self.old self.new }
+    {
+        match self.token {
+            Token::Nothing => unreachable!(),
+            Token::Word => self.take_word(piece[at]),
+            Token::Number => return self.take_number(piece, at),
+            _ => return self.take_string(piece, at),
+        }
+        Ok(1)
     }
 
     // Takes bytes, and does not count them yet.
@@ -452,12 +480,9 @@ impl OpenDocument {
             return Ok(piece.len() - at);
         }
         match self.token {
-            Token::Nothing => return self.take_between(piece, at),
-            Token::Word => self.take_word(piece[at]),
-            Token::Number => return self.take_number(piece, at),
-            _ => return self.take_string(piece, at),
+            Token::Nothing => self.take_between(piece, at),
+            _ => self.take_token(piece, at),
         }
-        Ok(1)
     }
 
     /// Takes bytes of a piece from the place `at` on, and says how many: at least one. Where memory is refused, all

@@ -12,9 +12,11 @@ ghost use Rattle.jiter_steps.specs.Frames.{key_from, members_frame, value_from, 
 ghost use Rattle.jiter_steps.specs.Read.{done, fault};
 ghost use Rattle.jiter_steps.specs.Tree.{Text, Tree, members_of, object};
 ghost use Rattle.jiter_steps.specs.Blank.{is_blank};
-ghost use Rattle.jiter_steps.specs.Step.{begins_part, more};
+ghost use Rattle.jiter_steps.specs.Literal.{start_of};
+ghost use Rattle.jiter_steps.specs.Step.{begins_part, more, opening};
 ghost use Rattle.jiter_steps.specs.StringDecoder.{text_view};
 ghost use Rattle.jiter_value.specs.Arrived.{Arrived, HasRead, at_value, between_parts, end_of, owned, part_row, shown};
+ghost use Rattle.jiter_value.specs.OpenValue.{AwaitsValue, BeginsValue, IsSeenAs};
 ghost use Rattle.jiter_value.specs.OpenValue.{ClosesOne, ClosesOver, Goes, IsApartAs, IsBeforePart, IsBehind, IsEnding};
 ghost use Rattle.jiter_value.specs.OpenValue.{IsLeft, IsPutTogether, IsRightSign, IsShown, ReadsOn, behind_value};
 ghost use Rattle.jiter_value.specs.OpenValue.{TakesByte, completed, step_by, text_of};
@@ -140,6 +142,17 @@ fn shape_inside(spine: &Vec<JsonValue<'_>>) -> Shape
         JsonValue::Object(_) => Shape::Object,
         _ => unreachable!(),
     }
+}
+
+// Whether the innermost container is an array.
+#[inline(always)]
+fn is_array_inside(spine: &Vec<JsonValue<'_>>) -> bool
+    requires { (h : Shape) × (xs : List (PartTree h)) × (fs : List OpenFrame)
+        × (map view spine.now.items ≡ spine_of fs (built h xs)) }
+    ensures { result ≡ true → (h : Shape) → (xs : List (PartTree h)) → (fs : List OpenFrame)
+        → map view spine.now.items ≡ spine_of fs (built h xs) → h ≡ Shape.Array }
+{
+    matches!(shape_inside(spine), Shape::Array)
 }
 
 // What is awaited behind a value inside these containers.
@@ -291,6 +304,57 @@ impl OpenValue {
             }
             Sign::Wrong(kind) => Ok(Went::Wrong(kind)),
         }
+    }
+
+    /// Whether a value is awaited where the next byte stands, within the limit: the document's, a member's or an item.
+    #[inline(always)]
+    pub fn awaits_value(&self) -> bool
+        requires { (s : Arrived) × IsLeft self.now s }
+        ensures { result ≡ true → AwaitsValue self.now }
+    {
+        if self.spine.len() > NESTING_LIMIT {
+            return false;
+        }
+        match self.awaits {
+            Awaits::Value => true,
+            Awaits::First | Awaits::Next => is_array_inside(&self.spine),
+            _ => false,
+        }
+    }
+
+    /// Room for the value that is awaited. All else stays as it is.
+    #[inline(always)]
+    pub fn make_room(&mut self) -> Result<(), Refused>
+        requires left { (s : Arrived) × IsLeft self.old s }
+        requires awaited { AwaitsValue self.old }
+        ensures same { IsSeenAs self.old self.new }
+        ensures room { OnOk result (HasRoomInside self.new.spine.items) }
+    {
+        make_room_inside(&mut self.spine)
+    }
+
+    /// The value that is awaited is a container, which begins with the next byte: it is taken. Where memory is refused,
+    /// all stays as it is.
+    #[inline(always)]
+    pub fn begin_container(&mut self, shape: Shape) -> Result<(), Refused>
+        requires left { (s : Arrived) × IsLeft self.old s }
+        requires awaited { AwaitsValue self.old }
+        ensures taken { (s : Arrived) → (c : ℕ) → IsLeft self.old s → start_of c ≡ opening shape
+            → OnOk result (TakesByte self.new s c) }
+        ensures refused { (s : Arrived) → IsLeft self.old s → OnErr result (IsLeft self.new s) }
+    {
+        self.begin(shape)?;
+        Ok(())
+    }
+
+    /// The value that is awaited begins with the next byte. It takes no memory.
+    #[inline(always)]
+    pub fn begin_value(&mut self)
+        requires awaited { AwaitsValue self.old }
+        requires room { HasRoomInside self.old.spine.items }
+        ensures begins { (s : Arrived) → IsLeft self.old s → BeginsValue self.new s }
+    {
+        self.awaits = Awaits::Value;
     }
 
     /// Whether the document's value is whole.

@@ -1,20 +1,23 @@
-//! A number, a literal, a string or a key that lies whole in a piece of a document that arrives (RFC 8259, 3, 6 and 7): it
-//! is taken at once.
-ghost use Rattle.std.specs.Prelude.{◌≡◌, ◌+◌, ◌-◌, ◌^◌, ◌<◌, ◌≤◌, ◌∷◌, ◌++◌, [], IfOk, IfSome, List, OnErr, length};
-ghost use Rattle.std.specs.Prelude.{None, false, slice_index, slice_range, string_bytes, true, ℕ};
+//! A number, a literal, a string, a key or an empty container that lies whole in a piece of a document that arrives (RFC
+//! 8259, 3 to 7): it is taken at once.
+ghost use Rattle.std.specs.Prelude.{◌≡◌, ◌+◌, ◌-◌, ◌^◌, ◌<◌, ◌≤◌, ◌∷◌, ◌++◌, [], IfOk, IfSome, List, OnErr, OnOk, length};
+ghost use Rattle.std.specs.Prelude.{None, Some, false, slice_get, slice_index, slice_range, string_bytes, true, ℕ};
 ghost use Rattle.std.specs.Str.{IsAscii};
 ghost use Rattle.jiter_scan.specs.NumberDecoder.{number_view};
 ghost use Rattle.jiter_scan.specs.OpenNumber.{HoldsNumber, begins_decimal};
 ghost use Rattle.jiter_steps.specs.Literal.{start_of};
 ghost use Rattle.jiter_steps.specs.Node.{number_tree};
+ghost use Rattle.jiter_steps.specs.Step.{closer_of, opening};
 ghost use Rattle.jiter_steps.specs.Tree.{float, int};
 ghost use Rattle.jiter_steps.specs.OpenString.{IsTextWithin};
 ghost use Rattle.jiter_steps.specs.declared.parse.Start.{Start};
 ghost use Rattle.jiter_value.specs.OpenDocument.{BeginsHere, EndsBefore, HasArrived, HasTakenIn, IsIn};
 ghost use Rattle.jiter_value.specs.OpenDocument.{IsNumberWithin, IsScalarWithin};
-ghost use Rattle.jiter_value.specs.OpenDocument.{Meets, Stays, StaysSo, Takes, anything};
+ghost use Rattle.jiter_value.specs.OpenDocument.{Meets, MeetsBehind, Stays, StaysSo, Takes, anything};
+ghost use Rattle.jiter_value.specs.OpenValue.{AwaitsValue, BeginsItem, IsEnding};
 ghost use Rattle.jiter_value.specs.Owned.{owned_text, tree_as};
-ghost use Rattle.jiter_value.specs.Spine.{OpenFrame};
+ghost use Rattle.jiter_value.specs.Spine.{HasRoomInside, OpenFrame};
+ghost use Rattle.jiter_value.specs.Stacks.{empty_tree};
 ghost use Rattle.jiter_value.specs.Value.{view};
 ghost use Rattle.jiter_value.specs.declared.open_document.Token.{Token};
 ghost use Rattle.jiter_value.specs.declared.open_value.Awaits.{Awaits};
@@ -30,9 +33,11 @@ use jiter_scan::memory::Refused;
 use jiter_scan::number_within::{ShortWithin, number_within, short_within};
 use jiter_scan::text::ascii_text;
 use jiter_scan::{NumberAny, NumberInt};
+use jiter_steps::blank::past_blanks;
 use jiter_steps::open_string::text_within;
-use jiter_steps::parse::{Literal, Start, start_of};
+use jiter_steps::parse::{Literal, Shape, Start, start_of};
 use jiter_steps::plain::plain_literal_end;
+use std::alloc::Global;
 
 // A number that is not known to be short is looked for where so many bytes are left in a piece.
 const LONG_REACH: usize = 33;
@@ -68,6 +73,25 @@ fn short_float(bytes: &[u8]) -> Option<JsonValue<'static>>
     Some(JsonValue::Float(NumberText::short(ascii_text(bytes))?))
 }
 
+// Whether the container's closer stands at a place of a piece.
+#[inline(always)]
+fn closes_at(piece: &[u8], at: usize, shape: Shape) -> bool
+    ensures { result ≡ true → slice_get piece.now at ≡ Some (closer_of shape) }
+{
+    at < piece.len() && piece[at] == shape.closer()
+}
+
+// A container with no part. It takes no memory.
+#[inline(always)]
+fn empty_value(alloc: Global, shape: Shape) -> JsonValue<'static>
+    ensures { view result ≡ empty_tree shape }
+{
+    match shape {
+        Shape::Array => JsonValue::Array(Vec::new(alloc)),
+        Shape::Object => JsonValue::Object(Vec::new(alloc)),
+    }
+}
+
 impl OpenDocument {
     // What the next byte is, where no token is unfinished. It is not taken yet.
     #[inline(always)]
@@ -100,7 +124,8 @@ impl OpenDocument {
         }
     }
 
-    // Takes the byte at a place of a piece, alone of what it begins there, which is no decimal number.
+    // Takes the byte at a place of a piece, alone of what it begins there, which is no decimal number; and the blanks
+    // behind it, where it begins nothing.
     fn step_byte(&mut self, piece: &[u8], at: usize) -> Result<usize, Refused>
         requires within { at < length piece.now }
         requires named { begins_decimal (slice_index piece.now at) ≡ false }
@@ -112,10 +137,12 @@ impl OpenDocument {
     {
         let byte = piece[at];
         match self.look(byte)? {
-            Went::Taken => {}
-            went => self.follow(went, byte),
+            Went::Taken => Ok(past_blanks(piece, at + 1) - at),
+            went => {
+                self.follow(went, byte);
+                Ok(1)
+            }
         }
-        Ok(1)
     }
 
     // The number that begins at a place of a piece is begun, with its bytes there: it is no part of what is read so far.
@@ -135,6 +162,7 @@ impl OpenDocument {
     }
 
     // Takes the bytes of a number that begins there, as far as the piece has them.
+    #[inline(never)]
     fn begin_number(&mut self, piece: &[u8], at: usize) -> Result<usize, Refused>
         requires within { at < length piece.now }
         requires begins { begins_decimal (slice_index piece.now at) ≡ true }
@@ -158,24 +186,47 @@ impl OpenDocument {
         }
     }
 
-    // A number of so many bytes is put, and the byte behind it, which ended it, is taken.
-    #[inline(always)]
-    fn put_ended(&mut self, value: JsonValue<'static>, bytes: usize, byte: u8)
-        requires ends { (t w : List ℕ) × (fs : List OpenFrame)
-            × EndsBefore self.old t w byte fs (view value) × (length w ≡ bytes) }
+    // Takes the byte behind a scalar of so many bytes, which are not counted yet: it is no comma, and closes no container
+    // in its place.
+    #[inline(never)]
+    fn end_before(&mut self, went: Went, bytes: usize, byte: u8)
+        requires met { (t : List ℕ) × MeetsBehind bytes byte self.old t went }
+        requires which { IsEnding went }
         requires room { self.old.position + bytes < 2 ^ 64 }
-        ensures taken { (t w : List ℕ) → (fs : List OpenFrame)
-            → EndsBefore self.old t w byte fs (view value.entry) → length w ≡ bytes
-            → HasTakenIn anything self.new ((t ++ w) ++ byte ∷ []) }
+        ensures taken { (t : List ℕ) → MeetsBehind bytes byte self.old t went
+            → HasTakenIn anything self.new (t ++ byte ∷ []) }
         ensures same { StaysSo self.old self.new }
     {
-        self.put(value);
         self.position += bytes;
-        self.behind(byte);
+        self.follow(went, byte);
         self.position -= bytes;
     }
 
-    // Puts a scalar that ends in a piece, and takes the byte behind it, if one stands there: so many bytes are taken.
+    // A value that ends in a piece before a byte is put. That byte is taken, and the blanks behind it: so many bytes.
+    #[inline(always)]
+    fn put_ended(&mut self, piece: &[u8], at: usize, value: JsonValue<'static>, end: usize) -> usize
+        requires within { (at < end) × (end < length piece.now) }
+        requires ends { (t : List ℕ) × (fs : List OpenFrame)
+            × EndsBefore self.old t (slice_range piece.now at end) (slice_index piece.now end) fs (view value) }
+        requires room { self.old.position + (length piece.now - at) < 2 ^ 64 }
+        ensures taken { (t : List ℕ) → (fs : List OpenFrame)
+            → EndsBefore self.old t (slice_range piece.now at end) (slice_index piece.now end) fs (view value.entry)
+            → HasTakenIn anything self.new (t ++ slice_range piece.now at (at + result)) }
+        ensures part { (0 < result) × (at + result ≤ length piece.now) }
+        ensures same { StaysSo self.old self.new }
+    {
+        self.put(value);
+        match self.value.behind(piece[end]) {
+            Went::Taken => past_blanks(piece, end + 1) - at,
+            went => {
+                self.end_before(went, end - at, piece[end]);
+                end + 1 - at
+            }
+        }
+    }
+
+    // Puts a value that ends in a piece, and takes the byte behind it, if one stands there, and the blanks behind that: so
+    // many bytes are taken.
     #[inline(always)]
     fn put_whole(&mut self, piece: &[u8], at: usize, value: JsonValue<'static>, end: usize) -> usize
         requires scalar { IsScalarWithin piece.now at (view value) end }
@@ -187,14 +238,13 @@ impl OpenDocument {
         ensures same { StaysSo self.old self.new }
     {
         if end < piece.len() {
-            self.put_ended(value, end - at, piece[end]);
-            return end + 1 - at;
+            return self.put_ended(piece, at, value, end);
         }
         self.put(value);
         end - at
     }
 
-    // Takes the colon at a place of a piece, behind a key, if one stands there: so many bytes.
+    // Takes the colon at a place of a piece, behind a key, if one stands there, and the blanks behind it: so many bytes.
     #[inline(always)]
     fn colon_behind(&mut self, piece: &[u8], at: usize) -> usize
         requires within { at ≤ length piece.now }
@@ -209,12 +259,39 @@ impl OpenDocument {
     {
         if at < piece.len() && piece[at] == b':' {
             self.value.pass_colon();
-            return 1;
+            return past_blanks(piece, at + 1) - at;
         }
         0
     }
 
-    // Takes a number that lies whole in a piece, and the byte behind it.
+    // Room for the value that is awaited.
+    #[inline(always)]
+    fn make_room(&mut self) -> Result<(), Refused>
+        requires token { IsIn self.old Token.Nothing }
+        requires awaited { AwaitsValue self.old.value }
+        ensures stays { Stays self.old self.new }
+        ensures token { IsIn self.new Token.Nothing }
+        ensures awaited { AwaitsValue self.new.value }
+        ensures room { OnOk result (HasRoomInside self.new.value.spine.items) }
+        ensures same { StaysSo self.old self.new }
+    {
+        self.value.make_room()
+    }
+
+    // The value that is awaited begins with the next byte.
+    #[inline(always)]
+    fn begin_value(&mut self)
+        requires token { IsIn self.old Token.Nothing }
+        requires awaited { AwaitsValue self.old.value }
+        requires room { HasRoomInside self.old.value.spine.items }
+        ensures begins { (t : List ℕ) → (c : ℕ) → HasArrived self.old t → BeginsItem c
+            → (fs : List OpenFrame) × BeginsHere c self.new t fs }
+        ensures same { StaysSo self.old self.new }
+    {
+        self.value.begin_value();
+    }
+
+    // Takes a number that lies whole in a piece, and the byte behind it: so many bytes.
     #[inline(always)]
     fn whole_number(
         &mut self,
@@ -222,26 +299,18 @@ impl OpenDocument {
         at: usize,
         value: JsonValue<'static>,
         end: usize,
-    ) -> Result<usize, Refused>
+    ) -> usize
         requires token { IsIn self.old Token.Nothing }
+        requires awaited { AwaitsValue self.old.value }
+        requires space { HasRoomInside self.old.value.spine.items }
         requires number { IsNumberWithin piece.now at (view value) end }
         requires room { self.old.position + (length piece.now - at) < 2 ^ 64 }
-        ensures taken { IfOk result (λ n. Takes self.old self.new (slice_range piece.now at (at + n))) }
-        ensures part { IfOk result (λ n. (0 < n) × (at + n ≤ length piece.now)) }
-        ensures refused { OnErr result (Stays self.old self.new) }
+        ensures taken { Takes self.old self.new (slice_range piece.now at (at + result)) }
+        ensures part { (0 < result) × (at + result ≤ length piece.now) }
         ensures same { StaysSo self.old self.new }
     {
-        let byte = piece[at];
-        match self.look(byte)? {
-            Went::Scalar => {
-                self.put_ended(value, end - at, piece[end]);
-                Ok(end + 1 - at)
-            }
-            went => {
-                self.follow(went, byte);
-                Ok(1)
-            }
-        }
+        self.begin_value();
+        self.put_ended(piece, at, value, end)
     }
 
     // Takes a number that may be long, or may not lie whole in the piece: then its bytes there.
@@ -250,6 +319,8 @@ impl OpenDocument {
         requires within { at < length piece.now }
         requires begins { begins_decimal (slice_index piece.now at) ≡ true }
         requires token { IsIn self.old Token.Nothing }
+        requires awaited { AwaitsValue self.old.value }
+        requires space { HasRoomInside self.old.value.spine.items }
         requires room { self.old.position + (length piece.now - at) < 2 ^ 64 }
         ensures taken { IfOk result (λ n. Takes self.old self.new (slice_range piece.now at (at + n))) }
         ensures part { IfOk result (λ n. (0 < n) × (at + n ≤ length piece.now)) }
@@ -261,7 +332,7 @@ impl OpenDocument {
         }
         if let Some((number, end)) = number_within(piece, at) {
             if let Some(value) = short_value(number) {
-                return self.whole_number(piece, at, value, end);
+                return Ok(self.whole_number(piece, at, value, end));
             }
         }
         self.begin_number(piece, at)
@@ -269,7 +340,7 @@ impl OpenDocument {
 
     // Takes a number, all of it where it lies whole in the piece and is short.
     #[inline(always)]
-    fn step_number(&mut self, piece: &[u8], at: usize) -> Result<usize, Refused>
+    pub(crate) fn step_number(&mut self, piece: &[u8], at: usize) -> Result<usize, Refused>
         requires within { at < length piece.now }
         requires begins { begins_decimal (slice_index piece.now at) ≡ true }
         requires token { IsIn self.old Token.Nothing }
@@ -279,12 +350,16 @@ impl OpenDocument {
         ensures refused { OnErr result (Stays self.old self.new) }
         ensures same { StaysSo self.old self.new }
     {
+        if !self.value.awaits_value() {
+            return self.begin_number(piece, at);
+        }
+        self.make_room()?;
         match short_within(piece, at) {
             ShortWithin::Int(number, end) => {
-                self.whole_number(piece, at, int_value(number), end)
+                Ok(self.whole_number(piece, at, int_value(number), end))
             }
             ShortWithin::Float(end) => match short_float(&piece[at..end]) {
-                Some(value) => self.whole_number(piece, at, value, end),
+                Some(value) => Ok(self.whole_number(piece, at, value, end)),
                 None => self.begin_number(piece, at),
             },
             ShortWithin::Other => self.step_long_number(piece, at),
@@ -353,6 +428,30 @@ impl OpenDocument {
         }
     }
 
+    // Takes a literal, or a container that is empty, which lies whole in a piece.
+    #[inline(always)]
+    fn whole_value(
+        &mut self,
+        piece: &[u8],
+        at: usize,
+        value: JsonValue<'static>,
+        end: usize,
+    ) -> Result<usize, Refused>
+        requires token { IsIn self.old Token.Nothing }
+        requires awaited { AwaitsValue self.old.value }
+        requires begins { BeginsItem (slice_index piece.now at) }
+        requires value { IsScalarWithin piece.now at (view value) end }
+        requires room { self.old.position + (length piece.now - at) < 2 ^ 64 }
+        ensures taken { IfOk result (λ n. Takes self.old self.new (slice_range piece.now at (at + n))) }
+        ensures part { IfOk result (λ n. (0 < n) × (at + n ≤ length piece.now)) }
+        ensures refused { OnErr result (Stays self.old self.new) }
+        ensures same { StaysSo self.old self.new }
+    {
+        self.make_room()?;
+        self.begin_value();
+        Ok(self.put_whole(piece, at, value, end))
+    }
+
     // Takes a literal that begins with its first byte, all of it where it lies whole in the piece.
     #[inline(always)]
     fn step_literal(&mut self, piece: &[u8], at: usize, literal: Literal) -> Result<usize, Refused>
@@ -366,23 +465,21 @@ impl OpenDocument {
         ensures refused { OnErr result (Stays self.old self.new) }
         ensures same { StaysSo self.old self.new }
     {
-        let Some(end) = plain_literal_end(piece, at, literal) else {
+        if !self.value.awaits_value() {
             return self.step_byte(piece, at);
-        };
-        let byte = piece[at];
-        match self.look(byte)? {
-            Went::Scalar => { Ok(self.put_whole(piece, at, Name::Literal(literal).value(), end)) }
-            went => {
-                self.follow(went, byte);
-                Ok(1)
-            }
+        }
+        match plain_literal_end(piece, at, literal) {
+            Some(end) => self.whole_value(piece, at, Name::Literal(literal).value(), end),
+            None => self.step_byte(piece, at),
         }
     }
 
-    // Takes a byte where no token is unfinished, and with it what is whole there.
+    // Takes an opening bracket, and with it its closer, if that is the next byte of the piece; or the blanks behind it.
     #[inline(always)]
-    pub(crate) fn step(&mut self, piece: &[u8], at: usize) -> Result<usize, Refused>
+    fn step_opening(&mut self, piece: &[u8], at: usize, shape: Shape) -> Result<usize, Refused>
         requires within { at < length piece.now }
+        requires begins { start_of (slice_index piece.now at) ≡ opening shape }
+        requires named { begins_decimal (slice_index piece.now at) ≡ false }
         requires token { IsIn self.old Token.Nothing }
         requires room { self.old.position + (length piece.now - at) < 2 ^ 64 }
         ensures taken { IfOk result (λ n. Takes self.old self.new (slice_range piece.now at (at + n))) }
@@ -390,13 +487,33 @@ impl OpenDocument {
         ensures refused { OnErr result (Stays self.old self.new) }
         ensures same { StaysSo self.old self.new }
     {
-        let byte = piece[at];
-        if begins_decimal(byte) {
-            return self.step_number(piece, at);
+        if !self.value.awaits_value() {
+            return self.step_byte(piece, at);
         }
-        match start_of(byte) {
+        if closes_at(piece, at + 1, shape) {
+            return self.whole_value(piece, at, empty_value(self.alloc, shape), at + 2);
+        }
+        self.value.begin_container(shape)?;
+        Ok(past_blanks(piece, at + 1) - at)
+    }
+
+    // Takes a byte where no token is unfinished and no number begins, and with it what is whole there.
+    #[inline(always)]
+    pub(crate) fn step(&mut self, piece: &[u8], at: usize) -> Result<usize, Refused>
+        requires within { at < length piece.now }
+        requires named { begins_decimal (slice_index piece.now at) ≡ false }
+        requires token { IsIn self.old Token.Nothing }
+        requires room { self.old.position + (length piece.now - at) < 2 ^ 64 }
+        ensures taken { IfOk result (λ n. Takes self.old self.new (slice_range piece.now at (at + n))) }
+        ensures part { IfOk result (λ n. (0 < n) × (at + n ≤ length piece.now)) }
+        ensures refused { OnErr result (Stays self.old self.new) }
+        ensures same { StaysSo self.old self.new }
+    {
+        match start_of(piece[at]) {
             Start::String => self.step_text(piece, at),
             Start::Literal(literal) => self.step_literal(piece, at, literal),
+            Start::Array => self.step_opening(piece, at, Shape::Array),
+            Start::Object => self.step_opening(piece, at, Shape::Object),
             _ => self.step_byte(piece, at),
         }
     }

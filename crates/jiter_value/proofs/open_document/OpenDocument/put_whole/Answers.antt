@@ -1,45 +1,26 @@
-use Rattle.std.proofs.Common.{◌≡◌, ◌+◌, ◌-◌, ◌∷◌, ◌++◌, ◌∙◌, [], ap, append_assoc, arith, get_or, length, subst, sym}
+use Rattle.std.proofs.Common.{◌≡◌, ◌+◌, ◌-◌, ◌++◌, arith, get_or, length, subst, sym}
 use Rattle.std.specs.Prelude.{slice_range}
 use Rattle.jiter_value.specs.OpenDocument.{HasTakenIn, anything, with_byte}
 use Rattle.jiter_value.specs.Value.{view}
 use Rattle.jiter_value.proofs.DocumentBytes.{scalar-ends, scalar-follows, scalar-read}
-use Rattle.jiter_value.proofs.DocumentTokens.{range-more}
-use Rattle.jiter_value.proofs.Pieces.{range-long}
 use Rattle.jiter_value.proofs.open_document.OpenDocument.put_whole.Goals as goal
 
 pub put_ended-requires-clause-ends : goal.put_ended-requires-clause-ends
 put_ended-requires-clause-ends c =
-    let d = c.args.self.now in
     let piece = c.args.piece.now in
-    let at = c.args.at in
     let e = c.args.end in
-    let h = c.requires.scalar in
-    let b = c.requires.begins in
-    let end : at + (e - at) ≡ e = omega (arith, h.begins) in
-    let long =
-    ap (λ k. length (slice_range piece at k)) (sym end)
-    ∙ range-long piece at (e - at) (omega (arith, h.begins, h.within)) in
-    (b.0, slice_range piece at e, b.1, scalar-ends piece at (view c.args.value) e h d b.0 b.1 (get_or piece e 0) b.2, long)
+    let b = c.requires.begins in (
+      b.0,
+      b.1,
+      scalar-ends piece c.args.at (view c.args.value) e c.requires.scalar c.args.self.now b.0 b.1 (get_or piece e 0) b.2,
+    )
 
 pub returns-then-end-piece-clause-taken : goal.returns-then-end-piece-clause-taken
 returns-then-end-piece-clause-taken c = λ t fs here.
-    let d = c.args.self.now in
     let piece = c.args.piece.now in
-    let at = c.args.at in
     let e = c.args.end in
-    let h = c.requires.scalar in
-    let w = slice_range piece at e in
-    let end : at + (e - at) ≡ e = omega (arith, h.begins) in
-    let long =
-    ap (λ k. length (slice_range piece at k)) (sym end)
-    ∙ range-long piece at (e - at) (omega (arith, h.begins, h.within)) in
-    let all : at + (e + 1 - at) ≡ e + 1 = omega (arith, h.begins) in
-    let bytes =
-    append_assoc t w (get_or piece e 0 ∷ [])
-    ∙ ap (λ x. t ++ x)
-    (range-more piece at e (omega (arith, h.begins)) c.if-end-piece.true ∙ ap (slice_range piece at) (sym all)) in
-    subst (HasTakenIn anything c.put_ended.new.self) bytes
-    (c.put_ended.ensures.taken t w fs (scalar-ends piece at (view c.args.value) e h d t fs (get_or piece e 0) here) long)
+    c.put_ended.ensures.taken t fs
+    (scalar-ends piece c.args.at (view c.args.value) e c.requires.scalar c.args.self.now t fs (get_or piece e 0) here)
 
 pub returns-clause-taken : goal.returns-clause-taken
 returns-clause-taken c = λ t fs here.

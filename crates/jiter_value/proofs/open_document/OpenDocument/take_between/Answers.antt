@@ -1,36 +1,9 @@
-use Rattle.std.proofs.Common.{◌≡◌, ◌+◌, ◌-◌, ◌++◌, arith}
-use Rattle.std.specs.Prelude.{slice_range}
-use Rattle.jiter_value.proofs.DocumentBytes.{two-parts}
-use Rattle.jiter_steps.specs.Blank.{past_blanks}
-use Rattle.jiter_value.proofs.DocumentBlanks.{if-refused, not-passed, run-taken}
+use Rattle.std.proofs.Common.{◌∙◌, get_or, sym}
+use Rattle.jiter_value.proofs.DocumentBlanks.{if-refused}
+use Rattle.jiter_value.proofs.DocumentTokens.{decimal-item}
 use Rattle.jiter_value.proofs.open_document.OpenDocument.take_between.Goals as goal
 
-pub returns-then-at-end-clause-taken : goal.returns-then-at-end-clause-taken
-returns-then-at-end-clause-taken c = λ t h.
-    let d = c.args.self.now in
-    let piece = c.args.piece.now in
-    let at = c.args.at in
-    let is = c.requires.token in
-    let end = c.past_blanks-end.result in
-    let passed = c.past_blanks-end.ensures.value in
-    let all : at + (end - at) ≡ past_blanks piece at = omega (arith, passed, c.if-at-end.true) in
-    run-taken d t h.read is.1 is.2 piece at (end - at) all (omega (arith, c.requires.within))
-
-pub returns-in_err-count-clause-wanted : goal.returns-in_err-count-clause-wanted
-returns-in_err-count-clause-wanted c =
-    let piece = c.args.piece.now in
-    let at = c.args.at in
-    let e = c.past_blanks-end.ensures in
-    let stays : past_blanks piece at ≡ at = omega (arith, e.value, e.after, c.if-at-end.false) in
-    if-refused _ (not-passed piece at c.requires.within stays)
-
-pub returns-clause-taken : goal.returns-clause-taken
-returns-clause-taken c = λ t h.
-    let d = c.step.new.self in
-    let piece = c.args.piece.now in
-    let at = c.args.at in
-    let n = c.in_ok-count.count in
-    let m = c.blanks_behind.result in
-    let all : at + (n + m) ≡ at + n + m = omega arith in
-    two-parts d piece at (at + n) m (n + m) t (omega arith) all
-    (c.blanks_behind.ensures.taken (t ++ slice_range piece at (at + n)) (c.in_ok-count.ensures.taken t h))
+pub returns-clause-wanted : goal.returns-clause-wanted
+returns-clause-wanted c =
+    if-refused c.step_number.result
+    (decimal-item (get_or c.args.piece.now c.args.at 0) (sym c.begins_decimal.ensures ∙ c.if-not-begins_decimal.false)).0

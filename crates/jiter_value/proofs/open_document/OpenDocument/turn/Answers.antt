@@ -13,15 +13,8 @@ returns-in-Nothing-clause-wanted c = λ t h.
     on_err_weaker c.take_between.result (refuse-here t (get_or c.args.piece.now c.args.at 0))
     c.take_between.ensures.wanted
 
-pub returns-in-Number-clause-wanted : goal.returns-in-Number-clause-wanted
-returns-in-Number-clause-wanted c = λ t h.
-    let number = c.in-Number.is in
-    if-refused c.take_number.result
-    (refuse-in c.args.self.now t (get_or c.args.piece.now c.args.at 0) h (c.is_over.ensures.unset c.if-is_over.false)
-    (λ none. absurd (cc)))
-
 pub returns-in_default-clause-wanted : goal.returns-in_default-clause-wanted
 returns-in_default-clause-wanted c = λ t h.
-    if-refused c.take_string.result
+    if-refused c.take_token.result
     (refuse-in c.args.self.now t (get_or c.args.piece.now c.args.at 0) h (c.is_over.ensures.unset c.if-is_over.false)
     c.in_default.not-Nothing)

@@ -1,54 +1,23 @@
-use Rattle.std.proofs.Common.{◌≡◌, ◌+◌, ◌-◌, ◌∷◌, ◌++◌, ◌∙◌, [], ap, append_assoc, arith, get_or, length, subst, sym}
-use Rattle.std.specs.Prelude.{slice_range}
-use Rattle.jiter_value.specs.OpenDocument.{HasTakenIn, anything}
+use Rattle.std.proofs.Common.{get_or}
 use Rattle.jiter_value.specs.Value.{view}
-use Rattle.jiter_value.proofs.DocumentBytes.{meets-scalar, one-byte}
-use Rattle.jiter_value.proofs.DocumentTokens.{number-within-ends, range-more}
-use Rattle.jiter_value.proofs.Pieces.{range-long}
+use Rattle.jiter_value.proofs.DocumentTokens.{decimal-item, number-within-ends}
 use Rattle.jiter_value.proofs.open_document.OpenDocument.whole_number.Goals as goal
 
 pub put_ended-requires-clause-ends : goal.put_ended-requires-clause-ends
 put_ended-requires-clause-ends c =
-    let d = c.look.new.self in
     let piece = c.args.piece.now in
     let at = c.args.at in
-    let e = c.args.end in
-    let v = view c.args.value in
     let h = c.requires.number in
     let t = c.requires.token.0.0 in
-    let m = c.in_ok-went.ensures.met t c.requires.token.0.1 in
-    let b = meets-scalar (get_or piece at 0) d t c.in_ok-went.went m c.in-Scalar.is in
-    let end : at + (e - at) ≡ e = omega (arith, h.ends.begins) in
-    let long =
-    ap (λ k. length (slice_range piece at k)) (sym end)
-    ∙ range-long piece at (e - at) (omega (arith, h.ends.begins, h.ends.within)) in
-    (t, slice_range piece at e, b.0, number-within-ends d t b.0 piece at v e b.1 h, long)
+    let item = decimal-item (get_or piece at 0) h.begins in
+    let b = c.begin_value.ensures.begins t (get_or piece at 0) c.requires.token.0.1 item in
+    (t, b.0, number-within-ends c.begin_value.new.self t b.0 piece at (view c.args.value) c.args.end b.1 h)
 
-pub returns-in-Scalar-clause-taken : goal.returns-in-Scalar-clause-taken
-returns-in-Scalar-clause-taken c = λ t arrived.
-    let d = c.look.new.self in
+pub returns-clause-taken : goal.returns-clause-taken
+returns-clause-taken c = λ t arrived.
     let piece = c.args.piece.now in
     let at = c.args.at in
-    let e = c.args.end in
-    let v = view c.args.value in
     let h = c.requires.number in
-    let w = slice_range piece at e in
-    let m = c.in_ok-went.ensures.met t arrived in
-    let b = meets-scalar (get_or piece at 0) d t c.in_ok-went.went m c.in-Scalar.is in
-    let end : at + (e - at) ≡ e = omega (arith, h.ends.begins) in
-    let long =
-    ap (λ k. length (slice_range piece at k)) (sym end)
-    ∙ range-long piece at (e - at) (omega (arith, h.ends.begins, h.ends.within)) in
-    let all : at + (e + 1 - at) ≡ e + 1 = omega (arith, h.ends.begins) in
-    let bytes =
-    append_assoc t w (get_or piece e 0 ∷ [])
-    ∙ ap (λ x. t ++ x)
-    (range-more piece at e (omega (arith, h.ends.begins)) h.ends.within ∙ ap (slice_range piece at) (sym all)) in
-    subst (HasTakenIn anything c.put_ended.new.self) bytes
-    (c.put_ended.ensures.taken t w b.0 (number-within-ends d t b.0 piece at v e b.1 h) long)
-
-pub returns-in_default-clause-taken : goal.returns-in_default-clause-taken
-returns-in_default-clause-taken c = λ t arrived.
-    let h = c.requires.number in
-    one-byte c.follow.new.self c.args.piece.now c.args.at t (omega (arith, h.ends.begins, h.ends.within))
-    (c.follow.ensures.taken t (c.in_ok-went.ensures.met t arrived))
+    let b = c.begin_value.ensures.begins t (get_or piece at 0) arrived (decimal-item (get_or piece at 0) h.begins) in
+    c.put_ended.ensures.taken t b.0
+    (number-within-ends c.begin_value.new.self t b.0 piece at (view c.args.value) c.args.end b.1 h)

@@ -1,0 +1,33 @@
+use Rattle.std.proofs.Common.{◌+◌}
+use Rattle.std.specs.Prelude.{slice_range}
+use Rattle.jiter_value.proofs.DocumentTexts.{refused-after, taken-after}
+use Rattle.jiter_value.proofs.open_document.OpenDocument.step_number.Goals as goal
+
+pub returns-in-Int-clause-taken : goal.returns-in-Int-clause-taken
+returns-in-Int-clause-taken c = λ t arrived. c.whole_number.ensures.taken t (c.make_room.ensures.stays t arrived)
+
+pub returns-in-Some-clause-taken : goal.returns-in-Some-clause-taken
+returns-in-Some-clause-taken c = λ t arrived.
+    c.whole_number-in-Some.ensures.taken t (c.make_room.ensures.stays t arrived)
+
+pub returns-in-None-clause-taken : goal.returns-in-None-clause-taken
+returns-in-None-clause-taken c =
+    taken-after c.args.self.now c.make_room.new.self c.begin_number-in-None.new.self
+    (λ n. slice_range c.args.piece.now c.args.at (c.args.at + n)) c.begin_number-in-None.result
+    c.make_room.ensures.stays c.begin_number-in-None.ensures.taken
+
+pub returns-in-None-clause-refused : goal.returns-in-None-clause-refused
+returns-in-None-clause-refused c =
+    refused-after c.args.self.now c.make_room.new.self c.begin_number-in-None.new.self c.begin_number-in-None.result
+    c.make_room.ensures.stays c.begin_number-in-None.ensures.refused
+
+pub returns-in-Other-clause-taken : goal.returns-in-Other-clause-taken
+returns-in-Other-clause-taken c =
+    taken-after c.args.self.now c.make_room.new.self c.step_long_number.new.self
+    (λ n. slice_range c.args.piece.now c.args.at (c.args.at + n)) c.step_long_number.result
+    c.make_room.ensures.stays c.step_long_number.ensures.taken
+
+pub returns-in-Other-clause-refused : goal.returns-in-Other-clause-refused
+returns-in-Other-clause-refused c =
+    refused-after c.args.self.now c.make_room.new.self c.step_long_number.new.self c.step_long_number.result
+    c.make_room.ensures.stays c.step_long_number.ensures.refused
