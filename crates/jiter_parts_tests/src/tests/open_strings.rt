@@ -28,13 +28,16 @@ fn read_piece(
 ) -> Result<Reached, Refused> {
     let mut at = 0;
     for _ in 0..piece.len() {
+        if piece.len() <= at {
+            break;
+        }
         if inside && string.is_text(true) {
             let (count, end) = string.take_inside(&piece[at..]);
             end?;
-            at += count;
-        }
-        if piece.len() <= at {
-            break;
+            if count > 0 {
+                at += count;
+                continue;
+            }
         }
         let here = begin.wrapping_add(at);
         match string.next(piece, at)? {
