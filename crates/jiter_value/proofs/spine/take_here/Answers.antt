@@ -1,14 +1,7 @@
-use Rattle.std.proofs.Common.{◌≡◌, ◌∙◌, ap, refl, rules, string_bytes, subst, sym, take}
+use Rattle.std.proofs.Common.{◌≡◌, ◌∙◌, ap, refl, rules, string_bytes, subst, take}
 use Rattle.std.specs.Str.{IsUtf8}
 use Rattle.std.proofs.lemmas.Str.{IsUtf8-string_bytes}
-use Rattle.std.specs.declared.borrow.CowStr.TheVariants.{Owned}
-use Rattle.jiter_steps.specs.StringDecoder.{text_view}
-use Rattle.jiter_steps.specs.Tree.{string}
-use Rattle.jiter_value.specs.OpenValue.{text_of}
-use Rattle.jiter_value.specs.Value.{view}
 use Rattle.jiter_value.specs.declared.value.JsonValue.{the_lemmas}
-use Rattle.jiter_value.proofs.Views.{view_str}
-use Rattle.jiter_value.specs.Replaced.{with_chars}
 use Rattle.jiter_value.proofs.ReplacedTexts.{root-replaced, went-as}
 use Rattle.jiter_value.proofs.spine.take_here.Goals as goal
 

@@ -1,4 +1,4 @@
-use Rattle.std.proofs.Common.{◌≡◌, ◌∙◌, [], ap, string_bytes, subst, take}
+use Rattle.std.proofs.Common.{◌∙◌, [], ap, string_bytes, subst, take}
 use Rattle.jiter_steps.specs.OpenText.{with_text}
 use Rattle.jiter_value.specs.Replaced.{GoesOn, with_chars}
 use Rattle.jiter_value.proofs.Settled.{same-string}
