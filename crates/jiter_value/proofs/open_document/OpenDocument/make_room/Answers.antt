@@ -1,4 +1,4 @@
-use Rattle.std.proofs.Common.{List, ℕ, refl}
+use Rattle.std.proofs.Common.{refl}
 use Rattle.jiter_value.specs.OpenDocument.{Stays}
 use Rattle.jiter_value.specs.OpenValue.{IsSeenAs}
 use Rattle.jiter_value.specs.declared.open_document.OpenDocument.{OpenDocument}

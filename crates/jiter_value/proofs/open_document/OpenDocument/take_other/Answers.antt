@@ -1,6 +1,4 @@
-use Rattle.std.proofs.Common.{◌≡◌, ◌+◌, ◌-◌, ◌++◌, arith}
-use Rattle.std.specs.Prelude.{slice_range}
-use Rattle.jiter_value.proofs.DocumentBytes.{two-parts}
+use Rattle.std.proofs.Common.{◌≡◌, ◌+◌, ◌-◌, arith}
 use Rattle.jiter_steps.specs.Blank.{past_blanks}
 use Rattle.jiter_value.proofs.DocumentBlanks.{if-refused, not-passed, run-taken}
 use Rattle.jiter_value.proofs.open_document.OpenDocument.take_other.Goals as goal
