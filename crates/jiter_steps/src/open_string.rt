@@ -377,12 +377,13 @@ impl OpenString {
         (at, Ok(()))
     }
 
-    /// Whether the bytes so far are whole characters and whole escapes.
+    /// Whether right bytes so far are whole characters and whole escapes.
     #[inline(always)]
     pub fn is_even(&self) -> bool
+        requires { self.now.text.broken ≡ false }
         ensures { result ≡ true → IsEven self.now }
     {
-        self.escape.is_none() && self.text.is_whole()
+        self.escape.is_none() && self.text.is_complete()
     }
 
     /// Takes plain bytes below 80 hex. Where memory is refused, nothing changes.

@@ -257,6 +257,16 @@ impl OpenText {
         !self.broken && self.rest.as_slice().is_empty()
     }
 
+    /// Whether right bytes so far are whole characters.
+    #[inline(always)]
+    pub fn is_complete(&self) -> bool
+        requires { self.now.broken ≡ false }
+        ensures { result ≡ true → IsWhole self.now }
+    {
+        let behind = self.rest.as_slice();
+        behind.is_empty()
+    }
+
     /// Whether the bytes so far are a text: all of them, or, of one that is kept, as far as its whole characters.
     /// Where they are not, the characters so far stand before the first byte that is wrong.
     pub fn is_text(&self, keep: bool) -> bool

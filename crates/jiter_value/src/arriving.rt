@@ -22,10 +22,6 @@ use jiter_scan::{JsonError, JsonErrorType, PartialMode};
 use std::alloc::{AllocError, Global};
 use std::marker::Model;
 
-// Of so many bytes a piece is looked through how it goes on with an unfinished string: of more it costs little to take the
-// value apart.
-const FEW: usize = 256;
-
 // A document whose value so far is together, and what its bytes answer.
 #[derive(Drop)]
 pub(crate) struct Settled {
@@ -144,7 +140,7 @@ impl Settled {
             × (self.new.document.position ≤ self.old.document.position + length piece.now) }
         ensures settings { self.new.document.settings ≡ self.old.document.settings }
     {
-        if !self.growing || piece.len() > FEW {
+        if !self.growing {
             return self.take_apart(piece);
         }
         match run_of(piece) {

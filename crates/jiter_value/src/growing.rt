@@ -14,6 +14,10 @@ use jiter_scan::memory::Refused;
 use jiter_scan::short_scan::scan_short;
 use jiter_scan::simd::both;
 
+// Of so many bytes a piece is looked through how it goes on with an unfinished string: of more it costs little to take the
+// value apart.
+const FEW: usize = 256;
+
 // A byte of ASCII that a string may hold as it stands.
 #[inline(always)]
 fn is_plain_byte(byte: u8) -> bool
@@ -29,7 +33,7 @@ pub(crate) enum Run {
     Plain,
     // Not so, and no quote and no control byte stands before its first backslash.
     Mixed,
-    // Neither.
+    // Neither, or it is long.
     Other,
 }
 
@@ -70,6 +74,9 @@ pub(crate) fn run_of(piece: &[u8]) -> Run
     }
     if piece.len() == 16 && is_plain_chunk(piece) {
         return Run::Plain;
+    }
+    if piece.len() > FEW {
+        return Run::Other;
     }
     let (stop, low) = scan_short(piece, 0);
     if stop < piece.len() {

@@ -1,10 +1,8 @@
-use Rattle.std.proofs.Common.{◌≡◌, ◌+◌, ◌-◌, ◌<◌, ◌∷◌, [], ◌++◌, ◌∙◌, ap, sym, subst, arith, length}
-use Rattle.std.specs.Prelude.{slice_set}
+use Rattle.std.proofs.Common.{◌≡◌, ◌+◌, ◌-◌, ◌∙◌, ap, sym, subst, arith, length}
 use Rattle.jiter_steps.specs.Tree.{Tree, null}
 use Rattle.jiter_value.specs.Spine.{OpenFrame, around}
 use Rattle.jiter_value.specs.Value.{view}
-use Rattle.jiter_value.specs.declared.value.JsonValue.{JsonValue}
-use Rattle.jiter_value.proofs.Spines.{TakenDown, down-all, down-first, down-innermost, down-on, down-part}
+use Rattle.jiter_value.proofs.Spines.{TakenDown, down-on, down-part}
 use Rattle.jiter_value.proofs.Views.{view_null}
 use Rattle.jiter_value.proofs.spine.take_apart.Goals as goal
 
