@@ -30,7 +30,10 @@ fn expect_once(
         for &mode in &MODES {
             for &size in sizes {
                 let is_once = is_read_once(alloc, &text, size, false, mode)?;
-                assert!(*rt; is_once, "{bytes:?} between {front} and {back} by {size} in {mode:?}");
+                assert!(*rt;
+                    is_once,
+                    "{bytes:?} between {front} and {back} by {size} in {mode:?}"
+                );
             }
         }
     }
@@ -60,7 +63,8 @@ fn escapes_and_wide_characters_arrive_in_pieces(rt: HostRuntime) -> Result<(), F
         b"\", \"\\\\ and \\\" more",
     ];
     let alloc = rt.alloc();
-    let part = "caf\u{e9} \\u00e9\\ud83d\\ude00\u{1f600}\\\"q\\\\ \u{20ac}\u{20ac}\u{20ac}\\n0123456789abcdef\\t";
+    let part =
+        "caf\u{e9} \\u00e9\\ud83d\\ude00\u{1f600}\\\"q\\\\ \u{20ac}\u{20ac}\u{20ac}\\n0123456789abcdef\\t";
     let text = part.repeat(alloc, 2)?;
     for end in ENDS {
         let mut bytes = Vec::new(alloc);
