@@ -45,10 +45,10 @@ use Rattle.jiter_value.specs.declared.open_value.Awaits.TheVariants as awaits
 use Rattle.jiter_value.specs.declared.open_value.OpenValue.{OpenValue}
 use Rattle.jiter_value.specs.declared.settings.Settings.{Settings}
 use Rattle.jiter_value.specs.declared.value.JsonValue.{JsonValue}
-use Rattle.jiter_value.proofs.DocumentBlanks.{refuse-in, refuse-on}
-use Rattle.jiter_value.proofs.DocumentEnds.{IsAnsweredSo, fault-found, nothing-comes, partial-answers, strict-answers}
-use Rattle.jiter_value.proofs.DocumentEnds.{with_fault, with_value}
-use Rattle.jiter_value.proofs.DocumentStrings.{goes-on, is-inside, known-more, with_string}
+use Rattle.jiter_value.proofs.Documents.Blanks.{refuse-in, refuse-on}
+use Rattle.jiter_value.proofs.Documents.Ends.{IsAnsweredSo, fault-found, nothing-comes, partial-answers, strict-answers}
+use Rattle.jiter_value.proofs.Documents.Ends.{with_fault, with_value}
+use Rattle.jiter_value.proofs.Documents.Strings.{goes-on, is-inside, known-more, with_string}
 use Rattle.jiter_value.proofs.Documents.{counted-holding, known-as}
 use Rattle.jiter_value.proofs.Settled.{InScalar, in-scalar, not-shown, same-string, shown-behind, shown-there}
 use Rattle.jiter_value.proofs.ShownTexts.{text-again, text-deep, text-inside}

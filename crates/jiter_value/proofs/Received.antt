@@ -29,7 +29,7 @@ use Rattle.jiter_value.specs.declared.arriving.Settled.{Settled}
 use Rattle.jiter_value.specs.declared.open_document.OpenDocument.{OpenDocument}
 use Rattle.jiter_value.specs.declared.settings.Settings.{Settings}
 use Rattle.jiter_value.specs.declared.value.JsonValue.{JsonValue}
-use Rattle.jiter_value.proofs.DocumentBlanks.{refuse-on}
+use Rattle.jiter_value.proofs.Documents.Blanks.{refuse-on}
 use Rattle.jiter_value.proofs.MadeTexts.{answer_as-is}
 use Rattle.jiter_value.proofs.ParsedBy as parsed
 use Rattle.jiter_value.proofs.ParsedDocuments.{laws, parses, parses-same}

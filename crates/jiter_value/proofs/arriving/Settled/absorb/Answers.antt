@@ -6,7 +6,7 @@ use Rattle.jiter_value.specs.Growing.{with_ends}
 use Rattle.jiter_value.specs.declared.arriving.Settled.{Settled}
 use Rattle.jiter_value.specs.declared.open_document.OpenDocument.{OpenDocument}
 use Rattle.jiter_value.specs.declared.open_value.OpenValue.{OpenValue}
-use Rattle.jiter_value.proofs.DocumentStrings.{with_string}
+use Rattle.jiter_value.proofs.Documents.Strings.{with_string}
 use Rattle.jiter_value.proofs.GrownTexts.{counted_on, gone_in, hidden-received, shown-received, taken-shown, text-held}
 use Rattle.jiter_value.proofs.arriving.Settled.absorb.Goals.{then-self, else-self}
 use Rattle.jiter_value.proofs.arriving.Settled.absorb.Goals as goal

@@ -4,7 +4,7 @@ use Rattle.jiter_value.specs.Arriving.{HasReceived, received}
 use Rattle.jiter_value.specs.Growing.{with_ends}
 use Rattle.jiter_value.specs.Replaced.{GoesOn}
 use Rattle.jiter_value.specs.declared.arriving.Settled.{Settled}
-use Rattle.jiter_value.proofs.DocumentBlanks.{if-refused}
+use Rattle.jiter_value.proofs.Documents.Blanks.{if-refused}
 use Rattle.jiter_value.proofs.GrownTexts.{counted_on, grown-on, hidden-received, plain-shown, shown-received, shown-stays}
 use Rattle.jiter_value.proofs.GrownTexts.{text-held}
 use Rattle.jiter_value.proofs.arriving.Settled.grow.Goals.{else-self+in_ok-add_plain, then-self+in_ok-append_text}

@@ -1,6 +1,6 @@
 use Rattle.jiter_scan.specs.declared.open_number.Stage.TheVariants as stage
 use Rattle.jiter_scan.proofs.NumberParts.{goes-then}
-use Rattle.jiter_scan.proofs.open_number.sign_end.Goals as goal
+use Rattle.jiter_scan.proofs.number_parts.sign_end.Goals as goal
 
 pub returns-in-Exponent-default : goal.returns-in-Exponent-default
 returns-in-Exponent-default c =

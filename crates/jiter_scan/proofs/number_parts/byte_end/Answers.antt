@@ -1,7 +1,7 @@
 use Rattle.std.proofs.lemmas.Option.{slice_get-get_or}
 use Rattle.std.proofs.Common.{◌<◌, arith, length}
 use Rattle.jiter_scan.proofs.NumberParts.{goes-byte}
-use Rattle.jiter_scan.proofs.open_number.byte_end.Goals as goal
+use Rattle.jiter_scan.proofs.number_parts.byte_end.Goals as goal
 
 pub returns-in-Taken : goal.returns-in-Taken
 returns-in-Taken c =

@@ -1,6 +1,6 @@
 use Rattle.jiter_scan.specs.declared.open_number.Stage.TheVariants as stage
 use Rattle.jiter_scan.proofs.NumberParts.{goes-then}
-use Rattle.jiter_scan.proofs.open_number.minus_parts_end.Goals as goal
+use Rattle.jiter_scan.proofs.number_parts.minus_parts_end.Goals as goal
 
 pub returns-in-Zero-default : goal.returns-in-Zero-default
 returns-in-Zero-default c =

@@ -1,7 +1,7 @@
 use Rattle.std.proofs.Common.{◌+◌, subst, sym}
 use Rattle.jiter_scan.specs.OpenNumber.{GoesTo}
 use Rattle.jiter_scan.proofs.NumberParts.{goes-digits}
-use Rattle.jiter_scan.proofs.open_number.digits_end.Goals as goal
+use Rattle.jiter_scan.proofs.number_parts.digits_end.Goals as goal
 
 pub returns : goal.returns
 returns c =

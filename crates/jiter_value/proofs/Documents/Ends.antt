@@ -71,8 +71,8 @@ use Rattle.jiter_value.specs.declared.open_document.Token.{Token}
 use Rattle.jiter_value.specs.declared.open_document.Token.TheVariants as token
 use Rattle.jiter_value.proofs.Arrivals.{Sticks, all-close, fault-closes, led-answers, led-end, off-answers}
 use Rattle.jiter_value.proofs.OpenValues.{scalar-read}
-use Rattle.jiter_value.proofs.DocumentStrings.{begin_of, is-held, is-placed, text-low}
-use Rattle.jiter_value.proofs.DocumentTokens.{held-end, held-stands, number-done, number-failed, word-failed}
+use Rattle.jiter_value.proofs.Documents.Strings.{begin_of, is-held, is-placed, text-low}
+use Rattle.jiter_value.proofs.Documents.Tokens.{held-end, held-stands, number-done, number-failed, word-failed}
 use Rattle.jiter_value.proofs.MadeTexts.{rules_as-advances}
 
 -- A byte that begins a scalar is neither a blank, a comma nor a closer.

@@ -1,6 +1,6 @@
 use Rattle.jiter_scan.specs.declared.open_number.Stage.TheVariants as stage
 use Rattle.jiter_scan.proofs.NumberParts.{goes-then}
-use Rattle.jiter_scan.proofs.open_number.point_end.Goals as goal
+use Rattle.jiter_scan.proofs.number_parts.point_end.Goals as goal
 
 pub returns-in-Fraction-default : goal.returns-in-Fraction-default
 returns-in-Fraction-default c =

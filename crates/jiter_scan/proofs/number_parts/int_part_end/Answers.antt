@@ -1,6 +1,6 @@
 use Rattle.jiter_scan.specs.declared.open_number.Stage.TheVariants as stage
 use Rattle.jiter_scan.proofs.NumberParts.{goes-then}
-use Rattle.jiter_scan.proofs.open_number.int_part_end.Goals as goal
+use Rattle.jiter_scan.proofs.number_parts.int_part_end.Goals as goal
 
 pub returns-in-Point-default : goal.returns-in-Point-default
 returns-in-Point-default c =

@@ -19,9 +19,9 @@ use Rattle.jiter_value.specs.declared.names.Name.TheVariants as name
 use Rattle.jiter_value.specs.declared.open_document.OpenDocument.{OpenDocument}
 use Rattle.jiter_value.specs.declared.open_document.Token.{Token}
 use Rattle.jiter_value.specs.declared.open_document.Token.TheVariants as token
-use Rattle.jiter_value.proofs.DocumentBytes.{two-parts}
-use Rattle.jiter_value.proofs.DocumentEnds.{no-blank}
-use Rattle.jiter_value.proofs.DocumentTokens.{stands-last}
+use Rattle.jiter_value.proofs.Documents.Bytes.{two-parts}
+use Rattle.jiter_value.proofs.Documents.Ends.{no-blank}
+use Rattle.jiter_value.proofs.Documents.Tokens.{stands-last}
 use Rattle.jiter_value.proofs.Documents.{known-before, taken-between, takes-byte}
 use Rattle.jiter_value.proofs.OpenValues.{goes-blank}
 

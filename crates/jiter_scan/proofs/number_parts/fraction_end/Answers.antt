@@ -1,6 +1,6 @@
 use Rattle.jiter_scan.specs.declared.open_number.Stage.TheVariants as stage
 use Rattle.jiter_scan.proofs.NumberParts.{goes-on, goes-then}
-use Rattle.jiter_scan.proofs.open_number.fraction_end.Goals as goal
+use Rattle.jiter_scan.proofs.number_parts.fraction_end.Goals as goal
 
 pub returns-in-Letter-default : goal.returns-in-Letter-default
 returns-in-Letter-default c =

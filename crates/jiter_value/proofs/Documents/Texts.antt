@@ -10,8 +10,8 @@ use Rattle.jiter_scan.specs.Stands.{Stands}
 use Rattle.jiter_steps.specs.OpenString.{IsTextWithin}
 use Rattle.jiter_steps.specs.StringReading.{content_at, text_form}
 use Rattle.jiter_steps.specs.Tree.{Text, string}
-use Rattle.jiter_value.proofs.DocumentStrings.{key-done, scalar-done}
-use Rattle.jiter_value.proofs.DocumentTokens.{held-stands}
+use Rattle.jiter_value.proofs.Documents.Strings.{key-done, scalar-done}
+use Rattle.jiter_value.proofs.Documents.Tokens.{held-stands}
 use Rattle.jiter_value.specs.DocumentStrings.{IsKeyAs}
 use Rattle.jiter_value.specs.OpenDocument.{Follows, IsScalarWithin, Stays, Takes, anything, with_byte}
 use Rattle.jiter_value.specs.OpenValue.{text_of}

@@ -26,8 +26,8 @@ use Rattle.jiter_value.specs.declared.names.Name.TheVariants as name
 use Rattle.jiter_value.specs.declared.open_document.OpenDocument.{OpenDocument}
 use Rattle.jiter_value.specs.declared.open_document.Token.TheVariants as token
 use Rattle.jiter_value.specs.declared.open_value.Awaits.TheVariants as awaits
-use Rattle.jiter_value.proofs.DocumentTokens.{Keeps, held-end, held-stands, known-on, minus-fails, minus-goes}
-use Rattle.jiter_value.proofs.DocumentTokens.{number-failed, reading-names, scalar-refused, scalar-token, stands-front}
+use Rattle.jiter_value.proofs.Documents.Tokens.{Keeps, held-end, held-stands, known-on, minus-fails, minus-goes}
+use Rattle.jiter_value.proofs.Documents.Tokens.{number-failed, reading-names, scalar-refused, scalar-token, stands-front}
 
 -- ---- the bytes of a number of which the minus was read
 

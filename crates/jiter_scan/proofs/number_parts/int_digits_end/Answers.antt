@@ -1,6 +1,6 @@
 use Rattle.jiter_scan.specs.declared.open_number.Stage.TheVariants as stage
 use Rattle.jiter_scan.proofs.NumberParts.{goes-on}
-use Rattle.jiter_scan.proofs.open_number.int_digits_end.Goals as goal
+use Rattle.jiter_scan.proofs.number_parts.int_digits_end.Goals as goal
 
 pub returns : goal.returns
 returns c =
