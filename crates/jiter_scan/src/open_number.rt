@@ -3,18 +3,18 @@
 ghost use Rattle.std.specs.Prelude.{◌≡◌, ◌+◌, ◌-◌, ◌<◌, ◌≤◌, ◌++◌, [], Bool, IfOk, IfSome, List, None, OnErr, OnOk, Some};
 ghost use Rattle.std.specs.Prelude.{false, length, slice_get, slice_index, slice_range, string_bytes, string_capacity};
 ghost use Rattle.std.specs.Prelude.{string_len, true, ℕ};
-ghost use Rattle.jiter_scan.specs.Digits.{digit_run_end};
 ghost use Rattle.jiter_scan.specs.Number.{big, integer, is_float_byte, number_value};
 ghost use Rattle.jiter_scan.specs.NumberReading.{exponent_at, decimal_at, number_extent, number_at};
 ghost use Rattle.jiter_scan.specs.OpenNumber.{Fits, GoesTo, HoldsNumber, IsBegun, Leads, at_end, begins_decimal};
-ghost use Rattle.jiter_scan.specs.OpenNumber.{digits_for, int_of, is_int_stage, is_whole, kept_bytes, kind_view};
-ghost use Rattle.jiter_scan.specs.OpenNumber.{number_by, number_from, own_view, stage_behind, tail_at};
+ghost use Rattle.jiter_scan.specs.OpenNumber.{int_of, is_int_stage, is_whole, kept_bytes, kind_view};
+ghost use Rattle.jiter_scan.specs.OpenNumber.{number_by, number_from, own_view, tail_at};
 
 use crate::memory::{Refused, push_text};
 use crate::number_decoder::{NumberAny, NumberInt, number_at};
 use crate::number_extent::minus_end;
+use crate::number_parts::parts_end;
 use crate::plain_number::{last_integer_at, signed};
-use crate::simd::{digit_run_end, is_digit};
+use crate::simd::is_digit;
 use crate::text::ascii_text;
 use std::alloc::Global;
 use std::mem;
@@ -254,7 +254,7 @@ fn behind_exponent_digit(byte: u8) -> Went
 
 // What a byte is to a number that has come to a stage.
 #[inline(always)]
-fn next_of(stage: Stage, byte: u8) -> Went
+pub(crate) fn next_of(stage: Stage, byte: u8) -> Went
     ensures leads { Leads stage byte result }
     ensures fits { Fits stage byte result }
 {
@@ -267,165 +267,6 @@ fn next_of(stage: Stage, byte: u8) -> Went
         Stage::Letter => behind_letter(byte),
         Stage::Sign => behind_sign(byte),
         Stage::Exponent => behind_exponent_digit(byte),
-    }
-}
-
-// How many of the digits at a place go on with a number of this stage.
-#[inline(always)]
-fn digits_for(stage: Stage, piece: &[u8], at: usize) -> usize
-    requires { at ≤ length piece.now }
-    ensures count { result ≡ digits_for stage (digit_run_end piece.now at - at) }
-    ensures within { at + result ≤ length piece.now }
-{
-    match stage {
-        Stage::Digits(room) => (digit_run_end(piece, at) - at).min(room),
-        Stage::Fraction => digit_run_end(piece, at) - at,
-        Stage::Exponent => digit_run_end(piece, at) - at,
-        Stage::Minus => 0,
-        Stage::Zero => 0,
-        Stage::Point => 0,
-        Stage::Letter => 0,
-        Stage::Sign => 0,
-    }
-}
-
-// The stage behind so many digits more.
-#[inline(always)]
-fn stage_behind(stage: Stage, count: usize) -> Stage
-    requires { digits_for stage count ≡ count }
-    ensures { result ≡ stage_behind stage count }
-{
-    match stage {
-        Stage::Digits(room) => Stage::Digits(room - count),
-        _ => stage,
-    }
-}
-
-// The byte at a place, if one stands there and goes on with a number of this stage. The stage behind it, and the place.
-#[inline(always)]
-fn byte_end(stage: Stage, piece: &[u8], at: usize) -> (Stage, usize)
-    requires { at ≤ length piece.now }
-    ensures { GoesTo stage piece.now at result.0 result.1 }
-{
-    if at == piece.len() {
-        return (stage, at);
-    }
-    match next_of(stage, piece[at]) {
-        Went::Taken(next) => (next, at + 1),
-        _ => (stage, at),
-    }
-}
-
-// The same of the digits at a place.
-#[inline(always)]
-fn digits_end(stage: Stage, piece: &[u8], at: usize) -> (Stage, usize)
-    requires { at ≤ length piece.now }
-    ensures { GoesTo stage piece.now at result.0 result.1 }
-{
-    let count = digits_for(stage, piece, at);
-    (stage_behind(stage, count), at + count)
-}
-
-// All that goes on with a number behind the sign of its exponent.
-#[inline(always)]
-fn sign_end(piece: &[u8], at: usize) -> (Stage, usize)
-    requires { at ≤ length piece.now }
-    ensures { GoesTo Stage.Sign piece.now at result.0 result.1 }
-{
-    match byte_end(Stage::Sign, piece, at) {
-        (Stage::Exponent, behind) => digits_end(Stage::Exponent, piece, behind),
-        other => other,
-    }
-}
-
-// Behind the letter of its exponent.
-#[inline(always)]
-fn letter_end(piece: &[u8], at: usize) -> (Stage, usize)
-    requires { at ≤ length piece.now }
-    ensures { GoesTo Stage.Letter piece.now at result.0 result.1 }
-{
-    match byte_end(Stage::Letter, piece, at) {
-        (Stage::Sign, behind) => sign_end(piece, behind),
-        (Stage::Exponent, behind) => digits_end(Stage::Exponent, piece, behind),
-        other => other,
-    }
-}
-
-// Behind a digit of its fraction.
-#[inline(always)]
-fn fraction_end(piece: &[u8], at: usize) -> (Stage, usize)
-    requires { at ≤ length piece.now }
-    ensures { GoesTo Stage.Fraction piece.now at result.0 result.1 }
-{
-    let (stage, end) = digits_end(Stage::Fraction, piece, at);
-    match byte_end(stage, piece, end) {
-        (Stage::Letter, behind) => letter_end(piece, behind),
-        other => other,
-    }
-}
-
-// Behind its point.
-#[inline(always)]
-fn point_end(piece: &[u8], at: usize) -> (Stage, usize)
-    requires { at ≤ length piece.now }
-    ensures { GoesTo Stage.Point piece.now at result.0 result.1 }
-{
-    match byte_end(Stage::Point, piece, at) {
-        (Stage::Fraction, behind) => fraction_end(piece, behind),
-        other => other,
-    }
-}
-
-// Behind its integer part.
-#[inline(always)]
-fn int_part_end(stage: Stage, piece: &[u8], at: usize) -> (Stage, usize)
-    requires { at ≤ length piece.now }
-    ensures { GoesTo stage piece.now at result.0 result.1 }
-{
-    match byte_end(stage, piece, at) {
-        (Stage::Point, behind) => point_end(piece, behind),
-        (Stage::Letter, behind) => letter_end(piece, behind),
-        other => other,
-    }
-}
-
-// Behind a digit of an integer part that may have so many more.
-#[inline(always)]
-fn int_digits_end(room: usize, piece: &[u8], at: usize) -> (Stage, usize)
-    requires { at ≤ length piece.now }
-    ensures { GoesTo (Stage.Digits room) piece.now at result.0 result.1 }
-{
-    let (stage, end) = digits_end(Stage::Digits(room), piece, at);
-    int_part_end(stage, piece, end)
-}
-
-// Behind its minus.
-#[inline(always)]
-fn minus_parts_end(piece: &[u8], at: usize) -> (Stage, usize)
-    requires { at ≤ length piece.now }
-    ensures { GoesTo Stage.Minus piece.now at result.0 result.1 }
-{
-    match byte_end(Stage::Minus, piece, at) {
-        (Stage::Zero, behind) => int_part_end(Stage::Zero, piece, behind),
-        (Stage::Digits(room), behind) => int_digits_end(room, piece, behind),
-        other => other,
-    }
-}
-
-// All that stands at a place and goes on with a number of this stage. The stage behind it, and the place.
-fn parts_end(stage: Stage, piece: &[u8], at: usize) -> (Stage, usize)
-    requires { at ≤ length piece.now }
-    ensures { GoesTo stage piece.now at result.0 result.1 }
-{
-    match stage {
-        Stage::Digits(room) => int_digits_end(room, piece, at),
-        Stage::Fraction => fraction_end(piece, at),
-        Stage::Zero => int_part_end(stage, piece, at),
-        Stage::Minus => minus_parts_end(piece, at),
-        Stage::Point => point_end(piece, at),
-        Stage::Letter => letter_end(piece, at),
-        Stage::Sign => sign_end(piece, at),
-        Stage::Exponent => digits_end(stage, piece, at),
     }
 }
 

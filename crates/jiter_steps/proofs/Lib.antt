@@ -1,5 +1,4 @@
 pub mod Calls
-pub mod CharacterBytes
 pub mod Computed
 pub mod Cut
 pub mod Fault

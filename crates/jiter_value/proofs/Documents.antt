@@ -1,4 +1,11 @@
 -- What a document that arrives in pieces knows of its bytes, where some are taken.
+pub mod Blanks
+pub mod Bytes
+pub mod Ends
+pub mod Names
+pub mod Strings
+pub mod Texts
+pub mod Tokens
 use Rattle.std.proofs.Common.{◌≡◌, ℕ, ◌+◌, ◌-◌, ◌<◌, ◌≤◌, true, false, List, [], ◌∷◌, ◌++◌, length, get_or}
 use Rattle.std.proofs.Common.{refl, sym, subst, ap, ◌∙◌, arith, append_assoc, inl, inr, length-append}
 use Rattle.std.specs.Prelude.{slice_get, Option, Some, None}

@@ -27,17 +27,10 @@ pub mod Settled
 pub mod ShownTexts
 pub mod Arrivals
 pub mod OpenValues
-pub mod DocumentEnds
 pub mod Documents
 pub mod Pieces
-pub mod DocumentTokens
-pub mod DocumentNames
 pub mod KeySets
-pub mod DocumentStrings
-pub mod DocumentTexts
 pub mod Received
 pub mod GrownTexts
-pub mod DocumentBlanks
-pub mod DocumentBytes
 pub mod WholeLiterals
 mod Rows

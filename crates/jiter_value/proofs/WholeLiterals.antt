@@ -26,7 +26,7 @@ use Rattle.jiter_value.specs.Settings.{rules_as}
 use Rattle.jiter_value.specs.Stacks.{empty_tree}
 use Rattle.jiter_value.specs.declared.names.Name.TheVariants as name
 use Rattle.jiter_value.specs.declared.settings.Settings.{Settings}
-use Rattle.jiter_value.proofs.DocumentTokens.{begins-so, held-stands, word-done}
+use Rattle.jiter_value.proofs.Documents.Tokens.{begins-so, held-stands, word-done}
 use Rattle.jiter_value.proofs.OpenValues.{opens-item}
 
 module _ (piece : List ℕ) (at : ℕ) (l : Literal) (e : ℕ) (starts : start_of (get_or piece at 0) ≡ start.Literal l)

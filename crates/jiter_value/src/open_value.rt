@@ -4,7 +4,6 @@ ghost use Rattle.std.specs.Prelude.{◌≡◌, ◌∷◌, ◌++◌, ◌<◌, [],
 ghost use Rattle.std.specs.Prelude.{◌≤◌, take, true, ℕ};
 ghost use Rattle.std.specs.Prelude.{option_map};
 ghost use Rattle.jiter_scan.specs.Ascii.{colon};
-ghost use Rattle.std.specs.Str.{IsAscii};
 ghost use Rattle.jiter_scan.specs.Kind.{Kind, fault_kind};
 ghost use Rattle.jiter_scan.specs.PartialMode.{is_active};
 ghost use Rattle.jiter_scan.specs.Scanned.{taken};
@@ -22,7 +21,6 @@ ghost use Rattle.jiter_value.specs.OpenValue.{IsLeft, IsPutTogether, IsRightSign
 ghost use Rattle.jiter_value.specs.OpenValue.{TakesByte, completed, step_by, text_of};
 ghost use Rattle.jiter_value.specs.Owned.{owned_tree};
 ghost use Rattle.jiter_value.specs.Parses.{reading_as};
-ghost use Rattle.jiter_value.specs.Replaced.{HasGoneOn, HasReplaced, HoldsTextInside, with_chars, with_root};
 ghost use Rattle.jiter_value.specs.Settings.{answer_by, rules_as};
 ghost use Rattle.jiter_value.specs.Spine.{OpenFrame, AwaitsPart, HasRoomInside, HasValue, IsInPlace, IsOfKey};
 ghost use Rattle.jiter_value.specs.Spine.{StandsFor, spine_of};
@@ -32,17 +30,15 @@ ghost use Rattle.jiter_value.specs.declared.open_value.OpenValue.{OpenValue as O
 ghost use Rattle.jiter_value.specs.declared.settings.Settings.{Settings};
 ghost use Rattle.jiter_value.specs.declared.value.JsonValue.{JsonValue as JsonValueView};
 
-use crate::spine::{
-    append_text, close, make_room_inside, open_container, put, put_together, take_apart, take_back,
-    take_inside,
-};
+use crate::spine::{close, make_room_inside, open_container};
 use crate::value::JsonValue;
 use jiter_scan::errors::FaultKind;
 use jiter_scan::memory::Refused;
-use jiter_steps::open_string::OpenString;
 use jiter_steps::parse::{NESTING_LIMIT, Shape, Start, start_of};
 use std::alloc::Global;
 use std::borrow::CowStr;
+
+mod shown;
 
 /// What is awaited where no token is unfinished.
 #[derive(Clone, Copy, Debug)]
@@ -532,111 +528,5 @@ impl OpenValue {
         } else {
             Some(shape_inside(&self.spine).end_kind())
         }
-    }
-
-    /// A scalar that is not whole is shown where it is awaited. It takes no memory.
-    #[inline(always)]
-    pub fn show(&mut self, value: JsonValue<'static>)
-        requires { HasRoomInside self.old.spine.items }
-        ensures { IsShown self.old self.new value.entry }
-    {
-        put(&mut self.spine, &mut self.root, &mut self.key, value);
-    }
-
-    /// Takes back what was shown: its place is awaited again, and there is room in it.
-    pub fn hide(&mut self) -> JsonValue<'static>
-        requires { (fs : List OpenFrame) × (x : Tree) × HasValue self.old.spine.items self.old.root fs x }
-        ensures value { (v : JsonValueView) → IsInPlace self.old.spine.items self.old.root v → result ≡ v }
-        ensures place { (fs : List OpenFrame) → (x : Tree) → HasValue self.old.spine.items self.old.root fs x
-            → AwaitsPart self.new.spine.items fs × IsOfKey (text_view self.new.key) fs }
-        ensures room { HasRoomInside self.new.spine.items }
-        ensures awaits { self.new.awaits ≡ self.old.awaits }
-    {
-        take_back(&mut self.spine, &mut self.root, &mut self.key)
-    }
-
-    /// The open containers are put together, and so many they are.
-    pub fn put_together(&mut self) -> usize
-        requires { (v : Tree) × StandsFor self.old.spine.items self.old.root v }
-        ensures root { (v : Tree) → StandsFor self.old.spine.items self.old.root v → view self.new.root ≡ v }
-        ensures together { IsPutTogether self.old self.new result }
-    {
-        let depth = self.spine.len();
-        put_together(&mut self.spine, &mut self.root);
-        depth
-    }
-
-    /// They are taken apart again.
-    pub fn take_apart(&mut self, depth: usize)
-        requires { (old : OpenValueView) × IsPutTogether old self.old depth }
-        ensures { (old : OpenValueView) → IsPutTogether old self.old depth → IsApartAs old self.new }
-    {
-        take_apart(&mut self.spine, &mut self.root, depth);
-    }
-
-    /// Bytes below 80 hex behind the text that is shown, so many containers deep, where these are together. Where memory
-    /// is refused, the text is the same.
-    #[inline(always)]
-    pub fn append_text(&mut self, depth: usize, bytes: &[u8]) -> Result<(), Refused>
-        requires text { (w : List ℕ) × HoldsTextInside depth self.old.root w }
-        requires ascii { IsAscii bytes.now }
-        ensures ok { (w : List ℕ) → HoldsTextInside depth self.old.root w
-            → OnOk result (HasReplaced depth self.old.root self.new.root (w ++ bytes.now)) }
-        ensures refused { (w : List ℕ) → HoldsTextInside depth self.old.root w
-            → OnErr result (HasReplaced depth self.old.root self.new.root w) }
-        ensures some { OnErr result (0 < length bytes.now) }
-        ensures same { self.new ≡ with_root self.old self.new.root }
-    {
-        append_text(&mut self.root, depth, bytes)
-    }
-
-    /// Bytes of a piece that go on with an unfinished string, whose characters so far are the text that is shown, so many
-    /// containers deep, where these are together: how many are taken, and whether memory was refused. What is taken
-    /// stands there too.
-    #[inline(always)]
-    pub fn take_inside(
-        &mut self,
-        depth: usize,
-        unfinished: &mut OpenString,
-        piece: &[u8],
-    ) -> (usize, Result<(), Refused>)
-        requires text { (w : List ℕ) × HoldsTextInside depth self.old.root w }
-        requires whole { unfinished.old.text.broken ≡ false }
-        ensures went { (w : List ℕ) → HoldsTextInside depth self.old.root w
-            → HasGoneOn depth self.old.root self.new.root (with_chars unfinished.old w) unfinished.new
-            (take result.0 piece.now) }
-        ensures within { result.0 ≤ length piece.now }
-        ensures wanted { OnErr result.1 (result.0 < length piece.now) }
-        ensures same { self.new ≡ with_root self.old self.new.root }
-    {
-        take_inside(&mut self.root, depth, unfinished, piece)
-    }
-
-    /// The value so far, where its containers are together.
-    pub fn root(&self) -> &JsonValue<'static>
-        ensures { result.now ≡ self.now.root }
-    {
-        &self.root
-    }
-
-    /// The same, moved out.
-    pub fn into_root(self) -> JsonValue<'static>
-        ensures { result ≡ self.root }
-    {
-        self.root
-    }
-
-    /// The value so far, each container that is open ended; `null` where none of it was read. It takes no memory.
-    pub fn into_value(self) -> JsonValue<'static>
-        requires { (s : Arrived) × IsLeft self s }
-        // In a partial mode it is what the bytes so far answer, each text owned.
-        ensures { (p : Settings) → (t : List ℕ) → (s : Arrived) → (v : Tree) → is_active p.mode ≡ true
-            → HasRead p t s → IsLeft self s → shown s ≡ Some v
-            → (view result ≡ v) × ((e : ℕ) × (reading_as owned_tree (answer_by p t) ≡ done v e)) }
-    {
-        let mut spine = self.spine;
-        let mut root = self.root;
-        put_together(&mut spine, &mut root);
-        root
     }
 }

@@ -214,8 +214,9 @@ pub fn put<'j>(
     append(&mut spine[depth - 1], key, value);
 }
 
-// A container with no part.
-fn empty<'j>(alloc: Global, shape: Shape) -> JsonValue<'j>
+/// A container with no part. It takes no memory.
+#[inline(always)]
+pub fn empty<'j>(alloc: Global, shape: Shape) -> JsonValue<'j>
     ensures { view result ≡ empty_tree shape }
 {
     match shape {

@@ -17,7 +17,6 @@ ghost use Rattle.jiter_value.specs.OpenDocument.{Meets, MeetsBehind, Stays, Stay
 ghost use Rattle.jiter_value.specs.OpenValue.{AwaitsValue, BeginsItem, IsEnding};
 ghost use Rattle.jiter_value.specs.Owned.{owned_text, tree_as};
 ghost use Rattle.jiter_value.specs.Spine.{HasRoomInside, OpenFrame};
-ghost use Rattle.jiter_value.specs.Stacks.{empty_tree};
 ghost use Rattle.jiter_value.specs.Value.{view};
 ghost use Rattle.jiter_value.specs.declared.open_document.Token.{Token};
 ghost use Rattle.jiter_value.specs.declared.open_value.Awaits.{Awaits};
@@ -28,6 +27,7 @@ use crate::names::Name;
 use crate::number_text::NumberText;
 use crate::open_document::{OpenDocument, Token, begins_decimal};
 use crate::open_value::Went;
+use crate::spine::empty;
 use crate::value::JsonValue;
 use jiter_scan::memory::Refused;
 use jiter_scan::number_within::{ShortWithin, number_within, short_within};
@@ -37,7 +37,6 @@ use jiter_steps::blank::past_blanks;
 use jiter_steps::open_string::text_within;
 use jiter_steps::parse::{Literal, Shape, Start, start_of};
 use jiter_steps::plain::plain_literal_end;
-use std::alloc::Global;
 
 // A number that is not known to be short is looked for where so many bytes are left in a piece.
 const LONG_REACH: usize = 33;
@@ -79,17 +78,6 @@ fn closes_at(piece: &[u8], at: usize, shape: Shape) -> bool
     ensures { result ≡ true → slice_get piece.now at ≡ Some (closer_of shape) }
 {
     at < piece.len() && piece[at] == shape.closer()
-}
-
-// A container with no part. It takes no memory.
-#[inline(always)]
-fn empty_value(alloc: Global, shape: Shape) -> JsonValue<'static>
-    ensures { view result ≡ empty_tree shape }
-{
-    match shape {
-        Shape::Array => JsonValue::Array(Vec::new(alloc)),
-        Shape::Object => JsonValue::Object(Vec::new(alloc)),
-    }
 }
 
 impl OpenDocument {
@@ -491,7 +479,8 @@ impl OpenDocument {
             return self.step_byte(piece, at);
         }
         if closes_at(piece, at + 1, shape) {
-            return self.whole_value(piece, at, empty_value(self.alloc, shape), at + 2);
+            let closed: JsonValue<'static> = empty(self.alloc, shape);
+            return self.whole_value(piece, at, closed, at + 2);
         }
         self.value.begin_container(shape)?;
         Ok(past_blanks(piece, at + 1) - at)

@@ -1,23 +1,32 @@
-use Rattle.std.proofs.Common.{◌≡◌, ◌∙◌, [], drop, take, sym, ap, subst}
+use Rattle.std.proofs.Common.{◌≡◌, ◌∙◌, drop, sym, ap, subst}
 use Rattle.std.proofs.Math.Seq.{drop-length}
-use Rattle.std.specs.Str.{IsUtf8}
+use Rattle.std.specs.Str.{IsValidUpTo}
+use Rattle.std.specs.Str.Lossy.{utf8_error_len}
 use Rattle.jiter_steps.specs.OpenText.{IsUnfinished}
-use Rattle.jiter_steps.proofs.CharacterBytes.{longer}
-use Rattle.jiter_steps.proofs.OpenTexts.{nil-unfinished, rest-all}
+use Rattle.jiter_steps.proofs.OpenTexts.{broken-behind, nil-unfinished, open-behind}
 use Rattle.jiter_steps.proofs.characters.right_end.Goals as goal
 
-pub returns-then-end-bytes-clause-open : goal.returns-then-end-bytes-clause-open
-returns-then-end-bytes-clause-open c =
-    λ _.
-    let bytes = c.args.bytes.now in
-    let none : drop c.characters_end-end.result bytes ≡ [] =
-    ap (λ n. drop n bytes) c.if-end-bytes.true ∙ drop-length bytes in
-    subst IsUnfinished (sym none) nil-unfinished
+pub returns-in-Ok-clause-open : goal.returns-in-Ok-clause-open
+returns-in-Ok-clause-open c = λ _. subst IsUnfinished (sym (drop-length c.args.bytes.now)) nil-unfinished
 
-pub returns-clause-front : goal.returns-clause-front
-returns-clause-front c =
+pub returns-in-Err-clause-open : goal.returns-in-Err-clause-open
+returns-in-Err-clause-open c =
+    λ s.
     let bytes = c.args.bytes.now in
-    let end = c.characters_end-end.result in
-    let more = c.right_far-more.result.0 in
-    longer bytes end more c.characters_end-end.ensures.front
-    (subst (λ x. IsUtf8 (take more x)) (rest-all end bytes) c.right_far-more.ensures.front)
+    let n = c.valid_up_to.result in
+    let valid : IsValidUpTo bytes n = subst (IsValidUpTo bytes) (sym c.valid_up_to.ensures) c.in-Err.ensures.cases.1 in
+    let error : utf8_error_len (drop n bytes) ≡ c.error_len.result =
+    ap (λ m. utf8_error_len (drop m bytes)) c.valid_up_to.ensures ∙ sym c.in-Err.ensures.fault
+    ∙ sym c.error_len.ensures in
+    open-behind bytes n valid c.error_len.result error (sym c.is_some.ensures ∙ s)
+
+pub returns-in-Err-clause-wrong : goal.returns-in-Err-clause-wrong
+returns-in-Err-clause-wrong c =
+    λ s.
+    let bytes = c.args.bytes.now in
+    let n = c.valid_up_to.result in
+    let valid : IsValidUpTo bytes n = subst (IsValidUpTo bytes) (sym c.valid_up_to.ensures) c.in-Err.ensures.cases.1 in
+    let error : utf8_error_len (drop n bytes) ≡ c.error_len.result =
+    ap (λ m. utf8_error_len (drop m bytes)) c.valid_up_to.ensures ∙ sym c.in-Err.ensures.fault
+    ∙ sym c.error_len.ensures in
+    broken-behind bytes n valid c.error_len.result error (sym c.is_some.ensures ∙ s)

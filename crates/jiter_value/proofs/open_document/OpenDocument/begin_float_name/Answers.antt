@@ -2,7 +2,7 @@ use Rattle.std.proofs.Common.{subst, sym}
 use Rattle.std.proofs.lemmas.Bool.{ne_eqb}
 use Rattle.jiter_value.specs.OpenDocument.{NameBegins}
 use Rattle.jiter_value.specs.declared.names.Name.TheVariants as name
-use Rattle.jiter_value.proofs.DocumentTokens.{infinity-begins, infinity-first, nan-begins}
+use Rattle.jiter_value.proofs.Documents.Tokens.{infinity-begins, infinity-first, nan-begins}
 use Rattle.jiter_value.proofs.open_document.OpenDocument.begin_float_name.Goals as goal
 
 pub returns-then-byte-eq78-clause-begun : goal.returns-then-byte-eq78-clause-begun

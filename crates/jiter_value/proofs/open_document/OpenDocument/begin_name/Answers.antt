@@ -1,7 +1,7 @@
 use Rattle.std.proofs.Common.{◌∷◌, []}
 use Rattle.jiter_value.specs.OpenDocument.{anything, in_scalar, with_byte}
 use Rattle.std.proofs.Common.{length}
-use Rattle.jiter_value.proofs.DocumentTokens.{follows-here, name-denied}
+use Rattle.jiter_value.proofs.Documents.Tokens.{follows-here, name-denied}
 use Rattle.jiter_value.proofs.open_document.OpenDocument.begin_name.Goals as goal
 
 -- the name is refused

@@ -2,8 +2,8 @@ use Rattle.std.proofs.Common.{◌+◌, ◌++◌, ◌∷◌, arith, get_or, refl,
 use Rattle.std.specs.Prelude.{slice_range}
 use Rattle.jiter_scan.specs.OpenNumber.{HoldsNumber}
 use Rattle.jiter_value.specs.OpenDocument.{HasTakenIn, anything}
-use Rattle.jiter_value.proofs.DocumentBytes.{meets-scalar, one-byte}
-use Rattle.jiter_value.proofs.DocumentTokens.{decimal-starts, number-begins, range-first}
+use Rattle.jiter_value.proofs.Documents.Bytes.{meets-scalar, one-byte}
+use Rattle.jiter_value.proofs.Documents.Tokens.{decimal-starts, number-begins, range-first}
 use Rattle.jiter_value.proofs.open_document.OpenDocument.begin_number.Goals as goal
 
 pub returns-in-Scalar-clause-taken : goal.returns-in-Scalar-clause-taken

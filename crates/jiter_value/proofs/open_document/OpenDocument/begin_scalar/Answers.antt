@@ -1,5 +1,5 @@
 use Rattle.std.proofs.Common.{sym, ◌∙◌}
-use Rattle.jiter_value.proofs.DocumentTokens.{literal-begins}
+use Rattle.jiter_value.proofs.Documents.Tokens.{literal-begins}
 use Rattle.jiter_value.proofs.open_document.OpenDocument.begin_scalar.Goals as goal
 
 -- a literal

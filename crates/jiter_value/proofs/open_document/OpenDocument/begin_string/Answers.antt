@@ -1,6 +1,6 @@
 use Rattle.std.proofs.Common.{◌∷◌, ◌++◌, [], refl, subst, sym}
 use Rattle.jiter_value.specs.OpenDocument.{HasTakenIn, anything}
-use Rattle.jiter_value.proofs.DocumentTokens.{key-begins, string-begins}
+use Rattle.jiter_value.proofs.Documents.Tokens.{key-begins, string-begins}
 use Rattle.jiter_value.proofs.open_document.OpenDocument.begin_string.Goals as goal
 
 -- a key

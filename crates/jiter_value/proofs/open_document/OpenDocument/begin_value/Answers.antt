@@ -1,4 +1,4 @@
-use Rattle.jiter_value.proofs.DocumentBytes.{begins-value}
+use Rattle.jiter_value.proofs.Documents.Bytes.{begins-value}
 use Rattle.jiter_value.proofs.open_document.OpenDocument.begin_value.Goals as goal
 
 pub returns-clause-begins : goal.returns-clause-begins

@@ -1,6 +1,6 @@
 use Rattle.std.proofs.Common.{◌∷◌, ◌++◌, [], refl, subst, sym}
 use Rattle.jiter_value.specs.OpenDocument.{HasTakenIn, anything}
-use Rattle.jiter_value.proofs.DocumentTokens.{word-begins, word-held}
+use Rattle.jiter_value.proofs.Documents.Tokens.{word-begins, word-held}
 use Rattle.jiter_value.proofs.open_document.OpenDocument.begin_word.Goals as goal
 
 -- src/open_document.rt:167:5

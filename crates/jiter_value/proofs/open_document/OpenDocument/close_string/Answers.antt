@@ -2,8 +2,8 @@ use Rattle.std.proofs.Common.{List, arith, length, ℕ, ◌∷◌, [], ◌+◌, 
 use Rattle.jiter_value.specs.DocumentStrings.{IsTextAs}
 use Rattle.jiter_value.specs.OpenDocument.{Holding, Known, anything, with_byte}
 use Rattle.jiter_value.specs.declared.open_document.OpenDocument.{OpenDocument}
-use Rattle.jiter_value.proofs.DocumentStrings.{arrived-in, closed-refused, index-low, noted-held, noted-known}
-use Rattle.jiter_value.proofs.DocumentStrings.{noted-text, of-string, unset-in, whole-text}
+use Rattle.jiter_value.proofs.Documents.Strings.{arrived-in, closed-refused, index-low, noted-held, noted-known}
+use Rattle.jiter_value.proofs.Documents.Strings.{noted-text, of-string, unset-in, whole-text}
 use Rattle.jiter_value.proofs.open_document.OpenDocument.close_string.Goals as goal
 
 pub overflow_add-index-2 : goal.overflow_add-index-2

@@ -1,7 +1,7 @@
 use Rattle.std.proofs.Common.{◌+◌, ◌-◌, ◌∷◌, ◌++◌, [], arith, subst, sym}
 use Rattle.jiter_value.specs.OpenDocument.{HasTakenIn, anything}
-use Rattle.jiter_value.proofs.DocumentBlanks.{blanks-behind}
-use Rattle.jiter_value.proofs.DocumentBytes.{one-byte, takes-here}
+use Rattle.jiter_value.proofs.Documents.Blanks.{blanks-behind}
+use Rattle.jiter_value.proofs.Documents.Bytes.{one-byte, takes-here}
 use Rattle.jiter_value.proofs.open_document.OpenDocument.colon_behind.Goals as goal
 
 pub returns-then-piece-at-eq58-clause-taken : goal.returns-then-piece-at-eq58-clause-taken

@@ -1,4 +1,4 @@
-use Rattle.jiter_value.proofs.DocumentEnds.{end-some, end-none}
+use Rattle.jiter_value.proofs.Documents.Ends.{end-some, end-none}
 use Rattle.jiter_value.proofs.open_document.OpenDocument.end_fault.Goals as goal
 
 pub returns-in-Some : goal.returns-in-Some

@@ -1,6 +1,6 @@
 use Rattle.std.proofs.Common.{string_bytes}
 use Rattle.jiter_value.specs.OpenValue.{text_of}
-use Rattle.jiter_value.proofs.DocumentStrings.{key-taken}
+use Rattle.jiter_value.proofs.Documents.Strings.{key-taken}
 use Rattle.jiter_value.proofs.open_document.OpenDocument.end_key.Goals as goal
 
 pub returns-clause-key : goal.returns-clause-key

@@ -1,5 +1,5 @@
 use Rattle.jiter_value.proofs.Documents.{between-before}
-use Rattle.jiter_value.proofs.DocumentBytes.{meets}
+use Rattle.jiter_value.proofs.Documents.Bytes.{meets}
 use Rattle.jiter_value.proofs.open_document.OpenDocument.look.Goals as goal
 
 pub next-requires : goal.next-requires

@@ -1,5 +1,5 @@
 use Rattle.std.proofs.Common.{[], ◌∙◌, sym}
-use Rattle.jiter_value.proofs.DocumentEnds.{fault-found}
+use Rattle.jiter_value.proofs.Documents.Ends.{fault-found}
 use Rattle.jiter_value.proofs.open_document.OpenDocument.mode_fault.Goals as goal
 
 pub returns-then-is_some : goal.returns-then-is_some

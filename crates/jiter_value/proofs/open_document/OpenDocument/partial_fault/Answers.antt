@@ -1,8 +1,8 @@
 use Rattle.std.proofs.Common.{List, [], ◌+◌, ◌∙◌, ℕ, ap, arith, length, subst, sym}
 use Rattle.std.specs.Prelude.{None}
 use Rattle.jiter_value.specs.OpenDocument.{ReadsAt}
-use Rattle.jiter_value.proofs.DocumentEnds.{broken-answered, broken-low, none-answered, nothing-comes, partial-answers}
-use Rattle.jiter_value.proofs.DocumentEnds.{value-answered}
+use Rattle.jiter_value.proofs.Documents.Ends.{broken-answered, broken-low, none-answered, nothing-comes, partial-answers}
+use Rattle.jiter_value.proofs.Documents.Ends.{value-answered}
 use Rattle.jiter_value.proofs.open_document.OpenDocument.partial_fault.Goals as goal
 
 pub overflow_add-index-then-is_broken : goal.overflow_add-index-then-is_broken

@@ -3,9 +3,9 @@ use Rattle.std.specs.Prelude.{slice_range}
 use Rattle.jiter_value.specs.OpenDocument.{HasTakenIn, anything, with_byte}
 use Rattle.jiter_value.specs.OpenValue.{Goes}
 use Rattle.jiter_value.specs.Value.{view}
-use Rattle.jiter_value.proofs.DocumentBlanks.{blanks-behind}
-use Rattle.jiter_value.proofs.DocumentBytes.{meets-behind, put-before}
-use Rattle.jiter_value.proofs.DocumentTokens.{range-behind}
+use Rattle.jiter_value.proofs.Documents.Blanks.{blanks-behind}
+use Rattle.jiter_value.proofs.Documents.Bytes.{meets-behind, put-before}
+use Rattle.jiter_value.proofs.Documents.Tokens.{range-behind}
 use Rattle.jiter_value.proofs.Documents.{taken-between, takes-byte}
 use Rattle.jiter_value.proofs.Pieces.{range-long}
 use Rattle.jiter_value.proofs.open_document.OpenDocument.put_ended.Goals as goal

@@ -1,6 +1,6 @@
 use Rattle.std.proofs.Common.{◌++◌, [], append-nil, length, string_bytes, subst, sym}
 use Rattle.jiter_value.specs.OpenDocument.{HasTakenIn, IsReadAs, anything, in_scalar, own_number, with_byte}
-use Rattle.jiter_value.proofs.DocumentTokens.{number-known}
+use Rattle.jiter_value.proofs.Documents.Tokens.{number-known}
 use Rattle.jiter_value.proofs.open_document.OpenDocument.put_number.Goals as goal
 
 pub returns-clause-put : goal.returns-clause-put

@@ -2,7 +2,7 @@ use Rattle.std.proofs.Common.{ap, string_bytes, ◌∙◌}
 use Rattle.jiter_steps.specs.Tree.{string}
 use Rattle.jiter_value.specs.OpenValue.{text_of}
 use Rattle.jiter_value.specs.Value.{view}
-use Rattle.jiter_value.proofs.DocumentStrings.{key-put, value-put}
+use Rattle.jiter_value.proofs.Documents.Strings.{key-put, value-put}
 use Rattle.jiter_value.proofs.open_document.OpenDocument.put_text.Goals as goal
 
 pub returns-in-Key-clause-put : goal.returns-in-Key-clause-put

@@ -2,7 +2,7 @@ use Rattle.std.proofs.Common.{◌≡◌, ◌+◌, ◌-◌, ◌++◌, arith, get_
 use Rattle.std.specs.Prelude.{slice_range}
 use Rattle.jiter_value.specs.OpenDocument.{HasTakenIn, anything, with_byte}
 use Rattle.jiter_value.specs.Value.{view}
-use Rattle.jiter_value.proofs.DocumentBytes.{scalar-ends, scalar-follows, scalar-read}
+use Rattle.jiter_value.proofs.Documents.Bytes.{scalar-ends, scalar-follows, scalar-read}
 use Rattle.jiter_value.proofs.open_document.OpenDocument.put_whole.Goals as goal
 
 pub put_ended-requires-clause-ends : goal.put_ended-requires-clause-ends

@@ -1,6 +1,6 @@
 use Rattle.std.proofs.Common.{◌+◌, ◌-◌, arith, get_or}
-use Rattle.jiter_value.proofs.DocumentBlanks.{blanks-behind}
-use Rattle.jiter_value.proofs.DocumentBytes.{meets-taken, one-byte}
+use Rattle.jiter_value.proofs.Documents.Blanks.{blanks-behind}
+use Rattle.jiter_value.proofs.Documents.Bytes.{meets-taken, one-byte}
 use Rattle.jiter_value.proofs.open_document.OpenDocument.step_byte.Goals as goal
 
 pub returns-in-Taken-clause-taken : goal.returns-in-Taken-clause-taken

@@ -1,7 +1,7 @@
 use Rattle.std.proofs.Common.{◌+◌, ◌-◌, arith, get_or, subst, sym}
 use Rattle.jiter_value.specs.OpenDocument.{IsScalarWithin}
-use Rattle.jiter_value.proofs.DocumentBlanks.{blanks-behind}
-use Rattle.jiter_value.proofs.DocumentBytes.{one-byte}
+use Rattle.jiter_value.proofs.Documents.Blanks.{blanks-behind}
+use Rattle.jiter_value.proofs.Documents.Bytes.{one-byte}
 use Rattle.jiter_value.proofs.Documents.{between-before, takes-byte}
 use Rattle.jiter_value.proofs.WholeLiterals.{empty-scalar, opening-item}
 use Rattle.jiter_value.proofs.open_document.OpenDocument.step_opening.Goals as goal
@@ -14,7 +14,7 @@ pub whole_value-requires-clause-value : goal.whole_value-requires-clause-value
 whole_value-requires-clause-value c =
     let piece = c.args.piece.now in
     let at = c.args.at in
-    subst (λ v. IsScalarWithin piece at v (at + 2)) (sym c.empty_value.ensures)
+    subst (λ v. IsScalarWithin piece at v (at + 2)) (sym c.empty-closed.ensures)
     (empty-scalar piece at c.args.shape c.requires.begins (c.closes_at.ensures c.if-closes_at.true))
 
 pub begin_container-requires : goal.begin_container-requires

@@ -1,6 +1,6 @@
 use Rattle.std.proofs.Common.{◌+◌}
 use Rattle.std.specs.Prelude.{slice_range}
-use Rattle.jiter_value.proofs.DocumentTexts.{refused-after, taken-after}
+use Rattle.jiter_value.proofs.Documents.Texts.{refused-after, taken-after}
 use Rattle.jiter_value.proofs.open_document.OpenDocument.step_text.Goals as goal
 
 pub returns-in-Some-clause-taken : goal.returns-in-Some-clause-taken

@@ -1,7 +1,7 @@
 use Rattle.std.proofs.Common.{[], ◌∙◌, ◌≡◌, subst, sym}
 use Rattle.std.specs.Prelude.{None}
 use Rattle.jiter_value.specs.OpenDocument.{ReadsAt, strictly}
-use Rattle.jiter_value.proofs.DocumentEnds.{fault-found, none-found, nothing-comes, strict-answers}
+use Rattle.jiter_value.proofs.Documents.Ends.{fault-found, none-found, nothing-comes, strict-answers}
 use Rattle.jiter_value.proofs.open_document.OpenDocument.strict_fault.Goals as goal
 
 pub returns-then-is_some : goal.returns-then-is_some

@@ -2,7 +2,7 @@ use Rattle.std.proofs.Common.{◌+◌, ◌++◌, ℕ, List, arith, append_assoc,
 use Rattle.std.proofs.lemmas.List.{length-take-le, take_all}
 use Rattle.std.specs.Prelude.{slice_range}
 use Rattle.jiter_value.specs.OpenDocument.{HasArrived}
-use Rattle.jiter_value.proofs.DocumentBlanks.{if-refused, refuse-inside}
+use Rattle.jiter_value.proofs.Documents.Blanks.{if-refused, refuse-inside}
 use Rattle.jiter_value.proofs.Pieces.{take-on}
 use Rattle.jiter_value.proofs.open_document.OpenDocument.take_all.Goals as goal
 

@@ -1,6 +1,6 @@
 use Rattle.std.proofs.Common.{◌∙◌, get_or, sym}
-use Rattle.jiter_value.proofs.DocumentBlanks.{if-refused}
-use Rattle.jiter_value.proofs.DocumentTokens.{decimal-item}
+use Rattle.jiter_value.proofs.Documents.Blanks.{if-refused}
+use Rattle.jiter_value.proofs.Documents.Tokens.{decimal-item}
 use Rattle.jiter_value.proofs.open_document.OpenDocument.take_between.Goals as goal
 
 pub returns-clause-wanted : goal.returns-clause-wanted

@@ -1,6 +1,6 @@
 use Rattle.std.proofs.Common.{◌∷◌, [], refl}
 use Rattle.jiter_value.specs.OpenDocument.{anything, in_scalar}
-use Rattle.jiter_value.proofs.DocumentNames.{name-refused, name-taken}
+use Rattle.jiter_value.proofs.Documents.Names.{name-refused, name-taken}
 use Rattle.jiter_value.proofs.open_document.OpenDocument.take_name.Goals as goal
 
 -- the word of the name begins

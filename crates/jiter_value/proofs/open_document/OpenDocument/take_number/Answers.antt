@@ -6,10 +6,10 @@ use Rattle.jiter_scan.specs.OpenNumber.{Fits, HoldsNumber, Leads}
 use Rattle.jiter_scan.specs.Scanned.{failed}
 use Rattle.jiter_scan.specs.declared.open_number.Went.TheVariants as went
 use Rattle.jiter_value.specs.OpenDocument.{HasTakenIn, Takes, anything, in_scalar}
-use Rattle.jiter_value.proofs.DocumentBytes.{one-byte}
-use Rattle.jiter_value.proofs.DocumentNames.{minus-alone}
-use Rattle.jiter_value.proofs.DocumentTokens.{number-ends, number-minus, number-open, number-refused, number-stays}
-use Rattle.jiter_value.proofs.DocumentTokens.{number-takes}
+use Rattle.jiter_value.proofs.Documents.Bytes.{one-byte}
+use Rattle.jiter_value.proofs.Documents.Names.{minus-alone}
+use Rattle.jiter_value.proofs.Documents.Tokens.{number-ends, number-minus, number-open, number-refused, number-stays}
+use Rattle.jiter_value.proofs.Documents.Tokens.{number-takes}
 use Rattle.jiter_value.proofs.open_document.OpenDocument.take_number.Goals as goal
 
 -- parts of the number

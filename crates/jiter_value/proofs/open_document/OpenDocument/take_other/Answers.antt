@@ -1,6 +1,6 @@
 use Rattle.std.proofs.Common.{◌≡◌, ◌+◌, ◌-◌, arith}
 use Rattle.jiter_steps.specs.Blank.{past_blanks}
-use Rattle.jiter_value.proofs.DocumentBlanks.{if-refused, not-passed, run-taken}
+use Rattle.jiter_value.proofs.Documents.Blanks.{if-refused, not-passed, run-taken}
 use Rattle.jiter_value.proofs.open_document.OpenDocument.take_other.Goals as goal
 
 pub returns-then-at-end-clause-taken : goal.returns-then-at-end-clause-taken

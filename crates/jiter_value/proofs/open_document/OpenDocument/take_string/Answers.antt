@@ -3,8 +3,8 @@ use Rattle.std.specs.Prelude.{slice_range}
 use Rattle.jiter_steps.specs.OpenString.{Goes, HasTaken}
 use Rattle.jiter_steps.specs.declared.open_string.Went.{Went}
 use Rattle.jiter_value.specs.OpenDocument.{anything}
-use Rattle.jiter_value.proofs.DocumentStrings.{arrived-in, known-same, of-string, quote-in, quote-takes, quote-whole}
-use Rattle.jiter_value.proofs.DocumentStrings.{taken-on, unset-in, wrong-low, wrong-refused}
+use Rattle.jiter_value.proofs.Documents.Strings.{arrived-in, known-same, of-string, quote-in, quote-takes, quote-whole}
+use Rattle.jiter_value.proofs.Documents.Strings.{taken-on, unset-in, wrong-low, wrong-refused}
 use Rattle.jiter_value.proofs.open_document.OpenDocument.take_string.Goals as goal
 
 pub close_string-requires-clause-token : goal.close_string-requires-clause-token

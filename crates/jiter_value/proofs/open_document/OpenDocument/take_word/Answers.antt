@@ -1,6 +1,6 @@
 use Rattle.std.proofs.Common.{◌∷◌, ◌++◌, [], ap, length, subst, sym}
 use Rattle.jiter_value.specs.OpenDocument.{IsReadAs, anything, in_scalar}
-use Rattle.jiter_value.proofs.DocumentTokens.{word-ends, word-goes-on, word-known, word-open, word-refused}
+use Rattle.jiter_value.proofs.Documents.Tokens.{word-ends, word-goes-on, word-known, word-open, word-refused}
 use Rattle.jiter_value.proofs.open_document.OpenDocument.take_word.Goals as goal
 
 pub returns-in-Part-clause-taken : goal.returns-in-Part-clause-taken

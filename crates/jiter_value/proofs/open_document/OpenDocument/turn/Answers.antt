@@ -1,6 +1,6 @@
 use Rattle.std.proofs.Common.{get_or}
 use Rattle.std.proofs.lemmas.Result.{on_err_weaker}
-use Rattle.jiter_value.proofs.DocumentBlanks.{if-refused, refuse-here, refuse-in}
+use Rattle.jiter_value.proofs.Documents.Blanks.{if-refused, refuse-here, refuse-in}
 use Rattle.jiter_value.proofs.Documents.{over-takes}
 use Rattle.jiter_value.proofs.open_document.OpenDocument.turn.Goals as goal
 

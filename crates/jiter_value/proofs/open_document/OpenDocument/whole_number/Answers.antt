@@ -1,6 +1,6 @@
 use Rattle.std.proofs.Common.{get_or}
 use Rattle.jiter_value.specs.Value.{view}
-use Rattle.jiter_value.proofs.DocumentTokens.{decimal-item, number-within-ends}
+use Rattle.jiter_value.proofs.Documents.Tokens.{decimal-item, number-within-ends}
 use Rattle.jiter_value.proofs.open_document.OpenDocument.whole_number.Goals as goal
 
 pub put_ended-requires-clause-ends : goal.put_ended-requires-clause-ends

@@ -1,9 +1,9 @@
 use Rattle.std.proofs.Common.{◌≡◌, ◌+◌, ◌-◌, ◌++◌, arith, get_or, length, string_bytes, subst, sym}
 use Rattle.std.specs.Prelude.{slice_range}
 use Rattle.jiter_value.specs.OpenDocument.{IsScalarWithin, anything, with_byte}
-use Rattle.jiter_value.proofs.DocumentBytes.{meets-key, meets-scalar, one-byte, two-parts}
-use Rattle.jiter_value.proofs.DocumentTexts.{text-follows, text-key, text-scalar, text-some}
-use Rattle.jiter_value.proofs.DocumentTokens.{key-known}
+use Rattle.jiter_value.proofs.Documents.Bytes.{meets-key, meets-scalar, one-byte, two-parts}
+use Rattle.jiter_value.proofs.Documents.Texts.{text-follows, text-key, text-scalar, text-some}
+use Rattle.jiter_value.proofs.Documents.Tokens.{key-known}
 use Rattle.jiter_value.proofs.open_document.OpenDocument.whole_text.Goals as goal
 
 pub put_whole-requires-clause-scalar : goal.put_whole-requires-clause-scalar
