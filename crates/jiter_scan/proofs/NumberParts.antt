@@ -1,5 +1,5 @@
 -- The parts of a number that arrives in pieces: each goes on with the ones before it.
-use Rattle.std.proofs.Common.{◌≡◌, ℕ, ◌+◌, ◌-◌, ◌≤◌, ◌||◌, ◌&&◌, Bool, true, false, not, List, [], ◌∷◌, ◌++◌}
+use Rattle.std.proofs.Common.{◌≡◌, ℕ, ◌+◌, ◌-◌, ◌<◌, ◌≤◌, ◌||◌, ◌&&◌, Bool, true, false, not, List, [], ◌∷◌, ◌++◌}
 use Rattle.std.proofs.Common.{append_assoc, length, length-append, refl, sym, ap, ap₂, subst, ◌∙◌, arith}
 use Rattle.std.specs.Prelude.{slice_get, slice_range, string_bytes, Some, if◌then◌else◌}
 use Rattle.std.specs.List.{list_any}
@@ -11,7 +11,7 @@ use Rattle.std.proofs.lemmas.Str.Ascii.{IsAscii-cons, IsAscii-nil}
 use Rattle.jiter_scan.specs.Digits.{digit_run_end}
 use Rattle.jiter_scan.specs.Number.{is_float_byte, is_integral}
 use Rattle.jiter_scan.specs.NumberReading.{number_extent}
-use Rattle.jiter_scan.specs.OpenNumber.{BeginsTo, digits_for, Fits, GoesTo, HoldsNumber, IsBegun, is_int_stage, Leads}
+use Rattle.jiter_scan.specs.OpenNumber.{BeginsThere, BeginsTo, digits_for, Fits, GoesTo, HoldsNumber, IsBegun, is_int_stage, Leads}
 use Rattle.jiter_scan.specs.OpenNumber.{LeadsOver, number_from, stage_behind}
 use Rattle.jiter_scan.specs.declared.open_number.OpenNumber.{OpenNumber}
 use Rattle.jiter_scan.specs.Stands.{Stands}
@@ -157,12 +157,11 @@ held-on n m w t i e h go text =
     }
 
 -- and so it does behind its first byte.
-pub held-first : (s : Stage) (m : OpenNumber) (t : List ℕ) (i b e : ℕ) → slice_get t i ≡ Some b
+pub begins-there : (s new : Stage) (t : List ℕ) (i b e : ℕ) → slice_get t i ≡ Some b
     → ((names : Bool) (u : List ℕ) (j : ℕ) → slice_get u j ≡ Some b
     → number_extent names u j ≡ number_from names s u (j + 1))
-    → is_int_stage s ≡ true → is_float_byte b ≡ false → GoesTo s t (i + 1) m.stage e
-    → string_bytes m.text ≡ slice_range t i e → HoldsNumber m (slice_range t i e)
-held-first s m t i b e here leads int float go text =
+    → is_int_stage s ≡ true → b < 128 → is_float_byte b ≡ false → GoesTo s t (i + 1) new e → BeginsThere t i new e
+begins-there s new t i b e here leads int small float go =
     let v = slice_range t (i + 1) e in
     let first : BeginsTo (b ∷ []) s = λ names u j h. leads names u j h.0 in
     let is : (b ∷ []) ++ v ≡ slice_range t i e =
@@ -173,7 +172,20 @@ held-first s m t i b e here leads int float go text =
       whole = sym (one-not (is_float_byte b)) ∙ ap not float ∙ sym int;
     } in
     record {
+      ahead = omega (arith, go.ahead);
+      within = go.within;
+      ascii = subst IsAscii is (IsAscii-cons b v small go.ascii);
+      begun = subst (λ w. IsBegun w new) is (begun-goes (b ∷ []) s new t (i + 1) e begun go);
+      goes = subst (λ w. BeginsTo w new) is (begins-over s new (b ∷ []) v first go.leads);
+    }
+
+-- Its bytes are kept.
+pub held-first : (m : OpenNumber) (s : Stage) (t : List ℕ) (i e : ℕ) → BeginsThere t i s e → m.stage ≡ s
+    → string_bytes m.text ≡ slice_range t i e → HoldsNumber m (slice_range t i e)
+held-first m s t i e there is text =
+    let w = slice_range t i e in
+    record {
       text = text;
-      begun = subst (λ w. IsBegun w m.stage) is (begun-goes (b ∷ []) s m.stage t (i + 1) e begun go);
-      goes = subst (λ w. BeginsTo w m.stage) is (begins-over s m.stage (b ∷ []) v first go.leads);
+      begun = subst (IsBegun w) (sym is) there.begun;
+      goes = subst (BeginsTo w) (sym is) there.goes;
     }

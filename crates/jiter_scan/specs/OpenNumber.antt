@@ -127,6 +127,14 @@ pub record IsBegun (w : List ℕ) (s : Stage) : Type 0 where
   pub goes : (names : Bool) (u : List ℕ) → number_extent names (w ++ u) 0 ≡ number_from names s (w ++ u) (length w)
   pub whole : is_integral w ≡ is_int_stage s
 
+-- The bytes of a text from i to before e begin a number that has come to this stage.
+pub record BeginsThere (t : List ℕ) (i : ℕ) (s : Stage) (e : ℕ) : Type 0 where
+  pub ahead : i < e
+  pub within : e ≤ length t
+  pub ascii : IsAscii (slice_range t i e)
+  pub begun : IsBegun (slice_range t i e) s
+  pub goes : BeginsTo (slice_range t i e) s
+
 -- These bytes are kept, and begin a number that has come so far.
 pub record HoldsNumber (n : OpenNumber) (w : List ℕ) : Type 0 where
   pub text : string_bytes n.text ≡ w

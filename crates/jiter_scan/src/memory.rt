@@ -13,6 +13,9 @@ use smallvec::SmallVec;
 use std::alloc::{AllocError, Global};
 use std::collections::BTreeSet;
 
+// The bytes of a short text: one that arrives in parts has room for so many from its first ones on.
+const SHORT_TEXT: usize = 32;
+
 /// The evidence that a request for memory was refused.
 #[derive(Debug, PartialEq, Eq, Drop)]
 pub struct Refused {
@@ -165,7 +168,19 @@ pub fn push_char(text: &mut String, c: char) -> Result<(), Refused>
     }
 }
 
-/// Appends bytes below 80 hex.
+// Room for so many bytes in a text that has none yet, and for as many as a short text has.
+#[inline(never)]
+fn begin_text(text: &mut String, count: usize) -> Result<(), Refused>
+    ensures { string_bytes text.new ≡ string_bytes text.old }
+{
+    match text.reserve(count.max(SHORT_TEXT)) {
+        Ok(()) => Ok(()),
+        Err(error) => Err(Refused { error }),
+    }
+}
+
+/// Appends bytes below 80 hex. With its first ones a text gets room for some more, so that one that arrives in parts
+/// seldom moves.
 #[inline(always)]
 pub fn push_ascii(text: &mut String, bytes: &[u8]) -> Result<(), Refused>
     requires { IsAscii bytes.now }
@@ -175,6 +190,9 @@ pub fn push_ascii(text: &mut String, bytes: &[u8]) -> Result<(), Refused>
 {
     if let [byte] = bytes {
         return push_char(text, *byte as char);
+    }
+    if text.capacity() == 0 && !bytes.is_empty() {
+        begin_text(text, bytes.len())?;
     }
     push_text(text, ascii_text(bytes))
 }

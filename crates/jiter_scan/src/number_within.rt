@@ -1,10 +1,12 @@
 //! Numbers that lie whole in a piece of a document (RFC 8259, 6), with a byte behind them that ends them.
 ghost use Rattle.std.specs.Prelude.{◌≡◌, ◌<◌, IfSome, length, true};
 ghost use Rattle.jiter_scan.specs.NumberDecoder.{number_view};
-ghost use Rattle.jiter_scan.specs.NumberWithin.{EndsWithin, EndsNumber, IsShortWithin, continues_number};
+ghost use Rattle.jiter_scan.specs.NumberWithin.{EndsWithin, EndsNumber, IsFloatWithin, IsShortWithin, continues_number};
+ghost use Rattle.jiter_scan.specs.OpenNumber.{BeginsThere};
 
 use crate::number_decoder::{NumberAny, number_at};
 use crate::number_extent::minus_end;
+use crate::open_number::{Stage, Went, is_int_stage, next_of};
 use crate::plain_number::{PlainNumber, short_number_at, signed};
 
 /// A short number that lies whole in a piece.
@@ -57,6 +59,21 @@ pub fn short_within(piece: &[u8], at: usize) -> ShortWithin
             }
         }
         PlainNumber::Other => ShortWithin::Other,
+    }
+}
+
+/// The text of a number with a point or an exponent that stands in a piece before a place, to which its bytes brought it, as
+/// [`begun_at`](crate::open_number::begun_at) said, if a byte stands there with which it does not go on.
+pub fn float_within(piece: &[u8], at: usize, stage: Stage, end: usize) -> Option<&[u8]>
+    requires { BeginsThere piece.now at stage end }
+    ensures { IfSome result (λ text. IsFloatWithin piece.now at text.now end) }
+{
+    if end == piece.len() || is_int_stage(stage) {
+        return None;
+    }
+    match next_of(stage, piece[end]) {
+        Went::Over => Some(&piece[at..end]),
+        _ => None,
     }
 }
 

@@ -5,7 +5,8 @@ ghost use Rattle.std.specs.Prelude.{false, length, slice_get, slice_index, slice
 ghost use Rattle.std.specs.Prelude.{string_len, true, ℕ};
 ghost use Rattle.jiter_scan.specs.Number.{big, integer, is_float_byte, number_value};
 ghost use Rattle.jiter_scan.specs.NumberReading.{exponent_at, decimal_at, number_extent, number_at};
-ghost use Rattle.jiter_scan.specs.OpenNumber.{Fits, GoesTo, HoldsNumber, IsBegun, Leads, at_end, begins_decimal};
+ghost use Rattle.jiter_scan.specs.OpenNumber.{BeginsThere, Fits, HoldsNumber, IsBegun, Leads, at_end, begins_decimal};
+ghost use Rattle.std.specs.Str.{IsAscii};
 ghost use Rattle.jiter_scan.specs.OpenNumber.{int_of, is_int_stage, is_whole, kept_bytes, kind_view};
 ghost use Rattle.jiter_scan.specs.OpenNumber.{number_by, number_from, own_view, tail_at};
 
@@ -285,6 +286,34 @@ fn integer_in(text: &[u8]) -> Option<i64>
     }
 }
 
+// Whether neither point nor exponent was seen.
+#[inline(always)]
+pub(crate) fn is_int_stage(stage: Stage) -> bool
+    ensures { result ≡ is_int_stage stage }
+{
+    match stage {
+        Stage::Minus => true,
+        Stage::Zero => true,
+        Stage::Digits(_) => true,
+        Stage::Point => false,
+        Stage::Fraction => false,
+        Stage::Letter => false,
+        Stage::Sign => false,
+        Stage::Exponent => false,
+    }
+}
+
+/// The bytes of a number at a place of a piece, from its first one on, a minus or a digit: how far they bring it, and the
+/// place behind them.
+#[inline(always)]
+pub fn begun_at(piece: &[u8], at: usize) -> (Stage, usize)
+    requires within { at < length piece.now }
+    requires begins { begins_decimal (slice_index piece.now at) ≡ true }
+    ensures { BeginsThere piece.now at result.0 result.1 }
+{
+    parts_end(first_stage(piece[at]), piece, at + 1)
+}
+
 /// A number whose bytes so far are kept, and how far they bring it.
 #[derive(Drop)]
 pub struct OpenNumber {
@@ -303,36 +332,39 @@ impl OpenNumber {
         }
     }
 
-    // Takes the byte at a place of a piece, which brings the number to this stage, and those behind it that go on with it.
-    fn take_from(&mut self, stage: Stage, piece: &[u8], at: usize) -> Result<usize, Refused>
-        requires within { at < length piece.now }
-        requires ascii { slice_index piece.now at < 128 }
-        ensures taken { IfOk result (λ n. GoesTo stage piece.now (at + 1) self.new.stage (at + n)
-            × (string_bytes self.new.text ≡ string_bytes self.old.text ++ slice_range piece.now at (at + n))) }
+    // Takes the bytes of a piece between two places, which bring the number to this stage.
+    #[inline(always)]
+    fn take(&mut self, stage: Stage, piece: &[u8], at: usize, end: usize) -> Result<(), Refused>
+        requires within { (at ≤ end) × (end ≤ length piece.now) }
+        requires ascii { IsAscii (slice_range piece.now at end) }
+        ensures taken { OnOk result ((self.new.stage ≡ stage)
+            × (string_bytes self.new.text ≡ string_bytes self.old.text ++ slice_range piece.now at end)) }
         ensures refused { OnErr result
             ((string_bytes self.new.text ≡ string_bytes self.old.text) × (self.new.stage ≡ self.old.stage)) }
-        ensures full { OnErr result (string_capacity self.old.text
-            < string_len self.old.text + (length piece.now - at)) }
+        ensures full { OnErr result (string_capacity self.old.text < string_len self.old.text + (end - at)) }
     {
-        let (behind, end) = parts_end(stage, piece, at + 1);
         push_text(&mut self.text, ascii_text(&piece[at..end]))?;
-        self.stage = behind;
-        Ok(end - at)
+        self.stage = stage;
+        Ok(())
     }
 
-    /// Takes the first byte of a number, a minus or a digit, at a place of a piece, and the bytes behind it that go on
-    /// with the number, and says how many. Where memory is refused, nothing changes.
-    pub fn begin(&mut self, piece: &[u8], at: usize) -> Result<usize, Refused>
+    /// Takes the bytes of a number between two places of a piece, from its first one on, which bring it to this stage, as
+    /// [`begun_at`] said. Where memory is refused, nothing changes.
+    pub fn begin(
+        &mut self,
+        piece: &[u8],
+        at: usize,
+        stage: Stage,
+        end: usize,
+    ) -> Result<(), Refused>
         requires none { string_bytes self.old.text ≡ [] }
-        requires within { at < length piece.now }
-        requires begins { begins_decimal (slice_index piece.now at) ≡ true }
-        ensures part { IfOk result (λ n. (0 < n) × (at + n ≤ length piece.now)) }
-        ensures held { IfOk result (λ n. HoldsNumber self.new (slice_range piece.now at (at + n))) }
+        requires begun { BeginsThere piece.now at stage end }
+        ensures held { OnOk result (HoldsNumber self.new (slice_range piece.now at end)) }
         ensures refused { OnErr result
             ((string_bytes self.new.text ≡ []) × (self.new.stage ≡ self.old.stage)) }
-        ensures full { OnErr result (string_capacity self.old.text < length piece.now - at) }
+        ensures full { OnErr result (string_capacity self.old.text < end - at) }
     {
-        self.take_from(first_stage(piece[at]), piece, at)
+        self.take(stage, piece, at, end)
     }
 
     /// What the next byte is to the number. It is not taken.
@@ -357,7 +389,9 @@ impl OpenNumber {
         ensures full { OnErr result (string_capacity self.old.text
             < string_len self.old.text + (length piece.now - at)) }
     {
-        self.take_from(stage, piece, at)
+        let (behind, end) = parts_end(stage, piece, at + 1);
+        self.take(behind, piece, at, end)?;
+        Ok(end - at)
     }
 
     /// Whether the bytes so far are a number.
@@ -392,29 +426,13 @@ impl OpenNumber {
         integer_in(self.text.as_bytes())
     }
 
-    // Whether neither point nor exponent was seen.
-    fn is_integer(&self) -> bool
-        ensures { result ≡ is_int_stage self.now.stage }
-    {
-        match self.stage {
-            Stage::Minus => true,
-            Stage::Zero => true,
-            Stage::Digits(_) => true,
-            Stage::Point => false,
-            Stage::Fraction => false,
-            Stage::Letter => false,
-            Stage::Sign => false,
-            Stage::Exponent => false,
-        }
-    }
-
     /// What the number is whose bytes were taken. At most 20 bytes are looked at.
     pub fn kind(&self) -> NumberKind
         requires begun { IsBegun (string_bytes self.now.text) self.now.stage }
         requires whole { is_whole self.now.stage ≡ true }
         ensures { kind_view result (string_bytes self.now.text) ≡ number_value (string_bytes self.now.text) }
     {
-        if !self.is_integer() {
+        if !is_int_stage(self.stage) {
             return NumberKind::Float;
         }
         match self.small_integer() {

@@ -28,9 +28,9 @@ use Rattle.jiter_value.specs.Arriving.{HasReceived, received}
 use Rattle.jiter_value.specs.DocumentEnds.{AnswersSo, KeepsText, broken_as, is_broken, is_shown, kind_as, kind_at_end, shown_as}
 use Rattle.jiter_value.specs.DocumentEnds.{so_far, token_tree}
 use Rattle.jiter_value.specs.DocumentStrings.{IsOfString}
-use Rattle.jiter_value.specs.Growing.{IsGrowing, moved_to, moved_unless, with_ends}
+use Rattle.jiter_value.specs.Growing.{IsGrowing, moved_to, with_end}
 use Rattle.jiter_value.specs.OpenDocument.{HasArrived, Holding, Known, MayRefuseAt, Opened, ReadsAt, anything, between_tokens}
-use Rattle.jiter_value.specs.OpenDocument.{in_key, in_scalar, noted_in, strictly}
+use Rattle.jiter_value.specs.OpenDocument.{in_key, in_scalar, strictly}
 use Rattle.jiter_value.specs.OpenValue.{IsPutTogether, IsShown, behind_value, text_of}
 use Rattle.jiter_value.specs.Replaced.{GoesOn, HasGoneOn, HasReplaced, HoldsTextInside, with_chars, with_root}
 use Rattle.jiter_value.specs.Settings.{answer_as}
@@ -46,7 +46,7 @@ use Rattle.jiter_value.specs.declared.open_value.OpenValue.{OpenValue}
 use Rattle.jiter_value.specs.declared.settings.Settings.{Settings}
 use Rattle.jiter_value.specs.declared.value.JsonValue.{JsonValue}
 use Rattle.jiter_value.proofs.Documents.Blanks.{refuse-in, refuse-on}
-use Rattle.jiter_value.proofs.Documents.Ends.{IsAnsweredSo, fault-found, nothing-comes, partial-answers, strict-answers}
+use Rattle.jiter_value.proofs.Documents.Ends.{IsAnsweredSo, nothing-comes, partial-answers, strict-answers}
 use Rattle.jiter_value.proofs.Documents.Ends.{with_fault, with_value}
 use Rattle.jiter_value.proofs.Documents.Strings.{goes-on, is-inside, known-more, with_string}
 use Rattle.jiter_value.proofs.Documents.{counted-holding, known-as}
@@ -177,21 +177,13 @@ module _ (d : OpenDocument) (t : List ℕ) (o : Opened) (h : InText d t o) where
   kind-string (inl is) = ap (λ j. kind_as d j o) is
   kind-string (inr is) = ap (λ j. kind_as d j o) is
 
-  -- with partial reading off the first fault is told
-  strict-by : (x : Option Fault) → d.first ≡ x
-      → AnswersSo (strictly d.settings) t (noted_in x fault_of.EofWhileParsingString d.position) (shown (so_far d o))
-  strict-by (Some f) is =
-      fault-found (strictly d.settings) t (Some f) o (shown (so_far d o))
-      (subst (λ x. ReadsAt (strictly d.settings) t [] x o) is (h.known.strict [] tt)) refl
-  strict-by None none =
+  -- with partial reading off the fault of the end is told
+  strict-told : d.first ≡ None → AnswersSo (strictly d.settings) t (Some (cut_at d.position)) (shown (so_far d o))
+  strict-told none =
       strict-answers d t h.place o (Some (cut_at d.position)) h.held (h.known.ends none)
       (kind-string h.kind, refl)
       (nothing-comes (strictly d.settings) t o
       (subst (λ x. ReadsAt (strictly d.settings) t [] x o) none (h.known.strict [] tt)))
-
-  pub strict-told : AnswersSo (strictly d.settings) t (noted_in d.first fault_of.EofWhileParsingString d.position)
-      (shown (so_far d o))
-  strict-told = strict-by d.first refl
 
   not-broken : d.string.text.broken ≡ false → is_broken d ≡ false
   not-broken whole = by h.kind where
@@ -211,7 +203,7 @@ module _ (d : OpenDocument) (t : List ℕ) (o : Opened) (h : InText d t o) where
         (nothing-comes d.settings t o
         (subst (λ x. ReadsAt d.settings t [] x o) h.unset (h.known.mode [] tt))))
     by false off =
-        let a = strict-by None (h.known.same off h.unset) in
+        let a = strict-told (h.known.same off h.unset) in
         with_fault eof_string a.0
         (ap (λ p. answer_as owned p t) (sym (off-strict d.settings off)) ∙ a.1
         ∙ ap (λ j. fault eof_string j a.0) h.place)
@@ -252,22 +244,6 @@ told-on p t u (Some f) j root new None None k l h (with_fault c stop g) (with_fa
     (i, r ∙ ap₂ (λ n q. fault n q i) kind (sym at))
 told-on p t u x j root new None (Some w) k l h a b was cut at same is = absurd (false≢true same)
 told-on p t u x j root new (Some v) None k l h a b was cut at same is = absurd (false≢true (sym same))
-
--- with partial reading off a fault is
-pub strict-on : (p : Settings) (t u : List ℕ) (x y : Option Fault) (i j : ℕ) (root : Tree) (v w z : Option Tree)
-    → AnswersSo p t y (Some root) → AnswersSo p t (noted_in x fault_of.EofWhileParsingString i) v
-    → AnswersSo p u (noted_in x fault_of.EofWhileParsingString j) w → AnswersSo p u (moved_unless x j y) z
-strict-on p t u None None i j root v w z h a b = let read = sym a.1 ∙ h.2.1 in absurd (cc)
-strict-on p t u (Some g) None i j root v w z h a b = let read = sym a.1 ∙ h.2.1 in absurd (cc)
-strict-on p t u None (Some f) i j root v w z h a b =
-    let read : fault eof_string i a.0 ≡ fault (fault_kind f.kind) f.index h.0 = sym a.1 ∙ h.1 in
-    let kind : eof_string ≡ fault_kind f.kind = cc in
-    (b.0, b.1 ∙ ap (λ n. fault n j b.0) kind)
-strict-on p t u (Some g) (Some f) i j root v w z h a b =
-    let read : fault (fault_kind g.kind) g.index a.0 ≡ fault (fault_kind f.kind) f.index h.0 = sym a.1 ∙ h.1 in
-    let kind : fault_kind g.kind ≡ fault_kind f.kind = cc in
-    let place : g.index ≡ f.index = cc in
-    (b.0, b.1 ∙ ap₂ (λ n q. fault n q b.0) kind place)
 
 -- ---- the same string with more characters
 
@@ -339,33 +315,15 @@ module _ (s : Settled) (t : List ℕ) (h : HasReceived (received s) t) (grows : 
   pub grown-wanted : (v : List ℕ) → 0 < length v → MayRefuseAt (t ++ v) d.position
   grown-wanted v some = subst (MayRefuseAt (t ++ v)) (sym h.position) (text-wanted a t v o before some)
 
-  -- With partial reading off the fault is told that was, where more bytes come.
-  strict-moved : (v : List ℕ) (b : OpenDocument) → InText b (t ++ v) o → b.settings ≡ a.settings → b.first ≡ a.first
-      → (z : Option Tree)
-      → AnswersSo (strictly d.settings) (t ++ v) (moved_unless d.first b.position s.first) z
-  strict-moved v b behind settings noted z =
-      let p = strictly a.settings in
-      let first : d.first ≡ a.first = ap (λ e. e.first) k.same in
-      subst (λ q. AnswersSo (strictly q) (t ++ v) (moved_unless d.first b.position s.first) z) (sym same-settings)
-      (strict-on p t (t ++ v) d.first s.first a.position b.position root (shown (so_far a o)) (shown (so_far b o)) z
-      (subst (λ q. AnswersSo (strictly q) t s.first (Some root)) same-settings h.strict)
-      (subst (λ x. AnswersSo p t (noted_in x fault_of.EofWhileParsingString a.position) (shown (so_far a o))) (sym first)
-      (strict-told a t o before))
-      (subst (λ x. AnswersSo p (t ++ v) (noted_in x fault_of.EofWhileParsingString b.position) (shown (so_far b o)))
-      (noted ∙ sym first)
-      (subst (λ q. AnswersSo (strictly q) (t ++ v) (noted_in b.first fault_of.EofWhileParsingString b.position)
-      (shown (so_far b o))) settings (strict-told b (t ++ v) o behind))))
-
-  -- Of this document and these faults the bytes are received.
+  -- Of this document and this fault the bytes are received.
   module _ (u : List ℕ) (b : OpenDocument) (behind : InText b u o) (e : OpenDocument)
       (holds : HoldsTogether e s.depth s.shown u o) (settings : e.settings ≡ b.settings) (unset : e.fault ≡ b.fault)
       (noted : e.first ≡ b.first) (place : e.position ≡ b.position) (kind : e.token ≡ d.token)
       (whole : e.string.text.broken ≡ false)
     where
-      received-so : (f x : Option Fault) → AnswersSo e.settings u f (Some (view e.value.root))
-          → AnswersSo (strictly e.settings) u x (Some (view e.value.root))
-          → HasReceived (received (record s { document = e; fault = f; first = x })) u
-      received-so f x told-so first-so = record {
+      received-so : (f : Option Fault) → AnswersSo e.settings u f (Some (view e.value.root))
+          → HasReceived (received (record s { document = e; fault = f })) u
+      received-so f told-so = record {
         together = record {
           opened = o;
           known = known-as anything b e u o settings unset noted behind.known;
@@ -374,7 +332,6 @@ module _ (s : Settled) (t : List ℕ) (h : HasReceived (received s) t) (grows : 
         };
         position = place ∙ behind.place;
         mode = told-so;
-        strict = first-so;
         growing = λ _. (unset ∙ behind.unset, subst IsOfString (sym kind) growing.1, whole);
       }
 
@@ -419,10 +376,7 @@ module _ (s : Settled) (t : List ℕ) (h : HasReceived (received s) t) (grows : 
         refl refl now.place (ap is_some (sym same-told))
         (λ x is here. same_Some _ _ (sym is ∙ sym same-told ∙ here)))
 
-    strict-at : AnswersSo (strictly d.settings) (t ++ v) (moved_unless d.first j s.first) value_so
-    strict-at = strict-moved v new now refl refl value_so
-
-    pub hidden-received : HasReceived (received (with_ends (record s { document = gone d n j }))) (t ++ v)
+    pub hidden-received : HasReceived (received (with_end (record s { document = gone d n j }))) (t ++ v)
     hidden-received =
         let e = gone d n j in
         received-so (t ++ v) new now e
@@ -433,7 +387,7 @@ module _ (s : Settled) (t : List ℕ) (h : HasReceived (received s) t) (grows : 
           same = ap (λ q. gone q n j) k.same;
           settled = subst (λ x. IsSettled x new e s.depth) (sym hides) (put.0, refl, put.2);
         }) same-settings (ap (λ q. q.fault) k.same) (ap (λ q. q.first) k.same) refl refl on.whole (moved_to j s.fault)
-        (moved_unless d.first j s.first) mode-on strict-at
+        mode-on
 
   -- One that is shown goes on in the value.
   module _ (shows : s.shown ≡ true) where
@@ -549,8 +503,7 @@ module _ (s : Settled) (t : List ℕ) (h : HasReceived (received s) t) (grows : 
         (holds-again v same w r a t before.held refl refl on refl moved.3 d.string left-apart e
         (ap (λ q. gone_in q d.string v q.position) k.same))
         same-settings (ap (λ q. q.fault) k.same) (ap (λ q. q.first) k.same) (ap (λ q. q.position) k.same) refl growing.2
-        s.fault s.first (subst (λ y. AnswersSo d.settings t s.fault (Some y)) root_so h.mode)
-        (subst (λ y. AnswersSo (strictly d.settings) t s.first (Some y)) root_so h.strict)
+        s.fault (subst (λ y. AnswersSo d.settings t s.fault (Some y)) root_so h.mode)
 
     chars-apart : with_chars d.string w ≡ a.string
     chars-apart = ap (λ q. with_chars q w) left-apart
@@ -588,15 +541,14 @@ module _ (s : Settled) (t : List ℕ) (h : HasReceived (received s) t) (grows : 
           (mode-told next (t ++ v) o behind-it (keeps-text next g.goes.whole g.utf8) g.goes.whole) refl refl behind-it.place
           (ap is_some told-apart ∙ sym (ap is_some told-b)) (λ y is here. there-now ∙ same_Some _ _ (sym told-b ∙ here))
 
-      pub shown-received : HasReceived (received (with_ends (record s { document = gone_in d n nv until }))) (t ++ v)
+      pub shown-received : HasReceived (received (with_end (record s { document = gone_in d n nv until }))) (t ++ v)
       shown-received =
           let e = gone_in d n nv until in
           received-so (t ++ v) next behind-it e
           (holds-again nv same chars g.replaced next (t ++ v) behind-it.held refl refl seen-now refl g.utf8 n g.left_out e
           (ap (λ q. gone_in q n nv until) k.same)) same-settings (ap (λ q. q.fault) k.same) (ap (λ q. q.first) k.same) refl refl
-          (ap (λ q. q.text.broken) g.left_out ∙ g.goes.whole) (moved_to until s.fault) (moved_unless d.first until s.first)
+          (ap (λ q. q.text.broken) g.left_out ∙ g.goes.whole) (moved_to until s.fault)
           (subst (λ p. AnswersSo p (t ++ v) (moved_to until s.fault) (Some (view nv.root))) (sym same-settings) mode-shown)
-          (strict-moved v next behind-it refl refl (Some (view nv.root)))
 
     -- Plain bytes stand behind it.
     pub plain-shown : (v : List ℕ) (nv : OpenValue) → IsEven d.string → Pass is_plain_ascii v

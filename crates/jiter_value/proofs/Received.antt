@@ -34,8 +34,8 @@ use Rattle.jiter_value.proofs.MadeTexts.{answer_as-is}
 use Rattle.jiter_value.proofs.ParsedBy as parsed
 use Rattle.jiter_value.proofs.ParsedDocuments.{laws, parses, parses-same}
 
--- the value so far stands at the root
-root-told : (p : Settings) (t : List ℕ) (x : Option Fault) (o : Option Tree) (w : Tree)
+-- The value so far stands at the root.
+pub root-told : (p : Settings) (t : List ℕ) (x : Option Fault) (o : Option Tree) (w : Tree)
     → ((v : Tree) → o ≡ Some v → w ≡ v) → AnswersSo p t x o → AnswersSo p t x (Some w)
 root-told p t None o w same h = (h.0, ap Some (same h.0 h.1), h.2)
 root-told p t (Some f) o w same h = h
@@ -58,25 +58,22 @@ pub settled : (s : Settled) (old : OpenDocument) (t : List ℕ) (h : HasArrived 
     → IsTogether s.document s.depth s.shown t → s.document.settings ≡ old.settings
     → ((v : Tree) → shown (so_far old h.read.opened) ≡ Some v → view s.document.value.root ≡ v)
     → AnswersSo old.settings t s.fault (shown (so_far old h.read.opened))
-    → AnswersSo (strictly old.settings) t s.first (shown (so_far old h.read.opened))
     → (s.growing ≡ true → IsGrowing s.document) → HasReceived (received s) t
-settled s old t h together same value mode strict growing =
+settled s old t h together same value mode growing =
     let o = shown (so_far old h.read.opened) in
     let root = view s.document.value.root in
     record {
       together = together;
       position = together.position;
       mode = rw same (root-told old.settings t s.fault o root value mode);
-      strict = rw same (root-told (strictly old.settings) t s.first o root value strict);
       growing = growing;
     }
 
 -- The bytes are refused for good.
 pub refused : (s : Settled) (t : List ℕ) (h : HasArrived s.document t) → is_some s.document.fault ≡ true
     → AnswersSo s.document.settings t s.fault (shown (so_far s.document h.read.opened))
-    → AnswersSo (strictly s.document.settings) t s.first (shown (so_far s.document h.read.opened))
     → s.growing ≡ false → HasReceived (received s) t
-refused s t h some mode strict still =
+refused s t h some mode still =
     let d = s.document in
     let p = d.settings in
     let o = h.read.opened in
@@ -92,10 +89,17 @@ refused s t h some mode strict still =
       };
       position = h.position;
       mode = refused-told p t d.fault s.fault o v root some (k.mode [] tt) mode;
-      strict = refused-told (strictly p) t d.first s.first o v root (first-set d.fault d.first some k.noted)
-          (k.strict [] tt) strict;
       growing = λ on. absurd (false≢true (sym still ∙ on));
     }
+
+-- So a fault is told with partial reading off.
+pub first-told : (d : OpenDocument) (t : List ℕ) (h : HasArrived d t) (x : Option Fault) (w : Tree)
+    → is_some d.fault ≡ true → AnswersSo (strictly d.settings) t x (shown (so_far d h.read.opened))
+    → AnswersSo (strictly d.settings) t x (Some w)
+first-told d t h x w some told =
+    let k = h.read.known in
+    refused-told (strictly d.settings) t d.first x h.read.opened (shown (so_far d h.read.opened)) (Some w)
+    (first-set d.fault d.first some k.noted) (k.strict [] tt) told
 
 -- Bytes have arrived, whether memory was refused or not.
 pub arrived-either : {T E : Type 0} (r : Result T E) (d : OpenDocument) (t piece : List ℕ) (n : ℕ)

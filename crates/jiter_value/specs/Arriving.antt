@@ -2,7 +2,6 @@
 use Rattle.std.specs.Prelude.{◌≡◌, ℕ, List, Some, length, true}
 use Rattle.jiter_value.specs.DocumentEnds.{AnswersSo}
 use Rattle.jiter_value.specs.Growing.{IsGrowing}
-use Rattle.jiter_value.specs.OpenDocument.{strictly}
 use Rattle.jiter_value.specs.Together.{IsTogether}
 use Rattle.jiter_value.specs.Value.{view}
 use Rattle.jiter_value.specs.declared.arriving.Settled.{Settled}
@@ -22,10 +21,9 @@ received s = record {
 }
 
 -- The reading has received the bytes t: the value so far is together, and it is told what they answer in the document's
--- mode and with partial reading off, the first fault or the value. It is known where a string is unfinished, and right so far.
+-- mode, the fault or the value. It is known where a string is unfinished, and right so far.
 pub record HasReceived (r : Received) (t : List ℕ) : Type 0 where
   pub together : IsTogether r.held.document r.held.depth r.held.shown t
   pub position : r.position ≡ length t
   pub mode : AnswersSo r.settings t r.held.fault (Some (view r.held.document.value.root))
-  pub strict : AnswersSo (strictly r.settings) t r.held.first (Some (view r.held.document.value.root))
   pub growing : r.held.growing ≡ true → IsGrowing r.held.document

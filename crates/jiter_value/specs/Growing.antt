@@ -14,18 +14,12 @@ abbrev pub moved_to : ℕ → Option Fault → Option Fault
 moved_to j None = None
 moved_to j (Some f) = Some (record { kind = f.kind; index = j })
 
--- the same unless there is a first fault
-abbrev pub moved_unless : Option Fault → ℕ → Option Fault → Option Fault
-moved_unless None j x = moved_to j x
-moved_unless (Some f) j x = x
-
--- the faults of the end where the bytes end now
-abbrev pub with_ends : Settled → Settled
-with_ends s = record {
+-- the same reading, with the fault of the end where the bytes end now
+abbrev pub with_end : Settled → Settled
+with_end s = record {
   document = s.document;
   depth = s.depth;
   shown = s.shown;
   growing = s.growing;
   fault = moved_to s.document.position s.fault;
-  first = moved_unless s.document.first s.document.position s.first;
 }

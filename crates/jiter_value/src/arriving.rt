@@ -6,7 +6,7 @@ ghost use Rattle.std.specs.List.{flat_map};
 ghost use Rattle.jiter_steps.specs.Blank.{past_blanks};
 ghost use Rattle.jiter_value.specs.Arriving.{HasReceived, received};
 ghost use Rattle.jiter_value.specs.DocumentEnds.{AnswersSo};
-ghost use Rattle.jiter_value.specs.OpenDocument.{HasArrived, MayRefuseAt, StaysSo};
+ghost use Rattle.jiter_value.specs.OpenDocument.{HasArrived, MayRefuseAt, StaysSo, strictly};
 ghost use Rattle.jiter_value.specs.Owned.{owned_tree};
 ghost use Rattle.jiter_value.specs.Parses.{Parses};
 ghost use Rattle.jiter_value.specs.Value.{view};
@@ -31,9 +31,8 @@ pub(crate) struct Settled {
     pub(crate) shown: bool,
     // whether a string or a key is unfinished, and right so far
     pub(crate) growing: bool,
-    // the fault in the document's mode, and with partial reading off
+    // the fault in the document's mode
     pub(crate) fault: Option<Fault>,
-    pub(crate) first: Option<Fault>,
 }
 
 // The answer of a document: its fault, or else its value.
@@ -56,7 +55,6 @@ impl Settled {
         ensures same { StaysSo self.old.document self.new.document }
     {
         self.fault = self.document.mode_fault();
-        self.first = self.document.strict_fault();
         self.growing = false;
         if self.document.fault.is_none() {
             let (depth, shown) = self.document.settle();
@@ -75,6 +73,20 @@ impl Settled {
         if self.document.fault.is_none() {
             self.document.unsettle(self.depth, self.shown);
         }
+    }
+
+    // The first fault of the bytes with partial reading off, if they are no value. Their value is together behind it.
+    fn first_fault(&mut self) -> Option<Fault>
+        requires { (t : List ℕ) × HasReceived (received self.old) t }
+        ensures { (t : List ℕ) → HasReceived (received self.old) t
+            → AnswersSo (strictly self.old.document.settings) t result (Some (view self.new.document.value.root)) }
+    {
+        self.unsettle();
+        let first = self.document.strict_fault();
+        if self.document.fault.is_none() {
+            let _ = self.document.settle();
+        }
+        first
     }
 
     // Takes a piece, the value taken apart.
@@ -200,7 +212,6 @@ impl Arriving {
             shown: false,
             growing: false,
             fault: None,
-            first: None,
         };
         settled.settle();
         Arriving { settled }
@@ -284,11 +295,9 @@ impl Arriving {
             → Parses owned_tree ⊥ self.settings.allow_inf_nan PartialMode.Off t result }
     {
         let Arriving { settled } = self;
-        let Settled {
-            document,
-            first,
-            ..
-        } = settled;
+        let mut settled = settled;
+        let first = settled.first_fault();
+        let Settled { document, .. } = settled;
         told(first, document.into_root())
     }
 }

@@ -4,7 +4,7 @@ ghost use Rattle.std.specs.Prelude.{◌≡◌, ◌+◌, ◌^◌, ◌<◌, ◌≤
 ghost use Rattle.jiter_scan.specs.Scan.{Pass, is_plain_ascii};
 ghost use Rattle.jiter_steps.specs.OpenString.{IsEven};
 ghost use Rattle.jiter_value.specs.Arriving.{HasReceived, received};
-ghost use Rattle.jiter_value.specs.Growing.{IsGrowing, with_ends};
+ghost use Rattle.jiter_value.specs.Growing.{IsGrowing, with_end};
 ghost use Rattle.jiter_value.specs.Replaced.{HasGoneOn, HoldsTextInside, with_chars, with_root};
 ghost use Rattle.jiter_value.specs.Together.{with_parts};
 
@@ -120,19 +120,13 @@ impl OpenDocument {
 }
 
 impl Settled {
-    // The faults that are told where the input ends move on to where it ends now.
+    // A fault that is told where the input ends moves on to where it ends now.
     #[inline(always)]
-    fn move_ends(&mut self)
-        ensures { self.new ≡ with_ends self.old }
+    fn move_end(&mut self)
+        ensures { self.new ≡ with_end self.old }
     {
-        let end = self.document.position;
         if let Some(fault) = &mut self.fault {
-            fault.index = end;
-        }
-        if self.document.first.is_none()
-            && let Some(first) = &mut self.first
-        {
-            first.index = end;
+            fault.index = self.document.position;
         }
     }
 
@@ -159,9 +153,10 @@ impl Settled {
             self.document.string.add_plain(piece)?;
         }
         self.document.position += piece.len();
-        self.move_ends();
+        self.move_end();
         Ok(())
     }
+
     // Takes the bytes that go on with the string, and says how many.
     pub(crate) fn absorb(&mut self, piece: &[u8]) -> (usize, Result<(), Refused>)
         requires received { (t : List ℕ) × HasReceived (received self.old) t }
@@ -181,7 +176,7 @@ impl Settled {
             self.document.string.take_inside(piece)
         };
         self.document.position += count;
-        self.move_ends();
+        self.move_end();
         (count, taken)
     }
 }

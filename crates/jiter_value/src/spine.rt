@@ -34,38 +34,41 @@ use std::alloc::Global;
 use std::borrow::CowStr;
 use std::mem;
 
-// The last item, replaced.
-fn replace_item<'j>(items: &mut JsonArray<'j>, value: JsonValue<'j>) -> JsonValue<'j>
+// The last item, exchanged.
+#[inline(always)]
+fn swap_item<'j>(items: &mut JsonArray<'j>, value: &mut JsonValue<'j>)
     requires { 0 < vec_len items.old }
     ensures { (before : List JsonValueView) → (old : JsonValueView) → items.old.items ≡ before ++ old ∷ []
-        → (items.new.items ≡ before ++ value.entry ∷ []) × (result ≡ old) }
+        → (items.new.items ≡ before ++ value.old ∷ []) × (value.new ≡ old) }
 {
     let last = items.len() - 1;
-    mem::replace(&mut items[last], value)
+    mem::swap(&mut items[last], value);
 }
 
-// The value of the last member, replaced.
-fn replace_value<'j>(members: &mut JsonObject<'j>, value: JsonValue<'j>) -> JsonValue<'j>
+// The value of the last member, exchanged.
+#[inline(always)]
+fn swap_value<'j>(members: &mut JsonObject<'j>, value: &mut JsonValue<'j>)
     requires { 0 < vec_len members.old }
     ensures { (before : List Member) → (key : CowStrView Global) → (old : JsonValueView)
         → members.old.items ≡ before ++ (key, old) ∷ []
-        → (members.new.items ≡ before ++ (key, value.entry) ∷ []) × (result ≡ old) }
+        → (members.new.items ≡ before ++ (key, value.old) ∷ []) × (value.new ≡ old) }
 {
     let last = members.len() - 1;
-    mem::replace(&mut members[last].1, value)
+    mem::swap(&mut members[last].1, value);
 }
 
-// The last part of a container, replaced.
-fn replace_part<'j>(container: &mut JsonValue<'j>, value: JsonValue<'j>) -> JsonValue<'j>
+// The last part of a container, exchanged.
+#[inline(always)]
+fn swap_part<'j>(container: &mut JsonValue<'j>, value: &mut JsonValue<'j>)
     requires { HasPart (view container.old) }
     ensures part { (f : OpenFrame) → (x : Tree) → view container.old ≡ around f x
-        → (view container.new ≡ around f (view value.entry)) × (view result ≡ x) }
-    ensures last { IsLastPart value.entry container.new }
-    ensures was { (v : JsonValueView) → IsLastPart v container.old → result ≡ v }
+        → (view container.new ≡ around f (view value.old)) × (view value.new ≡ x) }
+    ensures last { IsLastPart value.old container.new }
+    ensures was { (v : JsonValueView) → IsLastPart v container.old → value.new ≡ v }
 {
     match container {
-        JsonValue::Array(items) => replace_item(items, value),
-        JsonValue::Object(members) => replace_value(members, value),
+        JsonValue::Array(items) => swap_item(items, value),
+        JsonValue::Object(members) => swap_value(members, value),
         _ => unreachable!(),
     }
 }
@@ -88,12 +91,13 @@ pub fn take_apart<'j>(spine: &mut Vec<JsonValue<'j>>, root: &mut JsonValue<'j>, 
     }
     spine.push_reserved(mem::replace(root, JsonValue::Null));
     for count in 1..depth {
-        let child = replace_part(&mut spine[count - 1], JsonValue::Null);
+        let mut child = JsonValue::Null;
+        swap_part(&mut spine[count - 1], &mut child);
         spine.push_reserved(child);
     }
 }
 
-// A value goes back into the innermost parent, where a null stands in its place; with no parent it is the root.
+// A value goes back into its place, where a null stands: into the innermost parent, or, with no parent, to the root.
 #[inline(always)]
 fn put_back<'j>(spine: &mut Vec<JsonValue<'j>>, root: &mut JsonValue<'j>, value: JsonValue<'j>)
     requires { (fs : List OpenFrame) × (map view spine.old.items ≡ parents_of fs) }
@@ -105,10 +109,12 @@ fn put_back<'j>(spine: &mut Vec<JsonValue<'j>>, root: &mut JsonValue<'j>, value:
 {
     let depth = spine.len();
     if depth == 0 {
-        *root = value;
+        mem::forget(mem::replace(root, value));
         return;
     }
-    mem::forget(replace_part(&mut spine[depth - 1], value));
+    let mut part = value;
+    swap_part(&mut spine[depth - 1], &mut part);
+    mem::forget(part);
 }
 
 /// The innermost container ends: it goes back into its parent, or is the root.

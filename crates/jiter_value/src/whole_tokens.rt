@@ -4,7 +4,7 @@ ghost use Rattle.std.specs.Prelude.{◌≡◌, ◌+◌, ◌-◌, ◌^◌, ◌<�
 ghost use Rattle.std.specs.Prelude.{None, Some, false, slice_get, slice_index, slice_range, string_bytes, true, ℕ};
 ghost use Rattle.std.specs.Str.{IsAscii};
 ghost use Rattle.jiter_scan.specs.NumberDecoder.{number_view};
-ghost use Rattle.jiter_scan.specs.OpenNumber.{HoldsNumber, begins_decimal};
+ghost use Rattle.jiter_scan.specs.OpenNumber.{BeginsThere, HoldsNumber, begins_decimal};
 ghost use Rattle.jiter_steps.specs.Literal.{start_of};
 ghost use Rattle.jiter_steps.specs.Node.{number_tree};
 ghost use Rattle.jiter_steps.specs.Step.{closer_of, opening};
@@ -30,7 +30,8 @@ use crate::open_value::Went;
 use crate::spine::empty;
 use crate::value::JsonValue;
 use jiter_scan::memory::Refused;
-use jiter_scan::number_within::{ShortWithin, number_within, short_within};
+use jiter_scan::number_within::{ShortWithin, float_within, number_within, short_within};
+use jiter_scan::open_number::{Stage, begun_at};
 use jiter_scan::text::ascii_text;
 use jiter_scan::{NumberAny, NumberInt};
 use jiter_steps::blank::past_blanks;
@@ -133,20 +134,51 @@ impl OpenDocument {
         }
     }
 
-    // The number that begins at a place of a piece is begun, with its bytes there: it is no part of what is read so far.
+    // The number whose bytes stand between two places of a piece, and brought it to this stage, is begun: it is no part of
+    // what is read so far.
     #[inline(always)]
-    fn hold(&mut self, piece: &[u8], at: usize) -> Result<usize, Refused>
-        requires within { at < length piece.now }
-        requires begins { begins_decimal (slice_index piece.now at) ≡ true }
+    fn hold(&mut self, piece: &[u8], at: usize, stage: Stage, end: usize) -> Result<(), Refused>
+        requires begun { BeginsThere piece.now at stage end }
         requires token { IsIn self.old Token.Nothing }
-        ensures part { IfOk result (λ n. (0 < n) × (at + n ≤ length piece.now)) }
-        ensures held { IfOk result (λ n. HoldsNumber self.new.number (slice_range piece.now at (at + n))) }
+        ensures held { OnOk result (HoldsNumber self.new.number (slice_range piece.now at end)) }
         ensures stays { Stays self.old self.new }
         ensures token { IsIn self.new Token.Nothing }
         ensures same { StaysSo self.old self.new }
     {
         self.number.clear();
-        self.number.begin(piece, at)
+        self.number.begin(piece, at, stage, end)
+    }
+
+    // Takes the bytes of a number that stand between two places of a piece, and brought it to this stage.
+    #[inline(always)]
+    fn begin_held(
+        &mut self,
+        piece: &[u8],
+        at: usize,
+        stage: Stage,
+        end: usize,
+    ) -> Result<usize, Refused>
+        requires within { at < length piece.now }
+        requires begins { begins_decimal (slice_index piece.now at) ≡ true }
+        requires begun { BeginsThere piece.now at stage end }
+        requires token { IsIn self.old Token.Nothing }
+        ensures taken { IfOk result (λ n. Takes self.old self.new (slice_range piece.now at (at + n))) }
+        ensures part { IfOk result (λ n. (0 < n) × (at + n ≤ length piece.now)) }
+        ensures refused { OnErr result (Stays self.old self.new) }
+        ensures same { StaysSo self.old self.new }
+    {
+        self.hold(piece, at, stage, end)?;
+        let byte = piece[at];
+        match self.look(byte)? {
+            Went::Scalar => {
+                self.begin_token(Token::Number);
+                Ok(end - at)
+            }
+            went => {
+                self.follow(went, byte);
+                Ok(1)
+            }
+        }
     }
 
     // Takes the bytes of a number that begins there, as far as the piece has them.
@@ -160,18 +192,8 @@ impl OpenDocument {
         ensures refused { OnErr result (Stays self.old self.new) }
         ensures same { StaysSo self.old self.new }
     {
-        let count = self.hold(piece, at)?;
-        let byte = piece[at];
-        match self.look(byte)? {
-            Went::Scalar => {
-                self.begin_token(Token::Number);
-                Ok(count)
-            }
-            went => {
-                self.follow(went, byte);
-                Ok(1)
-            }
-        }
+        let (stage, end) = begun_at(piece, at);
+        self.begin_held(piece, at, stage, end)
     }
 
     // Takes the byte behind a scalar of so many bytes, which are not counted yet: it is no comma, and closes no container
@@ -301,6 +323,30 @@ impl OpenDocument {
         self.put_ended(piece, at, value, end)
     }
 
+    // Takes a number near a piece's end, all of it where it lies whole there and is a short one with a point or an exponent;
+    // else its bytes there.
+    #[inline(always)]
+    fn step_near_number(&mut self, piece: &[u8], at: usize) -> Result<usize, Refused>
+        requires within { at < length piece.now }
+        requires begins { begins_decimal (slice_index piece.now at) ≡ true }
+        requires token { IsIn self.old Token.Nothing }
+        requires awaited { AwaitsValue self.old.value }
+        requires space { HasRoomInside self.old.value.spine.items }
+        requires room { self.old.position + (length piece.now - at) < 2 ^ 64 }
+        ensures taken { IfOk result (λ n. Takes self.old self.new (slice_range piece.now at (at + n))) }
+        ensures part { IfOk result (λ n. (0 < n) × (at + n ≤ length piece.now)) }
+        ensures refused { OnErr result (Stays self.old self.new) }
+        ensures same { StaysSo self.old self.new }
+    {
+        let (stage, end) = begun_at(piece, at);
+        if let Some(text) = float_within(piece, at, stage, end) {
+            if let Some(value) = short_float(text) {
+                return Ok(self.whole_number(piece, at, value, end));
+            }
+        }
+        self.begin_held(piece, at, stage, end)
+    }
+
     // Takes a number that may be long, or may not lie whole in the piece: then its bytes there.
     #[inline(never)]
     fn step_long_number(&mut self, piece: &[u8], at: usize) -> Result<usize, Refused>
@@ -316,7 +362,7 @@ impl OpenDocument {
         ensures same { StaysSo self.old self.new }
     {
         if piece.len() - at < LONG_REACH {
-            return self.begin_number(piece, at);
+            return self.step_near_number(piece, at);
         }
         if let Some((number, end)) = number_within(piece, at) {
             if let Some(value) = short_value(number) {

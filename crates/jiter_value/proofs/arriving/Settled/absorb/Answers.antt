@@ -2,7 +2,7 @@ use Rattle.std.proofs.Common.{◌≡◌, ℕ, ◌+◌, ◌≤◌, List, ◌++◌
 use Rattle.std.proofs.lemmas.List.{length-take-le}
 use Rattle.jiter_steps.specs.declared.open_string.OpenString.{OpenString}
 use Rattle.jiter_value.specs.Arriving.{HasReceived, received}
-use Rattle.jiter_value.specs.Growing.{with_ends}
+use Rattle.jiter_value.specs.Growing.{with_end}
 use Rattle.jiter_value.specs.declared.arriving.Settled.{Settled}
 use Rattle.jiter_value.specs.declared.open_document.OpenDocument.{OpenDocument}
 use Rattle.jiter_value.specs.declared.open_value.OpenValue.{OpenValue}
@@ -13,18 +13,18 @@ use Rattle.jiter_value.proofs.arriving.Settled.absorb.Goals as goal
 
 -- So many bytes of the piece were taken.
 abbrev Went : List ℕ → List ℕ → Settled → ℕ → Type 0
-Went t piece s n = HasReceived (received (with_ends (counted_on s n))) (t ++ take n piece)
+Went t piece s n = HasReceived (received (with_end (counted_on s n))) (t ++ take n piece)
 
 joined : (t piece : List ℕ) (s q : Settled) (m n : ℕ) → s ≡ q → m ≡ n → Went t piece q n → Went t piece s m
 joined t piece s q m n same count h =
     subst (λ k. Went t piece s k) (sym count) (subst (λ x. Went t piece x n) (sym same) h)
 
 counted : (s : Settled) (d : OpenDocument) (new : OpenString) (v : OpenValue) (t piece : List ℕ) (n : ℕ) → n ≤ length piece
-    → HasReceived (received (with_ends (record s { document = gone_in d new v (d.position + length (take n piece)) })))
+    → HasReceived (received (with_end (record s { document = gone_in d new v (d.position + length (take n piece)) })))
     (t ++ take n piece)
     → Went t piece (record s { document = gone_in d new v d.position }) n
 counted s d new v t piece n within h =
-    subst (λ k. HasReceived (received (with_ends (record s { document = gone_in d new v (d.position + k) }))) (t ++ take n piece))
+    subst (λ k. HasReceived (received (with_end (record s { document = gone_in d new v (d.position + k) }))) (t ++ take n piece))
     (length-take-le n piece within) h
 
 pub take_inside-requires-clause-text : goal.take_inside-requires-clause-text
@@ -36,7 +36,7 @@ returns-clause-received c = λ t h.
     let s = c.args.self.now in
     let piece = c.args.piece.now in
     let grows = c.requires.growing in
-    let went : HasReceived (received (with_ends (counted_on c.if-self.self c.if-self.count.0))) (t ++ take c.if-self.count.0 piece) =
+    let went : HasReceived (received (with_end (counted_on c.if-self.self c.if-self.count.0))) (t ++ take c.if-self.count.0 piece) =
     elim c.if-self.branch [
       | then-self w ↦
           let n = w.take_inside.result.0 in
@@ -57,4 +57,4 @@ returns-clause-received c = λ t h.
           (counted s s.document new s.document.value t piece n on.within
           (hidden-received s t h grows (take n piece) new (record { taken = on.taken; whole = on.whole }) w.if-self.false))
     ] in
-    subst (λ (q : Settled). HasReceived (received q) (t ++ take c.if-self.count.0 piece)) (sym c.move_ends.ensures) went
+    subst (λ (q : Settled). HasReceived (received q) (t ++ take c.if-self.count.0 piece)) (sym c.move_end.ensures) went

@@ -1,7 +1,7 @@
 use Rattle.std.proofs.Common.{◌++◌, length, subst, sym}
 use Rattle.jiter_steps.proofs.OpenStrings.{ascii-of}
 use Rattle.jiter_value.specs.Arriving.{HasReceived, received}
-use Rattle.jiter_value.specs.Growing.{with_ends}
+use Rattle.jiter_value.specs.Growing.{with_end}
 use Rattle.jiter_value.specs.Replaced.{GoesOn}
 use Rattle.jiter_value.specs.declared.arriving.Settled.{Settled}
 use Rattle.jiter_value.proofs.Documents.Blanks.{if-refused}
@@ -28,18 +28,18 @@ returns-clause-ok c = λ t h.
     let s = c.args.self.now in
     let v = c.args.piece.now in
     let grows = c.requires.growing in
-    let went : HasReceived (received (with_ends (counted_on c.if-self.self (length v)))) (t ++ v) =
+    let went : HasReceived (received (with_end (counted_on c.if-self.self (length v)))) (t ++ v) =
     elim c.if-self.branch [
       | then-self+in_ok-append_text w ↦
           let nv = w.append_text.new.self in
           let put = w.in_ok-append_text.ensures in
-          subst (λ (q : Settled). HasReceived (received (with_ends (counted_on q (length v)))) (t ++ v)) (sym w.self-is)
+          subst (λ (q : Settled). HasReceived (received (with_end (counted_on q (length v)))) (t ++ v)) (sym w.self-is)
           (shown-received s t h grows w.if-self.true v s.document.string nv put.same
           (plain-shown s t h grows w.if-self.true v nv c.requires.even c.requires.plain put.ok))
       | else-self+in_ok-add_plain w ↦
           let n = w.add_plain.new.self in
-          subst (λ (q : Settled). HasReceived (received (with_ends (counted_on q (length v)))) (t ++ v)) (sym w.self-is)
+          subst (λ (q : Settled). HasReceived (received (with_end (counted_on q (length v)))) (t ++ v)) (sym w.self-is)
           (hidden-received s t h grows v n (subst (λ q. GoesOn s.document.string q v) (sym w.in_ok-add_plain.ensures.ok)
           (grown-on s.document.string v c.requires.even c.requires.plain)) w.if-self.false)
     ] in
-    subst (λ (q : Settled). HasReceived (received q) (t ++ v)) (sym c.move_ends.ensures) went
+    subst (λ (q : Settled). HasReceived (received q) (t ++ v)) (sym c.move_end.ensures) went

@@ -1,7 +1,7 @@
 use Rattle.std.proofs.Common.{◌≡◌, ◌-◌, ◌∷◌, [], ◌∙◌, ap, arith, length, length-append}
 use Rattle.std.specs.Prelude.{slice_set}
 use Rattle.jiter_value.proofs.Spines.{last-read, last-set}
-use Rattle.jiter_value.proofs.spine.replace_item.Goals as goal
+use Rattle.jiter_value.proofs.spine.swap_item.Goals as goal
 
 pub returns : goal.returns
 returns c = λ before old h.
@@ -9,6 +9,6 @@ returns c = λ before old h.
     let n = c.len-last.result - 1 in
     let at : n ≡ length before = omega
     (arith, c.len-last.ensures, c.args.items.now.ok.0, ap length h, length-append before (old ∷ [])) in (
-      ap (slice_set xs n) c.replace.ensures.after ∙ last-set xs before n old c.args.value h at,
-      c.replace.ensures.value ∙ last-read xs before n old c.index_mut.result.now h at c.index_mut.ensures.value,
+      ap (slice_set xs n) c.swap.ensures.x_after ∙ last-set xs before n old c.args.value.now h at,
+      c.swap.ensures.y_after ∙ last-read xs before n old c.index_mut.result.now h at c.index_mut.ensures.value,
     )
