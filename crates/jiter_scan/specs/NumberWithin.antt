@@ -28,13 +28,12 @@ pub record EndsNumber (piece : List ℕ) (e : ℕ) : Type 0 where
   pub within : e < length piece
   pub stops : continues_number (slice_index piece e) ≡ false
 
--- a number with a point or an exponent, of this text
-abbrev pub IsFloatWithin : List ℕ → ℕ → List ℕ → ℕ → Type 0
-IsFloatWithin piece at w e = (w ≡ slice_range piece at e) × EndsWithin piece at (float w) e × IsAscii w
+-- a number with a point or an exponent
+abbrev pub IsFloatWithin : List ℕ → ℕ → ℕ → Type 0
+IsFloatWithin piece at e = EndsWithin piece at (float (slice_range piece at e)) e × IsAscii (slice_range piece at e)
 
 -- what was found at a place of a piece
 abbrev pub IsShortWithin : List ℕ → ℕ → ShortWithin → Type 0
 IsShortWithin piece at (short.Int n e) = EndsWithin piece at (integer n) e
-IsShortWithin piece at (short.Float e) =
-    EndsWithin piece at (float (slice_range piece at e)) e × IsAscii (slice_range piece at e)
+IsShortWithin piece at (short.Float e) = IsFloatWithin piece at e
 IsShortWithin piece at short.Other = Unit {0}

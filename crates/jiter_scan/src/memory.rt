@@ -13,7 +13,7 @@ use smallvec::SmallVec;
 use std::alloc::{AllocError, Global};
 use std::collections::BTreeSet;
 
-// The bytes of a short text: one that arrives in parts has room for so many from its first ones on.
+// The bytes of a short text: one that arrives in parts has room for so many where its first part is no single byte.
 const SHORT_TEXT: usize = 32;
 
 /// The evidence that a request for memory was refused.
@@ -179,8 +179,8 @@ fn begin_text(text: &mut String, count: usize) -> Result<(), Refused>
     }
 }
 
-/// Appends bytes below 80 hex. With its first ones a text gets room for some more, so that one that arrives in parts
-/// seldom moves.
+/// Appends bytes below 80 hex. With its first ones, if they are more than one, a text gets room for some more, so that one
+/// that arrives in parts seldom moves.
 #[inline(always)]
 pub fn push_ascii(text: &mut String, bytes: &[u8]) -> Result<(), Refused>
     requires { IsAscii bytes.now }

@@ -1,5 +1,5 @@
 //! Numbers that lie whole in a piece of a document (RFC 8259, 6), with a byte behind them that ends them.
-ghost use Rattle.std.specs.Prelude.{◌≡◌, ◌<◌, IfSome, length, true};
+ghost use Rattle.std.specs.Prelude.{◌≡◌, ◌<◌, IfSome, length, slice_range, true};
 ghost use Rattle.jiter_scan.specs.NumberDecoder.{number_view};
 ghost use Rattle.jiter_scan.specs.NumberWithin.{EndsWithin, EndsNumber, IsFloatWithin, IsShortWithin, continues_number};
 ghost use Rattle.jiter_scan.specs.OpenNumber.{BeginsThere};
@@ -66,7 +66,8 @@ pub fn short_within(piece: &[u8], at: usize) -> ShortWithin
 /// [`begun_at`](crate::open_number::begun_at) said, if a byte stands there with which it does not go on.
 pub fn float_within(piece: &[u8], at: usize, stage: Stage, end: usize) -> Option<&[u8]>
     requires { BeginsThere piece.now at stage end }
-    ensures { IfSome result (λ text. IsFloatWithin piece.now at text.now end) }
+    ensures text { IfSome result (λ text. text.now ≡ slice_range piece.now at end) }
+    ensures float { IfSome result (λ _. IsFloatWithin piece.now at end) }
 {
     if end == piece.len() || is_int_stage(stage) {
         return None;

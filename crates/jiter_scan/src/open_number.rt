@@ -3,10 +3,10 @@
 ghost use Rattle.std.specs.Prelude.{◌≡◌, ◌+◌, ◌-◌, ◌<◌, ◌≤◌, ◌++◌, [], Bool, IfOk, IfSome, List, None, OnErr, OnOk, Some};
 ghost use Rattle.std.specs.Prelude.{false, length, slice_get, slice_index, slice_range, string_bytes, string_capacity};
 ghost use Rattle.std.specs.Prelude.{string_len, true, ℕ};
+ghost use Rattle.std.specs.Str.{IsAscii};
 ghost use Rattle.jiter_scan.specs.Number.{big, integer, is_float_byte, number_value};
 ghost use Rattle.jiter_scan.specs.NumberReading.{exponent_at, decimal_at, number_extent, number_at};
 ghost use Rattle.jiter_scan.specs.OpenNumber.{BeginsThere, Fits, HoldsNumber, IsBegun, Leads, at_end, begins_decimal};
-ghost use Rattle.std.specs.Str.{IsAscii};
 ghost use Rattle.jiter_scan.specs.OpenNumber.{int_of, is_int_stage, is_whole, kept_bytes, kind_view};
 ghost use Rattle.jiter_scan.specs.OpenNumber.{number_by, number_from, own_view, tail_at};
 

@@ -1,4 +1,4 @@
-use Rattle.std.proofs.Common.{◌≡◌, ◌+◌, ◌-◌, ◌∙◌, arith, drop, get_or, length, subst, sym, refl}
+use Rattle.std.proofs.Common.{◌≡◌, ◌+◌, ◌-◌, ◌∙◌, arith, drop, get_or, length, subst, sym}
 use Rattle.std.specs.Prelude.{slice_get, slice_range, Some, ◌<◌}
 use Rattle.std.proofs.lemmas.List.{length-drop, length-take-le}
 use Rattle.std.proofs.lemmas.Option.{slice_get-get_or}
@@ -8,8 +8,8 @@ use Rattle.jiter_scan.specs.Stands.{Stands}
 use Rattle.jiter_scan.proofs.OpenValues.{float-value}
 use Rattle.jiter_scan.proofs.number_within.float_within.Goals as goal
 
-pub returns-in-Over : goal.returns-in-Over
-returns-in-Over c =
+pub returns-in-Over-clause-float : goal.returns-in-Over-clause-float
+returns-in-Over-clause-float c =
     let piece = c.args.piece.now in
     let at = c.args.at in
     let e = c.args.end in
@@ -19,7 +19,6 @@ returns-in-Over c =
     let ends : e < length piece = omega (arith, b.within, c.if-end-piece.false) in
     let long : length w ≡ e - at =
     length-take-le (e - at) (drop at piece) (omega (arith, length-drop at piece, b.within, b.ahead)) in (
-      refl,
       record {
         begins = b.ahead;
         within = ends;
