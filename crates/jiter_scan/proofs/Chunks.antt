@@ -1,6 +1,8 @@
 -- Runs of bytes that pass a test, seen a chunk at a time.
-use Rattle.std.proofs.Common.{◌≡◌, ℕ, ◌+◌, ◌*◌, ◌<◌, ◌≤◌, Bool, true, false, not, ◌&&◌, cond, eqb, List, [], ◌∷◌}
+use Rattle.std.proofs.Common.{◌≡◌, ℕ, ◌+◌, ◌*◌, ◌/◌, ◌^◌, ◌<◌, ◌≤◌, Bool, true, false, not, ◌&&◌, cond, eqb, List, [], ◌∷◌}
 use Rattle.std.proofs.Common.{length, drop, take, refl, sym, ap, ap₂, take-add, drop-drop, ◌∙◌, arith, zero, suc}
+use Rattle.std.proofs.lemmas.Nat.{shr-shr, shr_le}
+use Rattle.std.proofs.lemmas.List.{drop-take}
 use Rattle.std.proofs.lemmas.Simd.{chunk-drop, length-chunk, trailing_mask_l}
 use Rattle.std.proofs.lemmas.List.Folds.{prefix_len-append, list_all-append}
 use Rattle.std.proofs.lemmas.List.Sums.{prefix_len-le-length}
@@ -17,6 +19,10 @@ one-more : (b : Bool) (m : ℕ) → (b && eqb m 0) ≡ eqb (cond (not b) 1 0 + 2
 one-more true m = grind (arith, nat_tests)
 one-more false m = grind (arith, nat_tests)
 
+one-less : (b : Bool) (m : ℕ) → (cond (not b) 1 0 + 2 * m) / 2 ^ 1 ≡ m
+one-less true m = omega arith
+one-less false m = omega arith
+
 module _ (test : ℕ → Bool) where
   -- no bit is set where all bytes pass
   pub list_all-failing : (w : List ℕ) → list_all test w ≡ eqb (failing test w) 0
@@ -25,6 +31,21 @@ module _ (test : ℕ → Bool) where
 
   pub list_all-failing-zero : (w : List ℕ) → failing test w ≡ 0 → list_all test w ≡ true
   list_all-failing-zero w e = list_all-failing w ∙ eq-eqb _ _ e
+
+  -- the bits of the bytes behind the first k
+  pub failing-drop : (k : ℕ) (w : List ℕ) → failing test w / 2 ^ k ≡ failing test (drop k w)
+  failing-drop zero w = omega arith
+  failing-drop (suc k) [] = omega (arith, shr_le 0 (suc k))
+  failing-drop (suc k) (c ∷ w) =
+      let more : suc k ≡ 1 + k = omega arith in
+      ap (λ j. failing test (c ∷ w) / 2 ^ j) more ∙ sym (shr-shr (failing test (c ∷ w)) 1 k) ∙ ap (λ m. m / 2 ^ k) (one-less (test c) (failing test w))
+      ∙ failing-drop k w
+
+  pub failing-behind : (t : List ℕ) (i k n : ℕ) → failing test (chunk i (k + n) t) / 2 ^ k
+      ≡ failing test (chunk (i + k) n t)
+  failing-behind t i k n =
+      failing-drop k (chunk i (k + n) t)
+      ∙ ap (failing test) (drop-take k n (drop i t) ∙ ap (take n) (drop-drop k i t))
 
   not_not : (w : List ℕ) → prefix_len (λ c. not (not (test c))) w ≡ prefix_len test w
   not_not [] = refl

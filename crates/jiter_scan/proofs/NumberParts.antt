@@ -17,7 +17,19 @@ use Rattle.jiter_scan.specs.declared.open_number.OpenNumber.{OpenNumber}
 use Rattle.jiter_scan.specs.Stands.{Stands}
 use Rattle.jiter_scan.specs.Word.{Extent}
 use Rattle.jiter_scan.specs.declared.open_number.Stage.{Stage}
+use Rattle.jiter_scan.specs.declared.open_number.Stage.TheVariants as stage
 use Rattle.jiter_scan.specs.declared.open_number.Went.TheVariants as went
+use Rattle.jiter_scan.specs.Digits.{is_digit}
+use Rattle.jiter_scan.specs.NumberDecoder.{IsMinusTo}
+use Rattle.jiter_scan.specs.NumberReading.{behind_minus, extent_from}
+use Rattle.jiter_scan.proofs.Choices.{if-false}
+use Rattle.jiter_scan.proofs.OpenNumbers.{decimal-begins, extent-digit}
+use Rattle.jiter_scan.proofs.Runs.{run_end-passes, run_end-passing}
+use Rattle.std.proofs.Common.{◌≢◌, ◌==◌, get_or, inl, inr}
+use Rattle.std.specs.Prelude.{slice_index}
+use Rattle.std.proofs.lemmas.Bool.{ne_eqb}
+use Rattle.std.proofs.lemmas.Bool.Decides.{nat_tests}
+use Rattle.std.proofs.lemmas.Option.{slice_get-get_or}
 use Rattle.jiter_scan.proofs.NumberBytes.{digits-ascii}
 use Rattle.jiter_scan.proofs.NumberRuns.{digits-over, go-on, stage-int}
 use Rattle.jiter_scan.proofs.NumberValues.{digits-no_float}
@@ -189,3 +201,55 @@ held-first m s t i e there is text =
       begun = subst (IsBegun w) (sym is) there.begun;
       goes = subst (BeginsTo w) (sym is) there.goes;
     }
+
+-- ---- a number whose integer part is known
+
+-- behind the first digit of an integer part, which is no zero, the others
+int-digits : (t : List ℕ) (from end e : ℕ) (new : Stage) → from < end → end ≤ from + 16 → digit_run_end t from ≡ end
+    → end ≤ length t → GoesTo (stage.Digits (4299 - (end - from - 1))) t end new e
+    → GoesTo (stage.Digits 4299) t (from + 1) new e
+int-digits t from end e new some few run within go =
+    let n = end - from - 1 in
+    let digit = run_end-passes is_digit t from from (omega arith) (omega arith) in
+    let on = run_end-passing is_digit t from (omega arith) digit in
+    let place : from + 1 + n ≡ end = omega arith in
+    let digits : GoesTo (stage.Digits 4299) t (from + 1) (stage.Digits (4299 - n)) end =
+    subst (GoesTo (stage.Digits 4299) t (from + 1) (stage.Digits (4299 - n))) place
+    (goes-digits (stage.Digits 4299) t (from + 1) n (omega arith) (omega arith)) in
+    goes-on (stage.Digits 4299) (stage.Digits (4299 - n)) new t (from + 1) end e digits go
+
+-- a digit that is no zero behind a minus
+digit-behind : (b : ℕ) → (b == 48) ≡ false → is_digit b ≡ true → Leads stage.Minus b (went.Taken (stage.Digits 4299))
+digit-behind b zero digit = λ names t j h.
+    let no_i : (b == 73) ≡ false = grind (arith, nat_tests) in
+    ap (behind_minus names t j) h ∙ if-false (b == 73) _ _ no_i ∙ decimal-begins t j b h zero digit
+
+pub begins-digits : (t : List ℕ) (at from end e : ℕ) (new : Stage) → IsMinusTo t at from → from < end → end ≤ from + 16
+    → digit_run_end t from ≡ end → end ≤ length t → slice_index t from ≢ 48
+    → GoesTo (stage.Digits (4299 - (end - from - 1))) t end new e → BeginsThere t at new e
+begins-digits t at from end e new minus some few run within first go = by minus where
+  b : ℕ
+  b = get_or t from 0
+  here : slice_get t from ≡ Some b
+  here = slice_get-get_or t from 0 (omega arith)
+  zero : (b == 48) ≡ false
+  zero = ne_eqb b 48 first
+  digit : is_digit b ≡ true
+  digit = run_end-passes is_digit t from from (omega arith) (omega arith)
+  rest : GoesTo (stage.Digits 4299) t (from + 1) new e
+  rest = int-digits t from end e new some few run within go
+  small : b < 128
+  small = grind (arith, nat_tests, digit)
+  plain : is_float_byte b ≡ false
+  plain = grind (arith, nat_tests, digit)
+  by : IsMinusTo t at from → BeginsThere t at new e
+  by (inl same) =
+      subst (λ i. BeginsThere t i new e) same
+      (begins-there (stage.Digits 4299) new t from b e here
+      (λ names u j h. extent-digit u j names b h digit ∙ decimal-begins u j b h zero digit) refl small plain rest)
+  by (inr minus) =
+      begins-there stage.Minus new t at 45 e minus.1 (λ names u j h. ap (extent_from names u j) h) refl (omega arith) refl
+      (goes-on stage.Minus (stage.Digits 4299) new t (at + 1) (from + 1) e
+      (subst (λ i. GoesTo stage.Minus t i (stage.Digits 4299) (from + 1)) minus.0
+      (goes-byte stage.Minus (stage.Digits 4299) t from b here (digit-behind b zero digit) (small, grind (arith, nat_tests, plain))))
+      rest)

@@ -114,7 +114,7 @@ fn point_end(piece: &[u8], at: usize) -> (Stage, usize)
 
 // Behind its integer part.
 #[inline(always)]
-fn int_part_end(stage: Stage, piece: &[u8], at: usize) -> (Stage, usize)
+pub(crate) fn int_part_end(stage: Stage, piece: &[u8], at: usize) -> (Stage, usize)
     requires { at ≤ length piece.now }
     ensures { GoesTo stage piece.now at result.0 result.1 }
 {

@@ -1,13 +1,14 @@
 //! Numbers that lie whole in a piece of a document (RFC 8259, 6), with a byte behind them that ends them.
-ghost use Rattle.std.specs.Prelude.{◌≡◌, ◌<◌, IfSome, length, slice_range, true};
+ghost use Rattle.std.specs.Prelude.{◌≡◌, ◌+◌, ◌<◌, IfSome, length, slice_index, slice_range, true};
 ghost use Rattle.jiter_scan.specs.NumberDecoder.{number_view};
-ghost use Rattle.jiter_scan.specs.NumberWithin.{EndsWithin, EndsNumber, IsFloatWithin, IsShortWithin, continues_number};
-ghost use Rattle.jiter_scan.specs.OpenNumber.{BeginsThere};
+ghost use Rattle.jiter_scan.specs.NumberWithin.{EndsWithin, EndsNumber, IsFloatWithin, IsNearNumber};
+ghost use Rattle.jiter_scan.specs.NumberWithin.{IsShortWithin, continues_number};
+ghost use Rattle.jiter_scan.specs.OpenNumber.{BeginsThere, begins_decimal};
 
 use crate::number_decoder::{NumberAny, number_at};
 use crate::number_extent::minus_end;
-use crate::open_number::{Stage, Went, is_int_stage, next_of};
-use crate::plain_number::{PlainNumber, short_number_at, signed};
+use crate::open_number::{Stage, Went, begun_at, begun_behind, is_int_stage, next_of};
+use crate::plain_number::{PlainNumber, near_number_at, short_number_at, signed};
 
 /// A short number that lies whole in a piece.
 #[derive(Clone, Copy, Debug)]
@@ -18,6 +19,15 @@ pub enum ShortWithin {
     Float(usize),
     /// None that is known.
     Other,
+}
+
+/// A number near a piece's end.
+#[derive(Clone, Copy, Debug)]
+pub enum NearNumber {
+    /// An integer that lies whole in the piece, and the place behind it.
+    Int(i64, usize),
+    /// Any other: how far its bytes in the piece bring it, and the place behind them.
+    Begun(Stage, usize),
 }
 
 // Whether a number may go on with the byte.
@@ -60,6 +70,27 @@ pub fn short_within(piece: &[u8], at: usize) -> ShortWithin
         }
         PlainNumber::Other => ShortWithin::Other,
     }
+}
+
+/// The number at a place of a piece, from its first byte on, a minus or a digit, where fewer than sixteen bytes stand.
+#[inline(always)]
+pub fn near_within(piece: &[u8], at: usize) -> NearNumber
+    requires within { at < length piece.now }
+    requires near { length piece.now < at + 16 }
+    requires begins { begins_decimal (slice_index piece.now at) ≡ true }
+    ensures { IsNearNumber piece.now at result }
+{
+    let from = minus_end(piece, at);
+    let (magnitude, end, integer) = near_number_at(piece, from);
+    if integer && ends_number(piece, end) {
+        return NearNumber::Int(signed(magnitude, from > at), end);
+    }
+    let (stage, behind) = if end == from || piece[from] == b'0' {
+        begun_at(piece, at)
+    } else {
+        begun_behind(piece, at, from, end)
+    };
+    NearNumber::Begun(stage, behind)
 }
 
 /// The text of a number with a point or an exponent that stands in a piece before a place, to which its bytes brought it, as

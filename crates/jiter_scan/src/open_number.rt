@@ -1,9 +1,12 @@
 //! Numbers that arrive in pieces (RFC 8259, 6): the bytes of a piece that are parts of a number are taken at once, and
 //! behind them is said how the number stands.
-ghost use Rattle.std.specs.Prelude.{◌≡◌, ◌+◌, ◌-◌, ◌<◌, ◌≤◌, ◌++◌, [], Bool, IfOk, IfSome, List, None, OnErr, OnOk, Some};
+ghost use Rattle.std.specs.Prelude.{◌≡◌, ◌≢◌, ◌+◌, ◌-◌, ◌<◌, ◌≤◌, ◌++◌, [], Bool, IfOk, IfSome, List, None, OnErr, OnOk, Some};
 ghost use Rattle.std.specs.Prelude.{false, length, slice_get, slice_index, slice_range, string_bytes, string_capacity};
 ghost use Rattle.std.specs.Prelude.{string_len, true, ℕ};
 ghost use Rattle.std.specs.Str.{IsAscii};
+ghost use Rattle.jiter_scan.specs.Ascii.{digit_zero};
+ghost use Rattle.jiter_scan.specs.Digits.{digit_run_end};
+ghost use Rattle.jiter_scan.specs.NumberDecoder.{IsMinusTo};
 ghost use Rattle.jiter_scan.specs.Number.{big, integer, is_float_byte, number_value};
 ghost use Rattle.jiter_scan.specs.NumberReading.{exponent_at, decimal_at, number_extent, number_at};
 ghost use Rattle.jiter_scan.specs.OpenNumber.{BeginsThere, Fits, HoldsNumber, IsBegun, Leads, at_end, begins_decimal};
@@ -13,7 +16,7 @@ ghost use Rattle.jiter_scan.specs.OpenNumber.{number_by, number_from, own_view, 
 use crate::memory::{Refused, push_text};
 use crate::number_decoder::{NumberAny, NumberInt, number_at};
 use crate::number_extent::minus_end;
-use crate::number_parts::parts_end;
+use crate::number_parts::{int_part_end, parts_end};
 use crate::plain_number::{last_integer_at, signed};
 use crate::simd::is_digit;
 use crate::text::ascii_text;
@@ -312,6 +315,21 @@ pub fn begun_at(piece: &[u8], at: usize) -> (Stage, usize)
     ensures { BeginsThere piece.now at result.0 result.1 }
 {
     parts_end(first_stage(piece[at]), piece, at + 1)
+}
+
+// The same, where the digits of its integer part are known: they stand from a place on, behind a minus or none, and end
+// before another, few of them and the first one no zero.
+#[inline(always)]
+pub(crate) fn begun_behind(piece: &[u8], at: usize, from: usize, end: usize) -> (Stage, usize)
+    requires minus { IsMinusTo piece.now at from }
+    requires some { from < end }
+    requires few { end ≤ from + 16 }
+    requires digits { digit_run_end piece.now from ≡ end }
+    requires within { end ≤ length piece.now }
+    requires first { slice_index piece.now from ≢ digit_zero }
+    ensures { BeginsThere piece.now at result.0 result.1 }
+{
+    int_part_end(Stage::Digits(MORE_DIGITS - (end - from - 1)), piece, end)
 }
 
 /// A number whose bytes so far are kept, and how far they bring it.

@@ -1,7 +1,7 @@
 //! Plain numbers: short ones with as many bytes ahead as are looked at, sixteen at a time, with the answer in
 //! registers.
 ghost use Rattle.std.specs.Prelude.{◌≡◌, ◌==◌, ◌||◌, ◌<◌, ◌≤◌, ◌+◌, ◌^◌, IfSome, length, pos, slice_get, slice_range};
-ghost use Rattle.std.specs.Prelude.{slice_index};
+ghost use Rattle.std.specs.Prelude.{slice_index, true};
 ghost use Rattle.std.specs.Prelude.{if◌then◌else◌};
 ghost use Rattle.jiter_scan.specs.Ascii as ascii;
 ghost use Rattle.jiter_scan.specs.Digits.{decimal_of, digit_run_end};
@@ -219,6 +219,27 @@ fn near_digits(bytes: &[u8], at: usize) -> (u64, usize)
     (number, end)
 }
 
+// The number that the digits at `at` write, and the place behind them, perhaps none, where fewer bytes stand from there on
+// than are looked at; and whether they are an integer.
+#[inline(always)]
+pub(crate) fn near_number_at(bytes: &[u8], at: usize) -> (u64, usize, bool)
+    requires within { at ≤ length bytes.now }
+    requires near { length bytes.now < at + 16 }
+    ensures end { digit_run_end bytes.now at ≡ result.1 }
+    ensures place { (at ≤ result.1) × (result.1 ≤ length bytes.now) }
+    ensures integer { result.2 ≡ true → IsPlainInteger bytes.now at result.0 result.1 }
+{
+    let (number, end) = near_digits(bytes, at);
+    let count = end - at;
+    if end == at || bytes[at] == b'0' && count != 1 {
+        return (number, end, false);
+    }
+    if end < bytes.len() && goes_on(bytes[end]) {
+        return (number, end, false);
+    }
+    (number, end, true)
+}
+
 /// The magnitude of the digits at a byte index, and the place behind them, where fewer bytes stand from there on than
 /// are looked at, and the digits are an integer. Where they are none, no place behind the first one is told.
 pub fn near_integer_at(bytes: &[u8], at: usize) -> (u64, usize)
@@ -226,15 +247,8 @@ pub fn near_integer_at(bytes: &[u8], at: usize) -> (u64, usize)
     requires near { length bytes.now < at + 16 }
     ensures integer { at < result.1 → IsPlainInteger bytes.now at result.0 result.1 }
 {
-    let (number, end) = near_digits(bytes, at);
-    let count = end - at;
-    if end == at || bytes[at] == b'0' && count != 1 {
-        return (0, at);
-    }
-    if end < bytes.len() && goes_on(bytes[end]) {
-        return (0, at);
-    }
-    (number, end)
+    let (number, end, integer) = near_number_at(bytes, at);
+    if integer { (number, end) } else { (0, at) }
 }
 
 // What the digits at `at` write, at most sixteen, if no other byte stands behind them.

@@ -1,10 +1,46 @@
 //! The scan of a text that likely ends within sixteen bytes, near the end of the input too.
-ghost use Rattle.std.specs.Prelude.{◌≡◌, ◌↔◌, ◌≤◌, IfSome, IsTrue, Some, length, slice_get, true};
+ghost use Rattle.std.specs.Prelude.{◌≡◌, ◌↔◌, ◌+◌, ◌<◌, ◌≤◌, IfSome, IsTrue, Some, length, slice_get, true};
 ghost use Rattle.jiter_scan.specs.Ascii as ascii;
 ghost use Rattle.jiter_scan.specs.Scan.{scan_stop, IsAsciiTo};
 
-use crate::simd::{ascii_stops, both, first_stop, highs, scan_string, stops};
+use crate::simd::{ascii_stops, both, first_stop, highs, scan_bytes, scan_string, stops};
 use std::simd::prelude::*;
+
+// The scan where fewer than sixteen bytes stand from the place on, and more in all: the last sixteen are looked at.
+#[inline(always)]
+fn scan_last(bytes: &[u8], from: usize) -> (usize, bool)
+    requires within { from ≤ length bytes.now }
+    requires enough { 16 ≤ length bytes.now }
+    requires few { length bytes.now < from + 16 }
+    ensures stop { result.0 ≡ scan_stop bytes.now from }
+    ensures within { (from ≤ result.0) × (result.0 ≤ length bytes.now) }
+    ensures ascii { IsTrue result.1 ↔ IsAsciiTo bytes.now from result.0 }
+{
+    let start = bytes.len() - 16;
+    let before = (from - start) as u32;
+    let v = u8x16::from_slice(&bytes[start..]);
+    let found = stops(v) >> before;
+    let high = highs(v) >> before;
+    if found != 0 {
+        return first_stop(from, found, high, true);
+    }
+    (bytes.len(), high == 0)
+}
+
+// The scan where fewer than sixteen bytes stand from the place on.
+#[inline(never)]
+fn scan_near(bytes: &[u8], from: usize) -> (usize, bool)
+    requires within { from ≤ length bytes.now }
+    requires few { length bytes.now < from + 16 }
+    ensures stop { result.0 ≡ scan_stop bytes.now from }
+    ensures within { (from ≤ result.0) × (result.0 ≤ length bytes.now) }
+    ensures ascii { IsTrue result.1 ↔ IsAsciiTo bytes.now from result.0 }
+{
+    if bytes.len() >= 16 {
+        return scan_last(bytes, from);
+    }
+    scan_bytes(bytes, from, true)
+}
 
 /// The first quote, backslash or control byte from a byte index on, or the length; and whether all bytes
 /// before it, from that index on, are below 80 hex.
@@ -16,7 +52,7 @@ pub fn scan_short(bytes: &[u8], from: usize) -> (usize, bool)
     ensures ascii { IsTrue result.1 ↔ IsAsciiTo bytes.now from result.0 }
 {
     if bytes.len() - from < 16 {
-        return scan_string(bytes, from);
+        return scan_near(bytes, from);
     }
     let v = u8x16::from_slice(&bytes[from..]);
     let found = stops(v);

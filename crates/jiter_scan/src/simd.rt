@@ -87,7 +87,7 @@ pub(crate) fn first_stop(i: usize, found: u64, high: u64, clean: bool) -> (usize
 
 // The scan from `from` on byte by byte, where the bytes before it were ASCII or not.
 #[inline(always)]
-fn scan_bytes(bytes: &[u8], from: usize, ascii: bool) -> (usize, bool)
+pub(crate) fn scan_bytes(bytes: &[u8], from: usize, ascii: bool) -> (usize, bool)
     requires { from ≤ length bytes.now }
     ensures stop { result.0 ≡ scan_stop bytes.now from }
     ensures ascii { result.1 ≡ (ascii && ascii_from bytes.now from) }

@@ -73,39 +73,6 @@ run-range piece run at n is few =
 pub run-plain : (piece : List ℕ) (at to : ℕ) → to ≡ scan_stop piece at → Pass is_plain (slice_range piece at to)
 run-plain piece at to stop = prefix_len-pass is_plain (to - at) (drop at piece) (omega (arith, stop))
 
--- Behind bytes stand others of which the first one stops: the scan ends where it ends without them.
-padded-run : (rest pad : List ℕ) → prefix_len is_plain pad ≡ 0
-    → prefix_len is_plain (rest ++ pad) ≡ prefix_len is_plain rest
-padded-run [] pad none = none
-padded-run (x ∷ rest) pad none = ap (λ n. cond (is_plain x) (1 + n) 0) (padded-run rest pad none)
-
--- so of the last bytes of a piece
-module _ (piece pad chunk : List ℕ) (at count : ℕ) (within : at ≤ length piece) (is : chunk ≡ drop at piece ++ pad)
-    (none : prefix_len is_plain pad ≡ 0) (stop : count ≡ scan_stop chunk 0) where
-  pub padded-stop : at + count ≡ scan_stop piece at
-  padded-stop =
-      let run : prefix_len is_plain chunk ≡ prefix_len is_plain (drop at piece) =
-      ap (prefix_len is_plain) is ∙ padded-run (drop at piece) pad none in
-      omega arith
-
-  pub padded-within : at + count ≤ length piece
-  padded-within =
-      omega (arith, padded-stop, prefix_len-le-length is_plain (drop at piece), length-drop at piece)
-
-  pub padded-ascii : IsAsciiTo chunk 0 count → IsAsciiTo piece at (at + count)
-  padded-ascii low =
-      let few : count ≤ length (drop at piece) = omega (arith, padded-within, length-drop at piece) in
-      let here : count - 0 ≡ count = omega arith in
-      let there : count ≡ at + count - at = omega arith in
-      let same : take (count - 0) chunk ≡ take (at + count - at) (drop at piece) =
-      ap (λ k. take k chunk) here ∙ ap (take count) is ∙ take-append-le count (drop at piece) pad few
-      ∙ ap (λ k. take k (drop at piece)) there in
-      subst (AllPass is_ascii) same low
-
--- quotes stop at once
-pub quotes-stop : (k : ℕ) → k < 16 → prefix_len is_plain (drop k (replicate 16 34)) ≡ 0
-quotes-stop k few = prefix_len-drop_no is_plain (replicate 16 34) k 0 few (ap is_plain (get_or-replicate 16 k 34 0 few))
-
 -- no escape is open at the beginning
 pub nothing-taken : (text : SoFar) → HoldsText text [] → HasTaken (record { text = text; escape = None }) []
 nothing-taken text h = record {

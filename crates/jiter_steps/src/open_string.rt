@@ -1,11 +1,10 @@
 //! Strings that arrive in pieces (RFC 8259, 7 and 8.1): each byte is looked at once, wherever a piece ends, within a
 //! character or an escape too; and those that lie whole in a piece.
-ghost use Rattle.std.specs.Prelude.{◌-◌, IsTrue, drop, replicate};
 ghost use Rattle.std.specs.Prelude.{◌≡◌, ◌+◌, ◌<◌, ◌≤◌, [], IfOk, IfSome, List, None, OnErr, OnOk, Some, length};
 ghost use Rattle.std.specs.Prelude.{◌++◌, ◌||◌, is_some, false, not, slice_get, slice_index, slice_range, string_bytes, take, true, ℕ};
 ghost use Rattle.jiter_scan.specs.Ascii as ascii;
 ghost use Rattle.jiter_scan.specs.Kind.{eof_string};
-ghost use Rattle.jiter_scan.specs.Scan.{IsAsciiTo, Pass, is_plain, is_plain_ascii, scan_stop};
+ghost use Rattle.jiter_scan.specs.Scan.{Pass, is_plain, is_plain_ascii};
 ghost use Rattle.jiter_scan.specs.Scanned.{failed};
 ghost use Rattle.jiter_steps.specs.OpenString.{Goes, HasTaken, HasTakenFrom, IsCountAt, IsEven, IsLeft, IsPart, IsTextWithin};
 ghost use Rattle.jiter_steps.specs.OpenString.{Wherever, grown, text_or};
@@ -55,35 +54,6 @@ fn plain_run(piece: &[u8], at: usize, most: usize) -> &[u8]
 {
     let near = &piece[..at + (piece.len() - at).min(most)];
     &near[at..string_stop(near, at)]
-}
-
-// The last bytes of a piece, fewer than sixteen, with quotes behind them.
-#[inline(always)]
-fn padded(piece: &[u8], at: usize) -> [u8; 16]
-    requires within { at ≤ length piece.now }
-    requires few { length piece.now < at + 16 }
-    ensures { result ≡ drop at piece.now ++ drop (length piece.now - at) (replicate 16 ascii.quote) }
-{
-    let rest = &piece[at..];
-    let mut chunk = [b'"'; 16];
-    chunk[..rest.len()].copy_from_slice(rest);
-    chunk
-}
-
-// The first quote, backslash or control byte of a piece from a place on, or the length; and whether all bytes before
-// it, from that place on, are below 80 hex: of fewer than sixteen bytes too at once.
-#[inline(always)]
-fn scan_piece(piece: &[u8], at: usize) -> (usize, bool)
-    requires { at ≤ length piece.now }
-    ensures stop { result.0 ≡ scan_stop piece.now at }
-    ensures within { (at ≤ result.0) × (result.0 ≤ length piece.now) }
-    ensures ascii { IsTrue result.1 → IsAsciiTo piece.now at result.0 }
-{
-    if piece.len() - at >= 16 {
-        return scan_short(piece, at);
-    }
-    let (count, low) = scan_short(&padded(piece, at), 0);
-    (at + count, low)
 }
 
 // The string with a backslash whose opening quote stands at a place of a piece, if it is whole there: its text, decoded
@@ -236,7 +206,7 @@ impl OpenString {
         ensures part { IfOk result (IsCountAt piece.now at) }
         ensures refused { OnErr result (self.new ≡ self.old) }
     {
-        let (to, low) = scan_piece(piece, at);
+        let (to, low) = scan_short(piece, at);
         let run = &piece[at..to];
         if low {
             self.text.add_ascii(run)?;
@@ -296,7 +266,7 @@ impl OpenString {
         ensures unbroken { self.new.text.broken ≡ false }
         ensures wanted { OnErr result.1 (at + result.0 < length piece.now) }
     {
-        let (to, low) = scan_piece(piece, at);
+        let (to, low) = scan_short(piece, at);
         let run = &piece[at..to];
         if !low || !self.text.is_whole() {
             return self.text.add_right(run);

@@ -30,7 +30,8 @@ use crate::open_value::Went;
 use crate::spine::empty;
 use crate::value::JsonValue;
 use jiter_scan::memory::Refused;
-use jiter_scan::number_within::{ShortWithin, float_within, number_within, short_within};
+use jiter_scan::number_within::{NearNumber, ShortWithin, float_within, near_within};
+use jiter_scan::number_within::{number_within, short_within};
 use jiter_scan::open_number::{Stage, begun_at};
 use jiter_scan::text::ascii_text;
 use jiter_scan::{NumberAny, NumberInt};
@@ -38,6 +39,9 @@ use jiter_steps::blank::past_blanks;
 use jiter_steps::open_string::text_within;
 use jiter_steps::parse::{Literal, Shape, Start, start_of};
 use jiter_steps::plain::plain_literal_end;
+
+// Where fewer bytes are left in a piece, a number is looked at byte by byte.
+const NEAR: usize = 16;
 
 // A number that is not known to be short is looked for where so many bytes are left in a piece.
 const LONG_REACH: usize = 33;
@@ -323,11 +327,41 @@ impl OpenDocument {
         self.put_ended(piece, at, value, end)
     }
 
-    // Takes a number near a piece's end, all of it where it lies whole there and is a short one with a point or an exponent;
-    // else its bytes there.
+    // Takes a number whose bytes stand between two places of a piece, and brought it to this stage, all of it where it ends
+    // there and is a short one with a point or an exponent.
     #[inline(always)]
+    fn step_begun(
+        &mut self,
+        piece: &[u8],
+        at: usize,
+        stage: Stage,
+        end: usize,
+    ) -> Result<usize, Refused>
+        requires within { at < length piece.now }
+        requires begins { begins_decimal (slice_index piece.now at) ≡ true }
+        requires begun { BeginsThere piece.now at stage end }
+        requires token { IsIn self.old Token.Nothing }
+        requires awaited { AwaitsValue self.old.value }
+        requires space { HasRoomInside self.old.value.spine.items }
+        requires room { self.old.position + (length piece.now - at) < 2 ^ 64 }
+        ensures taken { IfOk result (λ n. Takes self.old self.new (slice_range piece.now at (at + n))) }
+        ensures part { IfOk result (λ n. (0 < n) × (at + n ≤ length piece.now)) }
+        ensures refused { OnErr result (Stays self.old self.new) }
+        ensures same { StaysSo self.old self.new }
+    {
+        if let Some(text) = float_within(piece, at, stage, end) {
+            if let Some(value) = short_float(text) {
+                return Ok(self.whole_number(piece, at, value, end));
+            }
+        }
+        self.begin_held(piece, at, stage, end)
+    }
+
+    // Takes a number near a piece's end, all of it where it lies whole there and is short; else its bytes there.
+    #[inline(never)]
     fn step_near_number(&mut self, piece: &[u8], at: usize) -> Result<usize, Refused>
         requires within { at < length piece.now }
+        requires near { length piece.now < at + 16 }
         requires begins { begins_decimal (slice_index piece.now at) ≡ true }
         requires token { IsIn self.old Token.Nothing }
         requires awaited { AwaitsValue self.old.value }
@@ -338,13 +372,12 @@ impl OpenDocument {
         ensures refused { OnErr result (Stays self.old self.new) }
         ensures same { StaysSo self.old self.new }
     {
-        let (stage, end) = begun_at(piece, at);
-        if let Some(text) = float_within(piece, at, stage, end) {
-            if let Some(value) = short_float(text) {
-                return Ok(self.whole_number(piece, at, value, end));
+        match near_within(piece, at) {
+            NearNumber::Int(number, end) => {
+                Ok(self.whole_number(piece, at, int_value(number), end))
             }
+            NearNumber::Begun(stage, end) => self.step_begun(piece, at, stage, end),
         }
-        self.begin_held(piece, at, stage, end)
     }
 
     // Takes a number that may be long, or may not lie whole in the piece: then its bytes there.
@@ -362,7 +395,8 @@ impl OpenDocument {
         ensures same { StaysSo self.old self.new }
     {
         if piece.len() - at < LONG_REACH {
-            return self.step_near_number(piece, at);
+            let (stage, end) = begun_at(piece, at);
+            return self.step_begun(piece, at, stage, end);
         }
         if let Some((number, end)) = number_within(piece, at) {
             if let Some(value) = short_value(number) {
@@ -388,6 +422,9 @@ impl OpenDocument {
             return self.begin_number(piece, at);
         }
         self.make_room()?;
+        if piece.len() - at < NEAR {
+            return self.step_near_number(piece, at);
+        }
         match short_within(piece, at) {
             ShortWithin::Int(number, end) => {
                 Ok(self.whole_number(piece, at, int_value(number), end))
