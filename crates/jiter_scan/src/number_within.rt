@@ -8,7 +8,7 @@ ghost use Rattle.jiter_scan.specs.OpenNumber.{BeginsThere, begins_decimal};
 use crate::number_decoder::{NumberAny, number_at};
 use crate::number_extent::minus_end;
 use crate::open_number::{Stage, Went, begun_at, begun_behind, is_int_stage, next_of};
-use crate::plain_number::{PlainNumber, near_number_at, short_number_at, signed};
+use crate::plain_number::{PlainNumber, near_number_at, plain_number_at, signed};
 
 /// A short number that lies whole in a piece.
 #[derive(Clone, Copy, Debug)]
@@ -46,14 +46,15 @@ fn ends_number(piece: &[u8], end: usize) -> bool
     end < piece.len() && !continues_number(piece[end])
 }
 
-/// The short number at a place of a piece, if a byte stands behind it with which no number goes on.
+/// The short number at a place of a piece, if as many bytes stand there as are looked at at once, and a byte behind it with
+/// which no number goes on.
 #[inline(always)]
 pub fn short_within(piece: &[u8], at: usize) -> ShortWithin
     requires { at < length piece.now }
     ensures { IsShortWithin piece.now at result }
 {
     let from = minus_end(piece, at);
-    match short_number_at(piece, from) {
+    match plain_number_at(piece, from) {
         PlainNumber::Int(magnitude, end) => {
             if ends_number(piece, end) {
                 ShortWithin::Int(signed(magnitude, from > at), end)

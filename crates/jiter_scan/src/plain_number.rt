@@ -240,17 +240,6 @@ pub(crate) fn near_number_at(bytes: &[u8], at: usize) -> (u64, usize, bool)
     (number, end, true)
 }
 
-/// The magnitude of the digits at a byte index, and the place behind them, where fewer bytes stand from there on than
-/// are looked at, and the digits are an integer. Where they are none, no place behind the first one is told.
-pub fn near_integer_at(bytes: &[u8], at: usize) -> (u64, usize)
-    requires within { at ≤ length bytes.now }
-    requires near { length bytes.now < at + 16 }
-    ensures integer { at < result.1 → IsPlainInteger bytes.now at result.0 result.1 }
-{
-    let (number, end, integer) = near_number_at(bytes, at);
-    if integer { (number, end) } else { (0, at) }
-}
-
 // What the digits at `at` write, at most sixteen, if no other byte stands behind them.
 #[inline(always)]
 fn last_digits(bytes: &[u8], at: usize) -> Option<u64>
@@ -297,23 +286,6 @@ pub fn last_integer_at(bytes: &[u8], at: usize) -> Option<u64>
         return last_digits_of_two(bytes, at);
     }
     None
-}
-
-/// The number whose first digit stands at a byte index, if it is short, or if it is an integer near the input's end.
-#[inline(always)]
-pub fn short_number_at(bytes: &[u8], at: usize) -> PlainNumber
-    requires { at ≤ length bytes.now }
-    ensures { IsPlainNumber bytes.now at result }
-{
-    if bytes.len() - at >= REACH {
-        return roomy_number_at(bytes, at);
-    }
-    let (magnitude, end) = near_integer_at(bytes, at);
-    if at < end {
-        PlainNumber::Int(magnitude, end)
-    } else {
-        PlainNumber::Other
-    }
 }
 
 /// The integer of a magnitude, with a minus or none.

@@ -1,7 +1,7 @@
 //! The scan of a text that likely ends within sixteen bytes, near the end of the input too.
-ghost use Rattle.std.specs.Prelude.{◌≡◌, ◌↔◌, ◌+◌, ◌<◌, ◌≤◌, IfSome, IsTrue, Some, length, slice_get, true};
+ghost use Rattle.std.specs.Prelude.{◌≡◌, ◌↔◌, ◌+◌, ◌<◌, ◌≤◌, IfSome, IsTrue, Some, length, slice_get, take, true};
 ghost use Rattle.jiter_scan.specs.Ascii as ascii;
-ghost use Rattle.jiter_scan.specs.Scan.{scan_stop, IsAsciiTo};
+ghost use Rattle.jiter_scan.specs.Scan.{IsAsciiTo, Pass, is_plain_ascii, scan_stop};
 
 use crate::simd::{ascii_stops, both, first_stop, highs, scan_bytes, scan_string, stops};
 use std::simd::prelude::*;
@@ -62,6 +62,15 @@ pub fn scan_short(bytes: &[u8], from: usize) -> (usize, bool)
     }
     let (to, low) = scan_string(bytes, from + 16);
     (to, both(high == 0, low))
+}
+
+/// Whether the first sixteen bytes are below 80 hex, and none of them is a quote, a backslash or a control byte.
+#[inline(always)]
+pub fn is_plain_chunk(bytes: &[u8]) -> bool
+    requires { 16 ≤ length bytes.now }
+    ensures { result ≡ true → Pass is_plain_ascii (take 16 bytes.now) }
+{
+    ascii_stops(u8x16::from_slice(bytes)) == 0
 }
 
 // Where the scan of a string stops, if all bytes before it are below 80 hex; else the length.

@@ -18,6 +18,7 @@ use crate::settings::Settings;
 use crate::value::JsonValue;
 use jiter_scan::errors::Fault;
 use jiter_scan::memory::Refused;
+use jiter_scan::short_scan::is_plain_chunk;
 use jiter_scan::{JsonError, JsonErrorType, PartialMode};
 use std::alloc::{AllocError, Global};
 use std::marker::Model;
@@ -154,6 +155,9 @@ impl Settled {
     {
         if !self.growing {
             return self.take_apart(piece);
+        }
+        if piece.len() == 16 && is_plain_chunk(piece) && self.document.string.is_even() {
+            return self.grow(piece);
         }
         match run_of(piece) {
             Run::Plain if self.document.string.is_even() => self.grow(piece),

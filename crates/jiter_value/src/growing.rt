@@ -12,7 +12,6 @@ use crate::arriving::Settled;
 use crate::open_document::{OpenDocument, Token};
 use jiter_scan::memory::Refused;
 use jiter_scan::short_scan::scan_short;
-use jiter_scan::simd::both;
 
 // Of so many bytes a piece is looked through how it goes on with an unfinished string: of more it costs little to take the
 // value apart.
@@ -51,19 +50,6 @@ fn run_of_byte(byte: u8) -> Run
     }
 }
 
-// Whether sixteen bytes are plain and below 80 hex, looked at with no branch.
-#[inline(always)]
-fn is_plain_chunk(piece: &[u8]) -> bool
-    requires { 16 ≤ length piece.now }
-    ensures { result ≡ true → Pass is_plain_ascii (take 16 piece.now) }
-{
-    let mut plain = true;
-    for i in 0..16 {
-        plain = both(plain, is_plain_byte(piece[i]));
-    }
-    plain
-}
-
 // How a piece does.
 #[inline(always)]
 pub(crate) fn run_of(piece: &[u8]) -> Run
@@ -71,9 +57,6 @@ pub(crate) fn run_of(piece: &[u8]) -> Run
 {
     if let [byte] = piece {
         return run_of_byte(*byte);
-    }
-    if piece.len() == 16 && is_plain_chunk(piece) {
-        return Run::Plain;
     }
     if piece.len() > FEW {
         return Run::Other;
