@@ -18,7 +18,6 @@ use crate::settings::Settings;
 use crate::value::JsonValue;
 use jiter_scan::errors::Fault;
 use jiter_scan::memory::Refused;
-use jiter_scan::short_scan::is_plain_chunk;
 use jiter_scan::{JsonError, JsonErrorType, PartialMode};
 use std::alloc::{AllocError, Global};
 use std::marker::Model;
@@ -156,9 +155,6 @@ impl Settled {
         if !self.growing {
             return self.take_apart(piece);
         }
-        if piece.len() == 16 && is_plain_chunk(piece) && self.document.string.is_even() {
-            return self.grow(piece);
-        }
         match run_of(piece) {
             Run::Plain if self.document.string.is_even() => self.grow(piece),
             Run::Other => self.take_apart(piece),
@@ -225,7 +221,6 @@ impl Arriving {
     /// tell it. The error is want of memory: then the bytes before the one that wanted it are taken, as many as
     /// `position` went on, and the rest can be pushed again. A piece with which the position would pass the greatest
     /// `usize` is refused too, and none of it is taken.
-    #[inline(always)]
     pub fn push(&mut self, piece: &[u8]) -> Result<(), AllocError>
         ensures ok { (t : List ℕ) → HasReceived self.old t → OnOk result (HasReceived self.new (t ++ piece.now)) }
         ensures refused { (t : List ℕ) → HasReceived self.old t → OnErr result
@@ -268,7 +263,6 @@ impl Arriving {
     /// What [`JsonValue::parse_owned`] answers of all bytes so far in the reading's mode: the value so far, or the
     /// fault, its index counted in bytes from the first one of the first piece. It takes no memory, and is never
     /// refused for want of it.
-    #[inline(always)]
     pub fn value(&self) -> Result<&JsonValue<'static>, JsonError>
         ensures { (t : List ℕ) → HasReceived self.now t → MatchResult result
             (λ v. Parses owned_tree ⊥ self.now.settings.allow_inf_nan self.now.settings.mode t (Ok v.now))
