@@ -10,7 +10,12 @@ use Rattle.std.proofs.lemmas.Option.{none-some, same_Some}
 use Rattle.jiter_scan.specs.Kind.{Kind, invalid_escape, lone_surrogate, end_of_hex_escape, control_character}
 use Rattle.jiter_scan.specs.Stands.{Stands}
 use Rattle.jiter_scan.proofs.Choices.{if_case, if_both, if-true, if-false}
-use Rattle.jiter_scan.proofs.Standing.{get-none}
+use Rattle.jiter_scan.proofs.Standing.{get-none, slice-stands, stands-length}
+use Rattle.std.proofs.Math.Seq.{take-append-add}
+use Rattle.std.proofs.Common.{take}
+use Rattle.std.specs.Char.{encode_utf8}
+use Rattle.jiter_steps.specs.OpenEscape.{IsSpelled}
+use Rattle.jiter_steps.specs.declared.open_escape.Spelled.TheVariants as spelled
 use Rattle.jiter_steps.specs.Escape.{short_escape, is_hex, unit_of, is_high, is_low}
 use Rattle.jiter_steps.specs.StringReading.{closed, unclosed, cut, wrong, Portion, part, over, bad_digit, unit_at}
 use Rattle.jiter_steps.specs.StringReading.{HexDigits, few, hex_digits_or, hex_digits_at, behind, unit_then}
@@ -387,31 +392,56 @@ module _ (w t : List ℕ) (p : ℕ) (same : At w t p) (long : length t ≡ p + l
       (λ e. if_both StaysCut (nat_lt c 32) _ _ _ _ (λ e. wrong-no_cut control_character i _)
       (λ e. part-no_cut _ false (i + 1) _))))
 
--- An escape that was cut before its last byte ends with it.
-pub whole-end : (w : List ℕ) (b : ℕ) (bs : List ℕ) (j : ℕ) → portion_at w 0 ≡ over cut
-    → portion_at (w ++ b ∷ []) 0 ≡ part bs true j → j ≡ length (w ++ b ∷ [])
-whole-end w b bs j open_before h =
-    let u = w ++ b ∷ [] in
+-- An escape that was cut ends within the bytes that follow,
+pub whole-behind : (w v : List ℕ) (bs : List ℕ) (j : ℕ) → portion_at w 0 ≡ over cut
+    → portion_at (w ++ v) 0 ≡ part bs true j → (length w < j) × (j ≤ length (w ++ v))
+whole-behind w v bs j open_before h =
+    let u = w ++ v in
     let e = subst (Explains u 0) h (portion_at-explains u 0) in
-    let long = length-append w (b ∷ []) in
+    let long = length-append w v in
     elim (cases_lt (length w) j) [
-      | inl lt ↦ omega (arith, e.within)
+      | inl lt ↦ (lt, omega (arith, e.within))
       | inr le ↦
           let front : Stands w 0 j e.bytes =
-          subst (λ x. Stands x 0 j e.bytes) (take-append_seam w (b ∷ []))
+          subst (λ x. Stands x 0 j e.bytes) (take-append_seam w v)
           (front-stands u (length w) (omega arith) 0 j e.bytes e.stands le) in
           let early = portion_by-escape w 0 j e.character e.bytes e.escape front in
           absurd (cc)
     ]
+
+-- and of one byte with it.
+pub whole-end : (w : List ℕ) (b : ℕ) (bs : List ℕ) (j : ℕ) → portion_at w 0 ≡ over cut
+    → portion_at (w ++ b ∷ []) 0 ≡ part bs true j → j ≡ length (w ++ b ∷ [])
+whole-end w b bs j open_before h =
+    let r = whole-behind w (b ∷ []) bs j open_before h in
+    omega (arith, r.0, r.1, length-append w (b ∷ []))
+
+-- Wherever its bytes stand then, it is found.
+pub spelled-through : (w v : List ℕ) (c j : ℕ) → portion_at w 0 ≡ over cut
+    → portion_at (w ++ v) 0 ≡ part (encode_utf8 c) true j
+    → IsSpelled (w ++ take (j - length w) v) (spelled.Whole c)
+spelled-through w v c j open_before h = λ t i stands.
+    let u = w ++ v in
+    let r = whole-behind w v (encode_utf8 c) j open_before h in
+    let n = j - length w in
+    let e = subst (Explains u 0) h (portion_at-explains u 0) in
+    let count : j - 0 ≡ length w + n = omega (arith, r.0) in
+    let bytes : e.bytes ≡ w ++ take n v =
+    slice-stands u 0 j e.bytes e.stands ∙ ap (λ k. take k u) count ∙ take-append-add w v n in
+    let long = stands-length u 0 j e.bytes e.stands in
+    let end : i + length (w ++ take n v) ≡ i + j = omega (arith, ap length bytes, long) in
+    portion_by-escape t i (i + length (w ++ take n v)) e.character e.bytes e.escape
+    (subst (λ x. Stands t i (i + length (w ++ take n v)) x) (sym bytes) stands)
+    ∙ ap (λ x. part x true (i + length (w ++ take n v))) (sym e.is)
 
 -- the first byte of an escape that is cut
 pub cut_begins : (w : List ℕ) → portion_at w 0 ≡ over cut → slice_get w 0 ≡ Some 92
 cut_begins w h = subst (Explains w 0) h (portion_at-explains w 0)
 
 -- and stays so
-pub begins-on : (w : List ℕ) (b c : ℕ) → slice_get w 0 ≡ Some c → slice_get (w ++ b ∷ []) 0 ≡ Some c
-begins-on [] b c h = absurd (omega (arith, slice_get_within [] 0 c h))
-begins-on (x ∷ w) b c h = h
+pub begins-behind : (w v : List ℕ) (c : ℕ) → slice_get w 0 ≡ Some c → slice_get (w ++ v) 0 ≡ Some c
+begins-behind [] v c h = absurd (omega (arith, slice_get_within [] 0 c h))
+begins-behind (x ∷ w) v c h = h
 
 -- Where a backslash stands, the string is not over.
 module _ (u : List ℕ) (backslash : slice_get u 0 ≡ Some 92) where

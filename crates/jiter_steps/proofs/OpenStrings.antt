@@ -69,6 +69,13 @@ run-range piece run at n is few =
     let count : n ≡ at + n - at = omega arith in
     ap (take n) is ∙ take-take n (at + length run - at) (drop at piece) long ∙ ap (λ k. take k (drop at piece)) count
 
+-- the same of all bytes behind a place
+pub rest-range : (piece : List ℕ) (at n : ℕ) → n ≤ length piece - at
+    → take n (slice_range piece at (length piece)) ≡ slice_range piece at (at + n)
+rest-range piece at n few =
+    let count : n ≡ at + n - at = omega arith in
+    take-take n (length piece - at) (drop at piece) few ∙ ap (λ k. take k (drop at piece)) count
+
 -- The bytes before the first one that stops are plain.
 pub run-plain : (piece : List ℕ) (at to : ℕ) → to ≡ scan_stop piece at → Pass is_plain (slice_range piece at to)
 run-plain piece at to stop = prefix_len-pass is_plain (to - at) (drop at piece) (omega (arith, stop))
@@ -157,25 +164,31 @@ module _ (old : OpenString) (w : List ℕ) (h : HasTaken old w) where
   held-more e v open_escape = ap (λ x. x ++ v) (held-front e open_escape) ∙ append_assoc h.front e v
 
   -- An escape begins.
-  pub escape-begins : (v e : List ℕ) → old.escape ≡ None → v ≡ 92 ∷ [] → e ≡ 92 ∷ []
+  pub escape-cut : (v e : List ℕ) → old.escape ≡ None → v ≡ e → portion_at e 0 ≡ over cut
       → HasTaken (record { text = old.text; escape = Some e }) (w ++ v)
-  escape-begins v e none first begun = record {
+  escape-cut v e none same is_cut = record {
     front = h.front;
     decoded = h.decoded;
     escaped = h.escaped;
-    is = ap (λ x. x ++ v) (all-front none) ∙ ap (λ x. h.front ++ x) (first ∙ sym begun);
-    unfinished = ap (λ x. portion_at x 0) begun ∙ backslash-cut;
+    is = ap (λ x. x ++ v) (all-front none) ∙ ap (λ x. h.front ++ x) same;
+    unfinished = is_cut;
     holds = h.holds;
     goes = λ t i s. so_far v t i s;
   }
 
-  -- It goes on with a byte,
-  module _ (e : List ℕ) (b : ℕ) (v : List ℕ) (open_escape : old.escape ≡ Some e) (one : v ≡ b ∷ []) where
+  -- with its backslash alone.
+  pub escape-begins : (v e : List ℕ) → old.escape ≡ None → v ≡ 92 ∷ [] → e ≡ 92 ∷ []
+      → HasTaken (record { text = old.text; escape = Some e }) (w ++ v)
+  escape-begins v e none first begun =
+      escape-cut v e none (first ∙ sym begun) (ap (λ x. portion_at x 0) begun ∙ backslash-cut)
+
+  -- It goes on with some bytes,
+  module _ (e v : List ℕ) (open_escape : old.escape ≡ Some e) where
     abbrev u : List ℕ
-    u = e ++ b ∷ []
+    u = e ++ v
 
     longer : w ++ v ≡ h.front ++ u
-    longer = held-more e v open_escape ∙ ap (λ x. h.front ++ (e ++ x)) one
+    longer = held-more e v open_escape
 
     pub escape-goes : (new : List ℕ) → new ≡ u → portion_at u 0 ≡ over cut
         → HasTaken (record { text = old.text; escape = Some new }) (w ++ v)
@@ -189,7 +202,7 @@ module _ (old : OpenString) (w : List ℕ) (h : HasTaken old w) where
       goes = λ t i s. so_far v t i s;
     }
 
-    -- and ends with one,
+    -- and ends with some,
     pub escape-ends : (text : SoFar) (c : ℕ) → IsSpelled u (spelled.Whole c)
         → HoldsText text (h.decoded ++ encode_utf8 c) → HasTaken (record { text = text; escape = None }) (w ++ v)
     escape-ends text c spelled_so holds = record {

@@ -1,4 +1,4 @@
--- An escape that arrives byte by byte: what its next byte makes of it, in any text in which these bytes stand.
+-- An escape that arrives in pieces: what its next bytes make of it, in any text in which these bytes stand.
 use Rattle.std.specs.Prelude.{◌≡◌, ◌≤◌, ℕ, ◌+◌, true, List, [], ◌∷◌, ◌++◌, length}
 use Rattle.std.specs.Char.{encode_utf8}
 use Rattle.jiter_scan.specs.Ascii as ascii
@@ -20,10 +20,10 @@ IsSpelled w (spelled.Whole c) = (t : List ℕ) (i : ℕ) → Stands t i (i + len
 IsSpelled w (spelled.Wrong k n) = (t : List ℕ) (i : ℕ) → Stands t i (i + length w) w
     → portion_at t i ≡ over (wrong (fault_kind k) (i + n))
 
--- the bytes that are held then
-abbrev pub held_after : List ℕ → ℕ → Spelled → List ℕ
-held_after w b spelled.Part = w ++ b ∷ []
-held_after w b s = w
+-- the bytes that are held then, where these follow
+abbrev pub held_after : List ℕ → List ℕ → Spelled → List ℕ
+held_after w v spelled.Part = w ++ v
+held_after w v s = w
 
 -- a wrong byte is one of those that are held, or the one behind them
 abbrev pub IsWithin : List ℕ → Spelled → Type 0

@@ -1,11 +1,15 @@
 //! Escapes that arrive byte by byte (RFC 8259, 7): they are held until they are whole, at most twelve bytes.
-ghost use Rattle.std.specs.Prelude.{◌≡◌, ◌∷◌, ◌++◌, [], length};
+ghost use Rattle.std.specs.Prelude.{◌≡◌, ◌≤◌, ◌∷◌, ◌++◌, [], length, take};
 ghost use Rattle.jiter_steps.specs.OpenEscape.{IsSpelled, IsWithin, begun, held_after};
+ghost use Rattle.jiter_steps.specs.StringReading.{cut, over, portion_at};
 
 use crate::escape::{AtStop, Ending, portion_at};
 use crate::held::Held;
 use jiter_scan::errors::FaultKind;
 use std::marker::Model;
+
+// The bytes of the longest escape: those of two numbers.
+const LONGEST: usize = 12;
 
 /// What an escape's next byte makes of it.
 #[derive(Clone, Copy, Debug, PartialEq, Eq)]
@@ -46,6 +50,16 @@ impl OpenEscape {
         }
     }
 
+    /// One that is cut behind these bytes.
+    pub fn cut(bytes: &[u8]) -> OpenEscape
+        requires { portion_at bytes.now 0 ≡ over cut }
+        ensures { result ≡ bytes.now }
+    {
+        OpenEscape {
+            held: Held::new().with(bytes),
+        }
+    }
+
     /// How many bytes of it were read, its backslash among them.
     pub fn count(&self) -> usize
         ensures { result ≡ length self.now }
@@ -56,7 +70,7 @@ impl OpenEscape {
     /// Takes the next byte, if the escape is not over with it, and says what it makes of it.
     pub fn next(&mut self, byte: u8) -> Spelled
         ensures spelled { IsSpelled (self.old ++ byte ∷ []) result }
-        ensures held { self.new ≡ held_after self.old byte result }
+        ensures held { self.new ≡ held_after self.old (byte ∷ []) result }
         ensures within { IsWithin self.old result }
     {
         let held = self.held.with(&[byte]);
@@ -66,6 +80,28 @@ impl OpenEscape {
             AtStop::End(Ending::Cut) => {
                 self.held = held;
                 Spelled::Part
+            }
+            AtStop::End(Ending::Closed(_)) => unreachable!(),
+            AtStop::End(Ending::Unclosed) => unreachable!(),
+        }
+    }
+
+    /// Takes bytes that follow, as far as the escape goes on with them, and says how many, and what they make of it. Where
+    /// one is wrong, none is taken.
+    pub fn through(&mut self, more: &[u8]) -> (usize, Spelled)
+        ensures within { result.0 ≤ length more.now }
+        ensures spelled { IsSpelled (self.old ++ take result.0 more.now) result.1 }
+        ensures held { self.new ≡ held_after self.old (take result.0 more.now) result.1 }
+    {
+        let count = self.count();
+        let few = more.len().min(LONGEST - count);
+        let held = self.held.with(&more[..few]);
+        match portion_at(held.as_slice(), 0) {
+            AtStop::Escape(c, end) => (end - count, Spelled::Whole(c)),
+            AtStop::End(Ending::Wrong(fault)) => (few, Spelled::Wrong(fault.kind, fault.index)),
+            AtStop::End(Ending::Cut) => {
+                self.held = held;
+                (few, Spelled::Part)
             }
             AtStop::End(Ending::Closed(_)) => unreachable!(),
             AtStop::End(Ending::Unclosed) => unreachable!(),

@@ -12,7 +12,7 @@ ghost use Rattle.jiter_steps.specs.OpenText.{IsWhole, with_text};
 ghost use Rattle.jiter_steps.specs.StringDecoder.{WantsMemory};
 ghost use Rattle.jiter_steps.specs.StringReading.{content_at, kept, text_form, whole};
 
-use crate::escape::{AtStop, next_portion, sign_at};
+use crate::escape::{AtStop, Ending, next_portion, sign_at};
 use crate::open_escape::{OpenEscape, Spelled};
 use crate::open_text::{FEW, OpenText};
 use crate::plain::{ascii_between, text_between};
@@ -152,7 +152,30 @@ impl OpenString {
         Ok(Went::Taken(1))
     }
 
-    // Takes an escape, or its backslash where the piece ends within it or it is wrong, and says how many bytes that is.
+    // Takes the next bytes of an escape, to its end if the piece has it, and says how many: none where one is wrong.
+    fn spell_right(&mut self, piece: &[u8], at: usize) -> Result<usize, Refused>
+        requires within { at < length piece.now }
+        requires open { ¬ (self.old.escape ≡ None) }
+        ensures taken { (w : List ℕ) → HasTaken self.old w → IfOk result (HasTakenFrom self.new w piece.now at) }
+        ensures within { IfOk result (λ n. at + n ≤ length piece.now) }
+        ensures whole { IsWhole self.old.text → IsWhole self.new.text }
+        ensures refused { OnErr result (self.new ≡ self.old) }
+    {
+        let Some(escape) = &mut self.escape else {
+            unreachable!();
+        };
+        match escape.through(&piece[at..]) {
+            (count, Spelled::Part) => Ok(count),
+            (count, Spelled::Whole(c)) => {
+                self.text.add_char(c)?;
+                self.escape = None;
+                Ok(count)
+            }
+            (_, Spelled::Wrong(_, _)) => Ok(0),
+        }
+    }
+
+    // Takes an escape, or what the piece has of it, or its backslash where it is wrong, and says how many bytes that is.
     fn take_long_escape(&mut self, piece: &[u8], at: usize) -> Result<usize, Refused>
         requires within { at < length piece.now }
         requires none { self.old.escape ≡ None }
@@ -162,10 +185,15 @@ impl OpenString {
         ensures whole { IsWhole self.old.text → IsWhole self.new.text }
         ensures refused { OnErr result (self.new ≡ self.old) }
     {
-        match next_portion(piece, at) {
+        let rest = &piece[at..];
+        match next_portion(rest, 0) {
             AtStop::Escape(c, end) => {
                 self.text.add_char(c)?;
-                Ok(end - at)
+                Ok(end)
+            }
+            AtStop::End(Ending::Cut) => {
+                self.escape = Some(OpenEscape::cut(rest));
+                Ok(rest.len())
             }
             AtStop::End(_) => {
                 self.escape = Some(OpenEscape::new());
@@ -294,10 +322,7 @@ impl OpenString {
         if self.escape.is_none() {
             return self.take_escape(piece, at);
         }
-        match self.spell(piece, at)? {
-            Went::Taken(count) => Ok(count),
-            _ => Ok(0),
-        }
+        self.spell_right(piece, at)
     }
 
     // Takes a run of plain bytes, an escape or a byte of one, from the place `at` on, as far as its characters are right

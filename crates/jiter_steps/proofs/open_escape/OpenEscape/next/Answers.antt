@@ -5,7 +5,7 @@ use Rattle.jiter_scan.specs.Kind.{fault_kind}
 use Rattle.jiter_scan.specs.Scan.{is_stop}
 use Rattle.jiter_steps.specs.StringDecoder.{stop_view}
 use Rattle.jiter_steps.specs.StringReading.{cut, over, part, portion_at, wrong}
-use Rattle.jiter_steps.proofs.OpenEscapes.{begins-on, cut_begins, cut_short, no-close, no-end, spelled-whole}
+use Rattle.jiter_steps.proofs.OpenEscapes.{begins-behind, cut_begins, cut_short, no-close, no-end, spelled-whole}
 use Rattle.jiter_steps.proofs.OpenEscapes.{spelled-wrong, wrong-within}
 use Rattle.jiter_steps.proofs.open_escape.OpenEscape.next.Goals as goal
 
@@ -14,14 +14,14 @@ with-held-requires c = let short = cut_short c.self.inside.held c.self.invariant
 
 pub portion_at-requires : goal.portion_at-requires
 portion_at-requires c =
-    let first = begins-on c.self.inside.held c.args.byte 92 (cut_begins c.self.inside.held c.self.invariant) in
+    let first = begins-behind c.self.inside.held (c.args.byte ∷ []) 92 (cut_begins c.self.inside.held c.self.invariant) in
     let here : slice_get c.as_slice.result.now 0 ≡ Some 92 =
     ap (λ w. slice_get w 0) (c.as_slice.ensures.value ∙ c.with-held.ensures) ∙ first in
     subst (λ o. IfSome o (λ b. is_stop b ≡ true)) (sym here) refl
 
 pub unreachable-requires : goal.unreachable-requires
 unreachable-requires c =
-    let first = begins-on c.self.inside.held c.args.byte 92 (cut_begins c.self.inside.held c.self.invariant) in
+    let first = begins-behind c.self.inside.held (c.args.byte ∷ []) 92 (cut_begins c.self.inside.held c.self.invariant) in
     let here : slice_get c.as_slice.result.now 0 ≡ Some 92 =
     ap (λ w. slice_get w 0) (c.as_slice.ensures.value ∙ c.with-held.ensures) ∙ first in
     no-close c.as_slice.result.now here c.in-End-Closed.field-0-0
@@ -29,7 +29,7 @@ unreachable-requires c =
 
 pub unreachable-requires-in-End-Unclosed : goal.unreachable-requires-in-End-Unclosed
 unreachable-requires-in-End-Unclosed c =
-    let first = begins-on c.self.inside.held c.args.byte 92 (cut_begins c.self.inside.held c.self.invariant) in
+    let first = begins-behind c.self.inside.held (c.args.byte ∷ []) 92 (cut_begins c.self.inside.held c.self.invariant) in
     let here : slice_get c.as_slice.result.now 0 ≡ Some 92 =
     ap (λ w. slice_get w 0) (c.as_slice.ensures.value ∙ c.with-held.ensures) ∙ first in
     no-end c.as_slice.result.now here

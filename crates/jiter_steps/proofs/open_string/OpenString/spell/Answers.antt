@@ -1,5 +1,6 @@
-use Rattle.std.proofs.Common.{◌≡◌, ◌∙◌, ◌+◌, ◌-◌, length, ap}
-use Rattle.std.specs.Prelude.{slice_index, slice_range}
+use Rattle.std.proofs.Common.{◌≡◌, ◌∙◌, ◌∷◌, ◌++◌, [], ◌+◌, ◌-◌, length, ap, subst, sym}
+use Rattle.std.specs.Prelude.{None, Some, slice_index, slice_range}
+use Rattle.jiter_steps.specs.OpenString.{HasTaken}
 use Rattle.jiter_steps.proofs.Grammar.Places.{got}
 use Rattle.jiter_steps.proofs.OpenStrings.{escape-ends, escape-fails, escape-goes, one-byte}
 use Rattle.jiter_steps.proofs.open_string.OpenString.spell.Goals as goal
@@ -11,8 +12,9 @@ returns-in-Part-clause-goes c =
     let at = c.args.at in
     let b = slice_index piece at in
     let one = one-byte piece at b (got piece at c.requires.within) in
-    escape-goes c.args.self.now w h c.in-Some.escape b (slice_range piece at (at + 1)) c.in-Some.is one c.next.new.self
-    c.in-Part.ensures.held c.in-Part.ensures.spelled
+    subst (λ v. HasTaken (record { text = c.args.self.now.text; escape = Some c.next.new.self }) (w ++ v)) (sym one)
+    (escape-goes c.args.self.now w h c.in-Some.escape (b ∷ []) c.in-Some.is c.next.new.self c.in-Part.ensures.held
+    c.in-Part.ensures.spelled)
 
 pub returns-in-Wrong-clause-goes : goal.returns-in-Wrong-clause-goes
 returns-in-Wrong-clause-goes c =
@@ -33,6 +35,6 @@ returns-in_ok-add_char-in-Whole-clause-goes c =
     let at = c.args.at in
     let b = slice_index piece at in
     let one = one-byte piece at b (got piece at c.requires.within) in
-    escape-ends c.args.self.now w h c.in-Some.escape b (slice_range piece at (at + 1)) c.in-Some.is one
-    c.add_char.new.self c.in-Whole.c c.in-Whole.ensures.spelled
-    (c.in_ok-add_char-in-Whole.ensures.taken h.decoded h.holds)
+    subst (λ v. HasTaken (record { text = c.add_char.new.self; escape = None }) (w ++ v)) (sym one)
+    (escape-ends c.args.self.now w h c.in-Some.escape (b ∷ []) c.in-Some.is c.add_char.new.self c.in-Whole.c
+    c.in-Whole.ensures.spelled (c.in_ok-add_char-in-Whole.ensures.taken h.decoded h.holds))
