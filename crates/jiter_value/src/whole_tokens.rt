@@ -358,7 +358,7 @@ impl OpenDocument {
     }
 
     // Takes a number near a piece's end, all of it where it lies whole there and is short; else its bytes there.
-    #[inline(never)]
+    #[inline(always)]
     fn step_near_number(&mut self, piece: &[u8], at: usize) -> Result<usize, Refused>
         requires within { at < length piece.now }
         requires near { length piece.now < at + 16 }
@@ -394,6 +394,9 @@ impl OpenDocument {
         ensures refused { OnErr result (Stays self.old self.new) }
         ensures same { StaysSo self.old self.new }
     {
+        if piece.len() - at < NEAR {
+            return self.step_near_number(piece, at);
+        }
         if piece.len() - at < LONG_REACH {
             let (stage, end) = begun_at(piece, at);
             return self.step_begun(piece, at, stage, end);
@@ -422,9 +425,6 @@ impl OpenDocument {
             return self.begin_number(piece, at);
         }
         self.make_room()?;
-        if piece.len() - at < NEAR {
-            return self.step_near_number(piece, at);
-        }
         match short_within(piece, at) {
             ShortWithin::Int(number, end) => {
                 Ok(self.whole_number(piece, at, int_value(number), end))
