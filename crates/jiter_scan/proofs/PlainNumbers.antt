@@ -97,7 +97,7 @@ module _ (t : List ℕ) where
       ∙ digits-counted back (i + 16) n counted few (omega arith) front
 
   -- the integer part that is fewer digits than are looked at
-  pub int_part_at-near : (i e : ℕ) → digit_run_end t i ≡ e → e ≤ length t → length t < i + 16 → i < e
+  pub int_part_at-near : (i e : ℕ) → digit_run_end t i ≡ e → e ≤ length t → length t ≤ i + 16 → i < e
       → ((get_or t i 0 ≡ 48) × (e - i ≡ 1)) ⊎ (get_or t i 0 ≢ 48) → int_part_at t i ≡ taken tt e
   int_part_at-near i e run within near some first = int_part_at-run i e run some within (omega arith) (by first)
     where

@@ -1,5 +1,5 @@
 //! Numbers that lie whole in a piece of a document (RFC 8259, 6), with a byte behind them that ends them.
-ghost use Rattle.std.specs.Prelude.{◌≡◌, ◌+◌, ◌<◌, IfSome, length, slice_index, slice_range, true};
+ghost use Rattle.std.specs.Prelude.{◌≡◌, ◌+◌, ◌<◌, ◌≤◌, IfSome, length, slice_index, slice_range, true};
 ghost use Rattle.jiter_scan.specs.NumberDecoder.{number_view};
 ghost use Rattle.jiter_scan.specs.NumberWithin.{EndsWithin, EndsNumber, IsFloatWithin, IsNearNumber};
 ghost use Rattle.jiter_scan.specs.NumberWithin.{IsShortWithin, continues_number};
@@ -8,7 +8,7 @@ ghost use Rattle.jiter_scan.specs.OpenNumber.{BeginsThere, begins_decimal};
 use crate::number_decoder::{NumberAny, number_at};
 use crate::number_extent::minus_end;
 use crate::open_number::{Stage, Went, begun_at, begun_behind, is_int_stage, next_of};
-use crate::plain_number::{PlainNumber, near_number_at, plain_number_at, signed};
+use crate::plain_number::{PlainNumber, near_number_at, roomy_number_at, signed};
 
 /// A short number that lies whole in a piece.
 #[derive(Clone, Copy, Debug)]
@@ -46,15 +46,15 @@ fn ends_number(piece: &[u8], end: usize) -> bool
     end < piece.len() && !continues_number(piece[end])
 }
 
-/// The short number at a place of a piece, if as many bytes stand there as are looked at at once, and a byte behind it with
-/// which no number goes on.
+/// The short number at a place of a piece, where seventeen bytes stand or more, if a byte stands behind it with which no
+/// number goes on.
 #[inline(always)]
 pub fn short_within(piece: &[u8], at: usize) -> ShortWithin
-    requires { at < length piece.now }
+    requires { at + 17 ≤ length piece.now }
     ensures { IsShortWithin piece.now at result }
 {
     let from = minus_end(piece, at);
-    match plain_number_at(piece, from) {
+    match roomy_number_at(piece, from) {
         PlainNumber::Int(magnitude, end) => {
             if ends_number(piece, end) {
                 ShortWithin::Int(signed(magnitude, from > at), end)
@@ -73,11 +73,11 @@ pub fn short_within(piece: &[u8], at: usize) -> ShortWithin
     }
 }
 
-/// The number at a place of a piece, from its first byte on, a minus or a digit, where fewer than sixteen bytes stand.
+/// The number at a place of a piece, from its first byte on, a minus or a digit, where sixteen bytes stand at most.
 #[inline(always)]
 pub fn near_within(piece: &[u8], at: usize) -> NearNumber
     requires within { at < length piece.now }
-    requires near { length piece.now < at + 16 }
+    requires near { length piece.now ≤ at + 16 }
     requires begins { begins_decimal (slice_index piece.now at) ≡ true }
     ensures { IsNearNumber piece.now at result }
 {

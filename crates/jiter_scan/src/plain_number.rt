@@ -201,11 +201,11 @@ pub fn plain_number_at(bytes: &[u8], at: usize) -> PlainNumber
     roomy_number_at(bytes, at)
 }
 
-// What the digits at `at` write, fewer than sixteen, and the place behind them, perhaps none.
+// What the digits at `at` write, and the place behind them, perhaps none, where sixteen bytes stand from there on at most.
 #[inline(always)]
 fn near_digits(bytes: &[u8], at: usize) -> (u64, usize)
     requires within { at ≤ length bytes.now }
-    requires near { length bytes.now < at + 16 }
+    requires near { length bytes.now ≤ at + 16 }
     ensures end { digit_run_end bytes.now at ≡ result.1 }
     ensures place { (at ≤ result.1) × (result.1 ≤ length bytes.now) }
     ensures value { result.0 ≡ decimal_of (slice_range bytes.now at result.1) }
@@ -219,12 +219,11 @@ fn near_digits(bytes: &[u8], at: usize) -> (u64, usize)
     (number, end)
 }
 
-// The number that the digits at `at` write, and the place behind them, perhaps none, where fewer bytes stand from there on
-// than are looked at; and whether they are an integer.
+// The same, and whether the digits are an integer.
 #[inline(always)]
 pub(crate) fn near_number_at(bytes: &[u8], at: usize) -> (u64, usize, bool)
     requires within { at ≤ length bytes.now }
-    requires near { length bytes.now < at + 16 }
+    requires near { length bytes.now ≤ at + 16 }
     ensures end { digit_run_end bytes.now at ≡ result.1 }
     ensures place { (at ≤ result.1) × (result.1 ≤ length bytes.now) }
     ensures integer { result.2 ≡ true → IsPlainInteger bytes.now at result.0 result.1 }

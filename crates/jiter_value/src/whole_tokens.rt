@@ -40,7 +40,7 @@ use jiter_steps::open_string::text_within;
 use jiter_steps::parse::{Literal, Shape, Start, start_of};
 use jiter_steps::plain::plain_literal_end;
 
-// Where fewer bytes are left in a piece, a number is looked at byte by byte.
+// Where so many bytes are left in a piece at most, a number is looked at byte by byte.
 const NEAR: usize = 16;
 
 // A number that is not known to be short is looked for where so many bytes are left in a piece.
@@ -358,10 +358,10 @@ impl OpenDocument {
     }
 
     // Takes a number near a piece's end, all of it where it lies whole there and is short; else its bytes there.
-    #[inline(always)]
+    #[inline(never)]
     fn step_near_number(&mut self, piece: &[u8], at: usize) -> Result<usize, Refused>
         requires within { at < length piece.now }
-        requires near { length piece.now < at + 16 }
+        requires near { length piece.now ≤ at + 16 }
         requires begins { begins_decimal (slice_index piece.now at) ≡ true }
         requires token { IsIn self.old Token.Nothing }
         requires awaited { AwaitsValue self.old.value }
@@ -394,9 +394,6 @@ impl OpenDocument {
         ensures refused { OnErr result (Stays self.old self.new) }
         ensures same { StaysSo self.old self.new }
     {
-        if piece.len() - at < NEAR {
-            return self.step_near_number(piece, at);
-        }
         if piece.len() - at < LONG_REACH {
             let (stage, end) = begun_at(piece, at);
             return self.step_begun(piece, at, stage, end);
@@ -425,6 +422,9 @@ impl OpenDocument {
             return self.begin_number(piece, at);
         }
         self.make_room()?;
+        if piece.len() - at <= NEAR {
+            return self.step_near_number(piece, at);
+        }
         match short_within(piece, at) {
             ShortWithin::Int(number, end) => {
                 Ok(self.whole_number(piece, at, int_value(number), end))

@@ -15,12 +15,12 @@ loop-end-preserved c =
 
 pub overflow_mul-number : goal.overflow_mul-number
 overflow_mul-number c =
-    let few = decimal_of-few c.args.bytes.now c.args.at c.loop-end.end (omega arith) (omega arith) (omega arith) 15
+    let few = decimal_of-few c.args.bytes.now c.args.at c.loop-end.end (omega arith) (omega arith) (omega arith) 16
     (omega arith) in
     omega (arith, few)
 
 pub overflow_add-number : goal.overflow_add-number
 overflow_add-number c =
-    let few = decimal_of-few c.args.bytes.now c.args.at c.loop-end.end (omega arith) (omega arith) (omega arith) 15
+    let few = decimal_of-few c.args.bytes.now c.args.at c.loop-end.end (omega arith) (omega arith) (omega arith) 16
     (omega arith) in
     omega (arith, few)

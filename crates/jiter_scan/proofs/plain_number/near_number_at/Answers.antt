@@ -29,7 +29,7 @@ returns-clause-integer c =
         decimal = decimal;
         magnitude = magnitude_of-short t i e (omega arith) (omega arith) (omega arith) n (omega arith) found.value;
         small = omega
-            (arith, decimal_of-few t i e (omega arith) (omega arith) (omega arith) 15 (omega arith), found.value);
+            (arith, decimal_of-few t i e (omega arith) (omega arith) (omega arith) 16 (omega arith), found.value);
         some = omega arith;
         within = found.place.1;
       }
