@@ -1,16 +1,20 @@
 -- The parts of a number that arrives in pieces: each goes on with the ones before it.
 use Rattle.std.proofs.Common.{◌≡◌, ℕ, ◌+◌, ◌-◌, ◌<◌, ◌≤◌, ◌||◌, ◌&&◌, Bool, true, false, not, List, [], ◌∷◌, ◌++◌}
 use Rattle.std.proofs.Common.{append_assoc, length, length-append, refl, sym, ap, ap₂, subst, ◌∙◌, arith}
-use Rattle.std.specs.Prelude.{slice_get, slice_range, string_bytes, Some, if◌then◌else◌}
+use Rattle.std.proofs.Common.{◌≢◌, ◌==◌, get_or, inl, inr}
+use Rattle.std.specs.Prelude.{slice_get, slice_index, slice_range, string_bytes, Some, if◌then◌else◌}
 use Rattle.std.specs.List.{list_any}
 use Rattle.std.specs.Str.{IsAscii}
+use Rattle.std.proofs.lemmas.Bool.{ne_eqb}
+use Rattle.std.proofs.lemmas.Bool.Decides.{nat_tests}
 use Rattle.std.proofs.lemmas.List.Folds.{list_any-append}
-use Rattle.std.proofs.lemmas.Option.{slice_get_within}
+use Rattle.std.proofs.lemmas.Option.{slice_get-get_or, slice_get_within}
 use Rattle.std.proofs.lemmas.Str.{IsAscii-append}
 use Rattle.std.proofs.lemmas.Str.Ascii.{IsAscii-cons, IsAscii-nil}
-use Rattle.jiter_scan.specs.Digits.{digit_run_end}
+use Rattle.jiter_scan.specs.Digits.{digit_run_end, is_digit}
 use Rattle.jiter_scan.specs.Number.{is_float_byte, is_integral}
-use Rattle.jiter_scan.specs.NumberReading.{number_extent}
+use Rattle.jiter_scan.specs.NumberDecoder.{IsMinusTo}
+use Rattle.jiter_scan.specs.NumberReading.{behind_minus, extent_from, number_extent}
 use Rattle.jiter_scan.specs.OpenNumber.{BeginsThere, BeginsTo, digits_for, Fits, GoesTo, HoldsNumber, IsBegun, is_int_stage, Leads}
 use Rattle.jiter_scan.specs.OpenNumber.{LeadsOver, number_from, stage_behind}
 use Rattle.jiter_scan.specs.declared.open_number.OpenNumber.{OpenNumber}
@@ -19,21 +23,13 @@ use Rattle.jiter_scan.specs.Word.{Extent}
 use Rattle.jiter_scan.specs.declared.open_number.Stage.{Stage}
 use Rattle.jiter_scan.specs.declared.open_number.Stage.TheVariants as stage
 use Rattle.jiter_scan.specs.declared.open_number.Went.TheVariants as went
-use Rattle.jiter_scan.specs.Digits.{is_digit}
-use Rattle.jiter_scan.specs.NumberDecoder.{IsMinusTo}
-use Rattle.jiter_scan.specs.NumberReading.{behind_minus, extent_from}
 use Rattle.jiter_scan.proofs.Choices.{if-false}
-use Rattle.jiter_scan.proofs.OpenNumbers.{decimal-begins, extent-digit}
-use Rattle.jiter_scan.proofs.Runs.{run_end-passes, run_end-passing}
-use Rattle.std.proofs.Common.{◌≢◌, ◌==◌, get_or, inl, inr}
-use Rattle.std.specs.Prelude.{slice_index}
-use Rattle.std.proofs.lemmas.Bool.{ne_eqb}
-use Rattle.std.proofs.lemmas.Bool.Decides.{nat_tests}
-use Rattle.std.proofs.lemmas.Option.{slice_get-get_or}
 use Rattle.jiter_scan.proofs.NumberBytes.{digits-ascii}
 use Rattle.jiter_scan.proofs.NumberRuns.{digits-over, go-on, stage-int}
 use Rattle.jiter_scan.proofs.NumberValues.{digits-no_float}
+use Rattle.jiter_scan.proofs.OpenNumbers.{decimal-begins, extent-digit}
 use Rattle.jiter_scan.proofs.OpenValues.{stands-last}
+use Rattle.jiter_scan.proofs.Runs.{run_end-passes, run_end-passing}
 use Rattle.jiter_scan.proofs.Standing.{slice-one, slice_range-split, stands-length, stands-split}
 
 -- ---- bytes that show a float
@@ -230,18 +226,25 @@ pub begins-digits : (t : List ℕ) (at from end e : ℕ) (new : Stage) → IsMin
 begins-digits t at from end e new minus some few run within first go = by minus where
   b : ℕ
   b = get_or t from 0
+
   here : slice_get t from ≡ Some b
   here = slice_get-get_or t from 0 (omega arith)
+
   zero : (b == 48) ≡ false
   zero = ne_eqb b 48 first
+
   digit : is_digit b ≡ true
   digit = run_end-passes is_digit t from from (omega arith) (omega arith)
+
   rest : GoesTo (stage.Digits 4299) t (from + 1) new e
   rest = int-digits t from end e new some few run within go
+
   small : b < 128
   small = grind (arith, nat_tests, digit)
+
   plain : is_float_byte b ≡ false
   plain = grind (arith, nat_tests, digit)
+
   by : IsMinusTo t at from → BeginsThere t at new e
   by (inl same) =
       subst (λ i. BeginsThere t i new e) same

@@ -21,10 +21,10 @@ fn scan_last(bytes: &[u8], from: usize) -> (usize, bool)
     let v = u8x16::from_slice(&bytes[start..]);
     let found = stops(v) >> before;
     let high = highs(v) >> before;
-    if found != 0 {
-        return first_stop(from, found, high, true);
+    if found == 0 {
+        return (bytes.len(), high == 0);
     }
-    (bytes.len(), high == 0)
+    first_stop(from, found, high, true)
 }
 
 // The scan where fewer than sixteen bytes stand from the place on.

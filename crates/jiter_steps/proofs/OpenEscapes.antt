@@ -1,9 +1,10 @@
 -- An escape that arrives byte by byte: while it is cut it is short, and what ends it is found wherever it stands.
 use Rattle.std.proofs.Common.{◌≡◌, inl, inr, ℕ, zero, suc, ◌+◌, ◌-◌, ◌<◌, ◌≤◌, ◌==◌, Bool, true, false, List}
 use Rattle.std.proofs.Common.{[], ◌∷◌, ◌++◌}
-use Rattle.std.proofs.Common.{length, refl, sym, ap, ap₂, ◌∙◌, subst, arith, length-append}
+use Rattle.std.proofs.Common.{length, refl, sym, ap, ap₂, ◌∙◌, subst, arith, length-append, take}
+use Rattle.std.specs.Char.{encode_utf8}
 use Rattle.std.specs.Prelude.{slice_get, slice_index, Option, Some, None, if◌then◌else◌, nat_lt}
-use Rattle.std.proofs.Math.Seq.{take-append_seam}
+use Rattle.std.proofs.Math.Seq.{take-append-add, take-append_seam}
 use Rattle.std.proofs.lemmas.Bool.{cases_lt, ltb-true, ltb-false, le-ltb, lt-ltb}
 use Rattle.std.proofs.lemmas.Option.{slice_get_past, slice_get_within, slice_get-get_or, get_or_from_slice_get}
 use Rattle.std.proofs.lemmas.Option.{none-some, same_Some}
@@ -11,16 +12,13 @@ use Rattle.jiter_scan.specs.Kind.{Kind, invalid_escape, lone_surrogate, end_of_h
 use Rattle.jiter_scan.specs.Stands.{Stands}
 use Rattle.jiter_scan.proofs.Choices.{if_case, if_both, if-true, if-false}
 use Rattle.jiter_scan.proofs.Standing.{get-none, slice-stands, stands-length}
-use Rattle.std.proofs.Math.Seq.{take-append-add}
-use Rattle.std.proofs.Common.{take}
-use Rattle.std.specs.Char.{encode_utf8}
-use Rattle.jiter_steps.specs.OpenEscape.{IsSpelled}
-use Rattle.jiter_steps.specs.declared.open_escape.Spelled.TheVariants as spelled
 use Rattle.jiter_steps.specs.Escape.{short_escape, is_hex, unit_of, is_high, is_low}
+use Rattle.jiter_steps.specs.OpenEscape.{IsSpelled}
 use Rattle.jiter_steps.specs.StringReading.{closed, unclosed, cut, wrong, Portion, part, over, bad_digit, unit_at}
 use Rattle.jiter_steps.specs.StringReading.{HexDigits, few, hex_digits_or, hex_digits_at, behind, unit_then}
 use Rattle.jiter_steps.specs.StringReading.{surrogate_pair, behind_high_backslash, behind_high, single, unicode_escape}
 use Rattle.jiter_steps.specs.StringReading.{short, behind_backslash, portion_by, portion_at}
+use Rattle.jiter_steps.specs.declared.open_escape.Spelled.TheVariants as spelled
 use Rattle.jiter_steps.proofs.Cut.Fronts.{front-stands}
 use Rattle.jiter_steps.proofs.Grammar.Places.{Explains, portion_at-explains}
 use Rattle.jiter_steps.proofs.Grammar.StringComplete.{portion_by-escape}

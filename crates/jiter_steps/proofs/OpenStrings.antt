@@ -11,7 +11,7 @@ use Rattle.std.proofs.lemmas.Bool.Decides.{nat_tests}
 use Rattle.std.proofs.lemmas.Option.{slice_get_within}
 use Rattle.std.proofs.lemmas.Str.Ascii.{IsAscii-cons, IsAscii-nil}
 use Rattle.jiter_scan.specs.Kind.{fault_kind, control_character, eof_string}
-use Rattle.jiter_scan.specs.Scan.{IsAsciiTo, Pass, is_ascii, is_plain, is_plain_ascii, scan_stop}
+use Rattle.jiter_scan.specs.Scan.{Pass, is_plain, is_plain_ascii, scan_stop}
 use Rattle.jiter_scan.specs.Scanned.{failed, taken}
 use Rattle.jiter_scan.specs.Stands.{Stands}
 use Rattle.jiter_scan.proofs.Chunks.{prefix_len-pass}
@@ -28,10 +28,7 @@ use Rattle.jiter_steps.specs.declared.open_string.OpenString.{OpenString}
 use Rattle.jiter_steps.specs.declared.open_string.Went.{Went}
 use Rattle.jiter_steps.specs.declared.open_string.Went.TheVariants as went
 use Rattle.jiter_scan.specs.declared.errors.FaultKind.{FaultKind}
-use Rattle.std.proofs.lemmas.List.{get_or-replicate, length-take, length-drop, take-append-le}
-use Rattle.std.proofs.lemmas.List.Sums.{prefix_len-drop_no, prefix_len-le-length}
-use Rattle.std.specs.List.{AllPass, prefix_len}
-use Rattle.std.specs.Prelude.{cond, replicate}
+use Rattle.std.proofs.lemmas.List.{length-take, length-drop}
 use Rattle.jiter_steps.proofs.Cut.Fronts.{front-length, front-range}
 use Rattle.jiter_steps.proofs.Grammar.StringComplete.{ArePrinted, IsPrinted, bytes-read, portion_by-escape}
 use Rattle.jiter_steps.proofs.Grammar.StringComplete.{portion_by-quote}

@@ -36,6 +36,6 @@ pub(crate) fn right_end(bytes: &[u8]) -> (usize, bool)
     }
     match from_utf8(bytes) {
         Ok(_) => (bytes.len(), false),
-        Err(e) => (e.valid_up_to(), e.error_len().is_some()),
+        Err(error) => (error.valid_up_to(), error.error_len().is_some()),
     }
 }

@@ -1,4 +1,4 @@
-//! Escapes that arrive byte by byte (RFC 8259, 7): they are held until they are whole, at most twelve bytes.
+//! Escapes that arrive in pieces (RFC 8259, 7): they are held until they are whole, at most twelve bytes.
 ghost use Rattle.std.specs.Prelude.{◌≡◌, ◌≤◌, ◌∷◌, ◌++◌, [], length, take};
 ghost use Rattle.jiter_steps.specs.OpenEscape.{IsSpelled, IsWithin, begun, held_after};
 ghost use Rattle.jiter_steps.specs.StringReading.{cut, over, portion_at};
@@ -95,12 +95,12 @@ impl OpenEscape {
     {
         let count = self.count();
         let few = more.len().min(LONGEST - count);
-        let held = self.held.with(&more[..few]);
-        match portion_at(held.as_slice(), 0) {
+        let longer = self.held.with(&more[..few]);
+        match portion_at(longer.as_slice(), 0) {
             AtStop::Escape(c, end) => (end - count, Spelled::Whole(c)),
             AtStop::End(Ending::Wrong(fault)) => (few, Spelled::Wrong(fault.kind, fault.index)),
             AtStop::End(Ending::Cut) => {
-                self.held = held;
+                self.held = longer;
                 (few, Spelled::Part)
             }
             AtStop::End(Ending::Closed(_)) => unreachable!(),

@@ -30,8 +30,9 @@ use crate::open_value::Went;
 use crate::spine::empty;
 use crate::value::JsonValue;
 use jiter_scan::memory::Refused;
-use jiter_scan::number_within::{NearNumber, ShortWithin, float_within, near_within};
-use jiter_scan::number_within::{number_within, short_within};
+use jiter_scan::number_within::{
+    NearNumber, ShortWithin, float_within, near_within, number_within, short_within,
+};
 use jiter_scan::open_number::{Stage, begun_at};
 use jiter_scan::text::ascii_text;
 use jiter_scan::{NumberAny, NumberInt};

@@ -1,4 +1,3 @@
-use Rattle.std.proofs.Common.{sym, subst}
 use Rattle.jiter_scan.proofs.NumberParts.{begins-digits}
 use Rattle.jiter_scan.proofs.open_number.begun_behind.Goals as goal
 

@@ -29,8 +29,8 @@ first_stop-requires c =
     let run = run_end-stopped is_plain t i (length t - i) found stops (omega arith) (omega arith) (omega arith) in
     omega (arith, run, run_end-within is_plain t i (omega arith))
 
-pub returns-then-found-ne0 : goal.returns-then-found-ne0
-returns-then-found-ne0 c =
+pub returns : goal.returns
+returns c =
     let t = c.args.bytes.now in
     let i = c.args.from in
     let found = c.stops.result / 2 ^ (i - (length t - 16)) in
@@ -50,8 +50,8 @@ and-true : (b : Bool) → (b && true) ≡ b
 and-true true = refl
 and-true false = refl
 
-pub returns : goal.returns
-returns c =
+pub returns-then-found-eq0 : goal.returns-then-found-eq0
+returns-then-found-eq0 c =
     let t = c.args.bytes.now in
     let i = c.args.from in
     let n = length t - i in

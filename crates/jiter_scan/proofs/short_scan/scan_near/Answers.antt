@@ -1,4 +1,4 @@
-use Rattle.std.proofs.Common.{◌≡◌, ◌+◌, ◌∙◌, arith, true, sym, refl}
+use Rattle.std.proofs.Common.{arith}
 use Rattle.jiter_scan.proofs.PlainRuns.{IsAsciiTo-iff}
 use Rattle.jiter_scan.specs.Scan.{is_plain}
 use Rattle.jiter_scan.proofs.Runs.{run_end-ahead, run_end-within}
@@ -11,7 +11,9 @@ returns c =
     let scan = c.scan_bytes in
     record {
       stop = scan.ensures.stop;
-      within = (omega (arith, scan.ensures.stop, run_end-ahead is_plain t i),
-      omega (arith, scan.ensures.stop, run_end-within is_plain t i (omega arith)));
+      within = (
+        omega (arith, scan.ensures.stop, run_end-ahead is_plain t i),
+        omega (arith, scan.ensures.stop, run_end-within is_plain t i (omega arith)),
+      );
       ascii = IsAsciiTo-iff t i _ scan.result.1 scan.ensures.stop scan.ensures.ascii;
     }

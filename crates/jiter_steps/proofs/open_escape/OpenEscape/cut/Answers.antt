@@ -1,4 +1,4 @@
-use Rattle.std.proofs.Common.{◌∙◌, ap, arith, length}
+use Rattle.std.proofs.Common.{ap, arith, length}
 use Rattle.jiter_steps.proofs.OpenEscapes.{cut_short}
 use Rattle.jiter_steps.proofs.open_escape.OpenEscape.cut.Goals as goal
 

@@ -28,37 +28,37 @@ overflow_sub-count c =
     let short = cut_short c.self.inside.held c.self.invariant in
     omega (arith, short, c.count-count.ensures, ap length c.self.view_is)
 
-pub with-held-requires : goal.with-held-requires
-with-held-requires c =
+pub with-longer-requires : goal.with-longer-requires
+with-longer-requires c =
     let short = cut_short c.self.inside.held c.self.invariant in
     omega (arith, short, c.count-count.ensures, ap length c.self.view_is, length-take c.min-few.result c.args.more.now)
 
 pub portion_at-requires : goal.portion_at-requires
-portion_at-requires c = subst (λ o. IfSome o (λ b. is_stop b ≡ true)) (sym (first _ _ _ _ c.as_slice.ensures.value c.with-held.ensures c.self.invariant)) refl
+portion_at-requires c = subst (λ o. IfSome o (λ b. is_stop b ≡ true)) (sym (first _ _ _ _ c.as_slice.ensures.value c.with-longer.ensures c.self.invariant)) refl
 
 pub overflow_sub-result : goal.overflow_sub-result
 overflow_sub-result c =
     let found : portion_at (c.args.self.now ++ take c.min-few.result c.args.more.now) 0
     ≡ part (encode_utf8 c.in-Escape.c) true c.in-Escape.end =
-    ap (λ w. portion_at w 0) (sym (looked _ _ _ _ _ c.as_slice.ensures.value c.with-held.ensures c.self.view_is)) ∙ sym c.in-Escape.ensures in
+    ap (λ w. portion_at w 0) (sym (looked _ _ _ _ _ c.as_slice.ensures.value c.with-longer.ensures c.self.view_is)) ∙ sym c.in-Escape.ensures in
     let r = whole-behind c.args.self.now _ _ _ (was-cut _ _ c.self.view_is c.self.invariant) found in
     omega (arith, r.0, c.count-count.ensures)
 
 pub unreachable-requires : goal.unreachable-requires
 unreachable-requires c =
-    no-close c.as_slice.result.now (first _ _ _ _ c.as_slice.ensures.value c.with-held.ensures c.self.invariant) c.in-End-Closed.field-0-0
+    no-close c.as_slice.result.now (first _ _ _ _ c.as_slice.ensures.value c.with-longer.ensures c.self.invariant) c.in-End-Closed.field-0-0
     (ap (λ x. over (stop_view x)) (sym c.in-End-Closed.field-0-is) ∙ c.in-End-Closed.ensures)
 
 pub unreachable-requires-in-End-Unclosed : goal.unreachable-requires-in-End-Unclosed
 unreachable-requires-in-End-Unclosed c =
-    no-end c.as_slice.result.now (first _ _ _ _ c.as_slice.ensures.value c.with-held.ensures c.self.invariant)
+    no-end c.as_slice.result.now (first _ _ _ _ c.as_slice.ensures.value c.with-longer.ensures c.self.invariant)
     (ap (λ x. over (stop_view x)) (sym c.in-End-Unclosed.field-0-is) ∙ c.in-End-Unclosed.ensures)
 
 pub returns-in-Escape-clause-within : goal.returns-in-Escape-clause-within
 returns-in-Escape-clause-within c =
     let v = take c.min-few.result c.args.more.now in
     let found : portion_at (c.args.self.now ++ v) 0 ≡ part (encode_utf8 c.in-Escape.c) true c.in-Escape.end =
-    ap (λ w. portion_at w 0) (sym (looked _ _ _ _ _ c.as_slice.ensures.value c.with-held.ensures c.self.view_is)) ∙ sym c.in-Escape.ensures in
+    ap (λ w. portion_at w 0) (sym (looked _ _ _ _ _ c.as_slice.ensures.value c.with-longer.ensures c.self.view_is)) ∙ sym c.in-Escape.ensures in
     let r = whole-behind c.args.self.now v _ _ (was-cut _ _ c.self.view_is c.self.invariant) found in
     omega (arith, r.1, c.count-count.ensures, length-append c.args.self.now v, length-take c.min-few.result c.args.more.now)
 
@@ -70,7 +70,7 @@ returns-in-Escape-clause-spelled c =
     let v = take few more in
     let j = c.in-Escape.end in
     let found : portion_at (w ++ v) 0 ≡ part (encode_utf8 c.in-Escape.c) true j =
-    ap (λ w. portion_at w 0) (sym (looked _ _ _ _ _ c.as_slice.ensures.value c.with-held.ensures c.self.view_is)) ∙ sym c.in-Escape.ensures in
+    ap (λ w. portion_at w 0) (sym (looked _ _ _ _ _ c.as_slice.ensures.value c.with-longer.ensures c.self.view_is)) ∙ sym c.in-Escape.ensures in
     let r = whole-behind w v _ _ (was-cut _ _ c.self.view_is c.self.invariant) found in
     let count : j - length w ≡ j - c.count-count.result = ap (λ n. j - n) (sym c.count-count.ensures) in
     let low : j - length w ≤ few = omega (arith, r.1, length-append w v, length-take few more) in
@@ -85,6 +85,6 @@ returns-in-End-Wrong-clause-spelled c =
     let fault = c.in-End-Wrong.fault in
     let u = c.args.self.now ++ take c.min-few.result c.args.more.now in
     let found : portion_at u 0 ≡ over (wrong (fault_kind fault.kind) fault.index) =
-    ap (λ w. portion_at w 0) (sym (looked _ _ _ _ _ c.as_slice.ensures.value c.with-held.ensures c.self.view_is)) ∙ sym c.in-End-Wrong.ensures
+    ap (λ w. portion_at w 0) (sym (looked _ _ _ _ _ c.as_slice.ensures.value c.with-longer.ensures c.self.view_is)) ∙ sym c.in-End-Wrong.ensures
     ∙ ap (λ x. over (stop_view x)) c.in-End-Wrong.field-0-is in
     spelled-wrong u t i stands (fault_kind fault.kind) fault.index found

@@ -1,5 +1,5 @@
-use Rattle.std.proofs.Common.{◌≡◌, ◌∙◌, ◌∷◌, ◌++◌, [], ◌+◌, ◌-◌, length, ap, subst, sym}
-use Rattle.std.specs.Prelude.{None, Some, slice_index, slice_range}
+use Rattle.std.proofs.Common.{◌≡◌, ◌∙◌, ◌∷◌, ◌++◌, [], ◌-◌, length, ap, subst, sym}
+use Rattle.std.specs.Prelude.{None, Some, slice_index}
 use Rattle.jiter_steps.specs.OpenString.{HasTaken}
 use Rattle.jiter_steps.proofs.Grammar.Places.{got}
 use Rattle.jiter_steps.proofs.OpenStrings.{escape-ends, escape-fails, escape-goes, one-byte}

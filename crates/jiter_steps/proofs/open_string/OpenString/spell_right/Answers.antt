@@ -1,4 +1,4 @@
-use Rattle.std.proofs.Common.{◌≡◌, ◌∙◌, ◌++◌, ◌-◌, List, ℕ, ap, arith, length, subst, take}
+use Rattle.std.proofs.Common.{◌∙◌, ◌++◌, ap, arith, length, subst, take}
 use Rattle.std.specs.Prelude.{None, Some, slice_range}
 use Rattle.jiter_steps.specs.OpenEscape.{IsSpelled, held_after}
 use Rattle.jiter_steps.specs.OpenString.{HasTaken}
