@@ -6,7 +6,7 @@ use Rattle.std.proofs.lemmas.List.{drop-take}
 use Rattle.std.proofs.lemmas.Simd.{chunk-drop, length-chunk, trailing_mask_l}
 use Rattle.std.proofs.lemmas.List.Folds.{prefix_len-append, list_all-append}
 use Rattle.std.proofs.lemmas.List.Sums.{prefix_len-le-length}
-use Rattle.std.proofs.lemmas.Bool.{eq-eqb, ne_eqb, false≢true}
+use Rattle.std.proofs.lemmas.Bool.{and_parts, eq-eqb, ne_eqb, false≢true}
 use Rattle.std.proofs.lemmas.Bool.Decides.{nat_tests}
 use Rattle.std.specs.List.{prefix_len, list_all}
 use lib.Lanes.{chunk}
@@ -145,6 +145,15 @@ module _ (test : ℕ → Bool) where
       list_all-halves t i 32 ∙ ap₂ (λ a b. a && b) (list_all-halves t i 16)
       (list_all-halves t (i + 32) 16 ∙ ap
       (λ k. list_all test (chunk (i + 32) 16 t) && list_all test (chunk k 16 t)) place)
+
+  -- all of them pass
+  pub all-pass : (w : List ℕ) → list_all test w ≡ true → Pass test w
+  all-pass [] h = tt
+  all-pass (c ∷ w) h = let parts = and_parts (test c) (list_all test w) h in (parts.0, all-pass w parts.1)
+
+  pub pass-all : (w : List ℕ) → Pass test w → list_all test w ≡ true
+  pass-all [] h = refl
+  pass-all (c ∷ w) h = ap (λ b. b && list_all test w) h.0 ∙ pass-all w h.1
 
   -- the first n pass where no more than the first to fail stand behind them
   pub prefix_len-pass : (n : ℕ) (w : List ℕ) → n ≤ prefix_len test w → Pass test (take n w)

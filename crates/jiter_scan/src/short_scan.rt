@@ -68,7 +68,7 @@ pub fn scan_short(bytes: &[u8], from: usize) -> (usize, bool)
 #[inline(always)]
 pub fn is_plain_chunk(bytes: &[u8]) -> bool
     requires { 16 ≤ length bytes.now }
-    ensures { result ≡ true → Pass is_plain_ascii (take 16 bytes.now) }
+    ensures { IsTrue result ↔ Pass is_plain_ascii (take 16 bytes.now) }
 {
     ascii_stops(u8x16::from_slice(bytes)) == 0
 }

@@ -8,7 +8,7 @@ pub returns-then-is_plain_chunk : goal.returns-then-is_plain_chunk
 returns-then-is_plain_chunk c = λ plain.
     let piece = c.args.piece.now in
     subst (Pass is_plain_ascii) (take_all 16 piece (omega (arith, c.if-piece-eq16.true)))
-    (c.is_plain_chunk.ensures c.if-is_plain_chunk.true)
+    (c.is_plain_chunk.ensures.0 c.if-is_plain_chunk.true)
 
 pub returns-then-low : goal.returns-then-low
 returns-then-low c = λ plain.
