@@ -86,10 +86,11 @@ impl OpenEscape {
         }
     }
 
-    /// Takes bytes that follow, as far as the escape goes on with them, and says how many, and what they make of it. Where
-    /// one is wrong, none is taken.
+    /// Takes bytes that follow, as far as the escape goes on with them, and says how many, and what they make of it: all of
+    /// them where more are wanted. Where one is wrong, none is taken.
     pub fn through(&mut self, more: &[u8]) -> (usize, Spelled)
         ensures within { result.0 ≤ length more.now }
+        ensures all { result.1 ≡ Spelled.Part → result.0 ≡ length more.now }
         ensures spelled { IsSpelled (self.old ++ take result.0 more.now) result.1 }
         ensures held { self.new ≡ held_after self.old (take result.0 more.now) result.1 }
     {

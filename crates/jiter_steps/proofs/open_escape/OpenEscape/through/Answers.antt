@@ -88,3 +88,15 @@ returns-in-End-Wrong-clause-spelled c =
     ap (λ w. portion_at w 0) (sym (looked _ _ _ _ _ c.as_slice.ensures.value c.with-longer.ensures c.self.view_is)) ∙ sym c.in-End-Wrong.ensures
     ∙ ap (λ x. over (stop_view x)) c.in-End-Wrong.field-0-is in
     spelled-wrong u t i stands (fault_kind fault.kind) fault.index found
+
+pub returns-in-End-Cut-clause-all : goal.returns-in-End-Cut-clause-all
+returns-in-End-Cut-clause-all c =
+    λ _.
+    let w = c.args.self.now in
+    let few = c.min-few.result in
+    let v = take few c.args.more.now in
+    let found : portion_at (w ++ v) 0 ≡ over cut =
+    ap (λ w. portion_at w 0) (sym (looked _ _ _ _ _ c.as_slice.ensures.value c.with-longer.ensures c.self.view_is))
+    ∙ sym c.in-End-Cut.ensures ∙ ap (λ x. over (stop_view x)) c.in-End-Cut.field-0-is in
+    let short = cut_short (w ++ v) found in
+    omega (arith, short, c.count-count.ensures, length-append w v, length-take few c.args.more.now)
