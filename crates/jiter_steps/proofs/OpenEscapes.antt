@@ -258,22 +258,6 @@ module _ (w t : List ℕ) (p : ℕ) (same : At w t p) where
   pub wrong-found : (k : Kind) (j : ℕ) → portion_at w 0 ≡ over (wrong k j) → portion_at t p ≡ over (wrong k (p + j))
   wrong-found = place-moved 0 p (omega arith)
 
-  -- what stands in w stands in t
-  stands-moved : (v : List ℕ) (i j : ℕ) → Stands w i j v → Stands t (p + i) (p + j) v
-  stands-moved [] i j s = ap (λ n. p + n) s
-  stands-moved (b ∷ v) i j s =
-      let next : p + (i + 1) ≡ p + i + 1 = omega arith in
-      (same i b s.0, subst (λ n. Stands t n (p + j) v) next (stands-moved v (i + 1) j s.1))
-
-  -- An escape that is found in w is found in t.
-  pub escape-found : (bs : List ℕ) (j : ℕ) → portion_at w 0 ≡ part bs true j → portion_at t p ≡ part bs true (p + j)
-  escape-found bs j h =
-      let e = subst (Explains w 0) h (portion_at-explains w 0) in
-      let here : p + 0 ≡ p = omega arith in
-      portion_by-escape t p (p + j) e.character e.bytes e.escape
-      (subst (λ n. Stands t n (p + j) e.bytes) here (stands-moved e.bytes 0 j e.stands))
-      ∙ ap (λ x. part x true (p + j)) (sym e.is)
-
 -- ---- what is cut at the end of the text is cut there too
 
 -- where f is cut, g is
@@ -407,13 +391,6 @@ whole-behind w v bs j open_before h =
           absurd (cc)
     ]
 
--- and of one byte with it.
-pub whole-end : (w : List ℕ) (b : ℕ) (bs : List ℕ) (j : ℕ) → portion_at w 0 ≡ over cut
-    → portion_at (w ++ b ∷ []) 0 ≡ part bs true j → j ≡ length (w ++ b ∷ [])
-whole-end w b bs j open_before h =
-    let r = whole-behind w (b ∷ []) bs j open_before h in
-    omega (arith, r.0, r.1, length-append w (b ∷ []))
-
 -- Wherever its bytes stand then, it is found.
 pub spelled-through : (w v : List ℕ) (c j : ℕ) → portion_at w 0 ≡ over cut
     → portion_at (w ++ v) 0 ≡ part (encode_utf8 c) true j
@@ -453,27 +430,14 @@ module _ (u : List ℕ) (backslash : slice_get u 0 ≡ Some 92) where
   pub no-end : over unclosed ≡ portion_at u 0 → ⊥
   no-end h = none-some 92 (sym (subst (Explains u 0) (sym h) (portion_at-explains u 0)) ∙ backslash)
 
--- What the last byte of an escape makes of it, wherever it stands.
-module _ (u t : List ℕ) (i : ℕ) (stands : Stands t i (i + length u) u) where
-  -- a character
-  pub spelled-whole : (w : List ℕ) (b : ℕ) (bs : List ℕ) (j : ℕ) → u ≡ w ++ b ∷ [] → portion_at w 0 ≡ over cut
-      → portion_at u 0 ≡ part bs true j → portion_at t i ≡ part bs true (i + length u)
-  spelled-whole w b bs j is before_it h =
-      let end : j ≡ length (w ++ b ∷ []) = whole-end w b bs j before_it (ap (λ x. portion_at x 0) (sym is) ∙ h) in
-      escape-found u t i (stands-at u t i (i + length u) stands) bs j h
-      ∙ ap (λ n. part bs true (i + n)) (end ∙ ap length (sym is))
+-- and so is a fault.
+pub spelled-wrong : (u t : List ℕ) (i : ℕ) → Stands t i (i + length u) u → (k : Kind) (j : ℕ)
+    → portion_at u 0 ≡ over (wrong k j) → portion_at t i ≡ over (wrong k (i + j))
+spelled-wrong u t i stands = wrong-found u t i (stands-at u t i (i + length u) stands)
 
-  -- or a fault
-  pub spelled-wrong : (k : Kind) (j : ℕ) → portion_at u 0 ≡ over (wrong k j)
-      → portion_at t i ≡ over (wrong k (i + j))
-  spelled-wrong = wrong-found u t i (stands-at u t i (i + length u) stands)
-
--- A wrong byte stands in front of the last one, or is it.
-pub wrong-within : (w : List ℕ) (b : ℕ) (k : Kind) (j : ℕ) → portion_at (w ++ b ∷ []) 0 ≡ over (wrong k j)
-    → j ≤ length w
-wrong-within w b k j h =
-    let e = subst (Explains (w ++ b ∷ []) 0) h (portion_at-explains (w ++ b ∷ []) 0) in
-    omega (arith, e.1, length-append w (b ∷ []))
+-- A wrong byte is one of them.
+pub wrong-within : (u : List ℕ) (k : Kind) (j : ℕ) → portion_at u 0 ≡ over (wrong k j) → j < length u
+wrong-within u k j h = (subst (Explains u 0) h (portion_at-explains u 0)).1
 
 -- What is cut is so where the text ends behind it.
 pub spelled-cut : (u t : List ℕ) (i : ℕ) → Stands t i (i + length u) u → length t ≡ i + length u

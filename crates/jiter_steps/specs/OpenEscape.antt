@@ -1,5 +1,5 @@
 -- An escape that arrives in pieces: what its next bytes make of it, in any text in which these bytes stand.
-use Rattle.std.specs.Prelude.{◌≡◌, ◌≤◌, ℕ, ◌+◌, true, List, [], ◌∷◌, ◌++◌, length}
+use Rattle.std.specs.Prelude.{◌≡◌, ◌<◌, ℕ, ◌+◌, true, List, [], ◌∷◌, ◌++◌, length}
 use Rattle.std.specs.Char.{encode_utf8}
 use Rattle.jiter_scan.specs.Ascii as ascii
 use Rattle.jiter_scan.specs.Kind.{fault_kind}
@@ -25,7 +25,7 @@ abbrev pub held_after : List ℕ → List ℕ → Spelled → List ℕ
 held_after w v spelled.Part = w ++ v
 held_after w v s = w
 
--- a wrong byte is one of those that are held, or the one behind them
-abbrev pub IsWithin : List ℕ → Spelled → Type 0
-IsWithin w (spelled.Wrong k n) = n ≤ length w
-IsWithin w s = Unit {0}
+-- a wrong byte is one of so many
+abbrev pub IsWithin : ℕ → Spelled → Type 0
+IsWithin m (spelled.Wrong k n) = n < m
+IsWithin m s = Unit {0}

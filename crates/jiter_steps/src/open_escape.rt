@@ -1,5 +1,5 @@
 //! Escapes that arrive in pieces (RFC 8259, 7): they are held until they are whole, at most twelve bytes.
-ghost use Rattle.std.specs.Prelude.{◌≡◌, ◌≤◌, ◌∷◌, ◌++◌, [], length, take};
+ghost use Rattle.std.specs.Prelude.{◌≡◌, ◌+◌, ◌<◌, ◌≤◌, ◌∷◌, ◌++◌, [], length, take};
 ghost use Rattle.jiter_steps.specs.OpenEscape.{IsSpelled, IsWithin, begun, held_after};
 ghost use Rattle.jiter_steps.specs.StringReading.{cut, over, portion_at};
 
@@ -67,32 +67,15 @@ impl OpenEscape {
         self.held.as_slice().len()
     }
 
-    /// Takes the next byte, if the escape is not over with it, and says what it makes of it.
-    pub fn next(&mut self, byte: u8) -> Spelled
-        ensures spelled { IsSpelled (self.old ++ byte ∷ []) result }
-        ensures held { self.new ≡ held_after self.old (byte ∷ []) result }
-        ensures within { IsWithin self.old result }
-    {
-        let held = self.held.with(&[byte]);
-        match portion_at(held.as_slice(), 0) {
-            AtStop::Escape(c, _) => Spelled::Whole(c),
-            AtStop::End(Ending::Wrong(fault)) => Spelled::Wrong(fault.kind, fault.index),
-            AtStop::End(Ending::Cut) => {
-                self.held = held;
-                Spelled::Part
-            }
-            AtStop::End(Ending::Closed(_)) => unreachable!(),
-            AtStop::End(Ending::Unclosed) => unreachable!(),
-        }
-    }
-
-    /// Takes bytes that follow, as far as the escape goes on with them, and says how many, and what they make of it: all of
-    /// them where more are wanted. Where one is wrong, none is taken.
+    /// Takes bytes that follow, and says how many go on with the escape, and what they make of it: all of them where more are
+    /// wanted. Where one is wrong, nothing changes.
     pub fn through(&mut self, more: &[u8]) -> (usize, Spelled)
         ensures within { result.0 ≤ length more.now }
+        ensures some { 0 < length more.now → 0 < result.0 }
         ensures all { result.1 ≡ Spelled.Part → result.0 ≡ length more.now }
         ensures spelled { IsSpelled (self.old ++ take result.0 more.now) result.1 }
         ensures held { self.new ≡ held_after self.old (take result.0 more.now) result.1 }
+        ensures wrong { IsWithin (length self.old + result.0) result.1 }
     {
         let count = self.count();
         let few = more.len().min(LONGEST - count);
@@ -107,5 +90,15 @@ impl OpenEscape {
             AtStop::End(Ending::Closed(_)) => unreachable!(),
             AtStop::End(Ending::Unclosed) => unreachable!(),
         }
+    }
+
+    /// Takes the next byte, if the escape is not over with it, and says what it makes of it.
+    pub fn next(&mut self, byte: u8) -> Spelled
+        ensures spelled { IsSpelled (self.old ++ byte ∷ []) result }
+        ensures held { self.new ≡ held_after self.old (byte ∷ []) result }
+        ensures within { IsWithin (length self.old + 1) result }
+    {
+        let (_, spelled) = self.through(&[byte]);
+        spelled
     }
 }

@@ -1,4 +1,4 @@
-use Rattle.std.proofs.Common.{◌≡◌, ◌∙◌, ◌∷◌, ◌++◌, [], ◌-◌, length, ap, subst, sym}
+use Rattle.std.proofs.Common.{◌≡◌, ◌∙◌, ◌∷◌, ◌++◌, [], ◌-◌, length, ap, arith, subst, sym}
 use Rattle.std.specs.Prelude.{None, Some, slice_index}
 use Rattle.jiter_steps.specs.OpenString.{HasTaken}
 use Rattle.jiter_steps.proofs.Grammar.Places.{got}
@@ -26,7 +26,7 @@ returns-in-Wrong-clause-goes c =
     let back : c.count.result - n ≡ length e - n =
     ap (λ k. k - n) (c.count.ensures ∙ ap length c.in-Wrong.ensures.held) in
     escape-fails c.args.self.now w h e (slice_index piece at) c.in-Some.is c.in-Wrong.kind n c.in-Wrong.ensures.spelled
-    c.in-Wrong.ensures.within piece at (c.count.result - n) (got piece at c.requires.within) back c.args.self.now
+    (omega (arith, c.in-Wrong.ensures.within)) piece at (c.count.result - n) (got piece at c.requires.within) back c.args.self.now
 
 pub returns-in_ok-add_char-in-Whole-clause-goes : goal.returns-in_ok-add_char-in-Whole-clause-goes
 returns-in_ok-add_char-in-Whole-clause-goes c =
