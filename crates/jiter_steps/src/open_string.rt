@@ -127,6 +127,7 @@ impl OpenString {
     }
 
     // Takes the next byte of an escape.
+    #[inline(never)]
     fn spell(&mut self, piece: &[u8], at: usize) -> Result<Went, Refused>
         requires within { at < length piece.now }
         requires open { ¬ (self.old.escape ≡ None) }
