@@ -212,13 +212,16 @@ fn a_text_is_taken_out_and_given_back(rt: HostRuntime) {
 }
 
 #[test]
-fn an_escape_is_taken_at_once_where_it_is_whole(rt: HostRuntime) {
+fn an_escape_is_taken_at_once_as_far_as_a_piece_has_it(rt: HostRuntime) {
     let mut string = OpenString::new(rt.alloc());
     assert_eq!(rt; string.next(b"a\\ud83d\\ude00b", 0), Ok(Went::Taken(1)));
     assert_eq!(rt; string.next(b"a\\ud83d\\ude00b", 1), Ok(Went::Taken(12)));
-    assert_eq!(rt; string.next(b"\\u20", 0), Ok(Went::Taken(1)));
-    assert_eq!(rt; string.next(b"\\u20", 1), Ok(Went::Taken(1)));
+    assert_eq!(rt; string.next(b"\\u20", 0), Ok(Went::Taken(4)));
     assert_eq!(rt; string.text(), "a\u{1f600}");
+    assert_eq!(rt; string.next(b"ac", 0), Ok(Went::Taken(1)));
+    assert_eq!(rt; string.next(b"ac", 1), Ok(Went::Taken(1)));
+    assert_eq!(rt; string.text(), "a\u{1f600}\u{20ac}");
+    assert_eq!(rt; string.next(b"\\q", 0), Ok(Went::Taken(1)));
 }
 
 // Whether this is what the string takes of a piece, and its characters then.
