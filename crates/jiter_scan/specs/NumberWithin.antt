@@ -41,6 +41,7 @@ IsShortWithin piece at (short.Int n e) = EndsWithin piece at (integer n) e
 IsShortWithin piece at (short.Float e) = IsFloatWithin piece at e
 IsShortWithin piece at short.Other = Unit {0}
 
+-- what was found at a place near its end: an integer that ends there, or how far the bytes from there on bring a number
 abbrev pub IsNearNumber : List ℕ → ℕ → NearNumber → Type 0
 IsNearNumber piece at (near.Int n e) = EndsWithin piece at (integer n) e
 IsNearNumber piece at (near.Begun s e) = BeginsThere piece at s e

@@ -1,4 +1,4 @@
--- An escape that arrives byte by byte: while it is cut it is short, and what ends it is found wherever it stands.
+-- An escape that arrives in pieces: while it is cut it is short, and what ends it is found wherever it stands.
 use Rattle.std.proofs.Common.{◌≡◌, inl, inr, ℕ, zero, suc, ◌+◌, ◌-◌, ◌<◌, ◌≤◌, ◌==◌, Bool, true, false, List}
 use Rattle.std.proofs.Common.{[], ◌∷◌, ◌++◌}
 use Rattle.std.proofs.Common.{length, refl, sym, ap, ap₂, ◌∙◌, subst, arith, length-append, take}
