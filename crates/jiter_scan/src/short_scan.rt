@@ -66,7 +66,7 @@ pub fn scan_short(bytes: &[u8], from: usize) -> (usize, bool)
 
 /// Whether the first sixteen bytes are below 80 hex, and none of them is a quote, a backslash or a control byte.
 #[inline(always)]
-pub fn is_plain_chunk(bytes: &[u8]) -> bool
+pub fn is_plain_sixteen(bytes: &[u8]) -> bool
     requires { 16 ≤ length bytes.now }
     ensures { IsTrue result ↔ Pass is_plain_ascii (take 16 bytes.now) }
 {

@@ -11,7 +11,7 @@ ghost use Rattle.jiter_value.specs.Together.{with_parts};
 use crate::arriving::Settled;
 use crate::open_document::{OpenDocument, Token};
 use jiter_scan::memory::Refused;
-use jiter_scan::short_scan::{is_plain_chunk, scan_short};
+use jiter_scan::short_scan::{is_plain_sixteen, scan_short};
 
 // Of so many bytes a piece is looked through how it goes on with an unfinished string: of more it costs little to take the
 // value apart.
@@ -58,7 +58,7 @@ pub(crate) fn run_of(piece: &[u8]) -> Run
     if let [byte] = piece {
         return run_of_byte(*byte);
     }
-    if piece.len() == 16 && is_plain_chunk(piece) {
+    if piece.len() == 16 && is_plain_sixteen(piece) {
         return Run::Plain;
     }
     if piece.len() > FEW {

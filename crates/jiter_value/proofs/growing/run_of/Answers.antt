@@ -4,11 +4,11 @@ use Rattle.jiter_scan.specs.Scan.{Pass, is_plain_ascii}
 use Rattle.jiter_value.proofs.GrownTexts.{plain-run}
 use Rattle.jiter_value.proofs.growing.run_of.Goals as goal
 
-pub returns-then-is_plain_chunk : goal.returns-then-is_plain_chunk
-returns-then-is_plain_chunk c = λ plain.
+pub returns-then-is_plain_sixteen : goal.returns-then-is_plain_sixteen
+returns-then-is_plain_sixteen c = λ plain.
     let piece = c.args.piece.now in
     subst (Pass is_plain_ascii) (take_all 16 piece (omega (arith, c.if-piece-eq16.true)))
-    (c.is_plain_chunk.ensures.0 c.if-is_plain_chunk.true)
+    (c.is_plain_sixteen.ensures.0 c.if-is_plain_sixteen.true)
 
 pub returns-then-low : goal.returns-then-low
 returns-then-low c = λ plain.

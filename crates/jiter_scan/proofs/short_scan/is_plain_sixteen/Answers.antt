@@ -2,7 +2,7 @@ use Rattle.std.proofs.Common.{◌≡◌, ◌∙◌, ap, eqb, sym, take}
 use Rattle.std.specs.List.{list_all}
 use Rattle.jiter_scan.specs.Scan.{is_plain_ascii}
 use Rattle.jiter_scan.proofs.Chunks.{all-pass, list_all-failing, pass-all}
-use Rattle.jiter_scan.proofs.short_scan.is_plain_chunk.Goals as goal
+use Rattle.jiter_scan.proofs.short_scan.is_plain_sixteen.Goals as goal
 
 pub returns : goal.returns
 returns c =
