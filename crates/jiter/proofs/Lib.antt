@@ -3,7 +3,6 @@ pub mod Containers
 pub mod Copies
 pub mod Growth
 pub mod Integers
-pub mod LinePlaces
 pub mod Members
 pub mod OwnedTrees
 pub mod Peeking

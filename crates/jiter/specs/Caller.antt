@@ -36,7 +36,6 @@ pub use Rattle.jiter_value.specs.Value.{view, views, member_views}
 pub use Rattle.jiter_value.specs.Access.{is_null_tree, boolean_in, int_in, number_text_in, string_in, items_in, item_at}
 pub use Rattle.jiter_value.specs.Access.{last_such, members_in, member_named}
 pub use Rattle.jiter_value.specs.Pointer.{pointed_by}
-pub use Rattle.jiter_value.specs.NumberText.{number_text_view, short_limit}
 pub use Rattle.jiter_value.specs.Equality.{code, same_content}
 pub use Rattle.jiter_value.specs.Machine.{Progress, held, left}
 pub use Rattle.jiter_value.specs.Owned.{HoldSame, HoldsBorrowedTextOrPart, HoldsOwnedTextOrPart, HoldsTextOrPart}
@@ -48,10 +47,6 @@ pub use Rattle.jiter_value.specs.Scratch.{Lists}
 pub use Rattle.jiter_value.specs.TurnsTo.{GoesOn, TurnsTo}
 pub use Rattle.jiter_value.specs.UniqueErrors.{IsDuplicateKey, IsMemoryRefused, unique_kind}
 pub use Rattle.jiter_value.specs.Value.{Answers, MayGrow, MayGrowAt}
--- A document that arrives in pieces.
-pub use Rattle.jiter_value.specs.Arriving.{HasReceived, Received}
-pub use Rattle.jiter_value.specs.OpenDocument.{MayRefuseAt}
-pub use Rattle.jiter.specs.LineFeeds.{HasPassed, Passed, feeds_from, line_feeds}
 -- The pull reader: what its calls reply, and where they leave it.
 pub use Rattle.jiter.specs.Cause.{Cause, ValueType, is_memory_cause, json_error, wrong_type}
 pub use Rattle.jiter.specs.Client.{OwnedMayGrowAt}

@@ -5,7 +5,6 @@ pub mod Errors
 pub mod Fronts
 pub mod Jiter
 pub mod Lending
-pub mod LineFeeds
 pub mod Parts
 pub mod Peek
 pub mod Reader

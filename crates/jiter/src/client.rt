@@ -23,7 +23,7 @@ use crate::peek::Peek;
 use jiter_scan::memory::{copy_text, push};
 use jiter_scan::{JsonErrorType, NumberAny, NumberInt, Refused};
 use jiter_steps::parse::{Literal, NESTING_LIMIT, Start, start_of};
-use jiter_value::{JsonValue, NumberText};
+use jiter_value::JsonValue;
 use std::alloc::Global;
 use std::borrow::CowStr;
 
@@ -52,12 +52,12 @@ fn number_value(alloc: Global, number: NumberAny<'_>) -> Result<JsonValue<'stati
     match number {
         NumberAny::Int(NumberInt::Int(integer)) => Ok(JsonValue::Int(integer)),
         NumberAny::Int(NumberInt::BigInt(text)) => {
-            let copy = NumberText::owned(alloc, text)?;
-            Ok(JsonValue::BigInt(copy))
+            let copy = copy_text(alloc, text)?;
+            Ok(JsonValue::BigInt(CowStr::Owned(copy)))
         }
         NumberAny::Float(text) => {
-            let copy = NumberText::owned(alloc, text)?;
-            Ok(JsonValue::Float(copy))
+            let copy = copy_text(alloc, text)?;
+            Ok(JsonValue::Float(CowStr::Owned(copy)))
         }
     }
 }

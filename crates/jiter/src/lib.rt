@@ -12,7 +12,6 @@
 pub mod client;
 mod errors;
 mod jiter;
-mod line_feeds;
 mod peek;
 
 pub use errors::{JiterError, JiterErrorType, JiterResult, JsonType};
@@ -21,8 +20,6 @@ pub use jiter_scan::{
     JsonError, JsonErrorType, JsonResult, LinePosition, NumberAny, NumberInt, PartialMode, simd,
 };
 pub use jiter_value::{
-    Arriving, JsonArray, JsonObject, JsonValue, JsonValueScratch, Machine, NumberText, ShortText,
-    Turn, UniqueError, UniqueErrorType, parse_pieces,
+    JsonArray, JsonObject, JsonValue, JsonValueScratch, Machine, Turn, UniqueError, UniqueErrorType,
 };
-pub use line_feeds::LineFeeds;
 pub use peek::Peek;

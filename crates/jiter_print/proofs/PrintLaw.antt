@@ -1,7 +1,6 @@
 -- What is printed of a value that was read is a document of the same value.
 use Rattle.std.proofs.Common.{◌≡◌, inl, inr, ℕ, zero, suc, ◌+◌, ◌-◌, ◌≤◌, Bool, true, false, List, [], ◌∷◌, ◌++◌}
 use Rattle.std.proofs.Common.{length, map, refl, sym, ap, ap₂, ◌∙◌, subst, arith}
-use Rattle.std.specs.Prelude.{Option, Some, None, IfSome}
 use Rattle.std.specs.Str.{IsUtf8}
 use Rattle.std.proofs.lemmas.List.{length-append, take_at, get_or_push}
 use Rattle.std.proofs.lemmas.Option.{slice_get_within}

@@ -20,7 +20,6 @@ pub mod OpenValues
 pub mod NumberLaws
 pub mod Pins
 pub mod Computed
-mod Rows
 pub mod Lanes
 pub mod Chunks
 pub mod PlainRuns

@@ -1,18 +1,16 @@
 //! A tape: bytes of which only the first so many count, and room behind them for more to be written at once.
-ghost use Rattle.std.specs.Prelude.{◌≡◌, ◌+◌, ◌-◌, ◌<◌, ◌≤◌, ◌∷◌, ◌++◌, [], IfOk, IsTrue, OnOk, length, slice_range, take};
+ghost use Rattle.std.specs.Prelude.{◌≡◌, ◌+◌, ◌^◌, ◌<◌, ◌≤◌, ◌++◌, OnOk, length, take};
 ghost use Rattle.std.specs.Prelude.{vec_len};
 ghost use Rattle.std.specs.Char.{encode_utf8};
 ghost use Rattle.std.specs.Simd.Lanes.{chunk};
-ghost use Rattle.jiter_scan.specs.Scan.{is_plain, is_ascii, scan_stop, IsAsciiTo};
+ghost use Rattle.jiter_scan.specs.Scan.{is_plain, is_ascii};
 ghost use Rattle.jiter_scan.specs.Simd.{failing};
 
 use crate::memory::{Refused, lengthen};
-use crate::simd::{highs, is_clear_below, scan_string, stops};
+use crate::simd::{highs, stops};
 use std::simd::prelude::*;
 
 // Twice the length, or 256.
-#[cold]
-#[inline(never)]
 fn double(tape: &mut Vec<u8>) -> Result<(), Refused>
     ensures room { OnOk result (vec_len tape.old + 32 ≤ vec_len tape.new) }
     ensures kept { OnOk result (take (vec_len tape.old) tape.new.items ≡ tape.old.items) }
@@ -21,15 +19,15 @@ fn double(tape: &mut Vec<u8>) -> Result<(), Refused>
     lengthen(tape, more)
 }
 
-/// Room for 32 bytes behind the first ones.
-#[inline(always)]
-pub fn make_room(tape: &mut Vec<u8>, count: usize) -> Result<(), Refused>
-    requires { count ≤ vec_len tape.old }
-    ensures room { OnOk result (count + 32 ≤ vec_len tape.new) }
+/// Room for so many bytes behind the first ones, and 32 more.
+pub(crate) fn make_room(tape: &mut Vec<u8>, count: usize, bytes: usize) -> Result<(), Refused>
+    requires front { count ≤ vec_len tape.old }
+    requires size { bytes < 2 ^ 63 }
+    ensures room { OnOk result (count + bytes + 32 ≤ vec_len tape.new) }
     ensures kept { OnOk result (take count tape.new.items ≡ take count tape.old.items) }
 {
-    if tape.len() - count < 32 {
-        return double(tape);
+    while tape.len() - count < bytes + 32 {
+        double(tape)?;
     }
     Ok(())
 }
@@ -53,38 +51,10 @@ fn put_sixteen(tape: &mut Vec<u8>, count: usize, v: u8x16)
     store(&mut tape.as_mut_slice()[count..count + 16], v);
 }
 
-// Writes bytes behind the first ones.
-#[inline(never)]
-fn put_few(tape: &mut Vec<u8>, count: usize, few: &[u8])
-    requires { count + length few.now ≤ vec_len tape.old }
-    ensures text { take (count + length few.now) tape.new.items
-        ≡ take count tape.old.items ++ few.now }
-    ensures len { vec_len tape.new ≡ vec_len tape.old }
-{
-    tape.as_mut_slice()[count..count + few.len()].copy_from_slice(few);
-}
-
-// The same where fewer than sixteen bytes are left of the input.
-#[inline(never)]
-fn put_last(tape: &mut Vec<u8>, count: usize, bytes: &[u8], from: usize) -> (usize, bool)
-    requires room { count + 16 ≤ vec_len tape.old }
-    requires within { (from ≤ length bytes.now) × (length bytes.now < from + 16) }
-    ensures stop { from + result.0 ≡ scan_stop bytes.now from }
-    ensures place { from + result.0 ≤ length bytes.now }
-    ensures text { take (count + result.0) tape.new.items
-        ≡ take count tape.old.items ++ slice_range bytes.now from (from + result.0) }
-    ensures ascii { IsTrue result.1 → IsAsciiTo bytes.now from (from + result.0) }
-    ensures len { vec_len tape.new ≡ vec_len tape.old }
-{
-    let (to, low) = scan_string(bytes, from);
-    put_few(tape, count, &bytes[from..to]);
-    (to - from, low)
-}
-
 /// Writes the sixteen bytes of a text at the byte index `from` behind the first ones of the tape, and gives a bit
 /// for each that ends a string's plain bytes, and a bit for each above 7F hex.
 #[inline(always)]
-pub fn put_chunk(tape: &mut Vec<u8>, count: usize, bytes: &[u8], from: usize) -> (u64, u64)
+pub(crate) fn put_chunk(tape: &mut Vec<u8>, count: usize, bytes: &[u8], from: usize) -> (u64, u64)
     requires room { count + 16 ≤ vec_len tape.old }
     requires within { from + 16 ≤ length bytes.now }
     ensures stops { result.0 ≡ failing is_plain (chunk from 16 bytes.now) }
@@ -96,32 +66,6 @@ pub fn put_chunk(tape: &mut Vec<u8>, count: usize, bytes: &[u8], from: usize) ->
     let v = u8x16::from_slice(&bytes[from..]);
     put_sixteen(tape, count, v);
     (stops(v), highs(v))
-}
-
-/// Writes the plain bytes of a string that stand at the byte index `from`, sixteen at most, behind the first
-/// ones of the tape, and gives how many they are, and whether all of them are below 80 hex. Where they are fewer
-/// than sixteen, a stop or the end of the input follows.
-#[inline(always)]
-pub fn put_plain(tape: &mut Vec<u8>, count: usize, bytes: &[u8], from: usize) -> (usize, bool)
-    requires room { count + 16 ≤ vec_len tape.old }
-    requires within { from ≤ length bytes.now }
-    ensures run { from + result.0 ≤ scan_stop bytes.now from }
-    ensures stop { result.0 < 16 → from + result.0 ≡ scan_stop bytes.now from }
-    ensures place { (result.0 ≤ 16) × (from + result.0 ≤ length bytes.now) }
-    ensures text { take (count + result.0) tape.new.items
-        ≡ take count tape.old.items ++ slice_range bytes.now from (from + result.0) }
-    ensures ascii { IsTrue result.1 → IsAsciiTo bytes.now from (from + result.0) }
-    ensures len { vec_len tape.new ≡ vec_len tape.old }
-{
-    if bytes.len() - from < 16 {
-        return put_last(tape, count, bytes, from);
-    }
-    let (found, high) = put_chunk(tape, count, bytes, from);
-    if found == 0 {
-        return (16, high == 0);
-    }
-    let many = found.trailing_zeros();
-    (many as usize, is_clear_below(high, many))
 }
 
 /// Writes a character behind the first bytes of the tape, and gives how many count then.

@@ -10,4 +10,3 @@ pub mod Pins
 pub mod Reading
 pub mod StringsWithin
 pub mod Unique
-mod Rows

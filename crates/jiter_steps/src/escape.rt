@@ -276,12 +276,12 @@ fn sign_of(letter: u8) -> u8
 // What the escape of one letter at `at` stands for, or 0 where none stands there.
 #[inline(always)]
 pub(crate) fn sign_at(bytes: &[u8], at: usize) -> u8
-    requires { at + 2 ≤ length bytes.now }
+    requires { at ≤ length bytes.now }
     ensures value { result ≢ 0
         → part (encode_utf8 result) true (at + 2) ≡ portion_at bytes.now at }
     ensures ascii { result < 128 }
 {
-    if bytes[at] != b'\\' {
+    if bytes.len() - at < 2 || bytes[at] != b'\\' {
         return 0;
     }
     sign_of(bytes[at + 1])

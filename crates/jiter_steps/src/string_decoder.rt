@@ -1,5 +1,5 @@
 //! Reading a string (RFC 8259, 7 and 8.1): its own bytes where it has no backslash, or else its text decoded.
-ghost use Rattle.std.specs.Prelude.{◌≡◌, ℕ, Bool, ◌+◌, ◌^◌, ◌<◌, ◌≤◌, ◌++◌, length, true, false};
+ghost use Rattle.std.specs.Prelude.{◌≡◌, ℕ, Bool, ◌+◌, ◌^◌, ◌<◌, ◌≤◌, length, true, false};
 ghost use Rattle.std.specs.Prelude.{List, slice_range, IfOk, IfErr, IsTrue, MatchResult, Some, None, take};
 ghost use Rattle.std.specs.Prelude.{drop};
 ghost use Rattle.std.specs.Prelude.{vec_len};
@@ -18,91 +18,45 @@ use crate::escape::{AtStop, Ending, next_portion, sign_at};
 use crate::read_error::ReadError;
 use jiter_scan::errors::{Fault, FaultKind, fault_at};
 use jiter_scan::memory::{Refused, copy_text};
-use jiter_scan::simd::{both, scan_string};
-use jiter_scan::tape::{make_room, put_char, put_chunk, put_plain};
+use jiter_scan::simd::{both, copy_plain, scan_string};
+use jiter_scan::tape::put_char;
 use jiter_scan::text::utf8_text;
 use jiter_scan::word::byte_at;
 use simdutf8::compat::Utf8Error;
 use std::alloc::Global;
 use std::borrow::CowStr;
-// Decodes what stands from `from` on to the front of the tape, as far as plain bytes and escapes of one letter go
-// with room on the tape and bytes ahead. Gives the place that it has come to, how many bytes that makes, and
-// whether they are known to be UTF-8 with no test.
-#[inline(always)]
-fn decode_plain(tape: &mut Vec<u8>, bytes: &[u8], from: usize) -> (usize, usize, bool)
-    requires { from ≤ length bytes.now }
-    ensures text { (body_at bytes.now from).bytes
-        ≡ take result.1 tape.new.items ++ (body_at bytes.now result.0).bytes }
-    ensures stop { (body_at bytes.now from).stop ≡ (body_at bytes.now result.0).stop }
-    ensures within { (result.0 ≤ length bytes.now) × (result.1 ≤ vec_len tape.new) }
-    ensures utf8 { IsTrue result.2 → IsUtf8 (take result.1 tape.new.items) }
-{
-    if bytes.len() - from < 18 || tape.len() < 32 {
-        return (from, 0, true);
-    }
-    let last = from + (bytes.len() - from - 18).min(tape.len() - 32);
-    let mut at = from;
-    let mut count = 0;
-    let mut known = true;
-    while at <= last {
-        let (found, high) = put_chunk(tape, count, bytes, at);
-        known = both(known, high == 0);
-        if found == 0 {
-            at += 16;
-            count += 16;
-        } else {
-            let many = found.trailing_zeros() as usize;
-            at += many;
-            count += many;
-            let sign = sign_at(bytes, at);
-            if sign == 0 {
-                break;
-            }
-            tape[count] = sign;
-            at += 2;
-            count += 1;
-        }
-    }
-    (at, count, known)
-}
 
-// Decodes what stands from `from` on behind the first bytes of the tape, at most sixteen plain bytes and an escape
-// at a time, and gives how many bytes count then, and whether they are known to be UTF-8 with no test, where that
-// was so of the first ones.
+// Decodes what stands from `from` on to the front of the tape: how many bytes that makes, whether they are known to be
+// UTF-8 with no test, and how the string ends.
 #[inline(never)]
-fn decode_rest(
-    tape: &mut Vec<u8>,
-    bytes: &[u8],
-    from: usize,
-    first: usize,
-    utf8: bool,
-) -> Result<(usize, bool, Ending), Refused>
-    requires within { from ≤ length bytes.now }
-    requires first { first ≤ vec_len tape.old }
-    requires utf8 { IsTrue utf8 → IsUtf8 (take first tape.old.items) }
-    ensures text { IfOk result (λ r. take r.0 tape.new.items
-        ≡ take first tape.old.items ++ (body_at bytes.now from).bytes) }
+fn decode(tape: &mut Vec<u8>, bytes: &[u8], from: usize) -> Result<(usize, bool, Ending), Refused>
+    requires { from ≤ length bytes.now }
+    ensures text { IfOk result (λ r. take r.0 tape.new.items ≡ (body_at bytes.now from).bytes) }
     ensures utf8 { IfOk result (λ r. IsTrue r.1 → IsUtf8 (take r.0 tape.new.items)) }
     ensures within { IfOk result (λ r. r.0 ≤ vec_len tape.new) }
     ensures stop { IfOk result (λ r. stop_view r.2 ≡ (body_at bytes.now from).stop) }
 {
     let mut at = from;
-    let mut count = first;
-    let mut known = utf8;
+    let mut count = 0;
+    let mut known = true;
     loop {
-        make_room(tape, count)?;
-        let (many, low) = put_plain(tape, count, bytes, at);
+        let (end, low) = copy_plain(tape, count, bytes, at)?;
+        at += end - count;
+        count = end;
         known = both(known, low);
-        count += many;
-        at += many;
-        if many < 16 {
-            match next_portion(bytes, at) {
-                AtStop::Escape(c, end) => {
-                    count = put_char(tape, count, c);
-                    at = end;
-                }
-                AtStop::End(ending) => return Ok((count, known, ending)),
+        let sign = sign_at(bytes, at);
+        if sign != 0 {
+            tape[count] = sign;
+            count += 1;
+            at += 2;
+            continue;
+        }
+        match next_portion(bytes, at) {
+            AtStop::Escape(c, end) => {
+                count = put_char(tape, count, c);
+                at = end;
             }
+            AtStop::End(ending) => return Ok((count, known, ending)),
         }
     }
 }
@@ -227,32 +181,6 @@ fn text_end(bytes: &[u8], ending: Ending, keep: bool) -> Result<usize, Fault>
     }
 }
 
-// The text of a string with a backslash whose content begins at `from` and is decoded up to `at`, which makes the
-// first bytes of the tape.
-#[inline(never)]
-fn decode_text_on<'j>(
-    alloc: Global,
-    tape: &mut Vec<u8>,
-    bytes: &'j [u8],
-    from: usize,
-    decoded: (usize, usize, bool),
-    keep: bool,
-) -> Result<(CowStr<'j>, usize), ReadError>
-    requires within { decoded.0 ≤ length bytes.now }
-    requires begin { from ≤ length bytes.now }
-    requires first { decoded.1 ≤ vec_len tape.old }
-    requires utf8 { IsTrue decoded.2 → IsUtf8 (take decoded.1 tape.old.items) }
-    ensures { UnlessRefused result (λ r. Scans (with_end text_view) r
-        (text_in_form (text_form keep) bytes.now from
-        (take decoded.1 tape.old.items ++ (body_at bytes.now decoded.0).bytes) true
-        (body_at bytes.now decoded.0).stop)) }
-{
-    let (at, first, utf8) = decoded;
-    let (count, known, ending) = decode_rest(tape, bytes, at, first, utf8)?;
-    let end = text_end(bytes, ending, keep)?;
-    own_text(alloc, &tape.as_slice()[..count], known, from, end, keep)
-}
-
 // The text of a string with a backslash.
 #[inline(always)]
 fn decode_text<'j>(
@@ -267,12 +195,9 @@ fn decode_text<'j>(
     ensures { UnlessRefused result (λ r. Scans (with_end text_view) r
         (string_at (text_form keep) bytes.now at)) }
 {
-    let (next, count, known) = decode_plain(tape, bytes, at + 1);
-    if known && next < bytes.len() && bytes[next] == b'"' {
-        let own = copy_text(alloc, utf8_text(&tape.as_slice()[..count]))?;
-        return Ok((CowStr::Owned(own), next + 1));
-    }
-    decode_text_on(alloc, tape, bytes, at + 1, (next, count, known), keep)
+    let (count, known, ending) = decode(tape, bytes, at + 1)?;
+    let end = text_end(bytes, ending, keep)?;
+    own_text(alloc, &tape.as_slice()[..count], known, at + 1, end, keep)
 }
 
 // How many bytes of a decoded content are its text: of one that is kept, without an unfinished character at their
@@ -301,40 +226,6 @@ fn checked_count(content: &[u8], known: bool, keep: bool) -> Result<usize, usize
     }
 }
 
-// The same of a content that begins at `from` and is decoded up to a place, which makes the first bytes of the tape;
-// with the index behind the string.
-#[inline(never)]
-fn decode_on(
-    tape: &mut Vec<u8>,
-    bytes: &[u8],
-    from: usize,
-    decoded: (usize, usize, bool),
-    keep: bool,
-) -> Result<(usize, usize), ReadError>
-    requires within { decoded.0 ≤ length bytes.now }
-    requires begin { from ≤ length bytes.now }
-    requires first { decoded.1 ≤ vec_len tape.old }
-    requires utf8 { IsTrue decoded.2 → IsUtf8 (take decoded.1 tape.old.items) }
-    ensures value { UnlessRefused result (λ r. Scans
-        (with_end (λ n. record { owned = true; bytes = take n tape.new.items })) r
-        (text_in_form (text_form keep) bytes.now from
-        (take decoded.1 tape.old.items ++ (body_at bytes.now decoded.0).bytes) true
-        (body_at bytes.now decoded.0).stop)) }
-    ensures text { IfOk result (λ r. IsUtf8 (take r.0 tape.new.items)) }
-    ensures front { IfOk result (λ r. r.0 ≤ vec_len tape.new) }
-{
-    let (at, first, utf8) = decoded;
-    let (count, known, ending) = decode_rest(tape, bytes, at, first, utf8)?;
-    let end = text_end(bytes, ending, keep)?;
-    match checked_count(&tape.as_slice()[..count], known, keep) {
-        Ok(fit) => Ok((fit, end)),
-        Err(right) => {
-            let fault = fault_at(FaultKind::InvalidUnicodeCodePoint, from + right);
-            Err(ReadError::Fault(fault))
-        }
-    }
-}
-
 /// Decodes the string with a backslash whose opening quote is at the byte index `at` to the front of the tape,
 /// and gives how many bytes its text has there, with the index behind its closing quote. The faults, and what
 /// `keep` keeps, are those of [`string_at`].
@@ -353,38 +244,14 @@ pub fn decode_to(
     ensures text { IfOk result (λ r. IsUtf8 (take r.0 tape.new.items)) }
     ensures front { IfOk result (λ r. r.0 ≤ vec_len tape.new) }
 {
-    let (next, first, utf8) = decode_plain(tape, bytes, at + 1);
-    if utf8 && next < bytes.len() && bytes[next] == b'"' {
-        return Ok((first, next + 1));
-    }
-    decode_on(tape, bytes, at + 1, (next, first, utf8), keep)
-}
-
-// The same as far as it is read whole. Where it is not, the refusal of memory, if it was that.
-#[inline(never)]
-fn decoded_on(
-    tape: &mut Vec<u8>,
-    bytes: &[u8],
-    from: usize,
-    next: usize,
-    first: usize,
-    utf8: bool,
-) -> Result<(usize, usize), Option<Refused>>
-    requires within { next ≤ length bytes.now }
-    requires begin { from ≤ length bytes.now }
-    requires first { first ≤ vec_len tape.old }
-    requires utf8 { IsTrue utf8 → IsUtf8 (take first tape.old.items) }
-    ensures value { IfOk result (λ r. text_in_form whole bytes.now from
-        (take first tape.old.items ++ (body_at bytes.now next).bytes) true
-        (body_at bytes.now next).stop
-        ≡ taken (record { owned = true; bytes = take r.0 tape.new.items }) r.1) }
-    ensures text { IfOk result (λ r. IsUtf8 (take r.0 tape.new.items)) }
-    ensures front { IfOk result (λ r. r.0 ≤ vec_len tape.new) }
-{
-    match decode_on(tape, bytes, from, (next, first, utf8), false) {
-        Ok((count, end)) => Ok((count, end)),
-        Err(ReadError::Fault(_)) => Err(None),
-        Err(ReadError::Memory(refused)) => Err(Some(refused)),
+    let (count, known, ending) = decode(tape, bytes, at + 1)?;
+    let end = text_end(bytes, ending, keep)?;
+    match checked_count(&tape.as_slice()[..count], known, keep) {
+        Ok(fit) => Ok((fit, end)),
+        Err(right) => {
+            let fault = fault_at(FaultKind::InvalidUnicodeCodePoint, at + 1 + right);
+            Err(ReadError::Fault(fault))
+        }
     }
 }
 
@@ -406,11 +273,11 @@ pub fn decode_whole(
     ensures front { IfOk result (λ r. r.0 ≤ vec_len tape.new) }
     ensures advances { IfOk result (λ r. (at < r.1) × (r.1 ≤ length bytes.now)) }
 {
-    let (next, count, low) = decode_plain(tape, bytes, at + 1);
-    if low && next < bytes.len() && bytes[next] == b'"' {
-        return Ok((count, next + 1));
+    match decode_to(tape, bytes, at, false) {
+        Ok((count, end)) => Ok((count, end)),
+        Err(ReadError::Fault(_)) => Err(None),
+        Err(ReadError::Memory(refused)) => Err(Some(refused)),
     }
-    decoded_on(tape, bytes, at + 1, next, count, low)
 }
 
 /// Reads the string whose opening quote is at the byte index `at`, and gives its text with the index behind

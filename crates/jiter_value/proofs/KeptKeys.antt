@@ -21,7 +21,7 @@ use Rattle.jiter_value.specs.declared.stacks.State.TheVariants as state
 use Rattle.jiter_value.specs.declared.value.JsonValue.{JsonValue}
 
 -- as many keys as members
-key_count : (ms : List Member) → length (keys_of ms) ≡ length ms
+pub key_count : (ms : List Member) → length (keys_of ms) ≡ length ms
 key_count ms = length-map ms _
 
 -- All are left, each with its key,

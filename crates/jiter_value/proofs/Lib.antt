@@ -8,6 +8,8 @@ pub mod ParsedDocuments
 pub mod ParsedUnique
 pub mod Pins
 pub mod TurnOutcomes
+pub mod Turning
+pub mod Ended
 pub mod Sizes
 pub mod Views
 pub mod MadeAnswers
@@ -21,16 +23,4 @@ pub mod Shapes
 pub mod Placed
 pub mod Repeats
 pub mod KeptKeys
-pub mod Spines
-pub mod ReplacedTexts
-pub mod Settled
-pub mod ShownTexts
-pub mod Arrivals
-pub mod OpenValues
-pub mod Documents
-pub mod Pieces
 pub mod KeySets
-pub mod Received
-pub mod GrownTexts
-pub mod WholeLiterals
-mod Rows

@@ -4,9 +4,7 @@ use Rattle.std.specs.declared.alloc.Global.{Global}
 use Rattle.std.specs.declared.borrow.CowStr.{CowStr}
 use Rattle.jiter_steps.specs.Tree.{null, boolean, float, string, array, object, member, items_of, members_of}
 use Rattle.jiter_steps.specs.StringDecoder.{text_view}
-use Rattle.jiter_value.specs.NumberText.{number_text_view}
 use Rattle.jiter_value.specs.Value.{view, member_views}
-use Rattle.jiter_value.specs.declared.number_text.NumberText.{NumberText}
 use Rattle.jiter_value.specs.Stacks.{member_view}
 use Rattle.jiter_value.specs.declared.value.JsonValue as value
 use Rattle.jiter_value.specs.declared.value.JsonValue.{JsonValue, Null, Int, Float, Str, Array, Object, the_lemmas}
@@ -31,7 +29,7 @@ view_null = search (rules, the_lemmas)
 pub view_bool : (b : Bool) → view (value.Bool b) ≡ boolean b
 view_bool b = search (rules, the_lemmas)
 
-pub view_float : (s : NumberText) → view (Float s) ≡ float (number_text_view s)
+pub view_float : (s : CowStr Global) → view (Float s) ≡ float (text_view s)
 view_float s = search (rules, the_lemmas)
 
 pub view_str : (s : CowStr Global) → view (Str s) ≡ string (text_view s)

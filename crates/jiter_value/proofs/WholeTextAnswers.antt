@@ -1,5 +1,5 @@
 -- What a whole text answers, by how its reading goes.
-use Rattle.std.proofs.Common.{◌≡◌, ◌⊎◌, inl, inr, ℕ, ◌<◌, Bool, true, false, List, length, refl, sym, ap, ap₂, ◌∙◌}
+use Rattle.std.proofs.Common.{◌≡◌, inl, inr, ℕ, ◌<◌, Bool, true, false, List, length, refl, sym, ap, ap₂, ◌∙◌}
 use Rattle.std.proofs.Common.{arith}
 use Rattle.std.proofs.lemmas.List.{length-reverse}
 use Rattle.std.specs.Prelude.{reverse, slice_get, Option, Some, None, Err, if◌then◌else◌}
@@ -15,7 +15,6 @@ use Rattle.jiter_steps.specs.Blank.{past_blanks}
 use Rattle.jiter_steps.specs.Parse.{Gives}
 use Rattle.jiter_steps.specs.Read.{Reading, done, fault, Rules, value_at, if_begun, if_last, to_end, front_answer}
 use Rattle.jiter_steps.specs.Read.{whole_answer}
-use Rattle.jiter_steps.specs.ReadError.{WhereRefused}
 use Rattle.jiter_steps.specs.Step.{step, value_first, document_end}
 use Rattle.jiter_steps.specs.Tree.{Text, Tree}
 use Rattle.jiter_steps.specs.declared.read_error.ReadError.{ReadError}
@@ -24,20 +23,17 @@ use Rattle.jiter_steps.proofs.Reading.WholeTexts.{front-begins, whole-is}
 use Rattle.jiter_steps.proofs.Reading.Bounds.{Within}
 use Rattle.jiter_steps.proofs.Reading.Instances.{answer-within, partial_answer-within}
 use Rattle.jiter_value.specs.Reading.{GivesWhole, IsErrorOf}
-use Rattle.jiter_value.specs.Settings.{lent, answer_with}
-use Rattle.jiter_value.specs.Value.{view, Answers, MayGrowAt, MayGrowBy, MayGrow}
-use Rattle.jiter_value.specs.Machine.{HasBegun}
+use Rattle.jiter_value.specs.Settings.{Keeping, answer_with}
+use Rattle.jiter_value.specs.Value.{view, Answers}
 use Rattle.jiter_value.specs.Size.{held, held_in}
 use Rattle.jiter_value.specs.Stacks.{Stands}
-use Rattle.jiter_value.specs.Turns.{Fails, MayGrowFor}
+use Rattle.jiter_value.specs.Turns.{Fails, GoesOn, HasCome}
 use Rattle.jiter_value.specs.declared.settings.Settings.{Settings}
 use Rattle.jiter_value.specs.declared.stacks.Slot.TheVariants as slot
 use Rattle.jiter_value.specs.declared.stacks.Stacks.{Stacks}
 use Rattle.jiter_value.specs.declared.stacks.State.{State}
 use Rattle.jiter_value.specs.declared.stacks.State.TheVariants as state
-use Rattle.jiter_value.specs.declared.value.JsonValue.{JsonValue}
 use Rattle.jiter_value.proofs.StackTurns.{root-from, root-alone}
-use Rattle.jiter_value.proofs.TurnOutcomes.{grows-borrowing}
 
 -- where a value begins, a byte stands behind blanks
 begins-at : (i j : ℕ) (o : Option ℕ) → value_first j o ≡ taken tt i → j ≡ i
@@ -137,41 +133,30 @@ pub fails-gives : (e : ReadError) (j : ℕ) (x y : Reading Tree) → x ≡ y →
 fails-gives (error.Fault f) j x y q h = q ∙ h
 fails-gives (error.Memory m) j x y q h = tt
 
--- a machine begins where the text's value does
-pub begins-at-value : (p : Settings) (t : List ℕ) (s : Stacks) (i : ℕ) → Stands s slot.Root
-    → step t value_first 0 ≡ taken tt i → i < length t → HasBegun t p i state.Root s
-begins-at-value p t s i b h lt =
+-- a reading begins where the text's value does
+pub begins-at-value : (made : Keeping) (W : Type 0) (p : Settings) (t : List ℕ) (s : Stacks) (i : ℕ) → Stands s slot.Root
+    → i < length t → HasCome made W t i p s i state.Root
+begins-at-value made W p t s i b lt =
     let os = reverse s.nest.items in
-    let at = value-begins-at t i h in
     let none : length s.nest.items ≡ 0 = sym (length-reverse s.nest.items)
     ∙ root-alone os (length s.items.items) (length s.members.items) b in
     record {
-      value = rw at (root-from lent p t os s.items.items s.members.items (length s.items.items)
-          (length s.members.items) i b);
-      within = (b, omega (arith, none), lt);
-      goes_on = λ e. cc;
-      begins = rw at lt;
-      behind = omega (arith, at);
-      grows = inl (refl, sym at);
+      reaches = (
+        root-from made p t os s.items.items s.members.items (length s.items.items)
+            (length s.members.items) i b,
+        (b, omega (arith, none), lt),
+      );
+      begins = lt;
+      within = (omega arith, omega (arith, lt));
+      grows = inl (refl, refl);
     }
 
-begun-grows : (t : List ℕ) (i : ℕ) (a : State) → ((a ≡ state.Root) × (i ≡ past_blanks t 0)) ⊎ MayGrow t
-    → (a ≡ state.Root → MayGrowAt t i) → MayGrow t
-begun-grows t i a (inl at) h = rw (← at.1) (h at.0)
-begun-grows t i a (inr grows) h = grows
-
--- where memory is refused in a turn, the value may want some
-pub turn-grows : (t : List ℕ) (p : Settings) (i : ℕ) (a : State) (s : Stacks) (e : ReadError) → HasBegun t p i a s
-    → (a ≡ state.Root → MayGrowFor (Err e) (MayGrowBy ⊥ t i)) → WhereRefused {A = JsonValue} (Err e) (MayGrow t)
-turn-grows t p i a s (error.Fault f) b h = tt
-turn-grows t p i a s (error.Memory m) b h = begun-grows t i a b.grows (λ root. grows-borrowing t i (h root))
-
 -- what is held then, as the machine shows it
-pub held-begun : (t : List ℕ) (p : Settings) (i : ℕ) (a : State) (s : Stacks) → HasBegun t p i a s
+pub held-begun : (s : Stacks) (a : State) → GoesOn a
     → held s a ≡ held_in a (reverse s.nest.items) s.items.items s.members.items 0
-held-begun t p i state.Root s b = refl
-held-begun t p i state.Item s b = refl
-held-begun t p i state.Member s b = refl
-held-begun t p i state.Key s b = refl
-held-begun t p i state.Done s b = absurd (b.goes_on refl)
-held-begun t p i state.GivenUp s b = absurd b.within
+held-begun s state.Root on = refl
+held-begun s state.Item on = refl
+held-begun s state.Member on = refl
+held-begun s state.Key on = refl
+held-begun s state.Done on = absurd on
+held-begun s state.GivenUp on = absurd on

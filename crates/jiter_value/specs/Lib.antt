@@ -1,4 +1,3 @@
-pub mod NumberText
 pub mod Access
 pub mod QuotedKeys
 pub mod UniqueErrors
@@ -18,16 +17,5 @@ pub mod Pointer
 pub mod Texts
 pub mod Scratch
 pub mod Equality
-pub mod Spine
-pub mod Arrived
-pub mod OpenValue
-pub mod Replaced
-pub mod Names
-pub mod OpenDocument
-pub mod DocumentStrings
-pub mod DocumentEnds
-pub mod Together
-pub mod Growing
-pub mod Arriving
 pub mod ValueCode
 pub mod KeySets

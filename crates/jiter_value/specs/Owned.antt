@@ -1,5 +1,5 @@
 -- Trees whose texts are all owned, and trees that are the same wherever their texts lie.
-use Rattle.std.specs.Prelude.{◌≡◌, ◌<◌, ◌⊎◌, ℕ, Bool, true, false, List, length, Result, Ok, Err}
+use Rattle.std.specs.Prelude.{◌≡◌, ◌⊎◌, ℕ, Bool, true, false, List, Result, Ok, Err}
 use Rattle.jiter_scan.specs.declared.errors.JsonError.{JsonError}
 use Rattle.jiter_scan.specs.declared.errors.JsonErrorType.TheVariants.{OutOfMemory}
 use Rattle.jiter_scan.specs.declared.partial_mode.PartialMode.{PartialMode}
@@ -7,7 +7,6 @@ use Rattle.jiter_steps.specs.Answer.{answer_in}
 use Rattle.jiter_steps.specs.Read.{Reading, done, fault}
 use Rattle.jiter_steps.specs.Tree.{Text, Tree, null, boolean, int, big, float, string, array, object}
 use Rattle.jiter_steps.specs.Tree.{Items, no_items, item, Members, no_members, member}
-use Rattle.jiter_value.specs.NumberText.{short_limit}
 use Rattle.jiter_value.specs.Value.{view, MayGrow}
 use Rattle.jiter_value.specs.declared.value.JsonValue.{JsonValue}
 
@@ -57,13 +56,13 @@ owned_member m = (owned_text m.0, owned_tree m.1)
 abbrev pub HoldSame : Tree → Tree → Type 0
 HoldSame v w = owned_tree v ≡ owned_tree w
 
--- A tree that holds a text of this sort or a part; a number's text of at most 24 bytes does not count.
+-- A tree that holds a text of this sort or a part.
 abbrev pub HoldsSuchOrPart : (Text → Type 0) → Tree → Type 0
 HoldsSuchOrPart P null = ⊥
 HoldsSuchOrPart P (boolean b) = ⊥
 HoldsSuchOrPart P (int z) = ⊥
-HoldsSuchOrPart P (big s) = P s × (short_limit < length s.bytes)
-HoldsSuchOrPart P (float s) = P s × (short_limit < length s.bytes)
+HoldsSuchOrPart P (big s) = P s
+HoldsSuchOrPart P (float s) = P s
 HoldsSuchOrPart P (string s) = P s
 HoldsSuchOrPart P (array no_items) = ⊥
 HoldsSuchOrPart P (array (item v is)) = Unit {0}

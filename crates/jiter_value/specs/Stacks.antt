@@ -24,6 +24,7 @@ use Rattle.jiter_value.specs.declared.stacks.Stacks.{Stacks}
 use Rattle.jiter_value.specs.declared.stacks.State.{State}
 use Rattle.jiter_value.specs.declared.stacks.State.TheVariants as state
 use Rattle.jiter_value.specs.declared.value.JsonValue.{JsonValue}
+use Rattle.jiter_value.specs.declared.value.JsonValue.TheVariants.{Null}
 
 abbrev pub Member : Type 0
 Member = CowStr Global × JsonValue
@@ -48,6 +49,10 @@ keys_of ms = map (λ m. (text_view m.0).bytes) ms
 -- The members that are left have the first of the keys that there were.
 pub record LeavesKeys (old new : List Member) : Type 0 where
   pub keys : keys_of new ≡ take (length new) (keys_of old)
+
+-- The members have the first of these keys.
+abbrev pub HaveKeys : List (List ℕ) → List Member → Type 0
+HaveKeys ks ms = keys_of ms ≡ take (length ms) ks
 
 -- the key at j, as it is kept, if one is read there
 abbrev pub key_seen : Keeping → Scanned Text → List (List ℕ)
@@ -192,6 +197,10 @@ Stands s a = HaveBases a (reverse s.nest.items) (length s.items.items) (length s
 
 abbrev pub StandsAtKey : Stacks → Type 0
 StandsAtKey s = HaveKeyBase (reverse s.nest.items) (length s.items.items) (length s.members.items)
+
+-- the same stacks with no value beside them
+abbrev pub without_root : Stacks → Stacks
+without_root s = record s { root = Null }
 
 -- the innermost container is of this shape, and awaits no value
 abbrev pub StandsInside : Shape → Stacks → Type 0

@@ -1,15 +1,15 @@
 -- What a turn leads to, where each text that is read is made so, and how much is left behind it.
-use Rattle.std.specs.Prelude.{◌≡◌, ℕ, ◌+◌, ◌≤◌, ◌<◌, Result, Ok, Err, OnOk, IfOk, Bool, true, false, List}
+use Rattle.std.specs.Prelude.{◌≡◌, ◌⊎◌, ℕ, ◌+◌, ◌≤◌, ◌<◌, Result, Ok, Err, OnOk, IfOk, Bool, true, false, List}
 use Rattle.std.specs.Prelude.{length}
 use Rattle.jiter_scan.specs.Kind.{fault_kind}
 use Rattle.jiter_scan.specs.declared.errors.Fault.{Fault}
 use Rattle.jiter_scan.specs.declared.memory.Refused.{Refused}
 use Rattle.jiter_steps.specs.Frames.{resolve_step}
 use Rattle.jiter_steps.specs.Node.{nesting_limit}
-use Rattle.jiter_steps.specs.Read.{Reading, fault}
+use Rattle.jiter_steps.specs.Read.{Reading as Answer, fault, value_at}
 use Rattle.jiter_steps.specs.Step.{Step, closed, stuck, step, container_first, container_step}
 use Rattle.jiter_steps.specs.Tree.{Tree}
-use Rattle.jiter_value.specs.Settings.{Keeping, forgives}
+use Rattle.jiter_value.specs.Settings.{Keeping, forgives, rules_as}
 use Rattle.jiter_steps.specs.declared.parse.Shape.{Shape}
 use Rattle.jiter_steps.specs.declared.read_error.ReadError.{ReadError}
 use Rattle.jiter_steps.specs.declared.read_error.ReadError.TheVariants as error
@@ -21,6 +21,8 @@ use Rattle.jiter_value.specs.declared.stacks.Slot.TheVariants as slot
 use Rattle.jiter_value.specs.declared.stacks.Stacks.{Stacks}
 use Rattle.jiter_value.specs.declared.stacks.State.{State}
 use Rattle.jiter_value.specs.declared.stacks.State.TheVariants as state
+use Rattle.jiter_value.specs.Value.{MayGrowBy}
+use Rattle.jiter_value.specs.declared.turns.Reading.{Reading}
 use Rattle.jiter_value.specs.declared.turns.containers.Behind.{Behind}
 use Rattle.jiter_value.specs.declared.turns.containers.Behind.TheVariants.{Bracket, Part}
 
@@ -47,12 +49,12 @@ outcome s state.Done = Ok state.Done
 outcome s state.GivenUp = Err s.error
 
 -- a fault is the reading's, and leaves the reader at j
-abbrev pub Fails : ReadError → ℕ → Reading Tree → Type 0
+abbrev pub Fails : ReadError → ℕ → Answer Tree → Type 0
 Fails (error.Fault f) j x = x ≡ fault (fault_kind f.kind) f.index j
 Fails (error.Memory m) j x = Unit {0}
 
 -- what was returned, and the stacks and the place j then, lead on to the reading x
-abbrev pub Reaches : Keeping → Settings → List ℕ → Stacks → ℕ → Result State ReadError → Reading Tree → Type 0
+abbrev pub Reaches : Keeping → Settings → List ℕ → Stacks → ℕ → Result State ReadError → Answer Tree → Type 0
 Reaches made p t s j (Ok a) x = (x ≡ meaning made p t s a j) × IsWithin t s a j
 Reaches made p t s j (Err e) x = Fails e j x
 
@@ -68,7 +70,7 @@ MayGrowFor (Err (error.Fault f)) P = Unit {0}
 MayGrowFor (Err (error.Memory m)) P = P
 
 -- From the place i a turn proceeds to these stacks, to this place and to this state.
-pub record Proceeds (made : Keeping) (p : Settings) (t : List ℕ) (i l h : ℕ) (x : Reading Tree) (s : Stacks)
+pub record Proceeds (made : Keeping) (p : Settings) (t : List ℕ) (i l h : ℕ) (x : Answer Tree) (s : Stacks)
     (r : ℕ × State) : Type 0 where
   -- The reader goes no step back, and stays within the text.
   pub within : (i ≤ r.0) × (r.0 ≤ length t)
@@ -78,6 +80,31 @@ pub record Proceeds (made : Keeping) (p : Settings) (t : List ℕ) (i l h : ℕ)
   pub left : OnOk (outcome s r.1) (left t s r.0 < l)
   -- At most h scalars, containers and keys are held.
   pub held : IfOk (outcome s r.1) (λ a. held s a ≤ h)
+
+-- Turns have led from the value at i to these stacks, to the place j and to this state: what is held, and what is left of
+-- the text, are the value, or the reading was given up. It may want memory, unless nothing of it was read.
+pub record HasCome (made : Keeping) (Wants : Type 0) (t : List ℕ) (i : ℕ) (p : Settings) (s : Stacks) (j : ℕ) (a : State)
+    : Type 0 where
+  pub reaches : Reaches made p t s j (outcome s a) (value_at (rules_as made p) t nesting_limit i)
+  pub begins : i < length t
+  pub within : (i ≤ j) × (j ≤ length t)
+  pub grows : ((a ≡ state.Root) × (j ≡ i)) ⊎ MayGrowFor (outcome s a) (MayGrowBy Wants t i)
+
+-- so a reading stands
+abbrev pub HasGone : Keeping → Type 0 → List ℕ → ℕ → Reading → Type 0
+HasGone made Wants t i r = HasCome made Wants t i r.settings r.stacks r.at r.state
+
+-- More is awaited.
+abbrev pub GoesOn : State → Type 0
+GoesOn state.Done = ⊥
+GoesOn state.GivenUp = ⊥
+GoesOn a = Unit {0}
+
+-- One turn was taken: less is left, and one more scalar, container or key is held at most.
+pub record HasTurned (t : List ℕ) (old new : Reading) : Type 0 where
+  pub forward : old.at ≤ new.at
+  pub left : OnOk (outcome new.stacks new.state) (left t new.stacks new.at < left t old.stacks old.at)
+  pub held : IfOk (outcome new.stacks new.state) (λ a. held new.stacks a ≤ held old.stacks old.state + 1)
 
 -- The value that is awaited at i is put where it belongs, and ends at e: a scalar.
 pub record IsPutAt (made : Keeping) (t : List ℕ) (old : Stacks) (i : ℕ) (a : Slot) (new : Stacks) (e : ℕ) : Type 0

@@ -1,5 +1,6 @@
 -- What a reading returns that refuses repeated keys.
-use Rattle.std.specs.Prelude.{◌≡◌, ℕ, Bool, List, [], ◌∷◌, reverse, Result, Ok, Err, Some, string_bytes}
+use Rattle.std.specs.Prelude.{◌≡◌, ℕ, ◌≤◌, Bool, List, [], ◌∷◌, length, reverse, Result, Ok, Err, Option, Some, None}
+use Rattle.std.specs.Prelude.{string_bytes}
 use Rattle.std.specs.List.{list_any}
 use Rattle.std.specs.Str.{bytes_eq}
 use Rattle.jiter_scan.specs.Kind.{Kind, fault_kind, duplicate_key}
@@ -41,6 +42,11 @@ StopsAtKey t s i (stopped.Repeated r) j =
     (refused_in lent_unique t (reverse s.nest.items) s.members.items i ≡ Some (fault_of r)) × (j ≡ r.index)
 StopsAtKey t s i (stopped.Read (error.Fault f)) j = ⊥
 StopsAtKey t s i (stopped.Read (error.Memory m)) j = Unit {0}
+
+-- The reading stopped for the key at i, and this is why and where.
+abbrev pub HasStopped : Option (Stopped × ℕ) → List ℕ → Stacks → ℕ → Type 0
+HasStopped None t s i = ⊥
+HasStopped (Some r) t s i = StopsAtKey t s i r.0 r.1 × (i ≤ r.1) × (r.1 ≤ length t)
 
 -- What was returned, and the place where it left the reader, are this reading, unless memory was refused.
 abbrev pub GivesUnique : Result JsonValue Stopped → ℕ → Reading Tree → Type 0

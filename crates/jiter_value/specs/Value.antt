@@ -15,7 +15,6 @@ use Rattle.jiter_steps.specs.StringDecoder.{text_view, WantsMemory}
 use Rattle.jiter_steps.specs.Read.{Reading, done, fault}
 use Rattle.jiter_steps.specs.declared.parse.Start.{Start}
 use Rattle.jiter_steps.specs.declared.parse.Start.TheVariants as start
-use Rattle.jiter_value.specs.NumberText.{number_text_view}
 use Rattle.jiter_value.specs.declared.value.JsonValue.{JsonValue, fold-JsonValue}
 use Rattle.jiter_value.specs.declared.value.JsonValue.TheOpen.{JsonValue-F}
 
@@ -29,8 +28,8 @@ abbrev pub view_step : JsonValue-F Tree → Tree
 view_step JsonValue-F.Null = null
 view_step (JsonValue-F.Bool b) = boolean b
 view_step (JsonValue-F.Int z) = int z
-view_step (JsonValue-F.BigInt s) = big (number_text_view s)
-view_step (JsonValue-F.Float s) = float (number_text_view s)
+view_step (JsonValue-F.BigInt s) = big (text_view s)
+view_step (JsonValue-F.Float s) = float (text_view s)
 view_step (JsonValue-F.Str s) = string (text_view s)
 view_step (JsonValue-F.Array v) = array (items_of v.items)
 view_step (JsonValue-F.Object v) = object (members_seen v.items)

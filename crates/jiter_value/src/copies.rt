@@ -1,13 +1,11 @@
 //! Copies of a value: each text borrowed or owned as it was, or each text owned.
-ghost use Rattle.std.specs.Prelude.{◌≡◌, ◌<◌, IfOk, OnErr, false, length, map, true};
+ghost use Rattle.std.specs.Prelude.{◌≡◌, IfOk, OnErr, false, map, true};
 ghost use Rattle.jiter_steps.specs.StringDecoder.{text_view};
-ghost use Rattle.jiter_value.specs.NumberText.{number_text_view, short_limit};
 ghost use Rattle.jiter_value.specs.Owned.{owned_text, owned_tree, owned_member, HoldsTextOrPart};
 ghost use Rattle.jiter_value.specs.Owned.{HoldsOwnedTextOrPart, HoldsBorrowedTextOrPart};
 ghost use Rattle.jiter_value.specs.Stacks.{member_view};
 ghost use Rattle.jiter_value.specs.Value.{view};
 
-use crate::number_text::NumberText;
 use crate::value::{JsonArray, JsonObject, JsonValue};
 use jiter_scan::memory::{Refused, copy_text, push, with_capacity};
 use std::alloc::{AllocError, Global};
@@ -16,8 +14,7 @@ use std::mem;
 
 impl<'s> JsonValue<'s> {
     /// A copy, in which each text is borrowed or owned as it is here. It takes one vector for each container
-    /// that is not empty, of the exact length, and one text for each owned text, but for a number's of up to
-    /// 24 bytes.
+    /// that is not empty, of the exact length, and one text for each owned text that is not empty.
     ///
     /// It fails only where memory is refused.
     pub fn clone(&self, alloc: Global) -> Result<JsonValue<'s>, AllocError>
@@ -28,7 +25,7 @@ impl<'s> JsonValue<'s> {
     }
 
     /// A copy that owns all its texts. It takes one vector for each container that is not empty, of the exact
-    /// length, and one text for each text that is not empty, but for a number's of up to 24 bytes.
+    /// length, and one text for each text that is not empty.
     ///
     /// It fails only where memory is refused.
     pub fn to_static(&self, alloc: Global) -> Result<JsonValue<'static>, AllocError>
@@ -39,8 +36,7 @@ impl<'s> JsonValue<'s> {
     }
 
     /// [`JsonValue::to_static`] of a value that is not wanted any more. A text that is owned is moved, so one is
-    /// taken for each borrowed text alone, but for a number's of up to 24 bytes. Where memory is refused the value
-    /// is gone.
+    /// taken for each borrowed text alone. Where memory is refused the value is gone.
     pub fn into_static(self, alloc: Global) -> Result<JsonValue<'static>, AllocError>
         ensures value { IfOk result (λ v. view v ≡ owned_tree (view self.entry)) }
         ensures memory { OnErr result (HoldsBorrowedTextOrPart (view self.entry)) }
@@ -62,8 +58,8 @@ fn copy_value<'s>(alloc: Global, value: &JsonValue<'s>) -> Result<JsonValue<'s>,
         JsonValue::Null => Ok(JsonValue::Null),
         JsonValue::Bool(truth) => Ok(JsonValue::Bool(*truth)),
         JsonValue::Int(integer) => Ok(JsonValue::Int(*integer)),
-        JsonValue::BigInt(text) => Ok(JsonValue::BigInt(text.copy(alloc)?)),
-        JsonValue::Float(text) => Ok(JsonValue::Float(text.copy(alloc)?)),
+        JsonValue::BigInt(text) => Ok(JsonValue::BigInt(copy_cow(alloc, text)?)),
+        JsonValue::Float(text) => Ok(JsonValue::Float(copy_cow(alloc, text)?)),
         JsonValue::Str(text) => Ok(JsonValue::Str(copy_cow(alloc, text)?)),
         JsonValue::Array(items) => Ok(JsonValue::Array(copy_items(alloc, items)?)),
         JsonValue::Object(members) => Ok(JsonValue::Object(copy_members(alloc, members)?)),
@@ -123,8 +119,8 @@ fn own_value(alloc: Global, value: &JsonValue<'_>) -> Result<JsonValue<'static>,
         JsonValue::Null => Ok(JsonValue::Null),
         JsonValue::Bool(truth) => Ok(JsonValue::Bool(*truth)),
         JsonValue::Int(integer) => Ok(JsonValue::Int(*integer)),
-        JsonValue::BigInt(text) => Ok(JsonValue::BigInt(own_number(alloc, text)?)),
-        JsonValue::Float(text) => Ok(JsonValue::Float(own_number(alloc, text)?)),
+        JsonValue::BigInt(text) => Ok(JsonValue::BigInt(own_text(alloc, text)?)),
+        JsonValue::Float(text) => Ok(JsonValue::Float(own_text(alloc, text)?)),
         JsonValue::Str(text) => Ok(JsonValue::Str(own_text(alloc, text)?)),
         JsonValue::Array(items) => Ok(JsonValue::Array(own_items(alloc, items)?)),
         JsonValue::Object(members) => Ok(JsonValue::Object(own_members(alloc, members)?)),
@@ -170,14 +166,6 @@ fn own_text(alloc: Global, text: &CowStr<'_>) -> Result<CowStr<'static>, Refused
     Ok(CowStr::Owned(copy_text(alloc, text.as_str())?))
 }
 
-// A copy of a number's text.
-fn own_number(alloc: Global, text: &NumberText<'_>) -> Result<NumberText<'static>, Refused>
-    ensures value { IfOk result (λ copy. number_text_view copy ≡ owned_text (number_text_view text.now)) }
-    ensures memory { OnErr result (short_limit < length (number_text_view text.now).bytes) }
-{
-    NumberText::owned(alloc, text.as_str())
-}
-
 // ---- Each text owned, those moved that are owned already.
 
 /// A value that owns all its texts, those moved that were owned.
@@ -194,8 +182,8 @@ pub(crate) fn move_value(
         JsonValue::Null => Ok(JsonValue::Null),
         JsonValue::Bool(truth) => Ok(JsonValue::Bool(*truth)),
         JsonValue::Int(integer) => Ok(JsonValue::Int(*integer)),
-        JsonValue::BigInt(text) => Ok(JsonValue::BigInt(text.take(alloc)?)),
-        JsonValue::Float(text) => Ok(JsonValue::Float(text.take(alloc)?)),
+        JsonValue::BigInt(text) => Ok(JsonValue::BigInt(move_text(alloc, text)?)),
+        JsonValue::Float(text) => Ok(JsonValue::Float(move_text(alloc, text)?)),
         JsonValue::Str(text) => Ok(JsonValue::Str(move_text(alloc, text)?)),
         JsonValue::Array(items) => Ok(JsonValue::Array(move_items(alloc, items)?)),
         JsonValue::Object(members) => Ok(JsonValue::Object(move_members(alloc, members)?)),

@@ -6,12 +6,10 @@ ghost use Rattle.std.specs.Cmp.Lexicographic.{nat_list_eq_equiv};
 ghost use Rattle.jiter_steps.specs.StringDecoder.{text_view};
 ghost use Rattle.jiter_steps.specs.Tree.{Tree};
 ghost use Rattle.jiter_value.specs.Equality.{code, same_content};
-ghost use Rattle.jiter_value.specs.NumberText.{number_text_view};
 ghost use Rattle.jiter_value.specs.Owned.{owned_text, owned_tree, owned_member, HoldSame};
 ghost use Rattle.jiter_value.specs.Stacks.{member_view};
 ghost use Rattle.jiter_value.specs.Value.{view};
 
-use crate::number_text::NumberText;
 use crate::value::{JsonArray, JsonObject, JsonValue};
 use std::borrow::CowStr;
 
@@ -50,8 +48,8 @@ fn same_values(one: &JsonValue<'_>, other: &JsonValue<'_>) -> bool
         (JsonValue::Null, JsonValue::Null) => true,
         (JsonValue::Bool(a), JsonValue::Bool(b)) => *a == *b,
         (JsonValue::Int(a), JsonValue::Int(b)) => *a == *b,
-        (JsonValue::BigInt(a), JsonValue::BigInt(b)) => same_numbers(a, b),
-        (JsonValue::Float(a), JsonValue::Float(b)) => same_numbers(a, b),
+        (JsonValue::BigInt(a), JsonValue::BigInt(b)) => same_texts(a, b),
+        (JsonValue::Float(a), JsonValue::Float(b)) => same_texts(a, b),
         (JsonValue::Str(a), JsonValue::Str(b)) => same_texts(a, b),
         (JsonValue::Array(a), JsonValue::Array(b)) => same_items(a, b),
         (JsonValue::Object(a), JsonValue::Object(b)) => same_members(a, b),
@@ -98,13 +96,6 @@ fn same_members(one: &JsonObject<'_>, other: &JsonObject<'_>) -> bool
 
 fn same_texts(one: &CowStr<'_>, other: &CowStr<'_>) -> bool
     ensures { Decides result (owned_text (text_view one.now) ≡ owned_text (text_view other.now)) }
-{
-    one.as_str() == other.as_str()
-}
-
-fn same_numbers(one: &NumberText<'_>, other: &NumberText<'_>) -> bool
-    ensures { Decides result (owned_text (number_text_view one.now)
-        ≡ owned_text (number_text_view other.now)) }
 {
     one.as_str() == other.as_str()
 }

@@ -14,9 +14,8 @@ ghost use Rattle.jiter_value.specs.Value.{view, BeginsContainer, MayGrowAt, MayG
 use crate::copies::move_value;
 use crate::reading::{error_at, read_text, read_text_as, read_value};
 use crate::settings::Settings;
-use crate::stacks::Stacks;
 use crate::texts::Owning;
-use crate::turns::run;
+use crate::turns::Reading;
 use crate::value::JsonValue;
 use jiter_scan::{JsonError, PartialMode};
 use jiter_steps::blank::past_blanks;
@@ -48,8 +47,7 @@ impl JsonValue<'static> {
         if begins_container(bytes, past_blanks(bytes, 0)) {
             return own_once(alloc, bytes, settings);
         }
-        let mut tape = Vec::new(alloc);
-        own_scalar(alloc, &mut tape, bytes, settings)
+        own_scalar(alloc, bytes, settings)
     }
 }
 
@@ -61,46 +59,39 @@ fn begins_container(bytes: &[u8], at: usize) -> bool
     at < bytes.len() && matches!(start_of(bytes[at]), Start::Array | Start::Object)
 }
 
-// What a text answers, each of its texts owned as it is read, by way of this tape and these stacks.
-fn own_text<'s>(
-    alloc: Global,
-    tape: &mut Vec<u8>,
-    stacks: &mut Stacks<'s>,
-    bytes: &[u8],
-    settings: Settings,
-) -> Result<JsonValue<'s>, JsonError>
+// What a text answers, each of its texts owned as it is read, by way of this reading.
+fn own_text<'s>(reading: &mut Reading<'s>, bytes: &[u8]) -> Result<JsonValue<'s>, JsonError>
     requires container { BeginsContainer bytes.now (past_blanks bytes.now 0) }
-    requires empty { HoldsNothing stacks.old }
+    requires empty { HoldsNothing reading.old.stacks }
     ensures parses { Parses owned_tree (MayGrow bytes.now)
-        settings.allow_inf_nan settings.mode bytes.now result }
-    ensures cleared { IfOk result (λ v. IsCleared stacks.new) }
+        reading.old.settings.allow_inf_nan reading.old.settings.mode bytes.now result }
+    ensures cleared { IfOk result (λ v. IsCleared reading.new.stacks) }
 {
-    read_text_as(alloc, Owning { alloc }, tape, stacks, bytes, settings)
+    let alloc = reading.alloc;
+    read_text_as(reading, Owning { alloc }, bytes)
 }
 
-// The same by way of a tape and stacks of its own.
+// The same by way of a reading of its own.
 fn own_once<'s>(alloc: Global, bytes: &[u8], settings: Settings) -> Result<JsonValue<'s>, JsonError>
     requires { BeginsContainer bytes.now (past_blanks bytes.now 0) }
     ensures { Parses owned_tree (MayGrow bytes.now)
         settings.allow_inf_nan settings.mode bytes.now result }
 {
-    let mut tape = Vec::new(alloc);
-    let mut stacks = Stacks::new(alloc);
-    own_text(alloc, &mut tape, &mut stacks, bytes, settings)
+    let mut reading = Reading::new(alloc, settings);
+    own_text(&mut reading, bytes)
 }
 
 // What a text answers whose texts are owned once it is read as a whole: a scalar asks for memory last.
 fn own_scalar(
     alloc: Global,
-    tape: &mut Vec<u8>,
     bytes: &[u8],
     settings: Settings,
 ) -> Result<JsonValue<'static>, JsonError>
     ensures { Parses owned_tree (OwnedMayGrow settings.allow_inf_nan settings.mode bytes.now)
         settings.allow_inf_nan settings.mode bytes.now result }
 {
-    let mut lent = Stacks::new(alloc);
-    let read = read_text(alloc, tape, &mut lent, bytes, settings);
+    let mut lent = Reading::new(alloc, settings);
+    let read = read_text(&mut lent, bytes);
     own_answer(alloc, read, bytes.len())
 }
 
@@ -117,35 +108,25 @@ fn own_container<'s>(
         (value_at (rules_as (each owned_text) settings) parser.old.bytes.now nesting_limit parser.old.index) }
     ensures memory { WhereRefused result (MayGrowAt parser.old.bytes.now parser.old.index) }
 {
-    let mut tape = Vec::new(alloc);
-    let mut stacks = Stacks::new(alloc);
-    run(
-        alloc,
-        Owning { alloc },
-        &mut tape,
-        &mut stacks,
-        parser,
-        settings,
-    )
+    let mut reading = Reading::new(alloc, settings);
+    reading.run(Owning { alloc }, parser)
 }
 
-/// What a text answers, its texts owned, by way of this tape and these stacks.
+/// What a text answers, its texts owned, by way of this reading.
 pub(crate) fn read_text_owned(
-    alloc: Global,
-    tape: &mut Vec<u8>,
-    stacks: &mut Stacks<'static>,
+    reading: &mut Reading<'static>,
     bytes: &[u8],
-    settings: Settings,
 ) -> Result<JsonValue<'static>, JsonError>
-    requires { IsCleared stacks.old }
-    ensures parses { Parses owned_tree (OwnedMayGrow settings.allow_inf_nan settings.mode bytes.now)
-        settings.allow_inf_nan settings.mode bytes.now result }
-    ensures cleared { IfOk result (λ v. IsCleared stacks.new) }
+    requires { IsCleared reading.old.stacks }
+    ensures parses { Parses owned_tree
+        (OwnedMayGrow reading.old.settings.allow_inf_nan reading.old.settings.mode bytes.now)
+        reading.old.settings.allow_inf_nan reading.old.settings.mode bytes.now result }
+    ensures cleared { IfOk result (λ v. IsCleared reading.new.stacks) }
 {
     if begins_container(bytes, past_blanks(bytes, 0)) {
-        return own_text(alloc, tape, stacks, bytes, settings);
+        return own_text(reading, bytes);
     }
-    own_scalar(alloc, tape, bytes, settings)
+    own_scalar(reading.alloc, bytes, reading.settings)
 }
 
 /// An answer whose value owns its texts; where memory for it is refused, that is told at `index`.

@@ -13,9 +13,8 @@ ghost use Rattle.jiter_value.specs.Settings.{answer_as, rules, rules_as};
 ghost use Rattle.jiter_value.specs.Value.{view, MayGrowAt, MayGrowBy, MayGrow};
 
 use crate::settings::Settings;
-use crate::stacks::Stacks;
 use crate::texts::{Borrowing, Texts};
-use crate::turns::run;
+use crate::turns::Reading;
 use crate::value::JsonValue;
 use jiter_scan::{JsonError, JsonErrorType};
 use jiter_steps::parse::Parser;
@@ -70,76 +69,67 @@ pub fn read_value<'j>(
         (value_at (rules settings) parser.old.bytes.now nesting_limit parser.old.index) }
     ensures memory { WhereRefused result (MayGrowAt parser.old.bytes.now parser.old.index) }
 {
-    let mut tape = Vec::new(alloc);
-    let mut stacks = Stacks::new(alloc);
     let texts = Borrowing {
         bytes: parser.bytes,
     };
-    run(alloc, texts, &mut tape, &mut stacks, parser, settings)
+    let mut reading = Reading::new(alloc, settings);
+    reading.run(texts, parser)
 }
 
-/// The value of a text, where the reader stands before its first byte, by way of this tape and these stacks. With
+/// The value of a text, where the reader stands before its first byte, by way of this reading. With
 /// partial reading off nothing but blanks may stand round it.
 fn read_whole<'s, T: Texts<'s>>(
-    alloc: Global,
+    reading: &mut Reading<'s>,
     texts: T,
-    tape: &mut Vec<u8>,
-    stacks: &mut Stacks<'s>,
     parser: &mut Parser<'_>,
-    settings: Settings,
 ) -> Result<JsonValue<'s>, ReadError>
     requires texts { T.of texts parser.old.bytes.now }
     requires repeats { T.made.unique ≡ false }
     requires begins { parser.old.index ≡ 0 }
-    requires empty { HoldsNothing stacks.old }
+    requires empty { HoldsNothing reading.old.stacks }
     ensures moves { Moves parser.old parser.new }
     ensures value { GivesWhole result parser.new.index
-        (answer_as T.made settings parser.old.bytes.now) }
+        (answer_as T.made reading.old.settings parser.old.bytes.now) }
     ensures memory { WhereRefused result
         (MayGrowBy T.wants parser.old.bytes.now (past_blanks parser.old.bytes.now 0)) }
     ensures place { WhereRefused result (past_blanks parser.old.bytes.now 0 ≤ parser.new.index) }
-    ensures cleared { IfOk result (λ v. IsCleared stacks.new) }
+    ensures cleared { IfOk result (λ v. IsCleared reading.new.stacks) }
 {
     parser.value_first()?;
-    let value = run(alloc, texts, tape, stacks, parser, settings)?;
-    finish_whole::<T>(parser, settings, value)
+    let value = reading.run(texts, parser)?;
+    finish_whole::<T>(parser, reading.settings, value)
 }
 
-/// What a text answers, read as the settings say and its texts kept so, by way of this tape and these stacks.
+/// What a text answers, read as the settings say and its texts kept so, by way of this reading.
 pub(crate) fn read_text_as<'s, T: Texts<'s>>(
-    alloc: Global,
+    reading: &mut Reading<'s>,
     texts: T,
-    tape: &mut Vec<u8>,
-    stacks: &mut Stacks<'s>,
     bytes: &[u8],
-    settings: Settings,
 ) -> Result<JsonValue<'s>, JsonError>
     requires texts { T.of texts bytes.now }
     requires repeats { T.made.unique ≡ false }
-    requires empty { HoldsNothing stacks.old }
+    requires empty { HoldsNothing reading.old.stacks }
     ensures parses { Parses (tree_as T.made.text) (MayGrowBy T.wants bytes.now (past_blanks bytes.now 0))
-        settings.allow_inf_nan settings.mode bytes.now result }
-    ensures cleared { IfOk result (λ v. IsCleared stacks.new) }
+        reading.old.settings.allow_inf_nan reading.old.settings.mode bytes.now result }
+    ensures cleared { IfOk result (λ v. IsCleared reading.new.stacks) }
 {
     let mut parser = Parser::new(bytes);
-    match read_whole(alloc, texts, tape, stacks, &mut parser, settings) {
+    match read_whole(reading, texts, &mut parser) {
         Ok(value) => Ok(value),
         Err(error) => Err(error_at(error, parser.index)),
     }
 }
 
-/// What a text answers, read as the settings say, by way of this tape and these stacks.
+/// What a text answers, read as the settings say, by way of this reading.
 pub(crate) fn read_text<'j>(
-    alloc: Global,
-    tape: &mut Vec<u8>,
-    stacks: &mut Stacks<'j>,
+    reading: &mut Reading<'j>,
     bytes: &'j [u8],
-    settings: Settings,
 ) -> Result<JsonValue<'j>, JsonError>
-    requires { HoldsNothing stacks.old }
-    ensures parses { Parses as_read (MayGrow bytes.now) settings.allow_inf_nan settings.mode bytes.now result }
-    ensures cleared { IfOk result (λ v. IsCleared stacks.new) }
+    requires { HoldsNothing reading.old.stacks }
+    ensures parses { Parses as_read (MayGrow bytes.now) reading.old.settings.allow_inf_nan reading.old.settings.mode
+        bytes.now result }
+    ensures cleared { IfOk result (λ v. IsCleared reading.new.stacks) }
 {
     let texts = Borrowing { bytes };
-    read_text_as(alloc, texts, tape, stacks, bytes, settings)
+    read_text_as(reading, texts, bytes)
 }

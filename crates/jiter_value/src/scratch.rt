@@ -9,6 +9,7 @@ use crate::parse_owned::read_text_owned;
 use crate::reading::read_text;
 use crate::settings::Settings;
 use crate::stacks::Stacks;
+use crate::turns::Reading;
 use crate::value::JsonValue;
 use jiter_scan::{JsonError, PartialMode};
 use std::alloc::Global;
@@ -26,9 +27,7 @@ use std::marker::Model;
 /// ```
 #[derive(Drop)]
 pub struct JsonValueScratch<'j> {
-    alloc: Global,
-    tape: Vec<u8>,
-    stacks: Stacks<'j>,
+    reading: Reading<'j>,
 }
 
 impl<'j> Model for JsonValueScratch<'j> {
@@ -39,9 +38,9 @@ impl<'j> Model for JsonValueScratch<'j> {
 
     ghost coded = { Prim.hlevel codes };
 
-    ghost view = { λ s. lists s.stacks };
+    ghost view = { λ s. lists s.reading.stacks };
 
-    ghost invariant = { λ s. IsCleared s.stacks };
+    ghost invariant = { λ s. IsCleared s.reading.stacks };
 }
 
 impl<'j> JsonValueScratch<'j> {
@@ -50,13 +49,13 @@ impl<'j> JsonValueScratch<'j> {
         ensures elements { result.elements ≡ [] }
         ensures members { result.members ≡ [] }
     {
-        let mut stacks = Stacks::reused(alloc);
-        clear(&mut stacks);
-        JsonValueScratch {
-            alloc,
-            tape: Vec::new(alloc),
-            stacks,
-        }
+        let settings = Settings {
+            allow_inf_nan: false,
+            mode: PartialMode::Off,
+        };
+        let mut reading = Reading::new(alloc, settings);
+        reading.stacks.reused = true;
+        JsonValueScratch { reading }
     }
 
     /// What [`JsonValue::parse_with_config`] answers, read with these buffers.
@@ -73,13 +72,12 @@ impl<'j> JsonValueScratch<'j> {
         ensures parses { Parses as_read (MayGrow bytes.now) allow_inf_nan allow_partial bytes.now
             result }
     {
-        let settings = Settings {
+        self.reading.settings = Settings {
             allow_inf_nan,
             mode: allow_partial,
         };
-        let stacks = &mut self.stacks;
-        let answer = read_text(self.alloc, &mut self.tape, stacks, bytes, settings);
-        clear_refused(stacks, answer)
+        let answer = read_text(&mut self.reading, bytes);
+        clear_refused(&mut self.reading.stacks, answer)
     }
 }
 
@@ -98,13 +96,12 @@ impl JsonValueScratch<'static> {
         ensures parses { Parses owned_tree (OwnedMayGrow allow_inf_nan allow_partial bytes.now)
             allow_inf_nan allow_partial bytes.now result }
     {
-        let settings = Settings {
+        self.reading.settings = Settings {
             allow_inf_nan,
             mode: allow_partial,
         };
-        let stacks = &mut self.stacks;
-        let answer = read_text_owned(self.alloc, &mut self.tape, stacks, bytes, settings);
-        clear_refused(stacks, answer)
+        let answer = read_text_owned(&mut self.reading, bytes);
+        clear_refused(&mut self.reading.stacks, answer)
     }
 }
 

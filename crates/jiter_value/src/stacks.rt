@@ -11,7 +11,7 @@ ghost use Rattle.jiter_value.specs.Size.{size, value_size, inside_size, behind_s
 ghost use Rattle.jiter_value.specs.Settings.{Keeping};
 ghost use Rattle.jiter_value.specs.Scratch.{HoldsNothing, IsCleared};
 ghost use Rattle.jiter_value.specs.Stacks.{Member, member_view, resume_with, behind, container_ends, Stands};
-ghost use Rattle.jiter_value.specs.Stacks.{StandsInside, HasRoom, LeavesKeys};
+ghost use Rattle.jiter_value.specs.Stacks.{StandsInside, HasRoom, LeavesKeys, without_root};
 ghost use Rattle.jiter_value.specs.declared.settings.Settings.{Settings as SettingsView};
 ghost use Rattle.jiter_value.specs.declared.value.JsonValue.{JsonValue as JsonValueView};
 
@@ -248,6 +248,13 @@ pub fn take_root<'j>(stacks: &mut Stacks<'j>) -> JsonValue<'j>
     mem::replace(&mut stacks.root, JsonValue::Null)
 }
 
+/// Drops the value of a document that stands beside the stacks, if one does.
+pub fn drop_root<'j>(stacks: &mut Stacks<'j>)
+    ensures { stacks.new ≡ without_root stacks.old }
+{
+    stacks.root = JsonValue::Null;
+}
+
 /// Takes out why the reading was given up.
 pub fn take_error<'j>(stacks: &mut Stacks<'j>) -> ReadError
     ensures { result ≡ stacks.old.error }
@@ -266,9 +273,7 @@ fn no_error() -> ReadError {
 impl<'j> Stacks<'j> {
     /// Nothing held, for one document.
     pub fn new(alloc: Global) -> Stacks<'j>
-        ensures nest { result.nest.items ≡ [] }
-        ensures items { result.items.items ≡ [] }
-        ensures members { result.members.items ≡ [] }
+        ensures { IsCleared result }
     {
         Stacks {
             items: Vec::new(alloc),
@@ -278,16 +283,5 @@ impl<'j> Stacks<'j> {
             error: no_error(),
             reused: false,
         }
-    }
-
-    /// Nothing held, for one document after another: no value takes a stack over.
-    pub fn reused(alloc: Global) -> Stacks<'j>
-        ensures nest { result.nest.items ≡ [] }
-        ensures items { result.items.items ≡ [] }
-        ensures members { result.members.items ≡ [] }
-    {
-        let mut stacks = Stacks::new(alloc);
-        stacks.reused = true;
-        stacks
     }
 }

@@ -1,13 +1,11 @@
 //! What becomes of a text that is read: it is lent where it lies, or owned.
-ghost use Rattle.std.specs.Prelude.{◌≡◌, ◌<◌, ℕ, List, false, length, true, IfOk, OnErr};
+ghost use Rattle.std.specs.Prelude.{◌≡◌, ℕ, List, false, true, IfOk, OnErr};
 ghost use Rattle.jiter_steps.specs.StringDecoder.{text_view};
-ghost use Rattle.jiter_value.specs.NumberText.{number_text_view, short_limit};
 ghost use Rattle.jiter_value.specs.Owned.{owned_text};
 ghost use Rattle.jiter_value.specs.Settings.{Keeping, each, lent, lent_unique};
 ghost use Rattle.jiter_value.specs.Texts.{IsLentAt, LieAt};
 
 use crate::copies::own_cow;
-use crate::number_text::NumberText;
 use jiter_scan::memory::{Refused, copy_text};
 use jiter_scan::text::utf8_text;
 use std::alloc::Global;
@@ -30,14 +28,6 @@ pub trait Texts<'s>: Copy {
         requires lent { IsLentAt bytes.now from (text_view text) }
         ensures value { IfOk result (λ kept. text_view kept ≡ made.text (text_view text.entry)) }
         ensures memory { OnErr result wants };
-
-    /// The text of a number that stands in the bytes from `from` on, as it is kept.
-    fn keep_number(self, bytes: &[u8], from: usize, text: &str) -> Result<NumberText<'s>, Refused>
-        requires of { of self bytes.now }
-        requires lent { LieAt bytes.now from text.now }
-        ensures value { IfOk result (λ kept.
-            number_text_view kept ≡ made.text (record { owned = false; bytes = text.now })) }
-        ensures memory { OnErr result (wants × (short_limit < length text.now)) };
 }
 
 /// A text without a backslash is lent where it lies in the bytes.
@@ -70,16 +60,6 @@ impl<'s> Texts<'s> for Borrowing<'s> {
             CowStr::Owned(owned) => Ok(CowStr::Owned(owned)),
         }
     }
-
-    #[inline(always)]
-    fn keep_number(
-        self,
-        _bytes: &[u8],
-        from: usize,
-        text: &str,
-    ) -> Result<NumberText<'s>, Refused> {
-        Ok(NumberText::Borrowed(lend(self.bytes, from, text)))
-    }
 }
 
 /// The same, where repeated keys are refused.
@@ -101,16 +81,9 @@ impl<'s> Texts<'s> for Distinct<'s> {
         let lending = Borrowing { bytes: self.bytes };
         lending.keep(bytes, from, text)
     }
-
-    #[inline(always)]
-    fn keep_number(self, bytes: &[u8], from: usize, text: &str) -> Result<NumberText<'s>, Refused> {
-        let lending = Borrowing { bytes: self.bytes };
-        lending.keep_number(bytes, from, text)
-    }
 }
 
-/// Each text is owned: one that is lent is copied, by one request of its exact length; the text of a number where it is
-/// not short.
+/// Each text is owned: one that is lent is copied, by one request of its exact length.
 #[derive(Clone, Copy)]
 pub struct Owning {
     /// Where memory is asked for.
@@ -127,16 +100,6 @@ impl<'s> Texts<'s> for Owning {
     #[inline(always)]
     fn keep(self, _bytes: &[u8], _from: usize, text: CowStr<'_>) -> Result<CowStr<'s>, Refused> {
         own_cow(self.alloc, text)
-    }
-
-    #[inline(always)]
-    fn keep_number(
-        self,
-        _bytes: &[u8],
-        _from: usize,
-        text: &str,
-    ) -> Result<NumberText<'s>, Refused> {
-        NumberText::owned(self.alloc, text)
     }
 }
 
@@ -172,21 +135,4 @@ pub fn keep_decoded<'s, T: Texts<'s>>(
 {
     let own = copy_text(alloc, decoded)?;
     texts.keep(bytes, from, CowStr::Owned(own))
-}
-
-/// The text of a number that stands in the bytes from `from` on, as it is kept.
-#[inline(always)]
-pub fn keep_number<'s, T: Texts<'s>>(
-    texts: T,
-    bytes: &[u8],
-    from: usize,
-    text: &str,
-) -> Result<NumberText<'s>, Refused>
-    requires of { T.of texts bytes.now }
-    requires lent { LieAt bytes.now from text.now }
-    ensures value { IfOk result (λ kept.
-        number_text_view kept ≡ T.made.text (record { owned = false; bytes = text.now })) }
-    ensures memory { OnErr result (T.wants × (short_limit < length text.now)) }
-{
-    texts.keep_number(bytes, from, text)
 }

@@ -1,17 +1,18 @@
 //! The turns of a reading over the two stacks: one value, opening or key a turn, and the steps behind it. The
 //! place and what is awaited there go from call to call in registers, and so do all answers of the plain way.
-ghost use Rattle.std.specs.Prelude.{◌≡◌, ◌≢◌, ◌+◌, ◌≤◌, ◌<◌, [], IfOk, OnOk, length, false};
+ghost use Rattle.std.specs.Prelude.{◌≡◌, ◌⊎◌, ◌+◌, ◌≤◌, ◌<◌, ℕ, List, IfOk, OnOk, length, true, false};
 ghost use Rattle.jiter_steps.specs.Node.{nesting_limit};
 ghost use Rattle.jiter_steps.specs.Parse.{Moves, Gives};
 ghost use Rattle.jiter_steps.specs.Read.{value_at};
 ghost use Rattle.jiter_steps.specs.ReadError.{WhereRefused};
-ghost use Rattle.jiter_value.specs.Scratch.{IsCleared};
-ghost use Rattle.jiter_value.specs.Settings.{rules_as};
-ghost use Rattle.jiter_value.specs.Size.{value_size, key_size, held};
-ghost use Rattle.jiter_value.specs.Stacks.{slot_of, from_value, from_key, meaning, StandsAtKey, IsFree};
-ghost use Rattle.jiter_value.specs.Stacks.{KeepsKeys, LeavesKeys};
-ghost use Rattle.jiter_value.specs.Turns.{IsAtValue, Proceeds, IsWithin, MayGrowFor, left, outcome};
+ghost use Rattle.jiter_value.specs.Scratch.{HoldsNothing, IsCleared};
+ghost use Rattle.jiter_value.specs.Settings.{Keeping, rules_as};
+ghost use Rattle.jiter_value.specs.Size.{value_size, key_size};
+ghost use Rattle.jiter_value.specs.Stacks.{slot_of, from_value, from_key, StandsAtKey, IsFree};
+ghost use Rattle.jiter_value.specs.Stacks.{HaveKeys, KeepsKeys, LeavesKeys, keys_then};
+ghost use Rattle.jiter_value.specs.Turns.{GoesOn, HasGone, HasTurned, IsAtValue, Proceeds, MayGrowFor, left, outcome};
 ghost use Rattle.jiter_value.specs.Value.{view, MayGrowBy};
+ghost use Rattle.jiter_value.specs.declared.stacks.Stacks.{Stacks as StacksView};
 
 use crate::settings::Settings;
 use crate::stacks::{Slot, Stacks, State, take_error, take_root};
@@ -34,34 +35,30 @@ pub(crate) mod unique;
 // What stands where a value begins: a scalar, or a container that begins or is empty.
 #[inline(always)]
 fn value_turn<'s, T: Texts<'s>>(
-    alloc: Global,
+    reading: &mut Reading<'s>,
     texts: T,
-    tape: &mut Vec<u8>,
-    stacks: &mut Stacks<'s>,
     bytes: &[u8],
     at: usize,
-    settings: Settings,
     slot: Slot,
 ) -> (usize, State)
     requires texts { T.of texts bytes.now }
-    requires at_value { IsAtValue bytes.now stacks.old slot at }
-    ensures leads { Proceeds T.made settings bytes.now at (left bytes.now stacks.old at)
-        (value_size stacks.old slot + 1) (from_value T.made settings bytes.now stacks.old slot at)
-        stacks.new result }
+    requires at_value { IsAtValue bytes.now reading.old.stacks slot at }
+    ensures leads { Proceeds T.made reading.old.settings bytes.now at (left bytes.now reading.old.stacks at)
+        (value_size reading.old.stacks slot + 1) (from_value T.made reading.old.settings bytes.now reading.old.stacks slot at)
+        reading.new.stacks result }
     ensures memory { slot ≡ Slot.Root
-        → MayGrowFor (outcome stacks.new result.1) (MayGrowBy T.wants bytes.now at) }
-    ensures keys { OnOk (outcome stacks.new result.1)
-        (LeavesKeys stacks.old.members.items stacks.new.members.items) }
+        → MayGrowFor (outcome reading.new.stacks result.1) (MayGrowBy T.wants bytes.now at) }
+    ensures keys { OnOk (outcome reading.new.stacks result.1)
+        (LeavesKeys reading.old.stacks.members.items reading.new.stacks.members.items) }
+    ensures settings { reading.new.settings ≡ reading.old.settings }
 {
     match bytes[at] {
-        b'[' => begin::<T>(alloc, stacks, bytes, at, settings, slot, Shape::Array),
-        b'{' => begin::<T>(alloc, stacks, bytes, at, settings, slot, Shape::Object),
-        _ => match put_plain_scalar(alloc, texts, tape, stacks, bytes, at, slot) {
-            (end, Plain::Put) => after::<T>(alloc, stacks, bytes, end, settings, slot),
+        b'[' => begin::<T>(reading, bytes, at, slot, Shape::Array),
+        b'{' => begin::<T>(reading, bytes, at, slot, Shape::Object),
+        _ => match put_plain_scalar(reading, texts, bytes, at, slot) {
+            (end, Plain::Put) => after::<T>(reading, bytes, end, slot),
             (end, Plain::Refused) => (end, State::GivenUp),
-            (_, Plain::Other) => {
-                general_scalar(alloc, texts, tape, stacks, bytes, at, settings, slot)
-            }
+            (_, Plain::Other) => { general_scalar(reading, texts, bytes, at, slot) }
         },
     }
 }
@@ -69,33 +66,33 @@ fn value_turn<'s, T: Texts<'s>>(
 // The key at `at`, with its colon.
 #[inline(always)]
 fn key_turn<'s, T: Texts<'s>>(
-    alloc: Global,
+    reading: &mut Reading<'s>,
     texts: T,
-    tape: &mut Vec<u8>,
-    stacks: &mut Stacks<'s>,
     bytes: &[u8],
     at: usize,
-    settings: Settings,
 ) -> (usize, State)
     requires texts { T.of texts bytes.now }
-    requires stands { StandsAtKey stacks.old }
-    requires levels { length stacks.old.nest.items ≤ nesting_limit + 1 }
+    requires stands { StandsAtKey reading.old.stacks }
+    requires levels { length reading.old.stacks.nest.items ≤ nesting_limit + 1 }
     requires within { at < length bytes.now }
-    requires free { IsFree T.made bytes.now stacks.old at }
-    ensures leads { Proceeds T.made settings bytes.now at (left bytes.now stacks.old at)
-        (key_size stacks.old + 1) (from_key T.made settings bytes.now stacks.old at)
-        stacks.new result }
-    ensures keys { OnOk (outcome stacks.new result.1)
-        (KeepsKeys T.made bytes.now stacks.old.members.items State.Key at stacks.new.members.items) }
+    requires free { IsFree T.made bytes.now reading.old.stacks at }
+    ensures leads { Proceeds T.made reading.old.settings bytes.now at (left bytes.now reading.old.stacks at)
+        (key_size reading.old.stacks + 1) (from_key T.made reading.old.settings bytes.now reading.old.stacks at)
+        reading.new.stacks result }
+    ensures keys { OnOk (outcome reading.new.stacks result.1)
+        (KeepsKeys T.made bytes.now reading.old.stacks.members.items State.Key at reading.new.stacks.members.items) }
+    ensures settings { reading.new.settings ≡ reading.old.settings }
 {
-    if stacks.members.len() < stacks.members.capacity() && stacks.nest.len() <= NESTING_LIMIT {
-        match put_plain_key(texts, stacks, bytes, at) {
+    if reading.stacks.members.len() < reading.stacks.members.capacity()
+        && reading.stacks.nest.len() <= NESTING_LIMIT
+    {
+        match put_plain_key(texts, &mut reading.stacks, bytes, at) {
             (next, Plain::Put) => return (next, State::Member),
             (next, Plain::Refused) => return (next, State::GivenUp),
             (_, Plain::Other) => {}
         }
     }
-    general_key(alloc, texts, tape, stacks, bytes, at, settings)
+    general_key(reading, texts, bytes, at)
 }
 
 // Where the value goes that a state awaits.
@@ -110,87 +107,173 @@ fn slot_of(state: State) -> Slot
     }
 }
 
-/// One turn: one scalar, opening or key, and the steps behind it.
-#[inline(always)]
-pub fn turn<'s, T: Texts<'s>>(
-    alloc: Global,
-    texts: T,
-    tape: &mut Vec<u8>,
-    stacks: &mut Stacks<'s>,
-    bytes: &[u8],
-    at: usize,
-    settings: Settings,
-    state: State,
-) -> (usize, State)
-    requires texts { T.of texts bytes.now }
-    requires within { IsWithin bytes.now stacks.old state at }
-    requires goes_on { state ≢ State.Done }
-    requires free { state ≡ State.Key → IsFree T.made bytes.now stacks.old at }
-    ensures leads { Proceeds T.made settings bytes.now at (left bytes.now stacks.old at)
-        (held stacks.old state + 1) (meaning T.made settings bytes.now stacks.old state at)
-        stacks.new result }
-    ensures memory { state ≡ State.Root
-        → MayGrowFor (outcome stacks.new result.1) (MayGrowBy T.wants bytes.now at) }
-    ensures keys { OnOk (outcome stacks.new result.1)
-        (KeepsKeys T.made bytes.now stacks.old.members.items state at stacks.new.members.items) }
-{
-    match state {
-        State::Key => key_turn(alloc, texts, tape, stacks, bytes, at, settings),
-        State::Done => unreachable!(),
-        State::GivenUp => unreachable!(),
-        _ => value_turn(
-            alloc,
-            texts,
-            tape,
-            stacks,
-            bytes,
-            at,
-            settings,
-            slot_of(state),
-        ),
+/// What a reading asks before it reads a key.
+pub trait Keys<'s> {
+    // Whether it serves a reading of these bytes whose texts are kept so.
+    ghost serves: { Self → Keeping → List ℕ → Type 0 };
+
+    // What it knows of the keys of the members that are held.
+    ghost knows: { Self → List (List ℕ) → Type 0 };
+
+    // Why no key may stand at a place.
+    ghost refuses: { Self → List ℕ → StacksView → ℕ → Type 0 };
+
+    /// Whether the key at `at` may stand there.
+    fn may_stand(
+        &mut self,
+        alloc: Global,
+        tape: &mut Vec<u8>,
+        stacks: &Stacks<'s>,
+        bytes: &[u8],
+        at: usize,
+    ) -> bool
+        requires serves { (made : Keeping) × serves self.old made bytes.now }
+        requires stands { StandsAtKey stacks.now }
+        requires within { at < length bytes.now }
+        requires known { (ks : List (List ℕ)) × knows self.old ks × HaveKeys ks stacks.now.members.items }
+        ensures free { (made : Keeping) → serves self.old made bytes.now → result ≡ true
+            → IsFree made bytes.now stacks.now at }
+        ensures known { (made : Keeping) → serves self.old made bytes.now → result ≡ true
+            → knows self.new (keys_then made bytes.now stacks.now.members.items State.Key at) }
+        ensures refused { result ≡ false → refuses self.new bytes.now stacks.now at }
+        ensures serves { (made : Keeping) → (t : List ℕ) → serves self.old made t → serves self.new made t };
+}
+
+/// Any key may stand anywhere.
+#[derive(Clone, Copy, Debug)]
+pub struct AnyKey;
+
+impl<'s> Keys<'s> for AnyKey {
+    ghost serves = { λ k made t. made.unique ≡ false };
+
+    ghost knows = { λ k ks. Unit {0} };
+
+    ghost refuses = { λ k t s j. ⊥ };
+
+    #[inline(always)]
+    fn may_stand(
+        &mut self,
+        _alloc: Global,
+        _tape: &mut Vec<u8>,
+        _stacks: &Stacks<'s>,
+        _bytes: &[u8],
+        _at: usize,
+    ) -> bool {
+        true
     }
 }
 
-/// The value that begins where the reader stands, each of its texts kept so; repeated keys are kept too.
-pub fn run<'s, T: Texts<'s>>(
-    alloc: Global,
-    texts: T,
-    tape: &mut Vec<u8>,
-    stacks: &mut Stacks<'s>,
-    parser: &mut Parser<'_>,
-    settings: Settings,
-) -> Result<JsonValue<'s>, ReadError>
-    requires texts { T.of texts parser.old.bytes.now }
-    requires repeats { T.made.unique ≡ false }
-    requires within { parser.old.index < length parser.old.bytes.now }
-    requires nest { stacks.old.nest.items ≡ [] }
-    requires items { stacks.old.items.items ≡ [] }
-    requires members { stacks.old.members.items ≡ [] }
-    ensures moves { Moves parser.old parser.new }
-    ensures value { Gives view result parser.new.index
-        (value_at (rules_as T.made settings) parser.old.bytes.now nesting_limit
-        parser.old.index) }
-    ensures memory { WhereRefused result
-        (MayGrowBy T.wants parser.old.bytes.now parser.old.index) }
-    ensures cleared { IfOk result (λ v. IsCleared stacks.new) }
-{
-    let bytes = parser.bytes;
-    let mut at = parser.index;
-    let mut state = State::Root;
-    'turning: loop {
-        let (next, what) = turn(alloc, texts, tape, stacks, bytes, at, settings, state);
-        at = next;
-        state = what;
+/// A reading: how it is read and where it stands, the stacks, and the buffer of decoded strings. The bytes are given to
+/// each call, since a scratch reads bytes of one lifetime after another.
+#[derive(Drop)]
+pub struct Reading<'s> {
+    /// Where memory is asked for.
+    pub alloc: Global,
+    /// How the document is read.
+    pub settings: Settings,
+    /// What is awaited at the place.
+    pub state: State,
+    /// The byte index where the reading stands, from 0.
+    pub at: usize,
+    /// The buffer of decoded strings.
+    pub tape: Vec<u8>,
+    /// What is held.
+    pub stacks: Stacks<'s>,
+}
+
+impl<'s> Reading<'s> {
+    /// Before the first byte of one document. It takes no memory.
+    pub fn new(alloc: Global, settings: Settings) -> Reading<'s>
+        ensures holds { IsCleared result.stacks }
+        ensures settings { result.settings ≡ settings }
+        ensures at { result.at ≡ 0 }
+        ensures state { result.state ≡ State.Root }
+    {
+        Reading {
+            alloc,
+            settings,
+            state: State::Root,
+            at: 0,
+            tape: Vec::new(alloc),
+            stacks: Stacks::new(alloc),
+        }
+    }
+
+    /// Turns in place: one if `once`, else all up to the end. A key that may not stand where it does ends them before it.
+    #[inline(never)]
+    pub fn go<T: Texts<'s>, K: Keys<'s>>(
+        &mut self,
+        texts: T,
+        keys: &mut K,
+        bytes: &[u8],
+        once: bool,
+    ) -> State
+        requires texts { T.of texts bytes.now }
+        requires serves { K.serves keys.old T.made bytes.now }
+        requires begun { (i : ℕ) × HasGone T.made T.wants bytes.now i self.old }
+        requires goes_on { GoesOn self.old.state }
+        requires known { (ks : List (List ℕ)) × K.knows keys.old ks × HaveKeys ks self.old.stacks.members.items }
+        ensures gone { (i : ℕ) → HasGone T.made T.wants bytes.now i self.old
+            → HasGone T.made T.wants bytes.now i self.new }
+        ensures turned { once ≡ true
+            → K.refuses keys.new bytes.now self.new.stacks self.new.at ⊎ HasTurned bytes.now self.old self.new }
+        ensures ended { once ≡ false → GoesOn self.new.state
+            → (self.new.state ≡ State.Key) × K.refuses keys.new bytes.now self.new.stacks self.new.at }
+        ensures state { result ≡ self.new.state }
+        ensures settings { self.new.settings ≡ self.old.settings }
+    {
+        let mut at = self.at;
+        let mut state = self.state;
+        'turning: loop {
+            let (next, what) = match state {
+                State::Done => break 'turning,
+                State::GivenUp => break 'turning,
+                State::Key => {
+                    if !keys.may_stand(self.alloc, &mut self.tape, &self.stacks, bytes, at) {
+                        break 'turning;
+                    }
+                    key_turn(self, texts, bytes, at)
+                }
+                _ => value_turn(self, texts, bytes, at, slot_of(state)),
+            };
+            at = next;
+            state = what;
+            if once {
+                break 'turning;
+            }
+        }
+        self.at = at;
+        self.state = state;
+        state
+    }
+
+    /// The value that begins where the reader stands, each of its texts kept so; repeated keys are kept too.
+    pub fn run<T: Texts<'s>>(
+        &mut self,
+        texts: T,
+        parser: &mut Parser<'_>,
+    ) -> Result<JsonValue<'s>, ReadError>
+        requires texts { T.of texts parser.old.bytes.now }
+        requires repeats { T.made.unique ≡ false }
+        requires within { parser.old.index < length parser.old.bytes.now }
+        requires holds { HoldsNothing self.old.stacks }
+        ensures moves { Moves parser.old parser.new }
+        ensures value { Gives view result parser.new.index
+            (value_at (rules_as T.made self.old.settings) parser.old.bytes.now nesting_limit
+            parser.old.index) }
+        ensures memory { WhereRefused result
+            (MayGrowBy T.wants parser.old.bytes.now parser.old.index) }
+        ensures cleared { IfOk result (λ v. IsCleared self.new.stacks) }
+        ensures settings { self.new.settings ≡ self.old.settings }
+    {
+        self.state = State::Root;
+        self.at = parser.index;
+        let bytes = parser.bytes;
+        let state = self.go(texts, &mut AnyKey, bytes, false);
+        parser.index = self.at;
         match state {
-            State::Done => {
-                parser.index = at;
-                return Ok(take_root(stacks));
-            }
-            State::GivenUp => {
-                parser.index = at;
-                return Err(take_error(stacks));
-            }
-            _ => {}
+            State::Done => Ok(take_root(&mut self.stacks)),
+            _ => Err(take_error(&mut self.stacks)),
         }
     }
 }

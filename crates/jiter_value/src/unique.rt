@@ -13,8 +13,8 @@ ghost use Rattle.jiter_value.specs.Value.{view, MayGrowBy};
 
 use crate::reading::{error_at, finish_whole};
 use crate::settings::Settings;
-use crate::stacks::Stacks;
 use crate::texts::Distinct;
+use crate::turns::Reading;
 use crate::turns::unique::{Stopped, run_unique};
 use crate::unique_error::{UniqueError, UniqueErrorType};
 use crate::value::JsonValue;
@@ -23,20 +23,17 @@ use jiter_steps::parse::Parser;
 use jiter_steps::read_error::ReadError;
 use std::alloc::Global;
 
-/// The value of a text, where the reader stands before its first byte, by way of this tape and these stacks; a key
+/// The value of a text, where the reader stands before its first byte, by way of this reading; a key
 /// that its object has already is refused.
 pub(crate) fn read_unique<'j>(
-    alloc: Global,
-    tape: &mut Vec<u8>,
-    stacks: &mut Stacks<'j>,
+    reading: &mut Reading<'j>,
     parser: &mut Parser<'j>,
-    settings: Settings,
 ) -> Result<JsonValue<'j>, Stopped>
     requires begins { parser.old.index ≡ 0 }
-    requires empty { HoldsNothing stacks.old }
+    requires empty { HoldsNothing reading.old.stacks }
     ensures moves { Moves parser.old parser.new }
     ensures value { GivesUniqueWhole result parser.new.index
-        (unique_answer_in settings.allow_inf_nan settings.mode parser.old.bytes.now) }
+        (unique_answer_in reading.old.settings.allow_inf_nan reading.old.settings.mode parser.old.bytes.now) }
     ensures memory { WhereUniqueRefused result
         (MayGrowBy ⊥ parser.old.bytes.now (past_blanks parser.old.bytes.now 0)) }
     ensures place { WhereUniqueRefused result (past_blanks parser.old.bytes.now 0 ≤ parser.new.index) }
@@ -47,9 +44,9 @@ pub(crate) fn read_unique<'j>(
     let texts = Distinct {
         bytes: parser.bytes,
     };
-    match run_unique(alloc, texts, tape, stacks, parser, settings) {
+    match run_unique(reading, texts, parser) {
         Err(stopped) => Err(stopped),
-        Ok(value) => match finish_whole::<Distinct<'j>>(parser, settings, value) {
+        Ok(value) => match finish_whole::<Distinct<'j>>(parser, reading.settings, value) {
             Ok(whole) => Ok(whole),
             Err(error) => Err(Stopped::Read(error)),
         },
@@ -98,10 +95,9 @@ impl<'j> JsonValue<'j> {
             allow_inf_nan,
             mode: allow_partial,
         };
-        let mut tape = Vec::new(alloc);
-        let mut stacks = Stacks::new(alloc);
+        let mut reading = Reading::new(alloc, settings);
         let mut parser = Parser::new(bytes);
-        match read_unique(alloc, &mut tape, &mut stacks, &mut parser, settings) {
+        match read_unique(&mut reading, &mut parser) {
             Ok(value) => Ok(value),
             Err(stopped) => Err(unique_error_at(stopped, parser.index)),
         }

@@ -7,10 +7,7 @@ ghost use Rattle.jiter_steps.specs.Node.{Node, IsDocument, value_of};
 ghost use Rattle.jiter_value.specs.Parses.{Parses, as_read};
 ghost use Rattle.jiter_value.specs.Value.{view, Answers, MayGrow};
 
-use crate::number_text::NumberText;
-use crate::reading::read_text;
-use crate::settings::Settings;
-use crate::stacks::Stacks;
+use crate::machine::Machine;
 use jiter_scan::{JsonError, JsonErrorType, PartialMode};
 use std::alloc::Global;
 use std::borrow::CowStr;
@@ -41,9 +38,9 @@ pub enum JsonValue<'s> {
     /// An integer that 64 signed bits hold.
     Int(i64),
     /// Any other integer, by its source text.
-    BigInt(NumberText<'s>),
+    BigInt(CowStr<'s>),
     /// A number with a point, an exponent or a name, by its source text.
-    Float(NumberText<'s>),
+    Float(CowStr<'s>),
     /// A string, decoded.
     Str(CowStr<'s>),
     /// An array.
@@ -60,8 +57,8 @@ impl<'s> Drop for JsonValue<'s> {
             JsonValue::Null => {}
             JsonValue::Bool(_) => {}
             JsonValue::Int(_) => {}
-            JsonValue::BigInt(text) => drop(text),
-            JsonValue::Float(text) => drop(text),
+            JsonValue::BigInt(text) => drop_text(text),
+            JsonValue::Float(text) => drop_text(text),
             JsonValue::Str(text) => drop_text(text),
             JsonValue::Array(items) => drop_items(items),
             JsonValue::Object(members) => drop_members(members),
@@ -162,13 +159,7 @@ impl<'j> JsonValue<'j> {
         ensures parses { Parses as_read (MayGrow bytes.now) allow_inf_nan allow_partial bytes.now
             result }
     {
-        let settings = Settings {
-            allow_inf_nan,
-            mode: allow_partial,
-        };
-        let mut tape = Vec::new(alloc);
-        let mut stacks = Stacks::new(alloc);
-        read_text(alloc, &mut tape, &mut stacks, bytes, settings)
+        Machine::new(alloc, bytes, allow_inf_nan, allow_partial).finish()
     }
 }
 

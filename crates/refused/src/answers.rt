@@ -3,8 +3,8 @@ use crate::outcome::Outcome;
 use jiter::{
     JiterErrorType, JiterResult, JsonError, JsonErrorType as Kind, JsonValue, UniqueError,
 };
-use jiter_tests::told::text_of;
 use std::alloc::{AllocError, Global};
+use test_support::told::text_of;
 
 impl Outcome {
     /// It answered this value.

@@ -18,6 +18,8 @@ pub enum Whole {
     Scratch,
     /// `JsonValueScratch::parse_owned`
     OwnedByScratch,
+    /// `two_prefixes`, each of them the whole text.
+    TwoPrefixes,
 }
 
 /// A call that reads a whole value where a reader stands.
@@ -100,6 +102,7 @@ fn call_named(word: &str) -> Option<Call> {
         "owned" => Some(Call::Whole(Whole::Owned)),
         "scratch" => Some(Call::Whole(Whole::Scratch)),
         "scratch-owned" => Some(Call::Whole(Whole::OwnedByScratch)),
+        "two-prefixes" => Some(Call::Whole(Whole::TwoPrefixes)),
         "next-str" => Some(Call::Texts(false)),
         "known-str" => Some(Call::Texts(true)),
         "pieces" => Some(Call::Pieces(5)),

@@ -2,8 +2,8 @@
 use crate::asking::Copying;
 use crate::outcome::Outcome;
 use jiter::{Jiter, JsonError, JsonErrorType as Kind, JsonValue, PartialMode, UniqueError};
-use jiter_tests::told::text_of;
 use std::alloc::{AllocError, Global};
+use test_support::told::text_of;
 
 /// What a copy of the text's value comes to, or of its fault a description, or the place's text.
 pub fn outcome(
@@ -26,9 +26,20 @@ fn of_answer(
     call: Copying,
 ) -> Result<Outcome, AllocError> {
     match JsonValue::parse_with_config(alloc, bytes, true, mode) {
-        Ok(value) => copied(alloc, value, call),
+        Ok(value) => match call {
+            Copying::Describe | Copying::Short => told(alloc, bytes, &end_of(bytes), call),
+            _ => copied(alloc, value, call),
+        },
         Err(error) if error.error_type == Kind::OutOfMemory => Outcome::refused(alloc),
         Err(error) => told(alloc, bytes, &error, call),
+    }
+}
+
+// An error at the end of a text, for one that has no fault.
+fn end_of(bytes: &[u8]) -> JsonError {
+    JsonError {
+        error_type: Kind::TrailingCharacters,
+        index: bytes.len(),
     }
 }
 

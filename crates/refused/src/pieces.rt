@@ -1,7 +1,8 @@
 //! A document that comes in pieces, each of them pushed until it is taken.
 use crate::answers::first_of;
 use crate::outcome::Outcome;
-use jiter::{Arriving, JsonError, JsonErrorType as Kind, JsonValue, PartialMode};
+use jiter::{JsonError, JsonErrorType as Kind, JsonValue, PartialMode};
+use jiter_incremental::Arriving;
 use std::alloc::{AllocError, Global};
 
 // What a parse answers.

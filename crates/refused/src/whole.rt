@@ -1,6 +1,7 @@
 //! Readings of a whole text.
 use crate::asking::Whole;
 use crate::outcome::Outcome;
+use jiter::client::two_prefixes;
 use jiter::{JsonValue, JsonValueScratch, Machine, PartialMode, Turn};
 use std::alloc::{AllocError, Global};
 
@@ -19,6 +20,7 @@ pub fn outcome(
         Whole::Owned => owned(alloc, bytes, mode),
         Whole::Scratch => by_scratch(alloc, bytes, mode),
         Whole::OwnedByScratch => owned_by_scratch(alloc, bytes, mode),
+        Whole::TwoPrefixes => twice(alloc, bytes, mode),
     }
 }
 
@@ -35,6 +37,21 @@ fn unique(alloc: Global, bytes: &[u8], mode: PartialMode) -> Result<Outcome, All
 fn owned(alloc: Global, bytes: &[u8], mode: PartialMode) -> Result<Outcome, AllocError> {
     let answer = JsonValue::parse_owned(alloc, bytes, true, mode);
     Outcome::of_text(alloc, bytes, &answer)
+}
+
+// The text as both prefixes of itself: its value, where the other one is like it.
+fn twice(alloc: Global, bytes: &[u8], mode: PartialMode) -> Result<Outcome, AllocError> {
+    let length = bytes.len();
+    match two_prefixes(alloc, bytes, length, length, true, mode) {
+        Ok((first, second)) => {
+            if first == second {
+                Outcome::value(alloc, &first)
+            } else {
+                Outcome::broken(alloc, "a text has two values")
+            }
+        }
+        Err(error) => Outcome::of_text(alloc, bytes, &Err(error)),
+    }
 }
 
 fn by_turns(alloc: Global, bytes: &[u8], mode: PartialMode) -> Result<Outcome, AllocError> {

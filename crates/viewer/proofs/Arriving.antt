@@ -10,7 +10,8 @@ use Rattle.std.specs.Prelude.{bytes_eq}
 use Rattle.std.specs.List.{concat, dedup}
 use Rattle.std.specs.Io.{StartsWith}
 use Rattle.std.specs.Io.KnownBytes.{Appends, Consumes, IsAtEnd, Keeps}
-use Rattle.jiter.specs.Caller.{answer_in, HasPassed, HasReceived, Passed, Received}
+use Rattle.jiter.specs.Caller.{answer_in}
+use Rattle.jiter_incremental.specs.Caller.{HasPassed, HasReceived, Passed, Received}
 use Rattle.jiter_print.specs.Written.{AppendsFront}
 use Rattle.viewer.specs.Arrived.{HasArrived}
 use Rattle.viewer.specs.Shown.{if_any, last_line, lines_of, new_line, shown, ShowsAll}

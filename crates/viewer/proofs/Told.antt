@@ -2,8 +2,9 @@
 use Rattle.std.proofs.Common.{◌≡◌, ◌∙◌, ap, ap₂, refl, sym, ℕ, Bool, List, [], ◌∷◌, ◌++◌, None, Some, inl, inr}
 use Rattle.std.specs.Prelude.{Ok, Err}
 use Rattle.std.specs.List.{join_with_byte}
-use Rattle.jiter.specs.Caller.{answer, answer_in, description_text, done, fault, HasReceived, JsonError, JsonValue}
-use Rattle.jiter.specs.Caller.{kind_of, owned_tree, Parses, PartialMode, Reading, reading_as, Received, Tree, view}
+use Rattle.jiter.specs.Caller.{answer, answer_in, description_text, done, fault, JsonError, JsonValue}
+use Rattle.jiter.specs.Caller.{kind_of, owned_tree, Parses, PartialMode, Reading, reading_as, Tree, view}
+use Rattle.jiter_incremental.specs.Caller.{HasReceived, Received}
 use Rattle.jiter_print.specs.Print.{item_prints, member_prints, print_of, print_text, with_line_feed}
 use Rattle.jiter_steps.specs.Tree.{null, boolean, int, big, float, string, array, object, Items, no_items, item}
 use Rattle.jiter_steps.specs.Tree.{Members, no_members, member}

@@ -1,6 +1,6 @@
 -- What is held of a text that has arrived in part.
 use Rattle.std.specs.Prelude.{◌≡◌, ℕ, List}
-use Rattle.jiter.specs.Caller.{HasPassed, HasReceived, Passed, Received}
+use Rattle.jiter_incremental.specs.Caller.{HasPassed, HasReceived, Passed, Received}
 use Rattle.viewer.specs.declared.words.Words.{Words}
 
 -- The bytes t are read as the words ask: their value so far is held.

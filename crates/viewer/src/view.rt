@@ -9,7 +9,7 @@ ghost use Rattle.viewer.specs.Shown.{ShowsAll, ShowsFront, value_line};
 ghost use Rattle.viewer.specs.declared.words.Words.{Words};
 
 use crate::words::Words;
-use jiter::{Arriving, LineFeeds};
+use jiter_incremental::{Arriving, LineFeeds};
 use jiter_print::{print, write_line};
 use std::alloc::{AllocError, Global};
 use std::io;

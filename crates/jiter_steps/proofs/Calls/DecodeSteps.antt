@@ -1,18 +1,13 @@
 -- Steps of the decoder: a run of plain bytes, and the escape behind it.
 use Rattle.std.proofs.Common.{◌≡◌, ℕ, ◌+◌, ◌<◌, ◌≤◌, true, false, List, ◌++◌, length, sym, arith, append_assoc}
-use Rattle.std.proofs.Common.{◌≢◌, ◌-◌, Bool, subst, append-nil, ◌&&◌, ◌∙◌, refl, ap, zero, suc, [], ◌∷◌, take, drop}
-use Rattle.std.proofs.Common.{take-take}
-use Rattle.std.specs.Prelude.{slice_get, slice_range, Some, IsTrue, nat_eq, nat_lt}
-use Rattle.std.specs.List.{AllPass, list_all}
-use Rattle.std.proofs.lemmas.List.Sums.{AllPass-from_list_all}
-use lib.Lanes.{chunk}
-use Rattle.jiter_scan.specs.Simd.{failing}
-use Rattle.jiter_scan.proofs.Chunks.{none_fails}
-use Rattle.jiter_scan.proofs.Tapes.{put-front}
+use Rattle.std.proofs.Common.{◌≢◌, ◌-◌, Bool, subst, append-nil, ◌&&◌, ◌∙◌, refl, ap, [], ◌∷◌, take}
+use Rattle.std.specs.Prelude.{slice_get, slice_range, Some, IsTrue, nat_lt}
+use Rattle.std.specs.List.{AllPass}
 use Rattle.std.specs.Str.{IsUtf8}
 use Rattle.std.proofs.lemmas.Str.{IsUtf8-append, IsUtf8-encode}
 use Rattle.std.proofs.lemmas.Bool.Decides.{nat_tests}
-use Rattle.jiter_scan.specs.Scan.{scan_stop, is_ascii}
+use Rattle.jiter_scan.specs.Scan.{scan_stop, is_ascii, is_plain, IsAsciiTo}
+use Rattle.jiter_scan.proofs.Runs.{run_end-ahead, run_end-within}
 use Rattle.jiter_steps.specs.StringReading.{part, over, portion_at, Stop, body_at, number, hex_digits_at}
 use Rattle.std.proofs.lemmas.Bool.{ne_eqb, lt-ltb, false≢true}
 use Rattle.jiter_scan.proofs.Choices.{if-true}
@@ -83,45 +78,27 @@ known-escape t tape after bs at end u f added =
     let utf8 : IsUtf8 bs = subst IsUtf8 (sym e.is) (IsUtf8-encode e.character e.scalar) in
     subst IsUtf8 (sym added) (IsUtf8-append tape bs u utf8)
 
--- those before a place pass where all do
-front-passes : (test : ℕ → Bool) (n : ℕ) (w : List ℕ) → list_all test w ≡ true → list_all test (take n w) ≡ true
-front-passes test zero w h = refl
-front-passes test (suc n) [] h = refl
-front-passes test (suc n) (c ∷ w) h = by (test c) h (front-passes test n w) where
-  by : (b : Bool) → (b && list_all test w) ≡ true → (list_all test w ≡ true → list_all test (take n w) ≡ true)
-      → (b && list_all test (take n w)) ≡ true
-  by true h go = go h
-  by false h go = absurd (false≢true h)
-
 -- a byte of ASCII is its UTF-8
 pub encode-sign : (c : ℕ) → c < 128 → c ∷ [] ≡ encode_utf8 c
 unfolding encode_utf8
 encode-sign c h = sym (if-true (nat_lt c 128) _ _ (lt-ltb c 128 h))
 
--- Behind the first bytes of the tape a chunk of the text is written, of which so many bytes are plain.
-module _ (t tape next : List ℕ) (at count n : ℕ) (room : count ≤ length tape) (few : n ≤ 16)
-    (put : take (count + 16) next ≡ take count tape ++ chunk at 16 t) where
-  chunk-added : take (count + n) next ≡ take count tape ++ slice_range t at (at + n)
-  chunk-added = put-front t tape next at count n room few put
+-- Behind the first bytes of the tape the plain bytes up to the first stop are copied.
+module _ (t tape next : List ℕ) (at count end : ℕ) (within : at ≤ length t) (many : end + at ≡ count + scan_stop t at)
+    (put : take end next ≡ take count tape ++ slice_range t at (scan_stop t at)) where
+  pub copied-to : at + (end - count) ≡ scan_stop t at
+  copied-to = omega (arith, many, run_end-ahead is_plain t at)
 
-  pub chunk-decoded : (whole : List ℕ) (s : Stop) → Decoded t whole s (take count tape) at → at ≤ length t
-      → at + n ≤ scan_stop t at → Decoded t whole s (take (count + n) next) (at + n)
-  chunk-decoded whole s so_far within run =
-      decode-run t whole s (take count tape) at so_far (take (count + n) next) n within run chunk-added
+  pub copied-within : at + (end - count) ≤ length t
+  copied-within = omega (arith, copied-to, run_end-within is_plain t at within)
 
-  -- known to be UTF-8 where the whole chunk is below 80 hex
-  pub chunk-known : (known now : Bool) (high : ℕ) → (IsTrue known → IsUtf8 (take count tape))
-      → now ≡ (known && nat_eq high 0) → high ≡ failing is_ascii (chunk at 16 t) → IsTrue now
-      → IsUtf8 (take (count + n) next)
-  chunk-known known now high k both is h =
-      let size : n ≡ at + n - at = omega arith in
-      let same : take n (chunk at 16 t) ≡ slice_range t at (at + n) =
-      take-take n 16 (drop at t) few ∙ ap (λ m. take m (drop at t)) size in
-      let ascii : IsTrue (nat_eq high 0) → AllPass is_ascii (slice_range t at (at + n)) =
-      λ low.
-      let none : high ≡ 0 = grind (arith, nat_tests, low) in
-      subst (AllPass is_ascii) same
-      (AllPass-from_list_all is_ascii (take n (chunk at 16 t))
-      (front-passes is_ascii n (chunk at 16 t) (none_fails is_ascii t at 16 (sym is ∙ none)))) in
-      known-run known (nat_eq high 0) now (take count tape) (slice_range t at (at + n)) (take (count + n) next) k ascii
-      both chunk-added h
+  pub copied-decoded : (whole : List ℕ) (s : Stop) → Decoded t whole s (take count tape) at
+      → Decoded t whole s (take end next) (at + (end - count))
+  copied-decoded whole s so_far =
+      decode-run t whole s (take count tape) at so_far (take end next) (end - count) within (omega (arith, copied-to))
+      (put ∙ ap (λ j. take count tape ++ slice_range t at j) (sym copied-to))
+
+  pub copied-known : (known low now : Bool) → (IsTrue known → IsUtf8 (take count tape))
+      → (IsTrue low → IsAsciiTo t at (scan_stop t at)) → now ≡ (known && low) → IsTrue now → IsUtf8 (take end next)
+  copied-known known low now k ascii both =
+      known-run known low now (take count tape) (slice_range t at (scan_stop t at)) (take end next) k ascii both put

@@ -19,6 +19,7 @@ ghost use Rattle.jiter_value.specs.declared.settings.Settings.{Settings as Setti
 use crate::settings::{Settings, forgives};
 use crate::stacks::{Open, Slot, Stacks, State, close, no_memory, object_of, put, too_deep};
 use crate::texts::Texts;
+use crate::turns::Reading;
 use crate::value::JsonValue;
 use jiter_scan::errors::Fault;
 use jiter_scan::memory::{Refused, push_small};
@@ -134,24 +135,23 @@ fn ends<'j>(
 // Behind a value, up to the next value or key; containers that end are closed.
 #[inline(always)]
 pub fn after<'s, T: Texts<'s>>(
-    alloc: Global,
-    stacks: &mut Stacks<'s>,
+    reading: &mut Reading<'s>,
     bytes: &[u8],
     from: usize,
-    settings: Settings,
     slot: Slot,
 ) -> (usize, State)
-    requires stands { Stands stacks.old slot }
-    requires levels { length stacks.old.nest.items ≤ nesting_limit }
+    requires stands { Stands reading.old.stacks slot }
+    requires levels { length reading.old.stacks.nest.items ≤ nesting_limit }
     requires within { from ≤ length bytes.now }
-    ensures leads { Proceeds T.made settings bytes.now from (left bytes.now stacks.old from + 1)
-        (behind_size stacks.old slot) (behind T.made settings bytes.now stacks.old slot from)
-        stacks.new result }
-    ensures memory { WhereRefused (outcome stacks.new result.1) (slot ≢ Slot.Root) }
+    ensures leads { Proceeds T.made reading.old.settings bytes.now from (left bytes.now reading.old.stacks from + 1)
+        (behind_size reading.old.stacks slot) (behind T.made reading.old.settings bytes.now reading.old.stacks slot from)
+        reading.new.stacks result }
+    ensures memory { WhereRefused (outcome reading.new.stacks result.1) (slot ≢ Slot.Root) }
     ensures root { slot ≡ Slot.Root
-        → IfOk (outcome stacks.new result.1) (λ a. a ≡ State.Done) }
-    ensures keys { OnOk (outcome stacks.new result.1)
-        (LeavesKeys stacks.old.members.items stacks.new.members.items) }
+        → IfOk (outcome reading.new.stacks result.1) (λ a. a ≡ State.Done) }
+    ensures keys { OnOk (outcome reading.new.stacks result.1)
+        (LeavesKeys reading.old.stacks.members.items reading.new.stacks.members.items) }
+    ensures settings { reading.new.settings ≡ reading.old.settings }
 {
     let mut at = from;
     let mut inside = slot;
@@ -164,12 +164,21 @@ pub fn after<'s, T: Texts<'s>>(
                     Next::Part => return (next, part_of(shape)),
                     _ => {}
                 }
-                if !ends(stacks, bytes, at, next, what, settings, Behind::Part, shape) {
+                if !ends(
+                    &mut reading.stacks,
+                    bytes,
+                    at,
+                    next,
+                    what,
+                    reading.settings,
+                    Behind::Part,
+                    shape,
+                ) {
                     return (next, State::GivenUp);
                 }
-                match close(alloc, stacks, shape) {
+                match close(reading.alloc, &mut reading.stacks, shape) {
                     Ok(outer) => inside = outer,
-                    Err(refused) => return no_memory(stacks, refused, next),
+                    Err(refused) => return no_memory(&mut reading.stacks, refused, next),
                 }
                 at = next;
             }
@@ -180,25 +189,24 @@ pub fn after<'s, T: Texts<'s>>(
 /// The innermost container ends at `at`, and the steps behind it.
 #[inline(never)]
 pub fn close_and_go_on<'s, T: Texts<'s>>(
-    alloc: Global,
-    stacks: &mut Stacks<'s>,
+    reading: &mut Reading<'s>,
     bytes: &[u8],
     at: usize,
-    settings: Settings,
     shape: Shape,
 ) -> (usize, State)
-    requires stands { StandsInside shape stacks.old }
-    requires levels { length stacks.old.nest.items ≤ nesting_limit + 1 }
+    requires stands { StandsInside shape reading.old.stacks }
+    requires levels { length reading.old.stacks.nest.items ≤ nesting_limit + 1 }
     requires within { at ≤ length bytes.now }
-    ensures leads { Proceeds T.made settings bytes.now at (left bytes.now stacks.old at)
-        (inside_size shape stacks.old) (container_ends T.made settings bytes.now shape stacks.old at)
-        stacks.new result }
-    ensures keys { OnOk (outcome stacks.new result.1)
-        (LeavesKeys stacks.old.members.items stacks.new.members.items) }
+    ensures leads { Proceeds T.made reading.old.settings bytes.now at (left bytes.now reading.old.stacks at)
+        (inside_size shape reading.old.stacks) (container_ends T.made reading.old.settings bytes.now shape reading.old.stacks at)
+        reading.new.stacks result }
+    ensures keys { OnOk (outcome reading.new.stacks result.1)
+        (LeavesKeys reading.old.stacks.members.items reading.new.stacks.members.items) }
+    ensures settings { reading.new.settings ≡ reading.old.settings }
 {
-    match close(alloc, stacks, shape) {
-        Ok(outer) => after::<T>(alloc, stacks, bytes, at, settings, outer),
-        Err(refused) => no_memory(stacks, refused, at),
+    match close(reading.alloc, &mut reading.stacks, shape) {
+        Ok(outer) => after::<T>(reading, bytes, at, outer),
+        Err(refused) => no_memory(&mut reading.stacks, refused, at),
     }
 }
 
@@ -228,30 +236,29 @@ fn put_empty(
 // An empty container ends before `end`, and the steps behind it.
 #[inline(always)]
 fn empty<'s, T: Texts<'s>>(
-    alloc: Global,
-    stacks: &mut Stacks<'s>,
+    reading: &mut Reading<'s>,
     bytes: &[u8],
     end: usize,
-    settings: Settings,
     slot: Slot,
     shape: Shape,
 ) -> (usize, State)
-    requires stands { Stands stacks.old slot }
-    requires levels { length stacks.old.nest.items ≤ nesting_limit }
+    requires stands { Stands reading.old.stacks slot }
+    requires levels { length reading.old.stacks.nest.items ≤ nesting_limit }
     requires within { end ≤ length bytes.now }
-    ensures leads { Proceeds T.made settings bytes.now end (left bytes.now stacks.old end + 1)
-        (value_size stacks.old slot + 1) (resume_with T.made settings bytes.now stacks.old slot
+    ensures leads { Proceeds T.made reading.old.settings bytes.now end (left bytes.now reading.old.stacks end + 1)
+        (value_size reading.old.stacks slot + 1) (resume_with T.made reading.old.settings bytes.now reading.old.stacks slot
         (done (empty_tree shape) end))
-        stacks.new result }
-    ensures memory { WhereRefused (outcome stacks.new result.1) (slot ≢ Slot.Root) }
+        reading.new.stacks result }
+    ensures memory { WhereRefused (outcome reading.new.stacks result.1) (slot ≢ Slot.Root) }
     ensures root { slot ≡ Slot.Root
-        → IfOk (outcome stacks.new result.1) (λ a. a ≡ State.Done) }
-    ensures keys { OnOk (outcome stacks.new result.1)
-        (LeavesKeys stacks.old.members.items stacks.new.members.items) }
+        → IfOk (outcome reading.new.stacks result.1) (λ a. a ≡ State.Done) }
+    ensures keys { OnOk (outcome reading.new.stacks result.1)
+        (LeavesKeys reading.old.stacks.members.items reading.new.stacks.members.items) }
+    ensures settings { reading.new.settings ≡ reading.old.settings }
 {
-    match put_empty(alloc, stacks, slot, shape) {
-        Ok(()) => after::<T>(alloc, stacks, bytes, end, settings, slot),
-        Err(refused) => no_memory(stacks, refused, end),
+    match put_empty(reading.alloc, &mut reading.stacks, slot, shape) {
+        Ok(()) => after::<T>(reading, bytes, end, slot),
+        Err(refused) => no_memory(&mut reading.stacks, refused, end),
     }
 }
 
@@ -283,73 +290,72 @@ fn base_of(stacks: &Stacks<'_>, shape: Shape) -> usize
 // The container whose bracket is at `at` and whose first part begins at `next` stands open.
 #[inline(always)]
 fn open<'s, T: Texts<'s>>(
-    stacks: &mut Stacks<'s>,
+    reading: &mut Reading<'s>,
     bytes: &[u8],
     at: usize,
     next: usize,
-    settings: Settings,
     slot: Slot,
     shape: Shape,
 ) -> (usize, State)
-    requires stands { Stands stacks.old slot }
-    requires levels { length stacks.old.nest.items ≤ nesting_limit }
+    requires stands { Stands reading.old.stacks slot }
+    requires levels { length reading.old.stacks.nest.items ≤ nesting_limit }
     requires within { (at < next) × (next < length bytes.now) }
     requires bracket { start_of (slice_index bytes.now at) ≡ opening shape }
     requires part { step bytes.now (container_first shape) (at + 1) ≡ more next }
-    ensures leads { Proceeds T.made settings bytes.now at (left bytes.now stacks.old at)
-        (value_size stacks.old slot + 1) (from_value T.made settings bytes.now stacks.old slot at)
-        stacks.new result }
-    ensures keys { OnOk (outcome stacks.new result.1)
-        (LeavesKeys stacks.old.members.items stacks.new.members.items) }
+    ensures leads { Proceeds T.made reading.old.settings bytes.now at (left bytes.now reading.old.stacks at)
+        (value_size reading.old.stacks slot + 1) (from_value T.made reading.old.settings bytes.now reading.old.stacks slot at)
+        reading.new.stacks result }
+    ensures keys { OnOk (outcome reading.new.stacks result.1)
+        (LeavesKeys reading.old.stacks.members.items reading.new.stacks.members.items) }
+    ensures settings { reading.new.settings ≡ reading.old.settings }
 {
-    if is_full(stacks, shape) {
-        return too_deep(stacks, next);
+    if is_full(&reading.stacks, shape) {
+        return too_deep(&mut reading.stacks, next);
     }
-    let base = base_of(stacks, shape);
+    let base = base_of(&reading.stacks, shape);
     let container = Open { outer: slot, base };
-    match push_small(&mut stacks.nest, container) {
+    match push_small(&mut reading.stacks.nest, container) {
         Ok(()) => (next, part_of(shape)),
-        Err(refused) => no_memory(stacks, refused, next),
+        Err(refused) => no_memory(&mut reading.stacks, refused, next),
     }
 }
 
 /// The container whose bracket is at `at`.
 #[inline(always)]
 pub fn begin<'s, T: Texts<'s>>(
-    alloc: Global,
-    stacks: &mut Stacks<'s>,
+    reading: &mut Reading<'s>,
     bytes: &[u8],
     at: usize,
-    settings: Settings,
     slot: Slot,
     shape: Shape,
 ) -> (usize, State)
-    requires at_value { IsAtValue bytes.now stacks.old slot at }
+    requires at_value { IsAtValue bytes.now reading.old.stacks slot at }
     requires bracket { start_of (slice_index bytes.now at) ≡ opening shape }
-    ensures leads { Proceeds T.made settings bytes.now at (left bytes.now stacks.old at)
-        (value_size stacks.old slot + 1) (from_value T.made settings bytes.now stacks.old slot at)
-        stacks.new result }
+    ensures leads { Proceeds T.made reading.old.settings bytes.now at (left bytes.now reading.old.stacks at)
+        (value_size reading.old.stacks slot + 1) (from_value T.made reading.old.settings bytes.now reading.old.stacks slot at)
+        reading.new.stacks result }
     ensures memory { slot ≡ Slot.Root
-        → MayGrowFor (outcome stacks.new result.1) (MayGrowAt bytes.now at) }
-    ensures keys { OnOk (outcome stacks.new result.1)
-        (LeavesKeys stacks.old.members.items stacks.new.members.items) }
+        → MayGrowFor (outcome reading.new.stacks result.1) (MayGrowAt bytes.now at) }
+    ensures keys { OnOk (outcome reading.new.stacks result.1)
+        (LeavesKeys reading.old.stacks.members.items reading.new.stacks.members.items) }
+    ensures settings { reading.new.settings ≡ reading.old.settings }
 {
     let (next, what) = plain_first(bytes, at + 1, shape);
     match what {
-        Next::Part => return open::<T>(stacks, bytes, at, next, settings, slot, shape),
+        Next::Part => return open::<T>(reading, bytes, at, next, slot, shape),
         _ => {}
     }
     if !ends(
-        stacks,
+        &mut reading.stacks,
         bytes,
         at,
         next,
         what,
-        settings,
+        reading.settings,
         Behind::Bracket,
         shape,
     ) {
         return (next, State::GivenUp);
     }
-    empty::<T>(alloc, stacks, bytes, next, settings, slot, shape)
+    empty::<T>(reading, bytes, next, slot, shape)
 }

@@ -21,6 +21,7 @@ ghost use Rattle.jiter_value.specs.declared.value.JsonValue.TheVariants.{Int};
 use crate::settings::{Settings, forgives};
 use crate::stacks::{Slot, Stacks, State, give_up, no_memory, put, too_deep};
 use crate::texts::Texts;
+use crate::turns::Reading;
 use crate::turns::containers::{after, close_and_go_on};
 use crate::turns::scalar::scalar;
 use crate::value::JsonValue;
@@ -35,36 +36,35 @@ use std::borrow::CowStr;
 #[cold]
 #[inline(never)]
 fn fault_at_value<'s, T: Texts<'s>>(
-    alloc: Global,
-    stacks: &mut Stacks<'s>,
+    reading: &mut Reading<'s>,
     bytes: &[u8],
     at: usize,
-    settings: Settings,
     problem: Fault,
     slot: Slot,
 ) -> (usize, State)
-    requires stands { Stands stacks.old slot }
-    requires levels { length stacks.old.nest.items ≤ nesting_limit }
+    requires stands { Stands reading.old.stacks slot }
+    requires levels { length reading.old.stacks.nest.items ≤ nesting_limit }
     requires within { at ≤ length bytes.now }
-    ensures leads { Proceeds T.made settings bytes.now at (left bytes.now stacks.old at)
-        (value_size stacks.old slot) (resume_with T.made settings bytes.now stacks.old slot
+    ensures leads { Proceeds T.made reading.old.settings bytes.now at (left bytes.now reading.old.stacks at)
+        (value_size reading.old.stacks slot) (resume_with T.made reading.old.settings bytes.now reading.old.stacks slot
         (fault (fault_kind problem.kind) problem.index at))
-        stacks.new result }
-    ensures memory { WhereRefused (outcome stacks.new result.1) (slot ≢ Slot.Root) }
-    ensures root { OnOk (outcome stacks.new result.1) (slot ≢ Slot.Root) }
-    ensures keys { OnOk (outcome stacks.new result.1)
-        (LeavesKeys stacks.old.members.items stacks.new.members.items) }
+        reading.new.stacks result }
+    ensures memory { WhereRefused (outcome reading.new.stacks result.1) (slot ≢ Slot.Root) }
+    ensures root { OnOk (outcome reading.new.stacks result.1) (slot ≢ Slot.Root) }
+    ensures keys { OnOk (outcome reading.new.stacks result.1)
+        (LeavesKeys reading.old.stacks.members.items reading.new.stacks.members.items) }
+    ensures settings { reading.new.settings ≡ reading.old.settings }
 {
-    if !forgives(settings.mode, problem.kind) {
-        return give_up(stacks, problem, at);
+    if !forgives(reading.settings.mode, problem.kind) {
+        return give_up(&mut reading.stacks, problem, at);
     }
     match slot {
-        Slot::Item => close_and_go_on::<T>(alloc, stacks, bytes, at, settings, Shape::Array),
+        Slot::Item => close_and_go_on::<T>(reading, bytes, at, Shape::Array),
         Slot::Member => {
-            let _ = stacks.members.pop();
-            close_and_go_on::<T>(alloc, stacks, bytes, at, settings, Shape::Object)
+            let _ = reading.stacks.members.pop();
+            close_and_go_on::<T>(reading, bytes, at, Shape::Object)
         }
-        Slot::Root => give_up(stacks, problem, at),
+        Slot::Root => give_up(&mut reading.stacks, problem, at),
     }
 }
 
@@ -72,64 +72,67 @@ fn fault_at_value<'s, T: Texts<'s>>(
 #[cold]
 #[inline(never)]
 fn fault_at_key<'s, T: Texts<'s>>(
-    alloc: Global,
-    stacks: &mut Stacks<'s>,
+    reading: &mut Reading<'s>,
     bytes: &[u8],
     at: usize,
-    settings: Settings,
     problem: Fault,
 ) -> (usize, State)
-    requires stands { StandsAtKey stacks.old }
-    requires levels { length stacks.old.nest.items ≤ nesting_limit + 1 }
+    requires stands { StandsAtKey reading.old.stacks }
+    requires levels { length reading.old.stacks.nest.items ≤ nesting_limit + 1 }
     requires within { at ≤ length bytes.now }
-    ensures leads { Proceeds T.made settings bytes.now at (left bytes.now stacks.old at)
-        (key_size stacks.old) (key_fault T.made settings bytes.now stacks.old
+    ensures leads { Proceeds T.made reading.old.settings bytes.now at (left bytes.now reading.old.stacks at)
+        (key_size reading.old.stacks) (key_fault T.made reading.old.settings bytes.now reading.old.stacks
         (fault_kind problem.kind) problem.index at)
-        stacks.new result }
-    ensures keys { OnOk (outcome stacks.new result.1)
-        (LeavesKeys stacks.old.members.items stacks.new.members.items) }
+        reading.new.stacks result }
+    ensures keys { OnOk (outcome reading.new.stacks result.1)
+        (LeavesKeys reading.old.stacks.members.items reading.new.stacks.members.items) }
+    ensures settings { reading.new.settings ≡ reading.old.settings }
 {
-    if !forgives(settings.mode, problem.kind) {
-        return give_up(stacks, problem, at);
+    if !forgives(reading.settings.mode, problem.kind) {
+        return give_up(&mut reading.stacks, problem, at);
     }
-    close_and_go_on::<T>(alloc, stacks, bytes, at, settings, Shape::Object)
+    close_and_go_on::<T>(reading, bytes, at, Shape::Object)
 }
 
 /// Any scalar where a value is awaited, or the fault there.
 #[cold]
 #[inline(never)]
 pub fn general_scalar<'s, T: Texts<'s>>(
-    alloc: Global,
+    reading: &mut Reading<'s>,
     texts: T,
-    tape: &mut Vec<u8>,
-    stacks: &mut Stacks<'s>,
     bytes: &[u8],
     at: usize,
-    settings: Settings,
     slot: Slot,
 ) -> (usize, State)
     requires texts { T.of texts bytes.now }
-    requires at_value { IsAtValue bytes.now stacks.old slot at }
+    requires at_value { IsAtValue bytes.now reading.old.stacks slot at }
     requires array { start_of (slice_index bytes.now at) ≢ Start.Array }
     requires object { start_of (slice_index bytes.now at) ≢ Start.Object }
-    ensures leads { Proceeds T.made settings bytes.now at (left bytes.now stacks.old at)
-        (value_size stacks.old slot + 1) (from_value T.made settings bytes.now stacks.old slot at)
-        stacks.new result }
+    ensures leads { Proceeds T.made reading.old.settings bytes.now at (left bytes.now reading.old.stacks at)
+        (value_size reading.old.stacks slot + 1) (from_value T.made reading.old.settings bytes.now reading.old.stacks slot at)
+        reading.new.stacks result }
     ensures memory { slot ≡ Slot.Root
-        → MayGrowFor (outcome stacks.new result.1) (MayGrowBy T.wants bytes.now at) }
-    ensures keys { OnOk (outcome stacks.new result.1)
-        (LeavesKeys stacks.old.members.items stacks.new.members.items) }
+        → MayGrowFor (outcome reading.new.stacks result.1) (MayGrowBy T.wants bytes.now at) }
+    ensures keys { OnOk (outcome reading.new.stacks result.1)
+        (LeavesKeys reading.old.stacks.members.items reading.new.stacks.members.items) }
+    ensures settings { reading.new.settings ≡ reading.old.settings }
 {
     let mut parser = Parser { bytes, index: at };
-    match scalar(alloc, texts, tape, &mut parser, settings) {
-        Ok(value) => match put(stacks, slot, value) {
-            Ok(()) => after::<T>(alloc, stacks, bytes, parser.index, settings, slot),
-            Err(refused) => no_memory(stacks, refused, parser.index),
+    match scalar(
+        reading.alloc,
+        texts,
+        &mut reading.tape,
+        &mut parser,
+        reading.settings,
+    ) {
+        Ok(value) => match put(&mut reading.stacks, slot, value) {
+            Ok(()) => after::<T>(reading, bytes, parser.index, slot),
+            Err(refused) => no_memory(&mut reading.stacks, refused, parser.index),
         },
         Err(ReadError::Fault(fault)) => {
-            fault_at_value::<T>(alloc, stacks, bytes, parser.index, settings, fault, slot)
+            fault_at_value::<T>(reading, bytes, parser.index, fault, slot)
         }
-        Err(ReadError::Memory(refused)) => no_memory(stacks, refused, parser.index),
+        Err(ReadError::Memory(refused)) => no_memory(&mut reading.stacks, refused, parser.index),
     }
 }
 
@@ -158,42 +161,38 @@ fn push_key<'s, T: Texts<'s>>(
 /// Any key at `at`, with its colon.
 #[inline(never)]
 pub fn general_key<'s, T: Texts<'s>>(
-    alloc: Global,
+    reading: &mut Reading<'s>,
     texts: T,
-    tape: &mut Vec<u8>,
-    stacks: &mut Stacks<'s>,
     bytes: &[u8],
     at: usize,
-    settings: Settings,
 ) -> (usize, State)
     requires texts { T.of texts bytes.now }
-    requires stands { StandsAtKey stacks.old }
-    requires levels { length stacks.old.nest.items ≤ nesting_limit + 1 }
+    requires stands { StandsAtKey reading.old.stacks }
+    requires levels { length reading.old.stacks.nest.items ≤ nesting_limit + 1 }
     requires within { at < length bytes.now }
-    requires free { IsFree T.made bytes.now stacks.old at }
-    ensures leads { Proceeds T.made settings bytes.now at (left bytes.now stacks.old at)
-        (key_size stacks.old + 1) (from_key T.made settings bytes.now stacks.old at)
-        stacks.new result }
-    ensures keys { OnOk (outcome stacks.new result.1)
-        (KeepsKeys T.made bytes.now stacks.old.members.items State.Key at stacks.new.members.items) }
+    requires free { IsFree T.made bytes.now reading.old.stacks at }
+    ensures leads { Proceeds T.made reading.old.settings bytes.now at (left bytes.now reading.old.stacks at)
+        (key_size reading.old.stacks + 1) (from_key T.made reading.old.settings bytes.now reading.old.stacks at)
+        reading.new.stacks result }
+    ensures keys { OnOk (outcome reading.new.stacks result.1)
+        (KeepsKeys T.made bytes.now reading.old.stacks.members.items State.Key at reading.new.stacks.members.items) }
+    ensures settings { reading.new.settings ≡ reading.old.settings }
 {
     let mut parser = Parser { bytes, index: at };
-    match parser.string(alloc, tape, false) {
+    match parser.string(reading.alloc, &mut reading.tape, false) {
         Ok(key) => match parser.object_colon() {
             Ok(()) => {
-                if stacks.nest.len() > NESTING_LIMIT {
-                    return too_deep(stacks, parser.index);
+                if reading.stacks.nest.len() > NESTING_LIMIT {
+                    return too_deep(&mut reading.stacks, parser.index);
                 }
-                match push_key(texts, &mut stacks.members, bytes, at + 1, key) {
+                match push_key(texts, &mut reading.stacks.members, bytes, at + 1, key) {
                     Ok(()) => (parser.index, State::Member),
-                    Err(refused) => no_memory(stacks, refused, parser.index),
+                    Err(refused) => no_memory(&mut reading.stacks, refused, parser.index),
                 }
             }
-            Err(fault) => fault_at_key::<T>(alloc, stacks, bytes, parser.index, settings, fault),
+            Err(fault) => fault_at_key::<T>(reading, bytes, parser.index, fault),
         },
-        Err(ReadError::Fault(fault)) => {
-            fault_at_key::<T>(alloc, stacks, bytes, parser.index, settings, fault)
-        }
-        Err(ReadError::Memory(refused)) => no_memory(stacks, refused, parser.index),
+        Err(ReadError::Fault(fault)) => { fault_at_key::<T>(reading, bytes, parser.index, fault) }
+        Err(ReadError::Memory(refused)) => no_memory(&mut reading.stacks, refused, parser.index),
     }
 }

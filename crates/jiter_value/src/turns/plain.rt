@@ -16,7 +16,8 @@ ghost use Rattle.jiter_value.specs.Turns.{IsAtValue, IsPutAt, IsKeyAt, IsRefused
 ghost use Rattle.jiter_value.specs.Value.{view, MayGrowBy};
 
 use crate::stacks::{Slot, Stacks, has_room, put_reserved};
-use crate::texts::{Texts, keep_decoded, keep_lent, keep_number};
+use crate::texts::{Texts, keep_decoded, keep_lent};
+use crate::turns::Reading;
 use crate::value::JsonValue;
 use jiter_scan::memory::Refused;
 use jiter_scan::number_extent::minus_end;
@@ -208,7 +209,7 @@ fn put_plain_number<'s, T: Texts<'s>>(
             (end, Plain::Put)
         }
         PlainNumber::Float(end) => {
-            match keep_number(texts, bytes, at, ascii_text(&bytes[at..end])) {
+            match keep_lent(texts, bytes, at, ascii_text(&bytes[at..end])) {
                 Ok(text) => {
                     put_reserved(stacks, slot, JsonValue::Float(text));
                     (end, Plain::Put)
@@ -252,31 +253,38 @@ fn put_plain_literal<'s, T: Texts<'s>>(
 /// A plain scalar, or any whole string, goes where it belongs, if there is room for it: the place behind it.
 #[inline(always)]
 pub fn put_plain_scalar<'s, T: Texts<'s>>(
-    alloc: Global,
+    reading: &mut Reading<'s>,
     texts: T,
-    tape: &mut Vec<u8>,
-    stacks: &mut Stacks<'s>,
     bytes: &[u8],
     at: usize,
     slot: Slot,
 ) -> (usize, Plain)
     requires texts { T.of texts bytes.now }
-    requires at_value { IsAtValue bytes.now stacks.old slot at }
-    ensures put { result.1 ≡ Plain.Put → IsPutAt T.made bytes.now stacks.old at slot stacks.new result.0 }
-    ensures other { result.1 ≡ Plain.Other → stacks.new ≡ stacks.old }
-    ensures refused { result.1 ≡ Plain.Refused → IsRefusedAt bytes.now at stacks.new result.0 }
+    requires at_value { IsAtValue bytes.now reading.old.stacks slot at }
+    ensures put { result.1 ≡ Plain.Put → IsPutAt T.made bytes.now reading.old.stacks at slot reading.new.stacks result.0 }
+    ensures other { result.1 ≡ Plain.Other → reading.new.stacks ≡ reading.old.stacks }
+    ensures refused { result.1 ≡ Plain.Refused → IsRefusedAt bytes.now at reading.new.stacks result.0 }
     ensures memory { result.1 ≡ Plain.Refused → MayGrowBy T.wants bytes.now at }
-    ensures keys { result.1 ≡ Plain.Put → LeavesKeys stacks.old.members.items stacks.new.members.items }
+    ensures keys { result.1 ≡ Plain.Put → LeavesKeys reading.old.stacks.members.items reading.new.stacks.members.items }
+    ensures settings { reading.new.settings ≡ reading.old.settings }
 {
-    if !has_room(stacks, slot) {
+    if !has_room(&reading.stacks, slot) {
         return (at, Plain::Other);
     }
     match bytes[at] {
-        b'"' => put_plain_text(alloc, texts, tape, stacks, bytes, at, slot),
-        b'0'..=b'9' | b'-' => put_plain_number(texts, stacks, bytes, at, slot),
-        b'n' => put_plain_literal::<T>(stacks, bytes, at, slot, Literal::Null),
-        b't' => put_plain_literal::<T>(stacks, bytes, at, slot, Literal::True),
-        b'f' => put_plain_literal::<T>(stacks, bytes, at, slot, Literal::False),
+        b'"' => put_plain_text(
+            reading.alloc,
+            texts,
+            &mut reading.tape,
+            &mut reading.stacks,
+            bytes,
+            at,
+            slot,
+        ),
+        b'0'..=b'9' | b'-' => put_plain_number(texts, &mut reading.stacks, bytes, at, slot),
+        b'n' => put_plain_literal::<T>(&mut reading.stacks, bytes, at, slot, Literal::Null),
+        b't' => put_plain_literal::<T>(&mut reading.stacks, bytes, at, slot, Literal::True),
+        b'f' => put_plain_literal::<T>(&mut reading.stacks, bytes, at, slot, Literal::False),
         _ => (at, Plain::Other),
     }
 }

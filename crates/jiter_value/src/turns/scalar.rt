@@ -14,7 +14,7 @@ ghost use Rattle.jiter_steps.specs.StringDecoder.{WantsMemory};
 ghost use Rattle.jiter_value.specs.Value.{view, MayGrowBy};
 
 use crate::settings::Settings;
-use crate::texts::Texts;
+use crate::texts::{Texts, keep_lent};
 use crate::value::JsonValue;
 use jiter_scan::errors::{Fault, FaultKind};
 use jiter_scan::memory::Refused;
@@ -52,11 +52,11 @@ fn number_value<'s, T: Texts<'s>>(
     match number {
         NumberAny::Int(NumberInt::Int(integer)) => Ok(JsonValue::Int(integer)),
         NumberAny::Int(NumberInt::BigInt(text)) => {
-            let kept = texts.keep_number(bytes, at, text)?;
+            let kept = keep_lent(texts, bytes, at, text)?;
             Ok(JsonValue::BigInt(kept))
         }
         NumberAny::Float(text) => {
-            let kept = texts.keep_number(bytes, at, text)?;
+            let kept = keep_lent(texts, bytes, at, text)?;
             Ok(JsonValue::Float(kept))
         }
     }

@@ -12,16 +12,15 @@ ghost use Rattle.jiter_steps.specs.Unique.{behind_its_colon};
 ghost use Rattle.jiter_value.specs.Settings.{lent_unique, rules_as};
 ghost use Rattle.jiter_value.specs.KeySets.{HasKeys, IsUpToDate};
 ghost use Rattle.jiter_value.specs.Stacks.{StandsAtKey, IsFree, keys_of, keys_then, refused_in};
-ghost use Rattle.jiter_value.specs.Turns.{IsWithin};
-ghost use Rattle.jiter_value.specs.UniqueKeys.{has_key, innermost_base, fault_of, StopsAtKey, GivesUnique};
+ghost use Rattle.jiter_value.specs.Scratch.{HoldsNothing};
+ghost use Rattle.jiter_value.specs.UniqueKeys.{has_key, innermost_base, fault_of, HasStopped, StopsAtKey, GivesUnique};
 ghost use Rattle.jiter_value.specs.UniqueKeys.{WhereUniqueRefused};
 ghost use Rattle.jiter_value.specs.Value.{MayGrowBy};
 
-use crate::settings::Settings;
 use crate::stacks::{Open, Stacks, State, take_error, take_root};
 use crate::texts::{Distinct, Texts};
 use crate::turns::key_sets::{KeySet, forget_closed, is_new_key};
-use crate::turns::turn;
+use crate::turns::{Keys, Reading};
 use crate::value::JsonValue;
 use jiter_scan::memory::{Refused, copy_text};
 use jiter_scan::text::ascii_text;
@@ -275,78 +274,115 @@ fn stop_at_key<'s>(
     }
 }
 
-// The same of a turn at any state: where no key is awaited, nothing stops the reading.
-#[inline(always)]
-fn stop_before<'s>(
-    alloc: Global,
+/// No key may stand where its object has it already.
+#[derive(Drop)]
+pub struct NewKeys<'s> {
     texts: Distinct<'s>,
-    tape: &mut Vec<u8>,
-    sets: &mut Vec<KeySet<'s>>,
-    stacks: &Stacks<'s>,
-    bytes: &[u8],
-    at: usize,
-    state: State,
-) -> Option<(Stopped, usize)>
-    requires texts { texts.bytes.now ≡ bytes.now }
-    requires within { IsWithin bytes.now stacks.now state at }
-    requires sets { All (HasKeys (keys_of stacks.now.members.items)) sets.old.items }
-    ensures sets { result ≡ None
-        → All (HasKeys (keys_then lent_unique bytes.now stacks.now.members.items state at)) sets.new.items }
-    ensures free { result ≡ None → state ≡ State.Key → IsFree lent_unique bytes.now stacks.now at }
-    ensures key { IfSome result (λ r. state ≡ State.Key) }
-    ensures stops { IfSome result (λ r. StopsAtKey bytes.now stacks.now at r.0 r.1) }
-    ensures place { IfSome result (λ r. (at ≤ r.1) × (r.1 ≤ length bytes.now)) }
-{
-    match state {
-        State::Key => stop_at_key(alloc, texts, tape, sets, stacks, bytes, at),
-        _ => None,
+    sets: Vec<KeySet<'s>>,
+    stopped: Option<(Stopped, usize)>,
+}
+
+impl<'s> NewKeys<'s> {
+    // Whether the key at `at` is new, by all ways to tell.
+    #[cold]
+    #[inline(never)]
+    fn is_new(
+        &mut self,
+        alloc: Global,
+        tape: &mut Vec<u8>,
+        stacks: &Stacks<'s>,
+        bytes: &[u8],
+        at: usize,
+    ) -> bool
+        requires texts { self.old.texts.bytes.now ≡ bytes.now }
+        requires stands { StandsAtKey stacks.now }
+        requires within { at < length bytes.now }
+        requires sets { All (HasKeys (keys_of stacks.now.members.items)) self.old.sets.items }
+        ensures sets { result ≡ true
+            → All (HasKeys (keys_then lent_unique bytes.now stacks.now.members.items State.Key at)) self.new.sets.items }
+        ensures free { result ≡ true → IsFree lent_unique bytes.now stacks.now at }
+        ensures refused { result ≡ false → HasStopped self.new.stopped bytes.now stacks.now at }
+        ensures texts { self.new.texts ≡ self.old.texts }
+    {
+        match stop_at_key(alloc, self.texts, tape, &mut self.sets, stacks, bytes, at) {
+            None => true,
+            Some(stopped) => {
+                self.stopped = Some(stopped);
+                false
+            }
+        }
+    }
+}
+
+impl<'s> Keys<'s> for NewKeys<'s> {
+    ghost serves = { λ k made t. (made ≡ lent_unique) × (k.texts.bytes.now ≡ t) };
+
+    ghost knows = { λ k ks. All (HasKeys ks) k.sets.items };
+
+    ghost refuses = { λ k t s j. HasStopped k.stopped t s j };
+
+    // A key among a few is told at once.
+    #[inline(never)]
+    fn may_stand(
+        &mut self,
+        alloc: Global,
+        tape: &mut Vec<u8>,
+        stacks: &Stacks<'s>,
+        bytes: &[u8],
+        at: usize,
+    ) -> bool {
+        let base = innermost_base(&stacks.nest);
+        if self.sets.is_empty()
+            && stacks.members.len() - base <= FEW
+            && is_new_plain_key(stacks, bytes, base, at)
+        {
+            return true;
+        }
+        self.is_new(alloc, tape, stacks, bytes, at)
     }
 }
 
 /// The value that begins where the reader stands, each of its texts lent, if no object in it has a key twice.
 pub fn run_unique<'s>(
-    alloc: Global,
+    reading: &mut Reading<'s>,
     texts: Distinct<'s>,
-    tape: &mut Vec<u8>,
-    stacks: &mut Stacks<'s>,
     parser: &mut Parser<'_>,
-    settings: Settings,
 ) -> Result<JsonValue<'s>, Stopped>
     requires texts { texts.bytes.now ≡ parser.old.bytes.now }
     requires within { parser.old.index < length parser.old.bytes.now }
-    requires nest { stacks.old.nest.items ≡ [] }
-    requires items { stacks.old.items.items ≡ [] }
-    requires members { stacks.old.members.items ≡ [] }
+    requires holds { HoldsNothing reading.old.stacks }
     ensures moves { Moves parser.old parser.new }
     ensures value { GivesUnique result parser.new.index
-        (value_at (rules_as lent_unique settings) parser.old.bytes.now nesting_limit parser.old.index) }
+        (value_at (rules_as lent_unique reading.old.settings) parser.old.bytes.now nesting_limit parser.old.index) }
     ensures memory { WhereUniqueRefused result (MayGrowBy ⊥ parser.old.bytes.now parser.old.index) }
+    ensures settings { reading.new.settings ≡ reading.old.settings }
 {
+    let mut keys = NewKeys {
+        texts,
+        sets: Vec::new(reading.alloc),
+        stopped: None,
+    };
+    reading.state = State::Root;
+    reading.at = parser.index;
     let bytes = parser.bytes;
-    let mut at = parser.index;
-    let mut state = State::Root;
-    let mut sets = Vec::new(alloc);
-    'turning: loop {
-        match stop_before(alloc, texts, tape, &mut sets, stacks, bytes, at, state) {
-            Some((stopped, place)) => {
-                parser.index = place;
-                return Err(stopped);
+    let state = reading.go(texts, &mut keys, bytes, false);
+    parser.index = reading.at;
+    match state {
+        State::Done => Ok(take_root(&mut reading.stacks)),
+        State::GivenUp => Err(Stopped::Read(take_error(&mut reading.stacks))),
+        _ => {
+            let NewKeys {
+                texts: _,
+                sets: _,
+                stopped,
+            } = keys;
+            match stopped {
+                Some((why, place)) => {
+                    parser.index = place;
+                    Err(why)
+                }
+                None => unreachable!(),
             }
-            None => {}
-        }
-        let (next, what) = turn(alloc, texts, tape, stacks, bytes, at, settings, state);
-        at = next;
-        state = what;
-        match state {
-            State::Done => {
-                parser.index = at;
-                return Ok(take_root(stacks));
-            }
-            State::GivenUp => {
-                parser.index = at;
-                return Err(Stopped::Read(take_error(stacks)));
-            }
-            _ => {}
         }
     }
 }

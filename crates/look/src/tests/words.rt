@@ -4,7 +4,7 @@ use crate::asking::words;
 use crate::running::End;
 use crate::words::Words;
 use jiter::PartialMode;
-use std::alloc::Global;
+use std::alloc::{AllocError, Global};
 use std::test::*;
 
 // Whether words ask for this.
@@ -90,8 +90,23 @@ fn other_words_get_the_usage_line(rt: HostRuntime) {
 }
 
 #[test]
-fn each_end_has_a_status(rt: HostRuntime) {
-    for (end, status) in [(End::Shown, 0), (End::Refused, 1), (End::Failed, 3)] {
+fn each_end_has_a_status_and_a_name(rt: HostRuntime) -> Result<(), AllocError> {
+    for (end, status, name) in [
+        (End::Shown, 0, "Shown"),
+        (End::Refused, 1, "Refused"),
+        (End::Failed, 3, "Failed"),
+    ] {
         assert_eq!(rt; end.status(), status);
+        assert_eq!(rt; format!(in rt.alloc(); "{end:?}")?.as_str(), name);
     }
+    let asked = Words {
+        mode: PartialMode::TrailingStrings,
+        inf_nan: true,
+        unique: false,
+    };
+    assert_eq!(rt;
+        format!(in rt.alloc(); "{asked:?}")?.as_str(),
+        "Words { mode: TrailingStrings, inf_nan: true, unique: false }"
+    );
+    Ok(())
 }

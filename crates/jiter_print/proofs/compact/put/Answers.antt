@@ -1,4 +1,4 @@
-use Rattle.std.proofs.Common.{◌≡◌, ◌+◌, ◌++◌, ◌∙◌, ap, arith, length, take, drop, take_at}
+use Rattle.std.proofs.Common.{◌+◌, ◌++◌, ◌∙◌, ap, arith, length, take, drop, take_at}
 use Rattle.jiter_print.proofs.compact.put.Goals as goal
 
 pub returns-clause-text : goal.returns-clause-text

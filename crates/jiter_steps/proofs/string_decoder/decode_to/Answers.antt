@@ -1,25 +1,48 @@
-use Rattle.std.proofs.Common.{◌∙◌, refl, ap}
-use Rattle.std.specs.Prelude.{Some}
-use Rattle.std.proofs.lemmas.Option.{slice_get-get_or}
-use Rattle.jiter_steps.specs.StringReading.{text_form}
-use Rattle.jiter_steps.proofs.Calls.Decoded.{decoded-closed}
+use Rattle.std.proofs.Common.{◌+◌, ◌∙◌, true, refl, ap, take}
+use Rattle.std.proofs.lemmas.Result.{err_from_is_err_and}
+use Rattle.jiter_scan.specs.Scanned.{taken}
+use Rattle.jiter_steps.specs.StringReading.{body_at, text_form}
+use Rattle.jiter_steps.proofs.Calls.Decoded.{front-front}
 use Rattle.jiter_steps.proofs.Calls.StringAnswers.{string-escaped}
 use Rattle.jiter_steps.proofs.string_decoder.decode_to.Goals as goal
 
-pub returns-then-bytes-next-eq34-clause-value : goal.returns-then-bytes-next-eq34-clause-value
-returns-then-bytes-next-eq34-clause-value c =
+pub returns-in_err-end-clause-value : goal.returns-in_err-end-clause-value
+returns-in_err-end-clause-value c =
     let t = c.args.bytes.now in
     let r = c.requires in
-    let p = c.decode_plain-next in
-    let next = p.result.0 in
-    let quote = slice_get-get_or t next 0 c.if-next-bytes.true ∙ ap Some c.if-bytes-next-eq34.true in
-    decoded-closed t c.args.at r.within c.args.keep r.backslash _ next p.ensures.text p.ensures.stop quote
-    (p.ensures.utf8 c.if-utf8.true)
+    let d = c.in_ok-count.ensures in
+    let p = err_from_is_err_and c.from_residual-in_err-end.result c.from_residual-in_err-end.ensures.1 in
+    rw (string-escaped t c.args.at r.within _ refl (text_form c.args.keep) r.backslash, p.1, p.2)
+    (rw (← d.stop) (c.in_err-end.ensures (c.args.at + 1) (body_at t (c.args.at + 1)).bytes true))
 
-pub returns-clause-value : goal.returns-clause-value
-returns-clause-value c =
+pub returns-in-Ok-clause-value : goal.returns-in-Ok-clause-value
+returns-in-Ok-clause-value c =
     let t = c.args.bytes.now in
+    let i = c.args.at + 1 in
     let r = c.requires in
-    let p = c.decode_plain-next.ensures in
-    rw (string-escaped t c.args.at r.within _ refl (text_form c.args.keep) r.backslash, p.text, p.stop)
-    c.decode_on.ensures.value
+    let d = c.in_ok-count.ensures in
+    let count = c.in_ok-count.count in
+    let items = c.as_slice.ensures.value in
+    let text = ap (take count) items ∙ d.text in
+    let over = c.in_ok-end.ensures i (body_at t i).bytes true in
+    rw (string-escaped t c.args.at r.within _ refl (text_form c.args.keep) r.backslash, ← d.stop, over, ← text)
+    (c.in-Ok.ensures.value i c.in_ok-end.end
+    ∙ ap (λ w. taken (record { owned = true; bytes = w }) c.in_ok-end.end)
+    (front-front _ count c.in-Ok.fit c.in-Ok.ensures.front ∙ ap (take c.in-Ok.fit) items))
+
+pub returns-in-Err-clause-value : goal.returns-in-Err-clause-value
+returns-in-Err-clause-value c =
+    let t = c.args.bytes.now in
+    let i = c.args.at + 1 in
+    let r = c.requires in
+    let d = c.in_ok-count.ensures in
+    let text = ap (take c.in_ok-count.count) c.as_slice.ensures.value ∙ d.text in
+    let over = c.in_ok-end.ensures i (body_at t i).bytes true in
+    rw (
+      string-escaped t c.args.at r.within _ refl (text_form c.args.keep) r.backslash,
+      ← d.stop,
+      over,
+      ← text,
+      c.fault_at-fault.ensures,
+    )
+    (c.in-Err.ensures.value i c.in_ok-end.end)

@@ -8,7 +8,7 @@ use Rattle.jiter_value.proofs.parse_owned.own_text.Goals as goal
 
 pub returns-clause-parses : goal.returns-clause-parses
 returns-clause-parses c =
-    let p = c.args.settings in
+    let p = c.args.reading.now.settings in
     let t = c.args.bytes.now in
     parses-same owned_tree owned_tree (λ v. refl) _ (MayGrow t)
     (grows-container t (past_blanks t 0) (Unit {0}) c.requires.container) p.allow_inf_nan p.mode t

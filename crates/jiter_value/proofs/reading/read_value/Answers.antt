@@ -9,7 +9,7 @@ pub returns-clause-value : goal.returns-clause-value
 returns-clause-value c =
     let a = c.args in
     subst (Gives view c.run.result c.run.new.parser.index)
-    (value_at-it_is a.settings a.parser.now.bytes.now 200 a.parser.now.index) c.run.ensures.value
+    (value_at-it_is a.settings a.parser.now.bytes.now 200 a.parser.now.index) (rw c.new-reading.ensures.settings at c.run.ensures.value)
 
 pub returns-clause-memory : goal.returns-clause-memory
 returns-clause-memory c =

@@ -9,7 +9,7 @@ use Rattle.jiter_value.proofs.unique.read_unique.Goals as goal
 pub returns-in-Err-clause-value : goal.returns-in-Err-clause-value
 returns-in-Err-clause-value c =
     let f = c.in-Err.fault in
-    whole-none c.args.settings c.args.parser.now.bytes.now (fault_kind f.kind) f.index c.value_first.new.self.index
+    whole-none c.args.reading.now.settings c.args.parser.now.bytes.now (fault_kind f.kind) f.index c.value_first.new.self.index
     (rw c.requires.begins at c.in-Err.ensures.value)
 
 pub finish_whole-requires : goal.finish_whole-requires
@@ -19,7 +19,7 @@ finish_whole-requires c κs =
     let first = ap (λ b. b.now) begun.moves.same in
     let second = ap (λ b. b.now) c.in-Ok.ensures.moves.same in
     let at = value-begins-at t c.value_first.new.self.index (rw c.requires.begins at begun.value) in
-    rw (second ∙ first, at) ((refl, tt), (begun.inside, rw first at c.in-Ok.ensures.value))
+    rw (second ∙ first, at, c.in-Ok.ensures.settings) ((refl, tt), (begun.inside, rw first at c.in-Ok.ensures.value))
 
 pub returns-in-Err-run_unique-clause-value : goal.returns-in-Err-run_unique-clause-value
 returns-in-Err-run_unique-clause-value c =
@@ -27,7 +27,7 @@ returns-in-Err-run_unique-clause-value c =
     let begun = c.in_default.ensures in
     let first = ap (λ b. b.now) begun.moves.same in
     let at = value-begins-at t c.value_first.new.self.index (rw c.requires.begins at begun.value) in
-    whole-stopped c.args.settings t (rw at begun.inside) c.in-Err-run_unique.stopped c.run_unique.new.parser.index
+    whole-stopped c.args.reading.now.settings t (rw at begun.inside) c.in-Err-run_unique.stopped c.run_unique.new.parser.index
     (rw at (rw first at c.in-Err-run_unique.ensures.value))
 
 pub returns-in-Err-finish_whole-clause-value : goal.returns-in-Err-finish_whole-clause-value
@@ -35,8 +35,8 @@ returns-in-Err-finish_whole-clause-value c =
     let begun = c.in_default.ensures in
     let first = ap (λ b. b.now) begun.moves.same in
     let second = ap (λ b. b.now) c.in-Ok.ensures.moves.same in
-    whole-given c.args.settings c.args.parser.now.bytes.now (Err c.in-Err-finish_whole.error) _
-    (rw (second ∙ first) at c.in-Err-finish_whole.ensures.value)
+    whole-given c.args.reading.now.settings c.args.parser.now.bytes.now (Err c.in-Err-finish_whole.error) _
+    (rw (second ∙ first, c.in-Ok.ensures.settings) at c.in-Err-finish_whole.ensures.value)
 
 pub returns-in-Err-run_unique-clause-place : goal.returns-in-Err-run_unique-clause-place
 returns-in-Err-run_unique-clause-place c =

@@ -7,10 +7,10 @@ use Rattle.jiter_value.proofs.turns.containers.after.Goals as goal
 
 pub returns-in-Part-clause-leads : goal.returns-in-Part-clause-leads
 returns-in-Part-clause-leads g c =
-    let p = c.args.settings in
+    let p = c.args.reading.now.settings in
     let t = c.args.bytes.now in
     let l = c.closing in
-    let s = l.stacks in
+    let s = l.reading.stacks in
     let h = c.in-Some.shape in
     let j = c.plain_step-next.result.0 in
     let so_far = rw c.in-Some.ensures.some at l.invariant in
@@ -32,25 +32,25 @@ returns-in-Part-clause-leads g c =
 pub returns-then-not-ends-clause-leads : goal.returns-then-not-ends-clause-leads
 returns-then-not-ends-clause-leads g c =
     let l = c.closing in
-    let s = l.stacks in
+    let s = l.reading.stacks in
     let j = c.plain_step-next.result.0 in
     let so_far = rw c.in-Some.ensures.some at l.invariant in
     record {
       within = (omega (arith, so_far.0, c.plain_step-next.ensures.within.0), c.plain_step-next.ensures.within.1);
       reaches = rw so_far.2
-          (behind-fails g.T.Texts.made c.args.settings c.args.bytes.now c.in-Some.shape s.items.items s.members.items
+          (behind-fails g.T.Texts.made c.args.reading.now.settings c.args.bytes.now c.in-Some.shape s.items.items s.members.items
           s.root l.at
-          (reverse s.nest.items) j c.ends.new.stacks.error so_far.3 c.if-not-ends.ensures.resolved);
+          (reverse s.nest.items) j c.ends.new.stacks.error so_far.3 (rw so_far.9 at c.if-not-ends.ensures.resolved));
       left = tt;
       held = tt;
     }
 
 pub closing-preserved : goal.closing-preserved
 closing-preserved g c =
-    let p = c.args.settings in
+    let p = c.args.reading.now.settings in
     let t = c.args.bytes.now in
     let l = c.closing in
-    let s = l.stacks in
+    let s = l.reading.stacks in
     let h = c.in-Some.shape in
     let j = c.plain_step-next.result.0 in
     let so_far = rw c.in-Some.ensures.some at l.invariant in
@@ -62,7 +62,7 @@ closing-preserved g c =
       so_far.2
           ∙ behind-closed g.T.Texts.made p t h s.items.items s.members.items s.root l.at (reverse s.nest.items) j
           so_far.3
-          c.if-not-ends.ensures.resolved
+          (rw so_far.9 at c.if-not-ends.ensures.resolved)
           ∙ (rw same at c.in-Ok.ensures.value g.T.Texts.made p t j),
       c.in-Ok.ensures.stands,
       omega (arith, so_far.4, fewer),
@@ -71,9 +71,10 @@ closing-preserved g c =
           ∙ sym (behind-part-size h (reverse s.nest.items) s.items.items s.members.items s.root so_far.3)
           ∙ so_far.6,
       λ r. absurd (not-root h (so_far.7 r)),
-      leaves-then c.args.stacks.now.members.items s.members.items _ so_far.8
+      leaves-then c.args.reading.now.stacks.members.items s.members.items _ so_far.8
           (rw same at c.in-Ok.ensures.keys),
+      so_far.9,
     )
 
 pub returns-in-Part-clause-keys : goal.returns-in-Part-clause-keys
-returns-in-Part-clause-keys g c = kept-on c.closing.stacks c.part_of.result c.closing.invariant.8
+returns-in-Part-clause-keys g c = kept-on c.closing.reading.stacks c.part_of.result c.closing.invariant.8

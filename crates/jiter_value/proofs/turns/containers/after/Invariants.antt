@@ -9,14 +9,15 @@ abbrev pub invariant-closing : goal.invariant-closing
 invariant-closing g l =
     (l.fn.from ≤ l.at) × (l.at ≤ length l.fn.bytes)
     ×
-    (behind g.T.Texts.made l.settings l.fn.bytes l.fn.stacks l.fn.slot l.fn.from ≡ behind g.T.Texts.made l.settings
-    l.fn.bytes l.stacks l.inside
+    (behind g.T.Texts.made l.fn.reading.settings l.fn.bytes l.fn.reading.stacks l.fn.slot l.fn.from ≡ behind g.T.Texts.made l.fn.reading.settings
+    l.fn.bytes l.reading.stacks l.inside
     l.at)
-    × Stands l.stacks l.inside × (length l.stacks.nest.items ≤ 200)
-    × (left l.fn.bytes l.stacks l.at ≤ left l.fn.bytes l.fn.stacks l.fn.from)
-    × (behind_size l.stacks l.inside ≡ behind_size l.fn.stacks l.fn.slot)
+    × Stands l.reading.stacks l.inside × (length l.reading.stacks.nest.items ≤ 200)
+    × (left l.fn.bytes l.reading.stacks l.at ≤ left l.fn.bytes l.fn.reading.stacks l.fn.from)
+    × (behind_size l.reading.stacks l.inside ≡ behind_size l.fn.reading.stacks l.fn.slot)
     × (l.fn.slot ≡ slot.Root → l.inside ≡ slot.Root)
-    × LeavesKeys l.fn.stacks.members.items l.stacks.members.items
+    × LeavesKeys l.fn.reading.stacks.members.items l.reading.stacks.members.items
+    × (l.reading.settings ≡ l.fn.reading.settings)
 
 abbrev pub decreases-closing : goal.decreases-closing
-decreases-closing g l = length l.stacks.nest.items
+decreases-closing g l = length l.reading.stacks.nest.items

@@ -11,7 +11,7 @@ returns-then-not-ends g c =
     record {
       leads = record {
         within = (omega (arith, c.plain_first-next.ensures.within.0), c.plain_first-next.ensures.within.1);
-        reaches = begins-fails g.T.Texts.made a.settings a.bytes.now a.stacks.now a.slot c.requires.at_value.0
+        reaches = begins-fails g.T.Texts.made a.reading.now.settings a.bytes.now a.reading.now.stacks a.slot c.requires.at_value.0
             c.requires.at_value.1
             a.at
             a.shape c.plain_first-next.result.0 c.ends.new.stacks.error c.requires.bracket r;
@@ -20,22 +20,24 @@ returns-then-not-ends g c =
       };
       memory = λ e. fault-grows c.ends.new.stacks.error r.0 _ r.1;
       keys = tt;
+      settings = refl;
     }
 
 pub returns : goal.returns
 returns g c =
     let a = c.args in
-    let r = outcome c.empty.new.stacks c.empty.result.1 in
+    let r = outcome c.empty.new.reading.stacks c.empty.result.1 in
     let ends = c.if-not-ends.ensures in
     let empty = c.empty.ensures in
     let same = ends.same refl in
     let forward = c.plain_first-next.ensures.within.0 in
     record {
       leads = leads-weaker (rw same at empty.leads) (omega (arith, forward)) (omega (arith, forward)) (omega arith)
-          (begins-closed g.T.Texts.made a.settings a.bytes.now a.stacks.now a.slot c.requires.at_value.0
+          (begins-closed g.T.Texts.made a.reading.now.settings a.bytes.now a.reading.now.stacks a.slot c.requires.at_value.0
           c.requires.at_value.1 a.at
           a.shape
           c.plain_first-next.result.0 c.requires.bracket ends.resolved);
       memory = λ e. root-grows r _ (empty.root e) (refused-weaker r _ _ (λ other. absurd (other e)) empty.memory);
       keys = rw same at empty.keys;
+      settings = empty.settings;
     }

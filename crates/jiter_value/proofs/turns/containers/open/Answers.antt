@@ -13,13 +13,14 @@ returns-then-is_full g c =
       leads = record {
         within = (omega (arith, c.requires.within.0), omega (arith, c.requires.within.1));
         reaches = rw c.too_deep.ensures.error
-            (array-too-deep g.T.Texts.made a.settings a.bytes.now a.stacks.now a.slot c.requires.stands
+            (array-too-deep g.T.Texts.made a.reading.now.settings a.bytes.now a.reading.now.stacks a.slot c.requires.stands
             c.requires.levels a.at a.next
             full.1 c.requires.within.1 (rw full.0 at c.requires.bracket) (rw full.0 at c.requires.part));
         left = tt;
         held = tt;
       };
       keys = tt;
+      settings = refl;
     })
 
 pub returns-in-Ok : goal.returns-in-Ok
@@ -29,7 +30,7 @@ returns-in-Ok g c =
       leads = record {
         within = (omega (arith, c.requires.within.0), omega (arith, c.requires.within.1));
         reaches = rw c.part_of.ensures
-            (shape-opens g.T.Texts.made a.settings a.bytes.now a.stacks.now a.slot c.requires.stands c.requires.levels
+            (shape-opens g.T.Texts.made a.reading.now.settings a.bytes.now a.reading.now.stacks a.slot c.requires.stands c.requires.levels
             a.at a.shape
             a.next
             c.push_small.new.items (rw c.base_of-base.ensures at c.in-Ok.ensures.ok) c.requires.within.1
@@ -37,5 +38,6 @@ returns-in-Ok g c =
         left = grind (arith, common_steps);
         held = grind (arith, common_steps);
       };
-      keys = kept-on a.stacks.now c.part_of.result (leaves-all a.stacks.now.members.items);
+      keys = kept-on a.reading.now.stacks c.part_of.result (leaves-all a.reading.now.stacks.members.items);
+      settings = refl;
     }

@@ -17,14 +17,14 @@ use Rattle.jiter_value.proofs.turns.general.fault_at_value.Goals as goal
 pub returns-then-not-forgives-clause-leads : goal.returns-then-not-forgives-clause-leads
 returns-then-not-forgives-clause-leads g c =
     let a = c.args in
-    let s = a.stacks.now in
+    let s = a.reading.now.stacks in
     let k = fault_kind a.problem.kind in
-    let bad : forgives a.settings.mode k ≡ false = sym c.forgives.ensures ∙ c.if-not-forgives.true in
+    let bad : forgives a.reading.now.settings.mode k ≡ false = sym c.forgives.ensures ∙ c.if-not-forgives.true in
     rw c.give_up.ensures.place
     (record {
       within = (omega arith, c.requires.within);
       reaches = rw c.give_up.ensures.error
-          (resume-fault (rules_as g.T.Texts.made a.settings) a.bytes.now
+          (resume-fault (rules_as g.T.Texts.made a.reading.now.settings) a.bytes.now
           (frames a.slot (reverse s.nest.items) s.items.items s.members.items) k a.problem.index a.at bad);
       left = tt;
       held = tt;
@@ -33,7 +33,7 @@ returns-then-not-forgives-clause-leads g c =
 pub returns-in-Member-clause-leads : goal.returns-in-Member-clause-leads
 returns-in-Member-clause-leads g c =
     let a = c.args in
-    let s = a.stacks.now in
+    let s = a.reading.now.stacks in
     let k = fault_kind a.problem.kind in
     let os = reverse s.nest.items in
     let es = s.items.items in
@@ -47,14 +47,14 @@ returns-in-Member-clause-leads g c =
     let outer = ap (inside_size_in shape.Object os es) popped in
     rw c.in-Member.is
     (leads-weaker c.close_and_go_on-in-Member.ensures.leads (omega arith) (omega arith) (omega (arith, outer, was))
-    (ap (λ ys. resume (rules_as g.T.Texts.made a.settings) a.bytes.now (frames slot.Member os es ys)
+    (ap (λ ys. resume (rules_as g.T.Texts.made a.reading.now.settings) a.bytes.now (frames slot.Member os es ys)
     (fault k a.problem.index a.at))
     last.1
-    ∙ fault-value g.T.Texts.made a.settings a.bytes.now os es before last.0 k a.problem.index a.at last.2 ok
-    ∙ ap (λ ys. container_in g.T.Texts.made a.settings a.bytes.now shape.Object os es ys a.at) (sym popped)))
+    ∙ fault-value g.T.Texts.made a.reading.now.settings a.bytes.now os es before last.0 k a.problem.index a.at last.2 ok
+    ∙ ap (λ ys. container_in g.T.Texts.made a.reading.now.settings a.bytes.now shape.Object os es ys a.at) (sym popped)))
 
 pub returns-in-Member-clause-keys : goal.returns-in-Member-clause-keys
 returns-in-Member-clause-keys g c =
     let closed = c.close_and_go_on-in-Member in
-    leaves-on closed.new.stacks closed.result.1 c.args.stacks.now.members.items c.pop.new.self.items _
+    leaves-on closed.new.reading.stacks closed.result.1 c.args.reading.now.stacks.members.items c.pop.new.self.items _
     (leaves-taken _ _ _ c.pop.ensures.rest) closed.ensures.keys

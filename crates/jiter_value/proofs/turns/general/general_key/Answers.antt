@@ -12,9 +12,9 @@ use Rattle.jiter_value.proofs.turns.general.general_key.Goals as goal
 
 pub returns-then-len-gt-NESTING_LIMIT : goal.returns-then-len-gt-NESTING_LIMIT
 returns-then-len-gt-NESTING_LIMIT g c =
-    let p = c.args.settings in
+    let p = c.args.reading.now.settings in
     let t = c.args.bytes.now in
-    let s = c.args.stacks.now in
+    let s = c.args.reading.now.stacks in
     let os = reverse s.nest.items in
     let es = s.items.items in
     let ms = s.members.items in
@@ -36,6 +36,7 @@ returns-then-len-gt-NESTING_LIMIT g c =
         held = tt;
       };
       keys = tt;
+      settings = refl;
     })
 
 pub push_key-requires : goal.push_key-requires
@@ -54,7 +55,7 @@ returns-in-Ok-push_key g c =
     let same = ap (λ b. b.now) c.in-Ok.ensures.moves.same in
     let read = c.in-Ok-object_colon.ensures in
     let pushed = c.in-Ok-push_key.ensures in
-    let put = key-at g.T.Texts.made c.args.bytes.now c.args.stacks.now c.push_key.new.members c.args.at
+    let put = key-at g.T.Texts.made c.args.bytes.now c.args.reading.now.stacks c.push_key.new.members c.args.at
     c.string.new.self.index c.object_colon.new.self.index
     (text_view c.in-Ok.key) pushed.0 _ c.requires.stands c.requires.free
     c.requires.within c.in-Ok.ensures.value pushed.1 (rw same at read.value) pushed.2
@@ -63,19 +64,20 @@ returns-in-Ok-push_key g c =
     record {
       leads = record {
         within = (omega (arith, put.ahead), omega (arith, put.within));
-        reaches = (put.value c.args.settings, (put.stands, omega (arith, c.len.ensures.value, few), put.within));
+        reaches = (put.value c.args.reading.now.settings, (put.stands, omega (arith, c.len.ensures.value, few), put.within));
         left = omega (arith, put.ahead, put.within);
         held = omega (arith, put.held);
       };
       keys = pushed-keeps g.T.Texts.made c.args.bytes.now c.args.at c.string.new.self.index (text_view c.in-Ok.key) _ _
           pushed.0 _ c.in-Ok.ensures.value pushed.1 pushed.2;
+      settings = refl;
     }
 
 pub returns-in-Err : goal.returns-in-Err
 returns-in-Err g c =
-    let p = c.args.settings in
+    let p = c.args.reading.now.settings in
     let t = c.args.bytes.now in
-    let s = c.args.stacks.now in
+    let s = c.args.reading.now.stacks in
     let f = c.in-Err.fault in
     let same = ap (λ b. b.now) c.in-Ok.ensures.moves.same in
     let forward = c.in-Ok.ensures.ahead in
@@ -88,14 +90,15 @@ returns-in-Err g c =
           c.string.new.self.index f.index c.object_colon.new.self.index
           (fault_kind f.kind) c.requires.stands c.requires.free
           c.requires.within c.in-Ok.ensures.value (rw same at c.in-Err.ensures.value));
-      keys = keeps-on _ _ state.Key _ c.fault_at_key.new.stacks c.fault_at_key.result.1 _ _ c.fault_at_key.ensures.keys;
+      keys = keeps-on _ _ state.Key _ c.fault_at_key.new.reading.stacks c.fault_at_key.result.1 _ _ c.fault_at_key.ensures.keys;
+      settings = c.fault_at_key.ensures.settings;
     }
 
 pub returns-in-Err-Fault : goal.returns-in-Err-Fault
 returns-in-Err-Fault g c =
-    let p = c.args.settings in
+    let p = c.args.reading.now.settings in
     let t = c.args.bytes.now in
-    let s = c.args.stacks.now in
+    let s = c.args.reading.now.stacks in
     let f = c.in-Err-Fault.fault in
     let read = rw c.in-Err-Fault.field-0-is at c.in-Err-Fault.ensures.value in
     let forward = c.in-Err-Fault.ensures.moves.forward in
@@ -106,6 +109,7 @@ returns-in-Err-Fault g c =
           (key-fails g.T.Texts.made p t (reverse s.nest.items) s.items.items s.members.items c.args.at
           (fault_kind f.kind) f.index
           c.string.new.self.index c.requires.stands c.requires.free c.requires.within read);
-      keys = keeps-on _ _ state.Key _ c.fault_at_key-in-Err-Fault.new.stacks c.fault_at_key-in-Err-Fault.result.1 _ _
+      keys = keeps-on _ _ state.Key _ c.fault_at_key-in-Err-Fault.new.reading.stacks c.fault_at_key-in-Err-Fault.result.1 _ _
           c.fault_at_key-in-Err-Fault.ensures.keys;
+      settings = c.fault_at_key-in-Err-Fault.ensures.settings;
     }

@@ -17,10 +17,10 @@ returns-in-Ok-put-clause-leads g c =
     let nest = c.put.ensures.nest in
     leads-weaker c.after.ensures.leads (omega (arith, ahead)) (omega (arith, ahead, ap length (ap (λ n. n.items) nest)))
     (omega (arith, put.held, one))
-    (value-read g.T.Texts.made a.settings a.bytes.now a.stacks.now a.slot c.requires.at_value.0 c.requires.at_value.1
+    (value-read g.T.Texts.made a.reading.now.settings a.bytes.now a.reading.now.stacks a.slot c.requires.at_value.0 c.requires.at_value.1
     a.at
     (done (view c.in-Ok.value) e) c.in-Ok.ensures.value
-    ∙ put.value g.T.Texts.made a.settings a.bytes.now e)
+    ∙ put.value g.T.Texts.made a.reading.now.settings a.bytes.now e)
 
 pub returns-in-Err-Fault-clause-leads : goal.returns-in-Err-Fault-clause-leads
 returns-in-Err-Fault-clause-leads g c =
@@ -29,11 +29,11 @@ returns-in-Err-Fault-clause-leads g c =
     let read = rw c.in-Err-Fault.field-0-is at c.in-Err-Fault.ensures.value in
     let forward = c.in-Err-Fault.ensures.moves.forward in
     leads-weaker c.fault_at_value.ensures.leads (omega (arith, forward)) (omega (arith, forward)) (omega arith)
-    (value-read g.T.Texts.made a.settings a.bytes.now a.stacks.now a.slot c.requires.at_value.0 c.requires.at_value.1
+    (value-read g.T.Texts.made a.reading.now.settings a.bytes.now a.reading.now.stacks a.slot c.requires.at_value.0 c.requires.at_value.1
     a.at
     (fault (fault_kind f.kind) f.index c.scalar.new.parser.index) read)
 
 pub returns-in-Ok-put-clause-keys : goal.returns-in-Ok-put-clause-keys
 returns-in-Ok-put-clause-keys g c =
-    leaves-on c.after.new.stacks c.after.result.1 c.args.stacks.now.members.items c.put.new.stacks.members.items _
+    leaves-on c.after.new.reading.stacks c.after.result.1 c.args.reading.now.stacks.members.items c.put.new.stacks.members.items _
     c.in-Ok-put.ensures.keys c.after.ensures.keys

@@ -16,8 +16,8 @@ ascii_text-requires g c =
     c.minus_end-from.ensures.minus
     c.in-Float.ensures.decimal
 
-pub keep_number-requires : goal.keep_number-requires
-keep_number-requires g c =
+pub keep_lent-requires : goal.keep_lent-requires
+keep_lent-requires g c =
     let a = c.args in
     let found = c.in-Float.ensures in
     λ k. (

@@ -1,58 +1,119 @@
-use Rattle.std.proofs.Common.{◌≡◌, ◌∙◌, inl, inr, refl, ap, arith, length, reverse}
+use Rattle.std.proofs.Common.{◌∙◌, [], ap, arith, refl, subst, sym}
 use Rattle.std.proofs.lemmas.List.Elements.{All-nil}
+use Rattle.jiter_steps.specs.Read.{done}
 use Rattle.jiter_value.specs.KeySets.{HasKeys}
 use Rattle.jiter_value.specs.Settings.{lent_unique}
-use Rattle.jiter_value.specs.Stacks.{keys_of, keys_then}
-use Rattle.jiter_value.proofs.KeptKeys.{kept-at}
-use Rattle.jiter_value.proofs.KeySets.{front-all}
-use Rattle.jiter_value.proofs.Repeats.{stops-gives, goes-on, grows-on}
-use Rattle.jiter_value.proofs.StackTurns.{root-stands, root-from}
+use Rattle.jiter_value.specs.Turns.{HasCome}
+use Rattle.jiter_value.specs.Value.{view}
+use Rattle.jiter_value.specs.declared.stacks.State.TheVariants as state
+use Rattle.jiter_value.proofs.Ended.{come-first, failed-memory, failed-value, key-grows, no-keys, whole-value}
+use Rattle.jiter_value.proofs.Repeats.{stops-gives, stops-grows}
+use Rattle.jiter_value.proofs.Turning.{awaited, goes-on}
 use Rattle.jiter_value.proofs.turns.unique.run_unique.Goals as goal
 
-pub turning-init : goal.turning-init
-turning-init c =
-    let a = c.args in
-    let s = a.stacks.now in
-    let b = root-stands s.nest.items s.items.items s.members.items c.requires.nest c.requires.items c.requires.members
-    in
-    let none : length s.nest.items ≡ 0 = ap length c.requires.nest in (
-      omega arith,
-      a.parser.now.within,
-      root-from lent_unique a.settings a.parser.now.bytes.now (reverse s.nest.items) s.items.items s.members.items
-          _ _
-          a.parser.now.index b,
-      (b, omega (arith, none), c.requires.within),
-      λ e. cc,
-      inl (refl, refl),
-      refl,
-      rw c.new-sets.ensures.items (All-nil (HasKeys (keys_of s.members.items))),
-    )
-
-pub returns-in-Some-clause-value : goal.returns-in-Some-clause-value
-returns-in-Some-clause-value c =
-    let l = c.turning in
-    stops-gives c.args.settings c.args.parser.now.bytes.now l.stacks l.at c.in-Some.stopped c.in-Some.place _
-    (rw c.in-Some.ensures.key at l.invariant.3) (rw c.in-Some.ensures.key at l.invariant.2) c.in-Some.ensures.stops
-
-pub turning-preserved : goal.turning-preserved
-turning-preserved c =
-    let p = c.args.settings in
+pub go-state-requires : goal.go-state-requires
+go-state-requires c κs =
     let t = c.args.parser.now.bytes.now in
-    let l = c.turning in
-    let s = c.turn-next.new.stacks in
-    let j = c.turn-next.result.0 in
-    let a = c.turn-next.result.1 in
-    let leads = c.turn-next.ensures.leads in
-    let more = c.in_default.not-Done in
-    let kept = c.in_default.not-GivenUp in
-    let on = goes-on lent_unique p t _ _ _ _ s j a leads more kept in (
-      omega (arith, l.invariant.0, leads.within.0),
-      leads.within.1,
-      l.invariant.2 ∙ on.0,
-      on.1,
-      more,
-      inr (grows-on t c.args.parser.now.index l.at s l.state a l.invariant.5 c.turn-next.ensures.memory more kept),
-      l.invariant.6,
-      front-all (keys_then lent_unique t l.stacks.members.items l.state l.at) (keys_of s.members.items) _ _
-          (kept-at s a more kept c.turn-next.ensures.keys).keys (c.stop_before.ensures.sets c.in-None.is),
+    let i = c.args.parser.now.index in
+    let s = c.args.reading.now.stacks in
+    let h = c.requires.holds in (
+      (refl, tt),
+      (
+        c.requires.texts,
+        (
+          (refl, c.requires.texts),
+          (
+            (i, come-first lent_unique ⊥ c.args.reading.now.settings t s i h c.requires.within),
+            (tt, ([], rw c.new.ensures.items (All-nil (HasKeys [])), no-keys s h)),
+          ),
+        ),
+      ),
     )
+
+pub invariant_of-parser : goal.invariant_of-parser
+invariant_of-parser c =
+    let t = c.args.parser.now.bytes.now in
+    let i = c.args.parser.now.index in
+    let first = come-first lent_unique ⊥ c.args.reading.now.settings t c.args.reading.now.stacks i c.requires.holds
+    c.requires.within in
+    record { within = (c.go-state.ensures.gone i first).within.1 }
+
+pub returns-in-Done-clause-moves : goal.returns-in-Done-clause-moves
+returns-in-Done-clause-moves c =
+    let t = c.args.parser.now.bytes.now in
+    let i = c.args.parser.now.index in
+    let first = come-first lent_unique ⊥ c.args.reading.now.settings t c.args.reading.now.stacks i c.requires.holds
+    c.requires.within in
+    record { same = refl; forward = (c.go-state.ensures.gone i first).within.0 }
+
+pub returns-in-Done-clause-value : goal.returns-in-Done-clause-value
+returns-in-Done-clause-value c =
+    let t = c.args.parser.now.bytes.now in
+    let i = c.args.parser.now.index in
+    let p = c.args.reading.now.settings in
+    let r = c.go-state.new.self in
+    let e = c.go-state.ensures in
+    let first = come-first lent_unique ⊥ p t c.args.reading.now.stacks i c.requires.holds c.requires.within in
+    let come = subst (λ p. HasCome lent_unique ⊥ t i p r.stacks r.at r.state) e.settings (e.gone i first) in
+    whole-value lent_unique ⊥ t i p r.stacks r.at r.state come (sym e.state ∙ c.in-Done.is)
+    ∙ ap (λ v. done (view v) r.at) (sym c.take_root.ensures.value)
+
+pub invariant_of-parser-in-GivenUp : goal.invariant_of-parser-in-GivenUp
+invariant_of-parser-in-GivenUp c =
+    let t = c.args.parser.now.bytes.now in
+    let i = c.args.parser.now.index in
+    let first = come-first lent_unique ⊥ c.args.reading.now.settings t c.args.reading.now.stacks i c.requires.holds
+    c.requires.within in
+    record { within = (c.go-state.ensures.gone i first).within.1 }
+
+pub returns-in-GivenUp-clause-moves : goal.returns-in-GivenUp-clause-moves
+returns-in-GivenUp-clause-moves c =
+    let t = c.args.parser.now.bytes.now in
+    let i = c.args.parser.now.index in
+    let first = come-first lent_unique ⊥ c.args.reading.now.settings t c.args.reading.now.stacks i c.requires.holds
+    c.requires.within in
+    record { same = refl; forward = (c.go-state.ensures.gone i first).within.0 }
+
+pub returns-in-GivenUp-clause-value : goal.returns-in-GivenUp-clause-value
+returns-in-GivenUp-clause-value c =
+    let t = c.args.parser.now.bytes.now in
+    let i = c.args.parser.now.index in
+    let p = c.args.reading.now.settings in
+    let r = c.go-state.new.self in
+    let e = c.go-state.ensures in
+    let first = come-first lent_unique ⊥ p t c.args.reading.now.stacks i c.requires.holds c.requires.within in
+    let come = subst (λ p. HasCome lent_unique ⊥ t i p r.stacks r.at r.state) e.settings (e.gone i first) in
+    rw c.take_error.ensures (failed-value lent_unique ⊥ t i p r.stacks r.at r.state come (sym e.state ∙ c.in-GivenUp.is))
+
+pub returns-in-GivenUp-clause-memory : goal.returns-in-GivenUp-clause-memory
+returns-in-GivenUp-clause-memory c =
+    let t = c.args.parser.now.bytes.now in
+    let i = c.args.parser.now.index in
+    let p = c.args.reading.now.settings in
+    let r = c.go-state.new.self in
+    let e = c.go-state.ensures in
+    let first = come-first lent_unique ⊥ p t c.args.reading.now.stacks i c.requires.holds c.requires.within in
+    rw c.take_error.ensures (failed-memory lent_unique ⊥ t i r.settings r.stacks r.at r.state (e.gone i first)
+    (sym e.state ∙ c.in-GivenUp.is))
+
+pub returns-in-Some : goal.returns-in-Some
+returns-in-Some c =
+    let t = c.args.parser.now.bytes.now in
+    let i = c.args.parser.now.index in
+    let p = c.args.reading.now.settings in
+    let r = c.go-state.new.self in
+    let e = c.go-state.ensures in
+    let first = come-first lent_unique ⊥ p t c.args.reading.now.stacks i c.requires.holds c.requires.within in
+    let on = goes-on r.state (λ h. c.in_default.not-Done (e.state ∙ h)) (λ h. c.in_default.not-GivenUp (e.state ∙ h)) in
+    let ended = e.ended refl on in
+    let stopped = rw c.in-Some.is at ended.1 in
+    let gone = e.gone i first in
+    let come = subst (HasCome lent_unique ⊥ t i p r.stacks r.at) ended.0
+    (subst (λ p. HasCome lent_unique ⊥ t i p r.stacks r.at r.state) e.settings gone) in
+    let key = awaited lent_unique ⊥ t i p r.stacks r.at state.Key come tt in
+    record {
+      moves = record { same = refl; forward = omega (arith, gone.within.0, stopped.1) };
+      value = stops-gives p t r.stacks r.at c.in-Some.why c.in-Some.place _ key.1 key.0 stopped.0;
+      memory = stops-grows c.in-Some.why _ (key-grows lent_unique ⊥ t i p r.stacks r.at come);
+      settings = e.settings;
+    }

@@ -13,7 +13,7 @@ returns-in-Ok c =
     let t = c.args.bytes.now in
     let v = c.in-Ok.value in
     let read = value-parses names mode t v c.read_unique.new.parser.index
-    (rw c.new-parser.ensures.same at c.in-Ok.ensures.value) in
+    (rw (c.new-parser.ensures.same, c.new-reading.ensures.settings) at c.in-Ok.ensures.value) in
     record {
       found = read.found;
       accepts = read.accepts;
@@ -32,7 +32,7 @@ returns c =
     let i = c.read_unique.new.parser.index in
     let same = ap (λ b. length b.now) (given.moves.same ∙ c.new-parser.ensures.same) in
     let read = error-parses names mode t i (omega (arith, c.read_unique.new.parser.within, same)) c.in-Err.stopped e
-    c.unique_error_at.ensures (rw c.new-parser.ensures.same at given.value)
+    c.unique_error_at.ensures (rw (c.new-parser.ensures.same, c.new-reading.ensures.settings) at given.value)
     (rw c.new-parser.ensures.same at given.memory) (rw c.new-parser.ensures.same at given.place) in
     record {
       found = read.found;

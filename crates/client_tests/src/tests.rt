@@ -1,0 +1,3 @@
+//! Examples of the documents, and two prefixes of one document.
+mod examples;
+mod prefixes;

@@ -1,0 +1,41 @@
+//! Answers rows of documents that arrive in chunks: reads each from standard input, and writes it again with its answer.
+//!
+//! ` | ` stands between two chunks of a row.
+#![tactic(auto)]
+
+mod chunks;
+
+use chunks::{feeds, pushed, whole};
+use std::alloc::{AllocError, Global};
+use std::io;
+use test_rows::{Row, bytes_of, row_of};
+
+fn main(rt: HostRuntime) -> io::Result<()> {
+    for line in rt.lines(rt.alloc()) {
+        let line = line?;
+        match row_of(line.as_str()) {
+            Some(row) => {
+                let answer = answer_of(rt.alloc(), row)?;
+                println!(rt; "{line} => {answer}")?;
+            }
+            None => println!(rt; "{line}")?,
+        }
+    }
+    Ok(())
+}
+
+// What the row's call answers, on one line.
+fn answer_of(alloc: Global, row: Row<'_>) -> Result<String, AllocError> {
+    let mut chunks = Vec::new(alloc);
+    for chunk in row.input.split(" | ") {
+        chunks.push(bytes_of(alloc, chunk)?)?;
+    }
+    let chunks = chunks.as_slice();
+    let answer = match row.call {
+        "push" => pushed(alloc, row, chunks)?,
+        "parse_pieces" => whole(alloc, row, chunks)?,
+        "line_feeds" => feeds(alloc, chunks)?,
+        _ => String::from_str(alloc, "no such call")?,
+    };
+    answer.replace(alloc, "\n", "%0A")
+}

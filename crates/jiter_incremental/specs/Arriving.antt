@@ -1,0 +1,29 @@
+-- A reading of a document that arrives in pieces: what it holds of the bytes that were pushed, and what they answer.
+use Rattle.std.specs.Prelude.{◌≡◌, ℕ, List, Some, length, true}
+use Rattle.jiter_incremental.specs.DocumentEnds.{AnswersSo}
+use Rattle.jiter_incremental.specs.Growing.{IsGrowing}
+use Rattle.jiter_incremental.specs.Together.{IsTogether}
+use Rattle.jiter_value.specs.Value.{view}
+use Rattle.jiter_incremental.specs.declared.arriving.Settled.{Settled}
+use Rattle.jiter_value.specs.declared.settings.Settings.{Settings}
+
+-- How the document is read, how many bytes were taken, and all that is held of them.
+pub record Received : Type 0 where
+  pub settings : Settings
+  pub position : ℕ
+  pub held : Settled
+
+abbrev pub received : Settled → Received
+received s = record {
+  settings = s.document.settings;
+  position = s.document.position;
+  held = s;
+}
+
+-- The reading has received the bytes t: the value so far is together, and it is told what they answer in the document's
+-- mode, the fault or the value. It is known where a string is unfinished, and right so far.
+pub record HasReceived (r : Received) (t : List ℕ) : Type 0 where
+  pub together : IsTogether r.held.document r.held.depth r.held.shown t
+  pub position : r.position ≡ length t
+  pub mode : AnswersSo r.settings t r.held.fault (Some (view r.held.document.value.root))
+  pub growing : r.held.growing ≡ true → IsGrowing r.held.document

@@ -1,0 +1,25 @@
+-- A piece that begins within a string or a key.
+use Rattle.std.specs.Prelude.{◌≡◌, ℕ, false, Option, Some, None}
+use Rattle.jiter_scan.specs.declared.errors.Fault.{Fault}
+use Rattle.jiter_incremental.specs.DocumentStrings.{IsOfString}
+use Rattle.jiter_incremental.specs.declared.arriving.Settled.{Settled}
+use Rattle.jiter_incremental.specs.declared.open_document.OpenDocument.{OpenDocument}
+
+-- A string or a key is unfinished, and no byte of it is wrong.
+abbrev pub IsGrowing : OpenDocument → Type 0
+IsGrowing d = (d.fault ≡ None) × IsOfString d.token × (d.string.text.broken ≡ false)
+
+-- the fault of the end, if one is told, where the bytes end now
+abbrev pub moved_to : ℕ → Option Fault → Option Fault
+moved_to j None = None
+moved_to j (Some f) = Some (record { kind = f.kind; index = j })
+
+-- the same reading, with the fault of the end where the bytes end now
+abbrev pub with_end : Settled → Settled
+with_end s = record {
+  document = s.document;
+  depth = s.depth;
+  shown = s.shown;
+  growing = s.growing;
+  fault = moved_to s.document.position s.fault;
+}

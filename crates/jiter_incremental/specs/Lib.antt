@@ -1,0 +1,13 @@
+pub mod Spine
+pub mod Arrived
+pub mod OpenValue
+pub mod Replaced
+pub mod Names
+pub mod OpenDocument
+pub mod DocumentStrings
+pub mod DocumentEnds
+pub mod Together
+pub mod Growing
+pub mod Arriving
+pub mod LineFeeds
+pub mod Caller

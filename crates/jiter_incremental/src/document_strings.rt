@@ -1,0 +1,116 @@
+//! The strings and keys of a document that arrives in pieces (RFC 8259, 7): where they end, and what they are then.
+ghost use Rattle.std.specs.Prelude.{◌≡◌, ◌+◌, ◌-◌, ◌<◌, ◌≤◌, ◌∷◌, ◌++◌, [], IfOk, List, None, OnErr, length};
+ghost use Rattle.std.specs.Prelude.{false, map, slice_range, string_bytes, ℕ};
+ghost use Rattle.jiter_scan.specs.Ascii as ascii;
+ghost use Rattle.jiter_scan.specs.PartialMode.{allows_trailing_strings};
+ghost use Rattle.jiter_scan.specs.Ascii.{quote};
+ghost use Rattle.jiter_steps.specs.Tree.{Text, Tree, members_of, object, string};
+ghost use Rattle.jiter_incremental.specs.DocumentStrings.{IsKeyAs, IsOfString, IsTextAs};
+ghost use Rattle.jiter_incremental.specs.OpenDocument.{Follows, HasTakenIn, Holding};
+ghost use Rattle.jiter_incremental.specs.OpenDocument.{IsInString};
+ghost use Rattle.jiter_incremental.specs.OpenDocument.{Known, Next, Opened, Stays};
+ghost use Rattle.jiter_incremental.specs.OpenDocument.{StaysSo, Takes, in_key};
+ghost use Rattle.jiter_incremental.specs.OpenValue.{text_of};
+ghost use Rattle.jiter_incremental.specs.Spine.{OpenFrame, spine_of};
+ghost use Rattle.jiter_value.specs.Value.{view};
+ghost use Rattle.jiter_incremental.specs.declared.open_document.Token.{Token};
+ghost use Rattle.jiter_incremental.specs.declared.open_value.Awaits.{Awaits};
+
+use crate::open_document::{OpenDocument, Token};
+use jiter_scan::errors::FaultKind;
+use jiter_scan::memory::Refused;
+use jiter_steps::open_string::Went as StringWent;
+use jiter_value::value::JsonValue;
+use std::borrow::CowStr;
+
+// A text as a value. It takes no memory.
+pub(crate) fn text_value(text: String) -> JsonValue<'static>
+    ensures { view result ≡ string (text_of (string_bytes text)) }
+{
+    JsonValue::Str(CowStr::Owned(text))
+}
+
+impl OpenDocument {
+    // Whether the string is kept where the input ends in it.
+    fn keeps(&self) -> bool
+        ensures text { self.now.token ≡ Token.Text → result ≡ allows_trailing_strings self.now.settings.mode }
+        ensures key { self.now.token ≡ Token.Key → result ≡ false }
+    {
+        matches!(self.token, Token::Text) && self.settings.mode.allow_trailing_str()
+    }
+
+    // The key that was unfinished is whole.
+    pub(crate) fn end_key(&mut self, key: String)
+        requires { self.old.value.awaits ≡ Awaits.Colon }
+        ensures key { (n m : Next) → (t w : List ℕ) → (fs : List OpenFrame) → (ms : List (Text × Tree)) → (b : ℕ)
+            → Known n self.old t (in_key fs ms b) → Follows n w m → self.old.fault ≡ None
+            → map view self.old.value.spine.items ≡ spine_of fs (object (members_of ms)) → b < length (t ++ w)
+            → IsKeyAs self.old m (t ++ w) b (text_of (string_bytes key)) → HasTakenIn m self.new (t ++ w) }
+        ensures token { self.new.token ≡ Token.Nothing }
+        ensures fault { self.new.fault ≡ self.old.fault }
+        ensures awaits { self.new.value.awaits ≡ Awaits.Colon }
+        ensures same { StaysSo self.old self.new }
+    {
+        self.value.put_key(key);
+        self.token = Token::Nothing;
+    }
+
+    // The text of the string, which is whole, stands where it was awaited.
+    fn put_text(&mut self)
+        requires token { IsOfString self.old.token }
+        requires held { (t : List ℕ) × (o : Opened) × Holding self.old t o }
+        requires unset { self.old.fault ≡ None }
+        ensures put { (n m : Next) → (t w : List ℕ) → (o : Opened) → Known n self.old t o → Holding self.old t o
+            → Follows n w m → IsTextAs self.old m (t ++ w) o self.old.string.text.text
+            → HasTakenIn m self.new (t ++ w) }
+        ensures same { StaysSo self.old self.new }
+    {
+        let text = self.string.take_text();
+        match self.token {
+            Token::Key => self.end_key(text),
+            _ => self.put(text_value(text)),
+        }
+    }
+
+    // The string ends with its quote.
+    fn close_string(&mut self)
+        requires token { IsInString self.old }
+        requires whole { self.old.string.escape ≡ None }
+        ensures taken { Takes self.old self.new (ascii.quote ∷ []) }
+        ensures same { StaysSo self.old self.new }
+    {
+        let index = self.begin + 1 + self.string.text().len();
+        let kind = FaultKind::InvalidUnicodeCodePoint;
+        let kept = self.keeps();
+        if self.string.is_text(false) {
+            self.put_text();
+        } else if self.string.is_text(kept) {
+            self.note(kind, index);
+            self.put_text();
+        } else {
+            self.refuse(kind, index);
+        }
+    }
+
+    // Takes bytes of a string, from the place `at` on, and says how many.
+    pub(crate) fn take_string(&mut self, piece: &[u8], at: usize) -> Result<usize, Refused>
+        requires within { at < length piece.now }
+        requires token { IsInString self.old }
+        ensures taken { IfOk result (λ n. Takes self.old self.new (slice_range piece.now at (at + n))) }
+        ensures part { IfOk result (λ n. (0 < n) × (at + n ≤ length piece.now)) }
+        ensures refused { OnErr result (Stays self.old self.new) }
+        ensures same { StaysSo self.old self.new }
+    {
+        match self.string.next(piece, at)? {
+            StringWent::Taken(count) => Ok(count),
+            StringWent::Quote => {
+                self.close_string();
+                Ok(1)
+            }
+            StringWent::Wrong(kind, back) => {
+                self.refuse(kind, self.position - back);
+                Ok(1)
+            }
+        }
+    }
+}

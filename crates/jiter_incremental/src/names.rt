@@ -1,0 +1,74 @@
+//! The words that are values: the literals (RFC 8259, 3), and the names of floats.
+ghost use Rattle.std.specs.Prelude.{◌≡◌, IfOk};
+ghost use Rattle.jiter_steps.specs.Tree.{float};
+ghost use Rattle.jiter_incremental.specs.OpenValue.{text_of};
+ghost use Rattle.jiter_incremental.specs.Names.{name_tree, name_word};
+ghost use Rattle.jiter_value.specs.Value.{view};
+
+use jiter_scan::memory::{Refused, copy_text};
+use jiter_scan::open_word::OpenWord;
+use jiter_steps::parse::Literal;
+use jiter_value::value::JsonValue;
+use std::alloc::Global;
+use std::borrow::CowStr;
+
+/// A word that is a value.
+#[derive(Clone, Copy, Debug)]
+pub enum Name {
+    /// `null`, `true` or `false`.
+    Literal(Literal),
+    /// `NaN`
+    NaN,
+    /// `Infinity`
+    Infinity,
+    /// `-Infinity`: its word stands behind the minus.
+    MinusInfinity,
+}
+
+// A float of this name.
+fn float(alloc: Global, name: &str) -> Result<JsonValue<'static>, Refused>
+    ensures { IfOk result (λ v. view v ≡ float (text_of name.now)) }
+{
+    let text = copy_text(alloc, name)?;
+    Ok(JsonValue::Float(CowStr::Owned(text)))
+}
+
+/// The value of a literal.
+pub(crate) fn literal_value(literal: Literal) -> JsonValue<'static>
+    ensures { view result ≡ name_tree (Name.Literal literal) }
+{
+    match literal {
+        Literal::Null => JsonValue::Null,
+        Literal::True => JsonValue::Bool(true),
+        Literal::False => JsonValue::Bool(false),
+    }
+}
+
+impl Name {
+    /// Its word, of which the first byte was seen.
+    pub fn begun(self) -> OpenWord
+        ensures word { result.word.now ≡ name_word self }
+        ensures seen { result.seen ≡ 1 }
+    {
+        match self {
+            Name::Literal(Literal::Null) => OpenWord::begun(b"null"),
+            Name::Literal(Literal::True) => OpenWord::begun(b"true"),
+            Name::Literal(Literal::False) => OpenWord::begun(b"false"),
+            Name::NaN => OpenWord::begun(b"NaN"),
+            Name::Infinity => OpenWord::begun(b"Infinity"),
+            Name::MinusInfinity => OpenWord::begun(b"Infinity"),
+        }
+    }
+
+    /// Its value. That of a float owns its name.
+    pub fn value(self, alloc: Global) -> Result<JsonValue<'static>, Refused>
+        ensures { IfOk result (λ v. view v ≡ name_tree self) }
+    {
+        match self {
+            Name::Literal(literal) => Ok(literal_value(literal)),
+            Name::NaN => float(alloc, "NaN"),
+            Name::Infinity => float(alloc, "Infinity"),
+            Name::MinusInfinity => float(alloc, "-Infinity"),
+        }
+    }
+}

@@ -1,0 +1,539 @@
+//! A document that arrives in pieces (RFC 8259): each byte is looked at in its piece alone, and behind each it is said
+//! what the bytes so far leave open, or with which fault they are refused, in the document's mode and with partial
+//! reading off.
+ghost use Rattle.std.specs.Prelude.{◌≡◌, ◌+◌, ◌-◌, ◌^◌, ◌<◌, ◌≤◌, ◌∷◌, ◌++◌, [], IfOk, List, None, OnErr, OnOk, Some, length};
+ghost use Rattle.std.specs.Prelude.{false, slice_index, slice_range, string_bytes, take, true, ℕ};
+ghost use Rattle.jiter_scan.specs.Kind.{fault_kind};
+ghost use Rattle.jiter_scan.specs.declared.open_number.OpenNumber.{OpenNumber};
+ghost use Rattle.jiter_scan.specs.OpenNumber.{IsBegun, begins_decimal, is_whole, kept_bytes, own_view};
+ghost use Rattle.jiter_scan.specs.Ascii.{capital_i, quote};
+ghost use Rattle.jiter_steps.specs.Blank.{is_blank};
+ghost use Rattle.jiter_steps.specs.Literal.{start_of};
+ghost use Rattle.jiter_steps.specs.Node.{number_tree};
+ghost use Rattle.jiter_steps.specs.Tree.{Text, string};
+ghost use Rattle.jiter_incremental.specs.Arrived.{Arrived, at_value};
+ghost use Rattle.jiter_incremental.specs.Names.{name_start};
+ghost use Rattle.jiter_incremental.specs.OpenDocument.{BeginsHere, Follows, HasArrived, HasTakenIn, HoldsMinus};
+ghost use Rattle.jiter_incremental.specs.OpenDocument.{IsAllowed, IsEnded, IsIn, IsOver, IsReadAs};
+ghost use Rattle.jiter_incremental.specs.OpenDocument.{IsRefused, Known, MayRefuseAt, NameBegins, Next, Opened, StandsAt, Stays};
+ghost use Rattle.jiter_incremental.specs.OpenDocument.{StaysSo, Takes, WordBegins, anything, in_scalar, noted_in};
+ghost use Rattle.jiter_incremental.specs.OpenDocument.{own_number, with_byte, with_first, with_token};
+ghost use Rattle.jiter_incremental.specs.OpenValue.{BeginsKey, ClosesBefore, IsBehind, IsLeft, IsScalarStart};
+ghost use Rattle.jiter_value.specs.Owned.{owned_text, tree_as};
+ghost use Rattle.jiter_incremental.specs.Spine.{OpenFrame, HasRoomInside};
+ghost use Rattle.jiter_incremental.specs.Together.{shown_bytes};
+ghost use Rattle.jiter_value.specs.Value.{view};
+ghost use Rattle.jiter_steps.specs.declared.parse.Start.{Start};
+ghost use Rattle.jiter_incremental.specs.declared.open_document.Token.{Token};
+ghost use Rattle.jiter_incremental.specs.declared.open_value.Awaits.{Awaits};
+ghost use Rattle.jiter_incremental.specs.declared.open_value.Went.{Went};
+
+use crate::names::Name;
+use crate::open_value::{OpenValue, Went};
+use jiter_scan::errors::{Fault, FaultKind, fault_at};
+use jiter_scan::memory::Refused;
+use jiter_scan::open_number::{OpenNumber, OwnNumber, Went as NumberWent};
+use jiter_scan::open_word::{OpenWord, Seen};
+use jiter_steps::blank::past_blanks;
+use jiter_steps::open_string::OpenString;
+use jiter_steps::parse::{Literal, Start, start_of};
+use jiter_value::settings::Settings;
+use jiter_value::value::JsonValue;
+use std::alloc::Global;
+use std::borrow::CowStr;
+
+/// Which scalar or key is unfinished.
+#[derive(Clone, Copy, Debug)]
+pub enum Token {
+    /// None.
+    Nothing,
+    /// A literal or the name of a float.
+    Word,
+    /// A number.
+    Number,
+    /// A string that is a value.
+    Text,
+    /// A key.
+    Key,
+}
+
+/// A document of which some bytes were read.
+#[derive(Drop)]
+pub struct OpenDocument {
+    pub(crate) alloc: Global,
+    pub(crate) settings: Settings,
+    pub(crate) position: usize,
+    pub(crate) begin: usize,
+    pub(crate) token: Token,
+    pub(crate) name: Name,
+    pub(crate) word: OpenWord,
+    pub(crate) number: OpenNumber,
+    pub(crate) string: OpenString,
+    pub(crate) tape: Vec<u8>,
+    pub(crate) value: OpenValue,
+    pub(crate) fault: Option<Fault>,
+    pub(crate) first: Option<Fault>,
+}
+
+// The first fault, where this one is met.
+fn first_of(first: Option<Fault>, fault: Fault) -> Option<Fault>
+    ensures { result ≡ noted_in first fault.kind fault.index }
+{
+    match first {
+        Some(other) => Some(other),
+        None => Some(fault),
+    }
+}
+
+// A minus or a digit.
+pub(crate) fn begins_decimal(byte: u8) -> bool
+    ensures { result ≡ begins_decimal byte }
+{
+    matches!(byte, b'-' | b'0'..=b'9')
+}
+
+// A number as a value. It takes no memory.
+pub(crate) fn number_value(number: OwnNumber) -> JsonValue<'static>
+    ensures value { view result ≡ tree_as owned_text (number_tree (own_view number)) }
+    // Its text lies in the value, if it holds one.
+    ensures kept { (w : List ℕ) → shown_bytes result w ≡ kept_bytes number w }
+{
+    match number {
+        OwnNumber::Int(number) => JsonValue::Int(number),
+        OwnNumber::BigInt(text) => JsonValue::BigInt(CowStr::Owned(text)),
+        OwnNumber::Float(text) => JsonValue::Float(CowStr::Owned(text)),
+    }
+}
+
+// A number that is whole, as a value. It takes no memory.
+fn whole_number(number: &mut OpenNumber) -> JsonValue<'static>
+    requires begun { IsBegun (string_bytes number.old.text) number.old.stage }
+    requires whole { is_whole number.old.stage ≡ true }
+    ensures { view result ≡ own_number (string_bytes number.old.text) }
+{
+    number_value(number.take_value())
+}
+
+impl OpenDocument {
+    /// Before the first byte. It takes no memory.
+    pub fn new(alloc: Global, settings: Settings) -> OpenDocument
+        ensures arrived { HasArrived result [] }
+        ensures settings { result.settings ≡ settings }
+    {
+        OpenDocument {
+            alloc,
+            settings,
+            position: 0,
+            begin: 0,
+            token: Token::Nothing,
+            name: Name::NaN,
+            word: Name::NaN.begun(),
+            number: OpenNumber::new(alloc),
+            string: OpenString::new(alloc),
+            tape: Vec::new(alloc),
+            value: OpenValue::new(alloc),
+            fault: None,
+            first: None,
+        }
+    }
+
+    // The bytes so far are refused, whatever comes.
+    pub(crate) fn refuse(&mut self, kind: FaultKind, index: usize)
+        requires { self.old.fault ≡ None }
+        ensures refused { (n m : Next) → (t w : List ℕ) → (o : Opened) → Known n self.old t o → Follows n w m
+            → IsRefused self.old m (t ++ w) (fault_kind kind) index → HasTakenIn m self.new (t ++ w) }
+        ensures ended { (n m : Next) → (t w : List ℕ) → (o : Opened) → Known n self.old t o → Follows n w m
+            → IsEnded self.old m (t ++ w) (fault_kind kind) index → HasTakenIn m self.new (t ++ w) }
+        ensures same { StaysSo self.old self.new }
+    {
+        let fault = fault_at(kind, index);
+        self.first = first_of(self.first, fault);
+        self.fault = Some(fault);
+    }
+
+    // With partial reading off they are refused.
+    pub(crate) fn note(&mut self, kind: FaultKind, index: usize)
+        ensures { self.new ≡ with_first self.old (noted_in self.old.first kind index) }
+    {
+        self.first = first_of(self.first, fault_at(kind, index));
+    }
+
+    // The value stands behind the scalar that was unfinished.
+    #[inline(always)]
+    pub(crate) fn put(&mut self, value: JsonValue<'static>)
+        requires { HasRoomInside self.old.value.spine.items }
+        ensures put { (n m : Next) → (t w : List ℕ) → (fs : List OpenFrame) → (b : ℕ)
+            → Known n self.old t (in_scalar fs b) → Follows n w m → self.old.fault ≡ None
+            → IsLeft self.old.value (at_value Awaits.Value fs)
+            → IsReadAs self.old m (t ++ w) (length fs) b (view value.entry) → HasTakenIn m self.new (t ++ w) }
+        ensures token { self.new.token ≡ Token.Nothing }
+        ensures fault { self.new.fault ≡ self.old.fault }
+        ensures behind { IsBehind self.new.value.awaits }
+        ensures same { StaysSo self.old self.new }
+    {
+        self.value.put_scalar(value);
+        self.token = Token::Nothing;
+    }
+
+    // A token begins with the next byte.
+    pub(crate) fn begin_token(&mut self, token: Token)
+        ensures { self.new ≡ with_token self.old self.old.position token }
+    {
+        self.begin = self.position;
+        self.token = token;
+    }
+
+    // A word begins.
+    fn begin_word(&mut self, name: Name)
+        ensures begun { (t : List ℕ) → (c : ℕ) → (fs : List OpenFrame) → BeginsHere c self.old t fs
+            → start_of c ≡ name_start name → IsAllowed self.old.settings name → WordBegins name c
+            → HasTakenIn anything self.new (t ++ c ∷ []) }
+        ensures same { StaysSo self.old self.new }
+    {
+        self.name = name;
+        self.word = name.begun();
+        self.begin_token(Token::Word);
+    }
+
+    // A string begins, of a value or of a key.
+    pub(crate) fn begin_string(&mut self, token: Token)
+        requires { self.old.fault ≡ None }
+        ensures key { (t : List ℕ) → (c : ℕ) → (s : Arrived) → token ≡ Token.Key → StandsAt c self.old t s
+            → BeginsKey self.old.value s c → HasTakenIn anything self.new (t ++ c ∷ []) }
+        ensures text { (t : List ℕ) → (c : ℕ) → (fs : List OpenFrame) → token ≡ Token.Text → BeginsHere c self.old t fs
+            → c ≡ quote → HasTakenIn anything self.new (t ++ c ∷ []) }
+        ensures same { StaysSo self.old self.new }
+    {
+        self.string = OpenString::new(self.alloc);
+        self.begin_token(token);
+    }
+
+    // The name of a float begins, if names are allowed.
+    fn begin_name(&mut self, name: Name)
+        requires { self.old.fault ≡ None }
+        ensures begun { (t : List ℕ) → (c : ℕ) → (fs : List OpenFrame) → BeginsHere c self.old t fs
+            → NameBegins name c → HasTakenIn anything self.new (t ++ c ∷ []) }
+        ensures same { StaysSo self.old self.new }
+    {
+        if self.settings.allow_inf_nan {
+            self.begin_word(name);
+        } else {
+            self.refuse(FaultKind::ExpectedSomeValue, self.position);
+        }
+    }
+
+    // The name of a float begins with the byte.
+    fn begin_float_name(&mut self, byte: u8)
+        requires starts { start_of byte ≡ Start.Number }
+        requires named { begins_decimal byte ≡ false }
+        requires unset { self.old.fault ≡ None }
+        ensures begun { (t : List ℕ) → (fs : List OpenFrame) → BeginsHere byte self.old t fs
+            → HasTakenIn anything self.new (t ++ byte ∷ []) }
+        ensures same { StaysSo self.old self.new }
+    {
+        if byte == b'N' {
+            self.begin_name(Name::NaN);
+        } else {
+            self.begin_name(Name::Infinity);
+        }
+    }
+
+    // Another scalar than a decimal number begins with the byte.
+    pub(crate) fn begin_scalar(&mut self, byte: u8)
+        requires starts { IsScalarStart (start_of byte) }
+        requires named { begins_decimal byte ≡ false }
+        requires unset { self.old.fault ≡ None }
+        ensures begun { (t : List ℕ) → (fs : List OpenFrame) → BeginsHere byte self.old t fs
+            → HasTakenIn anything self.new (t ++ byte ∷ []) }
+        ensures same { StaysSo self.old self.new }
+    {
+        match start_of(byte) {
+            Start::String => self.begin_string(Token::Text),
+            Start::Number => self.begin_float_name(byte),
+            Start::Literal(literal) => self.begin_word(Name::Literal(literal)),
+            _ => unreachable!(),
+        }
+    }
+
+    // A comma or the end of a container is missing before the byte: it is closed, and each one that the byte ends.
+    pub(crate) fn close(&mut self, kind: FaultKind, byte: u8)
+        requires left { (s : Arrived) × IsLeft self.old.value s }
+        requires behind { IsBehind self.old.value.awaits }
+        requires unset { self.old.fault ≡ None }
+        ensures taken { (t : List ℕ) → (s : Arrived) → StandsAt byte self.old t s
+            → ClosesBefore self.old.value s byte (fault_kind kind) → HasTakenIn anything self.new (t ++ byte ∷ []) }
+        ensures same { StaysSo self.old self.new }
+    {
+        if !self.settings.mode.is_active() {
+            return self.refuse(kind, self.position);
+        }
+        self.note(kind, self.position);
+        self.value.close_before(byte);
+    }
+
+    // Another byte than a blank stands behind the whole value.
+    pub(crate) fn trail(&mut self)
+        requires unset { self.old.fault ≡ None }
+        ensures taken { (c : ℕ) → (t : List ℕ) → (s : Arrived) → StandsAt c self.old t s → IsLeft self.old.value s
+            → self.old.value.awaits ≡ Awaits.Nothing → is_blank c ≡ false
+            → HasTakenIn anything self.new (t ++ c ∷ []) }
+        ensures same { StaysSo self.old self.new }
+    {
+        let kind = FaultKind::TrailingCharacters;
+        if self.settings.mode.is_active() {
+            self.note(kind, self.position);
+        } else {
+            self.refuse(kind, self.position);
+        }
+    }
+
+    // Takes a byte behind a number that ended before it.
+    #[inline(always)]
+    pub(crate) fn behind(&mut self, byte: u8)
+        requires read { (t : List ℕ) × HasTakenIn (with_byte byte) self.old t }
+        requires behind { IsBehind self.old.value.awaits }
+        requires unset { self.old.fault ≡ None }
+        requires token { self.old.token ≡ Token.Nothing }
+        ensures taken { (t : List ℕ) → HasTakenIn (with_byte byte) self.old t → self.old.position ≡ length t
+            → HasTakenIn anything self.new (t ++ byte ∷ []) }
+        ensures same { StaysSo self.old self.new }
+    {
+        match self.value.behind(byte) {
+            Went::Taken => {}
+            Went::Closed(kind) => self.close(kind, byte),
+            _ => self.trail(),
+        }
+    }
+
+    // Takes a byte of a word.
+    fn take_word(&mut self, byte: u8) -> Result<(), Refused>
+        requires { IsIn self.old Token.Word }
+        ensures taken { OnOk result (Takes self.old self.new (byte ∷ [])) }
+        ensures refused { OnErr result (Stays self.old self.new) }
+        ensures same { StaysSo self.old self.new }
+    {
+        let mut word = self.word;
+        match word.next(byte) {
+            Seen::Part => self.word = word,
+            Seen::Last => {
+                let value = self.name.value(self.alloc)?;
+                self.put(value);
+            }
+            Seen::Other => self.refuse(FaultKind::ExpectedSomeIdent, self.position),
+        }
+        Ok(())
+    }
+
+    // The number is whole.
+    fn put_number(&mut self)
+        requires begun { IsBegun (string_bytes self.old.number.text) self.old.number.stage }
+        requires whole { is_whole self.old.number.stage ≡ true }
+        requires room { HasRoomInside self.old.value.spine.items }
+        ensures put { (c : ℕ) → (t : List ℕ) → (fs : List OpenFrame) → (b : ℕ)
+            → Known anything self.old t (in_scalar fs b) → self.old.fault ≡ None
+            → IsLeft self.old.value (at_value Awaits.Value fs)
+            → IsReadAs self.old (with_byte c) t (length fs) b (own_number (string_bytes self.old.number.text))
+            → HasTakenIn (with_byte c) self.new t }
+        ensures token { self.new.token ≡ Token.Nothing }
+        ensures fault { self.new.fault ≡ self.old.fault }
+        ensures behind { IsBehind self.new.value.awaits }
+        ensures same { StaysSo self.old self.new }
+    {
+        let value = whole_number(&mut self.number);
+        self.put(value);
+    }
+
+    // The letter of a name stands behind the minus of a number.
+    fn take_name(&mut self)
+        requires { self.old.fault ≡ None }
+        ensures taken { (t : List ℕ) → (fs : List OpenFrame) → (b : ℕ) → Known anything self.old t (in_scalar fs b)
+            → self.old.position ≡ length t → HoldsMinus self.old t fs b
+            → HasTakenIn anything self.new (t ++ capital_i ∷ []) }
+        ensures same { StaysSo self.old self.new }
+    {
+        if self.settings.allow_inf_nan {
+            self.name = Name::MinusInfinity;
+            self.word = Name::MinusInfinity.begun();
+            self.token = Token::Word;
+        } else {
+            self.refuse(FaultKind::InvalidNumber, self.position);
+        }
+    }
+
+    // Takes the bytes of a number from the place `at` on, and says how many, or takes the byte behind it.
+    fn take_number(&mut self, piece: &[u8], at: usize) -> Result<usize, Refused>
+        requires within { at < length piece.now }
+        requires token { IsIn self.old Token.Number }
+        requires room { self.old.position + 1 < 2 ^ 64 }
+        ensures taken { IfOk result (λ n. Takes self.old self.new (slice_range piece.now at (at + n))) }
+        ensures part { IfOk result (λ n. (0 < n) × (at + n ≤ length piece.now)) }
+        ensures refused { OnErr result (Stays self.old self.new) }
+        ensures same { StaysSo self.old self.new }
+    {
+        match self.number.next(piece[at]) {
+            NumberWent::Taken(stage) => return self.number.more(stage, piece, at),
+            NumberWent::Over => {
+                self.put_number();
+                self.behind(piece[at]);
+            }
+            NumberWent::Named => self.take_name(),
+            NumberWent::Invalid => self.refuse(FaultKind::InvalidNumber, self.position),
+            NumberWent::TooLong => self.refuse(FaultKind::NumberOutOfRange, self.position + 1),
+        }
+        Ok(1)
+    }
+
+    // Whether no token is unfinished and the value is whole.
+    #[inline(never)]
+    fn is_done(&self) -> bool
+        ensures { result ≡ true → (self.now.token ≡ Token.Nothing) × (self.now.value.awaits ≡ Awaits.Nothing) }
+    {
+        matches!(self.token, Token::Nothing) && self.value.is_whole()
+    }
+
+    // Whether no byte changes the answers any more. Where there is a fault, one was noted.
+    #[inline(always)]
+    fn is_over(&self) -> bool
+        requires { (t : List ℕ) × HasArrived self.now t }
+        ensures over { result ≡ true → IsOver self.now }
+        ensures unset { result ≡ false → self.now.fault ≡ None }
+    {
+        match self.first {
+            None => false,
+            Some(_) => self.fault.is_some() || self.is_done(),
+        }
+    }
+
+    // Takes a run of blanks, or another byte and what is whole there, where no token is unfinished and no number begins.
+    #[inline(always)]
+    fn take_other(&mut self, piece: &[u8], at: usize) -> Result<usize, Refused>
+        requires within { at < length piece.now }
+        requires named { begins_decimal (slice_index piece.now at) ≡ false }
+        requires token { IsIn self.old Token.Nothing }
+        requires room { self.old.position + (length piece.now - at) < 2 ^ 64 }
+        ensures taken { IfOk result (λ n. Takes self.old self.new (slice_range piece.now at (at + n))) }
+        ensures part { IfOk result (λ n. (0 < n) × (at + n ≤ length piece.now)) }
+        ensures refused { OnErr result (Stays self.old self.new) }
+        ensures wanted { OnErr result (is_blank (slice_index piece.now at) ≡ false) }
+        ensures same { StaysSo self.old self.new }
+    {
+        let end = past_blanks(piece, at);
+        if at < end {
+            return Ok(end - at);
+        }
+        self.step(piece, at)
+    }
+
+    // Takes a run of blanks, or another byte and what is whole there, where no token is unfinished. A number is asked for
+    // first.
+    #[inline(always)]
+    fn take_between(&mut self, piece: &[u8], at: usize) -> Result<usize, Refused>
+        requires within { at < length piece.now }
+        requires token { IsIn self.old Token.Nothing }
+        requires room { self.old.position + (length piece.now - at) < 2 ^ 64 }
+        ensures taken { IfOk result (λ n. Takes self.old self.new (slice_range piece.now at (at + n))) }
+        ensures part { IfOk result (λ n. (0 < n) × (at + n ≤ length piece.now)) }
+        ensures refused { OnErr result (Stays self.old self.new) }
+        ensures wanted { OnErr result (is_blank (slice_index piece.now at) ≡ false) }
+        ensures same { StaysSo self.old self.new }
+    {
+        if !begins_decimal(piece[at]) {
+            return self.take_other(piece, at);
+        }
+        self.step_number(piece, at)
+    }
+
+    // Takes bytes of the token that is unfinished.
+    #[inline(always)]
+    fn take_token(&mut self, piece: &[u8], at: usize) -> Result<usize, Refused>
+        requires within { at < length piece.now }
+        requires arrived { (t : List ℕ) × HasArrived self.old t }
+        requires unset { self.old.fault ≡ None }
+        requires token { ¬ (self.old.token ≡ Token.Nothing) }
+        requires room { self.old.position + (length piece.now - at) < 2 ^ 64 }
+        ensures taken { IfOk result (λ n. Takes self.old self.new (slice_range piece.now at (at + n))) }
+        ensures part { IfOk result (λ n. (0 < n) × (at + n ≤ length piece.now)) }
+        ensures refused { OnErr result (Stays self.old self.new) }
+        ensures same { StaysSo self.old self.new }
+    {
+        match self.token {
+            Token::Nothing => unreachable!(),
+            Token::Word => self.take_word(piece[at])?,
+            Token::Number => return self.take_number(piece, at),
+            _ => return self.take_string(piece, at),
+        }
+        Ok(1)
+    }
+
+    // Takes bytes, and does not count them yet.
+    #[inline(always)]
+    fn turn(&mut self, piece: &[u8], at: usize) -> Result<usize, Refused>
+        requires within { at < length piece.now }
+        requires arrived { (t : List ℕ) × HasArrived self.old t }
+        requires room { self.old.position + (length piece.now - at) < 2 ^ 64 }
+        ensures taken { IfOk result (λ n. Takes self.old self.new (slice_range piece.now at (at + n))) }
+        ensures part { IfOk result (λ n. (0 < n) × (at + n ≤ length piece.now)) }
+        ensures refused { OnErr result (Stays self.old self.new) }
+        ensures wanted { (t : List ℕ) → HasArrived self.old t
+            → OnErr result (MayRefuseAt (t ++ slice_index piece.now at ∷ []) (length t)) }
+        ensures same { StaysSo self.old self.new }
+    {
+        if self.is_over() {
+            return Ok(piece.len() - at);
+        }
+        match self.token {
+            Token::Nothing => self.take_between(piece, at),
+            _ => self.take_token(piece, at),
+        }
+    }
+
+    /// Takes bytes of a piece from the place `at` on, and says how many: at least one. Where memory is refused, all
+    /// stays as it is, and the bytes can be taken again.
+    #[inline(always)]
+    pub fn take(&mut self, piece: &[u8], at: usize) -> Result<usize, Refused>
+        requires within { at < length piece.now }
+        requires arrived { (t : List ℕ) × HasArrived self.old t }
+        requires room { self.old.position + (length piece.now - at) < 2 ^ 64 }
+        ensures taken { (t : List ℕ) → HasArrived self.old t
+            → IfOk result (λ n. HasArrived self.new (t ++ slice_range piece.now at (at + n))) }
+        ensures part { IfOk result (λ n. (0 < n) × (at + n ≤ length piece.now)) }
+        ensures refused { OnErr result (Stays self.old self.new) }
+        // A byte that is no blank was taken, or comes next.
+        ensures wanted { (t : List ℕ) → HasArrived self.old t
+            → OnErr result (MayRefuseAt (t ++ slice_index piece.now at ∷ []) (length t)) }
+        ensures settings { self.new.settings ≡ self.old.settings }
+    {
+        let count = self.turn(piece, at)?;
+        self.position += count;
+        Ok(count)
+    }
+
+    /// The value, where it is together.
+    pub fn into_root(self) -> JsonValue<'static>
+        ensures { result ≡ self.value.root }
+    {
+        self.value.into_root()
+    }
+
+    /// Takes the bytes of a piece. Where memory is refused, those before the ones that wanted it are taken, as many as
+    /// the position went on, and the rest can be taken again.
+    pub fn take_all(&mut self, piece: &[u8]) -> Result<(), Refused>
+        requires arrived { (t : List ℕ) × HasArrived self.old t }
+        requires room { self.old.position + length piece.now < 2 ^ 64 }
+        ensures taken { (t : List ℕ) → HasArrived self.old t → OnOk result (HasArrived self.new (t ++ piece.now)) }
+        ensures refused { (t : List ℕ) → HasArrived self.old t → OnErr result
+            (HasArrived self.new (t ++ take (self.new.position - self.old.position) piece.now)) }
+        ensures wanted { (t : List ℕ) → HasArrived self.old t
+            → OnErr result (MayRefuseAt (t ++ piece.now) self.new.position) }
+        ensures within { (self.old.position ≤ self.new.position)
+            × (self.new.position ≤ self.old.position + length piece.now) }
+        ensures settings { self.new.settings ≡ self.old.settings }
+    {
+        let mut at = 0;
+        while at < piece.len() {
+            let count = self.take(piece, at)?;
+            at += count;
+        }
+        Ok(())
+    }
+}

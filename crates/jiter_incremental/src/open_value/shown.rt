@@ -1,0 +1,133 @@
+//! What is shown of a value that arrives (RFC 8259, 2 to 5): the scalar that is not whole in its place, and the open
+//! containers put together, which are taken apart again to go on.
+ghost use Rattle.std.specs.Prelude.{◌≡◌, ◌++◌, ◌<◌, ◌≤◌, List, OnErr, OnOk, Some, false, length, take, true, ℕ};
+ghost use Rattle.std.specs.Str.{IsAscii};
+ghost use Rattle.jiter_scan.specs.PartialMode.{is_active};
+ghost use Rattle.jiter_steps.specs.Read.{done};
+ghost use Rattle.jiter_steps.specs.StringDecoder.{text_view};
+ghost use Rattle.jiter_steps.specs.Tree.{Tree};
+ghost use Rattle.jiter_incremental.specs.Arrived.{Arrived, HasRead, shown};
+ghost use Rattle.jiter_incremental.specs.OpenValue.{IsApartAs, IsLeft, IsPutTogether, IsShown};
+ghost use Rattle.jiter_value.specs.Owned.{owned_tree};
+ghost use Rattle.jiter_value.specs.Parses.{reading_as};
+ghost use Rattle.jiter_incremental.specs.Replaced.{HasGoneOn, HasReplaced, HoldsTextInside, with_chars, with_root};
+ghost use Rattle.jiter_value.specs.Settings.{answer_by};
+ghost use Rattle.jiter_incremental.specs.Spine.{AwaitsPart, HasRoomInside, HasValue, IsInPlace, IsOfKey, OpenFrame, StandsFor};
+ghost use Rattle.jiter_value.specs.Value.{view};
+ghost use Rattle.jiter_incremental.specs.declared.open_value.OpenValue.{OpenValue as OpenValueView};
+ghost use Rattle.jiter_value.specs.declared.settings.Settings.{Settings};
+ghost use Rattle.jiter_value.specs.declared.value.JsonValue.{JsonValue as JsonValueView};
+
+use crate::open_value::OpenValue;
+use crate::spine::{append_text, put, put_together, take_apart, take_back, take_inside};
+use jiter_scan::memory::Refused;
+use jiter_steps::open_string::OpenString;
+use jiter_value::value::JsonValue;
+
+impl OpenValue {
+    /// A scalar that is not whole is shown where it is awaited. It takes no memory.
+    #[inline(always)]
+    pub fn show(&mut self, value: JsonValue<'static>)
+        requires { HasRoomInside self.old.spine.items }
+        ensures { IsShown self.old self.new value.entry }
+    {
+        put(&mut self.spine, &mut self.root, &mut self.key, value);
+    }
+
+    /// Takes back what was shown: its place is awaited again, and there is room in it.
+    pub fn hide(&mut self) -> JsonValue<'static>
+        requires { (fs : List OpenFrame) × (x : Tree) × HasValue self.old.spine.items self.old.root fs x }
+        ensures value { (v : JsonValueView) → IsInPlace self.old.spine.items self.old.root v → result ≡ v }
+        ensures place { (fs : List OpenFrame) → (x : Tree) → HasValue self.old.spine.items self.old.root fs x
+            → AwaitsPart self.new.spine.items fs × IsOfKey (text_view self.new.key) fs }
+        ensures room { HasRoomInside self.new.spine.items }
+        ensures awaits { self.new.awaits ≡ self.old.awaits }
+    {
+        take_back(&mut self.spine, &mut self.root, &mut self.key)
+    }
+
+    /// The open containers are put together, and so many they are.
+    pub fn put_together(&mut self) -> usize
+        requires { (v : Tree) × StandsFor self.old.spine.items self.old.root v }
+        ensures root { (v : Tree) → StandsFor self.old.spine.items self.old.root v → view self.new.root ≡ v }
+        ensures together { IsPutTogether self.old self.new result }
+    {
+        let depth = self.spine.len();
+        put_together(&mut self.spine, &mut self.root);
+        depth
+    }
+
+    /// They are taken apart again.
+    pub fn take_apart(&mut self, depth: usize)
+        requires { (old : OpenValueView) × IsPutTogether old self.old depth }
+        ensures { (old : OpenValueView) → IsPutTogether old self.old depth → IsApartAs old self.new }
+    {
+        take_apart(&mut self.spine, &mut self.root, depth);
+    }
+
+    /// Bytes below 80 hex behind the text that is shown, so many containers deep, where these are together. Where memory
+    /// is refused, the text is the same.
+    #[inline(always)]
+    pub fn append_text(&mut self, depth: usize, bytes: &[u8]) -> Result<(), Refused>
+        requires text { (w : List ℕ) × HoldsTextInside depth self.old.root w }
+        requires ascii { IsAscii bytes.now }
+        ensures ok { (w : List ℕ) → HoldsTextInside depth self.old.root w
+            → OnOk result (HasReplaced depth self.old.root self.new.root (w ++ bytes.now)) }
+        ensures refused { (w : List ℕ) → HoldsTextInside depth self.old.root w
+            → OnErr result (HasReplaced depth self.old.root self.new.root w) }
+        ensures some { OnErr result (0 < length bytes.now) }
+        ensures same { self.new ≡ with_root self.old self.new.root }
+    {
+        append_text(&mut self.root, depth, bytes)
+    }
+
+    /// Bytes of a piece that go on with an unfinished string, whose characters so far are the text that is shown, so many
+    /// containers deep, where these are together: how many are taken, and whether memory was refused. What is taken
+    /// stands there too.
+    #[inline(always)]
+    pub fn take_inside(
+        &mut self,
+        depth: usize,
+        unfinished: &mut OpenString,
+        piece: &[u8],
+    ) -> (usize, Result<(), Refused>)
+        requires text { (w : List ℕ) × HoldsTextInside depth self.old.root w }
+        requires whole { unfinished.old.text.broken ≡ false }
+        ensures went { (w : List ℕ) → HoldsTextInside depth self.old.root w
+            → HasGoneOn depth self.old.root self.new.root (with_chars unfinished.old w) unfinished.new
+            (take result.0 piece.now) }
+        ensures within { result.0 ≤ length piece.now }
+        ensures wanted { OnErr result.1 (result.0 < length piece.now) }
+        ensures same { self.new ≡ with_root self.old self.new.root }
+    {
+        take_inside(&mut self.root, depth, unfinished, piece)
+    }
+
+    /// The value so far, where its containers are together.
+    pub fn root(&self) -> &JsonValue<'static>
+        ensures { result.now ≡ self.now.root }
+    {
+        &self.root
+    }
+
+    /// The same, moved out.
+    pub fn into_root(self) -> JsonValue<'static>
+        ensures { result ≡ self.root }
+    {
+        self.root
+    }
+
+    /// The value so far, each container that is open ended; `null` where none of it was read. It takes no memory.
+    pub fn into_value(self) -> JsonValue<'static>
+        requires { (s : Arrived) × IsLeft self s }
+        // In a partial mode it is what the bytes so far answer, each text owned.
+        ensures { (p : Settings) → (t : List ℕ) → (s : Arrived) → (v : Tree) → is_active p.mode ≡ true
+            → HasRead p t s → IsLeft self s → shown s ≡ Some v
+            → (view result ≡ v) × ((e : ℕ) × (reading_as owned_tree (answer_by p t) ≡ done v e)) }
+    {
+        let mut spine = self.spine;
+        let mut root = self.root;
+        put_together(&mut spine, &mut root);
+        root
+    }
+}

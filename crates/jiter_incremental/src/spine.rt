@@ -1,0 +1,415 @@
+//! The open containers of a document that arrives in pieces. Between two pieces they lie inside each other, each the
+//! last part of the next; within a piece they lie in a vector, the spine: the outermost first, each parent with a null
+//! in the place of the one inside it. To go from one to the other takes no memory.
+ghost use Rattle.std.specs.Prelude.{◌≡◌, ◌+◌, ◌≤◌, ◌<◌, ◌∷◌, ◌++◌, [], List, OnErr, OnOk, length, map, vec_len};
+ghost use Rattle.std.specs.Prelude.{false, string_bytes, take, vec_capacity, ℕ, true};
+ghost use Rattle.std.specs.Str.{IsAscii};
+ghost use Rattle.jiter_scan.specs.PartialMode.{is_active};
+ghost use Rattle.jiter_steps.specs.Read.{done};
+ghost use Rattle.jiter_steps.specs.StringDecoder.{text_view};
+ghost use Rattle.jiter_steps.specs.Tree.{Text, Tree, string};
+ghost use Rattle.jiter_incremental.specs.Arrived.{Arrived, HasRead, Holds, shown};
+ghost use Rattle.jiter_incremental.specs.OpenValue.{text_of};
+ghost use Rattle.jiter_value.specs.Owned.{owned_tree};
+ghost use Rattle.jiter_value.specs.Parses.{reading_as};
+ghost use Rattle.jiter_incremental.specs.Replaced.{GoesOn, HasGoneOn, HasReplaced, HoldsTextInside, with_chars};
+ghost use Rattle.jiter_value.specs.Settings.{answer_by};
+ghost use Rattle.jiter_incremental.specs.Spine.{OpenFrame, around, begun, filled, parents_of, spine_of, HasPart, IsOpen};
+ghost use Rattle.jiter_incremental.specs.Spine.{StandsFor, HasValue, AwaitsPart, IsOfKey, IsRoomy, HasRoomInside, IsLastPart};
+ghost use Rattle.jiter_incremental.specs.Spine.{IsInside, HoldsInnermost, IsInPlace};
+ghost use Rattle.jiter_value.specs.Stacks.{Member, empty_tree};
+ghost use Rattle.jiter_value.specs.Value.{view};
+ghost use Rattle.std.specs.declared.alloc.Global.{Global};
+ghost use Rattle.std.specs.declared.borrow.CowStr.{CowStr as CowStrView};
+ghost use Rattle.jiter_steps.specs.declared.open_string.OpenString.{OpenString as OpenStringView};
+ghost use Rattle.jiter_incremental.specs.declared.open_value.Awaits.{Awaits};
+ghost use Rattle.jiter_value.specs.declared.settings.Settings.{Settings};
+ghost use Rattle.jiter_value.specs.declared.value.JsonValue.{JsonValue as JsonValueView, out-JsonValue};
+
+use jiter_scan::memory::{Refused, make_room, push_ascii};
+use jiter_steps::open_string::OpenString;
+use jiter_steps::parse::Shape;
+use jiter_value::value::{JsonArray, JsonObject, JsonValue};
+use std::alloc::Global;
+use std::borrow::CowStr;
+use std::mem;
+
+// The last item, exchanged.
+#[inline(always)]
+fn swap_item<'j>(items: &mut JsonArray<'j>, value: &mut JsonValue<'j>)
+    requires { 0 < vec_len items.old }
+    ensures { (before : List JsonValueView) → (old : JsonValueView) → items.old.items ≡ before ++ old ∷ []
+        → (items.new.items ≡ before ++ value.old ∷ []) × (value.new ≡ old) }
+{
+    let last = items.len() - 1;
+    mem::swap(&mut items[last], value);
+}
+
+// The value of the last member, exchanged.
+#[inline(always)]
+fn swap_value<'j>(members: &mut JsonObject<'j>, value: &mut JsonValue<'j>)
+    requires { 0 < vec_len members.old }
+    ensures { (before : List Member) → (key : CowStrView Global) → (old : JsonValueView)
+        → members.old.items ≡ before ++ (key, old) ∷ []
+        → (members.new.items ≡ before ++ (key, value.old) ∷ []) × (value.new ≡ old) }
+{
+    let last = members.len() - 1;
+    mem::swap(&mut members[last].1, value);
+}
+
+// The last part of a container, exchanged.
+#[inline(always)]
+fn swap_part<'j>(container: &mut JsonValue<'j>, value: &mut JsonValue<'j>)
+    requires { HasPart (view container.old) }
+    ensures part { (f : OpenFrame) → (x : Tree) → view container.old ≡ around f x
+        → (view container.new ≡ around f (view value.old)) × (view value.new ≡ x) }
+    ensures last { IsLastPart value.old container.new }
+    ensures was { (v : JsonValueView) → IsLastPart v container.old → value.new ≡ v }
+{
+    match container {
+        JsonValue::Array(items) => swap_item(items, value),
+        JsonValue::Object(members) => swap_value(members, value),
+        _ => unreachable!(),
+    }
+}
+
+/// The root is taken apart into its open containers, so many as `depth` says; the spine has room for them.
+pub fn take_apart<'j>(spine: &mut Vec<JsonValue<'j>>, root: &mut JsonValue<'j>, depth: usize)
+    requires empty { spine.old.items ≡ [] }
+    requires room { depth ≤ vec_capacity spine.old }
+    requires opened { 0 < depth → IsOpen depth (view root.old) }
+    ensures spine { (fs : List OpenFrame) → (x : Tree) → depth ≡ length fs + 1
+        → view root.old ≡ filled fs x → map view spine.new.items ≡ spine_of fs x }
+    ensures innermost { (n : ℕ) → (v : JsonValueView) → depth ≡ n + 1 → IsInside n v root.old
+        → (before : List JsonValueView) × (spine.new.items ≡ before ++ v ∷ []) }
+    ensures root { 0 < depth → root.new ≡ JsonValue.Null }
+    ensures none { depth ≡ 0 → (spine.new.items ≡ []) × (root.new ≡ root.old) }
+    ensures capacity { vec_capacity spine.new ≡ vec_capacity spine.old }
+{
+    if depth == 0 {
+        return;
+    }
+    spine.push_reserved(mem::replace(root, JsonValue::Null));
+    for count in 1..depth {
+        let mut child = JsonValue::Null;
+        swap_part(&mut spine[count - 1], &mut child);
+        spine.push_reserved(child);
+    }
+}
+
+// A value goes back into its place, where a null stands: into the innermost parent, or, with no parent, to the root.
+#[inline(always)]
+fn put_back<'j>(spine: &mut Vec<JsonValue<'j>>, root: &mut JsonValue<'j>, value: JsonValue<'j>)
+    requires { (fs : List OpenFrame) × (map view spine.old.items ≡ parents_of fs) }
+    ensures value { (fs : List OpenFrame) → map view spine.old.items ≡ parents_of fs
+        → HasValue spine.new.items root.new fs (view value.entry) }
+    ensures place { IsInPlace spine.new.items root.new value.entry }
+    ensures length { vec_len spine.new ≡ vec_len spine.old }
+    ensures capacity { vec_capacity spine.new ≡ vec_capacity spine.old }
+{
+    let depth = spine.len();
+    if depth == 0 {
+        mem::forget(mem::replace(root, value));
+        return;
+    }
+    let mut part = value;
+    swap_part(&mut spine[depth - 1], &mut part);
+    mem::forget(part);
+}
+
+/// The innermost container ends: it goes back into its parent, or is the root.
+pub fn close<'j>(spine: &mut Vec<JsonValue<'j>>, root: &mut JsonValue<'j>)
+    requires { (fs : List OpenFrame) × (x : Tree) × (map view spine.old.items ≡ spine_of fs x) }
+    ensures value { (fs : List OpenFrame) → (x : Tree) → map view spine.old.items ≡ spine_of fs x
+        → HasValue spine.new.items root.new fs x }
+    ensures length { vec_len spine.new + 1 ≡ vec_len spine.old }
+    ensures capacity { vec_capacity spine.new ≡ vec_capacity spine.old }
+{
+    match spine.pop() {
+        None => unreachable!(),
+        Some(child) => put_back(spine, root, child),
+    }
+}
+
+/// The open containers are put together: each goes back into its parent, and the outermost is the root.
+pub fn put_together<'j>(spine: &mut Vec<JsonValue<'j>>, root: &mut JsonValue<'j>)
+    requires { (v : Tree) × StandsFor spine.old.items root.old v }
+    ensures root { (v : Tree) → StandsFor spine.old.items root.old v → view root.new ≡ v }
+    // Where it was read of a text in a partial mode, this is what the text so far answers, each text owned.
+    ensures answer { (p : Settings) → (t : List ℕ) → (a : Awaits) → (k : Text) → (s : Arrived) → (v : Tree)
+        → is_active p.mode ≡ true → HasRead p t s → Holds a spine.old.items root.old k s → shown s ≡ Some v
+        → (view root.new ≡ v) × ((e : ℕ) × (reading_as owned_tree (answer_by p t) ≡ done v e)) }
+    ensures innermost { HoldsInnermost spine.old.items root.new }
+    ensures none { spine.old.items ≡ [] → root.new ≡ root.old }
+    ensures empty { spine.new.items ≡ [] }
+    ensures capacity { vec_capacity spine.new ≡ vec_capacity spine.old }
+{
+    while let Some(child) = spine.pop() {
+        put_back(spine, root, child);
+    }
+}
+
+// Room for a part more of a container.
+#[inline(always)]
+fn widen<'j>(container: &mut JsonValue<'j>) -> Result<(), Refused>
+    requires { (f : OpenFrame) × (view container.old ≡ begun f) }
+    ensures same { view container.new ≡ view container.old }
+    ensures room { OnOk result (IsRoomy (out-JsonValue container.new)) }
+{
+    match container {
+        JsonValue::Array(items) => make_room(items),
+        JsonValue::Object(members) => make_room(members),
+        _ => unreachable!(),
+    }
+}
+
+/// Room for a part more of the innermost container, if one is open.
+#[inline(always)]
+pub fn make_room_inside<'j>(spine: &mut Vec<JsonValue<'j>>) -> Result<(), Refused>
+    requires { (fs : List OpenFrame) × AwaitsPart spine.old.items fs }
+    ensures same { map view spine.new.items ≡ map view spine.old.items }
+    ensures room { OnOk result (HasRoomInside spine.new.items) }
+    ensures capacity { vec_capacity spine.new ≡ vec_capacity spine.old }
+{
+    let depth = spine.len();
+    if depth == 0 {
+        return Ok(());
+    }
+    widen(&mut spine[depth - 1])
+}
+
+// A part more of a container; in an object it has the key.
+#[inline(always)]
+fn append<'j>(container: &mut JsonValue<'j>, key: &mut CowStr<'j>, value: JsonValue<'j>)
+    requires { IsRoomy (out-JsonValue container.old) }
+    ensures part { (f : OpenFrame) → view container.old ≡ begun f → IsOfKey (text_view key.old) (f ∷ [])
+        → view container.new ≡ around f (view value.entry) }
+    ensures last { IsLastPart value.entry container.new }
+{
+    match container {
+        JsonValue::Array(items) => items.push_reserved(value),
+        JsonValue::Object(members) => {
+            let name = mem::replace(key, CowStr::Borrowed(""));
+            members.push_reserved((name, value));
+        }
+        _ => unreachable!(),
+    }
+}
+
+/// The value that is awaited becomes the last part of the innermost container, which has room for it, or the root. In
+/// an object it has the key.
+#[inline(always)]
+pub fn put<'j>(
+    spine: &mut Vec<JsonValue<'j>>,
+    root: &mut JsonValue<'j>,
+    key: &mut CowStr<'j>,
+    value: JsonValue<'j>,
+)
+    requires { HasRoomInside spine.old.items }
+    ensures value { (fs : List OpenFrame) → AwaitsPart spine.old.items fs → IsOfKey (text_view key.old) fs
+        → HasValue spine.new.items root.new fs (view value.entry) }
+    ensures place { IsInPlace spine.new.items root.new value.entry }
+    ensures length { vec_len spine.new ≡ vec_len spine.old }
+    ensures capacity { vec_capacity spine.new ≡ vec_capacity spine.old }
+{
+    let depth = spine.len();
+    if depth == 0 {
+        *root = value;
+        return;
+    }
+    append(&mut spine[depth - 1], key, value);
+}
+
+/// A container with no part. It takes no memory.
+#[inline(always)]
+pub fn empty<'j>(alloc: Global, shape: Shape) -> JsonValue<'j>
+    ensures { view result ≡ empty_tree shape }
+{
+    match shape {
+        Shape::Array => JsonValue::Array(Vec::new(alloc)),
+        Shape::Object => JsonValue::Object(Vec::new(alloc)),
+    }
+}
+
+/// A container begins where a value is awaited: it is the innermost then. Where memory is refused, all that is open
+/// stays as it is.
+pub fn open_container<'j>(
+    alloc: Global,
+    spine: &mut Vec<JsonValue<'j>>,
+    root: &mut JsonValue<'j>,
+    key: &mut CowStr<'j>,
+    shape: Shape,
+) -> Result<(), Refused>
+    requires { (fs : List OpenFrame) × AwaitsPart spine.old.items fs }
+    ensures spine { (fs : List OpenFrame) → AwaitsPart spine.old.items fs → IsOfKey (text_view key.old) fs
+        → OnOk result (map view spine.new.items ≡ spine_of fs (empty_tree shape)) }
+    ensures refused { OnErr result ((map view spine.new.items ≡ map view spine.old.items)
+        × (root.new ≡ root.old) × (key.new ≡ key.old)) }
+{
+    make_room(spine)?;
+    make_room_inside(spine)?;
+    put(spine, root, key, JsonValue::Null);
+    spine.push_reserved(empty(alloc, shape));
+    Ok(())
+}
+
+// The last part of a container, taken out; in an object its key is the one that awaits a value again.
+fn remove<'j>(container: &mut JsonValue<'j>, key: &mut CowStr<'j>) -> JsonValue<'j>
+    requires { HasPart (view container.old) }
+    ensures value { (v : JsonValueView) → IsLastPart v container.old → result ≡ v }
+    ensures rest { (f : OpenFrame) → (x : Tree) → view container.old ≡ around f x
+        → (view container.new ≡ begun f) × IsOfKey (text_view key.new) (f ∷ []) }
+    ensures room { IsRoomy (out-JsonValue container.new) }
+{
+    match container {
+        JsonValue::Array(items) => match items.pop() {
+            Some(value) => value,
+            None => unreachable!(),
+        },
+        JsonValue::Object(members) => match members.pop() {
+            Some((name, value)) => {
+                *key = name;
+                value
+            }
+            None => unreachable!(),
+        },
+        _ => unreachable!(),
+    }
+}
+
+/// Takes back what [`put`] put: the last part of the innermost container, or the root. There is room for it again.
+pub fn take_back<'j>(
+    spine: &mut Vec<JsonValue<'j>>,
+    root: &mut JsonValue<'j>,
+    key: &mut CowStr<'j>,
+) -> JsonValue<'j>
+    requires { (fs : List OpenFrame) × (x : Tree) × HasValue spine.old.items root.old fs x }
+    ensures value { (v : JsonValueView) → IsInPlace spine.old.items root.old v → result ≡ v }
+    ensures place { (fs : List OpenFrame) → (x : Tree) → HasValue spine.old.items root.old fs x
+        → AwaitsPart spine.new.items fs × IsOfKey (text_view key.new) fs }
+    ensures room { HasRoomInside spine.new.items }
+{
+    let depth = spine.len();
+    if depth == 0 {
+        return mem::replace(root, JsonValue::Null);
+    }
+    remove(&mut spine[depth - 1], key)
+}
+
+// Bytes below 80 hex behind a text.
+#[inline(always)]
+fn append_here(value: &mut JsonValue<'static>, bytes: &[u8]) -> Result<(), Refused>
+    requires text { (w : List ℕ) × (view value.old ≡ string (text_of w)) }
+    requires ascii { IsAscii bytes.now }
+    ensures ok { (w : List ℕ) → view value.old ≡ string (text_of w)
+        → OnOk result (view value.new ≡ string (text_of (w ++ bytes.now))) }
+    ensures refused { (w : List ℕ) → view value.old ≡ string (text_of w)
+        → OnErr result (view value.new ≡ string (text_of w)) }
+    ensures some { OnErr result (0 < length bytes.now) }
+{
+    match value {
+        JsonValue::Str(CowStr::Owned(text)) => push_ascii(text, bytes),
+        _ => unreachable!(),
+    }
+}
+
+/// Bytes below 80 hex behind the text that stands so many containers deep inside the root, each the last part of the
+/// next. Where memory is refused, the text is the same.
+pub fn append_text(root: &mut JsonValue<'static>, depth: usize, bytes: &[u8]) -> Result<(), Refused>
+    requires text { (w : List ℕ) × HoldsTextInside depth root.old w }
+    requires ascii { IsAscii bytes.now }
+    ensures ok { (w : List ℕ) → HoldsTextInside depth root.old w
+        → OnOk result (HasReplaced depth root.old root.new (w ++ bytes.now)) }
+    ensures refused { (w : List ℕ) → HoldsTextInside depth root.old w
+        → OnErr result (HasReplaced depth root.old root.new w) }
+    ensures some { OnErr result (0 < length bytes.now) }
+{
+    if depth == 0 {
+        return append_here(root, bytes);
+    }
+    match root {
+        JsonValue::Array(items) => {
+            let last = items.len() - 1;
+            append_text(&mut items[last], depth - 1, bytes)
+        }
+        JsonValue::Object(members) => {
+            let last = members.len() - 1;
+            append_text(&mut members[last].1, depth - 1, bytes)
+        }
+        _ => unreachable!(),
+    }
+}
+
+// Bytes of a piece that go on with an unfinished string, whose characters so far are this text: how many are taken, and
+// whether memory was refused.
+#[inline(always)]
+fn take_into(
+    text: &mut String,
+    unfinished: &mut OpenString,
+    piece: &[u8],
+) -> (usize, Result<(), Refused>)
+    requires whole { unfinished.old.text.broken ≡ false }
+    ensures went { (s : OpenStringView)
+        × GoesOn (with_chars unfinished.old (string_bytes text.old)) s (take result.0 piece.now)
+        × (unfinished.new ≡ with_chars s []) × (string_bytes text.new ≡ s.text.text) }
+    ensures within { result.0 ≤ length piece.now }
+    ensures wanted { OnErr result.1 (result.0 < length piece.now) }
+{
+    let alloc = *text.allocator();
+    unfinished.give_back(mem::replace(text, String::new(alloc)));
+    let (count, taken) = unfinished.take_inside(piece);
+    *text = unfinished.take_text();
+    (count, taken)
+}
+
+// The same, the text a value.
+#[inline(always)]
+fn take_here(
+    value: &mut JsonValue<'static>,
+    unfinished: &mut OpenString,
+    piece: &[u8],
+) -> (usize, Result<(), Refused>)
+    requires text { (w : List ℕ) × (view value.old ≡ string (text_of w)) }
+    requires whole { unfinished.old.text.broken ≡ false }
+    ensures went { (w : List ℕ) → view value.old ≡ string (text_of w)
+        → HasGoneOn 0 value.old value.new (with_chars unfinished.old w) unfinished.new (take result.0 piece.now) }
+    ensures within { result.0 ≤ length piece.now }
+    ensures wanted { OnErr result.1 (result.0 < length piece.now) }
+{
+    match value {
+        JsonValue::Str(CowStr::Owned(text)) => take_into(text, unfinished, piece),
+        _ => unreachable!(),
+    }
+}
+
+/// Bytes of a piece that go on with an unfinished string, whose characters so far are the text that stands so many
+/// containers deep inside the root, each the last part of the next: how many are taken, and whether memory was refused.
+/// What is taken stands there too.
+pub fn take_inside(
+    root: &mut JsonValue<'static>,
+    depth: usize,
+    unfinished: &mut OpenString,
+    piece: &[u8],
+) -> (usize, Result<(), Refused>)
+    requires text { (w : List ℕ) × HoldsTextInside depth root.old w }
+    requires whole { unfinished.old.text.broken ≡ false }
+    ensures went { (w : List ℕ) → HoldsTextInside depth root.old w
+        → HasGoneOn depth root.old root.new (with_chars unfinished.old w) unfinished.new (take result.0 piece.now) }
+    ensures within { result.0 ≤ length piece.now }
+    ensures wanted { OnErr result.1 (result.0 < length piece.now) }
+{
+    if depth == 0 {
+        return take_here(root, unfinished, piece);
+    }
+    match root {
+        JsonValue::Array(items) => {
+            let last = items.len() - 1;
+            take_inside(&mut items[last], depth - 1, unfinished, piece)
+        }
+        JsonValue::Object(members) => {
+            let last = members.len() - 1;
+            take_inside(&mut members[last].1, depth - 1, unfinished, piece)
+        }
+        _ => unreachable!(),
+    }
+}

@@ -1,0 +1,596 @@
+//! A number, a literal, a string, a key or an empty container that lies whole in a piece of a document that arrives (RFC
+//! 8259, 3 to 7): it is taken at once.
+ghost use Rattle.std.specs.Prelude.{◌≡◌, ◌+◌, ◌-◌, ◌^◌, ◌<◌, ◌≤◌, ◌∷◌, ◌++◌, [], IfOk, IfSome, List, OnErr, OnOk, length};
+ghost use Rattle.std.specs.Prelude.{None, Some, false, slice_get, slice_index, slice_range, string_bytes, true, ℕ};
+ghost use Rattle.std.specs.Str.{IsAscii};
+ghost use Rattle.jiter_scan.specs.NumberDecoder.{number_view};
+ghost use Rattle.jiter_scan.specs.OpenNumber.{BeginsThere, HoldsNumber, begins_decimal};
+ghost use Rattle.jiter_steps.specs.Literal.{start_of};
+ghost use Rattle.jiter_steps.specs.Node.{number_tree};
+ghost use Rattle.jiter_steps.specs.Step.{closer_of, opening};
+ghost use Rattle.jiter_steps.specs.Tree.{float, int};
+ghost use Rattle.jiter_steps.specs.OpenString.{IsTextWithin};
+ghost use Rattle.jiter_steps.specs.declared.parse.Start.{Start};
+ghost use Rattle.jiter_incremental.specs.OpenDocument.{BeginsHere, EndsBefore, HasArrived, HasTakenIn, IsIn};
+ghost use Rattle.jiter_incremental.specs.OpenDocument.{IsNumberWithin, IsScalarWithin};
+ghost use Rattle.jiter_incremental.specs.OpenDocument.{Meets, MeetsBehind, Stays, StaysSo, Takes, anything};
+ghost use Rattle.jiter_incremental.specs.OpenValue.{AwaitsValue, BeginsItem, IsEnding};
+ghost use Rattle.jiter_value.specs.Owned.{owned_text, tree_as};
+ghost use Rattle.jiter_incremental.specs.Spine.{HasRoomInside, OpenFrame};
+ghost use Rattle.jiter_value.specs.Value.{view};
+ghost use Rattle.jiter_incremental.specs.declared.open_document.Token.{Token};
+ghost use Rattle.jiter_incremental.specs.declared.open_value.Awaits.{Awaits};
+ghost use Rattle.jiter_incremental.specs.declared.open_value.Went.{Went};
+
+use crate::document_strings::text_value;
+use crate::names::literal_value;
+use crate::open_document::{OpenDocument, Token, begins_decimal};
+use crate::open_value::Went;
+use crate::spine::empty;
+use jiter_scan::memory::{Refused, copy_text};
+use jiter_scan::number_within::{
+    NearNumber, ShortWithin, float_within, near_within, number_within, short_within,
+};
+use jiter_scan::open_number::{Stage, begun_at};
+use jiter_scan::text::ascii_text;
+use jiter_scan::{NumberAny, NumberInt};
+use jiter_steps::blank::past_blanks;
+use jiter_steps::open_string::text_within;
+use jiter_steps::parse::{Literal, Shape, Start, start_of};
+use jiter_steps::plain::plain_literal_end;
+use jiter_value::value::JsonValue;
+use std::alloc::Global;
+use std::borrow::CowStr;
+
+// Where so many bytes are left in a piece at most, a number is looked at byte by byte.
+const NEAR: usize = 16;
+
+// A number that is not known to be short is looked for where so many bytes are left in a piece.
+const LONG_REACH: usize = 33;
+
+// A number that was read, as a value, its text copied.
+fn number_value(alloc: Global, number: NumberAny<'_>) -> Result<JsonValue<'static>, Refused>
+    ensures { IfOk result (λ v.
+        view v ≡ tree_as owned_text (number_tree (number_view number.entry))) }
+{
+    match number {
+        NumberAny::Int(NumberInt::Int(integer)) => Ok(JsonValue::Int(integer)),
+        NumberAny::Int(NumberInt::BigInt(text)) => {
+            let copy = copy_text(alloc, text)?;
+            Ok(JsonValue::BigInt(CowStr::Owned(copy)))
+        }
+        NumberAny::Float(text) => {
+            let copy = copy_text(alloc, text)?;
+            Ok(JsonValue::Float(CowStr::Owned(copy)))
+        }
+    }
+}
+
+// An integer as a value. It takes no memory.
+#[inline(always)]
+fn int_value(number: i64) -> JsonValue<'static>
+    ensures { view result ≡ int number }
+{
+    JsonValue::Int(number)
+}
+
+// A float of these bytes, copied.
+fn float_value(alloc: Global, bytes: &[u8]) -> Result<JsonValue<'static>, Refused>
+    requires { IsAscii bytes.now }
+    ensures { IfOk result (λ v. view v ≡ float (owned_text (record { owned = false; bytes = bytes.now }))) }
+{
+    let copy = copy_text(alloc, ascii_text(bytes))?;
+    Ok(JsonValue::Float(CowStr::Owned(copy)))
+}
+
+// Whether the container's closer stands at a place of a piece.
+#[inline(always)]
+fn closes_at(piece: &[u8], at: usize, shape: Shape) -> bool
+    ensures { result ≡ true → slice_get piece.now at ≡ Some (closer_of shape) }
+{
+    at < piece.len() && piece[at] == shape.closer()
+}
+
+impl OpenDocument {
+    // What the next byte is, where no token is unfinished. It is not taken yet.
+    #[inline(always)]
+    fn look(&mut self, byte: u8) -> Result<Went, Refused>
+        requires token { IsIn self.old Token.Nothing }
+        ensures met { (t : List ℕ) → HasArrived self.old t → IfOk result (Meets byte self.new t) }
+        ensures refused { OnErr result (Stays self.old self.new) }
+        ensures number { self.new.number ≡ self.old.number }
+        ensures unset { self.new.fault ≡ None }
+        ensures same { StaysSo self.old self.new }
+    {
+        self.value.next(byte)
+    }
+
+    // Takes the byte, which is this where it comes, and begins no decimal number.
+    fn follow(&mut self, went: Went, byte: u8)
+        requires met { (t : List ℕ) × Meets byte self.old t went }
+        requires named { went ≡ Went.Scalar → begins_decimal byte ≡ false }
+        requires unset { self.old.fault ≡ None }
+        ensures taken { (t : List ℕ) → Meets byte self.old t went → HasTakenIn anything self.new (t ++ byte ∷ []) }
+        ensures same { StaysSo self.old self.new }
+    {
+        match went {
+            Went::Taken => {}
+            Went::Scalar => self.begin_scalar(byte),
+            Went::Key => self.begin_string(Token::Key),
+            Went::Closed(kind) => self.close(kind, byte),
+            Went::Wrong(kind) => self.refuse(kind, self.position),
+            Went::Over => self.trail(),
+        }
+    }
+
+    // Takes the byte at a place of a piece, alone of what it begins there, which is no decimal number; and the blanks
+    // behind it, where it begins nothing.
+    fn step_byte(&mut self, piece: &[u8], at: usize) -> Result<usize, Refused>
+        requires within { at < length piece.now }
+        requires named { begins_decimal (slice_index piece.now at) ≡ false }
+        requires token { IsIn self.old Token.Nothing }
+        ensures taken { IfOk result (λ n. Takes self.old self.new (slice_range piece.now at (at + n))) }
+        ensures part { IfOk result (λ n. (0 < n) × (at + n ≤ length piece.now)) }
+        ensures refused { OnErr result (Stays self.old self.new) }
+        ensures same { StaysSo self.old self.new }
+    {
+        let byte = piece[at];
+        match self.look(byte)? {
+            Went::Taken => Ok(past_blanks(piece, at + 1) - at),
+            went => {
+                self.follow(went, byte);
+                Ok(1)
+            }
+        }
+    }
+
+    // The number whose bytes stand between two places of a piece, and brought it to this stage, is begun: it is no part of
+    // what is read so far.
+    #[inline(always)]
+    fn hold(&mut self, piece: &[u8], at: usize, stage: Stage, end: usize) -> Result<(), Refused>
+        requires begun { BeginsThere piece.now at stage end }
+        requires token { IsIn self.old Token.Nothing }
+        ensures held { OnOk result (HoldsNumber self.new.number (slice_range piece.now at end)) }
+        ensures stays { Stays self.old self.new }
+        ensures token { IsIn self.new Token.Nothing }
+        ensures same { StaysSo self.old self.new }
+    {
+        self.number.clear();
+        self.number.begin(piece, at, stage, end)
+    }
+
+    // Takes the bytes of a number that stand between two places of a piece, and brought it to this stage.
+    #[inline(always)]
+    fn begin_held(
+        &mut self,
+        piece: &[u8],
+        at: usize,
+        stage: Stage,
+        end: usize,
+    ) -> Result<usize, Refused>
+        requires within { at < length piece.now }
+        requires begins { begins_decimal (slice_index piece.now at) ≡ true }
+        requires begun { BeginsThere piece.now at stage end }
+        requires token { IsIn self.old Token.Nothing }
+        ensures taken { IfOk result (λ n. Takes self.old self.new (slice_range piece.now at (at + n))) }
+        ensures part { IfOk result (λ n. (0 < n) × (at + n ≤ length piece.now)) }
+        ensures refused { OnErr result (Stays self.old self.new) }
+        ensures same { StaysSo self.old self.new }
+    {
+        self.hold(piece, at, stage, end)?;
+        let byte = piece[at];
+        match self.look(byte)? {
+            Went::Scalar => {
+                self.begin_token(Token::Number);
+                Ok(end - at)
+            }
+            went => {
+                self.follow(went, byte);
+                Ok(1)
+            }
+        }
+    }
+
+    // Takes the bytes of a number that begins there, as far as the piece has them.
+    #[inline(never)]
+    fn begin_number(&mut self, piece: &[u8], at: usize) -> Result<usize, Refused>
+        requires within { at < length piece.now }
+        requires begins { begins_decimal (slice_index piece.now at) ≡ true }
+        requires token { IsIn self.old Token.Nothing }
+        ensures taken { IfOk result (λ n. Takes self.old self.new (slice_range piece.now at (at + n))) }
+        ensures part { IfOk result (λ n. (0 < n) × (at + n ≤ length piece.now)) }
+        ensures refused { OnErr result (Stays self.old self.new) }
+        ensures same { StaysSo self.old self.new }
+    {
+        let (stage, end) = begun_at(piece, at);
+        self.begin_held(piece, at, stage, end)
+    }
+
+    // Takes the byte behind a scalar of so many bytes, which are not counted yet: it is no comma, and closes no container
+    // in its place.
+    #[inline(never)]
+    fn end_before(&mut self, went: Went, bytes: usize, byte: u8)
+        requires met { (t : List ℕ) × MeetsBehind bytes byte self.old t went }
+        requires which { IsEnding went }
+        requires room { self.old.position + bytes < 2 ^ 64 }
+        ensures taken { (t : List ℕ) → MeetsBehind bytes byte self.old t went
+            → HasTakenIn anything self.new (t ++ byte ∷ []) }
+        ensures same { StaysSo self.old self.new }
+    {
+        self.position += bytes;
+        self.follow(went, byte);
+        self.position -= bytes;
+    }
+
+    // A value that ends in a piece before a byte is put. That byte is taken, and the blanks behind it: so many bytes.
+    #[inline(always)]
+    fn put_ended(&mut self, piece: &[u8], at: usize, value: JsonValue<'static>, end: usize) -> usize
+        requires within { (at < end) × (end < length piece.now) }
+        requires ends { (t : List ℕ) × (fs : List OpenFrame)
+            × EndsBefore self.old t (slice_range piece.now at end) (slice_index piece.now end) fs (view value) }
+        requires room { self.old.position + (length piece.now - at) < 2 ^ 64 }
+        ensures taken { (t : List ℕ) → (fs : List OpenFrame)
+            → EndsBefore self.old t (slice_range piece.now at end) (slice_index piece.now end) fs (view value.entry)
+            → HasTakenIn anything self.new (t ++ slice_range piece.now at (at + result)) }
+        ensures part { (0 < result) × (at + result ≤ length piece.now) }
+        ensures same { StaysSo self.old self.new }
+    {
+        self.put(value);
+        match self.value.behind(piece[end]) {
+            Went::Taken => past_blanks(piece, end + 1) - at,
+            went => {
+                self.end_before(went, end - at, piece[end]);
+                end + 1 - at
+            }
+        }
+    }
+
+    // Puts a value that ends in a piece, and takes the byte behind it, if one stands there, and the blanks behind that: so
+    // many bytes are taken.
+    #[inline(always)]
+    fn put_whole(&mut self, piece: &[u8], at: usize, value: JsonValue<'static>, end: usize) -> usize
+        requires scalar { IsScalarWithin piece.now at (view value) end }
+        requires begins { (t : List ℕ) × (fs : List OpenFrame) × BeginsHere (slice_index piece.now at) self.old t fs }
+        requires room { self.old.position + (length piece.now - at) < 2 ^ 64 }
+        ensures taken { (t : List ℕ) → (fs : List OpenFrame) → BeginsHere (slice_index piece.now at) self.old t fs
+            → HasTakenIn anything self.new (t ++ slice_range piece.now at (at + result)) }
+        ensures part { (0 < result) × (at + result ≤ length piece.now) }
+        ensures same { StaysSo self.old self.new }
+    {
+        if end < piece.len() {
+            return self.put_ended(piece, at, value, end);
+        }
+        self.put(value);
+        end - at
+    }
+
+    // Takes the colon at a place of a piece, behind a key, if one stands there, and the blanks behind it: so many bytes.
+    #[inline(always)]
+    fn colon_behind(&mut self, piece: &[u8], at: usize) -> usize
+        requires within { at ≤ length piece.now }
+        requires read { (t : List ℕ) × HasTakenIn anything self.old t }
+        requires token { self.old.token ≡ Token.Nothing }
+        requires unset { self.old.fault ≡ None }
+        requires awaits { self.old.value.awaits ≡ Awaits.Colon }
+        ensures taken { (t : List ℕ) → HasTakenIn anything self.old t
+            → HasTakenIn anything self.new (t ++ slice_range piece.now at (at + result)) }
+        ensures part { at + result ≤ length piece.now }
+        ensures same { StaysSo self.old self.new }
+    {
+        if at < piece.len() && piece[at] == b':' {
+            self.value.pass_colon();
+            return past_blanks(piece, at + 1) - at;
+        }
+        0
+    }
+
+    // Room for the value that is awaited.
+    #[inline(always)]
+    fn make_room(&mut self) -> Result<(), Refused>
+        requires token { IsIn self.old Token.Nothing }
+        requires awaited { AwaitsValue self.old.value }
+        ensures stays { Stays self.old self.new }
+        ensures token { IsIn self.new Token.Nothing }
+        ensures awaited { AwaitsValue self.new.value }
+        ensures room { OnOk result (HasRoomInside self.new.value.spine.items) }
+        ensures same { StaysSo self.old self.new }
+    {
+        self.value.make_room()
+    }
+
+    // The value that is awaited begins with the next byte.
+    #[inline(always)]
+    fn begin_value(&mut self)
+        requires token { IsIn self.old Token.Nothing }
+        requires awaited { AwaitsValue self.old.value }
+        requires room { HasRoomInside self.old.value.spine.items }
+        ensures begins { (t : List ℕ) → (c : ℕ) → HasArrived self.old t → BeginsItem c
+            → (fs : List OpenFrame) × BeginsHere c self.new t fs }
+        ensures same { StaysSo self.old self.new }
+    {
+        self.value.begin_value();
+    }
+
+    // Takes a number that lies whole in a piece, and the byte behind it: so many bytes.
+    #[inline(always)]
+    fn whole_number(
+        &mut self,
+        piece: &[u8],
+        at: usize,
+        value: JsonValue<'static>,
+        end: usize,
+    ) -> usize
+        requires token { IsIn self.old Token.Nothing }
+        requires awaited { AwaitsValue self.old.value }
+        requires space { HasRoomInside self.old.value.spine.items }
+        requires number { IsNumberWithin piece.now at (view value) end }
+        requires room { self.old.position + (length piece.now - at) < 2 ^ 64 }
+        ensures taken { Takes self.old self.new (slice_range piece.now at (at + result)) }
+        ensures part { (0 < result) × (at + result ≤ length piece.now) }
+        ensures same { StaysSo self.old self.new }
+    {
+        self.begin_value();
+        self.put_ended(piece, at, value, end)
+    }
+
+    // Takes a number whose bytes stand between two places of a piece, and brought it to this stage, all of it where it ends
+    // there and is a short one with a point or an exponent.
+    #[inline(always)]
+    fn step_begun(
+        &mut self,
+        piece: &[u8],
+        at: usize,
+        stage: Stage,
+        end: usize,
+    ) -> Result<usize, Refused>
+        requires within { at < length piece.now }
+        requires begins { begins_decimal (slice_index piece.now at) ≡ true }
+        requires begun { BeginsThere piece.now at stage end }
+        requires token { IsIn self.old Token.Nothing }
+        requires awaited { AwaitsValue self.old.value }
+        requires space { HasRoomInside self.old.value.spine.items }
+        requires room { self.old.position + (length piece.now - at) < 2 ^ 64 }
+        ensures taken { IfOk result (λ n. Takes self.old self.new (slice_range piece.now at (at + n))) }
+        ensures part { IfOk result (λ n. (0 < n) × (at + n ≤ length piece.now)) }
+        ensures refused { OnErr result (Stays self.old self.new) }
+        ensures same { StaysSo self.old self.new }
+    {
+        if let Some(text) = float_within(piece, at, stage, end) {
+            let value = float_value(self.alloc, text)?;
+            return Ok(self.whole_number(piece, at, value, end));
+        }
+        self.begin_held(piece, at, stage, end)
+    }
+
+    // Takes a number near a piece's end, all of it where it lies whole there; else its bytes there.
+    #[inline(never)]
+    fn step_near_number(&mut self, piece: &[u8], at: usize) -> Result<usize, Refused>
+        requires within { at < length piece.now }
+        requires near { length piece.now ≤ at + 16 }
+        requires begins { begins_decimal (slice_index piece.now at) ≡ true }
+        requires token { IsIn self.old Token.Nothing }
+        requires awaited { AwaitsValue self.old.value }
+        requires space { HasRoomInside self.old.value.spine.items }
+        requires room { self.old.position + (length piece.now - at) < 2 ^ 64 }
+        ensures taken { IfOk result (λ n. Takes self.old self.new (slice_range piece.now at (at + n))) }
+        ensures part { IfOk result (λ n. (0 < n) × (at + n ≤ length piece.now)) }
+        ensures refused { OnErr result (Stays self.old self.new) }
+        ensures same { StaysSo self.old self.new }
+    {
+        match near_within(piece, at) {
+            NearNumber::Int(number, end) => {
+                Ok(self.whole_number(piece, at, int_value(number), end))
+            }
+            NearNumber::Begun(stage, end) => self.step_begun(piece, at, stage, end),
+        }
+    }
+
+    // Takes a number that may be long, or may not lie whole in the piece: then its bytes there.
+    #[inline(never)]
+    fn step_long_number(&mut self, piece: &[u8], at: usize) -> Result<usize, Refused>
+        requires within { at < length piece.now }
+        requires begins { begins_decimal (slice_index piece.now at) ≡ true }
+        requires token { IsIn self.old Token.Nothing }
+        requires awaited { AwaitsValue self.old.value }
+        requires space { HasRoomInside self.old.value.spine.items }
+        requires room { self.old.position + (length piece.now - at) < 2 ^ 64 }
+        ensures taken { IfOk result (λ n. Takes self.old self.new (slice_range piece.now at (at + n))) }
+        ensures part { IfOk result (λ n. (0 < n) × (at + n ≤ length piece.now)) }
+        ensures refused { OnErr result (Stays self.old self.new) }
+        ensures same { StaysSo self.old self.new }
+    {
+        if piece.len() - at < LONG_REACH {
+            let (stage, end) = begun_at(piece, at);
+            return self.step_begun(piece, at, stage, end);
+        }
+        if let Some((number, end)) = number_within(piece, at) {
+            let value = number_value(self.alloc, number)?;
+            return Ok(self.whole_number(piece, at, value, end));
+        }
+        self.begin_number(piece, at)
+    }
+
+    // Takes a number, all of it where it lies whole in the piece.
+    #[inline(always)]
+    pub(crate) fn step_number(&mut self, piece: &[u8], at: usize) -> Result<usize, Refused>
+        requires within { at < length piece.now }
+        requires begins { begins_decimal (slice_index piece.now at) ≡ true }
+        requires token { IsIn self.old Token.Nothing }
+        requires room { self.old.position + (length piece.now - at) < 2 ^ 64 }
+        ensures taken { IfOk result (λ n. Takes self.old self.new (slice_range piece.now at (at + n))) }
+        ensures part { IfOk result (λ n. (0 < n) × (at + n ≤ length piece.now)) }
+        ensures refused { OnErr result (Stays self.old self.new) }
+        ensures same { StaysSo self.old self.new }
+    {
+        if !self.value.awaits_value() {
+            return self.begin_number(piece, at);
+        }
+        self.make_room()?;
+        if piece.len() - at <= NEAR {
+            return self.step_near_number(piece, at);
+        }
+        match short_within(piece, at) {
+            ShortWithin::Int(number, end) => {
+                Ok(self.whole_number(piece, at, int_value(number), end))
+            }
+            ShortWithin::Float(end) => {
+                let value = float_value(self.alloc, &piece[at..end])?;
+                Ok(self.whole_number(piece, at, value, end))
+            }
+            ShortWithin::Other => self.step_long_number(piece, at),
+        }
+    }
+
+    // The text of the string or key there, if it lies whole in the piece, and the place behind it.
+    #[inline(always)]
+    fn text_there(&mut self, piece: &[u8], at: usize) -> Result<Option<(String, usize)>, Refused>
+        requires within { at < length piece.now }
+        requires token { IsIn self.old Token.Nothing }
+        ensures text { IfOk result (λ found. IfSome found (λ x. IsTextWithin piece.now at (string_bytes x.0) x.1)) }
+        ensures stays { Stays self.old self.new }
+        ensures token { IsIn self.new Token.Nothing }
+        ensures same { StaysSo self.old self.new }
+    {
+        text_within(self.alloc, &mut self.tape, piece, at)
+    }
+
+    // Takes a string or a key, all of it where it lies whole in the piece.
+    #[inline(always)]
+    fn step_text(&mut self, piece: &[u8], at: usize) -> Result<usize, Refused>
+        requires within { at < length piece.now }
+        requires named { begins_decimal (slice_index piece.now at) ≡ false }
+        requires token { IsIn self.old Token.Nothing }
+        requires room { self.old.position + (length piece.now - at) < 2 ^ 64 }
+        ensures taken { IfOk result (λ n. Takes self.old self.new (slice_range piece.now at (at + n))) }
+        ensures part { IfOk result (λ n. (0 < n) × (at + n ≤ length piece.now)) }
+        ensures refused { OnErr result (Stays self.old self.new) }
+        ensures same { StaysSo self.old self.new }
+    {
+        match self.text_there(piece, at)? {
+            Some((text, end)) => self.whole_text(piece, at, text, end),
+            None => self.step_byte(piece, at),
+        }
+    }
+
+    // Takes a string or a key that lies whole in a piece.
+    #[inline(always)]
+    fn whole_text(
+        &mut self,
+        piece: &[u8],
+        at: usize,
+        text: String,
+        end: usize,
+    ) -> Result<usize, Refused>
+        requires token { IsIn self.old Token.Nothing }
+        requires text { IsTextWithin piece.now at (string_bytes text) end }
+        requires room { self.old.position + (length piece.now - at) < 2 ^ 64 }
+        ensures taken { IfOk result (λ n. Takes self.old self.new (slice_range piece.now at (at + n))) }
+        ensures part { IfOk result (λ n. (0 < n) × (at + n ≤ length piece.now)) }
+        ensures refused { OnErr result (Stays self.old self.new) }
+        ensures same { StaysSo self.old self.new }
+    {
+        let byte = piece[at];
+        match self.look(byte)? {
+            Went::Scalar => Ok(self.put_whole(piece, at, text_value(text), end)),
+            Went::Key => {
+                self.end_key(text);
+                Ok(end - at + self.colon_behind(piece, end))
+            }
+            went => {
+                self.follow(went, byte);
+                Ok(1)
+            }
+        }
+    }
+
+    // Takes a literal, or a container that is empty, which lies whole in a piece.
+    #[inline(always)]
+    fn whole_value(
+        &mut self,
+        piece: &[u8],
+        at: usize,
+        value: JsonValue<'static>,
+        end: usize,
+    ) -> Result<usize, Refused>
+        requires token { IsIn self.old Token.Nothing }
+        requires awaited { AwaitsValue self.old.value }
+        requires begins { BeginsItem (slice_index piece.now at) }
+        requires value { IsScalarWithin piece.now at (view value) end }
+        requires room { self.old.position + (length piece.now - at) < 2 ^ 64 }
+        ensures taken { IfOk result (λ n. Takes self.old self.new (slice_range piece.now at (at + n))) }
+        ensures part { IfOk result (λ n. (0 < n) × (at + n ≤ length piece.now)) }
+        ensures refused { OnErr result (Stays self.old self.new) }
+        ensures same { StaysSo self.old self.new }
+    {
+        self.make_room()?;
+        self.begin_value();
+        Ok(self.put_whole(piece, at, value, end))
+    }
+
+    // Takes a literal that begins with its first byte, all of it where it lies whole in the piece.
+    #[inline(always)]
+    fn step_literal(&mut self, piece: &[u8], at: usize, literal: Literal) -> Result<usize, Refused>
+        requires within { at < length piece.now }
+        requires begins { start_of (slice_index piece.now at) ≡ Start.Literal literal }
+        requires named { begins_decimal (slice_index piece.now at) ≡ false }
+        requires token { IsIn self.old Token.Nothing }
+        requires room { self.old.position + (length piece.now - at) < 2 ^ 64 }
+        ensures taken { IfOk result (λ n. Takes self.old self.new (slice_range piece.now at (at + n))) }
+        ensures part { IfOk result (λ n. (0 < n) × (at + n ≤ length piece.now)) }
+        ensures refused { OnErr result (Stays self.old self.new) }
+        ensures same { StaysSo self.old self.new }
+    {
+        if !self.value.awaits_value() {
+            return self.step_byte(piece, at);
+        }
+        match plain_literal_end(piece, at, literal) {
+            Some(end) => self.whole_value(piece, at, literal_value(literal), end),
+            None => self.step_byte(piece, at),
+        }
+    }
+
+    // Takes an opening bracket, and with it its closer, if that is the next byte of the piece; or the blanks behind it.
+    #[inline(always)]
+    fn step_opening(&mut self, piece: &[u8], at: usize, shape: Shape) -> Result<usize, Refused>
+        requires within { at < length piece.now }
+        requires begins { start_of (slice_index piece.now at) ≡ opening shape }
+        requires named { begins_decimal (slice_index piece.now at) ≡ false }
+        requires token { IsIn self.old Token.Nothing }
+        requires room { self.old.position + (length piece.now - at) < 2 ^ 64 }
+        ensures taken { IfOk result (λ n. Takes self.old self.new (slice_range piece.now at (at + n))) }
+        ensures part { IfOk result (λ n. (0 < n) × (at + n ≤ length piece.now)) }
+        ensures refused { OnErr result (Stays self.old self.new) }
+        ensures same { StaysSo self.old self.new }
+    {
+        if !self.value.awaits_value() {
+            return self.step_byte(piece, at);
+        }
+        if closes_at(piece, at + 1, shape) {
+            let closed: JsonValue<'static> = empty(self.alloc, shape);
+            return self.whole_value(piece, at, closed, at + 2);
+        }
+        self.value.begin_container(shape)?;
+        Ok(past_blanks(piece, at + 1) - at)
+    }
+
+    // Takes a byte where no token is unfinished and no number begins, and with it what is whole there.
+    #[inline(always)]
+    pub(crate) fn step(&mut self, piece: &[u8], at: usize) -> Result<usize, Refused>
+        requires within { at < length piece.now }
+        requires named { begins_decimal (slice_index piece.now at) ≡ false }
+        requires token { IsIn self.old Token.Nothing }
+        requires room { self.old.position + (length piece.now - at) < 2 ^ 64 }
+        ensures taken { IfOk result (λ n. Takes self.old self.new (slice_range piece.now at (at + n))) }
+        ensures part { IfOk result (λ n. (0 < n) × (at + n ≤ length piece.now)) }
+        ensures refused { OnErr result (Stays self.old self.new) }
+        ensures same { StaysSo self.old self.new }
+    {
+        match start_of(piece[at]) {
+            Start::String => self.step_text(piece, at),
+            Start::Literal(literal) => self.step_literal(piece, at, literal),
+            Start::Array => self.step_opening(piece, at, Shape::Array),
+            Start::Object => self.step_opening(piece, at, Shape::Object),
+            _ => self.step_byte(piece, at),
+        }
+    }
+}

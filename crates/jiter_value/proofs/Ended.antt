@@ -1,0 +1,116 @@
+-- Where a reading begins, and where it has ended.
+use Rattle.std.proofs.Common.{◌≡◌, ◌≢◌, ◌∙◌, inl, inr, ℕ, ◌+◌, ◌<◌, ◌≤◌, List, [], ap₂, arith, length, refl, reverse}
+use Rattle.std.proofs.Common.{subst}
+use Rattle.std.specs.Prelude.{Err, IfOk}
+use Rattle.jiter_steps.specs.Parse.{Gives}
+use Rattle.jiter_steps.specs.Read.{done, value_at}
+use Rattle.jiter_steps.specs.ReadError.{WhereRefused}
+use Rattle.jiter_steps.specs.declared.read_error.ReadError.{ReadError}
+use Rattle.jiter_steps.specs.declared.read_error.ReadError.TheVariants as error
+use Rattle.jiter_value.specs.Scratch.{HoldsNothing}
+use Rattle.jiter_value.specs.Settings.{Keeping, rules_as}
+use Rattle.jiter_value.specs.Stacks.{HaveKeys, Member, keys_of}
+use Rattle.jiter_value.specs.Size.{held, held_in, size}
+use Rattle.jiter_value.specs.Turns.{GoesOn, HasCome, HasTurned, MayGrowFor, outcome}
+use Rattle.jiter_value.specs.declared.turns.Reading.{Reading}
+use Rattle.jiter_value.specs.Value.{view, MayGrowBy}
+use Rattle.jiter_value.specs.declared.settings.Settings.{Settings}
+use Rattle.jiter_value.specs.declared.stacks.Stacks.{Stacks}
+use Rattle.jiter_value.specs.declared.stacks.State.{State}
+use Rattle.jiter_value.specs.declared.stacks.State.TheVariants as state
+use Rattle.jiter_value.specs.declared.value.JsonValue.{JsonValue}
+use Rattle.jiter_value.proofs.StackTurns.{root-holds-nothing, root-stands}
+use Rattle.jiter_steps.specs.Blank.{past_blanks}
+use Rattle.jiter_value.specs.Machine.{HasEnded}
+use Rattle.jiter_value.specs.Settings.{lent}
+use Rattle.jiter_value.proofs.KeptKeys.{leaves-all}
+use Rattle.jiter_value.proofs.TurnOutcomes.{grows-borrowing, refused-any, refused-weaker}
+use Rattle.jiter_value.proofs.WholeTextAnswers.{answer-refused, begins-at-value, fails-gives, held-begun}
+
+-- With nothing held, a reading begins where a value does,
+pub come-first : (made : Keeping) (W : Type 0) (p : Settings) (t : List ℕ) (s : Stacks) (i : ℕ) → HoldsNothing s
+    → i < length t → HasCome made W t i p s i state.Root
+come-first made W p t s i h lt =
+    begins-at-value made W p t s i (root-stands s.nest.items s.items.items s.members.items h.nest h.items h.members) lt
+
+-- and no key is held.
+pub no-keys : (s : Stacks) → HoldsNothing s → HaveKeys [] s.members.items
+no-keys s h = rw h.members refl
+
+pub own-keys : (ms : List Member) → HaveKeys (keys_of ms) ms
+own-keys ms = (leaves-all ms).keys
+
+-- A state at which nothing more is awaited is one of two.
+pub given-up : (a : State) → a ≢ state.Done → (GoesOn a → ⊥) → a ≡ state.GivenUp
+given-up state.Root more over = absurd (over tt)
+given-up state.Item more over = absurd (over tt)
+given-up state.Member more over = absurd (over tt)
+given-up state.Key more over = absurd (over tt)
+given-up state.Done more over = absurd (more refl)
+given-up state.GivenUp more over = refl
+
+refused-grows : (e : ReadError) (P : Type 0) → MayGrowFor (Err e) P → WhereRefused {A = JsonValue} (Err e) P
+refused-grows (error.Fault f) P h = tt
+refused-grows (error.Memory m) P h = h
+
+module _ (made : Keeping) (W : Type 0) (t : List ℕ) (i : ℕ) (p : Settings) (s : Stacks) (j : ℕ) (a : State)
+    (come : HasCome made W t i p s j a) where
+  -- The value is whole,
+  module _ (is : a ≡ state.Done) where
+    whole : HasCome made W t i p s j state.Done
+    whole = subst (HasCome made W t i p s j) is come
+
+    pub whole-value : value_at (rules_as made p) t 200 i ≡ done (view s.root) j
+    whole-value = whole.reaches.0
+
+    pub whole-holds : HoldsNothing s
+    whole-holds = root-holds-nothing s whole.reaches.1.0
+
+  -- or it was given up.
+  module _ (is : a ≡ state.GivenUp) where
+    failed : HasCome made W t i p s j state.GivenUp
+    failed = subst (HasCome made W t i p s j) is come
+
+    pub failed-value : Gives view (Err s.error) j (value_at (rules_as made p) t 200 i)
+    failed-value = fails-gives s.error j _ _ refl failed.reaches
+
+    pub failed-memory : WhereRefused {A = JsonValue} (Err s.error) (MayGrowBy W t i)
+    failed-memory =
+        elim failed.grows [
+          | inl root ↦ absurd (cc)
+          | inr grows ↦ refused-grows s.error (MayGrowBy W t i) grows
+        ]
+
+-- Where a key is awaited, the value may want memory.
+pub key-grows : (made : Keeping) (W : Type 0) (t : List ℕ) (i : ℕ) (p : Settings) (s : Stacks) (j : ℕ)
+    → HasCome made W t i p s j state.Key → MayGrowBy W t i
+key-grows made W t i p s j come = elim come.grows [ inl root ↦ absurd (cc) | inr grows ↦ grows ]
+
+-- The same of a whole text.
+pub has-ended : (t : List ℕ) (p : Settings) (s : Stacks) (j : ℕ) (a : State)
+    → HasCome lent ⊥ t (past_blanks t 0) p s j a → (GoesOn a → ⊥) → HasEnded t p j a s
+has-ended t p s j state.Root come over = absurd (over tt)
+has-ended t p s j state.Item come over = absurd (over tt)
+has-ended t p s j state.Member come over = absurd (over tt)
+has-ended t p s j state.Key come over = absurd (over tt)
+has-ended t p s j state.Done come over = come
+has-ended t p s j state.GivenUp come over =
+    let i = past_blanks t 0 in (
+      answer-refused (rules_as lent p) p.mode t come.begins s.error j
+          (failed-value lent ⊥ t i p s j state.GivenUp come refl),
+      come.within.1,
+      refused-weaker {X = JsonValue} (Err s.error) _ _ (grows-borrowing t i)
+          (failed-memory lent ⊥ t i p s j state.GivenUp come refl),
+      refused-any JsonValue s.error (i ≤ j) come.within.0,
+    )
+
+-- how much a value that a turn ends counts
+pub turned-size : (t : List ℕ) (old new : Reading) (s : Stacks) (a : State) → HasTurned t old new → GoesOn old.state
+    → new.state ≡ state.Done → old.stacks ≡ s → old.state ≡ a
+    → size (view new.stacks.root) ≤ held_in a (reverse s.nest.items) s.items.items s.members.items 0 + 1
+turned-size t old new s a turned on over same begun =
+    let few = subst (λ b. IfOk (outcome new.stacks b) (λ b. held new.stacks b ≤ held old.stacks old.state + 1)) over turned.held
+    in
+    let was = held-begun old.stacks old.state on
+    ∙ ap₂ (λ s a. held_in a (reverse s.nest.items) s.items.items s.members.items 0) same begun in
+    omega (arith, few, was)

@@ -1,6 +1,0 @@
--- Worked rows on what is said of the machine and of a scratch, by computation.
-mod Buffers
-mod LeftOpen
-mod Put
-mod Resolved
-mod UnderWay

@@ -1,0 +1,147 @@
+-- Where turns lead.
+use Rattle.std.proofs.Common.{◌≡◌, ◌≢◌, ◌∙◌, inl, inr, ℕ, ◌+◌, ◌<◌, ◌≤◌, List, ap, arith, length, refl, subst, sym, take}
+use Rattle.std.proofs.Common.{take-take}
+use Rattle.std.proofs.lemmas.List.{length-take}
+use Rattle.jiter_value.proofs.KeptKeys.{key_count}
+use Rattle.std.specs.Prelude.{OnOk, Result, Ok, Err}
+use Rattle.jiter_steps.specs.Node.{nesting_limit}
+use Rattle.jiter_steps.specs.Read.{value_at}
+use Rattle.jiter_steps.specs.declared.read_error.ReadError.{ReadError}
+use Rattle.jiter_steps.specs.declared.read_error.ReadError.TheVariants as error
+use Rattle.jiter_value.specs.Settings.{Keeping, rules_as}
+use Rattle.jiter_value.specs.Size.{held, value_size}
+use Rattle.jiter_value.specs.Stacks.{HaveKeys, LeavesKeys, Member, from_value, keys_of, meaning, slot_of}
+use Rattle.jiter_value.specs.Turns.{GoesOn, HasCome, IsWithin, MayGrowFor, Proceeds, Reaches, outcome}
+use Rattle.jiter_value.specs.Value.{MayGrowBy}
+use Rattle.jiter_value.specs.declared.settings.Settings.{Settings}
+use Rattle.jiter_value.specs.declared.stacks.Slot.{Slot}
+use Rattle.jiter_value.specs.declared.stacks.Slot.TheVariants as slot
+use Rattle.jiter_value.specs.declared.stacks.Stacks.{Stacks}
+use Rattle.jiter_value.specs.declared.stacks.State.{State}
+use Rattle.jiter_value.specs.declared.stacks.State.TheVariants as state
+
+-- A state at which more is awaited,
+pub goes-on : (a : State) → a ≢ state.Done → a ≢ state.GivenUp → GoesOn a
+goes-on state.Root more kept = tt
+goes-on state.Item more kept = tt
+goes-on state.Member more kept = tt
+goes-on state.Key more kept = tt
+goes-on state.Done more kept = absurd (more refl)
+goes-on state.GivenUp more kept = absurd (kept refl)
+
+-- a promise of a turn that goes on,
+pub on-if : (s : Stacks) (a : State) {P : Type 0} → GoesOn a → OnOk (outcome s a) P → P
+on-if s state.Root on h = h
+on-if s state.Item on h = h
+on-if s state.Member on h = h
+on-if s state.Key on h = h
+on-if s state.Done on h = absurd on
+on-if s state.GivenUp on h = absurd on
+
+grows-if : (s : Stacks) (a : State) (P : Type 0) → GoesOn a → MayGrowFor (outcome s a) P → P
+grows-if s state.Root P on h = h
+grows-if s state.Item P on h = h
+grows-if s state.Member P on h = h
+grows-if s state.Key P on h = h
+grows-if s state.Done P on h = absurd on
+grows-if s state.GivenUp P on h = absurd on
+
+grows-any : (r : Result State ReadError) (P : Type 0) → P → MayGrowFor r P
+grows-any (Ok state.Root) P h = h
+grows-any (Ok state.Item) P h = h
+grows-any (Ok state.Member) P h = h
+grows-any (Ok state.Key) P h = h
+grows-any (Ok state.Done) P h = tt
+grows-any (Ok state.GivenUp) P h = h
+grows-any (Err (error.Fault f)) P h = tt
+grows-any (Err (error.Memory m)) P h = h
+
+-- and what is awaited then.
+pub awaited : (made : Keeping) (W : Type 0) (t : List ℕ) (i : ℕ) (p : Settings) (s : Stacks) (j : ℕ) (a : State)
+    → HasCome made W t i p s j a → GoesOn a
+    → (value_at (rules_as made p) t nesting_limit i ≡ meaning made p t s a j) × IsWithin t s a j
+awaited made W t i p s j state.Root h on = h.reaches
+awaited made W t i p s j state.Item h on = h.reaches
+awaited made W t i p s j state.Member h on = h.reaches
+awaited made W t i p s j state.Key h on = h.reaches
+awaited made W t i p s j state.Done h on = absurd on
+awaited made W t i p s j state.GivenUp h on = absurd on
+
+-- A turn leads on from where turns have led.
+module _ (made : Keeping) (W : Type 0) (t : List ℕ) (i : ℕ) (p : Settings) (s : Stacks) (j : ℕ) (a : State)
+    (come : HasCome made W t i p s j a) (on : GoesOn a) (n : Stacks) (r : ℕ × State) where
+  pub come-on : (l h : ℕ) → Proceeds made p t j l h (meaning made p t s a j) n r
+      → (a ≡ state.Root → MayGrowFor (outcome n r.1) (MayGrowBy W t j)) → HasCome made W t i p n r.0 r.1
+  come-on l h leads grows = record {
+    reaches = subst (Reaches made p t n r.0 (outcome n r.1)) (sym (awaited made W t i p s j a come on).0) leads.reaches;
+    begins = come.begins;
+    within = (omega (arith, come.within.0, leads.within.0), leads.within.1);
+    grows = inr (elim come.grows [
+      | inl at ↦ subst (λ k. MayGrowFor (outcome n r.1) (MayGrowBy W t k)) at.1 (grows at.0)
+      | inr any ↦ grows-any (outcome n r.1) (MayGrowBy W t i) (grows-if s a (MayGrowBy W t i) on any)
+    ]);
+  }
+
+-- The same where a value is awaited.
+value-proceeds : (made : Keeping) (p : Settings) (t : List ℕ) (s : Stacks) (j : ℕ) (a : State) → GoesOn a
+    → a ≢ state.Key → (l : ℕ) (n : Stacks) (r : ℕ × State)
+    → Proceeds made p t j l (value_size s (slot_of a) + 1) (from_value made p t s (slot_of a) j) n r
+    → Proceeds made p t j l (held s a + 1) (meaning made p t s a j) n r
+value-proceeds made p t s j state.Root on other l n r h = h
+value-proceeds made p t s j state.Item on other l n r h = h
+value-proceeds made p t s j state.Member on other l n r h = h
+value-proceeds made p t s j state.Key on other l n r h = absurd (other refl)
+value-proceeds made p t s j state.Done on other l n r h = absurd on
+value-proceeds made p t s j state.GivenUp on other l n r h = absurd on
+
+pub value-on : (made : Keeping) (W : Type 0) (t : List ℕ) (i : ℕ) (p : Settings) (s : Stacks) (j : ℕ) (a : State)
+    → HasCome made W t i p s j a → GoesOn a → a ≢ state.Key → (b : Slot) → b ≡ slot_of a → (n : Stacks) (r : ℕ × State)
+    (l : ℕ) → Proceeds made p t j l (value_size s b + 1) (from_value made p t s b j) n r
+    → (b ≡ slot.Root → MayGrowFor (outcome n r.1) (MayGrowBy W t j)) → HasCome made W t i p n r.0 r.1
+value-on made W t i p s j a come on other b at n r l leads grows =
+    come-on made W t i p s j a come on n r l (held s a + 1)
+    (value-proceeds made p t s j a on other l n r
+    (subst (λ b. Proceeds made p t j l (value_size s b + 1) (from_value made p t s b j) n r) at leads))
+    (λ root. grows (at ∙ ap slot_of root))
+
+-- ---- the keys of the members that are held
+pub keys-left : (ks : List (List ℕ)) (old new : List Member) → HaveKeys ks old → LeavesKeys old new → HaveKeys ks new
+keys-left ks old new have kept =
+    let n = length new in
+    let few : n ≤ length old =
+    omega (arith, key_count new, key_count old, ap length kept.keys, length-take n (keys_of old)) in
+    kept.keys ∙ ap (take n) have ∙ take-take n (length old) ks few
+
+-- ---- how many turns are left
+abbrev pub turns_left : State → ℕ → ℕ
+turns_left state.GivenUp n = 0
+turns_left state.Root n = n + 1
+turns_left state.Item n = n + 1
+turns_left state.Member n = n + 1
+turns_left state.Key n = n + 1
+turns_left state.Done n = n + 1
+
+some-left : (a : State) (n : ℕ) → GoesOn a → 0 < turns_left a n
+some-left state.Root n on = omega arith
+some-left state.Item n on = omega arith
+some-left state.Member n on = omega arith
+some-left state.Key n on = omega arith
+some-left state.Done n on = absurd on
+some-left state.GivenUp n on = absurd on
+
+many-left : (a : State) (m n : ℕ) → GoesOn a → m < n → m + 1 < turns_left a n
+many-left state.Root m n on h = omega (arith, h)
+many-left state.Item m n on h = omega (arith, h)
+many-left state.Member m n on h = omega (arith, h)
+many-left state.Key m n on h = omega (arith, h)
+many-left state.Done m n on h = absurd on
+many-left state.GivenUp m n on h = absurd on
+
+pub fewer-left : (s : Stacks) (a b : State) (m n : ℕ) → GoesOn a → OnOk (outcome s b) (m < n)
+    → turns_left b m < turns_left a n
+fewer-left s a state.GivenUp m n on h = some-left a n on
+fewer-left s a state.Root m n on h = many-left a m n on h
+fewer-left s a state.Item m n on h = many-left a m n on h
+fewer-left s a state.Member m n on h = many-left a m n on h
+fewer-left s a state.Key m n on h = many-left a m n on h
+fewer-left s a state.Done m n on h = many-left a m n on h

@@ -1,0 +1,18 @@
+use Rattle.std.proofs.Common.{◌≡◌, ℕ, List, true}
+use Rattle.jiter_value.specs.Stacks.{HaveKeys}
+use Rattle.jiter_value.specs.Turns.{GoesOn, HasCome, HasGone, left}
+use Rattle.jiter_value.proofs.Turning.{turns_left}
+use Rattle.jiter_value.proofs.turns.Reading.go.Given as goal
+
+abbrev pub invariant-turning : goal.invariant-turning
+invariant-turning g l =
+    ((i : ℕ) → HasGone g.T.Texts.made g.T.Texts.wants l.bytes i l.initial.self
+    → HasCome g.T.Texts.made g.T.Texts.wants l.bytes i l.self.settings l.self.stacks l.at l.state)
+    × (l.self.settings ≡ l.initial.self.settings)
+    × g.K.Keys.serves l.keys g.T.Texts.made l.bytes
+    × (GoesOn l.state → (ks : List (List ℕ)) × g.K.Keys.knows l.keys ks × HaveKeys ks l.self.stacks.members.items)
+    × (l.once ≡ true → (l.at ≡ l.initial.self.at) × (l.state ≡ l.initial.self.state)
+    × (l.self.stacks ≡ l.initial.self.stacks))
+
+abbrev pub decreases-turning : goal.decreases-turning
+decreases-turning g l = turns_left l.state (left l.bytes l.self.stacks l.at)

@@ -1,0 +1,6 @@
+//! What the pull reader of `jiter` keeps, skips and finds damaged: tests alone. Its answers call by call are the
+//! rows of crates/reader_answers.
+#![tactic(auto)]
+
+#[cfg(test)]
+mod tests;

@@ -1,0 +1,104 @@
+//! Escapes, texts and strings that come in pieces.
+ghost use Rattle.std.specs.Prelude.{◌<◌};
+
+use jiter_scan::memory::Refused;
+use jiter_steps::open_escape::{OpenEscape, Spelled};
+use jiter_steps::open_string::OpenString;
+use jiter_steps::open_text::OpenText;
+use std::alloc::{AllocError, Global};
+use std::io;
+use test_rows::bytes_of;
+
+/// How many bytes behind a backslash are taken before one is the last, or shows a fault, and what is told then.
+pub fn answer_escape(rt: &HostRuntime, bytes: &[u8]) -> io::Result<()> {
+    let mut escape = OpenEscape::new();
+    for (count, byte) in bytes.iter().enumerate() {
+        match escape.next(*byte) {
+            Spelled::Part => {}
+            told => return println!(rt; "{told:?} behind {count}"),
+        }
+    }
+    println!(rt; "Part")
+}
+
+// The text of the bytes, in parts of this size at most.
+fn in_parts(alloc: Global, bytes: &[u8], size: usize) -> Result<OpenText, Refused>
+    requires { 0 < size }
+{
+    let mut text = OpenText::new(alloc);
+    for part in bytes.chunks(size) {
+        let count = text.add(part)?;
+        text.add(&part[count..])?;
+    }
+    Ok(text)
+}
+
+// What a text holds, and whether it is one where the input may cut it and where it must be complete.
+fn told_text(alloc: Global, text: &OpenText) -> Result<String, AllocError> {
+    let cut = text.is_text(true);
+    let complete = text.is_text(false);
+    format!(in alloc; "{:?}, cut {cut}, complete {complete}", text.text())
+}
+
+/// The text of the bytes: the same in parts of each size up to eight.
+pub fn answer_text(rt: &HostRuntime, alloc: Global, bytes: &[u8]) -> io::Result<()> {
+    let mut told = String::new(alloc);
+    for size in 1..9usize {
+        let Ok(text) = in_parts(alloc, bytes, size) else {
+            return println!(rt; "out of memory");
+        };
+        let other = told_text(alloc, &text)?;
+        if size > 1 && other != told {
+            return println!(rt; "otherwise in parts of {size}");
+        }
+        told = other;
+    }
+    println!(rt; "{told}")
+}
+
+/// How many bytes of each piece a text takes, and what it holds then.
+pub fn answer_text_pieces(rt: &HostRuntime, alloc: Global, input: &str) -> io::Result<()> {
+    let mut text = OpenText::new(alloc);
+    for piece in input.split('|') {
+        match text.add(bytes_of(alloc, piece)?.as_slice()) {
+            Ok(count) => print!(rt; "{count} ")?,
+            Err(_) => print!(rt; "out of memory ")?,
+        }
+    }
+    println!(rt; "{:?}", text.text())
+}
+
+/// How many bytes of each piece are taken as long as all are right, and what the text holds then.
+pub fn answer_right_pieces(rt: &HostRuntime, alloc: Global, input: &str) -> io::Result<()> {
+    let mut text = OpenText::new(alloc);
+    for piece in input.split('|') {
+        let piece = bytes_of(alloc, piece)?;
+        let run = piece.as_slice();
+        if run.is_empty() || !text.is_text(true) {
+            return println!(rt; "no right text");
+        }
+        let (count, end) = text.add_right(run);
+        print!(rt; "[{count} {:?}]", text.text())?;
+        if end.is_err() {
+            return println!(rt; "out of memory");
+        }
+    }
+    println!(rt; "")
+}
+
+/// How many bytes of each piece are taken within a string, and what its text is then.
+pub fn answer_string_pieces(rt: &HostRuntime, alloc: Global, input: &str) -> io::Result<()> {
+    let mut string = OpenString::new(alloc);
+    for piece in input.split('|') {
+        let piece = bytes_of(alloc, piece)?;
+        if !string.is_text(true) {
+            return println!(rt; "no right text");
+        }
+        let (count, end) = string.take_inside(piece.as_slice());
+        print!(rt; "[{count} {:?}]", string.text())?;
+        if end.is_err() {
+            return println!(rt; "out of memory");
+        }
+    }
+    println!(rt; "")
+}

@@ -1,0 +1,114 @@
+//! Strings, decoded and raw, and those that are plain.
+ghost use Rattle.std.specs.Prelude.{◌<◌, length};
+
+use jiter_scan::simd::scan_string;
+use jiter_scan::word::byte_at;
+use jiter_steps::plain::{plain_text_end, text_between};
+use jiter_steps::raw_string::{raw_string_at, string_end};
+use jiter_steps::read_error::ReadError;
+use jiter_steps::string_decoder::string_at;
+use std::alloc::{AllocError, Global};
+use std::borrow::CowStr;
+use std::io;
+
+fn told_text(alloc: Global, text: &CowStr<'_>, end: usize) -> Result<String, AllocError> {
+    let form = if matches!(text, CowStr::Borrowed(_)) {
+        "borrowed"
+    } else {
+        "owned"
+    };
+    let text = text.as_str();
+    format!(in alloc; "{form} {text:?} to {end}")
+}
+
+// The text of a string and the index after it, or its fault.
+fn told_string(
+    alloc: Global,
+    tape: &mut Vec<u8>,
+    bytes: &[u8],
+    at: usize,
+    keep: bool,
+) -> Result<String, AllocError>
+    requires { at < length bytes.now }
+{
+    match string_at(alloc, tape, bytes, at, keep) {
+        Ok((text, end)) => told_text(alloc, &text, end),
+        Err(ReadError::Fault(fault)) => { format!(in alloc; "{:?} at {}", fault.kind, fault.index) }
+        Err(ReadError::Memory(_)) => format!(in alloc; "out of memory"),
+    }
+}
+
+/// The string at the mark: the same with a tape that has no room and with one that has.
+pub fn answer_string(
+    rt: &HostRuntime,
+    alloc: Global,
+    bytes: &[u8],
+    at: usize,
+    keep: bool,
+) -> io::Result<()>
+    requires { at < length bytes.now }
+{
+    let mut tape = Vec::new(alloc);
+    let told = told_string(alloc, &mut tape, bytes, at, keep)?;
+    let mut roomy = vec![in alloc; b'x'; 64]?;
+    if told_string(alloc, &mut roomy, bytes, at, keep)? != told {
+        return println!(rt; "otherwise with a tape of 64 bytes");
+    }
+    println!(rt; "{told}")
+}
+
+// Where a raw string ends, closed or open, or its fault.
+fn told_raw(alloc: Global, bytes: &[u8], at: usize, keep: bool) -> Result<String, AllocError>
+    requires { at < length bytes.now }
+{
+    match raw_string_at(bytes, at, keep) {
+        Ok((content, end)) => {
+            if bytes.get(at + 1..end.saturating_sub(1)) == Some(content) {
+                format!(in alloc; "to {end}")
+            } else if bytes.get(at + 1..end) == Some(content) {
+                format!(in alloc; "open to {end}")
+            } else {
+                format!(in alloc; "other bytes")
+            }
+        }
+        Err(fault) => format!(in alloc; "{:?} at {}", fault.kind, fault.index),
+    }
+}
+
+/// The raw string at the mark, as all three readings say; and where it is kept open, if that differs.
+pub fn answer_raw(rt: &HostRuntime, alloc: Global, bytes: &[u8], at: usize) -> io::Result<()>
+    requires { at < length bytes.now }
+{
+    let told = told_raw(alloc, bytes, at, false)?;
+    let kept = told_raw(alloc, bytes, at, true)?;
+    let end = match string_end(bytes, at) {
+        Ok(end) => format!(in alloc; "to {end}")?,
+        Err(fault) => format!(in alloc; "{:?} at {}", fault.kind, fault.index)?,
+    };
+    if end != told {
+        return println!(rt; "string_end answers otherwise");
+    }
+    if kept == told {
+        return println!(rt; "{told}");
+    }
+    println!(rt; "{told}, kept {kept}")
+}
+
+/// The index of the closing quote, if all before it is plain ASCII.
+pub fn answer_plain_text_end(rt: &HostRuntime, bytes: &[u8], at: usize) -> io::Result<()>
+    requires { at < length bytes.now }
+{
+    println!(rt; "{:?}", plain_text_end(bytes, at))
+}
+
+/// The text between the quote at the mark and the next one, if nothing else stops it.
+pub fn answer_text_between(rt: &HostRuntime, bytes: &[u8], at: usize) -> io::Result<()>
+    requires { at < length bytes.now }
+{
+    let (to, _) = scan_string(bytes, at + 1);
+    let text = match byte_at(bytes, to) {
+        Some(b'"') => text_between(bytes, at, to),
+        _ => None,
+    };
+    println!(rt; "{text:?}")
+}

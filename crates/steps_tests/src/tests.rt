@@ -1,0 +1,6 @@
+//! Blanks and strings of each length, with damage at each place; strings cut at every byte.
+mod blanks;
+mod open_strings;
+mod open_texts;
+mod raw_strings;
+mod skips;
