@@ -11,7 +11,7 @@ ghost use Rattle.jiter_scan.specs.Simd.{digits_end, ascii_from, failing, is_no_m
 ghost use Rattle.jiter_scan.specs.Simd.{IsEightBytes};
 
 use crate::memory::Refused;
-use crate::tape::{make_room, put_chunk};
+use crate::tape::{put_chunk, put_slice};
 use std::simd::prelude::*;
 
 // A bit for each byte that ends a string's plain bytes.
@@ -295,62 +295,43 @@ pub fn string_stop(bytes: &[u8], from: usize) -> usize
     stop
 }
 
-// The same where sixteen bytes more, or the room for them, may be missing: the first stop is looked for before they are
-// copied.
-#[inline(never)]
-fn copy_rest(
-    buffer: &mut Vec<u8>,
-    count: usize,
-    bytes: &[u8],
-    from: usize,
-    ascii: bool,
-) -> Result<(usize, bool), Refused>
-    requires within { from ≤ length bytes.now }
-    requires front { count ≤ vec_len buffer.old }
-    ensures text { IfOk result (λ r. take r.0 buffer.new.items
-        ≡ take count buffer.old.items ++ slice_range bytes.now from (scan_stop bytes.now from)) }
-    ensures count { IfOk result (λ r. r.0 + from ≡ count + scan_stop bytes.now from) }
-    ensures room { IfOk result (λ r. r.0 + 32 ≤ vec_len buffer.new) }
-    ensures ascii { IfOk result (λ r. r.1 ≡ (ascii && ascii_from bytes.now from)) }
-{
-    let (to, low) = scan_wide(bytes, from, ascii);
-    let end = count + (to - from);
-    make_room(buffer, count, to - from)?;
-    buffer.as_mut_slice()[count..end].copy_from_slice(&bytes[from..to]);
-    Ok((end, low))
-}
-
-/// Copies the plain bytes of a string from a byte index on, up to the first quote, backslash or control byte, or the length,
-/// behind the first bytes of a buffer: how many of its bytes count then, and whether all that were copied are below 80 hex.
-/// The buffer grows where it has to, and has room for sixteen bytes more (RFC 8259, 7).
+/// Copies the plain bytes of a string from a byte index on, up to the first quote, backslash or control byte, or the
+/// length, to a buffer, after so many bytes that count there. Gives the index where it stops, how many bytes of the
+/// buffer count then, and whether all that were copied are below 80 hex. The buffer grows where it has to, and has room
+/// for sixteen bytes more (RFC 8259, 7).
 #[inline(always)]
 pub fn copy_plain(
     buffer: &mut Vec<u8>,
     count: usize,
     bytes: &[u8],
     from: usize,
-) -> Result<(usize, bool), Refused>
+) -> Result<(usize, usize, bool), Refused>
     requires within { from ≤ length bytes.now }
     requires front { count ≤ vec_len buffer.old }
-    ensures text { IfOk result (λ r. take r.0 buffer.new.items
+    ensures stop { IfOk result (λ r. r.0 ≡ scan_stop bytes.now from) }
+    ensures text { IfOk result (λ r. take r.1 buffer.new.items
         ≡ take count buffer.old.items ++ slice_range bytes.now from (scan_stop bytes.now from)) }
-    ensures count { IfOk result (λ r. r.0 + from ≡ count + scan_stop bytes.now from) }
-    ensures room { IfOk result (λ r. r.0 + 16 ≤ vec_len buffer.new) }
-    ensures ascii { IfOk result (λ r. IsTrue r.1 ↔ IsAsciiTo bytes.now from (scan_stop bytes.now from)) }
+    ensures room { IfOk result (λ r. r.1 + 16 ≤ vec_len buffer.new) }
+    ensures ascii { IfOk result (λ r. IsTrue r.2 ↔ IsAsciiTo bytes.now from (scan_stop bytes.now from)) }
 {
     let mut i = from;
     let mut end = count;
     let mut clean = true;
-    while bytes.len() - i >= 16 && buffer.len() - end >= 32 {
+    let mut left = (bytes.len() - i).min(buffer.len() - end);
+    while left >= 32 {
         let (found, high) = put_chunk(buffer, end, bytes, i);
         if found != 0 {
-            return Ok(first_stop(end, found, high, clean));
+            let (stop, low) = first_stop(i, found, high, clean);
+            return Ok((stop, end + (stop - i), low));
         }
         clean = both(clean, high == 0);
         i += 16;
         end += 16;
+        left -= 16;
     }
-    copy_rest(buffer, end, bytes, i, clean)
+    let (stop, low) = scan_far(bytes, i, clean);
+    let after = put_slice(buffer, end, &bytes[i..stop])?;
+    Ok((stop, after, low))
 }
 
 #[inline(always)]

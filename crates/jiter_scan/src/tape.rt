@@ -1,5 +1,5 @@
 //! A tape: bytes of which only the first so many count, and room behind them for more to be written at once.
-ghost use Rattle.std.specs.Prelude.{◌≡◌, ◌+◌, ◌^◌, ◌<◌, ◌≤◌, ◌++◌, OnOk, length, take};
+ghost use Rattle.std.specs.Prelude.{◌≡◌, ◌+◌, ◌^◌, ◌<◌, ◌≤◌, ◌++◌, IfOk, OnOk, length, take};
 ghost use Rattle.std.specs.Prelude.{vec_len};
 ghost use Rattle.std.specs.Char.{encode_utf8};
 ghost use Rattle.std.specs.Simd.Lanes.{chunk};
@@ -30,6 +30,19 @@ pub(crate) fn make_room(tape: &mut Vec<u8>, count: usize, bytes: usize) -> Resul
         double(tape)?;
     }
     Ok(())
+}
+
+/// Writes bytes after the first ones of the tape, which grows where it has to, and gives how many count then.
+#[inline(always)]
+pub(crate) fn put_slice(tape: &mut Vec<u8>, count: usize, bytes: &[u8]) -> Result<usize, Refused>
+    requires front { count ≤ vec_len tape.old }
+    ensures text { IfOk result (λ n. take n tape.new.items ≡ take count tape.old.items ++ bytes.now) }
+    ensures room { IfOk result (λ n. n + 32 ≤ vec_len tape.new) }
+{
+    make_room(tape, count, bytes.len())?;
+    let end = count + bytes.len();
+    tape.as_mut_slice()[count..end].copy_from_slice(bytes);
+    Ok(end)
 }
 
 // Writes the bytes of a vector.

@@ -6,9 +6,10 @@
 -- string (RawStrings), of what the plain way takes (PlainAnswers), and of what was decoded (Decoded). Skipping: a
 -- skip's open containers complete the rest of the text to a reading of ends (Skipping), the plain way through them
 -- (PlainSkips, RawEscapes), and that it ends where reading the value does, or meets its fault, but for that of UTF-8
--- (SkipLaw). The machine: what its open containers, as frames, complete the reading of a value to (Resumed).
+-- (SkipLaw). The table of the letters of escapes (Letters). The machine: what its open containers, as frames, complete the reading of a value to (Resumed).
 pub mod DecodeSteps
 pub mod Decoded
+pub mod Letters
 pub mod PlainAnswers
 pub mod PlainRuns
 pub mod PlainSkips

@@ -49,20 +49,37 @@ fn digit(byte: u8) -> Option<u32>
     }
 }
 
-fn short_escape(byte: u8) -> Option<u8>
-    ensures value { result ≡ short_escape byte }
+// What a backslash and each byte stand for, or 0 where they are no escape of one letter (RFC 8259, 7).
+static SIGNS: [u8; 256] = [
+    0, 0, 0, 0, 0, 0, 0, 0, 0, 0, 0, 0, 0, 0, 0, 0, 0, 0, 0, 0, 0, 0, 0, 0, 0, 0, 0, 0, 0, 0, 0, 0,
+    0, 0, 34, 0, 0, 0, 0, 0, 0, 0, 0, 0, 0, 0, 0, 47, 0, 0, 0, 0, 0, 0, 0, 0, 0, 0, 0, 0, 0, 0, 0,
+    0, 0, 0, 0, 0, 0, 0, 0, 0, 0, 0, 0, 0, 0, 0, 0, 0, 0, 0, 0, 0, 0, 0, 0, 0, 0, 0, 0, 0, 92, 0,
+    0, 0, 0, 0, 8, 0, 0, 0, 12, 0, 0, 0, 0, 0, 0, 0, 10, 0, 0, 0, 13, 0, 9, 0, 0, 0, 0, 0, 0, 0, 0,
+    0, 0, 0, 0, 0, 0, 0, 0, 0, 0, 0, 0, 0, 0, 0, 0, 0, 0, 0, 0, 0, 0, 0, 0, 0, 0, 0, 0, 0, 0, 0, 0,
+    0, 0, 0, 0, 0, 0, 0, 0, 0, 0, 0, 0, 0, 0, 0, 0, 0, 0, 0, 0, 0, 0, 0, 0, 0, 0, 0, 0, 0, 0, 0, 0,
+    0, 0, 0, 0, 0, 0, 0, 0, 0, 0, 0, 0, 0, 0, 0, 0, 0, 0, 0, 0, 0, 0, 0, 0, 0, 0, 0, 0, 0, 0, 0, 0,
+    0, 0, 0, 0, 0, 0, 0, 0, 0, 0, 0, 0, 0, 0, 0, 0, 0, 0, 0, 0, 0, 0, 0, 0, 0, 0, 0, 0, 0, 0, 0, 0,
+    0, 0, 0,
+];
+
+// What a backslash and this byte stand for, or 0 where they are no escape of one letter.
+#[inline(always)]
+pub(crate) fn sign_of(letter: u8) -> u8
+    ensures some { result ≢ 0 → short_escape letter ≡ Some result }
+    ensures none { result ≡ 0 → short_escape letter ≡ None }
+    ensures ascii { result < 128 }
+{
+    SIGNS[letter as usize]
+}
+
+#[inline(always)]
+fn short_escape(letter: u8) -> Option<u8>
+    ensures value { result ≡ short_escape letter }
     ensures ascii { IfSome result (λ c. c < 128) }
 {
-    match byte {
-        b'"' => Some(b'"'),
-        b'\\' => Some(b'\\'),
-        b'/' => Some(b'/'),
-        b'b' => Some(8),
-        b'f' => Some(12),
-        b'n' => Some(b'\n'),
-        b'r' => Some(b'\r'),
-        b't' => Some(b'\t'),
-        _ => None,
+    match sign_of(letter) {
+        0 => None,
+        sign => Some(sign),
     }
 }
 
@@ -251,25 +268,6 @@ pub(crate) fn next_portion(bytes: &[u8], at: usize) -> AtStop
     match escape_at(bytes, at) {
         Some((c, end)) => AtStop::Escape(c, end),
         None => portion_at(bytes, at),
-    }
-}
-
-// What the letter of an escape stands for, or 0 where it is no escape of one letter.
-#[inline(always)]
-fn sign_of(letter: u8) -> u8
-    ensures value { result ≢ 0 → short_escape letter ≡ Some result }
-    ensures ascii { result < 128 }
-{
-    match letter {
-        b'"' => b'"',
-        b'\\' => b'\\',
-        b'/' => b'/',
-        b'b' => 8,
-        b'f' => 12,
-        b'n' => b'\n',
-        b'r' => b'\r',
-        b't' => b'\t',
-        _ => 0,
     }
 }
 

@@ -14,7 +14,7 @@ ghost use Rattle.jiter_steps.specs.Read.{scalar_at};
 ghost use Rattle.jiter_steps.specs.StringReading.{content_at, string_at, raw, raw_form};
 ghost use Rattle.jiter_steps.specs.StringReading.{Stop, part, over, portion_at, number, unit_at, hex_digits_at};
 
-use crate::escape::{AtStop, Ending, portion_at};
+use crate::escape::{AtStop, Ending, portion_at, sign_of};
 use crate::parse::Parser;
 use crate::string_decoder::cut_short;
 use jiter_scan::errors::Fault;
@@ -26,7 +26,7 @@ use jiter_scan::word::byte_at;
 fn is_short_escape(byte: u8) -> bool
     ensures { IsTrue result → short_escape byte ≢ None }
 {
-    matches!(byte, b'"' | b'\\' | b'/' | b'b' | b'f' | b'n' | b'r' | b't')
+    sign_of(byte) != 0
 }
 
 fn is_hex(byte: u8) -> bool

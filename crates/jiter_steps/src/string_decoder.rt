@@ -22,13 +22,12 @@ use jiter_scan::simd::{both, copy_plain, scan_string};
 use jiter_scan::tape::put_char;
 use jiter_scan::text::utf8_text;
 use jiter_scan::word::byte_at;
-use simdutf8::compat::Utf8Error;
 use std::alloc::Global;
 use std::borrow::CowStr;
 
 // Decodes what stands from `from` on to the front of the tape: how many bytes that makes, whether they are known to be
 // UTF-8 with no test, and how the string ends.
-#[inline(never)]
+#[inline(always)]
 fn decode(tape: &mut Vec<u8>, bytes: &[u8], from: usize) -> Result<(usize, bool, Ending), Refused>
     requires { from ≤ length bytes.now }
     ensures text { IfOk result (λ r. take r.0 tape.new.items ≡ (body_at bytes.now from).bytes) }
@@ -40,63 +39,47 @@ fn decode(tape: &mut Vec<u8>, bytes: &[u8], from: usize) -> Result<(usize, bool,
     let mut count = 0;
     let mut known = true;
     loop {
-        let (end, low) = copy_plain(tape, count, bytes, at)?;
-        at += end - count;
-        count = end;
+        let (stop, end, low) = copy_plain(tape, count, bytes, at)?;
         known = both(known, low);
-        let sign = sign_at(bytes, at);
+        let sign = sign_at(bytes, stop);
         if sign != 0 {
-            tape[count] = sign;
-            count += 1;
-            at += 2;
+            tape[end] = sign;
+            count = end + 1;
+            at = stop + 2;
             continue;
         }
-        match next_portion(bytes, at) {
-            AtStop::Escape(c, end) => {
-                count = put_char(tape, count, c);
-                at = end;
+        match next_portion(bytes, stop) {
+            AtStop::Escape(c, after) => {
+                count = put_char(tape, end, c);
+                at = after;
             }
-            AtStop::End(ending) => return Ok((count, known, ending)),
+            AtStop::End(ending) => return Ok((end, known, ending)),
         }
     }
 }
 
-// The bytes as a text: with no look at them where they are known to be UTF-8, else tested.
+// How many bytes of a content are its text: of one that is kept, without an unfinished character at its end. Or how
+// many are right before one that is wrong.
 #[inline(always)]
-fn text_of(bytes: &[u8], known: bool) -> Result<&str, Utf8Error>
-    requires { IsTrue known → IsUtf8 bytes.now }
-    ensures cases { MatchResult result (λ text. (text.now ≡ bytes.now) × IsUtf8 bytes.now)
-        (λ e. ¬ (IsUtf8 bytes.now) × IsValidUpTo bytes.now (valid_up_to e)) }
-    ensures valid { IfErr result (λ e. valid_up_to e ≡ utf8_valid_len bytes.now) }
-    ensures rest { IfErr result
-        (λ e. error_len e ≡ utf8_error_len (drop (valid_up_to e) bytes.now)) }
-{
-    if known {
-        Ok(utf8_text(bytes))
-    } else {
-        simdutf8::compat::from_utf8(bytes)
-    }
-}
-
-// The bytes as a text; of one that is kept, without an unfinished character at their end. Or how many are right
-// before one that is wrong.
-fn checked_text(content: &[u8], known: bool, keep: bool) -> Result<&str, usize>
+fn checked_count(content: &[u8], known: bool, keep: bool) -> Result<usize, usize>
     requires { IsTrue known → IsUtf8 content.now }
     ensures value { (i e : ℕ) → (owned : Bool) → MatchResult result
-        (λ text. checked keep i owned content.now e
-        ≡ taken (record { owned = owned; bytes = text.now }) e)
+        (λ n. checked keep i owned content.now e
+        ≡ taken (record { owned = owned; bytes = take n content.now }) e)
         (λ n. checked keep i owned content.now e ≡ failed invalid_code_point (i + n)) }
+    ensures text { IfOk result (λ n. IsUtf8 (take n content.now)) }
+    ensures front { IfOk result (λ n. n ≤ length content.now) }
     ensures within { IfErr result (λ n. n ≤ length content.now) }
 {
-    match text_of(content, known) {
-        Ok(text) => Ok(text),
+    if known {
+        return Ok(content.len());
+    }
+    match simdutf8::compat::from_utf8(content) {
+        Ok(_) => Ok(content.len()),
         Err(e) => match e.error_len() {
             Some(_) => Err(e.valid_up_to()),
-            None if !keep => Err(e.valid_up_to()),
-            None => match simdutf8::compat::from_utf8(&content[..e.valid_up_to()]) {
-                Ok(text) => Ok(text),
-                Err(_) => unreachable!(),
-            },
+            None if keep => Ok(e.valid_up_to()),
+            None => Err(e.valid_up_to()),
         },
     }
 }
@@ -116,36 +99,10 @@ fn borrow_text<'j>(
     ensures { Scans (with_end text_view) result
         (checked keep from false (slice_range bytes.now from to) end) }
 {
-    match checked_text(&bytes[from..to], ascii, keep) {
-        Ok(text) => Ok((CowStr::Borrowed(text), end)),
+    let content = &bytes[from..to];
+    match checked_count(content, ascii, keep) {
+        Ok(count) => Ok((CowStr::Borrowed(utf8_text(&content[..count])), end)),
         Err(right) => Err(fault_at(FaultKind::InvalidUnicodeCodePoint, from + right)),
-    }
-}
-
-// The decoded bytes, of a content that begins at `from`, as a text of their own.
-#[inline(always)]
-fn own_text<'j>(
-    alloc: Global,
-    bytes: &[u8],
-    known: bool,
-    from: usize,
-    end: usize,
-    keep: bool,
-) -> Result<(CowStr<'j>, usize), ReadError>
-    requires within { from + length bytes.now < 2 ^ 64 }
-    requires known { IsTrue known → IsUtf8 bytes.now }
-    ensures { UnlessRefused result (λ r. Scans (with_end text_view) r
-        (checked keep from true bytes.now end)) }
-{
-    match checked_text(bytes, known, keep) {
-        Ok(text) => {
-            let own = copy_text(alloc, text)?;
-            Ok((CowStr::Owned(own), end))
-        }
-        Err(right) => {
-            let fault = fault_at(FaultKind::InvalidUnicodeCodePoint, from + right);
-            Err(ReadError::Fault(fault))
-        }
     }
 }
 
@@ -181,51 +138,6 @@ fn text_end(bytes: &[u8], ending: Ending, keep: bool) -> Result<usize, Fault>
     }
 }
 
-// The text of a string with a backslash.
-#[inline(always)]
-fn decode_text<'j>(
-    alloc: Global,
-    tape: &mut Vec<u8>,
-    bytes: &'j [u8],
-    at: usize,
-    keep: bool,
-) -> Result<(CowStr<'j>, usize), ReadError>
-    requires within { at < length bytes.now }
-    requires backslash { WantsMemory bytes.now at }
-    ensures { UnlessRefused result (λ r. Scans (with_end text_view) r
-        (string_at (text_form keep) bytes.now at)) }
-{
-    let (count, known, ending) = decode(tape, bytes, at + 1)?;
-    let end = text_end(bytes, ending, keep)?;
-    own_text(alloc, &tape.as_slice()[..count], known, at + 1, end, keep)
-}
-
-// How many bytes of a decoded content are its text: of one that is kept, without an unfinished character at their
-// end. Or how many are right before one that is wrong.
-#[inline(always)]
-fn checked_count(content: &[u8], known: bool, keep: bool) -> Result<usize, usize>
-    requires { IsTrue known → IsUtf8 content.now }
-    ensures value { (i e : ℕ) → MatchResult result
-        (λ n. checked keep i true content.now e
-        ≡ taken (record { owned = true; bytes = take n content.now }) e)
-        (λ n. checked keep i true content.now e ≡ failed invalid_code_point (i + n)) }
-    ensures text { IfOk result (λ n. IsUtf8 (take n content.now)) }
-    ensures front { IfOk result (λ n. n ≤ length content.now) }
-    ensures within { IfErr result (λ n. n ≤ length content.now) }
-{
-    if known {
-        return Ok(content.len());
-    }
-    match simdutf8::compat::from_utf8(content) {
-        Ok(_) => Ok(content.len()),
-        Err(e) => match e.error_len() {
-            Some(_) => Err(e.valid_up_to()),
-            None if keep => Ok(e.valid_up_to()),
-            None => Err(e.valid_up_to()),
-        },
-    }
-}
-
 /// Decodes the string with a backslash whose opening quote is at the byte index `at` to the front of the tape,
 /// and gives how many bytes its text has there, with the index behind its closing quote. The faults, and what
 /// `keep` keeps, are those of [`string_at`].
@@ -253,6 +165,25 @@ pub fn decode_to(
             Err(ReadError::Fault(fault))
         }
     }
+}
+
+// The text of a string with a backslash.
+#[inline(always)]
+fn decode_text<'j>(
+    alloc: Global,
+    tape: &mut Vec<u8>,
+    bytes: &'j [u8],
+    at: usize,
+    keep: bool,
+) -> Result<(CowStr<'j>, usize), ReadError>
+    requires within { at < length bytes.now }
+    requires backslash { WantsMemory bytes.now at }
+    ensures { UnlessRefused result (λ r. Scans (with_end text_view) r
+        (string_at (text_form keep) bytes.now at)) }
+{
+    let (count, end) = decode_to(tape, bytes, at, keep)?;
+    let own = copy_text(alloc, utf8_text(&tape.as_slice()[..count]))?;
+    Ok((CowStr::Owned(own), end))
 }
 
 /// Decodes the string with a backslash whose opening quote is at the byte index `at` to the front of the tape,

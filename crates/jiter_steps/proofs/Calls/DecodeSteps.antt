@@ -83,20 +83,20 @@ pub encode-sign : (c : ℕ) → c < 128 → c ∷ [] ≡ encode_utf8 c
 unfolding encode_utf8
 encode-sign c h = sym (if-true (nat_lt c 128) _ _ (lt-ltb c 128 h))
 
--- Behind the first bytes of the tape the plain bytes up to the first stop are copied.
-module _ (t tape next : List ℕ) (at count end : ℕ) (within : at ≤ length t) (many : end + at ≡ count + scan_stop t at)
+-- The plain bytes up to the first stop are copied to the tape, after the bytes that count there.
+module _ (t tape next : List ℕ) (at count end stop : ℕ) (within : at ≤ length t) (is : stop ≡ scan_stop t at)
     (put : take end next ≡ take count tape ++ slice_range t at (scan_stop t at)) where
-  pub copied-to : at + (end - count) ≡ scan_stop t at
-  copied-to = omega (arith, many, run_end-ahead is_plain t at)
-
-  pub copied-within : at + (end - count) ≤ length t
-  copied-within = omega (arith, copied-to, run_end-within is_plain t at within)
+  pub copied-within : stop ≤ length t
+  copied-within = omega (arith, is, run_end-within is_plain t at within)
 
   pub copied-decoded : (whole : List ℕ) (s : Stop) → Decoded t whole s (take count tape) at
-      → Decoded t whole s (take end next) (at + (end - count))
+      → Decoded t whole s (take end next) stop
   copied-decoded whole s so_far =
-      decode-run t whole s (take count tape) at so_far (take end next) (end - count) within (omega (arith, copied-to))
-      (put ∙ ap (λ j. take count tape ++ slice_range t at j) (sym copied-to))
+      let ahead = run_end-ahead is_plain t at in
+      let to : at + (stop - at) ≡ stop = omega (arith, is, ahead) in
+      subst (Decoded t whole s (take end next)) to
+      (decode-run t whole s (take count tape) at so_far (take end next) (stop - at) within (omega (arith, is))
+      (put ∙ ap (λ j. take count tape ++ slice_range t at j) (sym (to ∙ is))))
 
   pub copied-known : (known low now : Bool) → (IsTrue known → IsUtf8 (take count tape))
       → (IsTrue low → IsAsciiTo t at (scan_stop t at)) → now ≡ (known && low) → IsTrue now → IsUtf8 (take end next)

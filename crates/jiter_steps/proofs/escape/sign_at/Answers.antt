@@ -11,6 +11,6 @@ returns-clause-value c = λ some.
     let i = c.args.at in
     let backslash = slice_get-get_or t i 0 (omega arith) ∙ ap Some c.if-bytes-at-ne92.false in
     let letter = slice_get-get_or t (i + 1) 0 (omega arith) in
-    let means = c.sign_of.ensures.value some in
+    let means = c.sign_of.ensures.some some in
     sym (decode-letter t i backslash _ c.sign_of.result letter
     (λ u. absurd (none-some _ (subst (λ b. short_escape b ≡ Some c.sign_of.result) u means))) means)

@@ -26,7 +26,7 @@ returns-in-Ok-clause-value c =
     let text = ap (take count) items ∙ d.text in
     let over = c.in_ok-end.ensures i (body_at t i).bytes true in
     rw (string-escaped t c.args.at r.within _ refl (text_form c.args.keep) r.backslash, ← d.stop, over, ← text)
-    (c.in-Ok.ensures.value i c.in_ok-end.end
+    (c.in-Ok.ensures.value i c.in_ok-end.end true
     ∙ ap (λ w. taken (record { owned = true; bytes = w }) c.in_ok-end.end)
     (front-front _ count c.in-Ok.fit c.in-Ok.ensures.front ∙ ap (take c.in-Ok.fit) items))
 
@@ -45,4 +45,4 @@ returns-in-Err-clause-value c =
       ← text,
       c.fault_at-fault.ensures,
     )
-    (c.in-Err.ensures.value i c.in_ok-end.end)
+    (c.in-Err.ensures.value i c.in_ok-end.end true)
