@@ -1,54 +1,7 @@
-//! The tape: plain bytes of each length, each place of their stop, and characters of each size.
+//! A tape: plain bytes and characters of each size, one after another.
 use jiter_scan::simd::copy_plain;
 use jiter_scan::tape::put_char;
-use std::alloc::Global;
 use std::test::*;
-
-// How many plain bytes are copied that stand at `from`, and whether they are told to be below 80 hex.
-fn copied(alloc: Global, source: &[u8], from: usize) -> Option<(usize, bool)> {
-    let mut tape = Vec::new(alloc);
-    if source.len() < from {
-        return None;
-    }
-    let (many, low) = match copy_plain(&mut tape, 0, source, from) {
-        Ok(found) => found,
-        Err(_) => return None,
-    };
-    if tape.as_slice()[..many] != source[from..from + many] {
-        return None;
-    }
-    Some((many, low))
-}
-
-#[test]
-fn plain_bytes_are_copied_up_to_a_stop_or_the_end(rt: HostRuntime) {
-    let plain = [b'a'; 40];
-    for stop in 0..40usize {
-        let mut source = plain;
-        source[stop] = b'"';
-        for from in 0..=stop {
-            let many = stop - from;
-            assert_eq!(rt; copied(rt.alloc(), &source, from), Some((many, true)));
-            assert_eq!(rt;
-                copied(rt.alloc(), &plain[..stop], from),
-                Some((many, true))
-            );
-        }
-    }
-}
-
-#[test]
-fn bytes_above_ascii_are_told_where_they_are_copied(rt: HostRuntime) {
-    let plain = [b'a'; 40];
-    for high in 0..40usize {
-        for stop in 0..40usize {
-            let mut source = plain;
-            source[high] = 0xc3;
-            source[stop] = b'\\';
-            assert_eq!(rt; copied(rt.alloc(), &source, 0), Some((stop, stop <= high)));
-        }
-    }
-}
 
 #[test]
 fn what_counts_on_the_tape_stays(rt: HostRuntime) {
@@ -62,7 +15,7 @@ fn what_counts_on_the_tape_stays(rt: HostRuntime) {
     ] {
         assert!(rt; count <= tape.len());
         match copy_plain(&mut tape, count, source, 0) {
-            Ok((end, low)) => {
+            Ok((_, end, low)) => {
                 assert!(rt; low);
                 count = end;
             }
