@@ -68,13 +68,6 @@ plain-run v n stop low all =
     plain-each v (subst (Pass is_plain) whole (prefix_len-pass is_plain n v (omega arith)))
     (subst (AllPass is_ascii) (ap (λ m. take m v) count ∙ whole) low)
 
--- Bytes that pass, and one more that does.
-pub pass-more : (test : ℕ → Bool) (v : List ℕ) (i : ℕ) → i < length v → Pass test (take i v)
-    → test (get_or v i 0) ≡ true → Pass test (take (suc i) v)
-pass-more test [] i within h is = absurd (omega arith)
-pass-more test (c ∷ v) zero within h is = (is, tt)
-pass-more test (c ∷ v) (suc i) within h is = (h.0, pass-more test v i (omega arith) h.1 is)
-
 -- ---- the document apart
 
 -- A document in which a string or a key is unfinished: what it leaves open is known and held.

@@ -547,14 +547,6 @@ pub lowered-on : (inner part v : JsonValue) (counter depth : ℕ) → Lowered in
 lowered-on inner part v counter depth h more moved =
     lowered-by inner part v h.count counter depth h.all h.inside more moved
 
-lowered-to : (inner v : JsonValue) (count : ℕ) → count ≡ 0 → IsInside count v inner → inner ≡ v
-lowered-to inner v zero none h = h
-lowered-to inner v (suc count) none h = absurd (omega (arith, none))
-
--- At last it is what is left.
-pub lowered : (inner v : JsonValue) (counter depth : ℕ) → Lowered inner v counter depth → depth ≤ counter → inner ≡ v
-lowered inner v counter depth h low = lowered-to inner v h.count (omega (arith, h.all, low)) h.inside
-
 -- A root is taken apart as far as so many containers, counted from the outermost: what is left of it is the last of the
 -- spine.
 pub record TakenDown (root : JsonValue) (spine : List JsonValue) (n depth : ℕ) : Type 0 where
@@ -564,15 +556,6 @@ pub record TakenDown (root : JsonValue) (spine : List JsonValue) (n depth : ℕ)
   pub down : (fs : List OpenFrame) (x : Tree) → depth ≡ length fs + 1 → view root ≡ filled fs x
       → Descended fs x (map view before) (view inner) n depth
   pub low : (m : ℕ) (v : JsonValue) → depth ≡ m + 1 → IsInside m v root → Lowered inner v n depth
-
-pub down-first : (root : JsonValue) (spine : List JsonValue) (depth : ℕ) → spine ≡ root ∷ [] → TakenDown root spine 1 depth
-down-first root spine depth h = record {
-  before = [];
-  inner = root;
-  all = h;
-  down = λ fs x deep is. begins fs x (view root) depth deep is;
-  low = λ m v deep inside. record { count = m; all = sym deep; inside = inside };
-}
 
 -- What is left has a last part, where more is inside it,
 pub down-part : (root : JsonValue) (spine : List JsonValue) (got : JsonValue) (n m depth : ℕ)
@@ -609,17 +592,3 @@ down-on root spine got hollow child n m depth t more at g moved was =
           lowered-on t.inner child v n depth (t.low k v deep inside) more
           (subst (λ u. (w : JsonValue) → IsLastPart w u → child ≡ w) (sym same.1) was);
     }
-
--- At last it is the innermost.
-pub down-all : (root : JsonValue) (spine : List JsonValue) (n depth : ℕ) (fs : List OpenFrame) (x : Tree)
-    → TakenDown root spine n depth → depth ≤ n → depth ≡ length fs + 1 → view root ≡ filled fs x
-    → map view spine ≡ spine_of fs x
-down-all root spine n depth fs x t low deep is =
-    ap (map view) t.all ∙ map_push view t.before t.inner
-    ∙ arrived fs x (map view t.before) (view t.inner) n depth (t.down fs x deep is) low
-
-pub down-innermost : (root : JsonValue) (spine : List JsonValue) (n m depth : ℕ) (v : JsonValue)
-    → TakenDown root spine n depth → depth ≤ n → depth ≡ m + 1 → IsInside m v root
-    → (before : List JsonValue) × (spine ≡ before ++ v ∷ [])
-down-innermost root spine n m depth v t low deep inside =
-    (t.before, t.all ∙ ap (λ w. t.before ++ w ∷ []) (lowered t.inner v n depth (t.low m v deep inside) low))

@@ -44,10 +44,6 @@ module _ (t : List ℕ) where
   word_at-sound w i e u h =
       let r = subst (Spelled t (IsWord w) i) h (word-spelled t w i) in subst (Stands t i e) r.2 r.1
 
-  pub word_at-stands : (w : List ℕ) (i e : ℕ)
-      → (Stands t i e w → word_at t w i ≡ taken tt e) × (word_at t w i ≡ taken tt e → Stands t i e w)
-  word_at-stands w i e = (word_at-complete w i e, word_at-sound w i e tt)
-
 -- ---- a byte at a time, by the place in the word
 word_at-step : (t w : List ℕ) (k i : ℕ) → k < length w
     → word_at t (drop k w) i ≡ byte_then (word_at t (drop (k + 1) w) (i + 1)) (get_or w k 0) i (slice_get t i)

@@ -5,7 +5,7 @@
 -- answered by what stands where the plain bytes end, of a text that is kept or not (StringAnswers) and of a raw
 -- string (RawStrings), of what the plain way takes (PlainAnswers), and of what was decoded (Decoded). Skipping: a
 -- skip's open containers complete the rest of the text to a reading of ends (Skipping), the plain way through them
--- (PlainSkips, RawEscapes), and that it ends where reading the value does, or meets its fault, but for that of UTF-8
+-- (PlainSkips), and that it ends where reading the value does, or meets its fault, but for that of UTF-8
 -- (SkipLaw). The table of the letters of escapes (Letters). The machine: what its open containers, as frames, complete the reading of a value to (Resumed).
 pub mod DecodeSteps
 pub mod Decoded
@@ -13,7 +13,6 @@ pub mod Letters
 pub mod PlainAnswers
 pub mod PlainRuns
 pub mod PlainSkips
-pub mod RawEscapes
 pub mod RawStrings
 pub mod Resumed
 pub mod SkipLaw

@@ -384,20 +384,6 @@ grown-taken s w v even pass h =
     (subst (λ b. HoldsBytes b new.text.text s.text.rest (h.decoded ++ v)) (sym even.1.0)
     (absorbed-whole s.text.text new.text.text v (h.decoded ++ v) all s.text.rest refl even.1.1))
 
--- Nothing is taken,
-pub none-taken : (s : OpenString) (w piece : List ℕ) (at : ℕ) → HasTaken s w → HasTakenFrom s w piece at 0
-none-taken s w piece at h =
-    let none : slice_range piece at (at + 0) ≡ [] = slice_range-none piece at in
-    subst (HasTaken s) (sym (append-nil w) ∙ ap (λ v. w ++ v) (sym none)) h where
-      slice_range-none : (piece : List ℕ) (at : ℕ) → slice_range piece at (at + 0) ≡ []
-      slice_range-none piece at =
-          let count : at + 0 - at ≡ 0 = omega arith in ap (λ k. take k (drop at piece)) count
-
-pub left-so : (old new : OpenString) (w : Went) → ((n : ℕ) → ¬ (w ≡ went.Taken n)) → IsLeft old new w → new ≡ old
-left-so old new (went.Taken n) other h = absurd (other n refl)
-left-so old new went.Quote other h = h
-left-so old new (went.Wrong k back) other h = h
-
 -- or bytes behind those at the front of a piece,
 pub taken-more : (s : OpenString) (w piece : List ℕ) (at n : ℕ) → HasTakenFrom s (w ++ take at piece) piece at n
     → HasTaken s (w ++ take (at + n) piece)

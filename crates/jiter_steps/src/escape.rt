@@ -64,7 +64,7 @@ static SIGNS: [u8; 256] = [
 
 // What a backslash and this byte stand for, or 0 where they are no escape of one letter.
 #[inline(always)]
-pub(crate) fn sign_of(letter: u8) -> u8
+fn sign_of(letter: u8) -> u8
     ensures some { result ≢ 0 → short_escape letter ≡ Some result }
     ensures none { result ≡ 0 → short_escape letter ≡ None }
     ensures ascii { result < 128 }
@@ -95,6 +95,7 @@ fn is_low(unit: u32) -> bool
     0xdc00 <= unit && unit < 0xe000
 }
 
+#[inline(always)]
 fn hex_at(bytes: &[u8], at: usize) -> Hex
     requires { at ≤ length bytes.now }
     ensures value { digits_view result ≡ hex_digits_at bytes.now at }
@@ -220,20 +221,6 @@ pub(crate) fn portion_at(bytes: &[u8], at: usize) -> AtStop
     }
 }
 
-// The number that the four hex digits at `at` spell, if they are there.
-#[inline(always)]
-fn unit_at(bytes: &[u8], at: usize) -> Option<u32>
-    requires { at + 4 ≤ length bytes.now }
-    ensures value { IfSome result (λ u. hex_digits_at bytes.now at ≡ number u) }
-    ensures bound { IfSome result (λ u. u < 65536) }
-{
-    let a = digit(bytes[at])?;
-    let b = digit(bytes[at + 1])?;
-    let c = digit(bytes[at + 2])?;
-    let d = digit(bytes[at + 3])?;
-    Some(a * 4096 + b * 256 + c * 16 + d)
-}
-
 // The character of the escape at `at`, and its end, where it is at once seen to be whole and no pair.
 #[inline(always)]
 #[tactic(auto, unfolding(crate::specs::StringReading::portion_at))]
@@ -246,7 +233,9 @@ fn escape_at(bytes: &[u8], at: usize) -> Option<(char, usize)>
     }
     let letter = bytes[at + 1];
     if letter == b'u' {
-        let unit = unit_at(bytes, at + 2)?;
+        let Hex::Number(unit) = hex_at(bytes, at + 2) else {
+            return None;
+        };
         let c = char::from_u32(unit)?;
         return Some((c, at + 6));
     }

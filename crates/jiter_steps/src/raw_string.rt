@@ -2,101 +2,34 @@
 //! decoded and their UTF-8 not tested; and where a string ends. Nothing here takes memory.
 ghost use Rattle.std.specs.Prelude.{◌≡◌, ◌≢◌, ◌+◌, ◌<◌, ◌≤◌, ℕ, length, slice_get, IfOk, IfSome, OnOk, OnErr, Some};
 ghost use Rattle.std.specs.Prelude.{true, Bool, IsTrue, List, None};
-ghost use Rattle.std.specs.Char.{IsScalar};
 ghost use Rattle.jiter_scan.specs.Ascii as ascii;
 ghost use Rattle.jiter_scan.specs.Kind.{fault_kind};
 ghost use Rattle.jiter_scan.specs.Scan.{is_stop, scan_stop};
 ghost use Rattle.jiter_scan.specs.Scanned.{Scans, taken, failed, with_end};
 ghost use Rattle.jiter_steps.specs.Answer.{seen_as};
-ghost use Rattle.jiter_steps.specs.Escape.{is_hex, short_escape};
 ghost use Rattle.jiter_steps.specs.RawString.{EndsAt, raw_view};
 ghost use Rattle.jiter_steps.specs.Read.{scalar_at};
 ghost use Rattle.jiter_steps.specs.StringReading.{content_at, string_at, raw, raw_form};
-ghost use Rattle.jiter_steps.specs.StringReading.{Stop, part, over, portion_at, number, unit_at, hex_digits_at};
+ghost use Rattle.jiter_steps.specs.StringReading.{Stop, part, over, portion_at};
 
-use crate::escape::{AtStop, Ending, portion_at, sign_of};
+use crate::escape::{AtStop, Ending, next_portion, portion_at};
 use crate::parse::Parser;
 use crate::string_decoder::cut_short;
 use jiter_scan::errors::Fault;
 use jiter_scan::simd::string_stop;
 use jiter_scan::word::byte_at;
 
-// Whether a backslash and this byte are an escape.
-#[inline(always)]
-fn is_short_escape(byte: u8) -> bool
-    ensures { IsTrue result → short_escape byte ≢ None }
-{
-    sign_of(byte) != 0
-}
-
-fn is_hex(byte: u8) -> bool
-    ensures { result ≡ is_hex byte }
-{
-    matches!(byte, b'0'..=b'9' | b'A'..=b'F' | b'a'..=b'f')
-}
-
-// Whether four hex digits stand at `at` that spell a character, and do not begin with a D.
-#[inline(always)]
-fn is_plain_unit(bytes: &[u8], at: usize) -> bool
-    requires { at + 4 ≤ length bytes.now }
-    ensures digits { IsTrue result → hex_digits_at bytes.now at ≡ number (unit_at bytes.now at) }
-    ensures scalar { IsTrue result → IsScalar (unit_at bytes.now at) }
-{
-    let first = bytes[at];
-    if !is_hex(first) || first == b'd' || first == b'D' {
-        return false;
-    }
-    if !is_hex(bytes[at + 1]) || !is_hex(bytes[at + 2]) {
-        return false;
-    }
-    is_hex(bytes[at + 3])
-}
-
-// Behind the escape at `at`, where it is at once seen to be whole and no pair.
-#[inline(always)]
-fn plain_escape_end(bytes: &[u8], at: usize) -> Option<usize>
-    requires { slice_get bytes.now at ≡ Some ascii.backslash }
-    ensures { IfSome result (λ e. (bs : List ℕ) × (part bs true e ≡ portion_at bytes.now at)) }
-{
-    if bytes.len() - at < 6 {
-        return None;
-    }
-    let sign = bytes[at + 1];
-    if is_short_escape(sign) {
-        return Some(at + 2);
-    }
-    if sign == b'u' && is_plain_unit(bytes, at + 2) {
-        return Some(at + 6);
-    }
-    None
-}
-
-// Behind the escape at `at`, by all that stands there.
-#[inline(never)]
-fn general_escape_end(bytes: &[u8], at: usize) -> Option<usize>
-    requires { IfSome (slice_get bytes.now at) (λ b. is_stop b ≡ true) }
-    ensures escape { IfSome result (λ e. (bs : List ℕ) × (part bs true e ≡ portion_at bytes.now at)) }
-    ensures over { result ≡ None → (s : Stop) × (over s ≡ portion_at bytes.now at) }
-{
-    match portion_at(bytes, at) {
-        AtStop::Escape(_, end) => Some(end),
-        AtStop::End(_) => None,
-    }
-}
-
-// Behind the escape that stands where a run of plain bytes ends; none where the string is over.
+// The position after the escape at which plain bytes end, or `None` where the string is over.
 #[inline(always)]
 fn escape_end(bytes: &[u8], at: usize) -> Option<usize>
-    requires { IfSome (slice_get bytes.now at) (λ b. is_stop b ≡ true) }
+    requires within { at ≤ length bytes.now }
+    requires stop { IfSome (slice_get bytes.now at) (λ b. is_stop b ≡ true) }
     ensures escape { IfSome result (λ e. (bs : List ℕ) × (part bs true e ≡ portion_at bytes.now at)) }
     ensures over { result ≡ None → (s : Stop) × (over s ≡ portion_at bytes.now at) }
 {
-    match byte_at(bytes, at) {
-        Some(b'\\') => match plain_escape_end(bytes, at) {
-            Some(end) => Some(end),
-            None => general_escape_end(bytes, at),
-        },
-        _ => general_escape_end(bytes, at),
+    match next_portion(bytes, at) {
+        AtStop::Escape(_, end) => Some(end),
+        AtStop::End(_) => None,
     }
 }
 

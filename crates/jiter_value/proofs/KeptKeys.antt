@@ -112,11 +112,3 @@ leaves-on s a old mid new first = weaker-on s a (leaves-then old mid new first)
 pub keeps-on : (made : Keeping) (t : List ℕ) (b : State) (i : ℕ) (s : Stacks) (a : State) (old new : List Member)
     → OnOk (outcome s a) (LeavesKeys old new) → OnOk (outcome s a) (KeepsKeys made t old b i new)
 keeps-on made t b i s a old new = weaker-on s a (leaves-keeps made t b i old new)
-
-pub kept-at : (s : Stacks) (a : State) {P : Type 0} → a ≢ state.Done → a ≢ state.GivenUp → OnOk (outcome s a) P → P
-kept-at s state.Root more kept h = h
-kept-at s state.Item more kept h = h
-kept-at s state.Member more kept h = h
-kept-at s state.Key more kept h = h
-kept-at s state.Done more kept h = absurd (more refl)
-kept-at s state.GivenUp more kept h = absurd (kept refl)

@@ -58,20 +58,6 @@ any-put : {K : Type 0} (cmp : K → K → Ordering) (p : K → Bool) (xs : List 
 any-put cmp p [] k is = absurd (cc)
 any-put cmp p (x ∷ xs) k is = put-by p (cmp k x) k x xs (insert_key cmp xs k) (any-put cmp p xs k) is
 
--- A set has its keys of the first ones,
-pub has-front : (ks new : List (List ℕ)) (n : ℕ) → new ≡ take n ks → (s : KeySet) → HasKeys ks s → HasKeys new s
-has-front ks new n is s had =
-    let few : length new ≡ min n (length ks) = ap length is ∙ length-take n ks in
-    record {
-      room = had.room;
-      begun = had.begun;
-      keys = λ i low high lt.
-          let same : get_or ks i [] ≡ get_or new i [] =
-          sym (ap (λ l. get_or l i []) is ∙ get_or-take n ks i [] (omega (arith, few, lt))) in
-          subst (λ k. Holds (length s.slots.items) s.slots.items s.rest k i) same
-          (had.keys i low high (omega (arith, few, lt)));
-    }
-
 -- and of more, where they reached up to its end.
 pub up-more : (ks more : List (List ℕ)) (s : KeySet) → IsUpToDate ks s → IsUpToDate (ks ++ more) s
 up-more ks more s had =
@@ -90,13 +76,6 @@ up-more ks more s had =
 pub more-all : (ks more : List (List ℕ)) (sets : List KeySet) → All (IsUpToDate ks) sets
     → All (IsUpToDate (ks ++ more)) sets
 more-all ks more sets = All-weaker (IsUpToDate ks) (IsUpToDate (ks ++ more)) (up-more ks more) sets
-
-pub front-all : (ks new : List (List ℕ)) (n : ℕ) (sets : List KeySet) → new ≡ take n ks → All (HasKeys ks) sets
-    → All (HasKeys new) sets
-front-all ks new n sets is = All-weaker (HasKeys ks) (HasKeys new) (has-front ks new n is) sets
-
-pub has-all : (ks : List (List ℕ)) (sets : List KeySet) → All (IsUpToDate ks) sets → All (HasKeys ks) sets
-has-all ks sets = All-weaker (IsUpToDate ks) (HasKeys ks) (λ s up. up.keys) sets
 
 -- A slot with no member gets one: no other's is touched.
 module _ (slots : List ℕ) (p x : ℕ) (lt : p < length slots) (free : get_or slots p 0 ≡ 0) (some : 0 < x) where
@@ -213,19 +192,6 @@ pub up-added : (ks : List (List ℕ)) (k : List ℕ) (old new : KeySet) → IsUp
 up-added ks k old new had within at adds =
     record { keys = adds.keys ks had.keys at; within = omega (arith, within, adds.end) }
 
--- A set with no key yet.
-pub up-begun : (ks : List (List ℕ)) (s : KeySet) → s.base ≤ length ks → s.end ≡ s.base → 8 ≤ length s.slots.items
-    → IsUpToDate ks s
-up-begun ks s within none room =
-    record {
-      keys = record {
-        room = room;
-        begun = omega (arith, none);
-        keys = λ i low high lt. absurd (omega (arith, low, high, none));
-      };
-      within = omega (arith, within, none);
-    }
-
 -- A key is no member's, if the set of them all does not have it.
 none-has : (key : List ℕ) (ms : List Member)
     → ((i : ℕ) → i < length ms → bytes_eq key (get_or (keys_of ms) i []) ≡ false) → has_key key ms ≡ false
@@ -292,21 +258,8 @@ no-member ms s key p had all place nowhere new =
     (λ b. no-rest slots s.rest p key h.at place new taken (omega (arith, first, b.0)) b.1)
     h.there))
 
--- The sets up to a place are up to date, and the one there is.
-pub up-one-more : (ks : List (List ℕ)) (sets : List KeySet) (i : ℕ) (s : KeySet) → i < length sets
-    → s ≡ get_or sets i s → s.end ≤ length ks → All (IsUpToDate ks) (take i sets) → All (HasKeys ks) sets
-    → All (IsUpToDate ks) (take (i + 1) sets)
-up-one-more ks sets i s lt is within before has =
-    let up : IsUpToDate ks s = record { keys = subst (HasKeys ks) (sym is) (All-get_or (HasKeys ks) sets i s lt has); within = within } in
-    All-more (IsUpToDate ks) sets i s lt before (subst (IsUpToDate ks) is up)
-
 -- the key of a member
 pub key-of : (ms : List Member) (i : ℕ) (m : Member) → i < length ms → m ≡ get_or ms i m
     → get_or (keys_of ms) i [] ≡ (text_view m.0).bytes
 key-of ms i m lt is =
     get_or-map (λ x. (text_view x.0).bytes) ms i m [] lt ∙ ap (λ x. (text_view x.0).bytes) (sym is)
-
--- what is not was not there
-pub none-before : (was new : Bool) → new ≡ not was → new ≡ true → was ≡ false
-none-before true new is holds = absurd (cc)
-none-before false new is holds = refl

@@ -21,7 +21,3 @@ lent-same p t = answer_as-is lent refl p t ∙ reading_as-it_is (answer_by p t) 
 pub lent-gives : (p : Settings) (t : List ℕ) (r : Result JsonValue ReadError) (i : ℕ)
     → GivesWhole r i (answer_as lent p t) → GivesWhole r i (reading_as as_read (answer_by p t))
 lent-gives p t r i h = subst (GivesWhole r i) (lent-same p t) h
-
-pub lent-none : (p : Settings) (t : List ℕ) (k : Kind) (x i : ℕ) → (step t value_first 0 ≡ failed k x) × (i ≡ x)
-    → reading_as as_read (answer_by p t) ≡ fault k x i
-lent-none p t k x i h = sym (lent-same p t) ∙ answer-none (rules_as lent p) p.mode t k x i h

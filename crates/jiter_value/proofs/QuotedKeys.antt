@@ -35,16 +35,3 @@ pub printed-more : (done piece rest old all : List ℕ) → done ++ old ≡ all 
     → (done ++ piece) ++ rest ≡ all
 printed-more done piece rest old all same next =
     append_assoc done piece rest ∙ ap (λ w. done ++ w) next ∙ same
-
--- the end, behind which nothing is printed
-pub printed-all : (t done all : List ℕ) (i : ℕ) → length t ≤ i → done ++ quoted_from t i ≡ all → done ≡ all
-printed-all t done all i past same =
-    sym (append-nil done) ∙ ap (λ w. done ++ flat_map quoted_byte w) (sym (drop_all i t past)) ∙ same
-
--- between quotes
-pub between-quotes : (old opened t done : List ℕ) → opened ≡ old ++ codes "\"" → done ≡ opened ++ flat_map quoted_byte t
-    → done ++ codes "\"" ≡ old ++ quoted t
-between-quotes old opened t done first is =
-    ap (λ w. w ++ codes "\"") (is ∙ ap (λ w. w ++ flat_map quoted_byte t) first)
-    ∙ append_assoc (old ++ codes "\"") (flat_map quoted_byte t) (codes "\"")
-    ∙ append_assoc old (codes "\"") (flat_map quoted_byte t ++ codes "\"")

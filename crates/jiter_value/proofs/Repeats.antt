@@ -128,22 +128,6 @@ goes-on made p t i l h x s j state.Key leads more kept = leads.reaches
 goes-on made p t i l h x s j state.Done leads more kept = absurd (more refl)
 goes-on made p t i l h x s j state.GivenUp leads more kept = absurd (kept refl)
 
--- and the value may want memory.
-may-grow : (s : Stacks) (a : State) (P : Type 0) → a ≢ state.Done → a ≢ state.GivenUp → MayGrowFor (outcome s a) P → P
-may-grow s state.Root P more kept h = h
-may-grow s state.Item P more kept h = h
-may-grow s state.Member P more kept h = h
-may-grow s state.Key P more kept h = h
-may-grow s state.Done P more kept h = absurd (more refl)
-may-grow s state.GivenUp P more kept h = absurd (kept refl)
-
-pub grows-on : (t : List ℕ) (i j : ℕ) (s : Stacks) (a b : State) → ((a ≡ state.Root) × (j ≡ i)) ⊎ MayGrowBy ⊥ t i
-    → (a ≡ state.Root → MayGrowFor (outcome s b) (MayGrowBy ⊥ t j)) → b ≢ state.Done → b ≢ state.GivenUp
-    → MayGrowBy ⊥ t i
-grows-on t i j s a b (inl at) h more kept =
-    subst (MayGrowBy ⊥ t) at.1 (may-grow s b (MayGrowBy ⊥ t j) more kept (h at.0))
-grows-on t i j s a b (inr grows) h more kept = grows
-
 -- The answer of a whole text: where its value is stopped, and where it is read and what follows it is looked at.
 pub whole-stopped : (p : Settings) (t : List ℕ) → past_blanks t 0 < length t → (x : Stopped) (j : ℕ)
     → GivesUnique (Err x) j (value_at (rules_as lent_unique p) t 200 (past_blanks t 0))

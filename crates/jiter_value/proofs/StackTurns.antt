@@ -378,12 +378,6 @@ module _ (made : Keeping) (p : Settings) (t : List ℕ) where
       stop bad)
       ∙ resume-fault (rules_as made p) t fs k x stop bad
 
--- No key is refused where repeated ones are kept.
-pub free-kept : (made : Keeping) (t : List ℕ) (os : List Open) (ms : List Member) (j : ℕ) → made.unique ≡ false
-    → refused_in made t os ms j ≡ None
-free-kept made t [] ms j off = refl
-free-kept made t (o ∷ os) ms j off = rw off refl
-
 -- a value that is there needs no key any more
 pub key-base : (os : List Open) (n m : ℕ) → HaveBases slot.Member os n m → HaveKeyBase os n m
 key-base [] n m h = absurd h

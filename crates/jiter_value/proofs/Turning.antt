@@ -120,28 +120,3 @@ turns_left state.Item n = n + 1
 turns_left state.Member n = n + 1
 turns_left state.Key n = n + 1
 turns_left state.Done n = n + 1
-
-some-left : (a : State) (n : ℕ) → GoesOn a → 0 < turns_left a n
-some-left state.Root n on = omega arith
-some-left state.Item n on = omega arith
-some-left state.Member n on = omega arith
-some-left state.Key n on = omega arith
-some-left state.Done n on = absurd on
-some-left state.GivenUp n on = absurd on
-
-many-left : (a : State) (m n : ℕ) → GoesOn a → m < n → m + 1 < turns_left a n
-many-left state.Root m n on h = omega (arith, h)
-many-left state.Item m n on h = omega (arith, h)
-many-left state.Member m n on h = omega (arith, h)
-many-left state.Key m n on h = omega (arith, h)
-many-left state.Done m n on h = absurd on
-many-left state.GivenUp m n on h = absurd on
-
-pub fewer-left : (s : Stacks) (a b : State) (m n : ℕ) → GoesOn a → OnOk (outcome s b) (m < n)
-    → turns_left b m < turns_left a n
-fewer-left s a state.GivenUp m n on h = some-left a n on
-fewer-left s a state.Root m n on h = many-left a m n on h
-fewer-left s a state.Item m n on h = many-left a m n on h
-fewer-left s a state.Member m n on h = many-left a m n on h
-fewer-left s a state.Key m n on h = many-left a m n on h
-fewer-left s a state.Done m n on h = many-left a m n on h

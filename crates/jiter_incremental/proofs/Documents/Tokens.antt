@@ -290,11 +290,6 @@ known-same n d e t o k known = record {
       ∙ known.same (sym (ap (λ q. is_active q.mode) k.settings) ∙ off) (sym k.fault ∙ none);
 }
 
--- With another word or number the same is known of it.
-pub word-known : (n : Next) (d : OpenDocument) (m : OpenWord) (t : List ℕ) (o : Opened) → Known n d t o
-    → Known n (record d { word = m }) t o
-word-known n d m t o = known-same n d (record d { word = m }) t o record { settings = refl; fault = refl; first = refl }
-
 pub number-known : (n : Next) (d : OpenDocument) (m : OpenNumber) (t : List ℕ) (o : Opened) → Known n d t o
     → Known n (record d { number = m }) t o
 number-known n d m t o =

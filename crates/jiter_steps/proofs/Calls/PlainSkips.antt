@@ -99,12 +99,6 @@ module _ (t : List ℕ) (b : Shape) where
       → container_comma b j (slice_get t j) ≡ more j
   comma-part j c here part = rw (here, part) refl
 
-  pub plain-first : (i j v : ℕ) → j ≡ past_blanks t (i + 1) → j < length t → begins_part b (slice_index t j) ≡ true
-      → value_inside b t j ≡ done true v → first_inside b t i ≡ done true v
-  plain-first i j v at lt part is =
-      ap (λ k. inside b t (container_first b k (slice_get t k))) (sym at)
-      ∙ ap (inside b t) (first-part j _ (got t j lt) part) ∙ is
-
   comma-step : (b : Shape) (i : ℕ) → container_step b t i (Some 44) ≡ step t (container_comma b) (i + 1)
   comma-step shape.Array i = refl
   comma-step shape.Object i = refl
@@ -118,16 +112,6 @@ module _ (t : List ℕ) (b : Shape) where
       ∙ ap (inside b t) (comma-step b i)
       ∙ ap (λ k. inside b t (container_comma b k (slice_get t k))) (sym at)
       ∙ ap (inside b t) (comma-part j _ (got t j within) part) ∙ is
-
-  step-closes : (b : Shape) (j : ℕ) → inside b t (container_step b t j (Some (closer_of b))) ≡ done false (j + 1)
-  step-closes shape.Array j = refl
-  step-closes shape.Object j = refl
-
-  pub plain-closer : (i j : ℕ) → j ≡ past_blanks t i → j < length t → slice_index t j ≡ closer_of b
-      → next_inside b t i ≡ done false (j + 1)
-  plain-closer i j at lt closer =
-      ap (λ k. inside b t (container_step b t k (slice_get t k))) (sym at)
-      ∙ ap (λ o. inside b t (container_step b t j o)) (got t j lt ∙ ap Some closer) ∙ step-closes b j
 
   closer-above : (b : Shape) → 32 < closer_of b
   closer-above shape.Array = omega arith

@@ -13,7 +13,7 @@ returns-then-letter-eq117 c =
     let backslash = slice_get-get_or t i 0 (omega arith) ∙ ap Some c.if-bytes-at-ne92.false in
     let letter = slice_get-get_or t (i + 1) 0 (omega arith) ∙ ap Some c.if-letter-eq117.true in
     let scalar = c.in_ok-c.ensures.value in
-    sym (decode-unit t i backslash c.in_ok-unit.unit letter c.in_ok-unit.ensures.value scalar.0
+    sym (decode-unit t i backslash c.in-Number.unit letter (sym c.in-Number.ensures.value) scalar.0
     ∙ ap (λ u. part (encode_utf8 u) true (i + 6)) (sym scalar.1))
 
 pub returns : goal.returns
