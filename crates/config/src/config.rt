@@ -9,30 +9,30 @@ use jiter::{Jiter, JiterError, LinePosition};
 use std::alloc::Global;
 use std::fmt;
 
-/// What a program is set to.
+/// The settings of a program.
 #[derive(Debug, Drop)]
 pub struct Config {
-    /// The text of the last member `host`.
+    /// The string of the last member `host`.
     pub host: String,
     /// The integer of the last member `port`, from 1 to 65535.
     pub port: u16,
-    /// What the last member `debug` says; false where there is none.
+    /// The value of the last member `debug`; `false` without one.
     pub debug: bool,
 }
 
-/// Why bytes are no configuration, and where.
+/// Why bytes aren't a configuration, and where.
 #[derive(Debug, Drop)]
 pub enum Refusal {
-    /// A fault of the bytes, a value of another type at its first byte, or want of memory.
+    /// An error of the pull reader: an error in the bytes, a value of another type, or out of memory.
     Reading(JiterError),
-    /// The integer that begins at this byte index is no port.
+    /// The integer at this byte index isn't a port.
     Port(usize),
-    /// The object whose last byte has this index has no member of this name.
+    /// The object has no member of this name. The index is that of its closing brace.
     Missing(&'static str, usize),
 }
 
 impl Refusal {
-    /// The line and column of what is refused, in the bytes that were read.
+    /// Returns the line and column of the error, in the bytes that were read.
     pub fn position(&self, bytes: &[u8]) -> LinePosition
         ensures { result ≡ position_of bytes.now (place_of self.now) }
     {
@@ -61,11 +61,17 @@ impl From<JiterError> for Refusal {
     }
 }
 
-/// Reads a configuration. Members of other names are skipped.
+/// Reads a configuration from a JSON object. The last member of a name counts; members of other names are skipped.
+///
+/// # Errors
+///
+/// - `Reading` for an error in the bytes, for a value of another type at its first byte, and if an allocation fails
+/// - `Port` if a member `port` has an integer that isn't from 1 to 65535, even if a later `port` is right
+/// - `Missing` if there is no `host` or no `port`
+///
+/// In skipped values UTF-8 isn't checked.
 pub fn read_config(alloc: Global, bytes: &[u8]) -> Result<Config, Refusal>
-    // Of a document: what its members set, or the first reason why it is no configuration, unless memory is refused.
     ensures document { (n : Node) → IsDocument false bytes.now n → IsAnswer bytes.now n result }
-    // What is set is what the document's last members of these names hold.
     ensures last { (n : Node) → IsDocument false bytes.now n
         → IfOk result (IsHeldBy (value_of bytes.now n)) }
     ensures port { IfOk result (λ c. (1 ≤ c.port) × (c.port ≤ 65535)) }

@@ -1,4 +1,4 @@
-//! Reads a configuration from standard input, and tells what a program would be set to.
+//! Reads a configuration from standard input and prints its settings, or what is wrong with it.
 #![tactic(auto)]
 
 mod config;

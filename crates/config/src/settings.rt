@@ -1,4 +1,4 @@
-//! The members that are settings, and their values.
+//! The members of a configuration, and their values.
 ghost use Rattle.std.specs.Prelude.{◌≡◌, ◌≤◌, IfOk, option_map, string_bytes};
 ghost use Rattle.jiter.specs.Caller.{LeavesAt, next, reply_seen, str_read, text_bytes};
 ghost use Rattle.config.specs.Settings.{Reads, named, port_in};
@@ -7,7 +7,7 @@ use crate::config::Refusal;
 use jiter::{Jiter, JiterError, JiterErrorType, JiterResult, JsonErrorType, NumberInt};
 use std::alloc::Global;
 
-/// What a member's key names.
+/// The setting that a key names.
 #[derive(Clone, Copy)]
 pub enum Name {
     /// `host`, a string.
@@ -20,7 +20,7 @@ pub enum Name {
     Other,
 }
 
-/// What the key of a member names, if there is one.
+/// Returns the setting that a key names, or `None` without a key.
 pub fn named(key: Option<&str>) -> Option<Name>
     ensures { result ≡ option_map (λ name. named name.now) key.entry }
 {
@@ -32,7 +32,12 @@ pub fn named(key: Option<&str>) -> Option<Name>
     })
 }
 
-/// A copy of the string that comes next.
+/// Returns a copy of the string that comes next.
+///
+/// # Errors
+///
+/// - the errors of [`Jiter::next_str`]
+/// - `OutOfMemory` if the copy can't be allocated; its index is after the string
 pub fn read_host(alloc: Global, jiter: &mut Jiter<'_>) -> JiterResult<String>
     ensures { LeavesAt string_bytes result jiter.old jiter.new
         (reply_seen text_bytes (next jiter.old (str_read jiter.old))) }
@@ -47,7 +52,12 @@ pub fn read_host(alloc: Global, jiter: &mut Jiter<'_>) -> JiterResult<String>
     }
 }
 
-/// The port that comes next, an integer from 1 to 65535.
+/// Returns the port that comes next: an integer from 1 to 65535.
+///
+/// # Errors
+///
+/// - `Port` if the integer isn't in that range
+/// - `Reading` for an error of the pull reader
 pub fn read_port(jiter: &mut Jiter<'_>) -> Result<u16, Refusal>
     ensures range { IfOk result (λ port. (1 ≤ port) × (port ≤ 65535)) }
     ensures reads { Reads jiter.old jiter.new result port_in }

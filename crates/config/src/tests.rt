@@ -1,11 +1,11 @@
-//! Configurations, good and bad. No clause says that ample memory is not refused, nor what is answered of bytes that are
-//! no document.
+//! Good and bad configurations. No contract promises success while there is memory, or says what happens with bytes
+//! that aren't a document. These tests show both.
 use crate::config::read_config;
 use std::io;
 use std::io::Write;
 use std::test::*;
 
-// Whether these are the settings.
+// Whether the text gives these settings.
 fn gives(rt: &HostRuntime, text: &[u8], host: &str, port: u16, debug: bool) -> bool {
     match read_config(rt.alloc(), text) {
         Ok(config) => config.host.as_str() == host && config.port == port && config.debug == debug,
@@ -13,7 +13,7 @@ fn gives(rt: &HostRuntime, text: &[u8], host: &str, port: u16, debug: bool) -> b
     }
 }
 
-// Whether it is refused with these words.
+// Whether the text fails with this message.
 fn refuses(rt: &HostRuntime, text: &[u8], words: &str) -> io::Result<bool> {
     match read_config(rt.alloc(), text) {
         Ok(_) => Ok(false),

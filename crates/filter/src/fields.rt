@@ -1,20 +1,20 @@
-//! Two members of an object, as they stand in its text.
+//! Finds two members of an object, and returns the source of their values.
 ghost use Rattle.std.specs.Prelude.{◌≡◌, IfOk, false, slice_range};
 ghost use Rattle.jiter.specs.Caller.{IsDocument, MovesOn, Node, Replies, next, skip_read, value_place};
 ghost use Rattle.filter.specs.Fields.{IsAnswer, picked, with_member};
 
 use jiter::{Jiter, JiterResult};
 
-/// The sources of two members' values.
+/// The source of two members' values. Escapes in keys aren't decoded.
 #[derive(Debug, Clone, Copy, PartialEq, Eq)]
 pub struct Fields<'j> {
-    /// Of the last member whose name is written `id`.
+    /// The value of the last member with the key `id`.
     pub id: Option<&'j [u8]>,
-    /// Of the last member whose name is written `text`.
+    /// The value of the last member with the key `text`.
     pub text: Option<&'j [u8]>,
 }
 
-// Moves behind the next value, and gives its source.
+// The source is the value without the whitespace around it.
 fn next_source<'j>(jiter: &mut Jiter<'j>) -> JiterResult<&'j [u8]>
     ensures moves { MovesOn jiter.old jiter.new }
     ensures passed { Replies (λ _. tt) result jiter.new (next jiter.old (skip_read jiter.old)) }
@@ -27,7 +27,7 @@ fn next_source<'j>(jiter: &mut Jiter<'j>) -> JiterResult<&'j [u8]>
     Ok(jiter.slice_to_current(start))
 }
 
-// The fields behind one member more.
+// The last member of a name counts.
 fn with_member<'j>(fields: Fields<'j>, name: &[u8], source: &'j [u8]) -> Fields<'j>
     ensures { picked result ≡ with_member name.now source.now (picked fields.entry) }
 {
@@ -45,9 +45,13 @@ fn with_member<'j>(fields: Fields<'j>, name: &[u8], source: &'j [u8]) -> Fields<
     }
 }
 
-/// The sources of the members `id` and `text` of the object in a line, all others skipped. It takes no memory.
+/// Returns the source of the members `id` and `text` of the object in a line. Skips all others. Does not allocate.
+///
+/// # Errors
+///
+/// - `WrongType` if the line's value isn't an object
+/// - any other error of the pull reader; UTF-8 isn't checked
 pub fn read_fields(line: &[u8]) -> JiterResult<Fields<'_>>
-    // Of a document that is an object these members; another document is refused.
     ensures document { (n : Node) → IsDocument false line.now n → IsAnswer line.now n result }
 {
     let mut jiter = Jiter::new(line);

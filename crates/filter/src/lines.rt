@@ -1,4 +1,4 @@
-//! What is written of a line.
+//! Writes one line for each line of the input.
 ghost use Rattle.std.specs.Prelude.{◌≡◌, OnOk, false};
 ghost use Rattle.std.specs.Io.KnownBytes.{Appends};
 ghost use Rattle.jiter.specs.Caller.{IsDocument, Node};
@@ -10,10 +10,14 @@ use jiter::JiterResult;
 use std::io;
 use std::io::Write;
 
-/// Writes the members `id` and `text` of the object in a line, `null` for one that it has not. Of a line that is
-/// refused nothing is written.
+/// Writes the members `id` and `text` of the object in a line, with `null` for one that is missing.
+///
+/// If the line has an error, nothing is written, and the inner result is the error of [`read_fields`].
+///
+/// # Errors
+///
+/// - the error of a write; part of the line may be written
 pub fn filter_line<W: Write>(out: &mut W, line: &[u8]) -> io::Result<JiterResult<()>>
-    // Of a document that is an object these members are written, of another document nothing.
     ensures document { (n : Node) → IsDocument false line.now n
         → Writes (W.contents out.old) (W.contents out.new) line.now n result }
 {

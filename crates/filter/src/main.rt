@@ -1,4 +1,4 @@
-//! Reads JSON lines from standard input and writes of each the members `id` and `text`.
+//! Reads JSON lines from standard input and writes the members `id` and `text` of each, or its error.
 #![tactic(auto)]
 
 mod fields;

@@ -1,10 +1,10 @@
-//! Lines, good and bad. No clause says what is answered of a line that is no document.
+//! Good and bad lines. No contract says what happens with a line that isn't a document; these tests show it.
 use crate::fields::read_fields;
 use crate::lines::filter_line;
 use std::io;
 use std::test::*;
 
-// Whether these sources are given.
+// Whether the members have these sources.
 fn gives(line: &[u8], id: Option<&[u8]>, text: Option<&[u8]>) -> bool {
     match read_fields(line) {
         Ok(fields) => fields.id == id && fields.text == text,

@@ -1,4 +1,4 @@
-//! Values of a log of JSON lines.
+//! Reads the values of a log of JSON lines.
 ghost use Rattle.std.specs.Prelude.{◌≡◌, ◌+◌, ◌≤◌, OnErr, OnOk, length, map, take};
 ghost use Rattle.std.specs.List.{All, flat_map};
 ghost use Rattle.jiter.specs.Caller.{view};
@@ -7,27 +7,26 @@ ghost use Rattle.importer.specs.Log.{IsRefusal, KeepsLine, StaysAs, values_of};
 use jiter::{JsonError, JsonValue, JsonValueScratch, PartialMode};
 use std::alloc::{AllocError, Global};
 
-/// A line that is no document.
+/// A line that isn't a document.
 #[derive(Debug, Drop)]
 pub struct Refusal {
     /// The line's number, from 1.
     pub line: usize,
-    /// Why it is none.
+    /// Its first error, with the index in the line.
     pub error: JsonError,
 }
 
-/// What became of a log.
+/// The result of an import.
 #[derive(Drop)]
 pub struct Import {
     /// The values of the lines that are documents, in order.
     pub values: Vec<JsonValue<'static>>,
     /// The other lines, in order.
     pub refused: Vec<Refusal>,
-    /// How many lines were read: all, unless memory was refused.
+    /// How many lines were read: all, unless an allocation failed.
     pub read: usize,
 }
 
-// Reads a line of this number. Where memory is refused the import stays as it is.
 fn read_line(
     import: &mut Import,
     scratch: &mut JsonValueScratch<'static>,
@@ -53,16 +52,15 @@ fn read_line(
     Ok(())
 }
 
-/// Reads each line; one that is refused stops nothing. Where memory is refused it ends, and keeps what was read: the
-/// lines behind may be read by another call.
+/// Parses each line as a JSON document. Returns the values, and the errors of the other lines.
+///
+/// A line with an error doesn't stop the import. A failed allocation stops it: `read` then says how many lines were
+/// read, and you can call this again with the rest. Line numbers count from 1 in each call.
 pub fn import_lines(alloc: Global, lines: &[&[u8]]) -> Import
     ensures within { result.read ≤ length lines.now }
-    // Each line that was read is a value or a refusal.
     ensures count { length result.values.items + length result.refused.items ≡ result.read }
-    // The values are those that fresh parses answer, in order, each text owned.
     ensures values { map view result.values.items
         ≡ flat_map values_of (take result.read (map (λ x. x.now) lines.now)) }
-    // Each refusal is that of its line.
     ensures refused { All (IsRefusal (map (λ x. x.now) lines.now)) result.refused.items }
 {
     let mut scratch = JsonValueScratch::new(alloc);

@@ -1,4 +1,4 @@
-//! Reads a log of JSON lines from standard input, keeps their values, and tells the lines that are refused.
+//! Reads a log of JSON lines from standard input. Prints how many values it has, and the errors of the other lines.
 #![tactic(auto)]
 
 mod import;

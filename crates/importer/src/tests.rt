@@ -1,4 +1,4 @@
-//! Logs, good and bad. No clause says that ample memory reads them to their end.
+//! Good and bad logs. No contract promises that a log is read to its end while there is memory; these tests show it.
 use crate::import::import_lines;
 use jiter::{JsonErrorType, JsonValue};
 use std::test::*;

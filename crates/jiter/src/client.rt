@@ -1,5 +1,5 @@
-//! A client of the pull reader, which builds a value by peeks, steps and scalar reads alone; and two fronts of one
-//! document in one call.
+//! A client of the pull reader, which builds a value by peeks, steps and scalar reads alone. A submodule parses two
+//! prefixes of one document.
 ghost use Rattle.std.specs.Prelude.{◌≡◌, ◌≤◌, ◌+◌, IfOk, OnErr, IsSome, false, option_map};
 ghost use Rattle.jiter_scan.specs.Ascii as ascii;
 ghost use Rattle.jiter_scan.specs.Kind.{out_of_memory};
@@ -31,7 +31,7 @@ mod fronts;
 
 pub use fronts::{a_longer_front_extends_a_shorter, two_prefixes};
 
-// What a refused request for memory becomes, where the reader stands.
+// `refused` is the evidence that an allocation failed. Without it nothing can report this error.
 #[cold]
 fn out_of_memory(refused: Refused, jiter: &Jiter<'_>) -> JiterError
     ensures { refusal_view result
@@ -44,7 +44,6 @@ fn out_of_memory(refused: Refused, jiter: &Jiter<'_>) -> JiterError
     }
 }
 
-// The value of a number, its text copied.
 fn number_value(alloc: Global, number: NumberAny<'_>) -> Result<JsonValue<'static>, Refused>
     ensures value { IfOk result (λ v. view v ≡ owned_tree (number_tree (number_view number.entry))) }
     ensures memory { OnErr result (HoldsBorrowedTextOrPart (number_tree (number_view number.entry))) }
@@ -62,7 +61,6 @@ fn number_value(alloc: Global, number: NumberAny<'_>) -> Result<JsonValue<'stati
     }
 }
 
-// The number where the reader stands.
 fn build_number(alloc: Global, jiter: &mut Jiter<'_>, peek: Peek) -> JiterResult<JsonValue<'static>>
     requires here { StandsAt jiter.old (byte_of peek) }
     requires begins { start_of (byte_of peek) ≡ Start.Number }
@@ -77,7 +75,6 @@ fn build_number(alloc: Global, jiter: &mut Jiter<'_>, peek: Peek) -> JiterResult
     }
 }
 
-// The string where the reader stands.
 fn build_string(alloc: Global, jiter: &mut Jiter<'_>) -> JiterResult<JsonValue<'static>>
     requires whole { jiter.old.partial_strings ≡ false }
     requires here { StandsAt jiter.old ascii.quote }
@@ -92,7 +89,6 @@ fn build_string(alloc: Global, jiter: &mut Jiter<'_>) -> JiterResult<JsonValue<'
     }
 }
 
-// `null`, where its first byte stands.
 fn build_null(jiter: &mut Jiter<'_>) -> JiterResult<JsonValue<'static>>
     requires { StandsAt jiter.old ascii.small_n }
     ensures value { LeavesAt view result jiter.old jiter.new
@@ -103,7 +99,7 @@ fn build_null(jiter: &mut Jiter<'_>) -> JiterResult<JsonValue<'static>>
     Ok(JsonValue::Null)
 }
 
-// `true` or `false`, where the reader stands. The call refuses what begins no value.
+// A byte that begins no value comes here too: `known_bool` reports it.
 fn build_bool(jiter: &mut Jiter<'_>, peek: Peek) -> JiterResult<JsonValue<'static>>
     requires here { StandsAt jiter.old (byte_of peek) }
     requires begins { IsTruthOrNothing (start_of (byte_of peek)) }
@@ -115,7 +111,6 @@ fn build_bool(jiter: &mut Jiter<'_>, peek: Peek) -> JiterResult<JsonValue<'stati
     Ok(JsonValue::Bool(truth))
 }
 
-// The array whose bracket stands where the reader stands.
 #[cycle(build)]
 fn build_array(
     alloc: Global,
@@ -141,7 +136,7 @@ fn build_array(
     Ok(JsonValue::Array(items))
 }
 
-// A key's copy, where there is a key.
+// The key is borrowed from the reader, which goes on to the value. So the key is copied.
 fn copy_key(alloc: Global, key: Option<&str>) -> Result<Option<CowStr<'static>>, Refused>
     ensures value { IfOk result (λ copy. option_map text_view copy
         ≡ option_map (λ x. own_text x.now) key.entry) }
@@ -156,7 +151,6 @@ fn copy_key(alloc: Global, key: Option<&str>) -> Result<Option<CowStr<'static>>,
     }
 }
 
-// The first key of the object whose bracket stands where the reader stands, copied.
 fn first_key(alloc: Global, jiter: &mut Jiter<'_>) -> JiterResult<Option<CowStr<'static>>>
     requires { StandsAt jiter.old ascii.left_brace }
     ensures value { LeavesAt (option_map text_view) result jiter.old jiter.new
@@ -172,7 +166,6 @@ fn first_key(alloc: Global, jiter: &mut Jiter<'_>) -> JiterResult<Option<CowStr<
     }
 }
 
-// Behind a member: the next key, copied.
 fn next_key(alloc: Global, jiter: &mut Jiter<'_>) -> JiterResult<Option<CowStr<'static>>>
     ensures value { LeavesAt (option_map text_view) result jiter.old jiter.new
         (reply_seen (option_map owned_text) (key_step whole jiter.old)) }
@@ -185,7 +178,6 @@ fn next_key(alloc: Global, jiter: &mut Jiter<'_>) -> JiterResult<Option<CowStr<'
     }
 }
 
-// The object whose bracket stands where the reader stands.
 #[cycle(build)]
 fn build_object(
     alloc: Global,
@@ -211,7 +203,6 @@ fn build_object(
     Ok(JsonValue::Object(members))
 }
 
-// Behind a key and its colon: the value.
 #[cycle(build)]
 fn build_member(
     alloc: Global,
@@ -227,7 +218,7 @@ fn build_member(
     build_inside(alloc, jiter, peek, levels)
 }
 
-// A value inside a container with so many levels left: with none it is refused at its first byte.
+// The limit is tested before the value is read, as in `Jiter::next_value`.
 #[cycle(build)]
 fn build_inside(
     alloc: Global,
@@ -250,7 +241,7 @@ fn build_inside(
     build_value(alloc, jiter, peek, levels - 1)
 }
 
-// The value where the reader stands, with levels left for so many containers inside it that are not empty.
+// `levels` is how many non-empty containers may still be nested in one another, this value included.
 #[cycle(build)]
 fn build_value(
     alloc: Global,
@@ -275,21 +266,30 @@ fn build_value(
     }
 }
 
-/// Builds the next value by peeks, steps and scalar reads alone, each of its texts owned: what
-/// [`Jiter::next_value`] reads, with the same refusals at the same places, and the reader where that leaves
-/// it. It asks that partial strings were not allowed.
+/// Builds the next value by peeks, steps and scalar reads alone. All its strings and number texts are owned.
+///
+/// Returns what [`Jiter::next_value_owned`] returns, and leaves the reader at the same position.
+///
+/// # Errors
+///
+/// - the errors of [`Jiter::next_value_owned`], except `OutOfMemory`, with the same index and the same position of the
+///   reader
+/// - `OutOfMemory`, only for a string, a `BigInt`, a `Float` or a non-empty container
+///
+/// After `OutOfMemory` the reader is at the error's index, at or after the value's first byte.
+///
+/// # Requires
+///
+/// Partial strings are not allowed in the reader. `rt try` does not test it.
 #[tactic(auto, using(crate::proofs::OwnedTrees::built_as_read))]
 pub fn value_by_steps(alloc: Global, jiter: &mut Jiter<'_>) -> JiterResult<JsonValue<'static>>
     requires { jiter.old.partial_strings ≡ false }
     ensures moves { MovesOn jiter.old jiter.new }
-    // As the reading of a whole value, each text owned, unless memory is refused.
     ensures value { UnlessMemory result (Replies view result jiter.new
         (reply_seen owned_tree (next jiter.old (value_read jiter.old)))) }
     ensures index { IndexWithin jiter.old.text result }
-    // Memory is wanted only where a whole value, each text owned, may want it.
     ensures memory { WhereMemory result (λ _.
         OwnedMayGrowAt (with_position jiter.old (value_place jiter.old))) }
-    // Where memory is refused the reader stands within the value.
     ensures place { WhereMemory result (λ e. (jiter.new.position ≡ e.index)
         × (value_place jiter.old ≤ e.index)) }
 {

@@ -1,4 +1,4 @@
-//! Why a call of the pull reader refuses, and its texts.
+//! The errors of the pull reader, and their texts.
 ghost use Rattle.std.specs.Prelude.{◌≡◌, Some, IfOk, string_bytes};
 ghost use Rattle.jiter_scan.specs.Kind.{kind_of};
 ghost use Rattle.jiter_scan.specs.Position.{position_of};
@@ -13,16 +13,16 @@ use std::alloc::{AllocError, Global};
 use std::error::Error;
 use std::fmt;
 
-/// The type of a value.
+/// The type of a JSON value, as an error names it.
 #[derive(Debug, Clone, PartialEq, Eq, Drop)]
 pub enum JsonType {
     /// `null`.
     Null,
     /// `true` or `false`.
     Bool,
-    /// A number without point, exponent or name.
+    /// A number without fraction or exponent.
     Int,
-    /// Any other number.
+    /// A number with a fraction or an exponent, or a non-finite number.
     Float,
     /// A string.
     String,
@@ -33,7 +33,6 @@ pub enum JsonType {
 }
 
 impl JsonType {
-    // What the type prints.
     fn text(&self) -> &'static str
         ensures { result.now ≡ type_text (type_of self.now) }
     {
@@ -52,7 +51,7 @@ impl JsonType {
 impl fmt::Display for JsonType {
     ghost output = { λ name. Some (type_text (type_of name)) };
 
-    // a width changes nothing
+    // A width in the format doesn't change the text.
     ghost styled_output = { λ name _. Some (type_text (type_of name)) };
 
     fn fmt<W: fmt::Write>(&self, f: &mut fmt::Formatter<W>) -> fmt::Result {
@@ -60,22 +59,21 @@ impl fmt::Display for JsonType {
     }
 }
 
-/// Why a call of the pull reader refuses.
+/// Why a call of the pull reader failed.
 #[derive(Debug, Clone, PartialEq, Eq, Drop)]
 pub enum JiterErrorType {
-    /// A fault of the bytes, or want of memory.
+    /// The bytes have an error, or an allocation failed.
     JsonError(JsonErrorType),
-    /// Another type of value stands there.
+    /// The next value has another type than the one that the call reads.
     WrongType {
-        /// The type that the call reads.
+        /// The type that the call reads: `Int` for [`Jiter::next_number`], `Float` for [`Jiter::next_number_bytes`].
         expected: JsonType,
-        /// The type of the value that stands there.
+        /// The type of the next value.
         actual: JsonType,
     },
 }
 
 impl JiterErrorType {
-    // What the cause prints.
     fn describe(&self, alloc: Global) -> Result<String, Refused>
         ensures { IfOk result (λ text. string_bytes text ≡ cause_text (cause_of self.now)) }
     {
@@ -105,13 +103,13 @@ impl fmt::Display for JiterErrorType {
     }
 }
 
-/// What a call of the pull reader answers.
+/// The result of a call of the pull reader.
 pub type JiterResult<T> = Result<T, JiterError>;
 
-/// A refusal of the pull reader: why, and the byte index (from 0) that it stands at.
+/// An error of the pull reader: its cause and its byte index.
 #[derive(Debug, Clone, PartialEq, Eq, Drop)]
 pub struct JiterError {
-    /// Why the call refuses.
+    /// The cause.
     pub error_type: JiterErrorType,
     /// The byte index, from 0 and at most the length.
     pub index: usize,
@@ -140,7 +138,7 @@ impl From<JsonError> for JiterError {
 }
 
 impl JiterError {
-    /// Whether memory was refused. If not, it is a fault of the bytes, or another type of value stands there.
+    /// Returns whether an allocation failed. Such an error says nothing about the bytes.
     pub fn is_memory(&self) -> bool
         ensures { result ≡ is_memory_cause (cause_of self.now.error_type) }
     {
@@ -150,14 +148,28 @@ impl JiterError {
         )
     }
 
-    /// The line and column of the error in the bytes of the reader that answered it.
+    /// Returns the line and column of the error. Pass the reader that returned it, or one of the same bytes.
     pub fn get_position(&self, jiter: &Jiter<'_>) -> LinePosition
         ensures { result ≡ position_of jiter.now.text self.now.index }
     {
         jiter.error_position(self.index)
     }
 
-    /// `CAUSE at line L column C`. It fails only where memory is refused.
+    /// Returns the error as `CAUSE at line L column C`. Pass the reader that returned it, or one of the same bytes.
+    ///
+    /// # Errors
+    ///
+    /// - `AllocError` if an allocation fails
+    ///
+    /// # Examples
+    ///
+    /// ```rust
+    /// let mut jiter = Jiter::new(b" true");
+    /// if let Err(error) = jiter.next_int() {
+    ///     let text = error.description(alloc, &jiter)?;
+    ///     assert_eq!(rt; text.as_str(), "expected int but found bool at line 1 column 2");
+    /// }
+    /// ```
     pub fn description(&self, alloc: Global, jiter: &Jiter<'_>) -> Result<String, AllocError>
         ensures { IfOk result (λ text. string_bytes text
             ≡ error_description (cause_of self.now.error_type) self.now.index jiter.now.text) }
@@ -165,7 +177,6 @@ impl JiterError {
         Ok(self.describe(alloc, jiter)?)
     }
 
-    // The description, or the evidence that memory was refused.
     fn describe(&self, alloc: Global, jiter: &Jiter<'_>) -> Result<String, Refused>
         ensures { IfOk result (λ text. string_bytes text
             ≡ error_description (cause_of self.now.error_type) self.now.index jiter.now.text) }

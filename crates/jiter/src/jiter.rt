@@ -1,4 +1,4 @@
-//! The pull reader: its making, its place, and what all its calls share.
+//! The pull reader: how it is made, its peek and its end, and what all its calls share.
 ghost use Rattle.std.specs.Prelude.{◌≡◌, ◌≢◌, ◌<◌, ◌≤◌, MatchResult, Some, None, true, false, length, slice_get};
 ghost use Rattle.std.specs.Prelude.{slice_index, ⊤};
 ghost use Rattle.jiter_scan.specs.Kind.{fault_kind, out_of_memory};
@@ -33,15 +33,34 @@ mod skips;
 mod texts;
 mod values;
 
-/// A reader that stands at a place of the bytes, and reads what its caller asks for, one value or one step at
-/// a time.
+/// A pull reader: it reads a document one value or one step at a time, as you ask.
 ///
-/// Its calls answer what stands at the place, or why it is refused. A refused scalar leaves the reader at the
-/// value's first byte, so that another type may be tried. Any other refusal leaves it where its fault was met,
-/// and what further steps read then is no document any more: stop at the first refusal of a step. Each `known_` call
-/// is its `next_` call for who has peeked, and asks that the byte of that peek still stands there.
+/// A `next_` call skips whitespace and reads what comes next. A `known_` call is its `next_` call after a peek: it
+/// requires that the byte of the peek is still at the reader's position.
 ///
-/// ```
+/// The reader does not check everything:
+///
+/// - It keeps no record of which containers are open. Steps in the wrong order can accept bytes that aren't a document.
+///   On `[1, "a": 2}`, `next_array`, `next_int`, `next_key`, `next_int`, `next_key` and `finish` all succeed.
+/// - Bytes after the value go unseen until you call [`Jiter::finish`].
+///
+/// # Errors
+///
+/// After an error the reader is at:
+///
+/// - the value's first byte, if a scalar fails or the next value has another type; the end if only whitespace is left.
+///   So you may try another type.
+/// - the key's opening quote, if the string of a key fails
+/// - the error itself, if a colon, a step of an array or object, or `finish` fails
+/// - for a complete value, the first byte of the scalar or key in it that fails, otherwise the error itself
+/// - after `OutOfMemory`, the first byte of the string or key; for a complete value, the error's index, at or after its
+///   first byte
+///
+/// Stop at the first error of a step. After it, further steps can accept bytes that aren't a document.
+///
+/// # Examples
+///
+/// ```rust
 /// let mut jiter = Jiter::new(br#"{"name": "John Doe", "age": 43}"#);
 /// assert_eq!(rt; jiter.next_object(alloc)?, Some("name"));
 /// assert_eq!(rt; jiter.next_str(alloc)?, "John Doe");
@@ -55,9 +74,9 @@ pub struct Jiter<'j> {
     parser: Parser<'j>,
     allow_inf_nan: bool,
     allow_partial_strings: bool,
-    // where texts are decoded
+    // The buffer in which strings are decoded, if one was made.
     tape: Option<Vec<u8>>,
-    // the text that was lent last
+    // The string or key that the last call returned, if the caller borrows it from here.
     text: CowStr<'j>,
 }
 
@@ -74,7 +93,7 @@ impl<'j> Model for Jiter<'j> {
     } };
 }
 
-// A reader of the same bytes at the same place, with the same settings and without a tape.
+// The clone has the same bytes, position and settings. It gets no tape, so cloning never fails.
 impl<'j> Clone for Jiter<'j> {
     ghost is_clone = { λ old new. new ≡ old };
 
@@ -95,7 +114,6 @@ impl<'j> Clone for Jiter<'j> {
     }
 }
 
-// The refusal that a fault of the bytes becomes.
 #[cold]
 fn refusal(fault: Fault) -> JiterError
     ensures value { refusal_view result
@@ -105,7 +123,7 @@ fn refusal(fault: Fault) -> JiterError
     JiterError::from(JsonError::from(fault))
 }
 
-// The refusal that the error of a reading becomes, where the reader stands at `index`.
+// Out of memory has no index of its own: it gets `index`, the reader's position.
 #[cold]
 fn refusal_at(error: ReadError, index: usize) -> JiterError
     ensures { IsErrorAt error index result }
@@ -113,7 +131,6 @@ fn refusal_at(error: ReadError, index: usize) -> JiterError
     JiterError::from(error_at(error, index))
 }
 
-// The refusal of a value of another type.
 fn wrong_type(wanted: JsonType, actual: JsonType, index: usize) -> JiterError
     ensures { refusal_view result
         ≡ record { cause = wrong_type (type_of wanted) (type_of actual); index = index } }
@@ -128,8 +145,9 @@ fn wrong_type(wanted: JsonType, actual: JsonType, index: usize) -> JiterError
 }
 
 impl<'j> Jiter<'j> {
-    /// A reader that stands before the first byte, with both settings off. It takes no memory: the first text
-    /// that has to be decoded makes the buffer for it.
+    /// Returns a reader at the first byte, with both settings off.
+    ///
+    /// Does not allocate. The first string that has to be decoded allocates the buffer for it.
     pub fn new(bytes: &'j [u8]) -> Jiter<'j>
         ensures { result ≡ at_start bytes.now }
     {
@@ -142,8 +160,9 @@ impl<'j> Jiter<'j> {
         }
     }
 
-    /// The same with a buffer for decoded texts, as [`Jiter::into_tape`] gives it back. What it holds is
-    /// forgotten.
+    /// Returns a reader at the first byte, with both settings off, that decodes strings in the buffer `tape`.
+    ///
+    /// The bytes in the buffer don't matter. To get it back for the next reader, call [`Jiter::into_tape`].
     pub fn with_tape(bytes: &'j [u8], tape: Vec<u8>) -> Jiter<'j>
         ensures { result ≡ at_start bytes.now }
     {
@@ -152,8 +171,11 @@ impl<'j> Jiter<'j> {
         jiter
     }
 
-    /// A reader that stands at a byte index, as one does that has read the bytes before it, with both settings off. It
-    /// asks that the index is at most the length, and takes no memory.
+    /// Returns a reader at the byte index `index`, with both settings off. Does not allocate.
+    ///
+    /// # Requires
+    ///
+    /// `index` is at most the length of the bytes. `rt try` does not test it.
     pub fn new_at(bytes: &'j [u8], index: usize) -> Jiter<'j>
         requires { index ≤ length bytes.now }
         ensures { result ≡ with_position (at_start bytes.now) index }
@@ -167,8 +189,9 @@ impl<'j> Jiter<'j> {
         }
     }
 
-    /// The buffer for decoded texts, or an empty one where none was made. Which bytes it holds is open. It
-    /// takes no memory.
+    /// Returns the buffer for decoded strings, or an empty one if none was made. Does not allocate.
+    ///
+    /// No promise is made about the bytes in the buffer. Pass it to [`Jiter::with_tape`].
     pub fn into_tape(self, alloc: Global) -> Vec<u8> {
         let Jiter {
             parser: _,
@@ -183,7 +206,7 @@ impl<'j> Jiter<'j> {
         }
     }
 
-    /// The same reader, to which the names `NaN`, `Infinity` and `-Infinity` are numbers.
+    /// Returns the same reader with `NaN`, `Infinity` and `-Infinity` allowed as numbers.
     pub fn with_allow_inf_nan(self) -> Jiter<'j>
         ensures { result ≡ record self.entry { names = true } }
     {
@@ -192,9 +215,13 @@ impl<'j> Jiter<'j> {
         jiter
     }
 
-    /// The same reader, to which a string that the end of input cuts is a text as far as its whole characters
-    /// go. Only [`Jiter::next_str`], [`Jiter::known_str`], [`Jiter::next_bytes`] and [`Jiter::known_bytes`]
-    /// heed it.
+    /// Returns the same reader with unterminated strings allowed at the end of the input.
+    ///
+    /// - [`Jiter::next_str`] and [`Jiter::known_str`] return such a string up to its last complete character or escape.
+    ///   An incomplete character before a closing quote is left out too.
+    /// - [`Jiter::next_bytes`] and [`Jiter::known_bytes`] return its bytes up to the end of the input. If the input
+    ///   ends inside an escape, they fail with `EofWhileParsingString`.
+    /// - All other calls ignore the setting.
     pub fn with_allow_partial_strings(self) -> Jiter<'j>
         ensures { result ≡ record self.entry { partial_strings = true } }
     {
@@ -203,7 +230,6 @@ impl<'j> Jiter<'j> {
         jiter
     }
 
-    // The byte behind the blanks, which the reader passes.
     #[inline(always)]
     fn next_byte(&mut self) -> Option<u8>
         ensures moves { MovesOn self.old self.new }
@@ -215,9 +241,22 @@ impl<'j> Jiter<'j> {
         byte
     }
 
-    /// Moves over blanks to the next byte, whatever it is, and tells it (RFC 8259, 2). At the end of input it
-    /// is `EofWhileParsingValue`, and the reader stands there. A second peek says the same, and leaves the reader where
-    /// it stands.
+    /// Moves past whitespace and returns the next byte, whatever it is (RFC 8259, 2).
+    ///
+    /// The byte is not consumed, so a second peek returns the same.
+    ///
+    /// # Errors
+    ///
+    /// - `EofWhileParsingValue` if only whitespace is left; the reader is then at the end
+    ///
+    /// # Examples
+    ///
+    /// ```rust
+    /// let source = match jiter.peek()? {
+    ///     Peek::String => jiter.known_bytes()?,
+    ///     peek => jiter.known_number_bytes(peek)?,
+    /// };
+    /// ```
     #[inline(always)]
     pub fn peek(&mut self) -> JiterResult<Peek>
         ensures moves { MovesOn self.old self.new }
@@ -236,7 +275,6 @@ impl<'j> Jiter<'j> {
         }
     }
 
-    // What begins at the next byte, to which the reader moves.
     #[inline(always)]
     fn next_start(&mut self) -> JiterResult<Start>
         ensures moves { MovesOn self.old self.new }
@@ -250,8 +288,13 @@ impl<'j> Jiter<'j> {
         Ok(start_of(peek.into_inner()))
     }
 
-    /// Moves over blanks to the end of input. A byte that is left is `TrailingCharacters` at it, where the reader then
-    /// stands.
+    /// Checks that only whitespace is left, and moves to the end.
+    ///
+    /// Call it last: otherwise bytes after the value go unseen.
+    ///
+    /// # Errors
+    ///
+    /// - `TrailingCharacters` if another byte is left; the reader is then at that byte
     pub fn finish(&mut self) -> JiterResult<()>
         ensures moves { MovesOn self.old self.new }
         ensures value { Replies (λ u. u) result self.new (finish self.old) }
@@ -264,8 +307,7 @@ impl<'j> Jiter<'j> {
         Ok(())
     }
 
-    // Why another type than the wanted one is refused, at a value that begins so: a number's own fault goes
-    // first.
+    // A number with an error of its own is reported as that error, and not as another type.
     #[cold]
     fn refused_as(&self, wanted: JsonType, start: Start) -> JiterError
         requires within { self.now.position < length self.now.text }
@@ -286,7 +328,6 @@ impl<'j> Jiter<'j> {
         }
     }
 
-    // The same at a number.
     fn refused_as_number(&self, wanted: JsonType) -> JiterError
         requires within { self.now.position < length self.now.text }
         ensures value { refusal_view result ≡ number_refusal self.now.position (type_of wanted)

@@ -1,7 +1,7 @@
-//! JSON that people can trust with hostile bytes and half-arrived documents. A document is read whole, as a
-//! [`JsonValue`], or step by step, by a [`Jiter`]:
+//! A JSON parser for bytes that you don't trust, and for truncated documents. Parse a document to a [`JsonValue`], or
+//! read it step by step with a [`Jiter`]:
 //!
-//! ```
+//! ```rust
 //! let value = JsonValue::parse(alloc, br#"{"ports": [80, 443]}"#, false)?;
 //! assert_eq!(rt; value.pointer("/ports/0").and_then(|port| port.as_i64()), Some(80));
 //! ```

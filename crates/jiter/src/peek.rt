@@ -1,41 +1,41 @@
-//! A value's first byte.
+//! The first byte of a value.
 ghost use Rattle.std.specs.Prelude.{◌≡◌};
 ghost use Rattle.jiter_scan.specs.NumberReading.{begins_number};
 
 use std::fmt;
 
-/// A value's first byte, which says of what type the value may be.
+/// The next byte, which shows the type of the value that it begins. [`crate::Jiter::peek`] may return any byte.
 #[derive(Clone, Copy, PartialEq, Eq)]
 pub struct Peek(u8);
 
 impl Peek {
-    /// `n`
+    /// `n`, the first byte of `null`
     pub const Null: Peek = Peek(b'n');
-    /// `t`
+    /// `t`, the first byte of `true`
     pub const True: Peek = Peek(b't');
-    /// `f`
+    /// `f`, the first byte of `false`
     pub const False: Peek = Peek(b'f');
-    /// `-`
+    /// `-`, the first byte of a negative number
     pub const Minus: Peek = Peek(b'-');
-    /// `I`, with which a name of a number begins
+    /// `I`, the first byte of `Infinity`
     pub const Infinity: Peek = Peek(b'I');
-    /// `N`, with which a name of a number begins
+    /// `N`, the first byte of `NaN`
     pub const NaN: Peek = Peek(b'N');
-    /// `"`
+    /// `"`, the first byte of a string
     pub const String: Peek = Peek(b'"');
-    /// `[`
+    /// `[`, the first byte of an array
     pub const Array: Peek = Peek(b'[');
-    /// `{`
+    /// `{`, the first byte of an object
     pub const Object: Peek = Peek(b'{');
 
-    /// The peek of this byte.
+    /// Returns the peek of this byte.
     pub fn new(next: u8) -> Peek
         ensures { result.0 ≡ next }
     {
         Peek(next)
     }
 
-    /// The byte.
+    /// Returns the byte.
     pub fn into_inner(self) -> u8
         ensures { result ≡ self.0 }
     {
@@ -43,7 +43,7 @@ impl Peek {
         byte
     }
 
-    /// Whether a number begins so, a name among them (RFC 8259, 6).
+    /// Returns whether a number begins with the byte (RFC 8259, 6): a digit, `-`, `N` or `I`, with every setting.
     pub fn is_num(self) -> bool
         ensures { result ≡ begins_number self.0 }
     {
@@ -51,7 +51,6 @@ impl Peek {
     }
 }
 
-// The name of the constant, or the byte as a character.
 impl fmt::Debug for Peek {
     fn fmt<W: fmt::Write>(&self, f: &mut fmt::Formatter<W>) -> fmt::Result {
         match self.0 {

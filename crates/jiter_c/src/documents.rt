@@ -1,4 +1,4 @@
-//! Whole documents: whether bytes are one, and its compact text.
+//! Complete documents: whether the bytes are one, and the compact text of its value.
 ghost use Rattle.std.specs.Prelude.{◌≡◌, false, length, true};
 ghost use Rattle.jiter.specs.Cause.{json_error};
 ghost use Rattle.jiter_scan.specs.Kind.{kind_of};
@@ -16,7 +16,6 @@ use jiter::{JsonError, JsonErrorType, JsonValue, PartialMode};
 use jiter_print::print;
 use std::alloc::Global;
 
-// The mode with a number.
 fn mode_numbered(number: u32) -> PartialMode
     ensures { result ≡ mode_numbered number }
 {
@@ -27,7 +26,6 @@ fn mode_numbered(number: u32) -> PartialMode
     }
 }
 
-// What a refused document is told as.
 fn document_fault(error: &JsonError) -> JiterFault
     ensures { result ≡ fault_of (json_error (kind_of error.now.error_type)) error.now.index }
 {
@@ -39,7 +37,17 @@ fn document_fault(error: &JsonError) -> JiterFault
     }
 }
 
-/// Whether the bytes are a document, or in a partial mode the front of one. No value crosses.
+/// Returns whether [`JsonValue::parse_with_config`] succeeds for the bytes: with mode 0, whether they are a document.
+///
+/// The mode is 0 for `PartialMode::Off`, 1 for `PartialMode::On`, any other number for `PartialMode::TrailingStrings`.
+/// The value itself is not returned.
+///
+/// # Errors
+///
+/// Returns `false` and writes to `fault`:
+///
+/// - the error that [`JsonValue::parse_with_config`] returns
+/// - out of memory, only for a non-empty container or a string with a backslash
 #[unsafe(no_mangle)]
 pub extern "C" fn jiter_parse(
     alloc: Global,
@@ -48,12 +56,9 @@ pub extern "C" fn jiter_parse(
     mode: u32,
     fault: &mut JiterFault,
 ) -> bool
-    // With the mode 0 they are one.
     ensures found { mode ≡ 0 → result ≡ true → (n : Node) × IsDocument allow_inf_nan bytes.now n }
-    // In every mode a document is one.
     ensures accepts { UnlessMemory result fault.new
         ((n : Node) → IsDocument allow_inf_nan bytes.now n → result ≡ true) }
-    // On any bytes: what a reading from the left answers in this mode.
     ensures answer { UnlessMemory result fault.new
         (result ≡ is_read (answer_in allow_inf_nan (mode_numbered mode) bytes.now)) }
     ensures fault { UnlessMemory result fault.new (fault.new
@@ -69,7 +74,16 @@ pub extern "C" fn jiter_parse(
     }
 }
 
-/// Writes the compact text of the document's value as far as it fits; `whole` is the text's own length.
+/// Parses the bytes and writes the compact text of the value to `out`.
+///
+/// `out` gets as much of the text as fits, `whole` its complete length. The mode is as in [`jiter_parse`].
+///
+/// # Errors
+///
+/// Returns `false` and writes to `fault`:
+///
+/// - the error that [`JsonValue::parse_with_config`] returns
+/// - out of memory; the index is the length of the bytes if the text itself could not be made
 #[unsafe(no_mangle)]
 pub extern "C" fn jiter_print(
     alloc: Global,
@@ -80,11 +94,9 @@ pub extern "C" fn jiter_print(
     whole: &mut usize,
     fault: &mut JiterFault,
 ) -> bool
-    // Of a document its value's text.
     ensures accepts { UnlessMemory result fault.new
         ((n : Node) → IsDocument allow_inf_nan bytes.now n
         → out.new ≡ written (print_of (value_of bytes.now n)) out.old) }
-    // On any bytes: that of the value that a reading from the left answers in this mode.
     ensures text { UnlessMemory result fault.new (out.new
         ≡ read_or out.old (λ v. written (print_of v) out.old)
         (answer_in allow_inf_nan (mode_numbered mode) bytes.now)) }

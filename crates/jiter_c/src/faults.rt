@@ -1,4 +1,4 @@
-//! Faults as C sees them, their texts, and lines and columns.
+//! Errors as C sees them, their texts, and lines and columns.
 ghost use Rattle.std.specs.Prelude.{◌≡◌, false, true, IfSome, List, ℕ, length};
 ghost use Rattle.jiter.specs.Errors.{cause_of, type_of};
 ghost use Rattle.jiter_scan.specs.Kind.{kind_of};
@@ -10,34 +10,33 @@ use crate::texts::write_front;
 use jiter::{Jiter, JiterError, JiterErrorType, JsonErrorType, JsonType, LinePosition};
 use std::alloc::Global;
 
-/// The number of a fault of the bytes is 1 and more, of want of memory 22, and of another type this.
+/// The kind of an error if the next value has another type. Kinds 1 to 21 are errors of the bytes; 22 is out of memory.
 pub const WRONG_TYPE: u32 = 100;
 
-/// Why a call refused, by the numbers of `jiter_c.h`.
+/// Why a call failed, by the numbers of `jiter_c.h`.
 #[repr(C)]
 #[derive(Clone, Copy)]
 pub struct JiterFault {
-    /// The kind.
+    /// The kind of the error.
     pub kind: u32,
-    /// The type that was wanted, where another one stands; else 0.
+    /// The type that the call reads, if the kind is [`WRONG_TYPE`]; otherwise 0.
     pub expected: u32,
-    /// The type of the value that stands there; else 0.
+    /// The type of the next value, if the kind is [`WRONG_TYPE`]; otherwise 0.
     pub actual: u32,
     /// The byte index, from 0 and at most the length.
     pub index: usize,
 }
 
-/// A line and a column, as `jiter_c.h` says.
+/// A line and a column.
 #[repr(C)]
 #[derive(Clone, Copy)]
 pub struct JiterPosition {
     /// The line, from 1.
     pub line: usize,
-    /// The column, from 1; 0 where the index is that of no byte of the line.
+    /// The column in bytes, from 1; 0 at a line feed and in empty bytes.
     pub column: usize,
 }
 
-// The number of a kind.
 pub fn kind_number(kind: &JsonErrorType) -> u32
     ensures { result ≡ kind_number (kind_of kind.now) }
 {
@@ -67,7 +66,6 @@ pub fn kind_number(kind: &JsonErrorType) -> u32
     }
 }
 
-// The number of a type.
 fn type_number(name: &JsonType) -> u32
     ensures { result ≡ type_number (type_of name.now) }
 {
@@ -82,7 +80,6 @@ fn type_number(name: &JsonType) -> u32
     }
 }
 
-// What a refusal of the reader is told as.
 pub fn fault_of(error: &JiterError) -> JiterFault
     ensures { result ≡ fault_of (cause_of error.now.error_type) error.now.index }
 {
@@ -102,7 +99,6 @@ pub fn fault_of(error: &JiterError) -> JiterFault
     }
 }
 
-// The kind with a number.
 fn kind_numbered(number: u32) -> Option<JsonErrorType>
     ensures { IfSome result (λ kind. number ≡ kind_number (kind_of kind)) }
 {
@@ -133,7 +129,6 @@ fn kind_numbered(number: u32) -> Option<JsonErrorType>
     }
 }
 
-// The type with a number.
 fn type_numbered(number: u32) -> Option<JsonType>
     ensures { IfSome result (λ name. number ≡ type_number (type_of name)) }
 {
@@ -149,7 +144,6 @@ fn type_numbered(number: u32) -> Option<JsonType>
     }
 }
 
-// The cause that a fault tells of.
 fn cause_numbered(fault: &JiterFault) -> Option<JiterErrorType>
     ensures { IfSome result (λ cause. TellsOf fault.now (cause_of cause)) }
 {
@@ -163,8 +157,16 @@ fn cause_numbered(fault: &JiterFault) -> Option<JiterErrorType>
     }
 }
 
-/// Writes `CAUSE at line L column C` of a fault of these bytes. It fails where the fault has no number of a cause, and
-/// where memory is refused.
+/// Writes an error as `CAUSE at line L column C` to `out`.
+///
+/// `out` gets as much of the text as fits, `whole` its complete length. Pass the bytes that the error is about.
+///
+/// # Errors
+///
+/// Returns `false` and writes nothing:
+///
+/// - if `fault` has no kind of `jiter_c.h`, or the kind [`WRONG_TYPE`] and not two types of `jiter_c.h`
+/// - if an allocation fails
 #[unsafe(no_mangle)]
 pub extern "C" fn jiter_describe(
     alloc: Global,
@@ -193,7 +195,7 @@ pub extern "C" fn jiter_describe(
     }
 }
 
-/// The line and column of a byte index.
+/// Writes the line and column of a byte index to `position`. An index past the bytes counts as their last byte.
 #[unsafe(no_mangle)]
 pub extern "C" fn jiter_position(bytes: &[u8], index: usize, position: &mut JiterPosition)
     ensures { position.new ≡ position_view (position_of bytes.now index) }

@@ -11,8 +11,17 @@ use crate::reader::{JiterReader, jiter_at};
 use crate::texts::{JiterText, write_front};
 use std::alloc::Global;
 
-/// Steps into an object: `more` is whether it has a member, whose key is written, decoded, and whose value comes next;
-/// else the reader stands behind the object.
+/// Steps into the next object and writes its first key, decoded, to `out`.
+///
+/// `out` gets as much of the key as fits, `count` its complete length. `more` is whether the object has a member. Its
+/// colon is consumed, so its value comes next. Otherwise the length is 0, and the reader is after the object.
+///
+/// # Errors
+///
+/// Returns `false` and writes to `fault`:
+///
+/// - the error that [`jiter::Jiter::next_object`] returns; the reader is then where that call leaves it
+/// - out of memory, only for a key with a backslash; the reader is then at that key
 #[unsafe(no_mangle)]
 pub extern "C" fn jiter_next_object(
     alloc: Global,
@@ -30,7 +39,6 @@ pub extern "C" fn jiter_next_object(
         (reply_seen (λ key. written (or_empty key) out.old) (object_reply whole reader.old))) }
     ensures count { UnlessMemory result fault.new (count.new ≡ given_or count.old
         (reply_seen (λ key. length (or_empty key)) (object_reply whole reader.old))) }
-    // Memory may be wanted only for a key with a backslash, and the reader then stands at it.
     ensures memory { WhereMemory result fault.new
         (WantsMemory reader.old.bytes.now fault.new.index) }
     ensures place { WhereMemory result fault.new
@@ -52,8 +60,17 @@ pub extern "C" fn jiter_next_object(
     given
 }
 
-/// Behind a member: `more` is whether another one follows, whose key is written, decoded, and whose value comes next;
-/// else the reader stands behind the object.
+/// Moves past the comma after a member and writes the next key, decoded, to `out`.
+///
+/// `out` gets as much of the key as fits, `count` its complete length. `more` is whether the object has another member.
+/// Its colon is consumed, so its value comes next. Otherwise the length is 0, and the reader is after the object.
+///
+/// # Errors
+///
+/// Returns `false` and writes to `fault`:
+///
+/// - the error that [`jiter::Jiter::next_key`] returns; the reader is then where that call leaves it
+/// - out of memory, only for a key with a backslash; the reader is then at that key
 #[unsafe(no_mangle)]
 pub extern "C" fn jiter_next_key(
     alloc: Global,
@@ -71,7 +88,6 @@ pub extern "C" fn jiter_next_key(
         (reply_seen (λ key. written (or_empty key) out.old) (key_reply whole reader.old))) }
     ensures count { UnlessMemory result fault.new (count.new ≡ given_or count.old
         (reply_seen (λ key. length (or_empty key)) (key_reply whole reader.old))) }
-    // Memory may be wanted only for a key with a backslash, and the reader then stands at it.
     ensures memory { WhereMemory result fault.new
         (WantsMemory reader.old.bytes.now fault.new.index) }
     ensures place { WhereMemory result fault.new
@@ -93,7 +109,15 @@ pub extern "C" fn jiter_next_key(
     given
 }
 
-/// The same as `jiter_next_object`, the key's bytes as they stand between its quotes; it takes no memory.
+/// Steps into the next object as [`jiter_next_object`] does, and sets `key` to the bytes between the key's quotes.
+///
+/// Escapes are checked and not decoded, and UTF-8 is not checked. Does not allocate.
+///
+/// # Errors
+///
+/// Returns `false` and writes to `fault`:
+///
+/// - the error that [`jiter::Jiter::next_object_bytes`] returns; the reader is then where that call leaves it
 #[unsafe(no_mangle)]
 pub extern "C" fn jiter_next_object_bytes<'j>(
     reader: &mut JiterReader<'j>,
@@ -126,7 +150,15 @@ pub extern "C" fn jiter_next_object_bytes<'j>(
     }
 }
 
-/// The same as `jiter_next_key`, the key's bytes as they stand between its quotes; it takes no memory.
+/// Moves to the next key as [`jiter_next_key`] does, and sets `key` to the bytes between its quotes.
+///
+/// Escapes are checked and not decoded, and UTF-8 is not checked. Does not allocate.
+///
+/// # Errors
+///
+/// Returns `false` and writes to `fault`:
+///
+/// - the error that [`jiter::Jiter::next_key_bytes`] returns; the reader is then where that call leaves it
 #[unsafe(no_mangle)]
 pub extern "C" fn jiter_next_key_bytes<'j>(
     reader: &mut JiterReader<'j>,

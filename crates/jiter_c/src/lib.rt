@@ -1,8 +1,6 @@
-//! The library for C, and for Rust that links it: whole documents, the pull reader, faults and positions. ffi/jiter_c.h
-//! declares each function and says what crosses.
-//!
-//! No value that owns memory crosses: a reader is the caller's own struct, a document crosses as its compact text,
-//! which the same reader walks, and texts are copied to the caller's memory or lie in its bytes.
+//! The library for C, and for Rust that links it; ffi/jiter_c.h declares its functions. No memory changes its owner:
+//! strings are copied to the caller's memory or borrowed from the caller's bytes. A call that returns `false` for an
+//! error has written nothing except `fault` and the reader's position.
 #![tactic(auto)]
 
 mod documents;

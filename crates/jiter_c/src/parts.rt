@@ -1,5 +1,4 @@
-//! Goes through the parts of the array or the object that comes next: how many there are, the item with a number, and the
-//! last member of a name.
+//! Walks through the next array or object: how many parts it has, the item at an index, and the last member with a key.
 ghost use Rattle.std.specs.Prelude.{◌≡◌, ℕ, IfErr, IfOk, MatchResult, None, false, option_map, true};
 ghost use Rattle.std.specs.Str.{bytes_eq};
 ghost use Rattle.jiter.specs.Errors.{cause_of};
@@ -19,7 +18,6 @@ use crate::reader::{JiterReader, jiter_at};
 use jiter::{Jiter, JiterResult, Peek};
 use std::alloc::Global;
 
-// Steps into an object, or else an array: whether it has a part, which comes next then.
 fn first_part(jiter: &mut Jiter<'_>, object: bool) -> JiterResult<bool>
     ensures moves { MovesOn jiter.old jiter.new }
     ensures value { Replies (λ more. more) result jiter.new (first_part object jiter.old) }
@@ -31,7 +29,6 @@ fn first_part(jiter: &mut Jiter<'_>, object: bool) -> JiterResult<bool>
     }
 }
 
-// Behind a part: whether another one comes next.
 fn next_part(jiter: &mut Jiter<'_>, object: bool) -> JiterResult<bool>
     ensures moves { MovesOn jiter.old jiter.new }
     ensures value { Replies (λ more. more) result jiter.new (next_part object jiter.old) }
@@ -43,7 +40,7 @@ fn next_part(jiter: &mut Jiter<'_>, object: bool) -> JiterResult<bool>
     }
 }
 
-// How many parts come, of a reader of its own.
+// The walk has a reader of its own, so that the caller's stays where it is.
 fn count_parts(reader: &JiterReader<'_>) -> JiterResult<u64>
     ensures counts { (n : Node) → StandsNext (state_of reader.now) n → IsContainer n
         → MatchResult result (λ count. count ≡ count_parts n) (λ _. ⊥) }
@@ -63,7 +60,17 @@ fn count_parts(reader: &JiterReader<'_>) -> JiterResult<u64>
     Ok(count)
 }
 
-/// How many items or members the array or the object has that comes next. The reader is not moved.
+/// Writes the number of items or members of the next array or object to `count`.
+///
+/// Does not move the reader, allocate, or check UTF-8.
+///
+/// # Errors
+///
+/// Returns `false` and writes to `fault`:
+///
+/// - the error that [`jiter::Jiter::next_object_bytes`] returns at an object, and [`jiter::Jiter::next_array`] at any
+///   other value
+/// - the first error of a step or a skip in the array or object
 #[unsafe(no_mangle)]
 pub extern "C" fn jiter_count(
     reader: &JiterReader<'_>,
@@ -73,7 +80,6 @@ pub extern "C" fn jiter_count(
     ensures counts { (n : Node) → StandsNext (state_of reader.now) n → IsContainer n
         → (result ≡ true) × (count.new ≡ count_parts n) }
     ensures told { (stop : ℕ) × TellsGo (state_of reader.now) result stop fault.old fault.new }
-    // Where another value comes next it is refused as no array; where the step into it is refused, as that step.
     ensures into { IfRefused (next_reply reader.now into_read) ((result ≡ false)
         × (fault.new ≡ fault_or fault.old (next_reply reader.now into_read))) }
     ensures kept { result ≡ false → count.new ≡ count.old }
@@ -90,7 +96,6 @@ pub extern "C" fn jiter_count(
     }
 }
 
-// Moves to the item with a number, from 0; where there is none, behind the array.
 fn find_item(jiter: &mut Jiter<'_>, number: u64) -> JiterResult<bool>
     ensures moves { MovesOn jiter.old jiter.new }
     ensures led { (b e : ℕ) → (ns : Nodes) → StandsNext jiter.old (Node.array b e ns)
@@ -113,8 +118,18 @@ fn find_item(jiter: &mut Jiter<'_>, number: u64) -> JiterResult<bool>
     Ok(true)
 }
 
-/// Moves to the item with this number, from 0, of the array that comes next: `found` is whether there is one; else the
-/// reader stands behind the array.
+/// Moves to the item with the index `number`, from 0, of the next array.
+///
+/// `found` is whether there is one. Otherwise the reader is after the array. Does not allocate or check UTF-8.
+///
+/// # Errors
+///
+/// Returns `false` and writes to `fault`:
+///
+/// - the error that [`jiter::Jiter::next_array`] returns
+/// - the first error of a step or a skip in the array
+///
+/// The reader is then where the call that failed leaves it.
 #[unsafe(no_mangle)]
 pub extern "C" fn jiter_item(
     reader: &mut JiterReader<'_>,
@@ -125,7 +140,6 @@ pub extern "C" fn jiter_item(
     ensures led { (b e : ℕ) → (ns : Nodes) → StandsNext (state_of reader.old) (Node.array b e ns)
         → (result ≡ true) × LedTo (numbered number ns) e found.new reader.new.index }
     ensures told { TellsGo (state_of reader.old) result reader.new.index fault.old fault.new }
-    // Where another value comes next, or the step into the array is refused otherwise, it is refused as that step.
     ensures into { IfRefused (array_reply reader.old)
         (Tells (array_reply reader.old) result reader.old reader.new fault.old fault.new) }
     ensures kept { result ≡ false → found.new ≡ found.old }
@@ -146,14 +160,13 @@ pub extern "C" fn jiter_item(
     }
 }
 
-// Whether a key, if there is one, is this name.
+// Only the comparison is kept, so that the key is not borrowed any longer.
 fn is_named(key: Option<&str>, name: &[u8]) -> Option<bool>
     ensures { result ≡ option_map (λ key. bytes_eq key.now name.now) key.entry }
 {
     Some(key?.as_bytes() == name)
 }
 
-// Moves behind the next value, and tells where it begins.
 fn pass(jiter: &mut Jiter<'_>) -> JiterResult<usize>
     ensures moves { MovesOn jiter.old jiter.new }
     ensures passed { Replies (λ _. tt) result jiter.new (next jiter.old (skip_read jiter.old)) }
@@ -166,7 +179,6 @@ fn pass(jiter: &mut Jiter<'_>) -> JiterResult<usize>
     Ok(start)
 }
 
-// Moves behind the object that comes next, and tells where the value of its last member of a name begins.
 fn last_member(alloc: Global, jiter: &mut Jiter<'_>, name: &[u8]) -> JiterResult<Option<usize>>
     ensures moves { MovesOn jiter.old jiter.new }
     ensures led { (b e : ℕ) → (ms : NodeMembers) → StandsNext jiter.old (Node.object b e ms)
@@ -192,8 +204,20 @@ fn last_member(alloc: Global, jiter: &mut Jiter<'_>, name: &[u8]) -> JiterResult
     Ok(place)
 }
 
-/// Moves to the value of the last member of this name, of the object that comes next: `found` is whether there is one;
-/// else the reader stands behind the object. Keys are compared decoded.
+/// Moves to the value of the last member with the key `name` of the next object.
+///
+/// Keys are compared decoded. `found` is whether there is one. Otherwise the reader is after the object. The UTF-8 of
+/// values is not checked.
+///
+/// # Errors
+///
+/// Returns `false` and writes to `fault`:
+///
+/// - the error that [`jiter::Jiter::next_object`] returns
+/// - the first error of a key, a step or a skip in the object
+/// - out of memory, only for a key with a backslash; the reader is then at that key
+///
+/// The reader is then where the call that failed leaves it.
 #[unsafe(no_mangle)]
 pub extern "C" fn jiter_member(
     alloc: Global,
@@ -207,12 +231,10 @@ pub extern "C" fn jiter_member(
         × LedTo (last_named reader.old.bytes.now name.now None ms) e found.new reader.new.index) }
     ensures told { UnlessMemory result fault.new
         (TellsGo (state_of reader.old) result reader.new.index fault.old fault.new) }
-    // Where another value comes next, or the step into the object is refused otherwise, it is refused as that step.
     ensures into { UnlessMemory result fault.new (IfRefused (object_reply whole reader.old)
         (Tells (object_reply whole reader.old) result reader.old reader.new fault.old fault.new)) }
     ensures kept { result ≡ false → found.new ≡ found.old }
     ensures reader { reader.new ≡ record reader.old { index = reader.new.index } }
-    // Memory may be wanted only for a key with a backslash, and the reader then stands at it.
     ensures memory { WhereMemory result fault.new
         (WantsMemory reader.old.bytes.now fault.new.index) }
     ensures place { WhereMemory result fault.new (reader.new.index ≡ fault.new.index) }

@@ -1,4 +1,4 @@
-//! The reader that C holds, and its calls that read no scalar.
+//! The reader that C holds: its peek, its skip and its end.
 ghost use Rattle.std.specs.Prelude.{◌≡◌, IfErr, OnOk, false, true};
 ghost use Rattle.jiter.specs.Errors.{cause_of};
 ghost use Rattle.jiter.specs.Jiter.{byte_of};
@@ -11,22 +11,21 @@ ghost use Rattle.jiter_c.specs.Told.{Tells, given_or};
 use crate::faults::{JiterFault, fault_of};
 use jiter::{Jiter, JiterResult, Peek};
 
-/// A reader: bytes and the place in them where it stands. It is the caller's own, so that a copy of it is another
-/// reader.
+/// A reader: bytes, a position in them and two settings. The caller owns it, and a copy of it is another reader.
 #[repr(C)]
 #[derive(Clone, Copy)]
 pub struct JiterReader<'j> {
-    /// The bytes that are read.
+    /// The bytes to read.
     pub bytes: &'j [u8],
-    /// The byte index where the reader stands; one past the length is the length.
+    /// The reader's position: a byte index from 0. An index past the length counts as the length.
     pub index: usize,
-    /// Whether the names `NaN`, `Infinity` and `-Infinity` are numbers.
+    /// Whether `NaN`, `Infinity` and `-Infinity` are numbers.
     pub allow_inf_nan: bool,
-    /// Whether a string that the end of input cuts is a text as far as it goes.
+    /// Whether a string may be unterminated, as [`jiter::Jiter::with_allow_partial_strings`] says.
     pub allow_partial_strings: bool,
 }
 
-// The library's reader that stands there.
+// C's struct owns no memory: each call makes a reader of the library from it.
 pub fn jiter_at<'j>(reader: &JiterReader<'j>) -> Jiter<'j>
     ensures { result ≡ state_of reader.now }
 {
@@ -40,7 +39,13 @@ pub fn jiter_at<'j>(reader: &JiterReader<'j>) -> Jiter<'j>
     jiter
 }
 
-/// Moves over blanks to the next value, and tells by which of the numbers of `jiter_c.h` it begins.
+/// Moves past whitespace and writes to `start` what the next byte begins, by the numbers of `jiter_c.h`.
+///
+/// # Errors
+///
+/// Returns `false` and writes to `fault`:
+///
+/// - the error that [`jiter::Jiter::peek`] returns; the reader is then at the end
 #[unsafe(no_mangle)]
 pub extern "C" fn jiter_peek(
     reader: &mut JiterReader<'_>,
@@ -49,7 +54,6 @@ pub extern "C" fn jiter_peek(
 ) -> bool
     ensures told { Tells (peek_reply reader.old) result reader.old reader.new fault.old fault.new }
     ensures value { start.new ≡ given_or start.old (peek_reply reader.old) }
-    // A second peek tells the same.
     ensures again { peek_reply reader.new ≡ peek_reply reader.old }
 {
     let mut jiter = jiter_at(reader);
@@ -67,7 +71,7 @@ pub extern "C" fn jiter_peek(
     }
 }
 
-// The number of what begins with a byte.
+// The first byte does not show whether a number is an integer: all numbers are 8.
 fn start_number(peek: Peek) -> u32
     ensures { result ≡ start_number (start_of (byte_of peek)) }
 {
@@ -82,7 +86,13 @@ fn start_number(peek: Peek) -> u32
     }
 }
 
-/// Moves behind the next value, whatever it is.
+/// Skips the next value, whatever its type. UTF-8 is not checked.
+///
+/// # Errors
+///
+/// Returns `false` and writes to `fault`:
+///
+/// - the error that [`jiter::Jiter::next_skip`] returns; the reader is then where that call leaves it
 #[unsafe(no_mangle)]
 pub extern "C" fn jiter_next_skip(reader: &mut JiterReader<'_>, fault: &mut JiterFault) -> bool
     ensures { Tells (next_reply reader.old skip_read) result reader.old reader.new fault.old fault.new }
@@ -93,7 +103,13 @@ pub extern "C" fn jiter_next_skip(reader: &mut JiterReader<'_>, fault: &mut Jite
     tell(read, fault)
 }
 
-/// Moves over blanks to the end of the bytes.
+/// Checks that only whitespace is left, and moves to the end.
+///
+/// # Errors
+///
+/// Returns `false` and writes to `fault`:
+///
+/// - the error that [`jiter::Jiter::finish`] returns; the reader is then at the byte that is left
 #[unsafe(no_mangle)]
 pub extern "C" fn jiter_finish(reader: &mut JiterReader<'_>, fault: &mut JiterFault) -> bool
     ensures { Tells (finish (state_of reader.old)) result reader.old reader.new fault.old fault.new }
@@ -104,7 +120,6 @@ pub extern "C" fn jiter_finish(reader: &mut JiterReader<'_>, fault: &mut JiterFa
     tell(read, fault)
 }
 
-// Whether nothing was refused; else the fault is told.
 pub fn tell(read: JiterResult<()>, fault: &mut JiterFault) -> bool
     ensures ok { OnOk read ((result ≡ true) × (fault.new ≡ fault.old)) }
     ensures err { IfErr read (λ e. (result ≡ false)

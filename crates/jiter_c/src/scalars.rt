@@ -1,4 +1,4 @@
-//! The reader's scalars: literals, numbers and strings.
+//! The reader's calls for scalars: literals, numbers and strings.
 ghost use Rattle.std.specs.Prelude.{◌≡◌, false, length};
 ghost use Rattle.jiter.specs.Jiter.{reply_seen};
 ghost use Rattle.jiter.specs.Reader.{bool_read, null_read, number_bytes_read, value_place};
@@ -13,10 +13,15 @@ use jiter::NumberInt;
 use std::alloc::Global;
 
 /// Reads `null`.
+///
+/// # Errors
+///
+/// Returns `false` and writes to `fault`:
+///
+/// - the error that [`jiter::Jiter::next_null`] returns; the reader is then at the value's first byte, or the end
 #[unsafe(no_mangle)]
 pub extern "C" fn jiter_next_null(reader: &mut JiterReader<'_>, fault: &mut JiterFault) -> bool
     ensures told { Tells (next_reply reader.old null_read) result reader.old reader.new fault.old fault.new }
-    // Where it is refused the reader stands at the value, so that another type may be tried.
     ensures stays { result ≡ false → reader.new.index ≡ value_place (state_of reader.old) }
 {
     let mut jiter = jiter_at(reader);
@@ -25,7 +30,13 @@ pub extern "C" fn jiter_next_null(reader: &mut JiterReader<'_>, fault: &mut Jite
     tell(read, fault)
 }
 
-/// Reads `true` or `false`.
+/// Reads `true` or `false` and writes it to `value`.
+///
+/// # Errors
+///
+/// Returns `false` and writes to `fault`:
+///
+/// - the error that [`jiter::Jiter::next_bool`] returns; the reader is then at the value's first byte, or the end
 #[unsafe(no_mangle)]
 pub extern "C" fn jiter_next_bool(
     reader: &mut JiterReader<'_>,
@@ -51,7 +62,16 @@ pub extern "C" fn jiter_next_bool(
     }
 }
 
-/// Reads an integer: whether 64 signed bits hold it, and its value, or 0 where they do not.
+/// Reads an integer and writes it to `value`.
+///
+/// `fits` is whether it fits in 64 signed bits; otherwise `value` is 0. To get the digits of an integer that doesn't
+/// fit, call [`jiter_next_number`] on a copy of the reader from before this call.
+///
+/// # Errors
+///
+/// Returns `false` and writes to `fault`:
+///
+/// - the error that [`jiter::Jiter::next_int`] returns; the reader is then at the value's first byte, or the end
 #[unsafe(no_mangle)]
 pub extern "C" fn jiter_next_int(
     reader: &mut JiterReader<'_>,
@@ -85,7 +105,14 @@ pub extern "C" fn jiter_next_int(
     }
 }
 
-/// Reads a number, and gives its own bytes.
+/// Reads a number and sets `text` to its source bytes.
+///
+/// # Errors
+///
+/// Returns `false` and writes to `fault`:
+///
+/// - the error that [`jiter::Jiter::next_number_bytes`] returns; the reader is then at the value's first byte, or the
+///   end
 #[unsafe(no_mangle)]
 pub extern "C" fn jiter_next_number<'j>(
     reader: &mut JiterReader<'j>,
@@ -113,7 +140,15 @@ pub extern "C" fn jiter_next_number<'j>(
     }
 }
 
-/// Reads a string, and gives the bytes between its quotes, their escapes checked and not decoded.
+/// Reads a string and sets `text` to the bytes between its quotes.
+///
+/// Escapes are checked and not decoded, and UTF-8 is not checked.
+///
+/// # Errors
+///
+/// Returns `false` and writes to `fault`:
+///
+/// - the error that [`jiter::Jiter::next_bytes`] returns; the reader is then at the value's first byte, or the end
 #[unsafe(no_mangle)]
 pub extern "C" fn jiter_next_bytes<'j>(
     reader: &mut JiterReader<'j>,
@@ -139,7 +174,18 @@ pub extern "C" fn jiter_next_bytes<'j>(
     }
 }
 
-/// Reads a string, and writes its text, decoded, as far as it fits; `whole` is the text's own length.
+/// Reads a string and writes it, decoded, to `out`.
+///
+/// `out` gets as much of the string as fits, `whole` its complete length.
+///
+/// # Errors
+///
+/// Returns `false` and writes to `fault`:
+///
+/// - the error that [`jiter::Jiter::next_str`] returns
+/// - out of memory, only for a string with a backslash
+///
+/// The reader is then at the value's first byte, or at the end, so the value can be read again.
 #[unsafe(no_mangle)]
 pub extern "C" fn jiter_next_str(
     alloc: Global,
@@ -154,12 +200,10 @@ pub extern "C" fn jiter_next_str(
         ≡ given_or out.old (reply_seen (λ text. written text out.old) (str_reply reader.old))) }
     ensures whole { UnlessMemory result fault.new
         (whole.new ≡ given_or whole.old (reply_seen length (str_reply reader.old))) }
-    // Memory may be wanted only for a string with a backslash, and the reader then stands at it.
     ensures memory { WhereMemory result fault.new
         (WantsMemory reader.old.bytes.now (value_place (state_of reader.old))) }
     ensures place { WhereMemory result fault.new
         (reader.new ≡ record reader.old { index = value_place (state_of reader.old) }) }
-    // So too where it is refused otherwise.
     ensures stays { UnlessMemory result fault.new
         (result ≡ false → reader.new.index ≡ value_place (state_of reader.old)) }
 {

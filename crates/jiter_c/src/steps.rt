@@ -6,7 +6,15 @@ ghost use Rattle.jiter_c.specs.Told.{Tells, given_or};
 use crate::faults::{JiterFault, fault_of};
 use crate::reader::{JiterReader, jiter_at};
 
-/// Steps into an array: `more` is whether it has an item, which comes next; else the reader stands behind the array.
+/// Steps into the next array.
+///
+/// `more` is whether it has an item, which comes next. Otherwise the reader is after the array.
+///
+/// # Errors
+///
+/// Returns `false` and writes to `fault`:
+///
+/// - the error that [`jiter::Jiter::next_array`] returns; the reader is then where that call leaves it
 #[unsafe(no_mangle)]
 pub extern "C" fn jiter_next_array(
     reader: &mut JiterReader<'_>,
@@ -31,7 +39,15 @@ pub extern "C" fn jiter_next_array(
     }
 }
 
-/// Behind an item: `more` is whether another one comes next; else the reader stands behind the array.
+/// Moves past the comma after an item.
+///
+/// `more` is whether another item comes next. Otherwise the reader is after the array.
+///
+/// # Errors
+///
+/// Returns `false` and writes to `fault`:
+///
+/// - the error that [`jiter::Jiter::array_step`] returns; the reader is then where that call leaves it
 #[unsafe(no_mangle)]
 pub extern "C" fn jiter_array_step(
     reader: &mut JiterReader<'_>,

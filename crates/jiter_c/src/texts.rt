@@ -1,8 +1,8 @@
-//! Texts that cross to C: copied to its memory, or lying in its bytes.
+//! Strings and bytes that C gets: copied to its memory, or borrowed from its bytes.
 ghost use Rattle.std.specs.Prelude.{◌≡◌, ◌≤◌, length};
 ghost use Rattle.jiter_c.specs.Told.{written};
 
-/// Bytes that lie in the bytes that the caller gave.
+/// Bytes borrowed from the bytes that the caller passed.
 #[repr(C)]
 #[derive(Clone, Copy)]
 pub struct JiterText<'j> {
@@ -10,7 +10,7 @@ pub struct JiterText<'j> {
     pub bytes: &'j [u8],
 }
 
-// Writes a text to the caller's memory as far as it fits, and gives its whole length.
+// The complete length shows the caller whether `out` was too short.
 pub fn write_front(out: &mut [u8], text: &[u8]) -> usize
     ensures text { out.new ≡ written text.now out.old }
     ensures whole { result ≡ length text.now }

@@ -1,5 +1,4 @@
-//! A document that arrives in pieces, read once: no byte of an earlier piece is looked at again, and the value so far is
-//! there after each piece.
+//! The incremental parser: it takes a document in chunks, and has the value so far after each.
 ghost use Rattle.std.specs.Prelude.{◌≡◌, ◌+◌, ◌-◌, ◌^◌, ◌<◌, ◌≤◌, ◌++◌, [], IsErrAnd, List, MatchResult};
 ghost use Rattle.std.specs.Prelude.{OnErr, OnOk, length, take, true, ℕ};
 ghost use Rattle.std.specs.List.{flat_map};
@@ -22,20 +21,19 @@ use jiter_value::value::JsonValue;
 use std::alloc::{AllocError, Global};
 use std::marker::Model;
 
-// A document whose value so far is together, and what its bytes answer.
+// A document between two chunks: its value is assembled, and the result for the bytes so far is known.
 #[derive(Drop)]
 pub(crate) struct Settled {
     pub(crate) document: OpenDocument,
-    // how many containers are open, and whether the unfinished scalar is shown
+    // the number of open containers, and whether the value holds the unfinished scalar
     pub(crate) depth: usize,
     pub(crate) shown: bool,
-    // whether a string or a key is unfinished, and right so far
+    // whether a string or a key is unfinished, and valid so far
     pub(crate) growing: bool,
-    // the fault in the document's mode
+    // the error of the bytes so far in the document's mode; more bytes may remove it
     pub(crate) fault: Option<Fault>,
 }
 
-// The answer of a document: its fault, or else its value.
 fn told(fault: Option<Fault>, value: JsonValue<'static>) -> Result<JsonValue<'static>, JsonError>
     ensures { (p : Settings) → (t : List ℕ) → AnswersSo p t fault (Some (view value.entry))
         → Parses owned_tree ⊥ p.allow_inf_nan p.mode t result }
@@ -47,8 +45,7 @@ fn told(fault: Option<Fault>, value: JsonValue<'static>) -> Result<JsonValue<'st
 }
 
 impl Settled {
-    // What the bytes so far answer is found, and their value put together. Where they are refused for good, nothing is
-    // known of it.
+    // After a final error (`document.fault`) the value isn't assembled: no result uses it then.
     fn settle(&mut self)
         requires { (t : List ℕ) × HasArrived self.old.document t }
         ensures received { (t : List ℕ) → HasArrived self.old.document t → HasReceived (received self.new) t }
@@ -64,7 +61,7 @@ impl Settled {
         }
     }
 
-    // The value is taken apart, so that more bytes can be taken.
+    // Undoes `settle`: bytes can be taken only while the containers are separate.
     fn unsettle(&mut self)
         requires { (t : List ℕ) × HasReceived (received self.old) t }
         ensures arrived { (t : List ℕ) → HasReceived (received self.old) t → HasArrived self.new.document t }
@@ -75,7 +72,7 @@ impl Settled {
         }
     }
 
-    // The first fault of the bytes with partial reading off, if they are no value. Their value is together behind it.
+    // `strict_fault` needs the separated containers; `finish` then needs the assembled value.
     fn first_fault(&mut self) -> Option<Fault>
         requires { (t : List ℕ) × HasReceived (received self.old) t }
         ensures { (t : List ℕ) → HasReceived (received self.old) t
@@ -89,7 +86,7 @@ impl Settled {
         first
     }
 
-    // Takes a piece, the value taken apart.
+    // The slow path: separates the value, takes the chunk, and assembles the value again.
     #[inline(never)]
     fn take_apart(&mut self, piece: &[u8]) -> Result<(), Refused>
         requires received { (t : List ℕ) × HasReceived (received self.old) t }
@@ -111,8 +108,8 @@ impl Settled {
         taken
     }
 
-    // Takes a piece that begins within a string, as far as its bytes go on with it while the value stays together, and
-    // then the rest.
+    // The chunk begins inside a string. What continues the string is appended to the assembled value; the rest takes
+    // the slow path.
     #[inline(never)]
     fn take_within(&mut self, piece: &[u8]) -> Result<(), Refused>
         requires received { (t : List ℕ) × HasReceived (received self.old) t }
@@ -136,7 +133,7 @@ impl Settled {
         taken
     }
 
-    // Takes a piece.
+    // Inside a valid string there is a fast path: the bytes go into the assembled value.
     #[inline(always)]
     fn take(&mut self, piece: &[u8]) -> Result<(), Refused>
         requires received { (t : List ℕ) × HasReceived (received self.old) t }
@@ -163,9 +160,12 @@ impl Settled {
     }
 }
 
-/// A reading of a document that arrives in pieces (RFC 8259), cut anywhere, within a text or a character too. No byte
-/// of an earlier piece is looked at again, and none is kept but in the value, which owns its texts and is there behind
-/// each piece.
+/// An incremental parser: takes a JSON document (RFC 8259) in chunks, and has the value so far after each.
+///
+/// You may cut the document anywhere, even inside a number, an escape or a UTF-8 character. The parser keeps no chunk;
+/// the value owns its strings. For line and column numbers, push the same chunks to a [`LineFeeds`](crate::LineFeeds).
+///
+/// # Examples
 ///
 /// ```
 /// let mut arriving = Arriving::new(alloc, false, PartialMode::TrailingStrings);
@@ -194,8 +194,10 @@ impl Model for Arriving {
 }
 
 impl Arriving {
-    /// A reading that has received no byte. In `allow_partial` its value is told; with `allow_inf_nan` the names of
-    /// floats are numbers. It takes no memory.
+    /// Returns a parser that hasn't taken any bytes. Does not allocate.
+    ///
+    /// `allow_partial` is the mode in which [`value`](Arriving::value) reads the bytes so far. With `allow_inf_nan`,
+    /// `NaN`, `Infinity` and `-Infinity` are numbers.
     pub fn new(alloc: Global, allow_inf_nan: bool, allow_partial: PartialMode) -> Arriving
         ensures begun { HasReceived result [] }
         ensures names { result.settings.allow_inf_nan ≡ allow_inf_nan }
@@ -217,16 +219,22 @@ impl Arriving {
         Arriving { settled }
     }
 
-    /// Takes a piece: the bytes that follow those so far. A fault of the bytes is no error here, `value` and `finish`
-    /// tell it. The error is want of memory: then the bytes before the one that wanted it are taken, as many as
-    /// `position` went on, and the rest can be pushed again. A piece with which the position would pass the greatest
-    /// `usize` is refused too, and none of it is taken.
+    /// Takes a chunk: the bytes that follow those so far.
+    ///
+    /// An error in the bytes isn't an error of this call: `value` and `finish` report it.
+    ///
+    /// # Errors
+    ///
+    /// - `AllocError` if an allocation fails; leading whitespace needs none. The bytes before the failure are taken,
+    ///   and [`position`](Arriving::position) counts them. Push the rest of the chunk again.
+    /// - `AllocError` if the position would exceed `usize::MAX`; no byte of the chunk is taken
+    ///
+    /// If you ignore an error and push the next chunk, the bytes between are missing. All later results are then for
+    /// other bytes than yours.
     pub fn push(&mut self, piece: &[u8]) -> Result<(), AllocError>
         ensures ok { (t : List ℕ) → HasReceived self.old t → OnOk result (HasReceived self.new (t ++ piece.now)) }
         ensures refused { (t : List ℕ) → HasReceived self.old t → OnErr result
             (HasReceived self.new (t ++ take (self.new.position - self.old.position) piece.now)) }
-        // A piece is refused with which the position would pass the greatest `usize`, and another one from the first
-        // byte on that is no blank.
         ensures unchanged { 2 ^ 64 ≤ self.old.position + length piece.now → self.new ≡ self.old }
         ensures fits { OnOk result (self.old.position + length piece.now < 2 ^ 64) }
         ensures wanted { (t : List ℕ) → HasReceived self.old t → self.old.position + length piece.now < 2 ^ 64
@@ -252,7 +260,7 @@ impl Arriving {
         Ok(())
     }
 
-    /// How many bytes were taken so far, of all pieces.
+    /// Returns how many bytes were taken, of all chunks.
     pub fn position(&self) -> usize
         ensures position { result ≡ self.now.position }
         ensures counts { (t : List ℕ) → HasReceived self.now t → result ≡ length t }
@@ -260,9 +268,11 @@ impl Arriving {
         self.settled.document.position
     }
 
-    /// What [`JsonValue::parse_owned`] answers of all bytes so far in the reading's mode: the value so far, or the
-    /// fault, its index counted in bytes from the first one of the first piece. It takes no memory, and is never
-    /// refused for want of it.
+    /// Returns what [`JsonValue::parse_owned`] returns for all bytes so far, in this parser's mode. Does not allocate.
+    ///
+    /// # Errors
+    ///
+    /// - any error of `parse_owned` except `OutOfMemory`; its index counts from the first byte of the first chunk
     pub fn value(&self) -> Result<&JsonValue<'static>, JsonError>
         ensures { (t : List ℕ) → HasReceived self.now t → MatchResult result
             (λ v. Parses owned_tree ⊥ self.now.settings.allow_inf_nan self.now.settings.mode t (Ok v.now))
@@ -274,7 +284,11 @@ impl Arriving {
         }
     }
 
-    /// The same, the value moved out.
+    /// Returns what [`value`](Arriving::value) returns, with the value moved out. Does not allocate.
+    ///
+    /// # Errors
+    ///
+    /// - the errors of [`value`](Arriving::value)
     pub fn into_value(self) -> Result<JsonValue<'static>, JsonError>
         ensures { (t : List ℕ) → HasReceived self t
             → Parses owned_tree ⊥ self.settings.allow_inf_nan self.settings.mode t result }
@@ -288,8 +302,12 @@ impl Arriving {
         told(fault, document.into_root())
     }
 
-    /// What [`JsonValue::parse_owned`] answers of all bytes with partial reading off, whatever the reading's mode. The
-    /// index of a fault is counted in bytes from the first one of the first piece. It takes no memory.
+    /// Returns what [`JsonValue::parse_owned`] returns for all bytes with partial reading off, whatever this parser's
+    /// mode is. Does not allocate.
+    ///
+    /// # Errors
+    ///
+    /// - any error of `parse_owned` except `OutOfMemory`; its index counts from the first byte of the first chunk
     pub fn finish(self) -> Result<JsonValue<'static>, JsonError>
         ensures { (t : List ℕ) → HasReceived self t
             → Parses owned_tree ⊥ self.settings.allow_inf_nan PartialMode.Off t result }
@@ -302,15 +320,22 @@ impl Arriving {
     }
 }
 
-/// What [`JsonValue::parse_owned`] answers of the bytes of all pieces, one behind the other, with partial reading off.
-/// Indices are counted in bytes from the first one of the first piece. Where memory is refused, the index is that of
-/// the byte that wanted it. Of more bytes than the greatest `usize` memory is wanted too.
+/// Parses the bytes of all chunks as one document, with partial reading off. The value owns its strings.
+///
+/// With `allow_inf_nan`, `NaN`, `Infinity` and `-Infinity` are numbers. Indices count from the first byte of the first
+/// chunk.
+///
+/// # Errors
+///
+/// - any error of [`JsonValue::parse_owned`]
+/// - `OutOfMemory` if an allocation fails, only if the chunks hold more than whitespace; its index is the number of
+///   bytes taken until then
+/// - `OutOfMemory` if the chunks hold more than `usize::MAX` bytes
 pub fn parse_pieces(
     alloc: Global,
     pieces: &[&[u8]],
     allow_inf_nan: bool,
 ) -> Result<JsonValue<'static>, JsonError>
-    // What every parse promises, each text owned. Memory may be wanted where a byte is no blank.
     ensures parses { let t = flat_map (λ piece. piece.now) pieces.now in length t < 2 ^ 64
         → Parses owned_tree (past_blanks t 0 < length t) allow_inf_nan PartialMode.Off t result }
     ensures long { 2 ^ 64 ≤ length (flat_map (λ piece. piece.now) pieces.now)

@@ -1,4 +1,4 @@
-//! The strings and keys of a document that arrives in pieces (RFC 8259, 7): where they end, and what they are then.
+//! Strings and keys (RFC 8259, 7) that the fast path leaves: those that a chunk truncates, and invalid ones.
 ghost use Rattle.std.specs.Prelude.{◌≡◌, ◌+◌, ◌-◌, ◌<◌, ◌≤◌, ◌∷◌, ◌++◌, [], IfOk, List, None, OnErr, length};
 ghost use Rattle.std.specs.Prelude.{false, map, slice_range, string_bytes, ℕ};
 ghost use Rattle.jiter_scan.specs.Ascii as ascii;
@@ -23,7 +23,7 @@ use jiter_steps::open_string::Went as StringWent;
 use jiter_value::value::JsonValue;
 use std::borrow::CowStr;
 
-// A text as a value. It takes no memory.
+// Does not allocate.
 pub(crate) fn text_value(text: String) -> JsonValue<'static>
     ensures { view result ≡ string (text_of (string_bytes text)) }
 {
@@ -31,7 +31,7 @@ pub(crate) fn text_value(text: String) -> JsonValue<'static>
 }
 
 impl OpenDocument {
-    // Whether the string is kept where the input ends in it.
+    // An unfinished key is never kept.
     fn keeps(&self) -> bool
         ensures text { self.now.token ≡ Token.Text → result ≡ allows_trailing_strings self.now.settings.mode }
         ensures key { self.now.token ≡ Token.Key → result ≡ false }
@@ -39,7 +39,6 @@ impl OpenDocument {
         matches!(self.token, Token::Text) && self.settings.mode.allow_trailing_str()
     }
 
-    // The key that was unfinished is whole.
     pub(crate) fn end_key(&mut self, key: String)
         requires { self.old.value.awaits ≡ Awaits.Colon }
         ensures key { (n m : Next) → (t w : List ℕ) → (fs : List OpenFrame) → (ms : List (Text × Tree)) → (b : ℕ)
@@ -55,7 +54,6 @@ impl OpenDocument {
         self.token = Token::Nothing;
     }
 
-    // The text of the string, which is whole, stands where it was awaited.
     fn put_text(&mut self)
         requires token { IsOfString self.old.token }
         requires held { (t : List ℕ) × (o : Opened) × Holding self.old t o }
@@ -72,7 +70,8 @@ impl OpenDocument {
         }
     }
 
-    // The string ends with its quote.
+    // `TrailingStrings` drops an incomplete character before the closing quote. With partial reading off that is an
+    // error.
     fn close_string(&mut self)
         requires token { IsInString self.old }
         requires whole { self.old.string.escape ≡ None }
@@ -92,7 +91,7 @@ impl OpenDocument {
         }
     }
 
-    // Takes bytes of a string, from the place `at` on, and says how many.
+    // A wrong byte counts as taken: the error is final.
     pub(crate) fn take_string(&mut self, piece: &[u8], at: usize) -> Result<usize, Refused>
         requires within { at < length piece.now }
         requires token { IsInString self.old }

@@ -1,4 +1,4 @@
-//! What the bytes of a document answer that have arrived so far, if the input ends behind them.
+//! The result for the bytes so far, if the input ended after them.
 ghost use Rattle.std.specs.Prelude.{◌≡◌, List, None, is_some, option_map, true, ℕ};
 ghost use Rattle.jiter_scan.specs.Kind.{fault_kind};
 ghost use Rattle.jiter_scan.specs.PartialMode.{is_active};
@@ -10,7 +10,7 @@ use crate::open_document::{OpenDocument, Token};
 use jiter_scan::errors::{Fault, FaultKind, fault_at};
 
 impl OpenDocument {
-    /// Whether the scalar that is unfinished is a value where the input ends.
+    /// Returns whether the unfinished scalar is a value if the input ends here.
     pub fn is_shown(&self) -> bool
         ensures { result ≡ is_shown self.now }
     {
@@ -21,7 +21,7 @@ impl OpenDocument {
         }
     }
 
-    // The fault of the end with nothing forgiven, unless the value is whole there.
+    // With partial reading off. A number can be complete without a byte after it.
     fn end_kind(&self) -> Option<FaultKind>
         requires arrived { (t : List ℕ) × HasArrived self.now t }
         requires unset { self.now.fault ≡ None }
@@ -42,7 +42,6 @@ impl OpenDocument {
         }
     }
 
-    // That fault, where the bytes end.
     fn end_fault(&self) -> Option<Fault>
         requires arrived { (t : List ℕ) × HasArrived self.now t }
         requires unset { self.now.fault ≡ None }
@@ -55,7 +54,7 @@ impl OpenDocument {
         }
     }
 
-    /// What the bytes answer with partial reading off, if it is no value: the first fault.
+    /// Returns the first error with partial reading off, or `None` if the bytes so far are a document.
     pub fn strict_fault(&self) -> Option<Fault>
         requires { (t : List ℕ) × HasArrived self.now t }
         ensures { (t : List ℕ) → (h : HasArrived self.now t)
@@ -67,7 +66,7 @@ impl OpenDocument {
         self.end_fault()
     }
 
-    // Whether the string is kept, and is no text.
+    // The mode keeps the unfinished string, but its bytes are invalid UTF-8.
     fn is_broken(&self) -> bool
         ensures broken { result ≡ is_broken self.now }
         ensures kept { KeepsText self.now }
@@ -77,7 +76,6 @@ impl OpenDocument {
             && !self.string.is_text(true)
     }
 
-    // Whether there is a value so far.
     fn has_value(&self) -> bool
         requires arrived { (t : List ℕ) × HasArrived self.now t }
         requires unset { self.now.fault ≡ None }
@@ -87,7 +85,8 @@ impl OpenDocument {
         0 < self.value.depth() || self.is_shown() || self.value.is_whole()
     }
 
-    // The same in a partial mode where nothing was refused.
+    // A partial mode can fail at the end for two reasons: the string that it keeps is invalid, or there is no value
+    // yet.
     fn partial_fault(&self) -> Option<Fault>
         requires arrived { (t : List ℕ) × HasArrived self.now t }
         requires unset { self.now.fault ≡ None }
@@ -105,7 +104,7 @@ impl OpenDocument {
         self.end_fault()
     }
 
-    /// What the bytes answer in the document's mode, if it is no value: the fault.
+    /// Returns the error of the bytes so far in the document's mode, or `None` if they have a value.
     pub fn mode_fault(&self) -> Option<Fault>
         requires { (t : List ℕ) × HasArrived self.now t }
         ensures { (t : List ℕ) → (h : HasArrived self.now t)

@@ -1,5 +1,5 @@
-//! A piece that begins within a string or a key: its bytes are taken as far as they go on with it, and the value stays
-//! together.
+//! The fast path for a chunk that begins inside a string or a key: its bytes are appended while the value stays
+//! assembled.
 ghost use Rattle.std.specs.Prelude.{◌≡◌, ◌+◌, ◌^◌, ◌<◌, ◌≤◌, ◌++◌, List, OnErr, OnOk, false, length, take, true, ℕ};
 ghost use Rattle.jiter_scan.specs.Scan.{Pass, is_plain_ascii};
 ghost use Rattle.jiter_steps.specs.OpenString.{IsEven};
@@ -13,11 +13,11 @@ use crate::open_document::{OpenDocument, Token};
 use jiter_scan::memory::Refused;
 use jiter_scan::short_scan::{is_plain_sixteen, scan_short};
 
-// Of so many bytes a piece is looked through how it goes on with an unfinished string: of more it costs little to take the
-// value apart.
+// A longer chunk isn't scanned for the fast path. To separate the value costs little compared with reading such a
+// chunk.
 const FEW: usize = 256;
 
-// A byte of ASCII that a string may hold as it stands.
+// ASCII that needs no escape in a string (RFC 8259, 7).
 #[inline(always)]
 fn is_plain_byte(byte: u8) -> bool
     ensures { result ≡ is_plain_ascii byte }
@@ -25,18 +25,17 @@ fn is_plain_byte(byte: u8) -> bool
     byte >= b' ' && byte < 0x80 && byte != b'"' && byte != b'\\'
 }
 
-// How a piece goes on with a string.
+// What a chunk is to the string that it continues.
 #[derive(Drop)]
 pub(crate) enum Run {
-    // Each byte is plain and below 80 hex.
+    // All bytes are plain and below 80 hex.
     Plain,
-    // Not so, and no quote and no control byte stands before its first backslash.
+    // It has other bytes too, but no quote and no control byte before its first backslash.
     Mixed,
-    // Neither, or it is long.
+    // A quote or a control byte comes first, or the chunk is longer than `FEW`.
     Other,
 }
 
-// How one byte does.
 #[inline(always)]
 fn run_of_byte(byte: u8) -> Run
     ensures { result ≡ Run.Plain → is_plain_ascii byte ≡ true }
@@ -50,7 +49,7 @@ fn run_of_byte(byte: u8) -> Run
     }
 }
 
-// How a piece does.
+// The tests of one byte and of sixteen are shortcuts: the scan would return the same.
 #[inline(always)]
 pub(crate) fn run_of(piece: &[u8]) -> Run
     ensures { result ≡ Run.Plain → Pass is_plain_ascii piece.now }
@@ -79,7 +78,6 @@ pub(crate) fn run_of(piece: &[u8]) -> Run
 }
 
 impl OpenDocument {
-    // Whether a string or a key is unfinished, and right so far.
     pub(crate) fn is_growing(&self) -> bool
         ensures { result ≡ true → IsGrowing self.now }
     {
@@ -88,7 +86,7 @@ impl OpenDocument {
             && self.string.is_text(true)
     }
 
-    // Takes the bytes of a piece that go on with the string, whose text is shown so many containers deep.
+    // The string is `depth` containers deep in the assembled value.
     #[inline(always)]
     fn take_inside(&mut self, depth: usize, piece: &[u8]) -> (usize, Result<(), Refused>)
         requires text { (w : List ℕ) × HoldsTextInside depth self.old.value.root w }
@@ -106,7 +104,7 @@ impl OpenDocument {
 }
 
 impl Settled {
-    // A fault that is told where the input ends moves on to where it ends now.
+    // While a string goes on, the only error is that the input ends in it. Its index moves to the new end.
     #[inline(always)]
     fn move_end(&mut self)
         ensures { self.new ≡ with_end self.old }
@@ -116,7 +114,7 @@ impl Settled {
         }
     }
 
-    // Takes plain bytes behind whole characters and whole escapes.
+    // After complete characters and escapes, plain bytes are appended without decoding.
     #[inline(always)]
     pub(crate) fn grow(&mut self, piece: &[u8]) -> Result<(), Refused>
         requires received { (t : List ℕ) × HasReceived (received self.old) t }
@@ -143,7 +141,7 @@ impl Settled {
         Ok(())
     }
 
-    // Takes the bytes that go on with the string, and says how many.
+    // Never takes the closing quote or a wrong byte: the slow path does. Returns how many bytes were taken.
     pub(crate) fn absorb(&mut self, piece: &[u8]) -> (usize, Result<(), Refused>)
         requires received { (t : List ℕ) × HasReceived (received self.old) t }
         requires growing { self.old.growing ≡ true }

@@ -1,4 +1,4 @@
-//! Documents that arrive in chunks: the value so far after each, and each byte read once.
+//! Parses documents that come in chunks. You get the value so far after each chunk; the chunks are not kept.
 #![tactic(auto)]
 
 pub mod arriving;

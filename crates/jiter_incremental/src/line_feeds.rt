@@ -1,4 +1,4 @@
-//! Where the lines of a document end that arrives in pieces, and none of its bytes.
+//! Line and column numbers for a document that comes in chunks.
 ghost use Rattle.std.specs.Prelude.{◌≡◌, ◌+◌, ◌^◌, ◌<◌, ◌≤◌, ◌++◌, ◌⊎◌, [], Contains, List, OnErr, OnOk, length, take};
 ghost use Rattle.std.specs.Prelude.{vec_len, ℕ};
 ghost use Rattle.jiter_scan.specs.Position.{position_of};
@@ -9,8 +9,11 @@ use jiter_scan::memory::{Refused, push};
 use std::alloc::{AllocError, Global};
 use std::marker::Model;
 
-/// Where the lines of a document end that arrives in pieces, so that the line and the column of a fault can be told
-/// though no byte is kept: it holds the index of each line feed. It is pushed what an [`Arriving`](crate::Arriving) is.
+/// The line feeds of a document that comes in chunks: finds the line and column of an error without the bytes.
+///
+/// It keeps the index of each line feed and no other byte. Push the same chunks as to an [`Arriving`](crate::Arriving).
+///
+/// # Examples
 ///
 /// ```
 /// let mut arriving = Arriving::new(alloc, false, PartialMode::Off);
@@ -24,7 +27,7 @@ use std::marker::Model;
 /// ```
 #[derive(Drop)]
 pub struct LineFeeds {
-    // how many bytes were pushed
+    // the number of bytes so far
     count: usize,
     // the index of each line feed
     feeds: Vec<usize>,
@@ -39,7 +42,7 @@ impl Model for LineFeeds {
 }
 
 impl LineFeeds {
-    /// No byte was pushed. It takes no memory.
+    /// Returns the line feeds of no bytes. Does not allocate.
     pub fn new(alloc: Global) -> LineFeeds
         ensures { HasPassed result [] }
     {
@@ -49,9 +52,14 @@ impl LineFeeds {
         }
     }
 
-    /// Takes a piece: the bytes that follow those so far. The error is want of memory, which a piece with no line feed
-    /// never wants. A piece with which the bytes would be more than the greatest `usize` is refused too. Of a piece that
-    /// is refused nothing is taken.
+    /// Takes a chunk: the bytes that follow those so far.
+    ///
+    /// # Errors
+    ///
+    /// - `AllocError` if an allocation fails, only for a chunk with a line feed
+    /// - `AllocError` if the number of bytes would exceed `usize::MAX`
+    ///
+    /// After an error no byte of the chunk is taken. If an allocation failed, push the same chunk again.
     pub fn push(&mut self, piece: &[u8]) -> Result<(), AllocError>
         ensures ok { (t : List ℕ) → HasPassed self.old t → OnOk result (HasPassed self.new (t ++ piece.now)) }
         ensures refused { OnErr result (self.new ≡ self.old) }
@@ -75,8 +83,9 @@ impl LineFeeds {
         }
     }
 
-    /// The line and column of a byte index in all bytes so far, as [`LinePosition::find`] tells them; at or past their
-    /// count, those of the whole.
+    /// Returns the line and column of a byte index in all bytes so far, as [`LinePosition::find`] does.
+    ///
+    /// An index at or past the end gives the line and column of the last byte; with no bytes, line 1 and column 0.
     pub fn position(&self, index: usize) -> LinePosition
         ensures { (t : List ℕ) → HasPassed self.now t → result ≡ position_of t index }
     {
@@ -84,8 +93,7 @@ impl LineFeeds {
     }
 }
 
-// Appends the index of each line feed of a piece whose first byte has this index. Where memory is refused, some of them
-// may stand behind those that were there.
+// If an allocation fails, some indices are appended already: the caller removes them.
 fn push_feeds(feeds: &mut Vec<usize>, begin: usize, piece: &[u8]) -> Result<(), Refused>
     requires { begin + length piece.now < 2 ^ 64 }
     ensures ok { OnOk result (feeds.new.items ≡ feeds.old.items ++ feeds_from begin piece.now) }
@@ -100,8 +108,7 @@ fn push_feeds(feeds: &mut Vec<usize>, begin: usize, piece: &[u8]) -> Result<(), 
     Ok(())
 }
 
-// The line and column of an index in a text of this size with line feeds at these indices; at or past the size,
-// those of the whole.
+// The line feed itself is column 0 of the line that it begins.
 fn position_in(feeds: &[usize], size: usize, index: usize) -> LinePosition
     ensures { (t : List ℕ) → length t ≡ size → feeds.now ≡ line_feeds t → result ≡ position_of t index }
 {

@@ -1,4 +1,4 @@
-//! The words that are values: the literals (RFC 8259, 3), and the names of floats.
+//! The words that are values: the literals (RFC 8259, 3) and the non-finite numbers.
 ghost use Rattle.std.specs.Prelude.{◌≡◌, IfOk};
 ghost use Rattle.jiter_steps.specs.Tree.{float};
 ghost use Rattle.jiter_incremental.specs.OpenValue.{text_of};
@@ -21,11 +21,10 @@ pub enum Name {
     NaN,
     /// `Infinity`
     Infinity,
-    /// `-Infinity`: its word stands behind the minus.
+    /// `-Infinity`; its word is what follows the minus.
     MinusInfinity,
 }
 
-// A float of this name.
 fn float(alloc: Global, name: &str) -> Result<JsonValue<'static>, Refused>
     ensures { IfOk result (λ v. view v ≡ float (text_of name.now)) }
 {
@@ -33,7 +32,7 @@ fn float(alloc: Global, name: &str) -> Result<JsonValue<'static>, Refused>
     Ok(JsonValue::Float(CowStr::Owned(text)))
 }
 
-/// The value of a literal.
+/// Returns the value of a literal.
 pub(crate) fn literal_value(literal: Literal) -> JsonValue<'static>
     ensures { view result ≡ name_tree (Name.Literal literal) }
 {
@@ -45,7 +44,7 @@ pub(crate) fn literal_value(literal: Literal) -> JsonValue<'static>
 }
 
 impl Name {
-    /// Its word, of which the first byte was seen.
+    /// Returns the word with its first byte taken.
     pub fn begun(self) -> OpenWord
         ensures word { result.word.now ≡ name_word self }
         ensures seen { result.seen ≡ 1 }
@@ -60,7 +59,7 @@ impl Name {
         }
     }
 
-    /// Its value. That of a float owns its name.
+    /// Returns the value; a non-finite number owns its source text.
     pub fn value(self, alloc: Global) -> Result<JsonValue<'static>, Refused>
         ensures { IfOk result (λ v. view v ≡ name_tree self) }
     {

@@ -1,6 +1,5 @@
-//! A document that arrives in pieces (RFC 8259): each byte is looked at in its piece alone, and behind each it is said
-//! what the bytes so far leave open, or with which fault they are refused, in the document's mode and with partial
-//! reading off.
+//! A document that comes in chunks (RFC 8259). It takes the bytes, keeps what is still open, and knows the first error:
+//! in the document's mode, and with partial reading off.
 ghost use Rattle.std.specs.Prelude.{◌≡◌, ◌+◌, ◌-◌, ◌^◌, ◌<◌, ◌≤◌, ◌∷◌, ◌++◌, [], IfOk, List, None, OnErr, OnOk, Some, length};
 ghost use Rattle.std.specs.Prelude.{false, slice_index, slice_range, string_bytes, take, true, ℕ};
 ghost use Rattle.jiter_scan.specs.Kind.{fault_kind};
@@ -47,7 +46,7 @@ use std::borrow::CowStr;
 pub enum Token {
     /// None.
     Nothing,
-    /// A literal or the name of a float.
+    /// A literal, `NaN`, `Infinity` or `-Infinity`.
     Word,
     /// A number.
     Number,
@@ -57,7 +56,7 @@ pub enum Token {
     Key,
 }
 
-/// A document of which some bytes were read.
+/// A document of which some bytes were taken.
 #[derive(Drop)]
 pub struct OpenDocument {
     pub(crate) alloc: Global,
@@ -75,7 +74,6 @@ pub struct OpenDocument {
     pub(crate) first: Option<Fault>,
 }
 
-// The first fault, where this one is met.
 fn first_of(first: Option<Fault>, fault: Fault) -> Option<Fault>
     ensures { result ≡ noted_in first fault.kind fault.index }
 {
@@ -85,17 +83,15 @@ fn first_of(first: Option<Fault>, fault: Fault) -> Option<Fault>
     }
 }
 
-// A minus or a digit.
 pub(crate) fn begins_decimal(byte: u8) -> bool
     ensures { result ≡ begins_decimal byte }
 {
     matches!(byte, b'-' | b'0'..=b'9')
 }
 
-// A number as a value. It takes no memory.
+// Does not allocate: a source text is moved into the value.
 pub(crate) fn number_value(number: OwnNumber) -> JsonValue<'static>
     ensures value { view result ≡ tree_as owned_text (number_tree (own_view number)) }
-    // Its text lies in the value, if it holds one.
     ensures kept { (w : List ℕ) → shown_bytes result w ≡ kept_bytes number w }
 {
     match number {
@@ -105,7 +101,6 @@ pub(crate) fn number_value(number: OwnNumber) -> JsonValue<'static>
     }
 }
 
-// A number that is whole, as a value. It takes no memory.
 fn whole_number(number: &mut OpenNumber) -> JsonValue<'static>
     requires begun { IsBegun (string_bytes number.old.text) number.old.stage }
     requires whole { is_whole number.old.stage ≡ true }
@@ -115,7 +110,7 @@ fn whole_number(number: &mut OpenNumber) -> JsonValue<'static>
 }
 
 impl OpenDocument {
-    /// Before the first byte. It takes no memory.
+    /// Returns a document that has taken no bytes. Does not allocate.
     pub fn new(alloc: Global, settings: Settings) -> OpenDocument
         ensures arrived { HasArrived result [] }
         ensures settings { result.settings ≡ settings }
@@ -137,7 +132,7 @@ impl OpenDocument {
         }
     }
 
-    // The bytes so far are refused, whatever comes.
+    // A final error: no later byte changes it.
     pub(crate) fn refuse(&mut self, kind: FaultKind, index: usize)
         requires { self.old.fault ≡ None }
         ensures refused { (n m : Next) → (t w : List ℕ) → (o : Opened) → Known n self.old t o → Follows n w m
@@ -151,14 +146,13 @@ impl OpenDocument {
         self.fault = Some(fault);
     }
 
-    // With partial reading off they are refused.
+    // An error only with partial reading off: the mode forgives it and goes on.
     pub(crate) fn note(&mut self, kind: FaultKind, index: usize)
         ensures { self.new ≡ with_first self.old (noted_in self.old.first kind index) }
     {
         self.first = first_of(self.first, fault_at(kind, index));
     }
 
-    // The value stands behind the scalar that was unfinished.
     #[inline(always)]
     pub(crate) fn put(&mut self, value: JsonValue<'static>)
         requires { HasRoomInside self.old.value.spine.items }
@@ -175,7 +169,6 @@ impl OpenDocument {
         self.token = Token::Nothing;
     }
 
-    // A token begins with the next byte.
     pub(crate) fn begin_token(&mut self, token: Token)
         ensures { self.new ≡ with_token self.old self.old.position token }
     {
@@ -183,7 +176,6 @@ impl OpenDocument {
         self.token = token;
     }
 
-    // A word begins.
     fn begin_word(&mut self, name: Name)
         ensures begun { (t : List ℕ) → (c : ℕ) → (fs : List OpenFrame) → BeginsHere c self.old t fs
             → start_of c ≡ name_start name → IsAllowed self.old.settings name → WordBegins name c
@@ -195,7 +187,6 @@ impl OpenDocument {
         self.begin_token(Token::Word);
     }
 
-    // A string begins, of a value or of a key.
     pub(crate) fn begin_string(&mut self, token: Token)
         requires { self.old.fault ≡ None }
         ensures key { (t : List ℕ) → (c : ℕ) → (s : Arrived) → token ≡ Token.Key → StandsAt c self.old t s
@@ -208,7 +199,6 @@ impl OpenDocument {
         self.begin_token(token);
     }
 
-    // The name of a float begins, if names are allowed.
     fn begin_name(&mut self, name: Name)
         requires { self.old.fault ≡ None }
         ensures begun { (t : List ℕ) → (c : ℕ) → (fs : List OpenFrame) → BeginsHere c self.old t fs
@@ -222,7 +212,7 @@ impl OpenDocument {
         }
     }
 
-    // The name of a float begins with the byte.
+    // `start_of` counts `N` and `I` as first bytes of numbers. Digits and the minus have a path of their own.
     fn begin_float_name(&mut self, byte: u8)
         requires starts { start_of byte ≡ Start.Number }
         requires named { begins_decimal byte ≡ false }
@@ -238,7 +228,7 @@ impl OpenDocument {
         }
     }
 
-    // Another scalar than a decimal number begins with the byte.
+    // Begins every scalar except a decimal number: see `begin_held`.
     pub(crate) fn begin_scalar(&mut self, byte: u8)
         requires starts { IsScalarStart (start_of byte) }
         requires named { begins_decimal byte ≡ false }
@@ -255,7 +245,8 @@ impl OpenDocument {
         }
     }
 
-    // A comma or the end of a container is missing before the byte: it is closed, and each one that the byte ends.
+    // A comma or a closing bracket is missing before the byte. A partial mode ends the container there: `[1 x` is
+    // `[1]`. The byte then belongs to a container outside, or comes after the value.
     pub(crate) fn close(&mut self, kind: FaultKind, byte: u8)
         requires left { (s : Arrived) × IsLeft self.old.value s }
         requires behind { IsBehind self.old.value.awaits }
@@ -271,7 +262,7 @@ impl OpenDocument {
         self.value.close_before(byte);
     }
 
-    // Another byte than a blank stands behind the whole value.
+    // A partial mode reads nothing after the value, so such a byte is an error only with partial reading off.
     pub(crate) fn trail(&mut self)
         requires unset { self.old.fault ≡ None }
         ensures taken { (c : ℕ) → (t : List ℕ) → (s : Arrived) → StandsAt c self.old t s → IsLeft self.old.value s
@@ -287,7 +278,7 @@ impl OpenDocument {
         }
     }
 
-    // Takes a byte behind a number that ended before it.
+    // Takes the byte that showed the end of a number.
     #[inline(always)]
     pub(crate) fn behind(&mut self, byte: u8)
         requires read { (t : List ℕ) × HasTakenIn (with_byte byte) self.old t }
@@ -305,7 +296,6 @@ impl OpenDocument {
         }
     }
 
-    // Takes a byte of a word.
     fn take_word(&mut self, byte: u8) -> Result<(), Refused>
         requires { IsIn self.old Token.Word }
         ensures taken { OnOk result (Takes self.old self.new (byte ∷ [])) }
@@ -324,7 +314,6 @@ impl OpenDocument {
         Ok(())
     }
 
-    // The number is whole.
     fn put_number(&mut self)
         requires begun { IsBegun (string_bytes self.old.number.text) self.old.number.stage }
         requires whole { is_whole self.old.number.stage ≡ true }
@@ -343,7 +332,7 @@ impl OpenDocument {
         self.put(value);
     }
 
-    // The letter of a name stands behind the minus of a number.
+    // The byte is the `I` of `-Infinity`.
     fn take_name(&mut self)
         requires { self.old.fault ≡ None }
         ensures taken { (t : List ℕ) → (fs : List OpenFrame) → (b : ℕ) → Known anything self.old t (in_scalar fs b)
@@ -360,7 +349,8 @@ impl OpenDocument {
         }
     }
 
-    // Takes the bytes of a number from the place `at` on, and says how many, or takes the byte behind it.
+    // Takes bytes of the number, or the byte after it. The index of `NumberOutOfRange` is one past the digit that is
+    // too many.
     fn take_number(&mut self, piece: &[u8], at: usize) -> Result<usize, Refused>
         requires within { at < length piece.now }
         requires token { IsIn self.old Token.Number }
@@ -383,7 +373,6 @@ impl OpenDocument {
         Ok(1)
     }
 
-    // Whether no token is unfinished and the value is whole.
     #[inline(never)]
     fn is_done(&self) -> bool
         ensures { result ≡ true → (self.now.token ≡ Token.Nothing) × (self.now.value.awaits ≡ Awaits.Nothing) }
@@ -391,7 +380,7 @@ impl OpenDocument {
         matches!(self.token, Token::Nothing) && self.value.is_whole()
     }
 
-    // Whether no byte changes the answers any more. Where there is a fault, one was noted.
+    // Whether no byte changes the results any more. A final error is in `first` too, so one test settles most bytes.
     #[inline(always)]
     fn is_over(&self) -> bool
         requires { (t : List ℕ) × HasArrived self.now t }
@@ -404,7 +393,7 @@ impl OpenDocument {
         }
     }
 
-    // Takes a run of blanks, or another byte and what is whole there, where no token is unfinished and no number begins.
+    // Takes whitespace, or a byte and the token or container that it begins, if that is complete in the chunk.
     #[inline(always)]
     fn take_other(&mut self, piece: &[u8], at: usize) -> Result<usize, Refused>
         requires within { at < length piece.now }
@@ -424,8 +413,7 @@ impl OpenDocument {
         self.step(piece, at)
     }
 
-    // Takes a run of blanks, or another byte and what is whole there, where no token is unfinished. A number is asked for
-    // first.
+    // No token is unfinished. Numbers have a path of their own; it is tried first.
     #[inline(always)]
     fn take_between(&mut self, piece: &[u8], at: usize) -> Result<usize, Refused>
         requires within { at < length piece.now }
@@ -443,7 +431,6 @@ impl OpenDocument {
         self.step_number(piece, at)
     }
 
-    // Takes bytes of the token that is unfinished.
     #[inline(always)]
     fn take_token(&mut self, piece: &[u8], at: usize) -> Result<usize, Refused>
         requires within { at < length piece.now }
@@ -465,7 +452,7 @@ impl OpenDocument {
         Ok(1)
     }
 
-    // Takes bytes, and does not count them yet.
+    // The caller counts the bytes afterwards.
     #[inline(always)]
     fn turn(&mut self, piece: &[u8], at: usize) -> Result<usize, Refused>
         requires within { at < length piece.now }
@@ -487,8 +474,8 @@ impl OpenDocument {
         }
     }
 
-    /// Takes bytes of a piece from the place `at` on, and says how many: at least one. Where memory is refused, all
-    /// stays as it is, and the bytes can be taken again.
+    /// Takes bytes of a chunk from index `at` and returns how many, at least one. If an allocation fails, nothing is
+    /// taken, and the same bytes can be taken again.
     #[inline(always)]
     pub fn take(&mut self, piece: &[u8], at: usize) -> Result<usize, Refused>
         requires within { at < length piece.now }
@@ -498,7 +485,6 @@ impl OpenDocument {
             → IfOk result (λ n. HasArrived self.new (t ++ slice_range piece.now at (at + n))) }
         ensures part { IfOk result (λ n. (0 < n) × (at + n ≤ length piece.now)) }
         ensures refused { OnErr result (Stays self.old self.new) }
-        // A byte that is no blank was taken, or comes next.
         ensures wanted { (t : List ℕ) → HasArrived self.old t
             → OnErr result (MayRefuseAt (t ++ slice_index piece.now at ∷ []) (length t)) }
         ensures settings { self.new.settings ≡ self.old.settings }
@@ -508,15 +494,15 @@ impl OpenDocument {
         Ok(count)
     }
 
-    /// The value, where it is together.
+    /// Returns the root, which is the value so far once it is assembled.
     pub fn into_root(self) -> JsonValue<'static>
         ensures { result ≡ self.value.root }
     {
         self.value.into_root()
     }
 
-    /// Takes the bytes of a piece. Where memory is refused, those before the ones that wanted it are taken, as many as
-    /// the position went on, and the rest can be taken again.
+    /// Takes the bytes of a chunk. If an allocation fails, the position counts the bytes that were taken; the rest can
+    /// be taken again.
     pub fn take_all(&mut self, piece: &[u8]) -> Result<(), Refused>
         requires arrived { (t : List ℕ) × HasArrived self.old t }
         requires room { self.old.position + length piece.now < 2 ^ 64 }

@@ -1,5 +1,4 @@
-//! A value that arrives byte by byte (RFC 8259, 2 to 5): what stands between its scalars and keys. Each byte is looked
-//! at once, and behind each is said what it leaves open.
+//! A value that comes in chunks (RFC 8259, 2 to 5): takes the bytes between its scalars and keys, one at a time.
 ghost use Rattle.std.specs.Prelude.{◌≡◌, ◌∷◌, ◌++◌, ◌<◌, [], IfOk, List, OnErr, OnOk, Some, false, length, map, string_bytes};
 ghost use Rattle.std.specs.Prelude.{◌≤◌, take, true, ℕ};
 ghost use Rattle.std.specs.Prelude.{option_map};
@@ -40,31 +39,31 @@ use std::borrow::CowStr;
 
 mod shown;
 
-/// What is awaited where no token is unfinished.
+/// What comes next, between two tokens.
 #[derive(Clone, Copy, Debug)]
 pub enum Awaits {
-    /// A value: the document's, or the one behind a colon.
+    /// A value: the document's, or a member's after its colon.
     Value,
-    /// The colon behind a key.
+    /// The colon after a key.
     Colon,
-    /// The first part of a container, or its end.
+    /// The first item or member of a container, or its closing bracket.
     First,
-    /// A part behind a comma.
+    /// An item or member, after a comma.
     Next,
-    /// A comma behind a part, or the end of the container.
+    /// A comma or the closing bracket, after an item or member.
     Comma,
-    /// Nothing: the document's value is whole.
+    /// Nothing: the document's value is complete.
     Nothing,
 }
 
-/// What a byte is where a part of a container may begin.
+/// What a byte is where an item or member may begin.
 #[derive(Clone, Copy, Debug)]
 pub enum Sign {
-    /// It begins a part.
+    /// Its first byte.
     Part,
-    /// The end of the container.
+    /// The closing bracket.
     End,
-    /// None of these.
+    /// An error.
     Wrong(FaultKind),
 }
 
@@ -77,16 +76,15 @@ pub enum Went {
     Scalar,
     /// A key begins with it.
     Key,
-    /// A comma or the end of the innermost container is missing before it: the container is closed.
+    /// A comma or the closing bracket is missing before it. The innermost container is closed; the byte isn't taken.
     Closed(FaultKind),
-    /// It is wrong there.
+    /// It is an error there.
     Wrong(FaultKind),
-    /// The value is whole before it.
+    /// The value was complete before it.
     Over,
 }
 
-/// A value whose first bytes were read: its open containers, what is awaited inside them, the last key, and the value
-/// once it is whole.
+/// A value of which some bytes were taken: its open containers, what comes next, the last key, and the root.
 #[derive(Drop)]
 pub struct OpenValue {
     alloc: Global,
@@ -96,7 +94,7 @@ pub struct OpenValue {
     key: CowStr<'static>,
 }
 
-// A space, a tab, a line feed or a carriage return.
+// Whitespace (RFC 8259, 2).
 #[inline(always)]
 fn is_blank(byte: u8) -> bool
     ensures { result ≡ is_blank byte }
@@ -104,7 +102,7 @@ fn is_blank(byte: u8) -> bool
     matches!(byte, b' ' | b'\t' | b'\n' | b'\r')
 }
 
-// What a byte is where a part may begin, by what is awaited there.
+// In an array every byte except `]` begins an item, so `KeyMustBeAString` is only for objects.
 #[inline(always)]
 fn sign_of(awaits: Awaits, shape: Shape, byte: u8) -> Sign
     requires { IsBeforePart awaits }
@@ -125,7 +123,6 @@ fn sign_of(awaits: Awaits, shape: Shape, byte: u8) -> Sign
     }
 }
 
-// The shape of the innermost container.
 #[inline(always)]
 fn shape_inside(spine: &Vec<JsonValue<'_>>) -> Shape
     requires { (h : Shape) × (xs : List (PartTree h)) × (fs : List OpenFrame)
@@ -140,7 +137,6 @@ fn shape_inside(spine: &Vec<JsonValue<'_>>) -> Shape
     }
 }
 
-// Whether the innermost container is an array.
 #[inline(always)]
 fn is_array_inside(spine: &Vec<JsonValue<'_>>) -> bool
     requires { (h : Shape) × (xs : List (PartTree h)) × (fs : List OpenFrame)
@@ -151,7 +147,7 @@ fn is_array_inside(spine: &Vec<JsonValue<'_>>) -> bool
     matches!(shape_inside(spine), Shape::Array)
 }
 
-// What is awaited behind a value inside these containers.
+// What comes next after a value inside these containers.
 #[inline(always)]
 fn behind_part(spine: &Vec<JsonValue<'_>>) -> Awaits
     ensures root { spine.now.items ≡ [] → result ≡ Awaits.Nothing }
@@ -165,7 +161,7 @@ fn behind_part(spine: &Vec<JsonValue<'_>>) -> Awaits
 }
 
 impl OpenValue {
-    /// Before the first byte of a document. It takes no memory.
+    /// Returns a value that has taken no bytes. Does not allocate.
     pub fn new(alloc: Global) -> OpenValue
         ensures left { IsLeft result (at_value Awaits.Value []) }
         ensures read { (p : Settings) → HasRead p [] (at_value Awaits.Value []) }
@@ -179,7 +175,6 @@ impl OpenValue {
         }
     }
 
-    // The innermost container ends.
     fn end(&mut self)
         requires { (h : Shape) × (xs : List (PartTree h)) × (fs : List OpenFrame)
             × (map view self.old.spine.items ≡ spine_of fs (built h xs)) }
@@ -191,7 +186,6 @@ impl OpenValue {
         self.awaits = behind_part(&self.spine);
     }
 
-    // A container begins where a value is awaited.
     #[inline(never)]
     fn begin(&mut self, shape: Shape) -> Result<(), Refused>
         requires { (fs : List OpenFrame) × AwaitsPart self.old.spine.items fs }
@@ -211,7 +205,7 @@ impl OpenValue {
         Ok(())
     }
 
-    // A scalar begins: there is room for it then.
+    // The capacity is reserved here, so storing the complete scalar does not allocate.
     #[inline(always)]
     fn begin_scalar(&mut self) -> Result<(), Refused>
         requires { (fs : List OpenFrame) × AwaitsPart self.old.spine.items fs }
@@ -227,7 +221,7 @@ impl OpenValue {
         Ok(())
     }
 
-    // What a byte is, which is no blank, where a value is awaited.
+    // The limit is tested where a value begins: an empty container may be one level deeper.
     #[inline(always)]
     fn value(&mut self, byte: u8) -> Result<Went, Refused>
         requires { (fs : List OpenFrame) × AwaitsPart self.old.spine.items fs }
@@ -257,7 +251,6 @@ impl OpenValue {
         }
     }
 
-    // A part begins with the byte.
     #[inline(always)]
     fn part(&mut self, shape: Shape, byte: u8) -> Result<Went, Refused>
         requires { (xs : List (PartTree shape)) × (fs : List OpenFrame)
@@ -279,7 +272,6 @@ impl OpenValue {
         }
     }
 
-    // What a byte is, which is no blank, where a part of a container may begin.
     #[inline(always)]
     fn between(&mut self, byte: u8) -> Result<Went, Refused>
         requires inside { (h : Shape) × (xs : List (PartTree h)) × (fs : List OpenFrame)
@@ -302,7 +294,8 @@ impl OpenValue {
         }
     }
 
-    /// Whether a value is awaited where the next byte stands, within the limit: the document's, a member's or an item.
+    /// Returns whether a value may begin with the next byte, within the nesting limit: the document's, a member's or an
+    /// item.
     #[inline(always)]
     pub fn awaits_value(&self) -> bool
         requires { (s : Arrived) × IsLeft self.now s }
@@ -318,7 +311,7 @@ impl OpenValue {
         }
     }
 
-    /// Room for the value that is awaited. All else stays as it is.
+    /// Reserves capacity for the value that comes next. Nothing else changes.
     #[inline(always)]
     pub fn make_room(&mut self) -> Result<(), Refused>
         requires left { (s : Arrived) × IsLeft self.old s }
@@ -329,8 +322,8 @@ impl OpenValue {
         make_room_inside(&mut self.spine)
     }
 
-    /// The value that is awaited is a container, which begins with the next byte: it is taken. Where memory is refused,
-    /// all stays as it is.
+    /// Takes the opening bracket of a container, which is the value that comes next. If an allocation fails, the value
+    /// so far is unchanged.
     #[inline(always)]
     pub fn begin_container(&mut self, shape: Shape) -> Result<(), Refused>
         requires left { (s : Arrived) × IsLeft self.old s }
@@ -343,7 +336,7 @@ impl OpenValue {
         Ok(())
     }
 
-    /// The value that is awaited begins with the next byte. It takes no memory.
+    /// Begins the value that comes next, with the next byte. Does not allocate.
     #[inline(always)]
     pub fn begin_value(&mut self)
         requires awaited { AwaitsValue self.old }
@@ -353,7 +346,7 @@ impl OpenValue {
         self.awaits = Awaits::Value;
     }
 
-    /// Whether the document's value is whole.
+    /// Returns whether the document's value is complete.
     pub fn is_whole(&self) -> bool
         ensures whole { result ≡ true → self.now.awaits ≡ Awaits.Nothing }
         ensures open { result ≡ false → ¬ (self.now.awaits ≡ Awaits.Nothing) }
@@ -361,7 +354,7 @@ impl OpenValue {
         matches!(self.awaits, Awaits::Nothing)
     }
 
-    /// What the next byte is behind a value. It takes no memory.
+    /// Takes the next byte, after a value, or returns what it is instead (see [`Went`]). Does not allocate.
     #[inline(always)]
     pub fn behind(&mut self, byte: u8) -> Went
         requires left { (s : Arrived) × IsLeft self.old s }
@@ -392,7 +385,8 @@ impl OpenValue {
         }
     }
 
-    /// Closes, where a comma or the end was missing before the byte, each container that it ends too, and takes it.
+    /// Takes a byte before which a comma or a closing bracket is missing. First closes each container that the byte
+    /// doesn't continue or close.
     pub fn close_before(&mut self, byte: u8)
         requires left { (s : Arrived) × IsLeft self.old s }
         requires behind { IsBehind self.old.awaits }
@@ -401,7 +395,6 @@ impl OpenValue {
         while let Went::Closed(_) = self.behind(byte) {}
     }
 
-    // What a byte is, which is no blank, behind a key.
     #[inline(always)]
     fn colon(&mut self, byte: u8) -> Went
         ensures goes { (fs : List OpenFrame) → AwaitsPart self.old.spine.items fs
@@ -416,7 +409,7 @@ impl OpenValue {
         Went::Taken
     }
 
-    /// Takes the colon behind a key. It takes no memory.
+    /// Takes the colon after a key. Does not allocate.
     #[inline(always)]
     pub fn pass_colon(&mut self)
         requires { self.old.awaits ≡ Awaits.Colon }
@@ -425,7 +418,6 @@ impl OpenValue {
         self.awaits = Awaits::Value;
     }
 
-    // What the next byte is.
     #[inline(always)]
     fn turn(&mut self, byte: u8) -> Result<Went, Refused>
         requires { (s : Arrived) × IsLeft self.old s }
@@ -444,14 +436,13 @@ impl OpenValue {
         }
     }
 
-    /// What the next byte is: it is taken, a scalar or a key begins with it, or it ends what is open. Where memory is
-    /// refused, the value so far stays as it is.
+    /// Takes the next byte, or returns what it is instead (see [`Went`]). If an allocation fails, the value so far is
+    /// unchanged.
     #[inline(always)]
     pub fn next(&mut self, byte: u8) -> Result<Went, Refused>
         requires { (s : Arrived) × IsLeft self.old s }
         ensures goes { (s : Arrived) → IsLeft self.old s → IfOk result (Goes self.new s byte) }
         ensures refused { (s : Arrived) → IsLeft self.old s → OnErr result (IsLeft self.new s) }
-        // Where a container was closed, what stands behind it is awaited.
         ensures closed { IfOk result (λ went. ClosesOne self.old self.new went) }
         ensures read { (s : Arrived) → (p : Settings) → (t : List ℕ) → IsLeft self.old s → HasRead p t s
             → IfOk result (ReadsOn self.new p (t ++ byte ∷ [])) }
@@ -459,14 +450,13 @@ impl OpenValue {
         self.turn(byte)
     }
 
-    /// The scalar that was begun is whole, and is put where it was awaited. It takes no memory.
+    /// Stores the scalar that was begun, which is complete now. Does not allocate.
     #[inline(always)]
     pub fn put_scalar(&mut self, value: JsonValue<'static>)
         requires { HasRoomInside self.old.spine.items }
         ensures behind { IsBehind self.new.awaits }
         ensures left { (fs : List OpenFrame) → IsLeft self.old (at_value Awaits.Value fs)
             → IsLeft self.new (behind_value (view value.entry) fs) }
-        // Where it is read from j to before e, the rest of a text goes on there.
         ensures read { (p : Settings) → (t : List ℕ) → (j e : ℕ) → (fs : List OpenFrame)
             → value_in (rules_as owned p) t (length fs) j ≡ done (view value.entry) e
             → value_from (rules_as owned p) t fs j ≡ completed p t (behind_value (view value.entry) fs) e }
@@ -475,7 +465,7 @@ impl OpenValue {
         self.awaits = behind_part(&self.spine);
     }
 
-    /// The key that was begun is whole, and its colon is awaited. It takes no memory.
+    /// Stores the key that was begun, which is complete now: its colon comes next. Does not allocate.
     #[inline(always)]
     pub fn put_key(&mut self, key: String)
         requires { self.old.awaits ≡ Awaits.Colon }
@@ -483,7 +473,6 @@ impl OpenValue {
             → map view self.old.spine.items ≡ spine_of fs (object (members_of ms))
             → IsLeft self.new (at_value Awaits.Colon (members_frame ms (text_of (string_bytes key)) ∷ fs)) }
         ensures awaits { self.new.awaits ≡ self.old.awaits }
-        // Where it is read from j to before e, the rest of a text goes on there.
         ensures read { (p : Settings) → (t : List ℕ) → (j e : ℕ) → (ms : List (Text × Tree)) → (fs : List OpenFrame)
             → j < length t → (rules_as owned p).key t j ≡ taken (text_of (string_bytes key)) e
             → key_from (rules_as owned p) t fs ms j
@@ -492,11 +481,10 @@ impl OpenValue {
         self.key = CowStr::Owned(key);
     }
 
-    /// The fault where the input ends here with partial reading off, unless the value is whole.
+    /// Returns the error if the input ended here, with partial reading off, or `None` if the value is complete.
     pub fn end_fault(&self) -> Option<FaultKind>
         requires { (s : Arrived) × IsLeft self.now s }
         ensures kind { (s : Arrived) → IsLeft self.now s → option_map fault_kind result ≡ end_of s }
-        // It is what the bytes so far answer then.
         ensures answer { (p : Settings) → (t : List ℕ) → (s : Arrived) → (k : Kind) → is_active p.mode ≡ false
             → HasRead p t s → IsLeft self.now s → end_of s ≡ Some k
             → reading_as owned_tree (answer_by p t) ≡ fault k (length t) (length t) }
@@ -510,14 +498,15 @@ impl OpenValue {
         }
     }
 
-    /// How many containers are open.
+    /// Returns how many containers are open.
     pub fn depth(&self) -> usize
         ensures { result ≡ length self.now.spine.items }
     {
         self.spine.len()
     }
 
-    /// The fault where the input ends behind a part of the innermost container, if one is open.
+    /// Returns the error if the input ended after an item or member of the innermost container, or `None` if no
+    /// container is open.
     pub fn container_end(&self) -> Option<FaultKind>
         requires { (fs : List OpenFrame) × IsLeft self.now (at_value Awaits.Value fs) }
         ensures { (x : Tree) → (fs : List OpenFrame) → IsLeft self.now (at_value Awaits.Value fs)

@@ -1,6 +1,6 @@
-//! The open containers of a document that arrives in pieces. Between two pieces they lie inside each other, each the
-//! last part of the next; within a piece they lie in a vector, the spine: the outermost first, each parent with a null
-//! in the place of the one inside it. To go from one to the other takes no memory.
+//! The open containers of a value that comes in chunks. Between two chunks they are assembled: each is the last item or
+//! member of the one outside it. While bytes are taken they are separate, in a vector (the spine), the outermost first;
+//! each parent has `null` where its child belongs.
 ghost use Rattle.std.specs.Prelude.{◌≡◌, ◌+◌, ◌≤◌, ◌<◌, ◌∷◌, ◌++◌, [], List, OnErr, OnOk, length, map, vec_len};
 ghost use Rattle.std.specs.Prelude.{false, string_bytes, take, vec_capacity, ℕ, true};
 ghost use Rattle.std.specs.Str.{IsAscii};
@@ -34,7 +34,6 @@ use std::alloc::Global;
 use std::borrow::CowStr;
 use std::mem;
 
-// The last item, exchanged.
 #[inline(always)]
 fn swap_item<'j>(items: &mut JsonArray<'j>, value: &mut JsonValue<'j>)
     requires { 0 < vec_len items.old }
@@ -45,7 +44,6 @@ fn swap_item<'j>(items: &mut JsonArray<'j>, value: &mut JsonValue<'j>)
     mem::swap(&mut items[last], value);
 }
 
-// The value of the last member, exchanged.
 #[inline(always)]
 fn swap_value<'j>(members: &mut JsonObject<'j>, value: &mut JsonValue<'j>)
     requires { 0 < vec_len members.old }
@@ -57,7 +55,6 @@ fn swap_value<'j>(members: &mut JsonObject<'j>, value: &mut JsonValue<'j>)
     mem::swap(&mut members[last].1, value);
 }
 
-// The last part of a container, exchanged.
 #[inline(always)]
 fn swap_part<'j>(container: &mut JsonValue<'j>, value: &mut JsonValue<'j>)
     requires { HasPart (view container.old) }
@@ -73,7 +70,7 @@ fn swap_part<'j>(container: &mut JsonValue<'j>, value: &mut JsonValue<'j>)
     }
 }
 
-/// The root is taken apart into its open containers, so many as `depth` says; the spine has room for them.
+/// Separates the root into its `depth` open containers, which the spine has capacity for. Does not allocate.
 pub fn take_apart<'j>(spine: &mut Vec<JsonValue<'j>>, root: &mut JsonValue<'j>, depth: usize)
     requires empty { spine.old.items ≡ [] }
     requires room { depth ≤ vec_capacity spine.old }
@@ -97,7 +94,7 @@ pub fn take_apart<'j>(spine: &mut Vec<JsonValue<'j>>, root: &mut JsonValue<'j>, 
     }
 }
 
-// A value goes back into its place, where a null stands: into the innermost parent, or, with no parent, to the root.
+// The value replaces a `null`, in the innermost parent or in the root. `mem::forget` saves the drop of that `null`.
 #[inline(always)]
 fn put_back<'j>(spine: &mut Vec<JsonValue<'j>>, root: &mut JsonValue<'j>, value: JsonValue<'j>)
     requires { (fs : List OpenFrame) × (map view spine.old.items ≡ parents_of fs) }
@@ -117,7 +114,7 @@ fn put_back<'j>(spine: &mut Vec<JsonValue<'j>>, root: &mut JsonValue<'j>, value:
     mem::forget(part);
 }
 
-/// The innermost container ends: it goes back into its parent, or is the root.
+/// Ends the innermost container: stores it in its parent, or in the root.
 pub fn close<'j>(spine: &mut Vec<JsonValue<'j>>, root: &mut JsonValue<'j>)
     requires { (fs : List OpenFrame) × (x : Tree) × (map view spine.old.items ≡ spine_of fs x) }
     ensures value { (fs : List OpenFrame) → (x : Tree) → map view spine.old.items ≡ spine_of fs x
@@ -131,11 +128,10 @@ pub fn close<'j>(spine: &mut Vec<JsonValue<'j>>, root: &mut JsonValue<'j>)
     }
 }
 
-/// The open containers are put together: each goes back into its parent, and the outermost is the root.
+/// Assembles the open containers: stores each in its parent, and the outermost in the root. Does not allocate.
 pub fn put_together<'j>(spine: &mut Vec<JsonValue<'j>>, root: &mut JsonValue<'j>)
     requires { (v : Tree) × StandsFor spine.old.items root.old v }
     ensures root { (v : Tree) → StandsFor spine.old.items root.old v → view root.new ≡ v }
-    // Where it was read of a text in a partial mode, this is what the text so far answers, each text owned.
     ensures answer { (p : Settings) → (t : List ℕ) → (a : Awaits) → (k : Text) → (s : Arrived) → (v : Tree)
         → is_active p.mode ≡ true → HasRead p t s → Holds a spine.old.items root.old k s → shown s ≡ Some v
         → (view root.new ≡ v) × ((e : ℕ) × (reading_as owned_tree (answer_by p t) ≡ done v e)) }
@@ -149,7 +145,6 @@ pub fn put_together<'j>(spine: &mut Vec<JsonValue<'j>>, root: &mut JsonValue<'j>
     }
 }
 
-// Room for a part more of a container.
 #[inline(always)]
 fn widen<'j>(container: &mut JsonValue<'j>) -> Result<(), Refused>
     requires { (f : OpenFrame) × (view container.old ≡ begun f) }
@@ -163,7 +158,7 @@ fn widen<'j>(container: &mut JsonValue<'j>) -> Result<(), Refused>
     }
 }
 
-/// Room for a part more of the innermost container, if one is open.
+/// Reserves capacity for one more item or member of the innermost container, if one is open.
 #[inline(always)]
 pub fn make_room_inside<'j>(spine: &mut Vec<JsonValue<'j>>) -> Result<(), Refused>
     requires { (fs : List OpenFrame) × AwaitsPart spine.old.items fs }
@@ -178,7 +173,7 @@ pub fn make_room_inside<'j>(spine: &mut Vec<JsonValue<'j>>) -> Result<(), Refuse
     widen(&mut spine[depth - 1])
 }
 
-// A part more of a container; in an object it has the key.
+// A member takes its key from `key`.
 #[inline(always)]
 fn append<'j>(container: &mut JsonValue<'j>, key: &mut CowStr<'j>, value: JsonValue<'j>)
     requires { IsRoomy (out-JsonValue container.old) }
@@ -196,8 +191,8 @@ fn append<'j>(container: &mut JsonValue<'j>, key: &mut CowStr<'j>, value: JsonVa
     }
 }
 
-/// The value that is awaited becomes the last part of the innermost container, which has room for it, or the root. In
-/// an object it has the key.
+/// Stores a value as the last item or member of the innermost container, which has capacity for it, or as the root. A
+/// member takes its key from `key`.
 #[inline(always)]
 pub fn put<'j>(
     spine: &mut Vec<JsonValue<'j>>,
@@ -220,7 +215,7 @@ pub fn put<'j>(
     append(&mut spine[depth - 1], key, value);
 }
 
-/// A container with no part. It takes no memory.
+/// Returns an empty container. Does not allocate.
 #[inline(always)]
 pub fn empty<'j>(alloc: Global, shape: Shape) -> JsonValue<'j>
     ensures { view result ≡ empty_tree shape }
@@ -231,8 +226,8 @@ pub fn empty<'j>(alloc: Global, shape: Shape) -> JsonValue<'j>
     }
 }
 
-/// A container begins where a value is awaited: it is the innermost then. Where memory is refused, all that is open
-/// stays as it is.
+/// Opens a container where a value comes next; it is the innermost one then. If an allocation fails, no container is
+/// opened.
 pub fn open_container<'j>(
     alloc: Global,
     spine: &mut Vec<JsonValue<'j>>,
@@ -253,7 +248,7 @@ pub fn open_container<'j>(
     Ok(())
 }
 
-// The last part of a container, taken out; in an object its key is the one that awaits a value again.
+// The key of a member goes back to `key`.
 fn remove<'j>(container: &mut JsonValue<'j>, key: &mut CowStr<'j>) -> JsonValue<'j>
     requires { HasPart (view container.old) }
     ensures value { (v : JsonValueView) → IsLastPart v container.old → result ≡ v }
@@ -277,7 +272,7 @@ fn remove<'j>(container: &mut JsonValue<'j>, key: &mut CowStr<'j>) -> JsonValue<
     }
 }
 
-/// Takes back what [`put`] put: the last part of the innermost container, or the root. There is room for it again.
+/// Takes out what [`put`] stored: the last item or member of the innermost container, or the root. Its capacity stays.
 pub fn take_back<'j>(
     spine: &mut Vec<JsonValue<'j>>,
     root: &mut JsonValue<'j>,
@@ -296,7 +291,7 @@ pub fn take_back<'j>(
     remove(&mut spine[depth - 1], key)
 }
 
-// Bytes below 80 hex behind a text.
+// Bytes below 80 hex need no UTF-8 check.
 #[inline(always)]
 fn append_here(value: &mut JsonValue<'static>, bytes: &[u8]) -> Result<(), Refused>
     requires text { (w : List ℕ) × (view value.old ≡ string (text_of w)) }
@@ -313,8 +308,8 @@ fn append_here(value: &mut JsonValue<'static>, bytes: &[u8]) -> Result<(), Refus
     }
 }
 
-/// Bytes below 80 hex behind the text that stands so many containers deep inside the root, each the last part of the
-/// next. Where memory is refused, the text is the same.
+/// Appends bytes below 80 hex to the string that is `depth` containers deep in the root. Each container is the last
+/// item or member of the one outside it. If an allocation fails, the string is unchanged.
 pub fn append_text(root: &mut JsonValue<'static>, depth: usize, bytes: &[u8]) -> Result<(), Refused>
     requires text { (w : List ℕ) × HoldsTextInside depth root.old w }
     requires ascii { IsAscii bytes.now }
@@ -340,8 +335,7 @@ pub fn append_text(root: &mut JsonValue<'static>, depth: usize, bytes: &[u8]) ->
     }
 }
 
-// Bytes of a piece that go on with an unfinished string, whose characters so far are this text: how many are taken, and
-// whether memory was refused.
+// The decoder appends to a string of its own, so the string is moved in and back.
 #[inline(always)]
 fn take_into(
     text: &mut String,
@@ -362,7 +356,6 @@ fn take_into(
     (count, taken)
 }
 
-// The same, the text a value.
 #[inline(always)]
 fn take_here(
     value: &mut JsonValue<'static>,
@@ -382,9 +375,8 @@ fn take_here(
     }
 }
 
-/// Bytes of a piece that go on with an unfinished string, whose characters so far are the text that stands so many
-/// containers deep inside the root, each the last part of the next: how many are taken, and whether memory was refused.
-/// What is taken stands there too.
+/// Appends the bytes of a chunk that continue the unfinished string, which is `depth` containers deep in the root, as
+/// for [`append_text`]. Returns how many bytes, and whether an allocation failed for those that follow.
 pub fn take_inside(
     root: &mut JsonValue<'static>,
     depth: usize,

@@ -1,4 +1,4 @@
-//! The value so far of a document that arrives, put together to be shown, and taken apart to go on.
+//! Assembles the value so far between two chunks, and separates its open containers again.
 ghost use Rattle.std.specs.Prelude.{◌≡◌, List, None, Some, string_bytes, true, ℕ};
 ghost use Rattle.jiter_scan.specs.OpenNumber.{IsBegun, kept_bytes};
 ghost use Rattle.jiter_steps.specs.OpenText.{with_text};
@@ -17,7 +17,7 @@ use std::alloc::Global;
 use std::borrow::CowStr;
 use std::mem;
 
-// A text that is owned, moved out.
+// The values of this crate own their strings, so the borrowed case never occurs.
 fn owned_string(alloc: Global, text: &mut CowStr<'static>) -> String
     ensures { string_bytes result ≡ owned_bytes text.old }
 {
@@ -27,7 +27,7 @@ fn owned_string(alloc: Global, text: &mut CowStr<'static>) -> String
     }
 }
 
-// What a number's value was made of.
+// Undoes `number_value`. An integer of 64 bits holds no source text: the number kept it.
 fn own_number(alloc: Global, value: JsonValue<'static>) -> OwnNumber
     ensures { (w : List ℕ) → kept_bytes result w ≡ shown_bytes value.entry w }
 {
@@ -40,7 +40,6 @@ fn own_number(alloc: Global, value: JsonValue<'static>) -> OwnNumber
     }
 }
 
-// The text of a string, moved out.
 fn own_text(alloc: Global, value: JsonValue<'static>) -> String
     ensures { (w : List ℕ) → view value.entry ≡ string (text_of w) → string_bytes result ≡ w }
 {
@@ -52,7 +51,7 @@ fn own_text(alloc: Global, value: JsonValue<'static>) -> String
 }
 
 impl OpenDocument {
-    // The unfinished scalar's value so far, whose text moves into it.
+    // Moves the source text or the string into the value, so nothing is copied.
     fn take_shown(&mut self) -> JsonValue<'static>
         requires shown { is_shown self.old ≡ true }
         requires begun { self.old.token ≡ Token.Number
@@ -67,7 +66,7 @@ impl OpenDocument {
         JsonValue::Str(CowStr::Owned(self.string.take_text()))
     }
 
-    // The text moves back.
+    // Undoes `take_shown`.
     fn give_back(&mut self, value: JsonValue<'static>)
         ensures number { self.old.token ≡ Token.Number → (self.new.number.stage ≡ self.old.number.stage)
             × (string_bytes self.new.number.text ≡ shown_bytes value.entry (string_bytes self.old.number.text)) }
@@ -83,8 +82,8 @@ impl OpenDocument {
         }
     }
 
-    /// The value so far is put together, the unfinished scalar shown in it where it is a value. How many containers
-    /// are open, and whether it is shown.
+    /// Assembles the value so far, with the unfinished scalar if that is a value already. Returns the number of open
+    /// containers, and whether the scalar is in the value.
     pub fn settle(&mut self) -> (usize, bool)
         requires arrived { (t : List ℕ) × HasArrived self.old t }
         requires unset { self.old.fault ≡ None }
@@ -102,7 +101,7 @@ impl OpenDocument {
         (self.value.put_together(), true)
     }
 
-    /// It is taken apart again.
+    /// Undoes [`settle`](OpenDocument::settle), given what it returned.
     pub fn unsettle(&mut self, depth: usize, shown: bool)
         requires together { (t : List ℕ) × IsTogether self.old depth shown t }
         requires unset { self.old.fault ≡ None }

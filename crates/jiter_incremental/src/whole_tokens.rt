@@ -1,5 +1,5 @@
-//! A number, a literal, a string, a key or an empty container that lies whole in a piece of a document that arrives (RFC
-//! 8259, 3 to 7): it is taken at once.
+//! The fast paths for what is complete in one chunk (RFC 8259, 3 to 7): numbers, literals, strings, keys and empty
+//! containers.
 ghost use Rattle.std.specs.Prelude.{◌≡◌, ◌+◌, ◌-◌, ◌^◌, ◌<◌, ◌≤◌, ◌∷◌, ◌++◌, [], IfOk, IfSome, List, OnErr, OnOk, length};
 ghost use Rattle.std.specs.Prelude.{None, Some, false, slice_get, slice_index, slice_range, string_bytes, true, ℕ};
 ghost use Rattle.std.specs.Str.{IsAscii};
@@ -42,13 +42,13 @@ use jiter_value::value::JsonValue;
 use std::alloc::Global;
 use std::borrow::CowStr;
 
-// Where so many bytes are left in a piece at most, a number is looked at byte by byte.
+// `short_within` reads seventeen bytes. With at most this many left in the chunk, a number is read byte by byte.
 const NEAR: usize = 16;
 
-// A number that is not known to be short is looked for where so many bytes are left in a piece.
+// With fewer bytes left, the chunk usually truncates a number that isn't short: its parts are read once.
 const LONG_REACH: usize = 33;
 
-// A number that was read, as a value, its text copied.
+// The source text is copied: the value outlives the chunk.
 fn number_value(alloc: Global, number: NumberAny<'_>) -> Result<JsonValue<'static>, Refused>
     ensures { IfOk result (λ v.
         view v ≡ tree_as owned_text (number_tree (number_view number.entry))) }
@@ -66,7 +66,6 @@ fn number_value(alloc: Global, number: NumberAny<'_>) -> Result<JsonValue<'stati
     }
 }
 
-// An integer as a value. It takes no memory.
 #[inline(always)]
 fn int_value(number: i64) -> JsonValue<'static>
     ensures { view result ≡ int number }
@@ -74,7 +73,6 @@ fn int_value(number: i64) -> JsonValue<'static>
     JsonValue::Int(number)
 }
 
-// A float of these bytes, copied.
 fn float_value(alloc: Global, bytes: &[u8]) -> Result<JsonValue<'static>, Refused>
     requires { IsAscii bytes.now }
     ensures { IfOk result (λ v. view v ≡ float (owned_text (record { owned = false; bytes = bytes.now }))) }
@@ -83,7 +81,6 @@ fn float_value(alloc: Global, bytes: &[u8]) -> Result<JsonValue<'static>, Refuse
     Ok(JsonValue::Float(CowStr::Owned(copy)))
 }
 
-// Whether the container's closer stands at a place of a piece.
 #[inline(always)]
 fn closes_at(piece: &[u8], at: usize, shape: Shape) -> bool
     ensures { result ≡ true → slice_get piece.now at ≡ Some (closer_of shape) }
@@ -92,7 +89,7 @@ fn closes_at(piece: &[u8], at: usize, shape: Shape) -> bool
 }
 
 impl OpenDocument {
-    // What the next byte is, where no token is unfinished. It is not taken yet.
+    // Lets the value take the byte, if the byte begins no token. `follow` does the rest.
     #[inline(always)]
     fn look(&mut self, byte: u8) -> Result<Went, Refused>
         requires token { IsIn self.old Token.Nothing }
@@ -105,7 +102,7 @@ impl OpenDocument {
         self.value.next(byte)
     }
 
-    // Takes the byte, which is this where it comes, and begins no decimal number.
+    // Takes a byte, given what `look` returned for it.
     fn follow(&mut self, went: Went, byte: u8)
         requires met { (t : List ℕ) × Meets byte self.old t went }
         requires named { went ≡ Went.Scalar → begins_decimal byte ≡ false }
@@ -123,8 +120,7 @@ impl OpenDocument {
         }
     }
 
-    // Takes the byte at a place of a piece, alone of what it begins there, which is no decimal number; and the blanks
-    // behind it, where it begins nothing.
+    // The slow path: takes one byte. After a bracket, comma or colon it also takes the whitespace that follows.
     fn step_byte(&mut self, piece: &[u8], at: usize) -> Result<usize, Refused>
         requires within { at < length piece.now }
         requires named { begins_decimal (slice_index piece.now at) ≡ false }
@@ -144,8 +140,7 @@ impl OpenDocument {
         }
     }
 
-    // The number whose bytes stand between two places of a piece, and brought it to this stage, is begun: it is no part of
-    // what is read so far.
+    // The number isn't part of the document yet, so a failed allocation changes nothing.
     #[inline(always)]
     fn hold(&mut self, piece: &[u8], at: usize, stage: Stage, end: usize) -> Result<(), Refused>
         requires begun { BeginsThere piece.now at stage end }
@@ -159,7 +154,7 @@ impl OpenDocument {
         self.number.begin(piece, at, stage, end)
     }
 
-    // Takes the bytes of a number that stand between two places of a piece, and brought it to this stage.
+    // The bytes from `at` to `end` begin a number, which stays unfinished. They are stored first: that can fail.
     #[inline(always)]
     fn begin_held(
         &mut self,
@@ -191,7 +186,7 @@ impl OpenDocument {
         }
     }
 
-    // Takes the bytes of a number that begins there, as far as the piece has them.
+    // The slow path, for a number that may be truncated or invalid, or where no value is expected.
     #[inline(never)]
     fn begin_number(&mut self, piece: &[u8], at: usize) -> Result<usize, Refused>
         requires within { at < length piece.now }
@@ -206,8 +201,7 @@ impl OpenDocument {
         self.begin_held(piece, at, stage, end)
     }
 
-    // Takes the byte behind a scalar of so many bytes, which are not counted yet: it is no comma, and closes no container
-    // in its place.
+    // The caller counts the scalar's bytes. They are counted here only so that an error has the index of this byte.
     #[inline(never)]
     fn end_before(&mut self, went: Went, bytes: usize, byte: u8)
         requires met { (t : List ℕ) × MeetsBehind bytes byte self.old t went }
@@ -222,7 +216,7 @@ impl OpenDocument {
         self.position -= bytes;
     }
 
-    // A value that ends in a piece before a byte is put. That byte is taken, and the blanks behind it: so many bytes.
+    // Takes the byte after the value too, and the whitespace after a comma or bracket. Returns the number of bytes.
     #[inline(always)]
     fn put_ended(&mut self, piece: &[u8], at: usize, value: JsonValue<'static>, end: usize) -> usize
         requires within { (at < end) × (end < length piece.now) }
@@ -245,8 +239,7 @@ impl OpenDocument {
         }
     }
 
-    // Puts a value that ends in a piece, and takes the byte behind it, if one stands there, and the blanks behind that: so
-    // many bytes are taken.
+    // Takes the byte after the value too, if the chunk has it. Returns the number of bytes.
     #[inline(always)]
     fn put_whole(&mut self, piece: &[u8], at: usize, value: JsonValue<'static>, end: usize) -> usize
         requires scalar { IsScalarWithin piece.now at (view value) end }
@@ -264,7 +257,7 @@ impl OpenDocument {
         end - at
     }
 
-    // Takes the colon at a place of a piece, behind a key, if one stands there, and the blanks behind it: so many bytes.
+    // Takes the colon after a key and the whitespace after it. Returns the number of bytes: 0 if `at` has no colon.
     #[inline(always)]
     fn colon_behind(&mut self, piece: &[u8], at: usize) -> usize
         requires within { at ≤ length piece.now }
@@ -284,7 +277,6 @@ impl OpenDocument {
         0
     }
 
-    // Room for the value that is awaited.
     #[inline(always)]
     fn make_room(&mut self) -> Result<(), Refused>
         requires token { IsIn self.old Token.Nothing }
@@ -298,7 +290,6 @@ impl OpenDocument {
         self.value.make_room()
     }
 
-    // The value that is awaited begins with the next byte.
     #[inline(always)]
     fn begin_value(&mut self)
         requires token { IsIn self.old Token.Nothing }
@@ -311,7 +302,7 @@ impl OpenDocument {
         self.value.begin_value();
     }
 
-    // Takes a number that lies whole in a piece, and the byte behind it: so many bytes.
+    // A number is complete only with the byte after it, which is taken too. Returns the number of bytes.
     #[inline(always)]
     fn whole_number(
         &mut self,
@@ -333,8 +324,7 @@ impl OpenDocument {
         self.put_ended(piece, at, value, end)
     }
 
-    // Takes a number whose bytes stand between two places of a piece, and brought it to this stage, all of it where it ends
-    // there and is a short one with a point or an exponent.
+    // A number with a point or an exponent that ends in the chunk is taken completely; any other stays unfinished.
     #[inline(always)]
     fn step_begun(
         &mut self,
@@ -362,7 +352,6 @@ impl OpenDocument {
         self.begin_held(piece, at, stage, end)
     }
 
-    // Takes a number near a piece's end, all of it where it lies whole there; else its bytes there.
     #[inline(never)]
     fn step_near_number(&mut self, piece: &[u8], at: usize) -> Result<usize, Refused>
         requires within { at < length piece.now }
@@ -385,7 +374,7 @@ impl OpenDocument {
         }
     }
 
-    // Takes a number that may be long, or may not lie whole in the piece: then its bytes there.
+    // The number may be long, or truncated by the chunk.
     #[inline(never)]
     fn step_long_number(&mut self, piece: &[u8], at: usize) -> Result<usize, Refused>
         requires within { at < length piece.now }
@@ -410,7 +399,7 @@ impl OpenDocument {
         self.begin_number(piece, at)
     }
 
-    // Takes a number, all of it where it lies whole in the piece.
+    // Capacity for the value is reserved first, so storing it does not allocate.
     #[inline(always)]
     pub(crate) fn step_number(&mut self, piece: &[u8], at: usize) -> Result<usize, Refused>
         requires within { at < length piece.now }
@@ -441,7 +430,8 @@ impl OpenDocument {
         }
     }
 
-    // The text of the string or key there, if it lies whole in the piece, and the place behind it.
+    // Returns the decoded string or key at `at` and the index after its closing quote, if it is valid and complete in
+    // the chunk.
     #[inline(always)]
     fn text_there(&mut self, piece: &[u8], at: usize) -> Result<Option<(String, usize)>, Refused>
         requires within { at < length piece.now }
@@ -454,7 +444,7 @@ impl OpenDocument {
         text_within(self.alloc, &mut self.tape, piece, at)
     }
 
-    // Takes a string or a key, all of it where it lies whole in the piece.
+    // A truncated string or key, and an invalid one, takes the slow path.
     #[inline(always)]
     fn step_text(&mut self, piece: &[u8], at: usize) -> Result<usize, Refused>
         requires within { at < length piece.now }
@@ -472,7 +462,6 @@ impl OpenDocument {
         }
     }
 
-    // Takes a string or a key that lies whole in a piece.
     #[inline(always)]
     fn whole_text(
         &mut self,
@@ -503,7 +492,7 @@ impl OpenDocument {
         }
     }
 
-    // Takes a literal, or a container that is empty, which lies whole in a piece.
+    // For literals and empty containers.
     #[inline(always)]
     fn whole_value(
         &mut self,
@@ -527,7 +516,7 @@ impl OpenDocument {
         Ok(self.put_whole(piece, at, value, end))
     }
 
-    // Takes a literal that begins with its first byte, all of it where it lies whole in the piece.
+    // A truncated literal, and an invalid one, takes the slow path.
     #[inline(always)]
     fn step_literal(&mut self, piece: &[u8], at: usize, literal: Literal) -> Result<usize, Refused>
         requires within { at < length piece.now }
@@ -549,7 +538,7 @@ impl OpenDocument {
         }
     }
 
-    // Takes an opening bracket, and with it its closer, if that is the next byte of the piece; or the blanks behind it.
+    // An empty container is stored at once: it never becomes part of the spine.
     #[inline(always)]
     fn step_opening(&mut self, piece: &[u8], at: usize, shape: Shape) -> Result<usize, Refused>
         requires within { at < length piece.now }
@@ -573,7 +562,7 @@ impl OpenDocument {
         Ok(past_blanks(piece, at + 1) - at)
     }
 
-    // Takes a byte where no token is unfinished and no number begins, and with it what is whole there.
+    // Decimal numbers have a path of their own: `step_number`.
     #[inline(always)]
     pub(crate) fn step(&mut self, piece: &[u8], at: usize) -> Result<usize, Refused>
         requires within { at < length piece.now }

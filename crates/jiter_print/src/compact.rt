@@ -18,12 +18,28 @@ use jiter_scan::simd::string_stop;
 use jiter_value::{JsonArray, JsonObject, JsonValue};
 use std::alloc::Global;
 
-/// The compact text of a value: no blanks; numbers other than 64-bit integers by their source text; in
-/// strings a backslash before `"` and `\`, and `\u00` with two hexadecimal digits for a byte below 20 hex
-/// (RFC 8259, 7). It fails only where memory is refused.
+/// Returns the compact JSON text of a value, without whitespace between its parts.
+///
+/// - An `Int` is printed in decimal, any other number as its source text.
+/// - In a string, `"` and `\` follow a backslash, and a byte below 0x20 is `\u00` and two lower-case hex digits
+///   (RFC 8259, 7). All else stays as it is.
+///
+/// If the value was parsed, in any mode, the text and a line feed are a document with the same value. This holds under
+/// the same setting for non-finite numbers. A `BigInt` or `Float` that you build yourself is printed as you wrote it.
+///
+/// # Errors
+///
+/// - `Refused` if an allocation fails
+///
+/// # Examples
+///
+/// ```rust
+/// let value = JsonValue::parse(alloc, b"{\"a\": [1, 2.50]}", false)?;
+/// let text = print(alloc, &value)?;
+/// assert_eq!(rt; text.as_slice(), b"{\"a\":[1,2.50]}".as_slice());
+/// ```
 pub fn print(alloc: Global, value: &JsonValue<'_>) -> Result<Vec<u8>, Refused>
     ensures text { IfOk result (λ text. text.items ≡ print_of (view value.now)) }
-    // What was read, in any mode, is printed as a document of the same value under the same setting.
     ensures again { (names : Bool) → (mode : PartialMode) → (bytes : List ℕ) → (end : ℕ)
         → answer_in names mode bytes ≡ done (view value.now) end
         → IsLineOf names (view value.now) (with_line_feed (print_of (view value.now))) }
@@ -34,7 +50,8 @@ pub fn print(alloc: Global, value: &JsonValue<'_>) -> Result<Vec<u8>, Refused>
     Ok(line)
 }
 
-// What follows writes behind the first bytes of a tape, and gives how many count then; another one has room.
+// The functions below write after the first `count` bytes of `line` and return the new count. The line is always longer
+// than that, so that one more byte fits.
 #[cycle(append)]
 #[inline(always)]
 fn append(value: &JsonValue<'_>, line: &mut Vec<u8>, count: usize) -> Result<usize, Refused>
@@ -54,7 +71,6 @@ fn append(value: &JsonValue<'_>, line: &mut Vec<u8>, count: usize) -> Result<usi
     }
 }
 
-// The items in brackets.
 #[cycle(append)]
 #[inline(never)]
 fn append_items(items: &JsonArray<'_>, line: &mut Vec<u8>, count: usize) -> Result<usize, Refused>
@@ -70,7 +86,6 @@ fn append_items(items: &JsonArray<'_>, line: &mut Vec<u8>, count: usize) -> Resu
     append_bytes(b"]", line, end)
 }
 
-// The members in braces.
 #[cycle(append)]
 #[inline(never)]
 fn append_members(
@@ -93,7 +108,7 @@ fn append_members(
     append_bytes(b"}", line, end)
 }
 
-// A comma, where something stands before.
+// The comma is always written, and counted only after a part. This needs no branch.
 #[inline(always)]
 fn append_comma(before: usize, line: &mut Vec<u8>, count: usize) -> usize
     requires { count < vec_len line.old }
@@ -104,7 +119,6 @@ fn append_comma(before: usize, line: &mut Vec<u8>, count: usize) -> usize
     count + (before > 0) as usize
 }
 
-// An integer in decimal.
 #[inline(always)]
 fn append_integer(number: i64, line: &mut Vec<u8>, count: usize) -> Result<usize, Refused>
     requires { count ≤ vec_len line.old }
@@ -114,7 +128,6 @@ fn append_integer(number: i64, line: &mut Vec<u8>, count: usize) -> Result<usize
     append_bytes(buffer.format(number).as_bytes(), line, count)
 }
 
-// Writes bytes where there is room for them.
 #[inline(always)]
 fn put(line: &mut Vec<u8>, count: usize, bytes: &[u8])
     requires { count + length bytes.now ≤ vec_len line.old }
@@ -124,7 +137,6 @@ fn put(line: &mut Vec<u8>, count: usize, bytes: &[u8])
     place_text(line.as_mut_slice(), count, bytes);
 }
 
-// Bytes as they are.
 #[inline(always)]
 fn append_bytes(bytes: &[u8], line: &mut Vec<u8>, count: usize) -> Result<usize, Refused>
     requires { count ≤ vec_len line.old }
@@ -135,7 +147,7 @@ fn append_bytes(bytes: &[u8], line: &mut Vec<u8>, count: usize) -> Result<usize,
     Ok(count + bytes.len())
 }
 
-// A text between quotes: copied whole, and once more with escapes where it is not plain.
+// The string is copied first and then searched for bytes that need an escape. If there is one, it is written again.
 #[inline(always)]
 fn append_text(text: &str, line: &mut Vec<u8>, count: usize) -> Result<usize, Refused>
     requires { count ≤ vec_len line.old }
@@ -153,7 +165,7 @@ fn append_text(text: &str, line: &mut Vec<u8>, count: usize) -> Result<usize, Re
     append_escaped(bytes, line, count + 1)
 }
 
-// A text behind its quote: runs of bytes that stay as they are, and escapes between them (RFC 8259, 7).
+// Runs of bytes that stay as they are, with escapes between them (RFC 8259, 7).
 #[inline(never)]
 fn append_escaped(bytes: &[u8], line: &mut Vec<u8>, count: usize) -> Result<usize, Refused>
     requires { count ≤ vec_len line.old }
@@ -173,7 +185,6 @@ fn append_escaped(bytes: &[u8], line: &mut Vec<u8>, count: usize) -> Result<usiz
     }
 }
 
-// The escape of a byte that needs one.
 fn append_escape(byte: u8, line: &mut Vec<u8>, count: usize) -> Result<usize, Refused>
     requires needs { needs_escape byte ≡ true }
     requires place { count ≤ vec_len line.old }
@@ -189,7 +200,6 @@ fn append_escape(byte: u8, line: &mut Vec<u8>, count: usize) -> Result<usize, Re
     }
 }
 
-// A hexadecimal digit, in lower case.
 fn digit(n: u8) -> u8
     requires { n < 16 }
     ensures { result ≡ hex_digit n }

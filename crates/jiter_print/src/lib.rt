@@ -1,4 +1,4 @@
-//! Values as compact JSON texts, which are documents of the same values again, and lines written whole.
+//! Prints values as compact JSON text, and writes complete lines.
 #![tactic(auto)]
 
 mod compact;

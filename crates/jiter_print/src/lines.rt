@@ -1,4 +1,4 @@
-//! A line, written whole or a front of it.
+//! Writing a complete line.
 ghost use Rattle.std.specs.Prelude.{OnErr, OnOk};
 ghost use Rattle.std.specs.Io.KnownBytes.{Appends};
 ghost use Rattle.jiter_print.specs.Written.{AppendsFront};
@@ -6,7 +6,15 @@ ghost use Rattle.jiter_print.specs.Written.{AppendsFront};
 use std::io;
 use std::io::{ErrorKind, Write};
 
-/// Writes a line whole and flushes; after a call that failed it makes no other, but for an interrupted write.
+/// Writes all bytes of a line to `writer` and flushes it. An interrupted write is tried again.
+///
+/// # Errors
+///
+/// - the first error of a `write` that is not `Interrupted`, or the error of `flush`
+/// - `WriteZero` if the writer accepts no bytes
+/// - `Other` after `u64::MAX` writes
+///
+/// A prefix of the line has then been written. After an error neither `write` nor `flush` is called again.
 pub fn write_line<W: Write>(writer: &mut W, line: &[u8]) -> io::Result<()>
     ensures whole { OnOk result (Appends (W.contents writer.old) (W.contents writer.new) line.now) }
     ensures front { OnErr result

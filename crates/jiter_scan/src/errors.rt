@@ -1,4 +1,4 @@
-//! The kinds of fault, where a fault stands, and their texts.
+//! The kinds of error, an error's position, and their texts.
 ghost use Rattle.std.specs.Prelude.{◌≡◌, ◌++◌, Some, IfOk, OnOk, codes, string_bytes};
 ghost use Rattle.jiter_scan.specs.Kind.{kind_of, fault_kind, kind_text, is_memory};
 ghost use Rattle.jiter_scan.specs.Position.{at_index, position_of, position_text, short_text, description_text};
@@ -8,56 +8,56 @@ use std::alloc::{AllocError, Global};
 use std::error::Error;
 use std::fmt;
 
-/// Why bytes are refused.
+/// The kind of a [`JsonError`]: what is wrong with the bytes, or that an allocation failed.
 #[derive(Debug, Clone, PartialEq, Eq, Drop)]
 pub enum JsonErrorType {
-    /// A float stands where an integer was asked for. No call answers it.
+    /// A float where an integer is expected. No call returns it.
     FloatExpectingInt,
-    /// The input ends inside an array.
+    /// The input ends inside an array, after its `[` or after an item.
     EofWhileParsingList,
-    /// The input ends inside an object, where no value is awaited.
+    /// The input ends inside an object, after its `{`, a key or a member.
     EofWhileParsingObject,
     /// The input ends inside a string.
     EofWhileParsingString,
-    /// The input ends where a value is awaited, or inside a literal or a number.
+    /// The input ends where a value must begin, after a comma, or inside a literal or a number.
     EofWhileParsingValue,
-    /// A byte other than a colon stands behind a key (RFC 8259, 4).
+    /// A key is followed by a byte other than a colon (RFC 8259, 4).
     ExpectedColon,
-    /// A byte other than a comma or `]` stands behind an item (RFC 8259, 5).
+    /// An item is followed by a byte other than a comma or `]` (RFC 8259, 5).
     ExpectedListCommaOrEnd,
-    /// A byte other than a comma or `}` stands behind a member (RFC 8259, 4).
+    /// A member is followed by a byte other than a comma or `}` (RFC 8259, 4).
     ExpectedObjectCommaOrEnd,
-    /// A literal or a name goes wrong (RFC 8259, 3).
+    /// A byte is wrong in a literal, or in an allowed `NaN` or `Infinity` (RFC 8259, 3).
     ExpectedSomeIdent,
-    /// A byte that begins no value (RFC 8259, 3).
+    /// A byte begins no value (RFC 8259, 3). `N` and `I` begin one only if non-finite numbers are allowed.
     ExpectedSomeValue,
-    /// A backslash with a letter that is no escape, or with a bad hex digit (RFC 8259, 7).
+    /// A backslash is followed by a byte that is no escape, or `\u` by a byte that is no hex digit (RFC 8259, 7).
     InvalidEscape,
-    /// A number that goes wrong (RFC 8259, 6).
+    /// A byte does not fit in a number (RFC 8259, 6).
     InvalidNumber,
-    /// A number with more than 4300 digits before its point or exponent.
+    /// A number has more than 4300 digits in its integer part.
     NumberOutOfRange,
-    /// A string that is not UTF-8 (RFC 8259, 8.1).
+    /// A string is not UTF-8 (RFC 8259, 8.1). The index counts decoded bytes after the opening quote.
     InvalidUnicodeCodePoint,
-    /// A byte below 20 hex inside a string (RFC 8259, 7).
+    /// A string has a byte below 20 hex (RFC 8259, 7).
     ControlCharacterWhileParsingString,
-    /// Something other than a string stands where a key is awaited (RFC 8259, 4).
+    /// A byte other than a quote is where a key must begin (RFC 8259, 4).
     KeyMustBeAString,
-    /// The escape of a low surrogate with no high one before it, or of a high one with no low one behind it.
+    /// The escape of a low surrogate has no high one before it. Or `\u` follows a high one, but spells no low one.
     LoneLeadingSurrogateInHexEscape,
-    /// A closer stands behind a comma (RFC 8259, 4 and 5).
+    /// A comma is followed by a closing bracket (RFC 8259, 4 and 5).
     TrailingComma,
-    /// Something other than blanks stands behind the value (RFC 8259, 2).
+    /// The value is followed by a byte that is not whitespace (RFC 8259, 2).
     TrailingCharacters,
-    /// The escape of a high surrogate with no escape behind it.
+    /// The escape of a high surrogate is not followed by `\u`.
     UnexpectedEndOfHexEscape,
-    /// More than 200 non-empty containers one inside another.
+    /// More than 200 non-empty containers are inside one another.
     RecursionLimitExceeded,
-    /// Memory was refused. It says nothing of the bytes.
+    /// An allocation failed. It says nothing about the bytes.
     OutOfMemory,
 }
 
-/// What a kind prints.
+/// Returns the text that a kind prints.
 pub fn kind_text(kind: &JsonErrorType) -> &'static str
     ensures { result.now ≡ kind_text (kind_of kind.now) }
 {
@@ -91,7 +91,7 @@ pub fn kind_text(kind: &JsonErrorType) -> &'static str
 impl fmt::Display for JsonErrorType {
     ghost output = { λ kind. Some (kind_text (kind_of kind)) };
 
-    // a width changes nothing
+    // A width changes nothing: the text is never padded.
     ghost styled_output = { λ kind _. Some (kind_text (kind_of kind)) };
 
     fn fmt<W: fmt::Write>(&self, f: &mut fmt::Formatter<W>) -> fmt::Result {
@@ -99,13 +99,13 @@ impl fmt::Display for JsonErrorType {
     }
 }
 
-/// What a reader of JSON answers.
+/// The result of reading JSON.
 pub type JsonResult<T> = Result<T, JsonError>;
 
-/// A fault: its kind, and the byte index (from 0) that it stands at.
+/// An error: its kind and its byte index. It prints as `KIND at index N`.
 #[derive(Debug, Clone, PartialEq, Eq, Drop)]
 pub struct JsonError {
-    /// The kind of the fault.
+    /// The kind.
     pub error_type: JsonErrorType,
     /// The byte index, from 0 and at most the length.
     pub index: usize,
@@ -121,48 +121,31 @@ impl fmt::Display for JsonError {
 
 impl Error for JsonError {}
 
-/// A kind of fault of the bytes: each kind of [`JsonErrorType`] that the bytes alone can cause.
+/// A kind of error that the bytes can cause.
+///
+/// Each variant means what the variant of [`JsonErrorType`] with its name means. `FloatExpectingInt` and `OutOfMemory`
+/// have none here.
 #[derive(Debug, Clone, Copy, PartialEq, Eq)]
 pub enum FaultKind {
-    /// The input ends inside an array.
     EofWhileParsingList,
-    /// The input ends inside an object, where no value is awaited.
     EofWhileParsingObject,
-    /// The input ends inside a string.
     EofWhileParsingString,
-    /// The input ends where a value is awaited, or inside a literal or a number.
     EofWhileParsingValue,
-    /// A byte other than a colon stands behind a key (RFC 8259, 4).
     ExpectedColon,
-    /// A byte other than a comma or `]` stands behind an item (RFC 8259, 5).
     ExpectedListCommaOrEnd,
-    /// A byte other than a comma or `}` stands behind a member (RFC 8259, 4).
     ExpectedObjectCommaOrEnd,
-    /// A literal or a name goes wrong (RFC 8259, 3).
     ExpectedSomeIdent,
-    /// A byte that begins no value (RFC 8259, 3).
     ExpectedSomeValue,
-    /// A backslash with a letter that is no escape, or with a bad hex digit (RFC 8259, 7).
     InvalidEscape,
-    /// A number that goes wrong (RFC 8259, 6).
     InvalidNumber,
-    /// A number with more than 4300 digits before its point or exponent.
     NumberOutOfRange,
-    /// A string that is not UTF-8 (RFC 8259, 8.1).
     InvalidUnicodeCodePoint,
-    /// A byte below 20 hex inside a string (RFC 8259, 7).
     ControlCharacterWhileParsingString,
-    /// Something other than a string stands where a key is awaited (RFC 8259, 4).
     KeyMustBeAString,
-    /// The escape of a low surrogate with no high one before it, or of a high one with no low one behind it.
     LoneLeadingSurrogateInHexEscape,
-    /// A closer stands behind a comma (RFC 8259, 4 and 5).
     TrailingComma,
-    /// Something other than blanks stands behind the value (RFC 8259, 2).
     TrailingCharacters,
-    /// The escape of a high surrogate with no escape behind it.
     UnexpectedEndOfHexEscape,
-    /// More than 200 non-empty containers one inside another.
     RecursionLimitExceeded,
 }
 
@@ -197,16 +180,16 @@ impl From<FaultKind> for JsonErrorType {
     }
 }
 
-/// A fault of the bytes: its kind, and the byte index (from 0) that it stands at.
+/// An error of the bytes: its kind and its byte index.
 #[derive(Debug, Clone, Copy, PartialEq, Eq)]
 pub struct Fault {
-    /// The kind of the fault.
+    /// The kind.
     pub kind: FaultKind,
     /// The byte index, from 0 and at most the length.
     pub index: usize,
 }
 
-/// The fault of this kind at this byte index.
+/// Returns the error of this kind at this byte index.
 pub fn fault_at(kind: FaultKind, index: usize) -> Fault
     ensures { result ≡ record { kind = kind; index = index } }
 {
@@ -226,21 +209,33 @@ impl From<Fault> for JsonError {
 }
 
 impl JsonError {
-    /// Whether memory was refused. If not, it is a fault of the bytes.
+    /// Returns whether an allocation failed. Otherwise the bytes have an error.
     pub fn is_memory(&self) -> bool
         ensures { result ≡ is_memory (kind_of self.now.error_type) }
     {
         matches!(&self.error_type, JsonErrorType::OutOfMemory)
     }
 
-    /// The line and column of the fault in the bytes that it was found in.
+    /// Returns the line and column of the error in `bytes`, which are the bytes that were parsed.
     pub fn get_position(&self, bytes: &[u8]) -> LinePosition
         ensures { result ≡ position_of bytes.now self.now.index }
     {
         LinePosition::find(bytes, self.index)
     }
 
-    /// `KIND at line L column C`. It fails only where memory is refused.
+    /// Returns `KIND at line L column C`, for the bytes that were parsed.
+    ///
+    /// # Errors
+    ///
+    /// - `AllocError`, only if an allocation fails
+    ///
+    /// # Examples
+    ///
+    /// ```
+    /// let error = JsonError { error_type: JsonErrorType::TrailingComma, index: 3 };
+    /// let text = error.description(alloc, b"[1,]")?;
+    /// assert_eq!(rt; text.as_str(), "trailing comma at line 1 column 4");
+    /// ```
     pub fn description(&self, alloc: Global, bytes: &[u8]) -> Result<String, AllocError>
         ensures { IfOk result (λ text. string_bytes text
             ≡ description_text (kind_of self.now.error_type) self.now.index bytes.now) }
@@ -248,7 +243,7 @@ impl JsonError {
         Ok(self.describe(alloc, bytes)?)
     }
 
-    // The description, or the evidence that memory was refused.
+    // The public call makes its `AllocError` from a `Refused`, so it fails only if an allocation failed.
     fn describe(&self, alloc: Global, bytes: &[u8]) -> Result<String, Refused>
         ensures { IfOk result (λ text. string_bytes text
             ≡ description_text (kind_of self.now.error_type) self.now.index bytes.now) }
@@ -260,7 +255,7 @@ impl JsonError {
     }
 }
 
-/// Appends ` at line L column C`.
+/// Appends ` at line L column C` to a string.
 pub fn push_position(text: &mut String, position: &LinePosition) -> Result<(), Refused>
     ensures { OnOk result (string_bytes text.new
         ≡ string_bytes text.old ++ (codes " at " ++ position_text position.now)) }
@@ -271,13 +266,15 @@ pub fn push_position(text: &mut String, position: &LinePosition) -> Result<(), R
     push_number(text, position.column)
 }
 
-/// A line and a column. Lines count from 1. A column is the count of bytes behind the last line feed, so
-/// the first byte of a line has column 1 and a line feed itself has column 0.
+/// A line and a column. It prints as `line L column C`.
+///
+/// Lines count from 1. A column counts the bytes after the last line feed: a line's first byte has column 1. A line
+/// feed itself has column 0 of the line that it begins.
 #[derive(Debug, Clone, PartialEq, Eq, Drop)]
 pub struct LinePosition {
     /// The line, from 1.
     pub line: usize,
-    /// The column, from 1; 0 at a line feed and in empty bytes.
+    /// The column, from 1; it is 0 for a line feed and for empty bytes.
     pub column: usize,
 }
 
@@ -290,21 +287,24 @@ impl fmt::Display for LinePosition {
 }
 
 impl LinePosition {
-    /// The position of this line and column.
+    /// Returns the position with this line and column.
     pub fn new(line: usize, column: usize) -> Self
         ensures { result ≡ record { line = line; column = column } }
     {
         Self { line, column }
     }
 
-    /// `L:C`. It fails only where memory is refused.
+    /// Returns `L:C`, the line and the column.
+    ///
+    /// # Errors
+    ///
+    /// - `AllocError`, only if an allocation fails
     pub fn short(&self, alloc: Global) -> Result<String, AllocError>
         ensures { IfOk result (λ text. string_bytes text ≡ short_text self.now) }
     {
         Ok(self.shorten(alloc)?)
     }
 
-    // The short text, or the evidence that memory was refused.
     fn shorten(&self, alloc: Global) -> Result<String, Refused>
         ensures { IfOk result (λ text. string_bytes text ≡ short_text self.now) }
     {
@@ -315,7 +315,14 @@ impl LinePosition {
         Ok(text)
     }
 
-    /// The line and column of a byte index; at or past the length, those of the whole.
+    /// Returns the line and column of a byte index. An index at or past the length gives those of the last byte.
+    ///
+    /// # Examples
+    ///
+    /// ```
+    /// let position = LinePosition::find(b"[1,\n 2,]", 7);
+    /// assert_eq!(rt; position, LinePosition::new(2, 4));
+    /// ```
     pub fn find(bytes: &[u8], index: usize) -> Self
         ensures { result ≡ position_of bytes.now index }
     {

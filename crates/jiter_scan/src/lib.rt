@@ -1,5 +1,5 @@
-//! What the readers of JSON stand on: the kinds of fault with their texts and places, the requests for
-//! memory, words and numbers, and whether a cut document is read.
+//! What all readers of JSON need: errors and positions, requests for memory, literals, numbers, scans of strings, and
+//! the modes of partial reading.
 #![tactic(auto)]
 
 pub mod errors;

@@ -1,5 +1,5 @@
-//! What grows: the few requests for memory that the parser makes. Each answers, where it is refused, with
-//! the evidence of it, and nothing outside this module can make that evidence.
+//! The requests for memory that the parser makes. One that fails returns a [`Refused`], which only this module can
+//! make.
 ghost use Rattle.std.specs.Prelude.{◌≡◌, ◌+◌, ◌^◌, ◌<◌, ◌≤◌, ◌∷◌, ◌++◌, [], take, drop, IfOk, OnOk, OnErr, decimal};
 ghost use Rattle.std.specs.Prelude.{length, replicate, string_bytes, string_capacity, string_len, vec_capacity};
 ghost use Rattle.std.specs.Prelude.{false, not, true, vec_len};
@@ -13,10 +13,12 @@ use smallvec::SmallVec;
 use std::alloc::{AllocError, Global};
 use std::collections::BTreeSet;
 
-// The bytes of a short text: one that arrives in parts has room for so many where its first part is no single byte.
+// The least capacity, in bytes, that `push_ascii` reserves for a string that has none yet.
 const SHORT_TEXT: usize = 32;
 
-/// The evidence that a request for memory was refused.
+/// An allocation failed. It converts to [`AllocError`].
+///
+/// Only this module makes one, after a request that failed.
 #[derive(Debug, PartialEq, Eq, Drop)]
 pub struct Refused {
     error: AllocError,
@@ -30,7 +32,7 @@ impl From<Refused> for AllocError {
     }
 }
 
-/// An empty vector with room for exactly so many items. Room for none takes no memory.
+/// Returns an empty vector with exactly this capacity. Capacity 0 never fails.
 pub fn with_capacity<T: Drop>(alloc: Global, capacity: usize) -> Result<Vec<T>, Refused>
     ensures items { IfOk result (λ v. v.items ≡ []) }
     ensures capacity { IfOk result (λ v. vec_capacity v ≡ capacity) }
@@ -42,7 +44,7 @@ pub fn with_capacity<T: Drop>(alloc: Global, capacity: usize) -> Result<Vec<T>, 
     }
 }
 
-/// Appends an item.
+/// Appends an item. Fails only if the vector is full.
 pub fn push<T: Drop>(items: &mut Vec<T>, item: T) -> Result<(), Refused>
     ensures ok { OnOk result (items.new.items ≡ items.old.items ++ item ∷ []) }
     ensures err { OnErr result (items.new.items ≡ items.old.items) }
@@ -54,7 +56,7 @@ pub fn push<T: Drop>(items: &mut Vec<T>, item: T) -> Result<(), Refused>
     }
 }
 
-/// Room for one more item.
+/// Reserves capacity for one more item.
 pub fn make_room<T: Drop>(items: &mut Vec<T>) -> Result<(), Refused>
     ensures same { items.new.items ≡ items.old.items }
     ensures ok { OnOk result (vec_len items.new < vec_capacity items.new) }
@@ -66,7 +68,7 @@ pub fn make_room<T: Drop>(items: &mut Vec<T>) -> Result<(), Refused>
     }
 }
 
-/// Appends an item to a vector that keeps its first ones in place, where they need no memory.
+/// Appends an item to a vector that stores its first `N` items inline. Fails only if the vector is full.
 pub fn push_small<T: Drop + Default, const N: usize>(
     items: &mut SmallVec<T, N>,
     item: T,
@@ -81,7 +83,7 @@ pub fn push_small<T: Drop + Default, const N: usize>(
     }
 }
 
-/// Takes the items from the index `at` on. To take none needs no memory.
+/// Moves the items from the index `at` on to a new vector. Fails only if there is such an item.
 pub fn split_off<T: Drop>(items: &mut Vec<T>, at: usize) -> Result<Vec<T>, Refused>
     requires { at ≤ vec_len items.old }
     ensures rest { OnOk result (items.new.items ≡ take at items.old.items) }
@@ -106,7 +108,7 @@ pub fn extend(bytes: &mut Vec<u8>, more: &[u8]) -> Result<(), Refused>
     }
 }
 
-/// Appends as many zeros.
+/// Appends `more` zeros.
 pub fn lengthen(bytes: &mut Vec<u8>, more: usize) -> Result<(), Refused>
     requires { vec_len bytes.old + more < 2 ^ 64 }
     ensures ok { OnOk result (bytes.new.items ≡ bytes.old.items ++ replicate more 0) }
@@ -119,7 +121,7 @@ pub fn lengthen(bytes: &mut Vec<u8>, more: usize) -> Result<(), Refused>
     }
 }
 
-/// Puts a key into a set: whether it is new. One that the set has already needs no memory.
+/// Inserts a key into a set, and returns whether it is new. Fails only for a new key.
 pub fn insert<K: Ord + Drop>(set: &mut BTreeSet<K>, key: K) -> Result<bool, Refused>
     ensures new { IfOk result (λ new. new ≡ not (contains K.cmp set.old key)) }
     ensures keys { OnOk result (set.new.keys ≡ insert_key K.cmp set.old.keys key) }
@@ -133,7 +135,7 @@ pub fn insert<K: Ord + Drop>(set: &mut BTreeSet<K>, key: K) -> Result<bool, Refu
     }
 }
 
-/// A text of its own.
+/// Returns a copy of a string.
 pub fn copy_text(alloc: Global, text: &str) -> Result<String, Refused>
     ensures { IfOk result (λ copy. string_bytes copy ≡ text.now) }
 {
@@ -143,7 +145,7 @@ pub fn copy_text(alloc: Global, text: &str) -> Result<String, Refused>
     }
 }
 
-/// Appends a text.
+/// Appends a string.
 pub fn push_text(text: &mut String, more: &str) -> Result<(), Refused>
     ensures ok { OnOk result (string_bytes text.new ≡ string_bytes text.old ++ more.now) }
     ensures err { OnErr result (string_bytes text.new ≡ string_bytes text.old) }
@@ -168,7 +170,6 @@ pub fn push_char(text: &mut String, c: char) -> Result<(), Refused>
     }
 }
 
-// Room for so many bytes in a text that has none yet, and for as many as a short text has.
 #[inline(never)]
 fn begin_text(text: &mut String, count: usize) -> Result<(), Refused>
     ensures { string_bytes text.new ≡ string_bytes text.old }
@@ -179,8 +180,10 @@ fn begin_text(text: &mut String, count: usize) -> Result<(), Refused>
     }
 }
 
-/// Appends bytes below 80 hex. With its first ones, if they are more than one, a text gets room for some more, so that one
-/// that arrives in parts seldom moves.
+/// Appends bytes below 80 hex.
+///
+/// If they are two or more and the string has no capacity yet, it reserves 32 bytes at least. So a string that grows in
+/// chunks seldom moves.
 #[inline(always)]
 pub fn push_ascii(text: &mut String, bytes: &[u8]) -> Result<(), Refused>
     requires { IsAscii bytes.now }
@@ -197,7 +200,7 @@ pub fn push_ascii(text: &mut String, bytes: &[u8]) -> Result<(), Refused>
     push_text(text, ascii_text(bytes))
 }
 
-/// Appends the decimal digits of a number.
+/// Appends a number in decimal digits.
 pub fn push_number(text: &mut String, number: usize) -> Result<(), Refused>
     ensures { OnOk result (string_bytes text.new ≡ string_bytes text.old ++ decimal number) }
 {

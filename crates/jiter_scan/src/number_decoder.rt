@@ -1,4 +1,4 @@
-//! Numbers: integers that 64 signed bits hold, and the text of all others (RFC 8259, 6).
+//! Numbers (RFC 8259, 6): integers that an `i64` holds, and the source text of all others.
 ghost use Rattle.std.specs.Prelude.{◌≡◌, ◌+◌, ◌<◌, ◌≤◌, ◌==◌, ◌||◌, IfOk, min, length, slice_get, slice_index};
 ghost use Rattle.std.specs.Prelude.{slice_range, Some, true};
 ghost use Rattle.std.specs.Str.{IsAscii};
@@ -20,30 +20,41 @@ use crate::simd::{chunk_at, digit_word, joined};
 use crate::text::ascii_text;
 use crate::word::{byte_at, word_end};
 
-/// An integer.
+/// An integer: its value, or its source text if an `i64` does not hold it.
 #[derive(Debug, Clone, PartialEq, Drop)]
 pub enum NumberInt<'j> {
-    /// One that 64 signed bits hold.
+    /// An integer that an `i64` holds.
     Int(i64),
-    /// The text of one that they do not hold.
+    /// The source text of any other integer.
     BigInt(&'j str),
 }
 
-/// A number.
+/// A number: an integer, or the source text of a float.
 #[derive(Debug, Clone, PartialEq, Drop)]
 pub enum NumberAny<'j> {
-    /// One with neither point nor exponent.
+    /// A number with neither a point nor an exponent.
     Int(NumberInt<'j>),
-    /// The text of one with a point or an exponent, or of a name.
+    /// The source text of a number with a point or an exponent, or of `NaN`, `Infinity` or `-Infinity`.
     Float(&'j str),
 }
 
 impl<'j> NumberInt<'j> {
-    /// The integer that the bytes are, with nothing before or behind it (RFC 8259, 6).
+    /// Returns the integer that the bytes are, from the first to the last (RFC 8259, 6). Whitespace is not skipped.
     ///
-    /// Bytes that begin no number, a byte that does not fit and a float's first byte are `InvalidNumber` at
-    /// their index, bytes that end inside the integer `EofWhileParsingValue` at the length, and more than
-    /// 4300 digits `NumberOutOfRange` behind the 4301st.
+    /// # Errors
+    ///
+    /// - `InvalidNumber` at 0 if the bytes are empty, or the first one begins no number
+    /// - `InvalidNumber` at the first byte that does not fit, such as a point, an exponent's letter or a trailing byte
+    /// - `EofWhileParsingValue` at the length if a minus is the only byte
+    /// - `NumberOutOfRange` after the 4301st digit if there are more than 4300
+    ///
+    /// # Examples
+    ///
+    /// ```
+    /// assert_eq!(rt; NumberInt::from_bytes(b"-43")?, NumberInt::Int(-43));
+    /// let big = NumberInt::from_bytes(b"9223372036854775808")?;
+    /// assert_eq!(rt; big, NumberInt::BigInt("9223372036854775808"));
+    /// ```
     pub fn from_bytes(bytes: &'j [u8]) -> JsonResult<Self>
         ensures value { AnswersAlone int_view bytes.now result (int_alone bytes.now) }
     {
@@ -66,11 +77,25 @@ impl<'j> TryFrom<&'j [u8]> for NumberInt<'j> {
 }
 
 impl<'j> NumberAny<'j> {
-    /// The number that the bytes are, with nothing before or behind it (RFC 8259, 6); `NaN`, `Infinity` and
-    /// `-Infinity` too where they are allowed.
+    /// Returns the number that the bytes are, from the first to the last (RFC 8259, 6). Whitespace is not skipped. With
+    /// `allow_inf_nan`, `NaN`, `Infinity` and `-Infinity` are numbers too.
     ///
-    /// Bytes that begin no number and a byte that does not fit are `InvalidNumber` at their index; the other
-    /// refusals are those of [`number_at`].
+    /// # Errors
+    ///
+    /// - `InvalidNumber` at 0 if the bytes are empty, or the first one begins no number
+    /// - `InvalidNumber` at the first byte that does not fit, such as a trailing byte, or the `I` of `-Infinity`
+    ///   without `allow_inf_nan`
+    /// - `EofWhileParsingValue` at the length if the bytes end inside the number
+    /// - `NumberOutOfRange` after the 4301st digit if the integer part has more than 4300
+    /// - `ExpectedSomeValue` at 0 if the bytes begin with `N` or `I`, without `allow_inf_nan`
+    /// - `ExpectedSomeIdent` at the first wrong byte of an allowed `NaN` or `Infinity`
+    ///
+    /// # Examples
+    ///
+    /// ```
+    /// assert_eq!(rt; NumberAny::from_bytes(b"43", false)?, NumberAny::Int(NumberInt::Int(43)));
+    /// assert_eq!(rt; NumberAny::from_bytes(b"1.50", false)?, NumberAny::Float("1.50"));
+    /// ```
     pub fn from_bytes(bytes: &'j [u8], allow_inf_nan: bool) -> JsonResult<Self>
         ensures value { AnswersAlone number_view bytes.now result
             (number_alone allow_inf_nan bytes.now) }
@@ -82,7 +107,6 @@ impl<'j> NumberAny<'j> {
     }
 }
 
-// The integer that the bytes are.
 fn int_alone<'j>(bytes: &'j [u8]) -> Result<NumberInt<'j>, Fault>
     ensures { Scans (whole_text int_view bytes.now) result (int_alone bytes.now) }
 {
@@ -102,7 +126,6 @@ fn int_alone<'j>(bytes: &'j [u8]) -> Result<NumberInt<'j>, Fault>
     }
 }
 
-// The number that the bytes are.
 fn number_alone<'j>(bytes: &'j [u8], allow_inf_nan: bool) -> Result<NumberAny<'j>, Fault>
     ensures { Scans (whole_text number_view bytes.now) result
         (number_alone allow_inf_nan bytes.now) }
@@ -118,7 +141,7 @@ fn number_alone<'j>(bytes: &'j [u8], allow_inf_nan: bool) -> Result<NumberAny<'j
     }
 }
 
-/// What stands where an integer is looked for.
+/// What is found where an integer is expected.
 #[derive(Debug, Clone, PartialEq, Drop)]
 pub enum Integer<'j> {
     /// An integer.
@@ -127,13 +150,12 @@ pub enum Integer<'j> {
     FloatSeen,
 }
 
-// One more than the greatest integer of 64 signed bits.
+// One more than the greatest `i64`.
 const INT_LIMIT: u64 = 1 << 63;
 
 // The least number of twenty digits.
 const MAGNITUDE_LIMIT: u64 = 10_000_000_000_000_000_000;
 
-// The value of the digits from `at` to before `end`, at most sixteen.
 #[inline(always)]
 fn digits_value(bytes: &[u8], at: usize, end: usize) -> u64
     requires some { (at < end) × (end ≤ at + 16) }
@@ -143,7 +165,7 @@ fn digits_value(bytes: &[u8], at: usize, end: usize) -> u64
     digit_word(chunk_at(bytes, at), end - at)
 }
 
-// The magnitude of the digits from `at` to before `end`, or the least of twenty digits.
+// No `i64` has twenty digits, so the exact value of a longer integer doesn't matter: the result is `MAGNITUDE_LIMIT`.
 #[inline(always)]
 pub(crate) fn digits_magnitude(bytes: &[u8], at: usize, end: usize) -> u64
     requires some { at < end }
@@ -163,7 +185,6 @@ pub(crate) fn digits_magnitude(bytes: &[u8], at: usize, end: usize) -> u64
     }
 }
 
-// The integer part: its magnitude, or the least of twenty digits, and the place behind it.
 fn read_int_part(bytes: &[u8], at: usize) -> Result<(u64, usize), Fault>
     requires { at ≤ length bytes.now }
     ensures value { Scans (with_end (λ _. tt)) result (int_part_at bytes.now at) }
@@ -180,7 +201,6 @@ fn read_int_part(bytes: &[u8], at: usize) -> Result<(u64, usize), Fault>
     Ok((magnitude, end))
 }
 
-// The integer of that magnitude, or its text.
 fn positive_int<'j>(text: &'j [u8], magnitude: u64) -> NumberInt<'j>
     requires { IsAscii text.now }
     ensures { int_view result ≡ positive_value text.now magnitude }
@@ -192,7 +212,7 @@ fn positive_int<'j>(text: &'j [u8], magnitude: u64) -> NumberInt<'j>
     }
 }
 
-// The negative of that magnitude, or its text.
+// 2^63 is no `i64`, but its negative is one. So 1 is subtracted before the conversion.
 fn negative_int<'j>(text: &'j [u8], magnitude: u64) -> NumberInt<'j>
     requires { IsAscii text.now }
     ensures { int_view result ≡ negative_value text.now magnitude }
@@ -206,7 +226,7 @@ fn negative_int<'j>(text: &'j [u8], magnitude: u64) -> NumberInt<'j>
     }
 }
 
-// The integer from `from` to before `end`, whose digits begin at `at`.
+// Here and below, a number begins at `from`, and its digits at `at`: after its minus, if it has one.
 fn integer_of<'j>(
     bytes: &'j [u8],
     from: usize,
@@ -228,7 +248,7 @@ fn integer_of<'j>(
     }
 }
 
-// The decimal number that begins at `from`, its minus apart at `at`, part by part.
+// The slow path reads part by part.
 #[inline(never)]
 fn read_long_decimal<'j>(
     bytes: &'j [u8],
@@ -251,7 +271,6 @@ fn read_long_decimal<'j>(
     Ok((number, end))
 }
 
-// The decimal number that begins at `from`, its minus apart at `at`.
 fn read_decimal<'j>(
     bytes: &'j [u8],
     from: usize,
@@ -275,7 +294,7 @@ fn read_decimal<'j>(
     }
 }
 
-// The name at `at`, as a number that begins at `from`.
+// `name` is `NaN` or `Infinity`.
 fn read_name<'j>(
     bytes: &'j [u8],
     from: usize,
@@ -294,7 +313,7 @@ fn read_name<'j>(
     Ok((NumberAny::Float(text), end))
 }
 
-// The name at `at`, if names are allowed.
+// If they are not allowed, `NaN` and `Infinity` are `ExpectedSomeValue` here. After a minus it is `InvalidNumber`.
 fn read_allowed_name<'j>(
     bytes: &'j [u8],
     at: usize,
@@ -314,7 +333,6 @@ fn read_allowed_name<'j>(
     }
 }
 
-// The number at `from` that begins with a minus.
 fn read_negative<'j>(
     bytes: &'j [u8],
     from: usize,
@@ -340,13 +358,11 @@ fn read_negative<'j>(
     }
 }
 
-/// The number that begins at a byte index, and the byte index behind it (RFC 8259, 6); the names `NaN`,
-/// `Infinity` and `-Infinity` too where they are allowed.
+/// Returns the number at `at` and the index after it (RFC 8259, 6). With `allow_inf_nan`, `NaN`, `Infinity` and
+/// `-Infinity` are numbers too.
 ///
-/// Input that ends inside it is `EofWhileParsingValue` at the length, a byte that does not fit
-/// `InvalidNumber` at its index, more than 4300 digits before the point `NumberOutOfRange` behind the 4301st,
-/// a name that is not allowed `ExpectedSomeValue` at its first byte, or `InvalidNumber` behind a minus, and
-/// one that goes wrong `ExpectedSomeIdent`.
+/// Fails as [`NumberAny::from_bytes`] does, except that any byte may follow the number. Indices count from the start of
+/// `bytes`.
 #[tactic(auto, unfolding(crate::specs::NumberReading::number_at))]
 pub fn number_at<'j>(
     bytes: &'j [u8],
@@ -379,7 +395,6 @@ pub(crate) fn is_float_sign(byte: u8) -> bool
     matches!(byte, b'.' | b'e' | b'E')
 }
 
-// The integer part at `at` of a number that begins at `from`, and whether a float shows behind it.
 fn read_integer<'j>(bytes: &'j [u8], from: usize, at: usize) -> Result<(Integer<'j>, usize), Fault>
     requires within { at ≤ length bytes.now }
     requires minus { IsMinusTo bytes.now from at }
@@ -395,7 +410,6 @@ fn read_integer<'j>(bytes: &'j [u8], from: usize, at: usize) -> Result<(Integer<
     Ok((Integer::Whole(number), end))
 }
 
-// The integer at `from` that begins with a minus.
 fn read_negative_int<'j>(bytes: &'j [u8], from: usize) -> Result<(Integer<'j>, usize), Fault>
     requires { slice_get bytes.now from ≡ Some ascii.minus }
     ensures value { Scans (with_end integer_view) result
@@ -415,12 +429,10 @@ fn read_negative_int<'j>(bytes: &'j [u8], from: usize) -> Result<(Integer<'j>, u
     }
 }
 
-/// The integer that begins at a byte index, and the byte index behind it; or that a float shows, and the index
-/// of the first byte that only a float has (RFC 8259, 6): a point or an exponent behind the integer part, or
-/// the first letter of `NaN`, `Infinity` or `-Infinity`.
+/// Returns the integer at `at` and the index after it (RFC 8259, 6). For a float, returns the index of the first byte
+/// that only a float has. That is the point, the exponent's letter, or the first letter of `NaN` or `Infinity`.
 ///
-/// Input that ends inside it is `EofWhileParsingValue` at the length, a byte that does not fit
-/// `InvalidNumber` at its index, and more than 4300 digits are `NumberOutOfRange` behind the 4301st.
+/// Fails as [`NumberInt::from_bytes`] does, except that a float is no error and any byte may follow the integer.
 #[tactic(auto, unfolding(crate::specs::NumberReading::int_at))]
 pub fn int_at<'j>(bytes: &'j [u8], at: usize) -> Result<(Integer<'j>, usize), Fault>
     requires { at < length bytes.now }

@@ -1,4 +1,4 @@
-//! Where numbers end, with no value made (RFC 8259, 6).
+//! Finds where numbers end, without their values (RFC 8259, 6).
 ghost use Rattle.std.specs.Prelude.{◌≡◌, ◌+◌, ◌<◌, ◌≤◌, Bool, IfOk, IfSome, length, slice_get};
 ghost use Rattle.jiter_scan.specs.Digits.{digit_run_end};
 ghost use Rattle.jiter_scan.specs.NumberReading.{extent_then, digits_from, behind_zero, within_limit, int_part_at};
@@ -12,13 +12,12 @@ use crate::plain_number::{PlainNumber, roomy_number_at};
 use crate::simd::{digit_run_end, digits_end, is_digit};
 use crate::word::{byte_at, word_end};
 
-/// How many bytes are looked at for a short number: a minus, and 65 from its first digit on.
+/// How many bytes the fast path may read for a short number: a minus, and 65 from its first digit on.
 pub const NUMBER_REACH: usize = 66;
 
-// The longest integer part that is read, in digits.
+// The most digits that an integer part may have.
 const DIGIT_LIMIT: usize = 4300;
 
-// One digit or more: the place behind them.
 fn some_digits_end(bytes: &[u8], from: usize) -> Result<usize, Fault>
     requires { from ≤ length bytes.now }
     ensures value { Scans (taken tt) result
@@ -37,7 +36,7 @@ fn some_digits_end(bytes: &[u8], from: usize) -> Result<usize, Fault>
     }
 }
 
-// Behind a leading zero, where no digit may stand.
+// No digit may follow a leading zero.
 fn zero_end(bytes: &[u8], at: usize) -> Result<usize, Fault>
     ensures value { Scans (taken tt) result (behind_zero at (slice_get bytes.now at)) }
     ensures place { IfOk result (λ e. e ≡ at) }
@@ -54,7 +53,6 @@ fn zero_end(bytes: &[u8], at: usize) -> Result<usize, Fault>
     }
 }
 
-// Behind the digits at `at`, unless they are too many.
 fn limited_end(bytes: &[u8], at: usize) -> Result<usize, Fault>
     requires within { at ≤ length bytes.now }
     requires some { at < digit_run_end bytes.now at }
@@ -67,7 +65,6 @@ fn limited_end(bytes: &[u8], at: usize) -> Result<usize, Fault>
     }
 }
 
-// Behind the integer part.
 pub(crate) fn int_part_end(bytes: &[u8], at: usize) -> Result<usize, Fault>
     requires { at ≤ length bytes.now }
     ensures value { Scans (taken tt) result (int_part_at bytes.now at) }
@@ -87,7 +84,6 @@ pub(crate) fn int_part_end(bytes: &[u8], at: usize) -> Result<usize, Fault>
     }
 }
 
-// Behind a fraction, or where none stands.
 fn fraction_end(bytes: &[u8], at: usize) -> Result<usize, Fault>
     requires { at ≤ length bytes.now }
     ensures value { Scans (taken tt) result (fraction_at bytes.now at) }
@@ -105,7 +101,7 @@ fn fraction_end(bytes: &[u8], at: usize) -> Result<usize, Fault>
     }
 }
 
-// The sign of an exponent, or none, and its digits: the place behind them.
+// The letter of the exponent is before `at`.
 fn power_end(bytes: &[u8], at: usize) -> Result<usize, Fault>
     requires { at ≤ length bytes.now }
     ensures value { Scans (taken tt) result (power_from bytes.now at (slice_get bytes.now at)) }
@@ -123,7 +119,6 @@ fn power_end(bytes: &[u8], at: usize) -> Result<usize, Fault>
     }
 }
 
-// Behind an exponent, or where none stands.
 fn exponent_end(bytes: &[u8], at: usize) -> Result<usize, Fault>
     requires { at ≤ length bytes.now }
     ensures value { Scans (taken tt) result (exponent_at bytes.now at) }
@@ -141,7 +136,7 @@ fn exponent_end(bytes: &[u8], at: usize) -> Result<usize, Fault>
     }
 }
 
-// Behind a fraction, if one stands at `at`, and an exponent, if one follows.
+// The tail is the fraction and the exponent; each may be missing.
 pub(crate) fn tail_end(bytes: &[u8], at: usize) -> Result<usize, Fault>
     requires { at ≤ length bytes.now }
     ensures value { Scans (taken tt) result
@@ -152,7 +147,7 @@ pub(crate) fn tail_end(bytes: &[u8], at: usize) -> Result<usize, Fault>
     exponent_end(bytes, end)
 }
 
-// Behind a decimal number without its minus.
+// The minus, if there is one, is before `at`.
 fn decimal_end(bytes: &[u8], at: usize) -> Result<usize, Fault>
     requires { at ≤ length bytes.now }
     ensures value { Scans (taken tt) result (decimal_at bytes.now at) }
@@ -162,7 +157,7 @@ fn decimal_end(bytes: &[u8], at: usize) -> Result<usize, Fault>
     tail_end(bytes, end)
 }
 
-// Behind the name at `at`, if names are allowed.
+// `name` is `NaN` or `Infinity`.
 fn name_end(bytes: &[u8], at: usize, name: &[u8], allow_inf_nan: bool) -> Result<usize, Fault>
     requires within { at ≤ length bytes.now }
     requires name { 0 < length name.now }
@@ -176,7 +171,7 @@ fn name_end(bytes: &[u8], at: usize, name: &[u8], allow_inf_nan: bool) -> Result
     }
 }
 
-// Behind a number whose minus stands before `at`.
+// The minus is before `at`.
 fn negative_end(bytes: &[u8], at: usize, allow_inf_nan: bool) -> Result<usize, Fault>
     requires { at ≤ length bytes.now }
     ensures value { Scans (taken tt) result
@@ -197,7 +192,7 @@ fn negative_end(bytes: &[u8], at: usize, allow_inf_nan: bool) -> Result<usize, F
     }
 }
 
-// Behind the number at `at`, part by part.
+// The slow path reads part by part.
 #[inline(never)]
 fn general_number_end(bytes: &[u8], at: usize, allow_inf_nan: bool) -> Result<usize, Fault>
     requires { at < length bytes.now }
@@ -220,7 +215,7 @@ fn general_number_end(bytes: &[u8], at: usize, allow_inf_nan: bool) -> Result<us
     }
 }
 
-/// The byte index behind a minus, or where none stands: that of a number's first digit.
+/// Returns the index after the minus at `at`, or `at` if there is none: that of the number's first digit.
 #[inline(always)]
 pub fn minus_end(bytes: &[u8], at: usize) -> usize
     requires { at < length bytes.now }
@@ -231,7 +226,7 @@ pub fn minus_end(bytes: &[u8], at: usize) -> usize
     if bytes[at] == b'-' { at + 1 } else { at }
 }
 
-/// The byte index behind the number at a byte index, 66 bytes before the input's end or more, if it is short.
+/// Returns the index after the number at `at`, if it is short. At least 66 bytes must be left.
 #[inline(always)]
 pub fn roomy_number_end(bytes: &[u8], at: usize) -> Option<usize>
     requires { at + 66 ≤ length bytes.now }
@@ -246,7 +241,7 @@ pub fn roomy_number_end(bytes: &[u8], at: usize) -> Option<usize>
     }
 }
 
-/// The byte index behind the number at a byte index, if it is short and not near the input's end.
+/// Returns the index after the number at `at`, if it is short and at least 66 bytes are left.
 #[inline(always)]
 pub fn plain_number_end(bytes: &[u8], at: usize) -> Option<usize>
     requires { at < length bytes.now }
@@ -260,8 +255,8 @@ pub fn plain_number_end(bytes: &[u8], at: usize) -> Option<usize>
     roomy_number_end(bytes, at)
 }
 
-/// The byte index behind the number that begins at `at`, with no value made: where
-/// [`number_at`](crate::number_decoder::number_at) ends it, and its refusals (RFC 8259, 6).
+/// Returns the index after the number at `at`, without its value (RFC 8259, 6). Fails as
+/// [`number_at`](crate::number_decoder::number_at) does.
 #[inline(always)]
 pub fn number_end(bytes: &[u8], at: usize, allow_inf_nan: bool) -> Result<usize, Fault>
     requires { at < length bytes.now }

@@ -1,4 +1,4 @@
-//! The parts of a number that arrives in pieces (RFC 8259, 6), passed one behind the other as far as a piece has them.
+//! Finds how far the bytes of a chunk continue a number (RFC 8259, 6), part by part.
 ghost use Rattle.std.specs.Prelude.{◌≡◌, ◌+◌, ◌-◌, ◌≤◌, length};
 ghost use Rattle.jiter_scan.specs.Digits.{digit_run_end};
 ghost use Rattle.jiter_scan.specs.OpenNumber.{GoesTo, digits_for, stage_behind};
@@ -6,7 +6,6 @@ ghost use Rattle.jiter_scan.specs.OpenNumber.{GoesTo, digits_for, stage_behind};
 use crate::open_number::{Stage, Went, next_of};
 use crate::simd::digit_run_end;
 
-// How many of the digits at a place go on with a number of this stage.
 #[inline(always)]
 fn digits_for(stage: Stage, piece: &[u8], at: usize) -> usize
     requires { at ≤ length piece.now }
@@ -25,7 +24,6 @@ fn digits_for(stage: Stage, piece: &[u8], at: usize) -> usize
     }
 }
 
-// The stage behind so many digits more.
 #[inline(always)]
 fn stage_behind(stage: Stage, count: usize) -> Stage
     requires { digits_for stage count ≡ count }
@@ -37,7 +35,7 @@ fn stage_behind(stage: Stage, count: usize) -> Stage
     }
 }
 
-// The byte at a place, if one stands there and goes on with a number of this stage. The stage behind it, and the place.
+// If the byte at `at` continues the number, returns the stage after it and the next index; otherwise `stage` and `at`.
 #[inline(always)]
 fn byte_end(stage: Stage, piece: &[u8], at: usize) -> (Stage, usize)
     requires { at ≤ length piece.now }
@@ -52,7 +50,7 @@ fn byte_end(stage: Stage, piece: &[u8], at: usize) -> (Stage, usize)
     }
 }
 
-// The same of the digits at a place.
+// The same for the digits at `at`.
 #[inline(always)]
 fn digits_end(stage: Stage, piece: &[u8], at: usize) -> (Stage, usize)
     requires { at ≤ length piece.now }
@@ -62,7 +60,7 @@ fn digits_end(stage: Stage, piece: &[u8], at: usize) -> (Stage, usize)
     (stage_behind(stage, count), at + count)
 }
 
-// All that goes on with a number behind the sign of its exponent.
+// This function and the next ones are named after the part that was read last. Each reads all parts that may follow it.
 #[inline(always)]
 fn sign_end(piece: &[u8], at: usize) -> (Stage, usize)
     requires { at ≤ length piece.now }
@@ -74,7 +72,6 @@ fn sign_end(piece: &[u8], at: usize) -> (Stage, usize)
     }
 }
 
-// Behind the letter of its exponent.
 #[inline(always)]
 fn letter_end(piece: &[u8], at: usize) -> (Stage, usize)
     requires { at ≤ length piece.now }
@@ -87,7 +84,6 @@ fn letter_end(piece: &[u8], at: usize) -> (Stage, usize)
     }
 }
 
-// Behind a digit of its fraction.
 #[inline(always)]
 fn fraction_end(piece: &[u8], at: usize) -> (Stage, usize)
     requires { at ≤ length piece.now }
@@ -100,7 +96,6 @@ fn fraction_end(piece: &[u8], at: usize) -> (Stage, usize)
     }
 }
 
-// Behind its point.
 #[inline(always)]
 fn point_end(piece: &[u8], at: usize) -> (Stage, usize)
     requires { at ≤ length piece.now }
@@ -112,7 +107,6 @@ fn point_end(piece: &[u8], at: usize) -> (Stage, usize)
     }
 }
 
-// Behind its integer part.
 #[inline(always)]
 pub(crate) fn int_part_end(stage: Stage, piece: &[u8], at: usize) -> (Stage, usize)
     requires { at ≤ length piece.now }
@@ -125,7 +119,7 @@ pub(crate) fn int_part_end(stage: Stage, piece: &[u8], at: usize) -> (Stage, usi
     }
 }
 
-// Behind a digit of an integer part that may have so many more.
+// The integer part may have `room` more digits.
 #[inline(always)]
 fn int_digits_end(room: usize, piece: &[u8], at: usize) -> (Stage, usize)
     requires { at ≤ length piece.now }
@@ -135,7 +129,6 @@ fn int_digits_end(room: usize, piece: &[u8], at: usize) -> (Stage, usize)
     int_part_end(stage, piece, end)
 }
 
-// Behind its minus.
 #[inline(always)]
 fn minus_parts_end(piece: &[u8], at: usize) -> (Stage, usize)
     requires { at ≤ length piece.now }
@@ -148,7 +141,7 @@ fn minus_parts_end(piece: &[u8], at: usize) -> (Stage, usize)
     }
 }
 
-// All that stands at a place and goes on with a number of this stage. The stage behind it, and the place.
+// Returns the stage after all bytes at `at` that continue the number, and the index after them.
 pub(crate) fn parts_end(stage: Stage, piece: &[u8], at: usize) -> (Stage, usize)
     requires { at ≤ length piece.now }
     ensures { GoesTo stage piece.now at result.0 result.1 }

@@ -1,4 +1,4 @@
-//! Numbers that lie whole in a piece of a document (RFC 8259, 6), with a byte behind them that ends them.
+//! Numbers that are complete in a chunk (RFC 8259, 6): the chunk also has the byte that ends them.
 ghost use Rattle.std.specs.Prelude.{◌≡◌, ◌+◌, ◌<◌, ◌≤◌, IfSome, length, slice_index, slice_range, true};
 ghost use Rattle.jiter_scan.specs.NumberDecoder.{number_view};
 ghost use Rattle.jiter_scan.specs.NumberWithin.{EndsWithin, EndsNumber, IsFloatWithin, IsNearNumber};
@@ -10,27 +10,27 @@ use crate::number_extent::minus_end;
 use crate::open_number::{Stage, Went, begun_at, begun_behind, is_int_stage, next_of};
 use crate::plain_number::{PlainNumber, near_number_at, roomy_number_at, signed};
 
-/// A short number that lies whole in a piece.
+/// A short number that is complete in a chunk.
 #[derive(Clone, Copy, Debug)]
 pub enum ShortWithin {
-    /// An integer, and the place behind it.
+    /// An integer, and the index after it.
     Int(i64, usize),
-    /// A number with a point or an exponent: the place behind it.
+    /// A number with a point or an exponent: the index after it.
     Float(usize),
-    /// None that is known.
+    /// Anything else: the fast path finds no complete number.
     Other,
 }
 
-/// A number near a piece's end.
+/// A number near a chunk's end.
 #[derive(Clone, Copy, Debug)]
 pub enum NearNumber {
-    /// An integer that lies whole in the piece, and the place behind it.
+    /// An integer that is complete in the chunk, and the index after it.
     Int(i64, usize),
-    /// Any other: how far its bytes in the piece bring it, and the place behind them.
+    /// Any other number: the stage that its bytes in the chunk reach, and the index after them.
     Begun(Stage, usize),
 }
 
-// Whether a number may go on with the byte.
+// A complete number ends with a digit, so a sign doesn't continue it.
 #[inline(always)]
 fn continues_number(byte: u8) -> bool
     ensures { result ≡ continues_number byte }
@@ -38,7 +38,6 @@ fn continues_number(byte: u8) -> bool
     matches!(byte, b'0'..=b'9' | b'.' | b'e' | b'E')
 }
 
-// Whether a byte stands at a place with which no number goes on.
 #[inline(always)]
 fn ends_number(piece: &[u8], end: usize) -> bool
     ensures { result ≡ true → EndsNumber piece.now end }
@@ -46,8 +45,8 @@ fn ends_number(piece: &[u8], end: usize) -> bool
     end < piece.len() && !continues_number(piece[end])
 }
 
-/// The short number at a place of a piece, where seventeen bytes stand or more, if a byte stands behind it with which no
-/// number goes on.
+/// Returns the short number at `at`, if the chunk also has the byte that ends it. At least seventeen bytes must be
+/// left.
 #[inline(always)]
 pub fn short_within(piece: &[u8], at: usize) -> ShortWithin
     requires { at + 17 ≤ length piece.now }
@@ -73,7 +72,7 @@ pub fn short_within(piece: &[u8], at: usize) -> ShortWithin
     }
 }
 
-/// The number at a place of a piece, from its first byte on, a minus or a digit, where sixteen bytes stand at most.
+/// Returns the number at `at`, which begins with a minus or a digit. At most sixteen bytes may be left.
 #[inline(always)]
 pub fn near_within(piece: &[u8], at: usize) -> NearNumber
     requires within { at < length piece.now }
@@ -94,8 +93,8 @@ pub fn near_within(piece: &[u8], at: usize) -> NearNumber
     NearNumber::Begun(stage, behind)
 }
 
-/// The text of a number with a point or an exponent that stands in a piece before a place, to which its bytes brought it, as
-/// [`begun_at`](crate::open_number::begun_at) said, if a byte stands there with which it does not go on.
+/// Returns the source text of the number from `at` to `end`, if it is a float and the byte at `end` ends it. `stage`
+/// and `end` are what [`begun_at`](crate::open_number::begun_at) returned for `at`.
 pub fn float_within(piece: &[u8], at: usize, stage: Stage, end: usize) -> Option<&[u8]>
     requires { BeginsThere piece.now at stage end }
     ensures text { IfSome result (λ text. text.now ≡ slice_range piece.now at end) }
@@ -110,8 +109,9 @@ pub fn float_within(piece: &[u8], at: usize, stage: Stage, end: usize) -> Option
     }
 }
 
-/// The number at a place of a piece, and the place behind it, if a byte stands there with which no number goes on. Where
-/// there is none, the number may go on in the next piece, or none begins there.
+/// Returns the number at `at` and the index after it, if the chunk also has the byte that ends it.
+///
+/// Returns `None` if the number may go on in the next chunk, has an error, or if no number begins at `at`.
 pub fn number_within(piece: &[u8], at: usize) -> Option<(NumberAny<'_>, usize)>
     requires { at < length piece.now }
     ensures { IfSome result (λ found. EndsWithin piece.now at (number_view found.0) found.1) }

@@ -1,5 +1,5 @@
-//! Numbers that arrive in pieces (RFC 8259, 6): the bytes of a piece that are parts of a number are taken at once, and
-//! behind them is said how the number stands.
+//! Numbers that a chunk may truncate (RFC 8259, 6). All bytes of a chunk that continue a number are taken at once, and
+//! a stage says how far it was read.
 ghost use Rattle.std.specs.Prelude.{◌≡◌, ◌≢◌, ◌+◌, ◌-◌, ◌<◌, ◌≤◌, ◌++◌, [], Bool, IfOk, IfSome, List, None, OnErr, OnOk, Some};
 ghost use Rattle.std.specs.Prelude.{false, length, slice_get, slice_index, slice_range, string_bytes, string_capacity};
 ghost use Rattle.std.specs.Prelude.{string_len, true, ℕ};
@@ -23,41 +23,41 @@ use crate::text::ascii_text;
 use std::alloc::Global;
 use std::mem;
 
-// How many digits an integer part may have behind its first one.
+// How many digits an integer part may have after its first one.
 const MORE_DIGITS: usize = 4299;
 
-// The longest text of an integer of 64 signed bits: a minus and nineteen digits.
+// The longest `i64` in decimal: a minus and nineteen digits.
 const LONGEST_INT: usize = 20;
 
 /// How far a number was read.
 #[derive(Clone, Copy, Debug, PartialEq, Eq)]
 pub enum Stage {
-    /// Behind its minus.
+    /// After its minus.
     Minus,
-    /// Behind the digit `0` of its integer part.
+    /// After the `0` of its integer part.
     Zero,
-    /// Behind a digit of another integer part, which may have so many more.
+    /// After a digit of another integer part, which may have so many more.
     Digits(usize),
-    /// Behind its point.
+    /// After its point.
     Point,
-    /// Behind a digit of its fraction.
+    /// After a digit of its fraction.
     Fraction,
-    /// Behind the letter of its exponent.
+    /// After the letter of its exponent.
     Letter,
-    /// Behind the sign of its exponent.
+    /// After the sign of its exponent.
     Sign,
-    /// Behind a digit of its exponent.
+    /// After a digit of its exponent.
     Exponent,
 }
 
 /// What the next byte is to a number.
 #[derive(Clone, Copy, Debug, PartialEq, Eq)]
 pub enum Went {
-    /// A part of it, which brings it to this stage.
+    /// A byte of the number, which brings it to this stage.
     Taken(Stage),
-    /// No part of it: the number ends before the byte.
+    /// No byte of the number, which ends before it.
     Over,
-    /// The `I` behind its minus, which begins a name.
+    /// The `I` after its minus, which begins `Infinity`.
     Named,
     /// A byte that does not fit.
     Invalid,
@@ -65,29 +65,28 @@ pub enum Went {
     TooLong,
 }
 
-/// What a number is that is whole.
+/// What a complete number is.
 #[derive(Clone, Copy, Debug, PartialEq, Eq)]
 pub enum NumberKind {
-    /// An integer that 64 signed bits hold.
+    /// An integer that an `i64` holds.
     Int(i64),
-    /// One that they do not hold.
+    /// Any other integer.
     BigInt,
-    /// One with a point or an exponent.
+    /// A number with a point or an exponent.
     Float,
 }
 
-/// A number with a text of its own.
+/// A number that owns its source text.
 #[derive(Debug, Drop)]
 pub enum OwnNumber {
-    /// An integer that 64 signed bits hold.
+    /// An integer that an `i64` holds.
     Int(i64),
-    /// The text of one that they do not hold.
+    /// The source text of any other integer.
     BigInt(String),
-    /// The text of one with a point or an exponent.
+    /// The source text of a number with a point or an exponent.
     Float(String),
 }
 
-// Behind the first byte, a minus or a digit.
 fn first_stage(byte: u8) -> Stage
     requires { begins_decimal byte ≡ true }
     ensures leads { (names : Bool) (t : List ℕ) (j : ℕ) → slice_get t j ≡ Some byte
@@ -104,7 +103,6 @@ fn first_stage(byte: u8) -> Stage
     }
 }
 
-// At the first digit.
 #[inline(always)]
 fn first_digit(byte: u8) -> Went
     ensures leads { (names : Bool) (t : List ℕ) (j : ℕ) → slice_get t j ≡ Some byte
@@ -120,7 +118,6 @@ fn first_digit(byte: u8) -> Went
     }
 }
 
-// Behind a minus.
 #[inline(always)]
 fn behind_minus(byte: u8) -> Went
     ensures leads { Leads Stage.Minus byte result }
@@ -133,7 +130,6 @@ fn behind_minus(byte: u8) -> Went
     }
 }
 
-// Behind the digits of a fraction, or of an integer part with none.
 #[inline(always)]
 fn behind_fraction(byte: u8) -> Went
     ensures leads { (names : Bool) (t : List ℕ) (j : ℕ) → slice_get t j ≡ Some byte
@@ -147,7 +143,6 @@ fn behind_fraction(byte: u8) -> Went
     }
 }
 
-// Behind the digits of an integer part.
 #[inline(always)]
 fn behind_int_part(byte: u8) -> Went
     ensures leads { (names : Bool) (t : List ℕ) (j : ℕ) → slice_get t j ≡ Some byte
@@ -161,7 +156,6 @@ fn behind_int_part(byte: u8) -> Went
     }
 }
 
-// Behind the digit `0` of an integer part.
 #[inline(always)]
 fn behind_zero(byte: u8) -> Went
     ensures leads { Leads Stage.Zero byte result }
@@ -174,7 +168,7 @@ fn behind_zero(byte: u8) -> Went
     }
 }
 
-// Behind a digit of an integer part that may have so many more.
+// The integer part may have `room` more digits.
 #[inline(always)]
 fn behind_digit(room: usize, byte: u8) -> Went
     ensures leads { Leads (Stage.Digits room) byte result }
@@ -191,7 +185,6 @@ fn behind_digit(room: usize, byte: u8) -> Went
     }
 }
 
-// Behind a point.
 #[inline(always)]
 fn behind_point(byte: u8) -> Went
     ensures leads { Leads Stage.Point byte result }
@@ -204,7 +197,6 @@ fn behind_point(byte: u8) -> Went
     }
 }
 
-// Behind a digit of a fraction.
 #[inline(always)]
 fn behind_fraction_digit(byte: u8) -> Went
     ensures leads { Leads Stage.Fraction byte result }
@@ -217,7 +209,6 @@ fn behind_fraction_digit(byte: u8) -> Went
     }
 }
 
-// Behind the sign of an exponent.
 #[inline(always)]
 fn behind_sign(byte: u8) -> Went
     ensures leads { Leads Stage.Sign byte result }
@@ -230,7 +221,6 @@ fn behind_sign(byte: u8) -> Went
     }
 }
 
-// Behind the letter of an exponent.
 #[inline(always)]
 fn behind_letter(byte: u8) -> Went
     ensures leads { Leads Stage.Letter byte result }
@@ -243,7 +233,6 @@ fn behind_letter(byte: u8) -> Went
     }
 }
 
-// Behind a digit of an exponent.
 #[inline(always)]
 fn behind_exponent_digit(byte: u8) -> Went
     ensures leads { Leads Stage.Exponent byte result }
@@ -256,7 +245,6 @@ fn behind_exponent_digit(byte: u8) -> Went
     }
 }
 
-// What a byte is to a number that has come to a stage.
 #[inline(always)]
 pub(crate) fn next_of(stage: Stage, byte: u8) -> Went
     ensures leads { Leads stage byte result }
@@ -274,7 +262,7 @@ pub(crate) fn next_of(stage: Stage, byte: u8) -> Went
     }
 }
 
-// The integer of 64 signed bits that stands at the front of a text, if one does.
+// The fast path finds an integer of up to eighteen digits.
 fn integer_in(text: &[u8]) -> Option<i64>
     requires { 0 < length text.now }
     ensures { result ≡ int_of (number_at false text.now 0) }
@@ -289,7 +277,7 @@ fn integer_in(text: &[u8]) -> Option<i64>
     }
 }
 
-// Whether neither point nor exponent was seen.
+// The number has neither a point nor an exponent so far.
 #[inline(always)]
 pub(crate) fn is_int_stage(stage: Stage) -> bool
     ensures { result ≡ is_int_stage stage }
@@ -306,8 +294,8 @@ pub(crate) fn is_int_stage(stage: Stage) -> bool
     }
 }
 
-/// The bytes of a number at a place of a piece, from its first one on, a minus or a digit: how far they bring it, and the
-/// place behind them.
+/// Returns the stage that the bytes of the number at `at` reach, and the index after them. The number begins with a
+/// minus or a digit.
 #[inline(always)]
 pub fn begun_at(piece: &[u8], at: usize) -> (Stage, usize)
     requires within { at < length piece.now }
@@ -317,8 +305,7 @@ pub fn begun_at(piece: &[u8], at: usize) -> (Stage, usize)
     parts_end(first_stage(piece[at]), piece, at + 1)
 }
 
-// The same, where the digits of its integer part are known: they stand from a place on, behind a minus or none, and end
-// before another, few of them and the first one no zero.
+// The same as `begun_at`, but the digits of the integer part, from `from` to before `end`, are not read again.
 #[inline(always)]
 pub(crate) fn begun_behind(piece: &[u8], at: usize, from: usize, end: usize) -> (Stage, usize)
     requires minus { IsMinusTo piece.now at from }
@@ -332,7 +319,7 @@ pub(crate) fn begun_behind(piece: &[u8], at: usize, from: usize, end: usize) -> 
     int_part_end(Stage::Digits(MORE_DIGITS - (end - from - 1)), piece, end)
 }
 
-/// A number whose bytes so far are kept, and how far they bring it.
+/// A number that a chunk may truncate: its bytes so far, and the stage that they reach.
 #[derive(Drop)]
 pub struct OpenNumber {
     text: String,
@@ -340,7 +327,7 @@ pub struct OpenNumber {
 }
 
 impl OpenNumber {
-    /// No bytes. It takes no memory.
+    /// Returns a number without bytes. Does not allocate.
     pub fn new(alloc: Global) -> OpenNumber
         ensures { string_bytes result.text ≡ [] }
     {
@@ -350,7 +337,6 @@ impl OpenNumber {
         }
     }
 
-    // Takes the bytes of a piece between two places, which bring the number to this stage.
     #[inline(always)]
     fn take(&mut self, stage: Stage, piece: &[u8], at: usize, end: usize) -> Result<(), Refused>
         requires within { (at ≤ end) × (end ≤ length piece.now) }
@@ -366,8 +352,8 @@ impl OpenNumber {
         Ok(())
     }
 
-    /// Takes the bytes of a number between two places of a piece, from its first one on, which bring it to this stage, as
-    /// [`begun_at`] said. Where memory is refused, nothing changes.
+    /// Takes the number's first bytes, from `at` to before `end`. `stage` and `end` are what [`begun_at`] returned for
+    /// `at`. If the allocation fails, nothing changes.
     pub fn begin(
         &mut self,
         piece: &[u8],
@@ -385,7 +371,7 @@ impl OpenNumber {
         self.take(stage, piece, at, end)
     }
 
-    /// What the next byte is to the number. It is not taken.
+    /// Returns what the next byte is to the number. The byte is not taken.
     pub fn next(&self, byte: u8) -> Went
         ensures leads { Leads self.now.stage byte result }
         ensures fits { Fits self.now.stage byte result }
@@ -393,8 +379,8 @@ impl OpenNumber {
         next_of(self.stage, byte)
     }
 
-    /// Takes the byte at a place of a piece, which brings the number to this stage, as [`next`](OpenNumber::next) said,
-    /// and the bytes behind it that go on with the number, and says how many. Where memory is refused, nothing changes.
+    /// Takes the byte at `at` and all bytes after it that continue the number, and returns how many. `stage` is what
+    /// [`next`](OpenNumber::next) returned for the byte. If the allocation fails, nothing changes.
     pub fn more(&mut self, stage: Stage, piece: &[u8], at: usize) -> Result<usize, Refused>
         requires within { at < length piece.now }
         requires leads { Leads self.old.stage (slice_index piece.now at) (Went.Taken stage) }
@@ -412,7 +398,7 @@ impl OpenNumber {
         Ok(end - at)
     }
 
-    /// Whether the bytes so far are a number.
+    /// Returns whether the bytes so far are a number.
     pub fn is_whole(&self) -> bool
         ensures value { result ≡ is_whole self.now.stage }
         ensures ends { (names : Bool) (t : List ℕ) (j : ℕ) → slice_get t j ≡ None
@@ -430,7 +416,7 @@ impl OpenNumber {
         }
     }
 
-    // The number as an integer of 64 signed bits, if it is one. At most 20 bytes are looked at.
+    // A longer number is no `i64`, so at most 20 bytes are read.
     fn small_integer(&self) -> Option<i64>
         requires begun { IsBegun (string_bytes self.now.text) self.now.stage }
         requires whole { is_whole self.now.stage ≡ true }
@@ -444,7 +430,7 @@ impl OpenNumber {
         integer_in(self.text.as_bytes())
     }
 
-    /// What the number is whose bytes were taken. At most 20 bytes are looked at.
+    /// Returns what the number is. The bytes so far must be a number. At most 20 bytes are read.
     pub fn kind(&self) -> NumberKind
         requires begun { IsBegun (string_bytes self.now.text) self.now.stage }
         requires whole { is_whole self.now.stage ≡ true }
@@ -459,14 +445,14 @@ impl OpenNumber {
         }
     }
 
-    /// The bytes so far.
+    /// Returns the bytes so far.
     pub fn text(&self) -> &str
         ensures { result.now ≡ string_bytes self.now.text }
     {
         self.text.as_str()
     }
 
-    /// Takes the bytes so far out, and leaves none in their place. It takes no memory.
+    /// Moves the bytes so far out, and leaves none. Does not allocate.
     pub fn take_text(&mut self) -> String
         ensures text { string_bytes result ≡ string_bytes self.old.text }
         ensures none { string_bytes self.new.text ≡ [] }
@@ -476,8 +462,10 @@ impl OpenNumber {
         mem::replace(&mut self.text, String::new(alloc))
     }
 
-    /// The number whose bytes were taken. Its text goes into it, but for an integer of 64 signed bits, of which
-    /// the bytes stay. It takes no memory, and looks at 20 bytes at most.
+    /// Returns the number, and moves its source text into it. For an `i64` the bytes stay here. The bytes so far must
+    /// be a number.
+    ///
+    /// Does not allocate, and reads at most 20 bytes.
     pub fn take_value(&mut self) -> OwnNumber
         requires begun { IsBegun (string_bytes self.old.text) self.old.stage }
         requires whole { is_whole self.old.stage ≡ true }
@@ -492,7 +480,7 @@ impl OpenNumber {
         }
     }
 
-    /// Takes back what [`take_value`](OpenNumber::take_value) gave, so that the number can go on.
+    /// Takes back what [`take_value`](OpenNumber::take_value) returned, so that more bytes can follow.
     pub fn give_back(&mut self, number: OwnNumber)
         ensures text { string_bytes self.new.text ≡ kept_bytes number (string_bytes self.old.text) }
         ensures stage { self.new.stage ≡ self.old.stage }

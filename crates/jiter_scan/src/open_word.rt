@@ -1,21 +1,21 @@
-//! Words of given bytes, as `true`, that arrive byte by byte (RFC 8259, 3).
+//! Words such as `true`, read byte by byte (RFC 8259, 3).
 ghost use Rattle.std.specs.Prelude.{◌≡◌, ◌+◌, ◌<◌, List, None, Some, length, slice_get, ℕ};
 ghost use Rattle.jiter_scan.specs.Kind.{eof_value};
 ghost use Rattle.jiter_scan.specs.Scanned.{failed};
 ghost use Rattle.jiter_scan.specs.OpenWord.{word_by, word_from};
 
-/// What the next byte is to a word.
+/// What a byte is to a word.
 #[derive(Clone, Copy, Debug, PartialEq, Eq)]
 pub enum Seen {
-    /// A byte of it that is not the last one.
+    /// The word's next byte, and not its last one.
     Part,
-    /// Its last byte: no byte behind it has to be seen.
+    /// The word's last byte. The word ends here, whatever the next byte is.
     Last,
-    /// Another byte.
+    /// Any other byte.
     Other,
 }
 
-/// A word of which the first bytes were seen, and not all.
+/// A word whose first byte was read, but not its last one.
 #[derive(Clone, Copy, Debug, Drop)]
 pub struct OpenWord {
     word: &'static [u8],
@@ -24,7 +24,7 @@ pub struct OpenWord {
 }
 
 impl OpenWord {
-    /// The word, of which the first byte was seen.
+    /// Returns the word with its first byte read.
     pub fn begun(word: &'static [u8]) -> OpenWord
         requires { 1 < length word.now }
         ensures word { result.word.now ≡ word.now }
@@ -33,7 +33,7 @@ impl OpenWord {
         OpenWord { word, seen: 1 }
     }
 
-    /// Takes the next byte, if it is the word's, and says what it is.
+    /// Returns what the next byte is to the word. A `Part` counts as read.
     pub fn next(&mut self, byte: u8) -> Seen
         ensures leads { (t : List ℕ) (j : ℕ) → slice_get t j ≡ Some byte
             → word_from self.old.word.now self.old.seen t j
@@ -50,7 +50,7 @@ impl OpenWord {
         Seen::Part
     }
 
-    /// The word's bytes.
+    /// Returns all bytes of the word.
     pub fn word(&self) -> &'static [u8]
         ensures word { result.now ≡ self.now.word.now }
         ensures ends { (t : List ℕ) (j : ℕ) → slice_get t j ≡ None

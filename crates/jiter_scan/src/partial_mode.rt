@@ -1,15 +1,23 @@
-//! Whether a document that was cut is read, and how.
+//! Whether a truncated document is read, and how.
 ghost use Rattle.std.specs.Prelude.{◌≡◌, true};
 ghost use Rattle.jiter_scan.specs.PartialMode.{is_active, allows_trailing_strings, mode_from};
 
-/// Whether a document that ends too early is read as far as it goes.
+/// Says whether a truncated document is an error, or gives the value so far.
+///
+/// In a partial mode (`On` or `TrailingStrings`), a container ends where the input ends. It also ends where a value is
+/// followed by neither a comma nor the closing bracket. Bytes after the value are not read. All other errors are
+/// reported.
+///
+/// Inside a container these are left out: a truncated literal, a key without its value, and a number that isn't one yet
+/// (`12.`).
 #[derive(Debug, Clone, Copy, PartialEq, Eq)]
 pub enum PartialMode {
-    /// A document that ends too early is refused.
+    /// A truncated document is an error.
     Off,
-    /// Containers are closed where the document ends; a cut string is dropped.
+    /// An unterminated string inside a container is left out; at the top level it is an error.
     On,
-    /// As `On`, and a cut string value is kept as far as its whole characters go.
+    /// As `On`, but an unterminated string value is kept. A string value, closed or not, loses an incomplete character
+    /// at its end.
     TrailingStrings,
 }
 
@@ -38,14 +46,14 @@ impl From<bool> for PartialMode {
 }
 
 impl PartialMode {
-    /// Whether a cut document is read at all.
+    /// Returns whether this is a partial mode.
     pub fn is_active(self) -> bool
         ensures { result ≡ is_active self }
     {
         !matches!(self, Self::Off)
     }
 
-    /// Whether a cut string value is kept.
+    /// Returns whether an unterminated string value is kept.
     pub fn allow_trailing_str(self) -> bool
         ensures { result ≡ allows_trailing_strings self }
     {

@@ -1,5 +1,5 @@
-//! A text laid down on a tape whole, and whether it is plain where it lies. Two copies of a fixed size that overlap
-//! are a short text; sixteen bytes at a time are tested, the last ones with what lies behind them.
+//! Writes strings to a tape, and tests whether bytes are plain. A short string is written by two copies of a fixed
+//! size, which may overlap. The test reads sixteen bytes at a time, and may read past the string's end.
 ghost use Rattle.std.specs.Prelude.{◌≡◌, ◌+◌, ◌≤◌, ◌++◌, OnOk, length, nat_le, take, vec_len};
 ghost use Rattle.jiter_scan.specs.Scan.{scan_stop};
 
@@ -8,7 +8,7 @@ use crate::simd::stops;
 use std::simd::Simd;
 use std::simd::prelude::*;
 
-// Room for a text and 32 bytes behind all of the tape.
+// The 1024 extra bytes keep this call rare.
 #[cold]
 #[inline(never)]
 fn enlarge(tape: &mut Vec<u8>, text: &[u8]) -> Result<(), Refused>
@@ -19,7 +19,7 @@ fn enlarge(tape: &mut Vec<u8>, text: &[u8]) -> Result<(), Refused>
     lengthen(tape, text.len())
 }
 
-/// Room for a text and 32 bytes behind the first ones.
+/// Makes the tape long enough for a string after the first `count` bytes, and 32 free ones after it.
 #[inline(always)]
 pub fn make_room_for(tape: &mut Vec<u8>, count: usize, text: &[u8]) -> Result<(), Refused>
     requires { count ≤ vec_len tape.old }
@@ -32,7 +32,7 @@ pub fn make_room_for(tape: &mut Vec<u8>, count: usize, text: &[u8]) -> Result<()
     Ok(())
 }
 
-// Writes the first N bytes of a text, by one load and one store.
+// The copy is one load and one store.
 #[inline(always)]
 fn place_front<const N: usize>(room: &mut [u8], at: usize, text: &[u8])
     requires some { N ≤ length text.now }
@@ -43,7 +43,7 @@ fn place_front<const N: usize>(room: &mut [u8], at: usize, text: &[u8])
     Simd::<u8, N>::from_slice(text).copy_to_slice(&mut room[at..]);
 }
 
-// Writes a text by its first and its last N bytes.
+// The two copies overlap if the string is shorter than 2 N bytes.
 #[inline(always)]
 fn place_ends<const N: usize>(room: &mut [u8], at: usize, text: &[u8])
     requires covers { (N ≤ length text.now) × (length text.now ≤ N + N) }
@@ -56,7 +56,6 @@ fn place_ends<const N: usize>(room: &mut [u8], at: usize, text: &[u8])
     place_front::<N>(room, at + last, &text[last..]);
 }
 
-// Writes a long text.
 #[inline(never)]
 fn place_long(room: &mut [u8], at: usize, text: &[u8])
     requires { at + length text.now ≤ length room.old }
@@ -66,7 +65,7 @@ fn place_long(room: &mut [u8], at: usize, text: &[u8])
     room[at..at + text.len()].copy_from_slice(text);
 }
 
-/// Writes a text behind the first bytes.
+/// Writes a string after the first `at` bytes.
 #[inline(always)]
 pub fn place_text(room: &mut [u8], at: usize, text: &[u8])
     requires { at + length text.now ≤ length room.old }
@@ -91,7 +90,7 @@ pub fn place_text(room: &mut [u8], at: usize, text: &[u8])
     }
 }
 
-/// Whether the bytes from one index up to another all stay as they are in a string.
+/// Returns whether the bytes from `from` to before `to` are plain: none is a quote, a backslash or a control byte.
 #[inline(always)]
 pub fn is_plain_to(bytes: &[u8], from: usize, to: usize) -> bool
     requires { (from ≤ to) × (to + 16 ≤ length bytes.now) }

@@ -1,5 +1,4 @@
-//! Plain numbers: short ones with as many bytes ahead as are looked at, sixteen at a time, with the answer in
-//! registers.
+//! The fast path for numbers: short ones are read sixteen bytes at a time, and the results are returned in registers.
 ghost use Rattle.std.specs.Prelude.{◌≡◌, ◌==◌, ◌||◌, ◌<◌, ◌≤◌, ◌+◌, ◌^◌, IfSome, length, pos, slice_get, slice_range};
 ghost use Rattle.std.specs.Prelude.{slice_index, true};
 ghost use Rattle.std.specs.Prelude.{if◌then◌else◌};
@@ -15,21 +14,21 @@ ghost use Rattle.jiter_scan.specs.PlainNumber.{IsPlainInteger, IsPlainNumber};
 use crate::number_decoder::{digits_magnitude, is_float_sign};
 use crate::simd::{chunk_at, digit_count, digit_run_end, digit_word, full_chunk_at, is_digit};
 
-// The bytes from a number's first digit on that are looked at at once.
+// How many bytes, from a number's first digit on, the fast path reads first.
 const REACH: usize = 16;
 
-/// What stands at a number's first digit.
+/// What the fast path finds at a number's first digit.
 #[derive(Debug, Clone, Copy, PartialEq, Eq)]
 pub enum PlainNumber {
-    /// An integer: its magnitude, and the place behind it.
+    /// An integer: its magnitude, and the index after it.
     Int(u64, usize),
-    /// A number with a point or an exponent: the place behind it.
+    /// A number with a point or an exponent: the index after it.
     Float(usize),
-    /// Anything else: a long number, one at the end of the input, or a fault.
+    /// Anything else, for the slow path: a long number, one near the end of the input, or an error.
     Other,
 }
 
-// Behind the digits at `at`, if there are one to fifteen of them.
+// Up to fifteen digits.
 #[inline(always)]
 fn few_digits_end(bytes: &[u8], at: usize) -> Option<usize>
     requires { at + 16 ≤ length bytes.now }
@@ -43,7 +42,7 @@ fn few_digits_end(bytes: &[u8], at: usize) -> Option<usize>
     Some(at + count)
 }
 
-// Behind the digits at `at`, if there are 16 to 31 of them.
+// 16 to 31 digits, of which the first 16 are known.
 #[inline(always)]
 fn more_digits_end(bytes: &[u8], at: usize) -> Option<usize>
     requires reach { at + 32 ≤ length bytes.now }
@@ -59,7 +58,7 @@ fn more_digits_end(bytes: &[u8], at: usize) -> Option<usize>
     Some(at + 16 + more)
 }
 
-// Behind a fraction of up to 31 digits, or where none stands.
+// Up to 31 digits, or no fraction.
 #[inline(always)]
 fn plain_fraction_end(bytes: &[u8], at: usize) -> Option<usize>
     requires { at + 33 ≤ length bytes.now }
@@ -87,7 +86,7 @@ fn is_exponent_letter(byte: u8) -> bool
     byte == b'e' || byte == b'E'
 }
 
-// Whether a float goes on with this byte behind an integer: one comparison tells both a point and a comma.
+// A comma is less than a point. So one comparison with the point is enough for both.
 #[inline(always)]
 fn goes_on(byte: u8) -> bool
     ensures { result ≡ is_float_sign byte }
@@ -95,7 +94,6 @@ fn goes_on(byte: u8) -> bool
     byte == b'.' || byte > b'.' && is_float_sign(byte)
 }
 
-// Behind the sign of an exponent, or where none stands.
 #[inline(always)]
 fn sign_end(bytes: &[u8], at: usize) -> usize
     requires { at < length bytes.now }
@@ -111,7 +109,7 @@ fn sign_end(bytes: &[u8], at: usize) -> usize
     }
 }
 
-// Behind an exponent of up to fifteen digits, or where none stands.
+// Up to fifteen digits, or no exponent.
 #[inline(always)]
 fn plain_exponent_end(bytes: &[u8], at: usize) -> Option<usize>
     requires { at < length bytes.now }
@@ -126,7 +124,6 @@ fn plain_exponent_end(bytes: &[u8], at: usize) -> Option<usize>
     few_digits_end(bytes, sign_end(bytes, at + 1))
 }
 
-// Behind the fraction and the exponent that stand at `at`, or where none stands, if they are short.
 #[inline(always)]
 fn plain_float_end(bytes: &[u8], at: usize) -> Option<usize>
     requires { at ≤ length bytes.now }
@@ -142,7 +139,7 @@ fn plain_float_end(bytes: &[u8], at: usize) -> Option<usize>
     }
 }
 
-// The integer of sixteen to eighteen digits at `at`.
+// Sixteen to eighteen digits: a number of nineteen may be greater than any `i64`.
 #[inline(always)]
 fn two_chunks_at(bytes: &[u8], at: usize) -> PlainNumber
     requires within { at + 16 ≤ length bytes.now }
@@ -165,7 +162,7 @@ fn two_chunks_at(bytes: &[u8], at: usize) -> PlainNumber
     PlainNumber::Int(magnitude, end)
 }
 
-// The number whose first digit stands at `at`, as many bytes before the input's end as are looked at, if it is short.
+// The minus, if there is one, is before `at`.
 #[inline(always)]
 pub(crate) fn roomy_number_at(bytes: &[u8], at: usize) -> PlainNumber
     requires { at + 16 ≤ length bytes.now }
@@ -189,7 +186,7 @@ pub(crate) fn roomy_number_at(bytes: &[u8], at: usize) -> PlainNumber
     }
 }
 
-/// The number whose first digit stands at a byte index, if it is short: a minus is read before.
+/// Returns the number whose first digit is at `at`, if it is short. Its minus, if it has one, is before `at`.
 #[inline(always)]
 pub fn plain_number_at(bytes: &[u8], at: usize) -> PlainNumber
     requires { at ≤ length bytes.now }
@@ -201,7 +198,7 @@ pub fn plain_number_at(bytes: &[u8], at: usize) -> PlainNumber
     roomy_number_at(bytes, at)
 }
 
-// What the digits at `at` write, and the place behind them, perhaps none, where sixteen bytes stand from there on at most.
+// At most sixteen bytes are left, so the value fits in 64 bits.
 #[inline(always)]
 fn near_digits(bytes: &[u8], at: usize) -> (u64, usize)
     requires within { at ≤ length bytes.now }
@@ -219,7 +216,6 @@ fn near_digits(bytes: &[u8], at: usize) -> (u64, usize)
     (number, end)
 }
 
-// The same, and whether the digits are an integer.
 #[inline(always)]
 pub(crate) fn near_number_at(bytes: &[u8], at: usize) -> (u64, usize, bool)
     requires within { at ≤ length bytes.now }
@@ -239,7 +235,6 @@ pub(crate) fn near_number_at(bytes: &[u8], at: usize) -> (u64, usize, bool)
     (number, end, true)
 }
 
-// What the digits at `at` write, at most sixteen, if no other byte stands behind them.
 #[inline(always)]
 fn last_digits(bytes: &[u8], at: usize) -> Option<u64>
     requires some { at < length bytes.now }
@@ -255,7 +250,7 @@ fn last_digits(bytes: &[u8], at: usize) -> Option<u64>
     Some(digit_word(chunk, count))
 }
 
-// The same of seventeen or eighteen, of which the first is no zero.
+// Seventeen or eighteen digits are in two chunks of sixteen bytes.
 fn last_digits_of_two(bytes: &[u8], at: usize) -> Option<u64>
     requires some { at < length bytes.now }
     requires few { length bytes.now ≤ at + 18 }
@@ -269,7 +264,7 @@ fn last_digits_of_two(bytes: &[u8], at: usize) -> Option<u64>
     Some(digits_magnitude(bytes, at, bytes.len()))
 }
 
-/// The magnitude of the integer at a byte index, if it has at most eighteen digits and they are the last bytes.
+/// Returns the magnitude of the integer at `at`, if it has at most eighteen digits and they are the last bytes.
 pub fn last_integer_at(bytes: &[u8], at: usize) -> Option<u64>
     requires { at ≤ length bytes.now }
     ensures { IfSome result (λ n. IsPlainInteger bytes.now at n (length bytes.now)) }
@@ -287,7 +282,7 @@ pub fn last_integer_at(bytes: &[u8], at: usize) -> Option<u64>
     None
 }
 
-/// The integer of a magnitude, with a minus or none.
+/// Returns the integer with this magnitude and this sign.
 #[inline(always)]
 pub fn signed(magnitude: u64, negative: bool) -> i64
     requires { magnitude < 2 ^ 63 }

@@ -1,4 +1,4 @@
-//! The scan of a text that likely ends within sixteen bytes, near the end of the input too.
+//! Scans strings that most likely end within sixteen bytes, also near the end of the input.
 ghost use Rattle.std.specs.Prelude.{◌≡◌, ◌↔◌, ◌+◌, ◌<◌, ◌≤◌, IfSome, IsTrue, Some, length, slice_get, take, true};
 ghost use Rattle.jiter_scan.specs.Ascii as ascii;
 ghost use Rattle.jiter_scan.specs.Scan.{IsAsciiTo, Pass, is_plain_ascii, scan_stop};
@@ -6,7 +6,7 @@ ghost use Rattle.jiter_scan.specs.Scan.{IsAsciiTo, Pass, is_plain_ascii, scan_st
 use crate::simd::{ascii_stops, both, first_stop, highs, scan_bytes, scan_string, stops};
 use std::simd::prelude::*;
 
-// The scan where fewer than sixteen bytes stand from the place on, and more in all: the last sixteen are looked at.
+// Reads the last sixteen bytes of the input, and shifts out those before `from`.
 #[inline(always)]
 fn scan_last(bytes: &[u8], from: usize) -> (usize, bool)
     requires within { from ≤ length bytes.now }
@@ -27,7 +27,6 @@ fn scan_last(bytes: &[u8], from: usize) -> (usize, bool)
     first_stop(from, found, high, true)
 }
 
-// The scan where fewer than sixteen bytes stand from the place on.
 #[inline(never)]
 fn scan_near(bytes: &[u8], from: usize) -> (usize, bool)
     requires within { from ≤ length bytes.now }
@@ -42,8 +41,7 @@ fn scan_near(bytes: &[u8], from: usize) -> (usize, bool)
     scan_bytes(bytes, from, true)
 }
 
-/// The first quote, backslash or control byte from a byte index on, or the length; and whether all bytes
-/// before it, from that index on, are below 80 hex.
+/// Returns what [`scan_string`] returns. It is faster if the string ends within sixteen bytes.
 #[inline(always)]
 pub fn scan_short(bytes: &[u8], from: usize) -> (usize, bool)
     requires { from ≤ length bytes.now }
@@ -64,7 +62,7 @@ pub fn scan_short(bytes: &[u8], from: usize) -> (usize, bool)
     (to, both(high == 0, low))
 }
 
-/// Whether the first sixteen bytes are below 80 hex, and none of them is a quote, a backslash or a control byte.
+/// Returns whether the first sixteen bytes are plain and below 80 hex.
 #[inline(always)]
 pub fn is_plain_sixteen(bytes: &[u8]) -> bool
     requires { 16 ≤ length bytes.now }
@@ -73,7 +71,7 @@ pub fn is_plain_sixteen(bytes: &[u8]) -> bool
     ascii_stops(u8x16::from_slice(bytes)) == 0
 }
 
-// Where the scan of a string stops, if all bytes before it are below 80 hex; else the length.
+// If a byte isn't ASCII, the result is the length, where the caller finds no quote.
 #[inline(always)]
 fn ascii_scan(bytes: &[u8], from: usize) -> usize
     requires { from ≤ length bytes.now }
@@ -84,7 +82,7 @@ fn ascii_scan(bytes: &[u8], from: usize) -> usize
     if ascii { to } else { bytes.len() }
 }
 
-// A place: where a quote stands there, it is the first byte that stops, and all bytes before it are below 80 hex.
+// The result counts only if its byte is a quote. It may also be the first byte above 7F hex.
 #[inline(always)]
 fn ascii_stop(bytes: &[u8], from: usize) -> usize
     requires { from ≤ length bytes.now }
@@ -101,8 +99,7 @@ fn ascii_stop(bytes: &[u8], from: usize) -> usize
     ascii_scan(bytes, from + 16)
 }
 
-/// The first quote from a byte index on, if no backslash and no control byte stands before it, and all bytes before it,
-/// from that index on, are below 80 hex.
+/// Returns the index of the first quote from `from` on, if all bytes before it are plain and below 80 hex.
 #[inline(always)]
 pub fn ascii_quote(bytes: &[u8], from: usize) -> Option<usize>
     requires { from ≤ length bytes.now }

@@ -1,4 +1,5 @@
-//! Strings and digits sixteen bytes at a time: where plain bytes end, where digits end, and what they write.
+//! Strings and digits, sixteen bytes at a time. A byte is plain if a string may hold it as it is: it is not a quote, a
+//! backslash or a control byte.
 ghost use Rattle.std.specs.Prelude.{◌≡◌, ◌↔◌, ℕ, List, ◌+◌, ◌-◌, ◌*◌, ◌^◌, ◌<◌, ◌≤◌, ◌++◌, ◌&&◌, IsTrue, length, take, drop, map};
 ghost use Rattle.std.specs.Prelude.{IfOk, nat_le, slice_range, true, vec_len};
 ghost use Rattle.std.specs.Int.{w64, trailing_zeros};
@@ -14,7 +15,7 @@ use crate::memory::Refused;
 use crate::tape::{put_chunk, put_slice};
 use std::simd::prelude::*;
 
-// A bit for each byte that ends a string's plain bytes.
+// In each mask the lowest bit is for the first byte.
 #[inline(always)]
 pub(crate) fn stops(v: u8x16) -> u64
     ensures { result ≡ failing is_plain v }
@@ -24,7 +25,6 @@ pub(crate) fn stops(v: u8x16) -> u64
         | v.simd_lt(u8x16::splat(b' '))).to_bitmask()
 }
 
-// The same, and a bit for each byte above 7F hex.
 #[inline(always)]
 pub(crate) fn ascii_stops(v: u8x16) -> u64
     ensures { result ≡ failing is_plain_ascii v }
@@ -34,7 +34,6 @@ pub(crate) fn ascii_stops(v: u8x16) -> u64
         | (v.simd_lt(u8x16::splat(b' ')) | v.simd_ge(u8x16::splat(0x80)))).to_bitmask()
 }
 
-// A bit for each byte above 7F hex.
 #[inline(always)]
 pub(crate) fn highs(v: u8x16) -> u64
     ensures { result ≡ failing is_ascii v }
@@ -42,7 +41,6 @@ pub(crate) fn highs(v: u8x16) -> u64
     v.simd_ge(u8x16::splat(0x80)).to_bitmask()
 }
 
-// A bit for each byte that is no digit.
 #[inline(always)]
 fn no_digits(v: u8x16) -> u64
     ensures { result ≡ failing is_digit v }
@@ -59,7 +57,6 @@ fn is_stop(byte: u8) -> bool
     byte == b'"' || byte == b'\\' || byte < b' '
 }
 
-// Whether no bit below the count is set.
 #[inline(always)]
 pub(crate) fn is_clear_below(mask: u64, count: u32) -> bool
     ensures { result ≡ nat_le count (trailing_zeros w64 mask) }
@@ -67,7 +64,7 @@ pub(crate) fn is_clear_below(mask: u64, count: u32) -> bool
     mask.trailing_zeros() >= count
 }
 
-/// Both, with no branch.
+/// Returns whether both are true, without a branch.
 #[inline(always)]
 pub fn both(a: bool, b: bool) -> bool
     ensures { result ≡ (a && b) }
@@ -75,7 +72,7 @@ pub fn both(a: bool, b: bool) -> bool
     a & b
 }
 
-// The answer where the first of these stops, in a chunk at `i`, ends the scan.
+// The scan ends at the first bit of `found`. `clean` says whether the bytes before `i` are ASCII.
 #[inline(always)]
 pub(crate) fn first_stop(i: usize, found: u64, high: u64, clean: bool) -> (usize, bool)
     requires { i + trailing_zeros w64 found < 2 ^ 64 }
@@ -87,7 +84,7 @@ pub(crate) fn first_stop(i: usize, found: u64, high: u64, clean: bool) -> (usize
     (i + count as usize, both(clean, is_clear_below(high, count)))
 }
 
-// The scan from `from` on byte by byte, where the bytes before it were ASCII or not.
+// One byte at a time. `ascii` says whether the bytes before `from` are ASCII.
 #[inline(always)]
 pub(crate) fn scan_bytes(bytes: &[u8], from: usize, ascii: bool) -> (usize, bool)
     requires { from ≤ length bytes.now }
@@ -107,7 +104,7 @@ pub(crate) fn scan_bytes(bytes: &[u8], from: usize, ascii: bool) -> (usize, bool
     (i, clean)
 }
 
-// The same sixteen bytes at a time.
+// Sixteen bytes at a time.
 #[inline(always)]
 fn scan_chunks(bytes: &[u8], from: usize, ascii: bool) -> (usize, bool)
     requires { from ≤ length bytes.now }
@@ -129,7 +126,7 @@ fn scan_chunks(bytes: &[u8], from: usize, ascii: bool) -> (usize, bool)
     scan_bytes(bytes, i, clean)
 }
 
-// In each lane FF hex where a quote or a backslash stands, else 0.
+// Each lane is FF hex for a quote or a backslash, otherwise 0.
 #[inline(always)]
 fn marks(v: u8x16) -> u8x16
     ensures { list_all is_ascii result ≡ list_all is_no_mark v }
@@ -138,7 +135,7 @@ fn marks(v: u8x16) -> u8x16
     found.select(u8x16::splat(0xff), u8x16::splat(0))
 }
 
-// In each lane FF hex where a byte below the blank stands, else 0.
+// Each lane is FF hex for a control byte, otherwise 0.
 #[inline(always)]
 fn controls(v: u8x16) -> u8x16
     ensures { list_all is_ascii result ≡ list_all is_no_control v }
@@ -147,7 +144,6 @@ fn controls(v: u8x16) -> u8x16
     found.select(u8x16::splat(0xff), u8x16::splat(0))
 }
 
-// The lesser byte in each lane.
 #[inline(always)]
 fn lesser(a: u8x16, b: u8x16) -> u8x16
     ensures { list_all is_no_control result
@@ -156,7 +152,6 @@ fn lesser(a: u8x16, b: u8x16) -> u8x16
     a.simd_min(b)
 }
 
-// The greater byte in each lane.
 #[inline(always)]
 fn greater(a: u8x16, b: u8x16) -> u8x16
     ensures { list_all is_ascii result ≡ (list_all is_ascii a && list_all is_ascii b) }
@@ -164,7 +159,6 @@ fn greater(a: u8x16, b: u8x16) -> u8x16
     a.simd_max(b)
 }
 
-// Whether all bytes of a vector are below 80 hex.
 #[inline(always)]
 fn is_ascii_chunk(v: u8x16) -> bool
     ensures { result ≡ list_all is_ascii v }
@@ -172,7 +166,7 @@ fn is_ascii_chunk(v: u8x16) -> bool
     highs(v) == 0
 }
 
-// Whether none of the 64 bytes at a place stops, and whether they are below 80 hex.
+// The four vectors are merged before they are tested.
 #[inline(always)]
 fn is_plain_chunk(bytes: &[u8], i: usize) -> (bool, bool)
     requires { i + 64 ≤ length bytes.now }
@@ -192,7 +186,7 @@ fn is_plain_chunk(bytes: &[u8], i: usize) -> (bool, bool)
     )
 }
 
-// The same 64 bytes at a time.
+// 64 bytes at a time, as long as all of them are plain.
 #[inline(always)]
 fn scan_wide(bytes: &[u8], from: usize, ascii: bool) -> (usize, bool)
     requires { from ≤ length bytes.now }
@@ -212,7 +206,7 @@ fn scan_wide(bytes: &[u8], from: usize, ascii: bool) -> (usize, bool)
     scan_chunks(bytes, i, clean)
 }
 
-// The same, in one place for all callers.
+// Not inlined: all callers share this copy.
 #[inline(never)]
 fn scan_far(bytes: &[u8], from: usize, ascii: bool) -> (usize, bool)
     requires { from ≤ length bytes.now }
@@ -222,7 +216,7 @@ fn scan_far(bytes: &[u8], from: usize, ascii: bool) -> (usize, bool)
     scan_wide(bytes, from, ascii)
 }
 
-// The first stop alone.
+// The caller doesn't ask whether the bytes are ASCII, so the compiler can drop that test.
 #[inline(never)]
 fn stop_far(bytes: &[u8], from: usize) -> usize
     requires { from ≤ length bytes.now }
@@ -232,7 +226,6 @@ fn stop_far(bytes: &[u8], from: usize) -> usize
     stop
 }
 
-// The scan from `from` on; without `wants_ascii` the first stop alone.
 #[inline(always)]
 fn scan_rest(bytes: &[u8], from: usize, ascii: bool, wants_ascii: bool) -> (usize, bool)
     requires { from ≤ length bytes.now }
@@ -246,7 +239,7 @@ fn scan_rest(bytes: &[u8], from: usize, ascii: bool, wants_ascii: bool) -> (usiz
     }
 }
 
-// The same, where the first stop is likely near.
+// Most strings are short. So up to 48 bytes are read here, before the calls that are not inlined.
 #[inline(always)]
 fn scan_first(bytes: &[u8], from: usize, wants_ascii: bool) -> (usize, bool)
     requires { from ≤ length bytes.now }
@@ -272,8 +265,19 @@ fn scan_first(bytes: &[u8], from: usize, wants_ascii: bool) -> (usize, bool)
     scan_rest(bytes, i, clean, wants_ascii)
 }
 
-/// The first quote, backslash or control byte from a byte index on, or the length; and whether all bytes
-/// before it, from that index on, are below 80 hex.
+/// Finds the first byte from `from` on that is not plain: a quote, a backslash or a control byte (RFC 8259, 7).
+///
+/// Returns its index, or the length if there is none; and whether all bytes from `from` to before it are ASCII.
+///
+/// # Requires
+///
+/// - `from` is at most the length.
+///
+/// # Examples
+///
+/// ```
+/// assert_eq!(rt; scan_string(br#""name": 1"#, 1), (5, true));
+/// ```
 #[inline(always)]
 pub fn scan_string(bytes: &[u8], from: usize) -> (usize, bool)
     requires { from ≤ length bytes.now }
@@ -284,7 +288,11 @@ pub fn scan_string(bytes: &[u8], from: usize) -> (usize, bool)
     scan_first(bytes, from, true)
 }
 
-/// The first quote, backslash or control byte from a byte index on, or the length.
+/// Returns the index of the first byte from `from` on that is not plain, or the length (RFC 8259, 7).
+///
+/// # Requires
+///
+/// - `from` is at most the length.
 #[inline(always)]
 pub fn string_stop(bytes: &[u8], from: usize) -> usize
     requires { from ≤ length bytes.now }
@@ -295,10 +303,20 @@ pub fn string_stop(bytes: &[u8], from: usize) -> usize
     stop
 }
 
-/// Copies the plain bytes of a string from a byte index on, up to the first quote, backslash or control byte, or the
-/// length, to a buffer, after so many bytes that count there. Gives the index where it stops, how many bytes of the
-/// buffer count then, and whether all that were copied are below 80 hex. The buffer grows where it has to, and has room
-/// for sixteen bytes more (RFC 8259, 7).
+/// Copies the plain bytes from `from` on to the buffer, after its first `count` bytes (RFC 8259, 7). The bytes are
+/// copied up to the first quote, backslash or control byte, or the length.
+///
+/// Returns the index where it stops, how many bytes of the buffer count then, and whether the copied bytes are ASCII.
+/// The buffer grows if it must; at least sixteen bytes follow those that count.
+///
+/// # Errors
+///
+/// - `Refused`, only if the buffer has to grow and the allocation fails
+///
+/// # Requires
+///
+/// - `from` is at most the length.
+/// - `count` is at most the length of the buffer.
 #[inline(always)]
 pub fn copy_plain(
     buffer: &mut Vec<u8>,
@@ -341,7 +359,6 @@ pub(crate) fn is_digit(byte: u8) -> bool
     byte.is_ascii_digit()
 }
 
-// The sixteen bytes at a place.
 #[inline(always)]
 pub(crate) fn full_chunk_at(bytes: &[u8], at: usize) -> [u8; 16]
     requires { at + 16 ≤ length bytes.now }
@@ -351,7 +368,7 @@ pub(crate) fn full_chunk_at(bytes: &[u8], at: usize) -> [u8; 16]
     u8x16::from_slice(&bytes[at..]).to_array()
 }
 
-// The sixteen bytes at a place, zeros behind the end of the input.
+// Bytes past the end of the input are 0.
 #[inline(always)]
 pub(crate) fn chunk_at(bytes: &[u8], at: usize) -> [u8; 16]
     requires { at ≤ length bytes.now }
@@ -368,7 +385,7 @@ pub(crate) fn chunk_at(bytes: &[u8], at: usize) -> [u8; 16]
     }
 }
 
-/// How many of sixteen bytes are digits, from the first on.
+/// Returns how many digits the sixteen bytes begin with.
 #[inline(always)]
 pub fn digit_count(chunk: [u8; 16]) -> usize
     ensures { result ≡ digit_run_end chunk 0 }
@@ -381,7 +398,6 @@ pub fn digit_count(chunk: [u8; 16]) -> usize
     }
 }
 
-// The place behind the digits that stand at `from`, perhaps none.
 #[inline(always)]
 pub(crate) fn digit_run_end(bytes: &[u8], from: usize) -> usize
     requires { from ≤ length bytes.now }
@@ -402,7 +418,11 @@ pub(crate) fn digit_run_end(bytes: &[u8], from: usize) -> usize
     i
 }
 
-/// The place behind the digits that stand at a byte index, or none where there are more than the limit.
+/// Returns the index after the digits at `from`, or `None` if there are more than `limit`.
+///
+/// # Requires
+///
+/// - `from` is at most the length.
 #[inline(always)]
 pub fn digits_end(bytes: &[u8], from: usize, limit: usize) -> Option<usize>
     requires { from ≤ length bytes.now }
@@ -415,7 +435,7 @@ pub fn digits_end(bytes: &[u8], from: usize, limit: usize) -> Option<usize>
 // The bytes 0 and 4 of a word.
 const PAIRS: u64 = 0x0000_00ff_0000_00ff;
 
-// The number that eight digits write, the first of them in the lowest byte.
+// The first digit is in the lowest byte. One multiplication joins digits to pairs; two more join the four pairs.
 #[inline(always)]
 fn eight_digits(word: u64) -> u64
     ensures { (ds : List ℕ) → length ds ≡ 8 → AllBelowBase 10 ds → word ≡ number_l 256 ds
@@ -427,7 +447,7 @@ fn eight_digits(word: u64) -> u64
     first.wrapping_add(second) >> 32
 }
 
-// The sixteen bytes as two words, each byte less 30 hex.
+// A digit less 30 hex is its value.
 #[inline(always)]
 fn halves(bytes: [u8; 16]) -> (u64, u64)
     ensures low { result.0 ≡ number_l 256 (take 8 (map less_zero bytes)) }
@@ -438,7 +458,7 @@ fn halves(bytes: [u8; 16]) -> (u64, u64)
     (lanes[0], lanes[1])
 }
 
-// The number that the first digits of a word write.
+// The shift puts zeros before the digits, so that there are eight.
 #[inline(always)]
 fn first_digits(word: u64, count: usize) -> u64
     requires some { 1 ≤ count }
@@ -451,7 +471,7 @@ fn first_digits(word: u64, count: usize) -> u64
     eight_digits(word << (64 - 8 * count))
 }
 
-// The powers of ten that lead eight digits and up to eight more.
+// The powers of ten up to the eighth.
 static TENS: [u64; 9] = [
     1,
     10,
@@ -464,7 +484,6 @@ static TENS: [u64; 9] = [
     100_000_000,
 ];
 
-// A number with as many digits more.
 #[inline(always)]
 pub(crate) fn joined(front: u64, back: u64, count: usize) -> u64
     requires most { count ≤ 8 }
@@ -474,7 +493,12 @@ pub(crate) fn joined(front: u64, back: u64, count: usize) -> u64
     front * TENS[count] + back
 }
 
-/// The number that the first bytes write, where these are digits.
+/// Returns the number that the first `count` bytes are in decimal.
+///
+/// # Requires
+///
+/// - `count` is from 1 to 16.
+/// - The first `count` bytes are digits. `rt try` does not test that, and for other bytes the result is a wrong number.
 #[inline(always)]
 pub fn digit_word(chunk: [u8; 16], count: usize) -> u64
     requires some { 1 ≤ count }

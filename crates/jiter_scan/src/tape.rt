@@ -1,4 +1,5 @@
-//! A tape: bytes of which only the first so many count, and room behind them for more to be written at once.
+//! A tape: a buffer of which only the first bytes count. The bytes after them are free, so that sixteen can be written
+//! at once.
 ghost use Rattle.std.specs.Prelude.{◌≡◌, ◌+◌, ◌^◌, ◌<◌, ◌≤◌, ◌++◌, IfOk, OnOk, length, take};
 ghost use Rattle.std.specs.Prelude.{vec_len};
 ghost use Rattle.std.specs.Char.{encode_utf8};
@@ -10,7 +11,7 @@ use crate::memory::{Refused, lengthen};
 use crate::simd::{highs, stops};
 use std::simd::prelude::*;
 
-// Twice the length, or 256.
+// Adds at least 256 bytes.
 fn double(tape: &mut Vec<u8>) -> Result<(), Refused>
     ensures room { OnOk result (vec_len tape.old + 32 ≤ vec_len tape.new) }
     ensures kept { OnOk result (take (vec_len tape.old) tape.new.items ≡ tape.old.items) }
@@ -19,7 +20,7 @@ fn double(tape: &mut Vec<u8>) -> Result<(), Refused>
     lengthen(tape, more)
 }
 
-/// Room for so many bytes behind the first ones, and 32 more.
+/// Makes the tape long enough for `bytes` more after the first `count`, and 32 free ones.
 pub(crate) fn make_room(tape: &mut Vec<u8>, count: usize, bytes: usize) -> Result<(), Refused>
     requires front { count ≤ vec_len tape.old }
     requires size { bytes < 2 ^ 63 }
@@ -32,7 +33,8 @@ pub(crate) fn make_room(tape: &mut Vec<u8>, count: usize, bytes: usize) -> Resul
     Ok(())
 }
 
-/// Writes bytes after the first ones of the tape, which grows where it has to, and gives how many count then.
+/// Writes bytes after the first `count` of the tape, which grows if it must. Returns how many bytes count then; at
+/// least 32 free ones follow.
 #[inline(always)]
 pub(crate) fn put_slice(tape: &mut Vec<u8>, count: usize, bytes: &[u8]) -> Result<usize, Refused>
     requires front { count ≤ vec_len tape.old }
@@ -45,7 +47,6 @@ pub(crate) fn put_slice(tape: &mut Vec<u8>, count: usize, bytes: &[u8]) -> Resul
     Ok(end)
 }
 
-// Writes the bytes of a vector.
 #[inline(always)]
 fn store(room: &mut [u8], v: u8x16)
     requires { length room.old ≡ 16 }
@@ -54,7 +55,6 @@ fn store(room: &mut [u8], v: u8x16)
     v.copy_to_slice(room);
 }
 
-// Writes sixteen bytes behind the first ones.
 #[inline(always)]
 fn put_sixteen(tape: &mut Vec<u8>, count: usize, v: u8x16)
     requires { count + 16 ≤ vec_len tape.old }
@@ -64,8 +64,8 @@ fn put_sixteen(tape: &mut Vec<u8>, count: usize, v: u8x16)
     store(&mut tape.as_mut_slice()[count..count + 16], v);
 }
 
-/// Writes the sixteen bytes of a text at the byte index `from` behind the first ones of the tape, and gives a bit
-/// for each that ends a string's plain bytes, and a bit for each above 7F hex.
+/// Writes the sixteen bytes at `from` after the first `count` of the tape. Returns two masks: a bit for each byte that
+/// is not plain, and for each above 7F hex.
 #[inline(always)]
 pub(crate) fn put_chunk(tape: &mut Vec<u8>, count: usize, bytes: &[u8], from: usize) -> (u64, u64)
     requires room { count + 16 ≤ vec_len tape.old }
@@ -81,7 +81,7 @@ pub(crate) fn put_chunk(tape: &mut Vec<u8>, count: usize, bytes: &[u8], from: us
     (stops(v), highs(v))
 }
 
-/// Writes a character behind the first bytes of the tape, and gives how many count then.
+/// Writes a character after the first `count` bytes of the tape. Returns how many bytes count then.
 #[inline(always)]
 pub fn put_char(tape: &mut Vec<u8>, count: usize, c: char) -> usize
     requires { count + 4 ≤ vec_len tape.old }

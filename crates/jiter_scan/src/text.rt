@@ -1,11 +1,11 @@
-//! Texts made of bytes without a second look at them.
+//! Strings made from bytes, without a test at run time.
 ghost use Rattle.std.specs.Prelude.{◌≡◌};
 ghost use Rattle.std.specs.Str.{IsAscii, IsUtf8};
 
-/// Bytes that are UTF-8 as a text.
+/// Returns bytes that are UTF-8 as a string.
 ///
-/// Nothing is tested when it runs: at this one call the check proves what the conversion asks, that the bytes
-/// are UTF-8.
+/// Nothing is tested at run time. This is the only unchecked conversion. Its condition, that the bytes are UTF-8, is
+/// proved at each call.
 #[inline(always)]
 pub fn utf8_text(bytes: &[u8]) -> &str
     requires { IsUtf8 bytes.now }
@@ -14,7 +14,7 @@ pub fn utf8_text(bytes: &[u8]) -> &str
     unsafe { std::str::from_utf8_unchecked(bytes) }
 }
 
-/// Bytes below 80 hex as a text, with no look at them.
+/// Returns bytes below 80 hex as a string. Nothing is tested at run time.
 #[inline(always)]
 pub fn ascii_text(bytes: &[u8]) -> &str
     requires { IsAscii bytes.now }

@@ -1,11 +1,11 @@
-//! Words of given bytes, as `true`, read from the left.
+//! Words such as `true`, read from the left.
 ghost use Rattle.std.specs.Prelude.{◌≡◌, ◌+◌, ◌<◌, ◌≤◌, IfOk, IfErr, IfSome, length, slice_get};
 ghost use Rattle.jiter_scan.specs.Scanned.{Scans, taken};
 ghost use Rattle.jiter_scan.specs.Word.{word_at};
 
 use crate::errors::{Fault, FaultKind};
 
-/// The byte at an index, from 0, or None at or past the length.
+/// Returns the byte at an index, or `None` at or past the length.
 pub fn byte_at(bytes: &[u8], index: usize) -> Option<u8>
     ensures value { result ≡ slice_get bytes.now index }
     ensures inside { IfSome result (λ _. index < length bytes.now) }
@@ -13,9 +13,10 @@ pub fn byte_at(bytes: &[u8], index: usize) -> Option<u8>
     bytes.get(index).copied()
 }
 
-/// The byte index behind the word that stands at `from`. The first byte that differs is
-/// `ExpectedSomeIdent` at its index; input that ends inside the word is `EofWhileParsingValue` at the
-/// length (RFC 8259, 3).
+/// Returns the index after the word at `from` (RFC 8259, 3).
+///
+/// Fails with `ExpectedSomeIdent` at the first byte that differs. If the input ends first, fails with
+/// `EofWhileParsingValue` at the length.
 pub fn word_end(bytes: &[u8], from: usize, word: &[u8]) -> Result<usize, Fault>
     requires { from ≤ length bytes.now }
     ensures value { Scans (taken tt) result (word_at bytes.now word.now from) }

@@ -1,4 +1,4 @@
-//! Blanks: the first place that has none.
+//! Finds the end of whitespace (RFC 8259, 2).
 ghost use Rattle.std.specs.Prelude.{◌≡◌, ◌≤◌, length};
 ghost use Rattle.jiter_scan.specs.Simd.{failing};
 ghost use Rattle.jiter_steps.specs.Blank.{is_blank, past_blanks};
@@ -11,7 +11,6 @@ fn is_blank(byte: u8) -> bool
     matches!(byte, b' ' | b'\t' | b'\n' | b'\r')
 }
 
-// A bit for each byte that is no blank.
 #[inline(always)]
 fn no_blanks(v: u8x16) -> u64
     ensures { result ≡ failing is_blank v }
@@ -22,7 +21,7 @@ fn no_blanks(v: u8x16) -> u64
         & v.simd_ne(u8x16::splat(b'\r'))).to_bitmask()
 }
 
-// The first byte index from `from` on that has no blank, or the length, byte by byte.
+// One byte at a time.
 #[inline(always)]
 fn blank_bytes_end(bytes: &[u8], from: usize) -> usize
     requires { from ≤ length bytes.now }
@@ -37,7 +36,7 @@ fn blank_bytes_end(bytes: &[u8], from: usize) -> usize
     at
 }
 
-// The same sixteen bytes at a time, but where one blank alone stands.
+// In the common case at most one byte is whitespace, and two bytes are enough. Otherwise sixteen are read at a time.
 #[inline(never)]
 pub(crate) fn blanks_end(bytes: &[u8], from: usize) -> usize
     requires { from ≤ length bytes.now }
@@ -63,7 +62,7 @@ pub(crate) fn blanks_end(bytes: &[u8], from: usize) -> usize
     blank_bytes_end(bytes, at)
 }
 
-/// The first byte index from `from` on that has no blank, or the length (RFC 8259, 2).
+/// Returns the index of the first byte from `from` on that is not whitespace, or the length (RFC 8259, 2).
 #[inline(always)]
 pub fn past_blanks(bytes: &[u8], from: usize) -> usize
     requires { from ≤ length bytes.now }

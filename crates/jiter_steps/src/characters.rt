@@ -1,14 +1,14 @@
-//! Where the whole characters of some bytes end, in UTF-8 (RFC 3629, 3 and 4).
+//! Finds how many of the first bytes are complete characters in UTF-8 (RFC 3629, 3 and 4).
 ghost use Rattle.std.specs.Prelude.{◌≡◌, ◌+◌, ◌≤◌, drop, false, length, take, true};
 ghost use Rattle.std.specs.Str.{IsUtf8};
 ghost use Rattle.jiter_steps.specs.OpenText.{IsBroken, IsUnfinished};
 
 use std::str::from_utf8;
 
-// So many bytes are looked at side by side, fewer of them one by one.
+// From this length on, `simdutf8` tests the bytes; fewer bytes are left to the standard library.
 const MANY: usize = 64;
 
-// How many bytes at the front are whole characters, and whether the next one is wrong: of many bytes.
+// For long runs.
 #[inline(never)]
 fn right_far(bytes: &[u8]) -> (usize, bool)
     ensures within { result.0 ≤ length bytes.now }
@@ -23,7 +23,8 @@ fn right_far(bytes: &[u8]) -> (usize, bool)
     }
 }
 
-// How many bytes at the front are whole characters, and whether the next one is wrong.
+// Returns how many of the first bytes are complete characters, and whether the bytes after them are wrong. If not, they
+// are an incomplete character, or none.
 pub(crate) fn right_end(bytes: &[u8]) -> (usize, bool)
     ensures within { result.0 ≤ length bytes.now }
     ensures front { IsUtf8 (take result.0 bytes.now) }

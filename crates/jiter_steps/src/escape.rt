@@ -1,4 +1,4 @@
-//! What ends a run of a string's plain bytes (RFC 8259, 7): an escape with its character, or the string's end.
+//! Reads what ends a run of a string's plain bytes (RFC 8259, 7): an escape, or the end of the string.
 ghost use Rattle.std.specs.Prelude.{◌≡◌, ◌≢◌, ◌+◌, ◌<◌, ◌≤◌, length, true, false, slice_get};
 ghost use Rattle.std.specs.Prelude.{IfSome, Some, None};
 ghost use Rattle.std.specs.Char.{digit_value, encode_utf8};
@@ -13,7 +13,8 @@ ghost use Rattle.jiter_steps.specs.declared.escape.Ending.TheVariants as ending;
 use jiter_scan::errors::{Fault, FaultKind, fault_at};
 use jiter_scan::word::byte_at;
 
-// Four hex digits: the first byte that is none, or the number. `Short` where fewer than four bytes are left.
+// Four hex digits: their number, the index of the first byte that is not one, or `Short` if fewer than four bytes are
+// left.
 #[derive(Clone, Copy, Debug)]
 enum Hex {
     Short,
@@ -21,7 +22,7 @@ enum Hex {
     Number(u32),
 }
 
-// How a string ends: behind its quote, before a piece, within an escape, or at a fault.
+// How a string ends: after its quote, at the end of the input (`Cut` if inside an escape), or with an error.
 #[derive(Clone, Copy, Debug)]
 pub(crate) enum Ending {
     Closed(usize),
@@ -30,7 +31,7 @@ pub(crate) enum Ending {
     Wrong(Fault),
 }
 
-// What ends a run of plain bytes: an escape's character with its end, or the end of the string.
+// What ends a run of plain bytes: an escape, with its character and the index after it, or the end of the string.
 #[derive(Clone, Copy, Debug)]
 pub(crate) enum AtStop {
     Escape(char, usize),
@@ -49,7 +50,8 @@ fn digit(byte: u8) -> Option<u32>
     }
 }
 
-// What a backslash and each byte stand for, or 0 where they are no escape of one letter (RFC 8259, 7).
+// For each byte, the character that it means after a backslash, or 0 if that is no short escape (RFC 8259, 7). `\u` is
+// not a short escape.
 static SIGNS: [u8; 256] = [
     0, 0, 0, 0, 0, 0, 0, 0, 0, 0, 0, 0, 0, 0, 0, 0, 0, 0, 0, 0, 0, 0, 0, 0, 0, 0, 0, 0, 0, 0, 0, 0,
     0, 0, 34, 0, 0, 0, 0, 0, 0, 0, 0, 0, 0, 0, 0, 47, 0, 0, 0, 0, 0, 0, 0, 0, 0, 0, 0, 0, 0, 0, 0,
@@ -62,7 +64,6 @@ static SIGNS: [u8; 256] = [
     0, 0, 0,
 ];
 
-// What a backslash and this byte stand for, or 0 where they are no escape of one letter.
 #[inline(always)]
 fn sign_of(letter: u8) -> u8
     ensures some { result ≢ 0 → short_escape letter ≡ Some result }
@@ -125,7 +126,7 @@ fn wrong(kind: FaultKind, index: usize) -> AtStop
     AtStop::End(Ending::Wrong(Fault { kind, index }))
 }
 
-// The second number of a pair, whose digits begin at `at`.
+// `high` was read; the digits of the second escape begin at `at`.
 fn low_surrogate(bytes: &[u8], high: u32, at: usize) -> AtStop
     requires high { is_high high ≡ true }
     requires within { at ≤ length bytes.now }
@@ -146,7 +147,6 @@ fn low_surrogate(bytes: &[u8], high: u32, at: usize) -> AtStop
     }
 }
 
-// Behind the backslash that follows a high surrogate.
 fn behind_high_backslash(bytes: &[u8], high: u32, at: usize) -> AtStop
     requires high { is_high high ≡ true }
     ensures value { portion_view result ≡ behind_high_backslash bytes.now high at (slice_get bytes.now at) }
@@ -158,7 +158,6 @@ fn behind_high_backslash(bytes: &[u8], high: u32, at: usize) -> AtStop
     }
 }
 
-// Behind the digits of a high surrogate.
 fn behind_high(bytes: &[u8], high: u32, at: usize) -> AtStop
     requires high { is_high high ≡ true }
     ensures value { portion_view result ≡ behind_high bytes.now high at (slice_get bytes.now at) }
@@ -170,7 +169,7 @@ fn behind_high(bytes: &[u8], high: u32, at: usize) -> AtStop
     }
 }
 
-// Behind `\u`.
+// The backslash and the `u` are before `at`.
 fn unicode_escape(bytes: &[u8], at: usize) -> AtStop
     requires within { at ≤ length bytes.now }
     ensures value { portion_view result ≡ unit_then bytes.now at (unicode_escape bytes.now) }
@@ -193,7 +192,6 @@ fn unicode_escape(bytes: &[u8], at: usize) -> AtStop
     }
 }
 
-// Behind a backslash.
 fn behind_backslash(bytes: &[u8], at: usize) -> AtStop
     ensures value { portion_view result ≡ behind_backslash bytes.now at (slice_get bytes.now at) }
 {
@@ -207,7 +205,7 @@ fn behind_backslash(bytes: &[u8], at: usize) -> AtStop
     }
 }
 
-// What stands where a run of plain bytes ends.
+// The general case. Errors are found here.
 #[tactic(auto, unfolding(crate::specs::StringReading::portion_at))]
 pub(crate) fn portion_at(bytes: &[u8], at: usize) -> AtStop
     requires { IfSome (slice_get bytes.now at) (λ b. is_stop b ≡ true) }
@@ -221,7 +219,7 @@ pub(crate) fn portion_at(bytes: &[u8], at: usize) -> AtStop
     }
 }
 
-// The character of the escape at `at`, and its end, where it is at once seen to be whole and no pair.
+// The fast path, with at least six bytes left: a short escape, or `\u` with four digits that are no surrogate.
 #[inline(always)]
 #[tactic(auto, unfolding(crate::specs::StringReading::portion_at))]
 fn escape_at(bytes: &[u8], at: usize) -> Option<(char, usize)>
@@ -243,7 +241,7 @@ fn escape_at(bytes: &[u8], at: usize) -> Option<(char, usize)>
     Some((c as char, at + 2))
 }
 
-// What stands where a run of plain bytes ends, the closing quote and an escape at once.
+// The closing quote and most escapes are found first.
 #[inline(always)]
 #[tactic(auto, unfolding(crate::specs::StringReading::portion_at))]
 pub(crate) fn next_portion(bytes: &[u8], at: usize) -> AtStop
@@ -260,7 +258,6 @@ pub(crate) fn next_portion(bytes: &[u8], at: usize) -> AtStop
     }
 }
 
-// What the escape of one letter at `at` stands for, or 0 where none stands there.
 #[inline(always)]
 pub(crate) fn sign_at(bytes: &[u8], at: usize) -> u8
     requires { at ≤ length bytes.now }

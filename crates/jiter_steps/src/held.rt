@@ -1,13 +1,12 @@
-//! A few bytes that wait for the rest of their character or escape.
+//! A small buffer for the bytes of an incomplete character or escape.
 ghost use Rattle.std.specs.Prelude.{◌≡◌, ◌+◌, ◌≤◌, ◌++◌, [], length};
 
 use std::marker::Model;
 
-// How many bytes are held at most: an escape of two numbers has twelve, and sixteen may stand beside an unfinished
-// character.
+// A surrogate pair's escapes have twelve bytes. An incomplete character has at most three; up to sixteen more are read
+// with it.
 const LIMIT: usize = 20;
 
-// At most twenty bytes.
 #[derive(Drop)]
 pub(crate) struct Held {
     bytes: [u8; LIMIT],
@@ -25,7 +24,6 @@ impl Model for Held {
 }
 
 impl Held {
-    // No bytes.
     pub(crate) fn new() -> Held
         ensures { result ≡ [] }
     {
@@ -35,7 +33,6 @@ impl Held {
         }
     }
 
-    // The bytes.
     pub(crate) fn as_slice(&self) -> &[u8]
         ensures value { result.now ≡ self.now }
         ensures few { length result.now ≤ 20 }
@@ -43,7 +40,6 @@ impl Held {
         &self.bytes[..self.count]
     }
 
-    // The bytes, with others behind them.
     pub(crate) fn with(&self, more: &[u8]) -> Held
         requires { length self.now + length more.now ≤ 20 }
         ensures { result ≡ self.now ++ more.now }

@@ -1,5 +1,5 @@
-//! The parts of reading JSON that need no memory of their own: blanks, literals, strings and the steps
-//! between the parts of containers, by a reader that stands at a place.
+//! The steps of reading JSON: whitespace, literals, strings, skips, and the steps between the parts of arrays and
+//! objects. Strings, characters and escapes can also be read in chunks.
 #![tactic(auto)]
 
 pub mod blank;

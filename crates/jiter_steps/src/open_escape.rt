@@ -1,4 +1,4 @@
-//! Escapes that arrive in pieces (RFC 8259, 7): they are held until they are whole, at most twelve bytes.
+//! Escapes that a chunk may truncate (RFC 8259, 7). Their bytes, twelve at most, are held until the escape is complete.
 ghost use Rattle.std.specs.Prelude.{◌≡◌, ◌+◌, ◌<◌, ◌≤◌, ◌∷◌, ◌++◌, [], length, take};
 ghost use Rattle.jiter_steps.specs.OpenEscape.{IsSpelled, IsWithin, begun, held_after};
 ghost use Rattle.jiter_steps.specs.StringReading.{cut, over, portion_at};
@@ -8,21 +8,21 @@ use crate::held::Held;
 use jiter_scan::errors::FaultKind;
 use std::marker::Model;
 
-// The bytes of the longest escape: those of two numbers.
+// The escapes of a surrogate pair.
 const LONGEST: usize = 12;
 
-/// What an escape's next byte makes of it.
+/// What an escape is after its next bytes.
 #[derive(Clone, Copy, Debug, PartialEq, Eq)]
 pub enum Spelled {
-    /// More bytes are wanted.
+    /// It is incomplete.
     Part,
-    /// It is whole, and stands for this character.
+    /// It is complete, and means this character.
     Whole(char),
-    /// A byte is wrong, so many bytes behind the backslash.
+    /// It is wrong: the error's kind, and how many bytes its index is after the backslash.
     Wrong(FaultKind, usize),
 }
 
-/// An escape of which the backslash was read, and not all.
+/// An escape whose backslash was read, but not all of it.
 #[derive(Drop)]
 pub struct OpenEscape {
     held: Held,
@@ -40,7 +40,7 @@ impl Model for OpenEscape {
 }
 
 impl OpenEscape {
-    /// Behind its backslash.
+    /// Returns an escape of which only the backslash was read.
     #[tactic(auto, unfolding(crate::specs::StringReading::portion_at))]
     pub fn new() -> OpenEscape
         ensures { result ≡ begun }
@@ -50,7 +50,7 @@ impl OpenEscape {
         }
     }
 
-    /// One that is cut behind these bytes.
+    /// Returns an escape of which these bytes were read. They must be an incomplete escape.
     pub fn cut(bytes: &[u8]) -> OpenEscape
         requires { portion_at bytes.now 0 ≡ over cut }
         ensures { result ≡ bytes.now }
@@ -60,15 +60,16 @@ impl OpenEscape {
         }
     }
 
-    /// How many bytes of it were read, its backslash among them.
+    /// Returns how many of its bytes were read, including the backslash.
     pub fn count(&self) -> usize
         ensures { result ≡ length self.now }
     {
         self.held.as_slice().len()
     }
 
-    /// Takes bytes that follow, and says how many go on with the escape, and what they make of it: all of them where more are
-    /// wanted. Where one is wrong, nothing changes.
+    /// Reads the next bytes of the escape. Returns how many it read, and what the escape is then.
+    ///
+    /// If the escape is still incomplete, it read and kept all bytes. Otherwise nothing changes.
     pub fn through(&mut self, more: &[u8]) -> (usize, Spelled)
         ensures within { result.0 ≤ length more.now }
         ensures some { 0 < length more.now → 0 < result.0 }
@@ -92,7 +93,8 @@ impl OpenEscape {
         }
     }
 
-    /// Takes the next byte, if the escape is not over with it, and says what it makes of it.
+    /// Reads the next byte of the escape and returns what the escape is then. Keeps the byte if the escape is still
+    /// incomplete.
     pub fn next(&mut self, byte: u8) -> Spelled
         ensures spelled { IsSpelled (self.old ++ byte ∷ []) result }
         ensures held { self.new ≡ held_after self.old (byte ∷ []) result }

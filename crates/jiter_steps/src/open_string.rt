@@ -1,5 +1,5 @@
-//! Strings that arrive in pieces (RFC 8259, 7 and 8.1): each byte is looked at once, wherever a piece ends, within a
-//! character or an escape too; and those that lie whole in a piece.
+//! Strings in chunks (RFC 8259, 7 and 8.1). A chunk may end anywhere, also inside a character or an escape. A string
+//! that is complete in its chunk is read by `text_within`.
 ghost use Rattle.std.specs.Prelude.{◌≡◌, ◌+◌, ◌<◌, ◌≤◌, [], IfOk, IfSome, List, None, OnErr, OnOk, Some, length};
 ghost use Rattle.std.specs.Prelude.{◌++◌, ◌||◌, is_some, false, not, slice_get, slice_index, slice_range, string_bytes, take, true, ℕ};
 ghost use Rattle.jiter_scan.specs.Ascii as ascii;
@@ -27,22 +27,21 @@ use std::alloc::Global;
 /// What the next bytes are to a string.
 #[derive(Clone, Copy, Debug, PartialEq, Eq)]
 pub enum Went {
-    /// So many of them are taken.
+    /// This many of them were taken.
     Taken(usize),
     /// The first one is the closing quote.
     Quote,
-    /// A byte is wrong that stands so many before the first one.
+    /// An error: its kind, and how many bytes its index is before the first of them.
     Wrong(FaultKind, usize),
 }
 
-/// A string whose opening quote was read, and not its closing one.
+/// A string whose opening quote was read, but not its closing one.
 #[derive(Drop)]
 pub struct OpenString {
     text: OpenText,
     escape: Option<OpenEscape>,
 }
 
-// The plain bytes from a place on, at most so many.
 fn plain_run(piece: &[u8], at: usize, most: usize) -> &[u8]
     requires within { at < length piece.now }
     requires most { 0 < most }
@@ -56,8 +55,6 @@ fn plain_run(piece: &[u8], at: usize, most: usize) -> &[u8]
     &near[at..string_stop(near, at)]
 }
 
-// The string with a backslash whose opening quote stands at a place of a piece, if it is whole there: its text, decoded
-// on the tape and owned, and the place behind its closing quote.
 #[inline(never)]
 fn decoded_within(
     alloc: Global,
@@ -79,9 +76,11 @@ fn decoded_within(
     }
 }
 
-/// The string whose opening quote stands at a place of a piece, if it is whole there: its text, owned, and the place
-/// behind its closing quote. One with a backslash is decoded on the tape. None where the piece ends within it, and
-/// where it is no text: then it is read as one that goes on.
+/// Returns the string whose opening quote is at `at`, and the index after its closing quote, if the chunk has both. A
+/// string with a backslash is decoded on the tape.
+///
+/// Returns `None` if no quote is at `at`, the chunk ends first, or the string has an error. An [`OpenString`] then
+/// reads it.
 pub fn text_within(
     alloc: Global,
     tape: &mut Vec<u8>,
@@ -116,7 +115,7 @@ pub fn text_within(
 }
 
 impl OpenString {
-    /// Behind its opening quote. It takes no memory.
+    /// Returns a string of which only the opening quote was read. Does not allocate.
     pub fn new(alloc: Global) -> OpenString
         ensures { HasTaken result [] }
     {
@@ -126,7 +125,7 @@ impl OpenString {
         }
     }
 
-    // Takes the next byte of an escape.
+    // Takes the next byte of the incomplete escape.
     #[inline(never)]
     fn spell(&mut self, piece: &[u8], at: usize) -> Result<Went, Refused>
         requires within { at < length piece.now }
@@ -153,7 +152,7 @@ impl OpenString {
         Ok(Went::Taken(1))
     }
 
-    // Takes the next bytes of an escape, to its end if the piece has it, and says how many: none where one is wrong.
+    // Takes the bytes of the incomplete escape that the chunk has. Returns how many, or 0 if one of them is wrong.
     fn spell_right(&mut self, piece: &[u8], at: usize) -> Result<usize, Refused>
         requires within { at < length piece.now }
         requires open { ¬ (self.old.escape ≡ None) }
@@ -176,7 +175,8 @@ impl OpenString {
         }
     }
 
-    // Takes an escape, or what the piece has of it, or its backslash where it is wrong, and says how many bytes that is.
+    // A truncated escape is kept for the next chunk. Of a wrong one only the backslash is taken: the next calls read
+    // the other bytes one by one, up to the error.
     fn take_long_escape(&mut self, piece: &[u8], at: usize) -> Result<usize, Refused>
         requires within { at < length piece.now }
         requires none { self.old.escape ≡ None }
@@ -203,7 +203,7 @@ impl OpenString {
         }
     }
 
-    // The same, one of one letter at once.
+    // The fast path for short escapes.
     #[inline(always)]
     fn take_escape(&mut self, piece: &[u8], at: usize) -> Result<usize, Refused>
         requires within { at < length piece.now }
@@ -225,7 +225,7 @@ impl OpenString {
         Ok(2)
     }
 
-    // Takes plain bytes behind whole characters, and says how many.
+    // No character is incomplete, so bytes below 80 hex need no test.
     #[inline(always)]
     fn plain_whole(&mut self, piece: &[u8], at: usize) -> Result<usize, Refused>
         requires within { at < length piece.now }
@@ -244,7 +244,7 @@ impl OpenString {
         self.text.add(run)
     }
 
-    // Takes plain bytes, and says how many.
+    // Next to an incomplete character, only a few bytes are read. After a wrong one, nothing is tested.
     fn plain(&mut self, piece: &[u8], at: usize) -> Result<usize, Refused>
         requires within { at < length piece.now }
         requires none { self.old.escape ≡ None }
@@ -264,8 +264,8 @@ impl OpenString {
         self.text.add(plain_run(piece, at, most))
     }
 
-    /// Takes bytes of a piece, from the place `at` on, and says how many, or what ends the string there. Where memory
-    /// is refused, nothing changes.
+    /// Takes bytes of the chunk from `at` on. Returns how many, or what ends the string there. If an allocation fails,
+    /// nothing changes.
     pub fn next(&mut self, piece: &[u8], at: usize) -> Result<Went, Refused>
         requires { at < length piece.now }
         ensures goes { (w : List ℕ) → HasTaken self.old w → IfOk result (Goes self.new w piece.now at) }
@@ -283,7 +283,7 @@ impl OpenString {
         }
     }
 
-    // Takes plain bytes from the place `at` on, as far as their characters are right ones.
+    // If a byte of the run is wrong, at most those are taken that complete a character.
     #[inline(always)]
     fn plain_right(&mut self, piece: &[u8], at: usize) -> (usize, Result<(), Refused>)
         requires within { at < length piece.now }
@@ -306,7 +306,7 @@ impl OpenString {
         }
     }
 
-    // Takes an escape or a byte of one, behind whole characters, and says how many bytes: none where one is wrong.
+    // After an incomplete character, any escape makes the string wrong. It is left to `next`.
     #[inline(always)]
     fn escape_right(&mut self, piece: &[u8], at: usize) -> Result<usize, Refused>
         requires within { at < length piece.now }
@@ -326,8 +326,7 @@ impl OpenString {
         self.spell_right(piece, at)
     }
 
-    // Takes a run of plain bytes, an escape or a byte of one, from the place `at` on, as far as its characters are right
-    // ones: nothing where the string ends or is wrong there.
+    // Takes a run of plain bytes or an escape. Takes nothing at the closing quote or a control byte.
     #[inline(always)]
     fn take_right(&mut self, piece: &[u8], at: usize) -> (usize, Result<(), Refused>)
         requires within { at < length piece.now }
@@ -349,9 +348,11 @@ impl OpenString {
         }
     }
 
-    /// Takes bytes from the front of a piece while they go on with the string, as far as its characters are right ones,
-    /// and says how many, and whether memory was refused for those that follow. It stops before the closing quote and
-    /// before what is wrong.
+    /// Takes bytes from the start of the chunk, as long as they continue the string. Returns how many, and whether an
+    /// allocation failed for the next ones.
+    ///
+    /// It stops before the closing quote or a control byte, and inside a wrong escape. If a run of plain bytes has a
+    /// wrong byte, it takes at most the bytes that complete a character.
     pub fn take_inside(&mut self, piece: &[u8]) -> (usize, Result<(), Refused>)
         requires whole { self.old.text.broken ≡ false }
         ensures taken { (w : List ℕ) → HasTaken self.old w → HasTaken self.new (w ++ take result.0 piece.now) }
@@ -373,7 +374,7 @@ impl OpenString {
         (at, Ok(()))
     }
 
-    /// Whether right bytes so far are whole characters and whole escapes.
+    /// Returns whether the bytes so far are complete characters and complete escapes. None of them may be wrong.
     #[inline(always)]
     pub fn is_even(&self) -> bool
         requires { self.now.text.broken ≡ false }
@@ -382,7 +383,7 @@ impl OpenString {
         self.escape.is_none() && self.text.is_complete()
     }
 
-    /// Takes plain bytes below 80 hex. Where memory is refused, nothing changes.
+    /// Takes bytes that are plain and below 80 hex. If the allocation fails, nothing changes.
     #[inline(always)]
     pub fn add_plain(&mut self, bytes: &[u8]) -> Result<(), Refused>
         requires even { IsEven self.old }
@@ -395,9 +396,10 @@ impl OpenString {
         self.text.add_ascii(bytes)
     }
 
-    /// Whether the string is a text where it ends: all of its bytes, or, of one that is kept, as far as its whole
-    /// characters. It ends with its quote, if no escape is open, or with the input, in which a string is kept or
-    /// fails. Where it is none, a byte is wrong behind the characters so far.
+    /// Returns whether the string is UTF-8 if it ends here: with its closing quote, or with the input if `keep` is set.
+    /// With `keep`, an incomplete character at its end is left out.
+    ///
+    /// If the string is not UTF-8, its first wrong byte is after the characters so far.
     pub fn is_text(&self, keep: bool) -> bool
         ensures closed { (w : List ℕ) → (h : HasTaken self.now w) → self.now.escape ≡ None
             → Wherever w (λ t i j. slice_get t j ≡ Some ascii.quote
@@ -412,14 +414,14 @@ impl OpenString {
         self.text.is_text(keep)
     }
 
-    /// The characters so far.
+    /// Returns the characters so far.
     pub fn text(&self) -> &str
         ensures { result.now ≡ self.now.text.text }
     {
         self.text.text()
     }
 
-    /// Takes the characters so far out, to be shown, and leaves none in their place. It takes no memory.
+    /// Moves the characters so far out, so that they can be shown, and leaves none. Does not allocate.
     pub fn take_text(&mut self) -> String
         ensures text { string_bytes result ≡ self.old.text.text }
         ensures rest { self.new.text ≡ with_text self.old.text [] }
@@ -428,7 +430,7 @@ impl OpenString {
         self.text.take_text()
     }
 
-    /// Puts characters in the place of those so far, as [`take_text`](OpenString::take_text) gave them.
+    /// Puts back the characters that [`take_text`](OpenString::take_text) returned.
     pub fn give_back(&mut self, text: String)
         ensures text { self.new.text ≡ with_text self.old.text (string_bytes text) }
         ensures escape { self.new.escape ≡ self.old.escape }

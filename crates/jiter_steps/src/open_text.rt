@@ -1,4 +1,4 @@
-//! Text that arrives in parts, of which any may end within a character (RFC 8259, 8.1): each byte is looked at once.
+//! UTF-8 in chunks (RFC 8259, 8.1), each of which may end inside a character.
 ghost use Rattle.std.specs.Prelude.{◌≡◌, ℕ, ◌+◌, ◌<◌, ◌≤◌, ◌++◌, [], Bool, IfOk, List, OnErr, OnOk, false, length};
 ghost use Rattle.std.specs.Prelude.{◌&&◌, ◌↔◌, IsTrue, drop, nat_lt, not, string_bytes, take, true};
 ghost use Rattle.std.specs.Prelude.{if◌then◌else◌};
@@ -17,15 +17,15 @@ use std::alloc::Global;
 use std::marker::Model;
 use std::mem;
 
-// How many bytes are looked at beside an unfinished character: so many that characters of one length end with a whole
-// one after three turns at most.
+// How many bytes are read next to an incomplete character. In a run of characters of one length, at most three such
+// reads are needed until one ends with a complete character.
 pub(crate) const FEW: usize = 7;
 
-// A run of so many bytes or fewer is looked at beside an unfinished character as a whole.
+// Next to an incomplete character, a run of at most this many bytes is read at once.
 const SHORT: usize = 16;
 
-/// A text of which some bytes were read: its characters so far, and an unfinished one, or that what follows them
-/// is no UTF-8 whatever comes.
+/// The characters so far, and the bytes of an incomplete one; or the characters before a byte that is wrong, whatever
+/// follows.
 #[derive(Drop)]
 pub struct OpenText {
     text: String,
@@ -44,7 +44,7 @@ impl Model for OpenText {
     ghost invariant = { λ o. length o.rest ≤ 3 };
 }
 
-// How many bytes a character has, by its first one (RFC 3629, 3).
+// The length of a character in bytes, by its first byte (RFC 3629, 3).
 fn width(first: u8) -> usize
     ensures { result ≤ 4 }
 {
@@ -56,7 +56,7 @@ fn width(first: u8) -> usize
 }
 
 impl OpenText {
-    /// No bytes. It takes no memory.
+    /// Returns an `OpenText` without bytes. Does not allocate.
     pub fn new(alloc: Global) -> OpenText
         ensures { result ≡ nothing }
     {
@@ -67,8 +67,8 @@ impl OpenText {
         }
     }
 
-    // Takes bytes behind the characters so far, an unfinished one's among them: so many are whole characters, and what
-    // follows them is unfinished.
+    // `bytes` begins with those of the incomplete character, if there is one. The first `right` bytes are complete
+    // characters.
     #[inline(always)]
     fn take_right(&mut self, bytes: &[u8], right: usize) -> Result<(), Refused>
         requires unbroken { self.old.broken ≡ false }
@@ -86,7 +86,7 @@ impl OpenText {
         Ok(())
     }
 
-    // Takes bytes behind the characters so far, an unfinished one's among them.
+    // `bytes` begins with those of the incomplete character, if there is one.
     fn absorb(&mut self, bytes: &[u8]) -> Result<(), Refused>
         requires { self.old.broken ≡ false }
         ensures taken { (d : List ℕ) → d ≡ self.old.text ++ bytes.now
@@ -102,7 +102,7 @@ impl OpenText {
         Ok(())
     }
 
-    // The same, if none of them is wrong; else nothing changes. Whether they were taken.
+    // The same, but takes nothing if a byte is wrong. Returns whether the bytes were taken.
     fn absorb_right(&mut self, bytes: &[u8]) -> Result<bool, Refused>
         requires { self.old.broken ≡ false }
         ensures taken { (d : List ℕ) → d ≡ self.old.text ++ bytes.now
@@ -120,8 +120,8 @@ impl OpenText {
         Ok(true)
     }
 
-    /// Takes bytes from the front of some that follow those so far, and gives how many: at least one where there
-    /// is one. Where memory is refused, nothing changes.
+    /// Takes bytes from the start of `run` and returns how many: at least one, unless `run` is empty. If the allocation
+    /// fails, nothing changes.
     pub fn add(&mut self, run: &[u8]) -> Result<usize, Refused>
         ensures taken { (d : List ℕ) → HoldsText (self.old) d
             → IfOk result (λ n. HoldsText self.new (d ++ take n run.now)) }
@@ -144,7 +144,7 @@ impl OpenText {
         Ok(count)
     }
 
-    // Takes bytes from the front of some that go on with an unfinished character, if they are right, and says how many.
+    // Takes bytes next to the incomplete character, if none of them is wrong, and returns how many.
     fn complete(&mut self, run: &[u8]) -> Result<usize, Refused>
         requires { self.old.broken ≡ false }
         ensures taken { (d : List ℕ) → HoldsText (self.old) d
@@ -167,7 +167,7 @@ impl OpenText {
         Ok(if right { few } else { 0 })
     }
 
-    // Takes bytes behind whole characters, if none of them is wrong, and says how many.
+    // Takes all of `run`, or nothing if a byte is wrong.
     #[inline(always)]
     fn add_whole(&mut self, run: &[u8]) -> (usize, Result<(), Refused>)
         requires whole { IsWhole self.old }
@@ -183,8 +183,8 @@ impl OpenText {
         }
     }
 
-    /// Takes bytes from the front of some that follow those so far, where none that it takes is wrong, and says how many,
-    /// and whether memory was refused for those that follow.
+    /// Takes bytes from the start of `run`, none of which is wrong. Returns how many, and whether an allocation failed
+    /// for the next ones. If a byte of `run` is wrong, it may take none.
     #[inline(always)]
     pub fn add_right(&mut self, run: &[u8]) -> (usize, Result<(), Refused>)
         requires unbroken { self.old.broken ≡ false }
@@ -208,7 +208,7 @@ impl OpenText {
         (count + more, end)
     }
 
-    // Takes the character of an escape behind an unfinished one.
+    // An incomplete character is before it.
     fn add_behind(&mut self, c: char) -> Result<(), Refused>
         requires { self.old.broken ≡ false }
         ensures taken { (d : List ℕ) → HoldsText (self.old) d
@@ -220,7 +220,7 @@ impl OpenText {
         self.absorb(held.as_slice())
     }
 
-    /// Takes the character of an escape behind the bytes so far. Where memory is refused, nothing changes.
+    /// Takes the character of an escape. If the allocation fails, nothing changes.
     #[inline(always)]
     pub fn add_char(&mut self, c: char) -> Result<(), Refused>
         ensures taken { (d : List ℕ) → HoldsText (self.old) d
@@ -237,8 +237,7 @@ impl OpenText {
         self.add_behind(c)
     }
 
-    /// Takes bytes below 80 hex behind the characters so far, where none is unfinished. Where memory is refused, nothing
-    /// changes.
+    /// Takes bytes below 80 hex. Call it only if no character is incomplete. If the allocation fails, nothing changes.
     #[inline(always)]
     pub fn add_ascii(&mut self, bytes: &[u8]) -> Result<(), Refused>
         requires { IsAscii bytes.now }
@@ -249,7 +248,7 @@ impl OpenText {
         push_ascii(&mut self.text, bytes)
     }
 
-    /// Whether the bytes so far are whole characters.
+    /// Returns whether the bytes so far are complete characters.
     #[inline(always)]
     pub fn is_whole(&self) -> bool
         ensures { IsTrue result ↔ IsWhole self.now }
@@ -257,7 +256,7 @@ impl OpenText {
         !self.broken && self.rest.as_slice().is_empty()
     }
 
-    /// Whether right bytes so far are whole characters.
+    /// Returns whether the bytes so far are complete characters. None of them may be wrong.
     #[inline(always)]
     pub fn is_complete(&self) -> bool
         requires { self.now.broken ≡ false }
@@ -267,8 +266,9 @@ impl OpenText {
         behind.is_empty()
     }
 
-    /// Whether the bytes so far are a text: all of them, or, of one that is kept, as far as its whole characters.
-    /// Where they are not, the characters so far stand before the first byte that is wrong.
+    /// Returns whether the bytes so far are UTF-8. With `keep`, an incomplete character at their end is left out.
+    ///
+    /// If the bytes are not UTF-8, the first wrong one is after the characters so far.
     pub fn is_text(&self, keep: bool) -> bool
         ensures kept { keep ≡ true → result ≡ not self.now.broken }
         ensures checked { (d : List ℕ) → HoldsText self.now d → (i e : ℕ) → (owned : Bool)
@@ -279,21 +279,21 @@ impl OpenText {
         !self.broken && (keep || self.rest.as_slice().is_empty())
     }
 
-    /// Whether the bytes so far end with an unfinished character.
+    /// Returns whether the bytes so far end with an incomplete character.
     pub fn is_unfinished(&self) -> bool
         ensures { result ≡ (not self.now.broken && nat_lt 0 (length self.now.rest)) }
     {
         !self.broken && !self.rest.as_slice().is_empty()
     }
 
-    /// The characters so far.
+    /// Returns the characters so far.
     pub fn text(&self) -> &str
         ensures { result.now ≡ self.now.text }
     {
         self.text.as_str()
     }
 
-    /// Takes the characters so far out, and leaves none in their place. It takes no memory.
+    /// Moves the characters so far out, and leaves none. Does not allocate.
     pub fn take_text(&mut self) -> String
         ensures text { string_bytes result ≡ self.old.text }
         ensures rest { self.new ≡ with_text self.old [] }
@@ -302,7 +302,7 @@ impl OpenText {
         mem::replace(&mut self.text, String::new(alloc))
     }
 
-    /// Puts characters in the place of those so far.
+    /// Replaces the characters so far.
     pub fn give_back(&mut self, text: String)
         ensures { self.new ≡ with_text self.old (string_bytes text) }
     {

@@ -1,5 +1,5 @@
-//! A reader that stands at a place of the bytes: literals, numbers, strings, and the steps between the parts
-//! of arrays and objects.
+//! A reader with a position in the bytes. It reads literals, numbers, strings, and the steps between the parts of
+//! arrays and objects.
 ghost use Rattle.std.specs.Prelude.{◌≡◌, ◌+◌, ◌≤◌, ◌<◌, IfOk, OnOk, OnErr, IfSome, true, length, slice_get};
 ghost use Rattle.jiter_scan.specs.Kind.{fault_kind};
 ghost use Rattle.jiter_scan.specs.NumberReading.{number_at};
@@ -25,10 +25,10 @@ use jiter_scan::word::{byte_at, word_end};
 use std::alloc::Global;
 use std::borrow::CowStr;
 
-/// How many containers that are not empty may stand one inside another.
+/// How many non-empty containers may be inside one another.
 pub const NESTING_LIMIT: usize = 200;
 
-/// A literal name (RFC 8259, 3).
+/// A literal (RFC 8259, 3).
 #[derive(Clone, Copy, Debug, PartialEq, Eq)]
 pub enum Literal {
     Null,
@@ -48,7 +48,7 @@ impl Literal {
     }
 }
 
-/// What a value's first byte says of it.
+/// What kind of value a byte begins.
 #[derive(Clone, Copy, Debug, PartialEq, Eq)]
 pub enum Start {
     Array,
@@ -59,7 +59,7 @@ pub enum Start {
     Nothing,
 }
 
-/// What kind of value the byte begins.
+/// Returns what kind of value the byte begins.
 #[inline(always)]
 pub fn start_of(byte: u8) -> Start
     ensures { result ≡ start_of byte }
@@ -76,7 +76,7 @@ pub fn start_of(byte: u8) -> Start
     }
 }
 
-/// The byte index behind the literal at `from` (RFC 8259, 3).
+/// Returns the index after the literal at `from` (RFC 8259, 3). Fails as [`word_end`] does.
 pub fn literal_end(bytes: &[u8], from: usize, literal: Literal) -> Result<usize, Fault>
     requires { from ≤ length bytes.now }
     ensures value { Scans (taken tt) result (literal_at bytes.now literal from) }
@@ -85,7 +85,7 @@ pub fn literal_end(bytes: &[u8], from: usize, literal: Literal) -> Result<usize,
     word_end(bytes, from, literal.word())
 }
 
-/// Which container stands open: all that the steps of arrays and of objects differ in.
+/// The kind of an open container. Its methods have all that differs between the steps of arrays and of objects.
 #[derive(Clone, Copy, Debug, PartialEq, Eq)]
 pub enum Shape {
     /// An array.
@@ -95,7 +95,7 @@ pub enum Shape {
 }
 
 impl Shape {
-    /// The byte that closes.
+    /// Returns the closing bracket.
     #[inline(always)]
     pub fn closer(self) -> u8
         ensures { result ≡ closer_of self }
@@ -106,7 +106,7 @@ impl Shape {
         }
     }
 
-    /// Whether a part begins with the byte: an item with any but the closer, a member with its key's quote.
+    /// Returns whether the byte can begin a part: for an item any byte except `]`, for a member a quote.
     #[inline(always)]
     pub fn begins_part(self, byte: u8) -> bool
         ensures { result ≡ begins_part self byte }
@@ -117,7 +117,7 @@ impl Shape {
         }
     }
 
-    /// The fault where the input ends before the closer.
+    /// Returns the error's kind if the input ends after the opening bracket or after a part.
     #[inline(always)]
     pub fn end_kind(self) -> FaultKind
         ensures { fault_kind result ≡ end_kind_of self }
@@ -128,7 +128,7 @@ impl Shape {
         }
     }
 
-    /// The fault where neither a comma nor the closer stands behind a part.
+    /// Returns the error's kind if a part is followed by neither a comma nor the closing bracket.
     #[inline(always)]
     pub fn comma_kind(self) -> FaultKind
         ensures { fault_kind result ≡ comma_kind_of self }
@@ -140,12 +140,12 @@ impl Shape {
     }
 }
 
-/// The bytes, and the place in them where the reader stands.
+/// The bytes, and the reader's position in them.
 #[derive(Debug, Drop)]
 pub struct Parser<'j> {
     /// The bytes that are read.
     pub bytes: &'j [u8],
-    /// The byte index where the reader stands, from 0.
+    /// The byte index of the reader's position, from 0.
     pub index: usize,
     ghost within: { index ≤ length bytes.now },
 }
@@ -153,7 +153,7 @@ pub struct Parser<'j> {
 impl<'j> Parser<'j> {
     ghost use Rattle.jiter_steps.specs.Parse.{Moves, Steps, Leads, Reads, Gives};
 
-    /// A reader that stands before the first byte.
+    /// Returns a reader at index 0.
     pub fn new(bytes: &'j [u8]) -> Self
         ensures same { result.bytes ≡ bytes.entry }
         ensures begin { result.index ≡ 0 }
@@ -161,7 +161,6 @@ impl<'j> Parser<'j> {
         Self { bytes, index: 0 }
     }
 
-    // A fault where the reader stands.
     #[cold]
     fn fault(&self, kind: FaultKind) -> Fault
         ensures { result ≡ record { kind = kind; index = self.now.index } }
@@ -172,7 +171,7 @@ impl<'j> Parser<'j> {
         }
     }
 
-    // The byte behind the blanks, which the reader passes.
+    // Skips whitespace. The byte after it is returned but not passed.
     #[inline(always)]
     fn next_byte(&mut self) -> Option<u8>
         ensures moves { Moves self.old self.new }
@@ -184,8 +183,8 @@ impl<'j> Parser<'j> {
         byte_at(self.bytes, self.index)
     }
 
-    /// Whether a part begins where the reader then stands, an item or a member's key; else the container has
-    /// ended. The reader stood at the opening bracket (RFC 8259, 4 and 5).
+    /// Passes the opening bracket at the reader's position, and returns whether a part follows (RFC 8259, 4 and 5). The
+    /// reader is then at the part, or after the closing bracket. After an error it is at the error's index.
     #[inline(always)]
     pub fn first(&mut self, shape: Shape) -> Result<bool, Fault>
         requires { self.old.index < length self.old.bytes.now }
@@ -212,8 +211,8 @@ impl<'j> Parser<'j> {
         }
     }
 
-    /// Whether another part begins where the reader then stands; else the container has ended. The reader
-    /// stood behind a part (RFC 8259, 4 and 5).
+    /// Returns whether another part follows the one before the reader's position (RFC 8259, 4 and 5). The reader is
+    /// then at the part, or after the closing bracket. After an error it is at the error's index.
     #[inline(always)]
     pub fn step(&mut self, shape: Shape) -> Result<bool, Fault>
         ensures moves { Moves self.old self.new }
@@ -238,7 +237,6 @@ impl<'j> Parser<'j> {
         }
     }
 
-    // Behind a comma: a part.
     #[inline(always)]
     fn comma(&mut self, shape: Shape) -> Result<bool, Fault>
         ensures moves { Moves self.old self.new }
@@ -261,7 +259,8 @@ impl<'j> Parser<'j> {
         }
     }
 
-    /// From behind a key to the place where its value begins (RFC 8259, 4).
+    /// Passes the colon after a key and whitespace, up to the first byte of the value (RFC 8259, 4). After an error the
+    /// reader is at the error's index.
     #[inline(always)]
     pub fn object_colon(&mut self) -> Result<(), Fault>
         ensures moves { Moves self.old self.new }
@@ -273,7 +272,7 @@ impl<'j> Parser<'j> {
         self.value_first()
     }
 
-    /// From behind a key to behind its colon (RFC 8259, 4).
+    /// Passes the colon after a key (RFC 8259, 4). After an error the reader is at the error's index.
     #[inline(always)]
     pub fn colon(&mut self) -> Result<(), Fault>
         ensures moves { Moves self.old self.new }
@@ -293,7 +292,7 @@ impl<'j> Parser<'j> {
         }
     }
 
-    /// To the first byte of a value, past blanks.
+    /// Skips whitespace up to the first byte of a value. Fails at the end of the input.
     #[inline(always)]
     pub fn value_first(&mut self) -> Result<(), Fault>
         ensures moves { Moves self.old self.new }
@@ -307,7 +306,7 @@ impl<'j> Parser<'j> {
         }
     }
 
-    /// To the end of the input, past blanks.
+    /// Skips whitespace up to the end of the input. Fails at the first other byte.
     pub fn finish(&mut self) -> Result<(), Fault>
         ensures moves { Moves self.old self.new }
         ensures value { Leads result self.new.index
@@ -319,7 +318,7 @@ impl<'j> Parser<'j> {
         }
     }
 
-    /// The literal where the reader stands; a fault leaves it there (RFC 8259, 3).
+    /// Reads the literal at the reader's position (RFC 8259, 3). After an error the reader is where it was.
     #[inline(always)]
     pub fn literal(&mut self, literal: Literal) -> Result<(), Fault>
         ensures moves { Moves self.old self.new }
@@ -331,7 +330,7 @@ impl<'j> Parser<'j> {
         Ok(())
     }
 
-    /// The number where the reader stands; a fault leaves it there (RFC 8259, 6).
+    /// Reads the number at the reader's position (RFC 8259, 6). After an error the reader is where it was.
     #[inline(always)]
     pub fn number(&mut self, allow_inf_nan: bool) -> Result<NumberAny<'j>, Fault>
         requires { self.old.index < length self.old.bytes.now }
@@ -345,9 +344,8 @@ impl<'j> Parser<'j> {
         Ok(number)
     }
 
-    /// The text of the string whose opening quote is where the reader stands; a refusal leaves it there. With
-    /// `keep` the end of the input may cut the string, and its text goes as far as whole characters do (RFC
-    /// 8259, 7 and 8.1).
+    /// Reads the string whose opening quote is at the reader's position (RFC 8259, 7 and 8.1), as [`string_at`] does.
+    /// After an error the reader is where it was.
     #[inline(always)]
     pub fn string(
         &mut self,

@@ -1,5 +1,5 @@
-//! The plain way between the parts of a document, by the bytes and a place, with answers that come back in
-//! registers. What is not plain is told and no more: the reader's own calls say what is wrong there.
+//! The fast path between the parts of a document. It works on the bytes and an index, and its results are returned in
+//! registers. Only the slow path says which error there is.
 ghost use Rattle.std.specs.Prelude.{◌≡◌, ◌≢◌, ◌+◌, ◌≤◌, ◌<◌, Bool, IfSome, IsTrue, length, slice_get, slice_range};
 ghost use Rattle.std.specs.Prelude.{Some};
 ghost use Rattle.std.specs.Str.{IsAscii};
@@ -18,18 +18,18 @@ use jiter_scan::short_scan::ascii_quote;
 use jiter_scan::text::ascii_text;
 use jiter_scan::word::byte_at;
 
-/// What a step between the parts of a container leads to.
+/// Where a step between the parts of a container leads.
 #[derive(Clone, Copy, Debug, PartialEq, Eq)]
 pub enum Next {
-    /// A part begins.
+    /// To a part.
     Part,
-    /// The container has ended.
+    /// To the end of the container.
     End,
-    /// A fault.
+    /// To an error, which the slow path reports.
     Stuck,
 }
 
-/// The first byte from `from` on that is no blank, if there is one, with its place.
+/// Returns the index of the first byte from `from` on that is not whitespace, or the length; and the byte there.
 #[inline(always)]
 pub fn peek(bytes: &[u8], from: usize) -> (usize, Option<u8>)
     requires { from ≤ length bytes.now }
@@ -48,7 +48,7 @@ pub fn peek(bytes: &[u8], from: usize) -> (usize, Option<u8>)
     (at, byte_at(bytes, at))
 }
 
-/// Behind a container's bracket: its first part, or its end (RFC 8259, 4 and 5).
+/// Finds the first part of a container, or its end (RFC 8259, 4 and 5). `from` is after the opening bracket.
 #[inline(always)]
 pub fn plain_first(bytes: &[u8], from: usize, shape: Shape) -> (usize, Next)
     requires { from ≤ length bytes.now }
@@ -71,7 +71,6 @@ pub fn plain_first(bytes: &[u8], from: usize, shape: Shape) -> (usize, Next)
     }
 }
 
-// Behind a comma: another part.
 #[inline(always)]
 fn plain_comma(bytes: &[u8], from: usize, shape: Shape) -> (usize, Next)
     requires { from ≤ length bytes.now }
@@ -92,7 +91,7 @@ fn plain_comma(bytes: &[u8], from: usize, shape: Shape) -> (usize, Next)
     }
 }
 
-// Behind a part: another one, or the container's end, by a shape that is known where it is inlined.
+// `shape` is a constant where this is inlined.
 #[inline(always)]
 fn known_plain_step(bytes: &[u8], from: usize, shape: Shape) -> (usize, Next)
     requires { from ≤ length bytes.now }
@@ -115,7 +114,7 @@ fn known_plain_step(bytes: &[u8], from: usize, shape: Shape) -> (usize, Next)
     }
 }
 
-/// Behind a part: another one, or the container's end (RFC 8259, 4 and 5).
+/// Finds the next part of a container, or its end (RFC 8259, 4 and 5). `from` is after a part.
 #[inline(always)]
 pub fn plain_step(bytes: &[u8], from: usize, shape: Shape) -> (usize, Next)
     requires { from ≤ length bytes.now }
@@ -129,7 +128,7 @@ pub fn plain_step(bytes: &[u8], from: usize, shape: Shape) -> (usize, Next)
     }
 }
 
-/// From behind a key to the place where its value begins, if a colon and a value stand there (RFC 8259, 4).
+/// Returns the index of a member's value, if a colon and another byte follow (RFC 8259, 4). `from` is after the key.
 #[inline(always)]
 pub fn plain_colon(bytes: &[u8], from: usize) -> Option<usize>
     requires { from ≤ length bytes.now }
@@ -152,8 +151,8 @@ pub fn plain_colon(bytes: &[u8], from: usize) -> Option<usize>
     }
 }
 
-/// The place of the closing quote of the string whose opening quote is at `at`, if each byte between them
-/// stands for itself and is below 80 hex (RFC 8259, 7).
+/// Returns the index of the closing quote of the string at `at` (RFC 8259, 7). All bytes between the quotes must be
+/// plain and below 80 hex; otherwise returns `None`.
 #[inline(always)]
 pub fn plain_text_end(bytes: &[u8], at: usize) -> Option<usize>
     requires { at < length bytes.now }
@@ -165,7 +164,7 @@ pub fn plain_text_end(bytes: &[u8], at: usize) -> Option<usize>
     ascii_quote(bytes, at + 1)
 }
 
-/// The text between the quotes at `at` and `to`, with no look at its bytes, which are below 80 hex.
+/// Returns the string between the quotes at `at` and `to`. Its bytes are below 80 hex, and are not tested.
 #[inline(always)]
 pub fn ascii_between(bytes: &[u8], at: usize, to: usize) -> &str
     requires within { (at < to) × (to < length bytes.now) }
@@ -179,7 +178,7 @@ pub fn ascii_between(bytes: &[u8], at: usize, to: usize) -> &str
     ascii_text(&bytes[at + 1..to])
 }
 
-/// The text between the quotes at `at` and `to`, if it is UTF-8 (RFC 8259, 8.1).
+/// Returns the string between the quotes at `at` and `to`, if it is UTF-8 (RFC 8259, 8.1).
 #[inline(always)]
 pub fn text_between(bytes: &[u8], at: usize, to: usize) -> Option<&str>
     requires within { (at < to) × (to < length bytes.now) }
@@ -195,7 +194,6 @@ pub fn text_between(bytes: &[u8], at: usize, to: usize) -> Option<&str>
     }
 }
 
-// Whether these four bytes stand at a place.
 #[inline(always)]
 fn has_four(bytes: &[u8], at: usize, a: u8, b: u8, c: u8, d: u8) -> bool
     requires { at + 4 ≤ length bytes.now }
@@ -207,7 +205,7 @@ fn has_four(bytes: &[u8], at: usize, a: u8, b: u8, c: u8, d: u8) -> bool
     bytes[at] == a && bytes[at + 1] == b && bytes[at + 2] == c && bytes[at + 3] == d
 }
 
-/// The place behind the literal at `at`, if it stands there and not at the input's end (RFC 8259, 3).
+/// Returns the index after the literal at `at`, if it is there and at least five bytes are left (RFC 8259, 3).
 #[inline(always)]
 pub fn plain_literal_end(bytes: &[u8], at: usize, literal: Literal) -> Option<usize>
     requires { at < length bytes.now }

@@ -1,5 +1,5 @@
-//! The plain way of skipping, by the bytes and a place, with answers that come back in registers. What is not plain
-//! is told and no more: the general way goes on there.
+//! The fast path of skipping. It works on the bytes and an index, and its results are returned in registers. It leaves
+//! all else to the slow path.
 ghost use Rattle.std.specs.Prelude.{◌≡◌, ◌+◌, ◌<◌, ◌≤◌, IfSome, length, slice_index, true, false};
 ghost use Rattle.jiter_scan.specs.Scan.{is_plain};
 ghost use Rattle.jiter_scan.specs.Scanned.{taken};
@@ -20,11 +20,11 @@ use crate::raw_string::closed_end;
 use jiter_scan::number_extent::{NUMBER_REACH, roomy_number_end};
 use std::simd::prelude::*;
 
-// How many bytes the plain way looks at behind a part or a key with one test of the length: two up to a value, and
-// those of a number.
+// With this many bytes left after a part or a key, no further test of the length is needed. Two lead up to a value, and
+// the others are those of a number.
 const REACH: usize = 68;
 
-// The first place from `from` on that has no blank, if there is one; a byte stands at `from`.
+// Returns the index of the first byte that is not whitespace, if there is one.
 #[inline(always)]
 fn solid(bytes: &[u8], from: usize) -> Option<usize>
     requires { from < length bytes.now }
@@ -38,7 +38,7 @@ fn solid(bytes: &[u8], from: usize) -> Option<usize>
     if at < bytes.len() { Some(at) } else { None }
 }
 
-// Behind the container at `at`, if its closer stands right behind its bracket.
+// Only if the brackets have nothing between them, not even whitespace.
 #[inline(always)]
 fn empty_end(bytes: &[u8], at: usize, shape: Shape) -> Option<usize>
     requires within { at < length bytes.now }
@@ -53,7 +53,7 @@ fn empty_end(bytes: &[u8], at: usize, shape: Shape) -> Option<usize>
     }
 }
 
-// Behind the closing quote of a string that begins near the input's end.
+// Near the end of the input.
 #[inline(always)]
 fn near_end(bytes: &[u8], at: usize) -> Option<usize>
     requires { at < length bytes.now }
@@ -66,7 +66,6 @@ fn near_end(bytes: &[u8], at: usize) -> Option<usize>
     closed_end(bytes, at, at + 1)
 }
 
-// A bit for each byte that ends a string's plain bytes.
 #[inline(always)]
 fn stops(v: u8x16) -> u64
     ensures { result ≡ failing is_plain v }
@@ -76,8 +75,7 @@ fn stops(v: u8x16) -> u64
         | v.simd_lt(u8x16::splat(b' '))).to_bitmask()
 }
 
-// Behind the closing quote of the string at `at`, if it has one: at once where it stands within sixteen bytes and
-// no escape before it. Eighteen bytes stand there.
+// One look is enough if the closing quote is within sixteen bytes and no escape is before it.
 #[inline(always)]
 fn roomy_quoted_end(bytes: &[u8], at: usize) -> Option<usize>
     requires { at + 18 ≤ length bytes.now }
@@ -96,7 +94,6 @@ fn roomy_quoted_end(bytes: &[u8], at: usize) -> Option<usize>
     }
 }
 
-// The same, wherever the string begins.
 #[inline(always)]
 fn quoted_end(bytes: &[u8], at: usize) -> Option<usize>
     requires { at < length bytes.now }
@@ -110,7 +107,6 @@ fn quoted_end(bytes: &[u8], at: usize) -> Option<usize>
     }
 }
 
-// Behind the string at `at`, if it is closed.
 #[inline(always)]
 fn plain_string_end(bytes: &[u8], at: usize) -> Option<usize>
     requires within { at < length bytes.now }
@@ -121,7 +117,6 @@ fn plain_string_end(bytes: &[u8], at: usize) -> Option<usize>
     quoted_end(bytes, at)
 }
 
-// Behind the literal at `at`, if it stands there and not at the input's end.
 #[inline(always)]
 fn whole_literal_end(bytes: &[u8], at: usize, literal: Literal) -> Option<usize>
     requires within { at < length bytes.now }
@@ -132,7 +127,6 @@ fn whole_literal_end(bytes: &[u8], at: usize, literal: Literal) -> Option<usize>
     plain_literal_end(bytes, at, literal)
 }
 
-// Behind the literal or the empty container at `at`.
 #[inline(always)]
 fn word_or_empty_end(bytes: &[u8], at: usize) -> Option<usize>
     requires { at < length bytes.now }
@@ -149,7 +143,7 @@ fn word_or_empty_end(bytes: &[u8], at: usize) -> Option<usize>
     }
 }
 
-// Behind the value at `at`, if it is plain and no number, which the general way reads near the input's end.
+// Near the end of the input, numbers are left to the slow path.
 #[inline(never)]
 fn near_value_end(bytes: &[u8], at: usize) -> Option<usize>
     requires { at < length bytes.now }
@@ -162,7 +156,6 @@ fn near_value_end(bytes: &[u8], at: usize) -> Option<usize>
     }
 }
 
-// Behind the string at `at`, if it is closed, where there is room.
 #[inline(always)]
 fn roomy_string_end(bytes: &[u8], at: usize) -> Option<usize>
     requires room { at + 66 ≤ length bytes.now }
@@ -173,7 +166,7 @@ fn roomy_string_end(bytes: &[u8], at: usize) -> Option<usize>
     roomy_quoted_end(bytes, at)
 }
 
-// Behind the number at `at`, if it is short, where there is room.
+// A number that is not short is left to the slow path.
 #[inline(always)]
 fn roomy_short_end(bytes: &[u8], at: usize) -> Option<usize>
     requires room { at + 66 ≤ length bytes.now }
@@ -184,7 +177,7 @@ fn roomy_short_end(bytes: &[u8], at: usize) -> Option<usize>
     roomy_number_end(bytes, at)
 }
 
-// Behind the value at `at`, if it is plain, where there is room.
+// Enough bytes are left for a short number, so the length is not tested again.
 #[inline(always)]
 fn roomy_value_end(bytes: &[u8], at: usize) -> Option<usize>
     requires { at + 66 ≤ length bytes.now }
@@ -198,7 +191,8 @@ fn roomy_value_end(bytes: &[u8], at: usize) -> Option<usize>
     }
 }
 
-/// Behind the value at `at`, if it is a plain scalar, or a container whose closer stands right behind its bracket.
+/// Returns the index after the value at `at`, if it can be skipped at once. That may be a closed string, a short
+/// number, a literal, or a pair of brackets with nothing between them.
 #[inline(always)]
 pub fn plain_value_end(bytes: &[u8], at: usize) -> Option<usize>
     requires { at < length bytes.now }
@@ -212,7 +206,7 @@ pub fn plain_value_end(bytes: &[u8], at: usize) -> Option<usize>
     }
 }
 
-// From behind a key to the place where its value begins, by one look where a colon and the value stand there.
+// Most keys are followed by a colon and the value at once.
 #[inline(always)]
 fn near_colon(bytes: &[u8], from: usize) -> Option<usize>
     requires { from ≤ length bytes.now }
@@ -225,7 +219,7 @@ fn near_colon(bytes: &[u8], from: usize) -> Option<usize>
     plain_colon(bytes, from)
 }
 
-// Where the value of a part at `at` begins: behind its key and colon in an object.
+// In an object, the value is after a key and its colon.
 #[inline(always)]
 fn plain_inside(bytes: &[u8], at: usize, shape: Shape) -> Option<usize>
     requires { at < length bytes.now }
@@ -241,7 +235,8 @@ fn plain_inside(bytes: &[u8], at: usize, shape: Shape) -> Option<usize>
     }
 }
 
-/// From the bracket of a container at `at` to the first value inside.
+/// Returns the index of the first value in the container at `at`, if the fast path finds it. In an object, that is
+/// after a key and its colon.
 #[inline(always)]
 pub fn plain_first_inside(bytes: &[u8], at: usize, shape: Shape) -> Option<usize>
     requires { at < length bytes.now }
@@ -257,7 +252,7 @@ pub fn plain_first_inside(bytes: &[u8], at: usize, shape: Shape) -> Option<usize
     }
 }
 
-// From behind a part, past a comma, to the value of the next part.
+// `from` is after a part; a comma must follow at once.
 #[inline(always)]
 fn plain_next_inside(bytes: &[u8], from: usize, shape: Shape) -> Option<usize>
     requires { from ≤ length bytes.now }
@@ -273,7 +268,7 @@ fn plain_next_inside(bytes: &[u8], from: usize, shape: Shape) -> Option<usize>
     }
 }
 
-// The same, past all plain values, near the input's end.
+// For the last bytes of the input.
 #[inline(never)]
 fn near_run(bytes: &[u8], from: usize, shape: Shape) -> (usize, bool)
     requires { from ≤ length bytes.now }
@@ -292,7 +287,7 @@ fn near_run(bytes: &[u8], from: usize, shape: Shape) -> (usize, bool)
     }
 }
 
-// The first place from `from` on that has no blank, if it is not behind `last + 1`.
+// Here and below, `last` is the last index with `REACH` bytes left.
 #[inline(always)]
 fn roomy_solid(bytes: &[u8], from: usize, last: usize) -> Option<usize>
     requires room { last + 68 ≤ length bytes.now }
@@ -307,7 +302,7 @@ fn roomy_solid(bytes: &[u8], from: usize, last: usize) -> Option<usize>
     if at <= last { Some(at) } else { None }
 }
 
-// From behind a key to the place where its value begins: at once where a colon and perhaps one space stand before it.
+// Most keys are followed by a colon, perhaps a space, and the value.
 #[inline(always)]
 fn roomy_colon(bytes: &[u8], from: usize, last: usize) -> Option<usize>
     requires room { last + 68 ≤ length bytes.now }
@@ -327,7 +322,6 @@ fn roomy_colon(bytes: &[u8], from: usize, last: usize) -> Option<usize>
     }
 }
 
-// Where the value of a part at `at` begins: behind its key and colon in an object.
 #[inline(always)]
 fn roomy_inside(bytes: &[u8], at: usize, shape: Shape, last: usize) -> Option<usize>
     requires room { last + 68 ≤ length bytes.now }
@@ -347,7 +341,6 @@ fn roomy_inside(bytes: &[u8], at: usize, shape: Shape, last: usize) -> Option<us
     }
 }
 
-// From behind a part, past a comma, to the value of the next part, where that has room.
 #[inline(always)]
 fn roomy_next_inside(bytes: &[u8], from: usize, shape: Shape, last: usize) -> Option<usize>
     requires room { last + 68 ≤ length bytes.now }
@@ -364,7 +357,7 @@ fn roomy_next_inside(bytes: &[u8], from: usize, shape: Shape, last: usize) -> Op
     }
 }
 
-// The run past all plain values by a shape that is known where it is inlined.
+// `shape` is a constant where this is inlined.
 #[inline(always)]
 fn known_plain_run(bytes: &[u8], from: usize, shape: Shape) -> (usize, bool)
     requires { from ≤ length bytes.now }
@@ -388,8 +381,8 @@ fn known_plain_run(bytes: &[u8], from: usize, shape: Shape) -> (usize, bool)
     near_run(bytes, end, shape)
 }
 
-/// From behind a part of a container past all parts with plain values: to a value that is not plain, or else,
-/// with `false`, behind the last of them.
+/// Skips parts of a container as long as their values can be skipped at once. `from` is after a part. Returns the index
+/// of the first other value and `true`, or the index after the last part and `false`.
 #[inline(always)]
 pub fn plain_run(bytes: &[u8], from: usize, shape: Shape) -> (usize, bool)
     requires { from ≤ length bytes.now }
@@ -402,7 +395,7 @@ pub fn plain_run(bytes: &[u8], from: usize, shape: Shape) -> (usize, bool)
     }
 }
 
-/// From behind a part to behind the container's closer, if it stands there.
+/// Returns the index after the container's closing bracket, if it follows the part before `from`.
 #[inline(always)]
 pub fn plain_end(bytes: &[u8], from: usize, shape: Shape) -> Option<usize>
     requires { from ≤ length bytes.now }

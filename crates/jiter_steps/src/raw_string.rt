@@ -1,5 +1,5 @@
-//! Strings as they stand in the source (RFC 8259, 7): the bytes between the quotes, their escapes checked but not
-//! decoded and their UTF-8 not tested; and where a string ends. Nothing here takes memory.
+//! Strings as they are in the source (RFC 8259, 7), and where they end. Escapes are checked but not decoded, and UTF-8
+//! is not tested. Nothing here allocates.
 ghost use Rattle.std.specs.Prelude.{◌≡◌, ◌≢◌, ◌+◌, ◌<◌, ◌≤◌, ℕ, length, slice_get, IfOk, IfSome, OnOk, OnErr, Some};
 ghost use Rattle.std.specs.Prelude.{true, Bool, IsTrue, List, None};
 ghost use Rattle.jiter_scan.specs.Ascii as ascii;
@@ -33,7 +33,7 @@ fn escape_end(bytes: &[u8], at: usize) -> Option<usize>
     }
 }
 
-// The place at which a content is over that goes on at `from` with a backslash.
+// For a string with a backslash at `from`.
 #[inline(never)]
 fn escaped_end(bytes: &[u8], from: usize) -> usize
     requires within { from ≤ length bytes.now }
@@ -51,8 +51,7 @@ fn escaped_end(bytes: &[u8], from: usize) -> usize
     }
 }
 
-// The place at which the content that begins at `from` is over: that of its closing quote or of what is wrong
-// there, or the length.
+// Returns the index of the closing quote, of the control byte or escape that is wrong, or the length.
 #[inline(always)]
 fn content_end(bytes: &[u8], from: usize) -> usize
     requires { from ≤ length bytes.now }
@@ -68,7 +67,7 @@ fn content_end(bytes: &[u8], from: usize) -> usize
     }
 }
 
-// The same, where the bytes before `from` have been looked at.
+// The same, for the rest of a string that was read up to `from`.
 #[inline(always)]
 fn rest_end(bytes: &[u8], from: usize) -> usize
     requires { from < length bytes.now }
@@ -82,7 +81,6 @@ fn rest_end(bytes: &[u8], from: usize) -> usize
     }
 }
 
-// The fault of a string whose content is over at `at` without a closing quote.
 #[cold]
 fn fault_of(bytes: &[u8], at: usize) -> Fault
     requires stop { IfSome (slice_get bytes.now at) (λ b. is_stop b ≡ true) }
@@ -101,8 +99,7 @@ fn fault_of(bytes: &[u8], at: usize) -> Fault
     }
 }
 
-// The byte index behind the closing quote of the string whose opening quote is at `at`, if it has one and its
-// escapes are whole; its UTF-8 is not tested. The bytes up to `from` are known to be plain (RFC 8259, 7).
+// The bytes before `from` are plain, and are not read again.
 #[inline(never)]
 pub(crate) fn closed_end(bytes: &[u8], at: usize, from: usize) -> Option<usize>
     requires within { (at + 1 ≤ from) × (from < length bytes.now) }
@@ -117,9 +114,8 @@ pub(crate) fn closed_end(bytes: &[u8], at: usize, from: usize) -> Option<usize>
     }
 }
 
-/// The byte index behind the closing quote of the string whose opening quote is at `at`. Its escapes are
-/// checked, its UTF-8 is not; the faults are those of [`string_at`](crate::string_decoder::string_at) but for
-/// that of UTF-8 (RFC 8259, 7).
+/// Returns the index after the closing quote of the string at `at` (RFC 8259, 7). Fails as
+/// [`string_at`](crate::string_decoder::string_at) does, except that UTF-8 is not tested.
 #[inline(always)]
 pub fn string_end(bytes: &[u8], at: usize) -> Result<usize, Fault>
     requires { at < length bytes.now }
@@ -133,10 +129,11 @@ pub fn string_end(bytes: &[u8], at: usize) -> Result<usize, Fault>
     }
 }
 
-/// The bytes between the quotes of the string whose opening quote is at the byte index `at`, with the index
-/// behind its closing quote. Escapes stand in them undecoded, but checked; UTF-8 is not tested. With `keep` the
-/// end of the input may cut the string, though not inside an escape: its bytes then go to the length, and so
-/// does its end (RFC 8259, 7).
+/// Returns the bytes between the quotes of the string at `at`, and the index after its closing quote (RFC 8259, 7).
+/// Escapes are checked but not decoded, and UTF-8 is not tested.
+///
+/// With `keep`, the input may end inside the string, except inside an escape. The bytes then go up to the length, which
+/// is also the index. Otherwise fails as [`string_end`] does.
 #[inline(always)]
 pub fn raw_string_at<'j>(bytes: &'j [u8], at: usize, keep: bool) -> Result<(&'j [u8], usize), Fault>
     requires { at < length bytes.now }
@@ -155,9 +152,8 @@ pub fn raw_string_at<'j>(bytes: &'j [u8], at: usize, keep: bool) -> Result<(&'j 
 impl<'j> Parser<'j> {
     ghost use Rattle.jiter_steps.specs.Parse.{Moves, Reads};
 
-    /// The bytes between the quotes of the string whose opening quote is where the reader stands, escapes
-    /// checked but not decoded and UTF-8 not tested; a fault leaves it there. With `keep` the end of the input
-    /// may cut the string, though not inside an escape (RFC 8259, 7).
+    /// Reads the bytes between the quotes of the string at the reader's position (RFC 8259, 7), as [`raw_string_at`]
+    /// does. After an error the reader is where it was.
     #[inline(always)]
     pub fn raw_string(&mut self, keep: bool) -> Result<&'j [u8], Fault>
         requires { self.old.index < length self.old.bytes.now }

@@ -1,15 +1,15 @@
-//! What a reading that may want memory refuses with.
+//! The error of calls that may allocate.
 ghost use Rattle.std.specs.Prelude.{◌≡◌};
 
 use jiter_scan::errors::Fault;
 use jiter_scan::memory::Refused;
 
-/// Why a reading was given up.
+/// Why reading failed.
 #[derive(Debug, PartialEq, Eq, Drop)]
 pub enum ReadError {
-    /// A fault of the bytes.
+    /// The bytes have an error.
     Fault(Fault),
-    /// A request for memory was refused.
+    /// An allocation failed.
     Memory(Refused),
 }
 

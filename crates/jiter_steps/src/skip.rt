@@ -1,4 +1,4 @@
-//! Skipping a value: its end alone, with no value made, no text decoded and no memory taken.
+//! Skips a value. Nothing is built, decoded or allocated.
 ghost use Rattle.std.specs.Prelude.{◌≡◌, ◌≢◌, ℕ, Bool, true, false, ◌+◌, ◌<◌, ◌≤◌, ◌∷◌, IfOk, OnOk, Ok, length};
 ghost use Rattle.std.specs.Prelude.{slice_index, IfSome, None};
 ghost use Rattle.jiter_steps.specs.Answer.{only_ends, skip_at};
@@ -17,10 +17,10 @@ use crate::raw_string::string_end;
 use jiter_scan::errors::{Fault, FaultKind};
 use jiter_scan::number_extent::number_end;
 
-// How many open containers the table has places for.
+// How many open containers the table can hold: more than `NESTING_LIMIT`.
 const TABLE_SIZE: usize = 256;
 
-// The open containers, the outermost first: of each whether it is an object.
+// The open containers, the outermost first: whether each is an object.
 #[derive(Drop)]
 struct Nest {
     objects: [bool; TABLE_SIZE],
@@ -28,7 +28,6 @@ struct Nest {
     ghost within: { depth ≤ nesting_limit },
 }
 
-// The shape of a container that is an object or is none.
 #[inline(always)]
 fn shape_of(is_object: bool) -> Shape
     ensures { result ≡ shape_of is_object }
@@ -40,7 +39,6 @@ fn shape_of(is_object: bool) -> Shape
     }
 }
 
-// Whether a container of this shape is an object.
 #[inline(always)]
 fn is_object(shape: Shape) -> bool
     ensures { shape ≡ shape_of result }
@@ -51,7 +49,7 @@ fn is_object(shape: Shape) -> bool
     }
 }
 
-// A container opens, whose first value begins where the reader stands.
+// The reader is at the container's first value. That is also the index of the nesting limit's error.
 #[inline(always)]
 fn open(parser: &Parser<'_>, nest: &mut Nest, shape: Shape) -> Result<bool, Fault>
     requires { parser.now.index < length parser.now.bytes.now }
@@ -71,7 +69,6 @@ fn open(parser: &Parser<'_>, nest: &mut Nest, shape: Shape) -> Result<bool, Faul
     Ok(true)
 }
 
-// The number where the reader stands; a fault leaves it there.
 #[inline(always)]
 fn number(parser: &mut Parser<'_>, allow_inf_nan: bool) -> Result<(), Fault>
     requires { parser.old.index < length parser.old.bytes.now }
@@ -84,7 +81,7 @@ fn number(parser: &mut Parser<'_>, allow_inf_nan: bool) -> Result<(), Fault>
     Ok(())
 }
 
-// The key where the reader stands, and its colon: to where its value begins.
+// Skips the colon too, up to the value.
 #[inline(always)]
 fn key(parser: &mut Parser<'_>) -> Result<(), Fault>
     requires { parser.old.index < length parser.old.bytes.now }
@@ -97,7 +94,7 @@ fn key(parser: &mut Parser<'_>) -> Result<(), Fault>
     parser.object_colon()
 }
 
-// Where a part begins: to its value, which stands behind a key and its colon in an object.
+// In an object, the value is after a key and its colon.
 #[inline(always)]
 fn value_inside(parser: &mut Parser<'_>, shape: Shape) -> Result<bool, Fault>
     requires { parser.old.index < length parser.old.bytes.now }
@@ -116,7 +113,7 @@ fn value_inside(parser: &mut Parser<'_>, shape: Shape) -> Result<bool, Fault>
     }
 }
 
-// From the bracket of a container to the first value inside, or behind its closer.
+// Returns `true` at the first value inside, and `false` after the closing bracket.
 #[inline(always)]
 fn first_inside(parser: &mut Parser<'_>, shape: Shape) -> Result<bool, Fault>
     requires { parser.old.index < length parser.old.bytes.now }
@@ -134,7 +131,7 @@ fn first_inside(parser: &mut Parser<'_>, shape: Shape) -> Result<bool, Fault>
     }
 }
 
-// From behind a value inside a container to the next one, or behind the container's closer.
+// Returns `true` at the next value inside, and `false` after the closing bracket.
 #[inline(always)]
 fn next_inside(parser: &mut Parser<'_>, shape: Shape) -> Result<bool, Fault>
     ensures moves { Moves parser.old parser.new }
@@ -150,7 +147,7 @@ fn next_inside(parser: &mut Parser<'_>, shape: Shape) -> Result<bool, Fault>
     }
 }
 
-// The container whose bracket is where the reader stands: to its first value, or behind its closer.
+// Like `first_inside`, and adds the container to the table.
 #[inline(always)]
 fn begin(parser: &mut Parser<'_>, nest: &mut Nest, shape: Shape) -> Result<bool, Fault>
     requires within { parser.old.index < length parser.old.bytes.now }
@@ -170,7 +167,6 @@ fn begin(parser: &mut Parser<'_>, nest: &mut Nest, shape: Shape) -> Result<bool,
     }
 }
 
-// The scalar where the reader stands: to its end; a fault leaves the reader there.
 #[inline(always)]
 fn skip_scalar(parser: &mut Parser<'_>, allow_inf_nan: bool) -> Result<(), Fault>
     requires within { parser.old.index < length parser.old.bytes.now }
@@ -197,7 +193,7 @@ fn skip_scalar(parser: &mut Parser<'_>, allow_inf_nan: bool) -> Result<(), Fault
     }
 }
 
-// The value where the reader stands: to the first value inside it, or to its end.
+// Returns `true` at the first value inside, and `false` after the value.
 #[inline(always)]
 fn begin_value(parser: &mut Parser<'_>, nest: &mut Nest, allow_inf_nan: bool) -> Result<bool, Fault>
     requires { parser.old.index < length parser.old.bytes.now }
@@ -218,7 +214,7 @@ fn begin_value(parser: &mut Parser<'_>, nest: &mut Nest, allow_inf_nan: bool) ->
     }
 }
 
-// From behind a value to the next one; containers that end are closed.
+// Closes the containers that end here. Returns `true` at the next value, and `false` if no container is open.
 #[inline(always)]
 fn end_value(parser: &mut Parser<'_>, nest: &mut Nest) -> Result<bool, Fault>
     ensures moves { Moves parser.old parser.new }
@@ -240,8 +236,8 @@ fn end_value(parser: &mut Parser<'_>, nest: &mut Nest) -> Result<bool, Fault>
     }
 }
 
-// From behind a value past all that is plain: the place, how many containers are open there, and whether a value
-// begins there, which is not plain; else one has ended there.
+// The fast path after a value. Returns the index that it reaches, how many containers are open there, and whether a
+// value begins there. If none does, one has ended there.
 #[inline(always)]
 fn plain_after(bytes: &[u8], from: usize, nest: &Nest, depth: usize) -> (usize, usize, bool)
     requires within { from ≤ length bytes.now }
@@ -271,7 +267,7 @@ fn plain_after(bytes: &[u8], from: usize, nest: &Nest, depth: usize) -> (usize, 
     }
 }
 
-// From the container at `at` to the first value inside, which is one level deeper.
+// The fast path into a container. Returns the index of the first value inside.
 #[inline(always)]
 fn plain_open(bytes: &[u8], at: usize, nest: &mut Nest, depth: usize) -> Option<usize>
     requires within { at < length bytes.now }
@@ -298,7 +294,7 @@ fn plain_open(bytes: &[u8], at: usize, nest: &mut Nest, depth: usize) -> Option<
     }
 }
 
-// From a value past all that is plain: to a value that is not, or else, with `false`, behind one.
+// The fast path. Returns `true` at a value that the slow path must read, and `false` after a value.
 #[inline(never)]
 fn plain_turns(bytes: &[u8], from: usize, nest: &mut Nest) -> (usize, bool)
     requires { from < length bytes.now }
@@ -334,7 +330,7 @@ fn plain_turns(bytes: &[u8], from: usize, nest: &mut Nest) -> (usize, bool)
     }
 }
 
-// The container that begins where the reader stands.
+// Where the fast path stops, the slow path makes one step.
 fn skip_container(parser: &mut Parser<'_>, allow_inf_nan: bool) -> Result<(), Fault>
     requires { parser.old.index < length parser.old.bytes.now }
     ensures moves { Moves parser.old parser.new }
@@ -358,8 +354,9 @@ fn skip_container(parser: &mut Parser<'_>, allow_inf_nan: bool) -> Result<(), Fa
     }
 }
 
-/// From the first byte of a value to its end, with no value made, no text decoded and no UTF-8 tested
-/// (RFC 8259, 3). A fault leaves the reader at the first byte of the scalar or key that has it, else at its index.
+/// Skips the value at the reader's position (RFC 8259, 3). Nothing is built or decoded, and UTF-8 is not tested.
+///
+/// After an error the reader is at the first byte of the scalar or key that has it, otherwise at the error's index.
 pub fn skip(parser: &mut Parser<'_>, allow_inf_nan: bool) -> Result<(), Fault>
     requires { parser.old.index < length parser.old.bytes.now }
     ensures moves { Moves parser.old parser.new }

@@ -1,4 +1,4 @@
-//! Reading a string (RFC 8259, 7 and 8.1): its own bytes where it has no backslash, or else its text decoded.
+//! Reads strings (RFC 8259, 7 and 8.1). A string without a backslash is borrowed from the input; any other is decoded.
 ghost use Rattle.std.specs.Prelude.{◌≡◌, ℕ, Bool, ◌+◌, ◌^◌, ◌<◌, ◌≤◌, length, true, false};
 ghost use Rattle.std.specs.Prelude.{List, slice_range, IfOk, IfErr, IsTrue, MatchResult, Some, None, take};
 ghost use Rattle.std.specs.Prelude.{drop};
@@ -25,8 +25,8 @@ use jiter_scan::word::byte_at;
 use std::alloc::Global;
 use std::borrow::CowStr;
 
-// Decodes what stands from `from` on to the front of the tape: how many bytes that makes, whether they are known to be
-// UTF-8 with no test, and how the string ends.
+// Decodes to the beginning of the tape. Returns how many bytes that gives, whether they are known to be UTF-8, and how
+// the string ends.
 #[inline(always)]
 fn decode(tape: &mut Vec<u8>, bytes: &[u8], from: usize) -> Result<(usize, bool, Ending), Refused>
     requires { from ≤ length bytes.now }
@@ -58,8 +58,8 @@ fn decode(tape: &mut Vec<u8>, bytes: &[u8], from: usize) -> Result<(usize, bool,
     }
 }
 
-// How many bytes of a content are its text: of one that is kept, without an unfinished character at its end. Or how
-// many are right before one that is wrong.
+// Returns how many bytes belong to the string. With `keep`, those of an incomplete character at the end do not. The
+// error is the number of bytes before the wrong one.
 #[inline(always)]
 fn checked_count(content: &[u8], known: bool, keep: bool) -> Result<usize, usize>
     requires { IsTrue known → IsUtf8 content.now }
@@ -84,7 +84,7 @@ fn checked_count(content: &[u8], known: bool, keep: bool) -> Result<usize, usize
     }
 }
 
-// The text of the bytes between, of a string with no backslash.
+// For a string without a backslash.
 #[inline(always)]
 fn borrow_text<'j>(
     bytes: &'j [u8],
@@ -106,7 +106,6 @@ fn borrow_text<'j>(
     }
 }
 
-// The input ends inside the string.
 #[cold]
 pub(crate) fn cut_short(bytes: &[u8]) -> Fault
     ensures { result ≡ record {
@@ -120,7 +119,7 @@ pub(crate) fn cut_short(bytes: &[u8]) -> Fault
     }
 }
 
-// Where the text of a string ends that ends so: with the input, if it is kept.
+// With `keep`, a string may end with the input.
 #[tactic(auto, using(crate::proofs::Calls::StringAnswers::string_closed))]
 fn text_end(bytes: &[u8], ending: Ending, keep: bool) -> Result<usize, Fault>
     ensures { (i : ℕ) → (bs : List ℕ) → (owned : Bool) → MatchResult result
@@ -138,9 +137,8 @@ fn text_end(bytes: &[u8], ending: Ending, keep: bool) -> Result<usize, Fault>
     }
 }
 
-/// Decodes the string with a backslash whose opening quote is at the byte index `at` to the front of the tape,
-/// and gives how many bytes its text has there, with the index behind its closing quote. The faults, and what
-/// `keep` keeps, are those of [`string_at`].
+/// Decodes the string at `at`, which has a backslash, to the beginning of the tape. Returns how many bytes it has
+/// there, and the index after its closing quote. Fails as [`string_at`] does, and `keep` means the same.
 #[inline(never)]
 pub fn decode_to(
     tape: &mut Vec<u8>,
@@ -167,7 +165,7 @@ pub fn decode_to(
     }
 }
 
-// The text of a string with a backslash.
+// For a string with a backslash.
 #[inline(always)]
 fn decode_text<'j>(
     alloc: Global,
@@ -186,10 +184,8 @@ fn decode_text<'j>(
     Ok((CowStr::Owned(own), end))
 }
 
-/// Decodes the string with a backslash whose opening quote is at the byte index `at` to the front of the tape,
-/// and gives how many bytes its text has there, with the index behind its closing quote. Where it has a fault,
-/// or the input ends within it, it is not told why, with no refusal; where memory for the tape was refused, that
-/// is told (RFC 8259, 7 and 8.1).
+/// Decodes the string at `at` as [`decode_to`] does without `keep` (RFC 8259, 7 and 8.1). Fails with `Some` if an
+/// allocation failed, and with `None` for every other error.
 #[inline(always)]
 pub fn decode_whole(
     tape: &mut Vec<u8>,
@@ -211,14 +207,18 @@ pub fn decode_whole(
     }
 }
 
-/// Reads the string whose opening quote is at the byte index `at`, and gives its text with the index behind
-/// its closing quote. A text without a backslash is the input's own bytes; any other is decoded on the tape,
-/// and only that asks for memory. With `keep` the end of the input may cut the string: its text then goes as
-/// far as whole characters do, and its end is the length.
+/// Returns the string whose opening quote is at `at`, and the index after its closing quote (RFC 8259, 7 and 8.1). A
+/// string without a backslash is borrowed from the input. Any other is decoded on the tape and copied.
 ///
-/// The index of a fault is the byte that is wrong, or the length where the input ends too early; for a text
-/// that is not UTF-8 it counts on from the opening quote by the decoded bytes before the broken one (RFC
-/// 8259, 7 and 8.1).
+/// With `keep`, the input may end inside the string, and the index is then the length. An incomplete character at the
+/// string's end is left out.
+///
+/// # Errors
+///
+/// - an error of the string, at the byte that is wrong, or at the length if the input ends first
+/// - `InvalidUnicodeCodePoint` if the decoded bytes are not UTF-8; the index counts decoded bytes after the opening
+///   quote
+/// - `Memory`, only for a string with a backslash
 #[inline(always)]
 pub fn string_at<'j>(
     alloc: Global,

@@ -1,4 +1,4 @@
-//! Looking into a value: its scalars and parts, lent where they lie. No memory is taken.
+//! Access to the parts of a value. Nothing is copied or allocated.
 ghost use Rattle.std.specs.Prelude.{◌≡◌, IfOk, IfErr, None, option_map};
 ghost use Rattle.jiter_steps.specs.StringDecoder.{text_view};
 ghost use Rattle.jiter_steps.specs.Tree.{array, object, string};
@@ -12,14 +12,14 @@ use std::borrow::CowStr;
 use std::mem;
 
 impl<'s> JsonValue<'s> {
-    /// Whether it is `null`.
+    /// Returns whether the value is `null`.
     pub fn is_null(&self) -> bool
         ensures { result ≡ is_null_tree (view self.now) }
     {
         matches!(self, JsonValue::Null)
     }
 
-    /// The truth of `true` or `false`; `None` of any other value.
+    /// Returns `true` or `false` as a `bool`, or `None` for any other value.
     pub fn as_bool(&self) -> Option<bool>
         ensures { result ≡ boolean_in (view self.now) }
     {
@@ -29,7 +29,7 @@ impl<'s> JsonValue<'s> {
         }
     }
 
-    /// The integer of an `Int`; `None` of any other value, a `BigInt` and a `Float` among them.
+    /// Returns the integer of an `Int`, or `None` for any other value, including a `BigInt` or a `Float`.
     pub fn as_i64(&self) -> Option<i64>
         ensures { result ≡ int_in (view self.now) }
     {
@@ -39,7 +39,7 @@ impl<'s> JsonValue<'s> {
         }
     }
 
-    /// The source text of a `BigInt` or a `Float`; `None` of any other value, an `Int` among them.
+    /// Returns the source text of a `BigInt` or a `Float`, or `None` for any other value, including an `Int`.
     pub fn as_number_text(&self) -> Option<&str>
         ensures { option_map (λ text. text.now) result ≡ number_text_in (view self.now) }
     {
@@ -50,7 +50,7 @@ impl<'s> JsonValue<'s> {
         }
     }
 
-    /// The decoded text of a string; `None` of any other value.
+    /// Returns the decoded string, or `None` for any other value.
     pub fn as_str(&self) -> Option<&str>
         ensures { option_map (λ text. text.now) result ≡ string_in (view self.now) }
     {
@@ -60,7 +60,7 @@ impl<'s> JsonValue<'s> {
         }
     }
 
-    /// The items of an array; `None` of any other value.
+    /// Returns the items of an array, or `None` for any other value.
     pub fn as_array(&self) -> Option<&JsonArray<'s>>
         ensures { option_map (λ items. views items.now.items) result ≡ items_in (view self.now) }
     {
@@ -70,7 +70,7 @@ impl<'s> JsonValue<'s> {
         }
     }
 
-    /// The members of an object, in source order; `None` of any other value.
+    /// Returns the members of an object in source order, or `None` for any other value.
     pub fn as_object(&self) -> Option<&JsonObject<'s>>
         ensures { option_map (λ members. member_views members.now.items) result
             ≡ members_in (view self.now) }
@@ -81,7 +81,11 @@ impl<'s> JsonValue<'s> {
         }
     }
 
-    /// The items of an array, moved out; any other value is given back.
+    /// Moves the items out of an array.
+    ///
+    /// # Errors
+    ///
+    /// Returns the value itself, unchanged, if it isn't an array.
     pub fn into_array(self) -> Result<JsonArray<'s>, JsonValue<'s>>
         ensures items { IfOk result (λ items. view self.entry ≡ array (views items.items)) }
         ensures other { IfErr result (λ v. (v ≡ self.entry) × (items_in (view v) ≡ None)) }
@@ -94,7 +98,11 @@ impl<'s> JsonValue<'s> {
         Err(value)
     }
 
-    /// The members of an object, moved out; any other value is given back.
+    /// Moves the members out of an object, in source order.
+    ///
+    /// # Errors
+    ///
+    /// Returns the value itself, unchanged, if it isn't an object.
     pub fn into_object(self) -> Result<JsonObject<'s>, JsonValue<'s>>
         ensures members { IfOk result (λ members. view self.entry ≡ object (member_views members.items)) }
         ensures other { IfErr result (λ v. (v ≡ self.entry) × (members_in (view v) ≡ None)) }
@@ -107,7 +115,11 @@ impl<'s> JsonValue<'s> {
         Err(value)
     }
 
-    /// The text of a string, moved out, borrowed or owned as it was; any other value is given back.
+    /// Moves the decoded string out of a value, borrowed or owned as it was.
+    ///
+    /// # Errors
+    ///
+    /// Returns the value itself, unchanged, if it isn't a string.
     pub fn into_str(self) -> Result<CowStr<'s>, JsonValue<'s>>
         ensures text { IfOk result (λ text. view self.entry ≡ string (text_view text)) }
         ensures other { IfErr result (λ v. (v ≡ self.entry) × (string_in (view v) ≡ None)) }
@@ -119,7 +131,7 @@ impl<'s> JsonValue<'s> {
         Err(value)
     }
 
-    /// The item at an index, from 0; `None` behind the last item, and of a value that is no array.
+    /// Returns the item at an index, from 0, or `None` past the last item or if the value isn't an array.
     pub fn at(&self, index: usize) -> Option<&JsonValue<'s>>
         ensures { option_map (λ v. view v.now) result ≡ item_at index (view self.now) }
     {
@@ -129,8 +141,16 @@ impl<'s> JsonValue<'s> {
         }
     }
 
-    /// The value of the last member of this name, where a name is repeated; `None` where no member has it, and
-    /// of a value that is no object.
+    /// Returns the value of the last member with this key, or `None` if there is none or the value isn't an object.
+    ///
+    /// `name` is compared with the decoded keys.
+    ///
+    /// # Examples
+    ///
+    /// ```rust
+    /// let value = JsonValue::parse(alloc, br#"{"port": 80, "port": 8080}"#, false)?;
+    /// assert_eq!(rt; value.get("port").and_then(|port| port.as_i64()), Some(8080));
+    /// ```
     pub fn get(&self, name: &str) -> Option<&JsonValue<'s>>
         ensures { option_map (λ v. view v.now) result ≡ member_named name.now (view self.now) }
     {
@@ -141,7 +161,7 @@ impl<'s> JsonValue<'s> {
     }
 }
 
-/// The item at an index.
+/// Returns the item at an index, or `None` past the last item.
 #[tactic(auto, using(crate::proofs::Looking::item_found, crate::proofs::Looking::item_missing))]
 pub(crate) fn item_at<'v, 's>(items: &'v JsonArray<'s>, index: usize) -> Option<&'v JsonValue<'s>>
     ensures { option_map (λ v. view v.now) result ≡ item_of index (views items.now.items) }
@@ -153,7 +173,6 @@ pub(crate) fn item_at<'v, 's>(items: &'v JsonArray<'s>, index: usize) -> Option<
     }
 }
 
-// The value of the last member of this name.
 #[tactic(auto, using(crate::proofs::Looking::last_such_more))]
 fn last_named<'v, 's>(members: &'v JsonObject<'s>, name: &str) -> Option<&'v JsonValue<'s>>
     ensures { option_map (λ v. view v.now) result

@@ -1,4 +1,5 @@
-//! Copies of a value: each text borrowed or owned as it was, or each text owned.
+//! Copies of values. A text is a string, a key or the source of a number. In a `clone` each text is borrowed or owned
+//! as it was; `to_static` and `into_static` own every text.
 ghost use Rattle.std.specs.Prelude.{◌≡◌, IfOk, OnErr, false, map, true};
 ghost use Rattle.jiter_steps.specs.StringDecoder.{text_view};
 ghost use Rattle.jiter_value.specs.Owned.{owned_text, owned_tree, owned_member, HoldsTextOrPart};
@@ -13,10 +14,14 @@ use std::borrow::CowStr;
 use std::mem;
 
 impl<'s> JsonValue<'s> {
-    /// A copy, in which each text is borrowed or owned as it is here. It takes one vector for each container
-    /// that is not empty, of the exact length, and one text for each owned text that is not empty.
+    /// Returns a copy in which each string, key and number text is borrowed or owned as it is here.
     ///
-    /// It fails only where memory is refused.
+    /// Allocates one vector for each non-empty container, of the exact length, and one string for each owned text that
+    /// isn't empty.
+    ///
+    /// # Errors
+    ///
+    /// `AllocError` if an allocation fails: only for a non-empty container, an owned string or an owned number text.
     pub fn clone(&self, alloc: Global) -> Result<JsonValue<'s>, AllocError>
         ensures value { IfOk result (λ v. view v ≡ view self.now) }
         ensures memory { OnErr result (HoldsOwnedTextOrPart (view self.now)) }
@@ -24,10 +29,14 @@ impl<'s> JsonValue<'s> {
         Ok(copy_value(alloc, self)?)
     }
 
-    /// A copy that owns all its texts. It takes one vector for each container that is not empty, of the exact
-    /// length, and one text for each text that is not empty.
+    /// Returns a copy that owns all its strings, keys and number texts, so it borrows nothing.
     ///
-    /// It fails only where memory is refused.
+    /// Allocates one vector for each non-empty container, of the exact length, and one string for each text that isn't
+    /// empty.
+    ///
+    /// # Errors
+    ///
+    /// `AllocError` if an allocation fails: only for a non-empty container, a string or a number text.
     pub fn to_static(&self, alloc: Global) -> Result<JsonValue<'static>, AllocError>
         ensures value { IfOk result (λ v. view v ≡ owned_tree (view self.now)) }
         ensures memory { OnErr result (HoldsTextOrPart (view self.now)) }
@@ -35,8 +44,14 @@ impl<'s> JsonValue<'s> {
         Ok(own_value(alloc, self)?)
     }
 
-    /// [`JsonValue::to_static`] of a value that is not wanted any more. A text that is owned is moved, so one is
-    /// taken for each borrowed text alone. Where memory is refused the value is gone.
+    /// Turns the value into one that owns all its strings, keys and number texts, as [`JsonValue::to_static`] does.
+    ///
+    /// Owned texts are moved, and only borrowed ones are copied. The vectors of the containers are allocated anew.
+    ///
+    /// # Errors
+    ///
+    /// `AllocError` if an allocation fails: only for a non-empty container, a borrowed string or a borrowed number
+    /// text. The value is then dropped.
     pub fn into_static(self, alloc: Global) -> Result<JsonValue<'static>, AllocError>
         ensures value { IfOk result (λ v. view v ≡ owned_tree (view self.entry)) }
         ensures memory { OnErr result (HoldsBorrowedTextOrPart (view self.entry)) }
@@ -46,7 +61,7 @@ impl<'s> JsonValue<'s> {
     }
 }
 
-// ---- Each text borrowed or owned as it is.
+// ---- `clone`
 
 #[cycle(copy)]
 #[tactic(auto, using(crate::proofs::Owning::copied_array, crate::proofs::Owning::copied_object))]
@@ -96,7 +111,6 @@ fn copy_members<'s>(alloc: Global, members: &JsonObject<'s>) -> Result<JsonObjec
     Ok(copies)
 }
 
-// The text, borrowed or owned as it is.
 pub(crate) fn copy_cow<'s>(alloc: Global, text: &CowStr<'s>) -> Result<CowStr<'s>, Refused>
     ensures value { IfOk result (λ copy. text_view copy ≡ text_view text.now) }
     ensures memory { OnErr result ((text_view text.now).owned ≡ true) }
@@ -107,7 +121,7 @@ pub(crate) fn copy_cow<'s>(alloc: Global, text: &CowStr<'s>) -> Result<CowStr<'s
     }
 }
 
-// ---- Each text owned.
+// ---- `to_static`
 
 #[cycle(own)]
 #[tactic(auto, using(crate::proofs::Owning::owned_array, crate::proofs::Owning::owned_object))]
@@ -159,16 +173,15 @@ fn own_members(alloc: Global, members: &JsonObject<'_>) -> Result<JsonObject<'st
     Ok(copies)
 }
 
-// A copy of the text.
 fn own_text(alloc: Global, text: &CowStr<'_>) -> Result<CowStr<'static>, Refused>
     ensures { IfOk result (λ copy. text_view copy ≡ owned_text (text_view text.now)) }
 {
     Ok(CowStr::Owned(copy_text(alloc, text.as_str())?))
 }
 
-// ---- Each text owned, those moved that are owned already.
+// ---- `into_static`
 
-/// A value that owns all its texts, those moved that were owned.
+/// Returns a value that owns all its texts: moves the owned ones out of `value`, and copies the others.
 #[cycle(move_out)]
 #[tactic(auto, using(crate::proofs::Owning::owned_array, crate::proofs::Owning::owned_object))]
 pub(crate) fn move_value(
@@ -222,7 +235,6 @@ fn move_members(alloc: Global, members: &mut JsonObject<'_>) -> Result<JsonObjec
     Ok(moved)
 }
 
-// The text where it is owned, else a copy of it.
 fn move_text(alloc: Global, text: &mut CowStr<'_>) -> Result<CowStr<'static>, Refused>
     ensures value { IfOk result (λ moved. text_view moved ≡ owned_text (text_view text.old)) }
     ensures memory { OnErr result ((text_view text.old).owned ≡ false) }
@@ -230,7 +242,7 @@ fn move_text(alloc: Global, text: &mut CowStr<'_>) -> Result<CowStr<'static>, Re
     own_cow(alloc, mem::replace(text, CowStr::Borrowed("")))
 }
 
-/// The text where it is owned, else a copy of it.
+/// Returns an owned text itself, and a copy of a borrowed one.
 #[inline(always)]
 pub(crate) fn own_cow<'s>(alloc: Global, text: CowStr<'_>) -> Result<CowStr<'s>, Refused>
     ensures value { IfOk result (λ owned. text_view owned ≡ owned_text (text_view text.entry)) }

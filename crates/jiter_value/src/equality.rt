@@ -1,4 +1,4 @@
-//! Equality of values: that of what they hold, wherever their texts lie.
+//! Equality of values, whether their strings, keys and number texts are borrowed or owned.
 ghost use Rattle.std.specs.Prelude.{◌≡◌, true, map};
 ghost use Rattle.std.specs.Bool.{Decides};
 ghost use Rattle.std.specs.Cmp.{on_per, on_equiv, partial_equiv_from_equiv};
@@ -18,8 +18,10 @@ impl<'s> PartialEq for JsonValue<'s> {
 
     ghost laws = { on_per (λ v. code (view v)) (partial_equiv_from_equiv nat_list_eq_equiv) };
 
-    /// Whether two values hold the same: texts by their bytes, borrowed or owned, and numbers that are kept
-    /// as text by that text.
+    /// Returns whether two values hold the same, borrowed or owned.
+    ///
+    /// A `BigInt` or a `Float` is compared by its source text, so `1.0` isn't equal to `1.00`. Members are compared in
+    /// order.
     fn eq(&self, other: &Self) -> bool
         ensures value { result ≡ same_content (view self.now) (view other.now) }
         ensures decided { Decides result (HoldSame (view self.now) (view other.now)) }
@@ -32,7 +34,9 @@ impl<'s> Eq for JsonValue<'s> {
     ghost laws = { on_equiv (λ v. code (view v)) nat_list_eq_equiv };
 }
 
-/// What equality has of an equivalence, for a caller to cite.
+/// Adds to your proof that equality is reflexive, symmetric and transitive.
+///
+/// Does nothing at run time.
 pub fn equality_is_an_equivalence()
     ensures reflexive { (v : Tree) → same_content v v ≡ true }
     ensures symmetric { (v w : Tree) → same_content v w ≡ same_content w v }

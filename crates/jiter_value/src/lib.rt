@@ -1,4 +1,5 @@
-//! JSON as a tree whose unescaped texts borrow from the input.
+//! JSON documents as trees (`JsonValue`), and the calls that parse them. A string without a backslash is borrowed from
+//! the input.
 #![tactic(auto)]
 
 pub mod access;

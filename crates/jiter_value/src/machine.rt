@@ -1,4 +1,4 @@
-//! Reading a value turn by turn.
+//! A parse that the caller takes on turn by turn.
 ghost use Rattle.std.specs.Prelude.{◌≡◌, ◌≤◌, ◌+◌, ◌*◌, IfOk, false, length, true};
 ghost use Rattle.jiter_value.specs.Machine.{left, held, IsOver, IsReadingOn};
 ghost use Rattle.jiter_value.specs.Parses.{Parses, as_read};
@@ -16,7 +16,21 @@ use jiter_steps::read_error::ReadError;
 use std::alloc::Global;
 use std::marker::Model;
 
-/// A reading that goes on turn by turn.
+/// A parse that you take on turn by turn, so that you can do something else in between.
+///
+/// For n bytes, at most 3n + 3 turns return [`Turn::More`].
+///
+/// # Examples
+///
+/// ```rust
+/// let mut machine = Machine::new(alloc, bytes, false, PartialMode::Off);
+/// for _ in 0..turns {
+///     match machine.turn() {
+///         Turn::More(next) => machine = next,
+///         Turn::Done(result) => return Turn::Done(result),
+///     }
+/// }
+/// ```
 #[derive(Drop)]
 pub struct Machine<'j> {
     bytes: &'j [u8],
@@ -38,16 +52,16 @@ impl<'j> Model for Machine<'j> {
     ghost invariant = { λ m. IsReadingOn m.begun m.bytes.now m.reading };
 }
 
-/// Where a turn leads: to a machine that goes on, or to the answer.
+/// What a turn returns: a machine for the next turn, or the result.
 #[derive(Drop)]
 pub enum Turn<'j> {
-    /// More is to be read.
+    /// The parse isn't over: call [`Machine::turn`] again.
     More(Machine<'j>),
-    /// What the text answers.
+    /// The result: what [`JsonValue::parse_with_config`] returns for the same bytes and settings.
     Done(Result<JsonValue<'j>, JsonError>),
 }
 
-// Passes the blanks before the value. Where none begins, the reading is given up.
+// Skips the whitespace before the value. If the input ends there, stores the error and returns `false`.
 fn begin<'j>(reading: &mut Reading<'j>, bytes: &'j [u8]) -> bool
     requires { IsReadingOn false bytes.now reading.old }
     ensures begun { result ≡ true → IsReadingOn true bytes.now reading.new }
@@ -70,7 +84,7 @@ fn begin<'j>(reading: &mut Reading<'j>, bytes: &'j [u8]) -> bool
     }
 }
 
-// What the text answers whose reading is over.
+// The result of a reading that has ended.
 fn answer<'j>(reading: &mut Reading<'j>, bytes: &'j [u8]) -> Result<JsonValue<'j>, JsonError>
     requires within { reading.old.at ≤ length bytes.now }
     requires over { IsOver bytes.now reading.old }
@@ -101,7 +115,9 @@ fn answer<'j>(reading: &mut Reading<'j>, bytes: &'j [u8]) -> Result<JsonValue<'j
 impl<'j> Machine<'j> {
     ghost use Rattle.jiter_value.specs.TurnsTo.{TurnsTo};
 
-    /// A machine that has not begun. It takes no memory.
+    /// Creates a machine at index 0, with the settings of [`JsonValue::parse_with_config`].
+    ///
+    /// Does not allocate.
     pub fn new(
         alloc: Global,
         bytes: &'j [u8],
@@ -126,8 +142,9 @@ impl<'j> Machine<'j> {
         }
     }
 
-    /// One turn: one scalar, opening or key, and the steps behind it. Less is left behind it, so that a
-    /// reading ends within three turns a byte and three more.
+    /// Takes one turn: reads one scalar, opening bracket or key, and the steps after it, closing brackets included.
+    ///
+    /// The last turn returns the result in [`Turn::Done`]. Its errors are those of [`JsonValue::parse_with_config`].
     pub fn turn(self) -> Turn<'j>
         ensures { TurnsTo self.entry result }
     {
@@ -144,7 +161,7 @@ impl<'j> Machine<'j> {
             State::Done => Turn::Done(answer(&mut reading, bytes)),
             State::GivenUp => Turn::Done(answer(&mut reading, bytes)),
             _ => {
-                // Nothing is held but on the stacks.
+                // The machine's invariant: between turns the root is `Null`.
                 drop_root(&mut reading.stacks);
                 Turn::More(Machine {
                     bytes,
@@ -155,7 +172,7 @@ impl<'j> Machine<'j> {
         }
     }
 
-    /// All turns that are left, and what the text answers.
+    /// Takes all turns that are left, and returns the result.
     pub(crate) fn finish(self) -> Result<JsonValue<'j>, JsonError>
         ensures { Parses as_read (MayGrow self.entry.text) self.entry.settings.allow_inf_nan self.entry.settings.mode
             self.entry.text result }

@@ -1,4 +1,4 @@
-//! Reading a document into a value that owns its texts.
+//! Parsing into values that own all their strings, keys and number texts.
 ghost use Rattle.std.specs.Prelude.{◌≡◌, ◌<◌, ◌⊎◌, IfOk, length, true};
 ghost use Rattle.jiter_steps.specs.Blank.{past_blanks};
 ghost use Rattle.jiter_steps.specs.Node.{nesting_limit};
@@ -24,19 +24,29 @@ use jiter_steps::read_error::ReadError;
 use std::alloc::Global;
 
 impl JsonValue<'static> {
-    /// What [`JsonValue::parse_with_config`] answers, the value owning all its texts. In a partial mode what
-    /// follows the value is not looked at either.
+    /// Parses bytes as [`JsonValue::parse_with_config`] does, and returns a value that borrows nothing.
     ///
-    /// An array or an object is read owned: each text is made from its place in the input, and where memory for
-    /// it is refused, the index is where the reader stands. A scalar is read first, and where memory to own it is
-    /// refused, the index is the length.
+    /// The value owns all its strings, keys and number texts.
+    ///
+    /// # Errors
+    ///
+    /// - any error of [`JsonValue::parse_with_config`]
+    /// - `OutOfMemory`, only for a non-empty container, a string or a number text. If a scalar can't be copied, the
+    ///   index is the length. Otherwise it is where the parse stopped, at or after the value's first byte.
+    ///
+    /// # Examples
+    ///
+    /// ```rust
+    /// let value: JsonValue<'static> = JsonValue::parse_owned(alloc, b"[\"a\", 1.50]", false, PartialMode::Off)?;
+    /// assert_eq!(rt; value.at(0).and_then(|item| item.as_str()), Some("a"));
+    /// ```
     pub fn parse_owned(
         alloc: Global,
         bytes: &[u8],
         allow_inf_nan: bool,
         allow_partial: PartialMode,
     ) -> Result<JsonValue<'static>, JsonError>
-        // What every parse promises, each text owned. Memory may be wanted to read the value or to own it.
+        // What every parse promises, with each text owned.
         ensures { Parses owned_tree (OwnedMayGrow allow_inf_nan allow_partial bytes.now)
             allow_inf_nan allow_partial bytes.now result }
     {
@@ -51,7 +61,6 @@ impl JsonValue<'static> {
     }
 }
 
-// Whether an array or an object begins at `at`.
 #[inline(always)]
 fn begins_container(bytes: &[u8], at: usize) -> bool
     ensures { result ≡ true → BeginsContainer bytes.now at }
@@ -59,7 +68,7 @@ fn begins_container(bytes: &[u8], at: usize) -> bool
     at < bytes.len() && matches!(start_of(bytes[at]), Start::Array | Start::Object)
 }
 
-// What a text answers, each of its texts owned as it is read, by way of this reading.
+// Parses a container with the buffers of this reading. Each text is owned as it is read.
 fn own_text<'s>(reading: &mut Reading<'s>, bytes: &[u8]) -> Result<JsonValue<'s>, JsonError>
     requires container { BeginsContainer bytes.now (past_blanks bytes.now 0) }
     requires empty { HoldsNothing reading.old.stacks }
@@ -71,7 +80,7 @@ fn own_text<'s>(reading: &mut Reading<'s>, bytes: &[u8]) -> Result<JsonValue<'s>
     read_text_as(reading, Owning { alloc }, bytes)
 }
 
-// The same by way of a reading of its own.
+// The same with buffers of its own.
 fn own_once<'s>(alloc: Global, bytes: &[u8], settings: Settings) -> Result<JsonValue<'s>, JsonError>
     requires { BeginsContainer bytes.now (past_blanks bytes.now 0) }
     ensures { Parses owned_tree (MayGrow bytes.now)
@@ -81,7 +90,7 @@ fn own_once<'s>(alloc: Global, bytes: &[u8], settings: Settings) -> Result<JsonV
     own_text(&mut reading, bytes)
 }
 
-// What a text answers whose texts are owned once it is read as a whole: a scalar asks for memory last.
+// A scalar is copied last, so a borrowed one isn't copied if an error follows it.
 fn own_scalar(
     alloc: Global,
     bytes: &[u8],
@@ -95,7 +104,6 @@ fn own_scalar(
     own_answer(alloc, read, bytes.len())
 }
 
-// The value that begins where the reader stands, each of its texts owned as it is read.
 fn own_container<'s>(
     alloc: Global,
     parser: &mut Parser<'_>,
@@ -112,7 +120,7 @@ fn own_container<'s>(
     reading.run(Owning { alloc }, parser)
 }
 
-/// What a text answers, its texts owned, by way of this reading.
+/// Parses a document with the buffers and settings of this reading. The value owns its texts.
 pub(crate) fn read_text_owned(
     reading: &mut Reading<'static>,
     bytes: &[u8],
@@ -129,7 +137,7 @@ pub(crate) fn read_text_owned(
     own_scalar(reading.alloc, bytes, reading.settings)
 }
 
-/// An answer whose value owns its texts; where memory for it is refused, that is told at `index`.
+/// Returns the same result, with the texts of its value owned. If an allocation fails, the error is at `index`.
 pub(crate) fn own_answer(
     alloc: Global,
     answer: Result<JsonValue<'_>, JsonError>,
@@ -141,7 +149,7 @@ pub(crate) fn own_answer(
     move_value(alloc, &mut value).map_err(|refused| error_at(ReadError::Memory(refused), index))
 }
 
-/// The value that begins where the reader stands, each of its texts owned.
+/// Reads the value at the reader's position, each of its texts owned.
 pub fn read_owned(
     alloc: Global,
     parser: &mut Parser<'_>,

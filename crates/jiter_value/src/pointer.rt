@@ -1,4 +1,4 @@
-//! What a JSON Pointer leads to (RFC 6901). No memory is taken.
+//! JSON Pointers into a value (RFC 6901). Nothing is copied or allocated.
 ghost use Rattle.std.specs.Prelude.{◌≡◌, ◌≢◌, ◌↔◌, ◌^◌, ◌<◌, ◌++◌, ℕ, List, None, Some, IsTrue, MatchOption};
 ghost use Rattle.std.specs.Prelude.{option_map};
 ghost use Rattle.std.specs.Fmt.{decimal};
@@ -13,9 +13,19 @@ use crate::access::item_at;
 use crate::value::{JsonArray, JsonObject, JsonValue};
 
 impl<'s> JsonValue<'s> {
-    /// The value that a JSON Pointer leads to (RFC 6901): the empty pointer to this one, `/a/0` to the first item
-    /// of the last member named `a`. In a name `~1` stands for a slash and `~0` for a tilde; an index has no zero
-    /// before another digit. `None` where it leads nowhere, or does not begin with a slash.
+    /// Returns the value that a JSON Pointer leads to (RFC 6901), or `None` if it leads nowhere.
+    ///
+    /// - The empty pointer leads to this value. Any other pointer must begin with a slash.
+    /// - `/a/0` leads to the first item of the last member with the key `a`.
+    /// - In a key, `~1` is a slash and `~0` is a tilde.
+    /// - An index has no leading zero.
+    ///
+    /// # Examples
+    ///
+    /// ```rust
+    /// let value = JsonValue::parse(alloc, br#"{"ports": [80, 443]}"#, false)?;
+    /// assert_eq!(rt; value.pointer("/ports/1").and_then(|port| port.as_i64()), Some(443));
+    /// ```
     pub fn pointer(&self, path: &str) -> Option<&JsonValue<'s>>
         ensures { option_map (λ v. view v.now) result ≡ pointed_by path.now (view self.now) }
     {
@@ -26,7 +36,7 @@ impl<'s> JsonValue<'s> {
     }
 }
 
-// What the tokens lead to, a slash between each two.
+// The path comes without its first slash.
 fn follow<'v, 's>(value: &'v JsonValue<'s>, path: &str) -> Option<&'v JsonValue<'s>>
     ensures { option_map (λ v. view v.now) result
         ≡ pointed (slice_split is_slash path.now) (view value.now) }
@@ -37,7 +47,6 @@ fn follow<'v, 's>(value: &'v JsonValue<'s>, path: &str) -> Option<&'v JsonValue<
     }
 }
 
-// The part that a token names.
 fn part_spelled<'v, 's>(value: &'v JsonValue<'s>, token: &str) -> Option<&'v JsonValue<'s>>
     ensures { option_map (λ v. view v.now) result ≡ part_spelled token.now (view value.now) }
 {
@@ -48,7 +57,6 @@ fn part_spelled<'v, 's>(value: &'v JsonValue<'s>, token: &str) -> Option<&'v Jso
     }
 }
 
-// The item whose index the token spells.
 fn item_spelled<'v, 's>(items: &'v JsonArray<'s>, token: &str) -> Option<&'v JsonValue<'s>>
     ensures { option_map (λ v. view v.now) result ≡ item_spelled token.now 0 (views items.now.items) }
 {
@@ -58,18 +66,17 @@ fn item_spelled<'v, 's>(items: &'v JsonArray<'s>, token: &str) -> Option<&'v Jso
     }
 }
 
-// The index that a token spells in decimal.
 fn index_of(token: &str) -> Option<usize>
     ensures { (n : ℕ) → n < 2 ^ 64 → (result ≡ Some n) ↔ (decimal n ≡ token.now) }
 {
     let bytes = token.as_bytes();
+    // A leading zero, or a sign: `parse` accepts both.
     if bytes.len() > 1 && bytes[0] < b'1' {
         return None;
     }
     token.parse::<usize>().ok()
 }
 
-// The value of the last member whose name the token spells.
 fn last_spelled<'v, 's>(members: &'v JsonObject<'s>, token: &str) -> Option<&'v JsonValue<'s>>
     ensures { option_map (λ v. view v.now) result
         ≡ last_such (λ name. bytes_eq (token_of name) token.now) None
@@ -85,7 +92,7 @@ fn last_spelled<'v, 's>(members: &'v JsonObject<'s>, token: &str) -> Option<&'v 
     found
 }
 
-// Whether the token spells the name.
+// Encodes the name byte by byte. Decoding the token instead would allocate.
 fn spells(token: &[u8], name: &[u8]) -> bool
     ensures { IsTrue result ↔ (token_of name.now ≡ token.now) }
 {
@@ -99,7 +106,6 @@ fn spells(token: &[u8], name: &[u8]) -> bool
     rest.is_empty()
 }
 
-// What stands behind a byte of a name, where the token goes on with it.
 fn behind_byte(token: &[u8], byte: u8) -> Option<&[u8]>
     ensures { MatchOption result ((rest : List ℕ) → token.now ≢ token_byte byte ++ rest)
         (λ rest. token.now ≡ token_byte byte ++ rest.now) }

@@ -1,4 +1,4 @@
-//! A key as its fault prints it: between quotes, with escapes.
+//! A key as its error prints it: between quotes, with escapes.
 ghost use Rattle.std.specs.Prelude.{◌≡◌, ◌++◌, ◌∷◌, [], ◌<◌, MatchOption, OnOk, length, slice_index, slice_range};
 ghost use Rattle.std.specs.Prelude.{string_bytes};
 ghost use Rattle.std.specs.Fmt.{WritesOnOk};
@@ -9,7 +9,6 @@ ghost use Rattle.jiter_value.specs.QuotedKeys.{quoted_from, EndsAtAscii};
 use jiter_scan::memory::{Refused, push_text};
 use std::fmt;
 
-// The escape of a control character.
 fn control_escape(byte: u8) -> &'static str
     requires { byte < 32 }
     ensures { result.now ≡ quoted_byte byte }
@@ -50,7 +49,6 @@ fn control_escape(byte: u8) -> &'static str
     }
 }
 
-// The escape of a byte that has one.
 fn escape_of(byte: u8) -> Option<&'static str>
     ensures { MatchOption result (quoted_byte byte ≡ byte ∷ [])
         (λ text. (text.now ≡ quoted_byte byte) × (byte < 128)) }
@@ -64,7 +62,7 @@ fn escape_of(byte: u8) -> Option<&'static str>
     }
 }
 
-// Where the run of bytes ends that print as they are, the first of which stands at `begin`.
+// The end of the run of bytes from `begin` on that print as they are.
 fn run_end(bytes: &[u8], begin: usize) -> usize
     requires within { begin < length bytes.now }
     requires plain { quoted_byte (slice_index bytes.now begin) ≡ slice_index bytes.now begin ∷ [] }
@@ -81,7 +79,7 @@ fn run_end(bytes: &[u8], begin: usize) -> usize
     bytes.len()
 }
 
-// What a key prints from `at` on first: an escape, or a run of bytes as they are; and the place behind what prints so.
+// What is printed next, an escape or a run of bytes as they are, and the index after its source.
 fn next_piece(key: &str, at: usize) -> (&str, usize)
     requires within { at < length key.now }
     requires boundary { IsCharBoundary key.now at }
@@ -99,7 +97,7 @@ fn next_piece(key: &str, at: usize) -> (&str, usize)
     }
 }
 
-/// Appends a key between quotes.
+/// Appends a key between quotes, with escapes.
 pub fn push_quoted(text: &mut String, key: &str) -> Result<(), Refused>
     ensures { OnOk result (string_bytes text.new ≡ string_bytes text.old ++ quoted key.now) }
 {
@@ -113,7 +111,7 @@ pub fn push_quoted(text: &mut String, key: &str) -> Result<(), Refused>
     push_text(text, "\"")
 }
 
-/// Writes a key between quotes.
+/// Writes a key between quotes, with escapes.
 pub fn write_quoted<W: fmt::Write>(f: &mut fmt::Formatter<W>, key: &str) -> fmt::Result
     ensures { WritesOnOk W.write_str_gives f.old result (quoted key.now) f.new }
 {

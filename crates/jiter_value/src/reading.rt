@@ -1,4 +1,4 @@
-//! The value of a whole text.
+//! Reading a complete document, or the value at a reader's position.
 ghost use Rattle.std.specs.Prelude.{◌≡◌, ◌≤◌, ◌<◌, IfOk, length, false};
 ghost use Rattle.jiter_steps.specs.Blank.{past_blanks};
 ghost use Rattle.jiter_steps.specs.Node.{nesting_limit};
@@ -21,7 +21,8 @@ use jiter_steps::parse::Parser;
 use jiter_steps::read_error::ReadError;
 use std::alloc::Global;
 
-/// The error that a public call answers, where the reader stands at `index`.
+/// Converts an error to the one that a public call returns. A failed allocation is reported at `index`, any other error
+/// at its own index.
 #[cold]
 pub fn error_at(error: ReadError, index: usize) -> JsonError
     ensures { IsErrorOf error index result }
@@ -35,7 +36,7 @@ pub fn error_at(error: ReadError, index: usize) -> JsonError
     }
 }
 
-/// What a text answers whose value, kept so, ends where the reader stands.
+/// Returns the value, which ends at the reader's position. With partial reading off, only whitespace may follow it.
 pub(crate) fn finish_whole<'s, T: Texts<'s>>(
     parser: &mut Parser<'_>,
     settings: Settings,
@@ -57,7 +58,7 @@ pub(crate) fn finish_whole<'s, T: Texts<'s>>(
     Ok(value)
 }
 
-/// The value that begins where the reader stands.
+/// Reads the value at the reader's position.
 pub fn read_value<'j>(
     alloc: Global,
     parser: &mut Parser<'j>,
@@ -76,8 +77,8 @@ pub fn read_value<'j>(
     reading.run(texts, parser)
 }
 
-/// The value of a text, where the reader stands before its first byte, by way of this reading. With
-/// partial reading off nothing but blanks may stand round it.
+/// Reads a document from index 0, with the buffers and settings of this reading. With partial reading off, only
+/// whitespace may follow the value.
 fn read_whole<'s, T: Texts<'s>>(
     reading: &mut Reading<'s>,
     texts: T,
@@ -100,7 +101,7 @@ fn read_whole<'s, T: Texts<'s>>(
     finish_whole::<T>(parser, reading.settings, value)
 }
 
-/// What a text answers, read as the settings say and its texts kept so, by way of this reading.
+/// Parses a document with the buffers and settings of this reading. `texts` decides what becomes of each text.
 pub(crate) fn read_text_as<'s, T: Texts<'s>>(
     reading: &mut Reading<'s>,
     texts: T,
@@ -120,7 +121,7 @@ pub(crate) fn read_text_as<'s, T: Texts<'s>>(
     }
 }
 
-/// What a text answers, read as the settings say, by way of this reading.
+/// Parses a document with the buffers and settings of this reading. Texts without a backslash are borrowed.
 pub(crate) fn read_text<'j>(
     reading: &mut Reading<'j>,
     bytes: &'j [u8],

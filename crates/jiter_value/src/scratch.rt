@@ -1,4 +1,4 @@
-//! Buffers that are kept from document to document.
+//! Buffers that are reused from document to document.
 ghost use Rattle.std.specs.Prelude.{◌≡◌, [], IfOk};
 ghost use Rattle.jiter_value.specs.Owned.{owned_tree, OwnedMayGrow};
 ghost use Rattle.jiter_value.specs.Parses.{Parses, as_read};
@@ -15,11 +15,15 @@ use jiter_scan::{JsonError, PartialMode};
 use std::alloc::Global;
 use std::marker::Model;
 
-/// Buffers for reading one document after another: the elements of all open arrays, the members of all open
-/// objects, and a tape for strings. They are kept between the calls of `parse`, so that documents of one shape
-/// make them grow once, and a further one asks for its value alone. What was read before changes no answer.
+/// Buffers for parsing one document after another, such as the lines of a log.
 ///
-/// ```
+/// They hold the items of all open arrays, the members of all open objects, and the bytes of decoded strings. They keep
+/// their capacity between calls, so documents of the same shape let them grow only once. After that, a parse allocates
+/// only for its value. Documents that were parsed before don't change a result.
+///
+/// # Examples
+///
+/// ```rust
 /// let mut scratch = JsonValueScratch::new(alloc);
 /// for line in log.split(|byte| *byte == b'\n') {
 ///     let value = scratch.parse_owned(line, false, PartialMode::Off)?;
@@ -44,7 +48,9 @@ impl<'j> Model for JsonValueScratch<'j> {
 }
 
 impl<'j> JsonValueScratch<'j> {
-    /// A scratch that has read nothing. It takes no memory.
+    /// Creates a scratch with empty buffers.
+    ///
+    /// Does not allocate.
     pub fn new(alloc: Global) -> JsonValueScratch<'j>
         ensures elements { result.elements ≡ [] }
         ensures members { result.members ≡ [] }
@@ -58,17 +64,19 @@ impl<'j> JsonValueScratch<'j> {
         JsonValueScratch { reading }
     }
 
-    /// What [`JsonValue::parse_with_config`] answers, read with these buffers.
+    /// Parses bytes with these buffers, as [`JsonValue::parse_with_config`] does.
+    ///
+    /// # Errors
+    ///
+    /// Those of [`JsonValue::parse_with_config`]. After any error you can parse the next document.
     pub fn parse(
         &mut self,
         bytes: &'j [u8],
         allow_inf_nan: bool,
         allow_partial: PartialMode,
     ) -> Result<JsonValue<'j>, JsonError>
-        // Both lists are empty behind the call, refused or not.
         ensures elements { self.new.elements ≡ [] }
         ensures members { self.new.members ≡ [] }
-        // What every parse promises.
         ensures parses { Parses as_read (MayGrow bytes.now) allow_inf_nan allow_partial bytes.now
             result }
     {
@@ -82,17 +90,19 @@ impl<'j> JsonValueScratch<'j> {
 }
 
 impl JsonValueScratch<'static> {
-    /// What [`JsonValue::parse_owned`] answers, read with these buffers.
+    /// Parses bytes with these buffers, as [`JsonValue::parse_owned`] does. The value borrows nothing.
+    ///
+    /// # Errors
+    ///
+    /// Those of [`JsonValue::parse_owned`]. After any error you can parse the next document.
     pub fn parse_owned(
         &mut self,
         bytes: &[u8],
         allow_inf_nan: bool,
         allow_partial: PartialMode,
     ) -> Result<JsonValue<'static>, JsonError>
-        // Both lists are empty behind the call, refused or not.
         ensures elements { self.new.elements ≡ [] }
         ensures members { self.new.members ≡ [] }
-        // What every parse promises, each text owned. Memory may be wanted to read the value or to own it.
         ensures parses { Parses owned_tree (OwnedMayGrow allow_inf_nan allow_partial bytes.now)
             allow_inf_nan allow_partial bytes.now result }
     {
@@ -105,7 +115,7 @@ impl JsonValueScratch<'static> {
     }
 }
 
-// The answer as it is. Behind a value the stacks hold nothing; what a refused reading left on them is dropped.
+// Returns the result unchanged. After a value the stacks are empty already; after an error they may hold parts.
 #[inline(always)]
 fn clear_refused<'j, 'v>(
     stacks: &mut Stacks<'j>,
@@ -124,7 +134,7 @@ fn clear_refused<'j, 'v>(
     }
 }
 
-// Drops what the stacks hold; their buffers stay.
+// Empties the stacks, but keeps their capacity.
 #[cold]
 #[inline(never)]
 fn clear<'j>(stacks: &mut Stacks<'j>)

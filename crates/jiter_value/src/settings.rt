@@ -1,4 +1,4 @@
-//! How a document is read, and which faults a partial reading forgives.
+//! How a document is read, and which errors a partial mode forgives.
 ghost use Rattle.std.specs.Prelude.{◌≡◌};
 ghost use Rattle.jiter_scan.specs.Kind.{fault_kind};
 ghost use Rattle.jiter_value.specs.Settings.{forgives};
@@ -9,13 +9,14 @@ use jiter_scan::errors::FaultKind;
 /// How a document is read.
 #[derive(Clone, Copy, Debug)]
 pub struct Settings {
-    /// Whether the names of floats are numbers.
+    /// Whether `NaN`, `Infinity` and `-Infinity` are numbers.
     pub allow_inf_nan: bool,
-    /// Whether a cut document is read, and how.
+    /// Whether a truncated document is accepted, and how it is read.
     pub mode: PartialMode,
 }
 
-/// Whether a fault inside a container ends it, and all else is as if it had been closed there.
+/// Returns whether an error inside a container is forgiven. The rest is then read as if the container had been closed
+/// there.
 pub fn forgives(mode: PartialMode, kind: FaultKind) -> bool
     ensures { result ≡ forgives mode (fault_kind kind) }
 {

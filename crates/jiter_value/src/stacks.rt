@@ -1,4 +1,4 @@
-//! The two stacks that all containers share.
+//! The stacks of items and of members that all open containers share.
 ghost use Rattle.std.specs.Prelude.{◌≡◌, ◌≢◌, ℕ, List, ◌+◌, ◌≤◌, ◌<◌, ◌∷◌, ◌++◌, [], IfOk, IsTrue, OnOk, OnErr, length};
 ghost use Rattle.std.specs.Prelude.{take, drop, false, map, vec_len};
 ghost use Rattle.std.specs.declared.alloc.Global.{Global};
@@ -28,17 +28,17 @@ use std::mem;
 /// Where a value goes once it is read.
 #[derive(Clone, Copy, Debug, Default)]
 pub enum Slot {
-    /// It is the document's.
+    /// It is the document's value.
     #[default]
     Root,
-    /// It is an item of the innermost array.
+    /// It is an item of the innermost container, an array.
     Item,
-    /// It is the last member's of the innermost object.
+    /// It is the value of the last member of the innermost container, an object.
     Member,
 }
 
-/// What is awaited at the reader's place: a value of a slot, a key, or nothing more. No variant has a field, so
-/// that it goes from call to call in a register.
+/// What is expected at the reader's position: a value for a slot, a key, or nothing more. No variant has a field, so a
+/// state is passed in a register.
 #[derive(Clone, Copy, Debug, Default)]
 pub enum State {
     /// The value of the document.
@@ -46,27 +46,27 @@ pub enum State {
     Root,
     /// An item of an array.
     Item,
-    /// The value of a member, whose key is read.
+    /// The value of a member whose key was read.
     Member,
     /// A key of an object.
     Key,
-    /// Nothing: the value is whole.
+    /// Nothing: the value is complete.
     Done,
-    /// Nothing: the reading was given up.
+    /// Nothing: an error stopped the reading.
     GivenUp,
 }
 
-/// An open container: where its value goes, and its base in its stack.
+/// An open container: the slot of its value, and its base in its stack.
 #[derive(Clone, Copy, Debug, Default)]
 pub struct Open {
-    /// Where it goes once it ends.
+    /// Where its value goes once it is closed.
     pub outer: Slot,
-    /// How many items or members lie below its own.
+    /// How many items or members of outer containers are below its own.
     pub base: usize,
 }
 
-/// The items of all open arrays, the members of all open objects, the open containers, and the value once it
-/// is whole. Where an object awaits a value, its last member has the key.
+/// What a reading holds: the parts of all open containers, and the value once it is complete. While a key's value is
+/// expected, the last member holds the key with a placeholder.
 #[derive(Drop)]
 pub struct Stacks<'j> {
     /// The items of all open arrays.
@@ -75,15 +75,16 @@ pub struct Stacks<'j> {
     pub members: Vec<(CowStr<'j>, JsonValue<'j>)>,
     /// The open containers, the innermost last.
     pub nest: SmallVec<Open, 8>,
-    /// The value of the document, once it is whole.
+    /// The value of the document, once it is complete.
     pub root: JsonValue<'j>,
-    /// Why the reading was given up, once it was.
+    /// The error that stopped the reading, once one did.
     pub error: ReadError,
-    /// Whether the stacks serve further documents: then the root's parts are split off too.
+    /// Whether the stacks are reused for further documents. Then the root's parts are split off too, so the stacks keep
+    /// their capacity.
     pub reused: bool,
 }
 
-// The value of the last key.
+// Replaces the placeholder of the last key. An `Int` needs no drop.
 #[inline(always)]
 fn set_last<'j>(members: &mut Vec<(CowStr<'j>, JsonValue<'j>)>, value: JsonValue<'j>)
     requires { 0 < vec_len members.old }
@@ -96,7 +97,7 @@ fn set_last<'j>(members: &mut Vec<(CowStr<'j>, JsonValue<'j>)>, value: JsonValue
     mem::forget(mem::replace(&mut members[last].1, value));
 }
 
-// Takes the parts of a container that ends: the root takes a stack that is not reused itself.
+// Takes the parts of a container that ends. The root takes over the stack itself, unless the stack is reused.
 fn take_parts<T: Drop>(
     alloc: Global,
     parts: &mut Vec<T>,
@@ -114,7 +115,7 @@ fn take_parts<T: Drop>(
     split_off(parts, container.base)
 }
 
-/// Whether a value that is awaited can go where it belongs without a request for memory.
+/// Returns whether the expected value can be put into its slot without an allocation.
 #[inline(always)]
 pub fn has_room<'j>(stacks: &Stacks<'j>, slot: Slot) -> bool
     ensures room { IsTrue result → HasRoom stacks.now slot }
@@ -126,7 +127,7 @@ pub fn has_room<'j>(stacks: &Stacks<'j>, slot: Slot) -> bool
     }
 }
 
-/// The value that was awaited goes where it belongs, where there is room for it.
+/// Puts the expected value into its slot, which has the capacity for it.
 #[inline(always)]
 pub fn put_reserved<'j>(stacks: &mut Stacks<'j>, slot: Slot, value: JsonValue<'j>)
     requires stands { Stands stacks.old slot }
@@ -146,7 +147,7 @@ pub fn put_reserved<'j>(stacks: &mut Stacks<'j>, slot: Slot, value: JsonValue<'j
     }
 }
 
-/// The value that was awaited goes where it belongs.
+/// Puts the expected value into its slot. Only an item may need an allocation.
 #[inline(always)]
 pub fn put<'j>(stacks: &mut Stacks<'j>, slot: Slot, value: JsonValue<'j>) -> Result<(), Refused>
     requires { Stands stacks.old slot }
@@ -166,7 +167,7 @@ pub fn put<'j>(stacks: &mut Stacks<'j>, slot: Slot, value: JsonValue<'j>) -> Res
     Ok(())
 }
 
-/// The object of these members.
+/// Returns the object of these members.
 #[inline(always)]
 pub fn object_of<'j>(members: JsonObject<'j>) -> JsonValue<'j>
     ensures { view result ≡ object (members_of (map member_view members.entry.items)) }
@@ -174,7 +175,7 @@ pub fn object_of<'j>(members: JsonObject<'j>) -> JsonValue<'j>
     JsonValue::Object(members)
 }
 
-/// The innermost container ends and goes where it belongs.
+/// Closes the innermost container, puts it into its slot and returns that slot.
 #[inline(never)]
 pub fn close<'j>(alloc: Global, stacks: &mut Stacks<'j>, shape: Shape) -> Result<Slot, Refused>
     requires { StandsInside shape stacks.old }
@@ -203,7 +204,7 @@ pub fn close<'j>(alloc: Global, stacks: &mut Stacks<'j>, shape: Shape) -> Result
     }
 }
 
-/// The reading is given up for a fault of the bytes, and stops at `at`.
+/// Stops the reading at `at` with an error of the bytes.
 #[cold]
 #[inline(never)]
 pub fn give_up<'j>(stacks: &mut Stacks<'j>, fault: Fault, at: usize) -> (usize, State)
@@ -214,7 +215,7 @@ pub fn give_up<'j>(stacks: &mut Stacks<'j>, fault: Fault, at: usize) -> (usize, 
     (at, State::GivenUp)
 }
 
-/// The reading is given up at `at`, since memory was refused.
+/// Stops the reading at `at` because an allocation failed.
 #[cold]
 #[inline(never)]
 pub fn no_memory<'j>(stacks: &mut Stacks<'j>, refused: Refused, at: usize) -> (usize, State)
@@ -225,7 +226,7 @@ pub fn no_memory<'j>(stacks: &mut Stacks<'j>, refused: Refused, at: usize) -> (u
     (at, State::GivenUp)
 }
 
-/// Too many containers stand one inside another, where a value begins at `at`.
+/// Stops the reading at `at`, where a value begins inside too many containers.
 #[cold]
 #[inline(never)]
 pub fn too_deep<'j>(stacks: &mut Stacks<'j>, at: usize) -> (usize, State)
@@ -240,7 +241,7 @@ pub fn too_deep<'j>(stacks: &mut Stacks<'j>, at: usize) -> (usize, State)
     give_up(stacks, fault, at)
 }
 
-/// Takes out the value of the document.
+/// Moves the value of the document out of the stacks.
 pub fn take_root<'j>(stacks: &mut Stacks<'j>) -> JsonValue<'j>
     ensures value { result ≡ stacks.old.root }
     ensures cleared { HoldsNothing stacks.old → IsCleared stacks.new }
@@ -248,21 +249,21 @@ pub fn take_root<'j>(stacks: &mut Stacks<'j>) -> JsonValue<'j>
     mem::replace(&mut stacks.root, JsonValue::Null)
 }
 
-/// Drops the value of a document that stands beside the stacks, if one does.
+/// Drops the value of the document, if there is one.
 pub fn drop_root<'j>(stacks: &mut Stacks<'j>)
     ensures { stacks.new ≡ without_root stacks.old }
 {
     stacks.root = JsonValue::Null;
 }
 
-/// Takes out why the reading was given up.
+/// Moves the error that stopped the reading out of the stacks.
 pub fn take_error<'j>(stacks: &mut Stacks<'j>) -> ReadError
     ensures { result ≡ stacks.old.error }
 {
     mem::replace(&mut stacks.error, no_error())
 }
 
-// What stands where a reading was not given up.
+// A placeholder: it is replaced when an error stops the reading.
 fn no_error() -> ReadError {
     ReadError::Fault(Fault {
         kind: FaultKind::ExpectedSomeValue,
@@ -271,7 +272,7 @@ fn no_error() -> ReadError {
 }
 
 impl<'j> Stacks<'j> {
-    /// Nothing held, for one document.
+    /// Creates empty stacks, for one document.
     pub fn new(alloc: Global) -> Stacks<'j>
         ensures { IsCleared result }
     {

@@ -1,4 +1,5 @@
-//! What becomes of a text that is read: it is lent where it lies, or owned.
+//! What becomes of each text that is read: it stays borrowed from the input, or the value owns it. A text is a string,
+//! a key or the source of a number.
 ghost use Rattle.std.specs.Prelude.{◌≡◌, ℕ, List, false, true, IfOk, OnErr};
 ghost use Rattle.jiter_steps.specs.StringDecoder.{text_view};
 ghost use Rattle.jiter_value.specs.Owned.{owned_text};
@@ -11,18 +12,18 @@ use jiter_scan::text::utf8_text;
 use std::alloc::Global;
 use std::borrow::CowStr;
 
-/// What becomes of each text that is read.
+/// Decides what becomes of each text that is read.
 pub trait Texts<'s>: Copy {
-    // Whether it is made for these bytes.
+    // It may be used with these bytes.
     ghost of: { Self → List ℕ → Type 0 };
 
-    // What a text becomes, and whether repeated keys are refused.
+    // What a text becomes, and whether duplicate keys are errors.
     ghost made: { Keeping };
 
-    // Holds where memory may be wanted for it.
+    // Keeping a text may allocate.
     ghost wants: { Type 0 };
 
-    /// A text that was read of the bytes, as it is kept; one that is lent stands there from `from` on.
+    /// Returns a text of the bytes as the value keeps it. A borrowed text begins at `from`.
     fn keep(self, bytes: &[u8], from: usize, text: CowStr<'_>) -> Result<CowStr<'s>, Refused>
         requires of { of self bytes.now }
         requires lent { IsLentAt bytes.now from (text_view text) }
@@ -30,14 +31,14 @@ pub trait Texts<'s>: Copy {
         ensures memory { OnErr result wants };
 }
 
-/// A text without a backslash is lent where it lies in the bytes.
+/// Borrows each text without a backslash from the bytes.
 #[derive(Clone, Copy)]
 pub struct Borrowing<'s> {
-    /// The bytes.
+    /// The bytes that are read.
     pub bytes: &'s [u8],
 }
 
-// A text, where it stands from `from` on.
+// Borrows the text once more from its index, for the lifetime of the value. Its UTF-8 isn't tested again.
 #[inline(always)]
 fn lend<'s>(bytes: &'s [u8], from: usize, text: &str) -> &'s str
     requires { LieAt bytes.now from text.now }
@@ -62,10 +63,10 @@ impl<'s> Texts<'s> for Borrowing<'s> {
     }
 }
 
-/// The same, where repeated keys are refused.
+/// Borrows as [`Borrowing`] does, for a parse that rejects duplicate keys.
 #[derive(Clone, Copy)]
 pub struct Distinct<'s> {
-    /// The bytes.
+    /// The bytes that are read.
     pub bytes: &'s [u8],
 }
 
@@ -83,10 +84,10 @@ impl<'s> Texts<'s> for Distinct<'s> {
     }
 }
 
-/// Each text is owned: one that is lent is copied, by one request of its exact length.
+/// Owns each text. A borrowed one is copied, by one allocation of its exact length.
 #[derive(Clone, Copy)]
 pub struct Owning {
-    /// Where memory is asked for.
+    /// The allocator of the copies.
     pub alloc: Global,
 }
 
@@ -103,7 +104,7 @@ impl<'s> Texts<'s> for Owning {
     }
 }
 
-/// A text of the bytes that stands from `from` on, as it is kept.
+/// Returns the borrowed text that begins at `from` as the value keeps it.
 #[inline(always)]
 pub fn keep_lent<'s, T: Texts<'s>>(
     texts: T,
@@ -120,7 +121,7 @@ pub fn keep_lent<'s, T: Texts<'s>>(
     texts.keep(bytes, from, CowStr::Borrowed(text))
 }
 
-/// A text that was decoded, as it is kept: in memory of its own, by one request of its exact length.
+/// Returns a decoded text as the value keeps it: an owned copy, made by one allocation of its exact length.
 #[inline(always)]
 pub fn keep_decoded<'s, T: Texts<'s>>(
     alloc: Global,

@@ -1,5 +1,5 @@
-//! The turns of a reading over the two stacks: one value, opening or key a turn, and the steps behind it. The
-//! place and what is awaited there go from call to call in registers, and so do all answers of the plain way.
+//! The turns of a reading. Each turn reads one scalar, opening bracket or key, and the steps after it. The position,
+//! the state and all results of the fast path are passed in registers.
 ghost use Rattle.std.specs.Prelude.{◌≡◌, ◌⊎◌, ◌+◌, ◌≤◌, ◌<◌, ℕ, List, IfOk, OnOk, length, true, false};
 ghost use Rattle.jiter_steps.specs.Node.{nesting_limit};
 ghost use Rattle.jiter_steps.specs.Parse.{Moves, Gives};
@@ -32,7 +32,7 @@ pub(crate) mod plain;
 pub(crate) mod scalar;
 pub(crate) mod unique;
 
-// What stands where a value begins: a scalar, or a container that begins or is empty.
+// One turn at a value. A scalar takes the fast path if that applies, and otherwise the slow path.
 #[inline(always)]
 fn value_turn<'s, T: Texts<'s>>(
     reading: &mut Reading<'s>,
@@ -63,7 +63,7 @@ fn value_turn<'s, T: Texts<'s>>(
     }
 }
 
-// The key at `at`, with its colon.
+// One turn at a key: the fast path if the stack has capacity and the key is plain, otherwise the slow path.
 #[inline(always)]
 fn key_turn<'s, T: Texts<'s>>(
     reading: &mut Reading<'s>,
@@ -95,7 +95,6 @@ fn key_turn<'s, T: Texts<'s>>(
     general_key(reading, texts, bytes, at)
 }
 
-// Where the value goes that a state awaits.
 #[inline(always)]
 fn slot_of(state: State) -> Slot
     ensures { result ≡ slot_of state }
@@ -107,18 +106,18 @@ fn slot_of(state: State) -> Slot
     }
 }
 
-/// What a reading asks before it reads a key.
+/// Decides before each key whether the reading may go on with it.
 pub trait Keys<'s> {
-    // Whether it serves a reading of these bytes whose texts are kept so.
+    // It serves readings of these bytes with this `Keeping`.
     ghost serves: { Self → Keeping → List ℕ → Type 0 };
 
-    // What it knows of the keys of the members that are held.
+    // It knows these keys of the members on the stack.
     ghost knows: { Self → List (List ℕ) → Type 0 };
 
-    // Why no key may stand at a place.
+    // It doesn't allow the key at this index.
     ghost refuses: { Self → List ℕ → StacksView → ℕ → Type 0 };
 
-    /// Whether the key at `at` may stand there.
+    /// Returns whether the reading may go on with the key at `at`.
     fn may_stand(
         &mut self,
         alloc: Global,
@@ -139,7 +138,7 @@ pub trait Keys<'s> {
         ensures serves { (made : Keeping) → (t : List ℕ) → serves self.old made t → serves self.new made t };
 }
 
-/// Any key may stand anywhere.
+/// Allows every key.
 #[derive(Clone, Copy, Debug)]
 pub struct AnyKey;
 
@@ -163,26 +162,27 @@ impl<'s> Keys<'s> for AnyKey {
     }
 }
 
-/// A reading: how it is read and where it stands, the stacks, and the buffer of decoded strings. The bytes are given to
-/// each call, since a scratch reads bytes of one lifetime after another.
+/// A document that is being read: its settings, state and position, the stacks, and the buffer of decoded strings.
+///
+/// The bytes are passed to each call, because a scratch reads bytes of one lifetime after another.
 #[derive(Drop)]
 pub struct Reading<'s> {
-    /// Where memory is asked for.
+    /// The allocator.
     pub alloc: Global,
     /// How the document is read.
     pub settings: Settings,
-    /// What is awaited at the place.
+    /// What is expected at the position.
     pub state: State,
-    /// The byte index where the reading stands, from 0.
+    /// The position: a byte index, from 0.
     pub at: usize,
     /// The buffer of decoded strings.
     pub tape: Vec<u8>,
-    /// What is held.
+    /// The values and open containers so far.
     pub stacks: Stacks<'s>,
 }
 
 impl<'s> Reading<'s> {
-    /// Before the first byte of one document. It takes no memory.
+    /// Creates a reading at index 0, for one document. Does not allocate.
     pub fn new(alloc: Global, settings: Settings) -> Reading<'s>
         ensures holds { IsCleared result.stacks }
         ensures settings { result.settings ≡ settings }
@@ -199,7 +199,7 @@ impl<'s> Reading<'s> {
         }
     }
 
-    /// Turns in place: one if `once`, else all up to the end. A key that may not stand where it does ends them before it.
+    /// Takes one turn if `once`, otherwise all turns. Stops before a key that `keys` doesn't allow.
     #[inline(never)]
     pub fn go<T: Texts<'s>, K: Keys<'s>>(
         &mut self,
@@ -247,7 +247,7 @@ impl<'s> Reading<'s> {
         state
     }
 
-    /// The value that begins where the reader stands, each of its texts kept so; repeated keys are kept too.
+    /// Reads the value at the reader's position. `texts` decides what becomes of its texts; duplicate keys are kept.
     pub fn run<T: Texts<'s>>(
         &mut self,
         texts: T,

@@ -1,4 +1,4 @@
-//! The value of a whole text in which no object has a key twice.
+//! Parsing a document in which no object repeats a key.
 ghost use Rattle.std.specs.Prelude.{◌≡◌, ◌≤◌, IfOk, MatchResult};
 ghost use Rattle.jiter_steps.specs.Blank.{past_blanks};
 ghost use Rattle.jiter_steps.specs.Node.{Node, value_of};
@@ -23,8 +23,7 @@ use jiter_steps::parse::Parser;
 use jiter_steps::read_error::ReadError;
 use std::alloc::Global;
 
-/// The value of a text, where the reader stands before its first byte, by way of this reading; a key
-/// that its object has already is refused.
+/// Reads a document from index 0, with the buffers and settings of this reading. Stops at a duplicate key.
 pub(crate) fn read_unique<'j>(
     reading: &mut Reading<'j>,
     parser: &mut Parser<'j>,
@@ -53,7 +52,8 @@ pub(crate) fn read_unique<'j>(
     }
 }
 
-/// The error that a parse answers which stopped, where the reader stands at `index`.
+/// Returns the error of a parse that stopped. A failed allocation is reported at `index`, any other error at its own
+/// index.
 #[cold]
 fn unique_error_at(stopped: Stopped, index: usize) -> UniqueError
     ensures { IsUniqueErrorOf stopped index result }
@@ -68,27 +68,41 @@ fn unique_error_at(stopped: Stopped, index: usize) -> UniqueError
 }
 
 impl<'j> JsonValue<'j> {
-    /// What [`JsonValue::parse_with_config`] answers, but a key whose characters, decoded, are those of a key that
-    /// its object has already is refused, in every mode, at the byte behind its colon: before the value and the
-    /// blanks before it are looked at. The key's own faults and a missing colon come first.
+    /// Parses bytes as [`JsonValue::parse_with_config`] does, and rejects a duplicate key in every mode.
     ///
-    /// Behind its thirty-third member the keys of an object go into a set, which takes memory.
+    /// Keys are compared decoded, within one object (RFC 8259, 4). After an object's 33rd member its keys go into a
+    /// set, which allocates.
+    ///
+    /// # Errors
+    ///
+    /// - `DuplicateKey` if an object repeats a key. The index is the byte after the second key's colon. An error in
+    ///   that key, or a missing colon, is reported instead.
+    /// - any error of [`JsonValue::parse_with_config`], including `OutOfMemory`
+    ///
+    /// # Examples
+    ///
+    /// ```rust
+    /// let bytes = br#"{"a": 1, "\u0061": 2}"#;
+    /// if let Err(error) = JsonValue::parse_unique(alloc, bytes, false, PartialMode::Off) {
+    ///     assert_eq!(rt; error.index, 18);
+    /// }
+    /// ```
     pub fn parse_unique(
         alloc: Global,
         bytes: &'j [u8],
         allow_inf_nan: bool,
         allow_partial: PartialMode,
     ) -> Result<JsonValue<'j>, UniqueError>
-        // With partial reading off the value is that of a document whose objects have no key twice.
+        // With partial reading off, a value is returned only for a document without duplicate keys, and is its value.
         ensures found { allow_partial ≡ PartialMode.Off → IfOk result (λ v. (n : Node)
             × IsUniqueDocument allow_inf_nan bytes.now n × (value_of bytes.now n ≡ view v)) }
-        // In every mode such a document is answered with its value, unless memory is refused.
+        // In every mode such a document gives its value, unless an allocation fails.
         ensures accepts { (n : Node) → IsUniqueDocument allow_inf_nan bytes.now n → MatchResult result
             (λ v. view v ≡ value_of bytes.now n) (λ e. IsMemoryRefused e.error_type) }
-        // On any bytes: the reading from the left that refuses a repeated key, in this mode.
+        // On any bytes: what a reading from the left gives in this mode, if a duplicate key is an error.
         ensures answer { AnswersBy (refusing_repeats allow_inf_nan) result
             (unique_answer_in allow_inf_nan allow_partial bytes.now) }
-        // What every parse promises, of such documents, the places of its faults and its memory among it.
+        // What every parse promises, for such documents: also where its errors are and when it may run out of memory.
         ensures parses { ParsesUnique allow_inf_nan allow_partial bytes.now result }
     {
         let settings = Settings {

@@ -1,4 +1,4 @@
-//! Why a parse refuses that refuses repeated keys, and its texts.
+//! The errors of a parse that rejects duplicate keys, and what they print.
 ghost use Rattle.std.specs.Prelude.{◌≡◌, Some, IfOk, OnErr, string_bytes};
 ghost use Rattle.jiter_scan.specs.Kind.{is_memory, kind_text};
 ghost use Rattle.jiter_scan.specs.Position.{at_index, description_text, position_of};
@@ -12,27 +12,32 @@ use std::alloc::{AllocError, Global};
 use std::error::Error;
 use std::fmt;
 
-/// Why [`crate::JsonValue::parse_unique`] refuses bytes.
+/// Why [`crate::JsonValue::parse_unique`] failed.
 #[derive(Debug, PartialEq, Eq, Drop)]
 pub enum UniqueErrorType {
-    /// A fault of the bytes, or want of memory.
+    /// An error of the bytes other than a duplicate key, or `OutOfMemory`.
     JsonError(JsonErrorType),
-    /// A key that its object has already (RFC 8259, 4): its characters, decoded.
+    /// A duplicate key, decoded (RFC 8259, 4).
     DuplicateKey(String),
 }
 
-/// A refusal of [`crate::JsonValue::parse_unique`]: why, and the byte index (from 0) that it stands at, of a
-/// repeated key the one behind its colon.
+/// An error of [`crate::JsonValue::parse_unique`], with its byte index.
+///
+/// For a duplicate key, that is the index after the key's colon.
 #[derive(Debug, PartialEq, Eq, Drop)]
 pub struct UniqueError {
-    /// Why the bytes are refused.
+    /// Why the call failed.
     pub error_type: UniqueErrorType,
     /// The byte index, from 0 and at most the length.
     pub index: usize,
 }
 
 impl UniqueErrorType {
-    /// A copy. It fails only where memory for a key's characters is refused.
+    /// Returns a copy.
+    ///
+    /// # Errors
+    ///
+    /// `AllocError` if an allocation fails, only for a `DuplicateKey`.
     pub fn clone(&self, alloc: Global) -> Result<UniqueErrorType, AllocError>
         ensures value { IfOk result (λ copy. unique_kind copy ≡ unique_kind self.now) }
         ensures memory { OnErr result (IsDuplicateKey self.now) }
@@ -43,7 +48,7 @@ impl UniqueErrorType {
         }
     }
 
-    // What the cause prints.
+    // As `Display` prints it.
     fn describe(&self, alloc: Global) -> Result<String, Refused>
         ensures { IfOk result (λ text. string_bytes text ≡ kind_text (unique_kind self.now)) }
     {
@@ -97,7 +102,11 @@ impl From<JsonError> for UniqueError {
 }
 
 impl UniqueError {
-    /// A copy. It fails only where memory for a key's characters is refused.
+    /// Returns a copy.
+    ///
+    /// # Errors
+    ///
+    /// `AllocError` if an allocation fails, only for a `DuplicateKey`.
     pub fn clone(&self, alloc: Global) -> Result<UniqueError, AllocError>
         ensures kind { IfOk result (λ copy. unique_kind copy.error_type ≡ unique_kind self.now.error_type) }
         ensures index { IfOk result (λ copy. copy.index ≡ self.now.index) }
@@ -110,7 +119,7 @@ impl UniqueError {
         })
     }
 
-    /// Whether memory was refused. If not, it is a fault of the bytes.
+    /// Returns whether the call ran out of memory. If so, the error says nothing about the bytes.
     pub fn is_memory(&self) -> bool
         ensures { result ≡ is_memory (unique_kind self.now.error_type) }
     {
@@ -120,14 +129,20 @@ impl UniqueError {
         )
     }
 
-    /// The line and column of the fault in the bytes that it was found in.
+    /// Returns the line and column of the error. Pass the bytes that were parsed.
+    ///
+    /// Lines and columns count from 1, in bytes; the column of a line feed is 0.
     pub fn get_position(&self, bytes: &[u8]) -> LinePosition
         ensures { result ≡ position_of bytes.now self.now.index }
     {
         LinePosition::find(bytes, self.index)
     }
 
-    /// `KIND at line L column C`. It fails only where memory is refused.
+    /// Returns the error in words: `KIND at line L column C`. Pass the bytes that were parsed.
+    ///
+    /// # Errors
+    ///
+    /// `AllocError` if an allocation fails.
     pub fn description(&self, alloc: Global, bytes: &[u8]) -> Result<String, AllocError>
         ensures { IfOk result (λ text. string_bytes text
             ≡ description_text (unique_kind self.now.error_type) self.now.index bytes.now) }
@@ -135,7 +150,7 @@ impl UniqueError {
         Ok(self.describe(alloc, bytes)?)
     }
 
-    // The description, or the evidence that memory was refused.
+    // Only a failed allocation makes a `Refused`, but anyone can make an `AllocError`.
     fn describe(&self, alloc: Global, bytes: &[u8]) -> Result<String, Refused>
         ensures { IfOk result (λ text. string_bytes text
             ≡ description_text (unique_kind self.now.error_type) self.now.index bytes.now) }

@@ -1,4 +1,4 @@
-//! The tree of a document, and reading it.
+//! The tree of a document (`JsonValue`), and the calls that parse one.
 ghost use Rattle.std.specs.Prelude.{◌≡◌, IfOk, MatchResult, Some, Bool, ℕ, List, true};
 ghost use Rattle.jiter_scan.specs.PartialMode.{is_active};
 ghost use Rattle.jiter_steps.specs.Answer.{answer, answer_in};
@@ -15,15 +15,20 @@ use std::borrow::CowStr;
 /// The items of an array, in source order.
 pub type JsonArray<'s> = Vec<JsonValue<'s>>;
 
-/// The members of an object, in source order; a repeated key stands as often as it was written.
+/// The members of an object, in source order. A duplicate key has a member for each time that it was written.
 pub type JsonObject<'s> = Vec<(CowStr<'s>, JsonValue<'s>)>;
 
-/// A JSON value (RFC 8259, 3). A text is borrowed from the input where its source has no backslash.
+/// A JSON value (RFC 8259, 3).
 ///
-/// It has a `Drop` of its own, so no pattern moves a part out of it: a `match` looks at the value by reference, and
-/// [`JsonValue::into_array`], [`JsonValue::into_object`] and [`JsonValue::into_str`] take it apart.
+/// [`JsonValue::parse`] borrows each string, key and number text from the input, unless its source has a backslash.
+/// [`JsonValue::parse_owned`] returns a value that owns them all.
 ///
-/// ```
+/// The type has its own `Drop`, so a pattern can't move a part out of it: match on a reference. To move the parts out,
+/// call [`JsonValue::into_array`], [`JsonValue::into_object`] or [`JsonValue::into_str`].
+///
+/// # Examples
+///
+/// ```rust
 /// match &JsonValue::parse(alloc, b"[1, 2]", false)? {
 ///     JsonValue::Array(items) => assert_eq!(rt; items.len(), 2),
 ///     _ => {}
@@ -35,11 +40,11 @@ pub enum JsonValue<'s> {
     Null,
     /// `true` or `false`
     Bool(bool),
-    /// An integer that 64 signed bits hold.
+    /// An integer that fits in 64 signed bits.
     Int(i64),
-    /// Any other integer, by its source text.
+    /// Any other integer, as its source text.
     BigInt(CowStr<'s>),
-    /// A number with a point, an exponent or a name, by its source text.
+    /// A number with a decimal point or an exponent, or a non-finite number, as its source text.
     Float(CowStr<'s>),
     /// A string, decoded.
     Str(CowStr<'s>),
@@ -101,61 +106,94 @@ fn drop_members(members: JsonObject<'_>) {
 }
 
 impl<'j> JsonValue<'j> {
-    /// The value of the document that the bytes spell; where they spell none, the kind and byte index of the
-    /// first fault (RFC 8259, 2). With `allow_inf_nan` the names `NaN`, `Infinity` and `-Infinity` are numbers.
+    /// Parses bytes as one JSON document (RFC 8259, 2) and returns its value.
     ///
-    /// A text is borrowed exactly where its source has no backslash. `OutOfMemory` is answered only where
-    /// memory was refused.
+    /// With `allow_inf_nan`, `NaN`, `Infinity` and `-Infinity` are numbers too. A string, key or number text is
+    /// borrowed from the bytes exactly if its source has no backslash.
+    ///
+    /// # Errors
+    ///
+    /// - the first error that a reading from the left meets: any [`JsonErrorType`] except `FloatExpectingInt`. The
+    ///   index of an `Eof` kind is the length.
+    /// - `OutOfMemory`, only for a string with a backslash or a non-empty container. The index is where the parse
+    ///   stopped, at or after the value's first byte.
+    ///
+    /// # Examples
+    ///
+    /// ```rust
+    /// let value = JsonValue::parse(alloc, br#"{"ports": [80, 443]}"#, false)?;
+    /// assert_eq!(rt; value.pointer("/ports/0").and_then(|port| port.as_i64()), Some(80));
+    /// ```
     pub fn parse(
         alloc: Global,
         bytes: &'j [u8],
         allow_inf_nan: bool,
     ) -> Result<JsonValue<'j>, JsonError>
-        // The value is that of a document that the bytes spell, each text with its mark.
+        // A value is returned only for a document, and is that document's. Each text is marked as borrowed or owned.
         ensures found { IfOk result (λ v. (n : Node) × IsDocument allow_inf_nan bytes.now n
             × (value_of bytes.now n ≡ view v)) }
-        // A document is answered with its value, unless memory is refused.
+        // A document gives its value, unless an allocation fails.
         ensures only { (n : Node) → IsDocument allow_inf_nan bytes.now n → MatchResult result
             (λ v. view v ≡ value_of bytes.now n) (λ e. e.error_type ≡ JsonErrorType.OutOfMemory) }
-        // Which fault it is: the first one of a reading from the left.
+        // Which error it is: the first one of a reading from the left.
         ensures first { Answers result (answer allow_inf_nan bytes.now) }
-        // What every parse promises, the places of its faults and its memory among it.
+        // What every parse promises: also where its errors are and when it may run out of memory.
         ensures parses { Parses as_read (MayGrow bytes.now) allow_inf_nan PartialMode.Off bytes.now
             result }
     {
         JsonValue::parse_with_config(alloc, bytes, allow_inf_nan, PartialMode::Off)
     }
 
-    /// What [`JsonValue::parse`] answers, with partial reading as asked. In a partial mode a document that was
-    /// cut is read as far as it goes: each container is closed where a fault of its end or of its commas
-    /// stands, and what follows the value is not looked at. With `TrailingStrings` a cut string is kept.
+    /// Parses bytes as [`JsonValue::parse`] does. In a partial mode it also accepts a truncated document.
+    ///
+    /// In a partial mode:
+    ///
+    /// - A container ends where the input ends, or where a value is followed by neither a comma nor the closing
+    ///   bracket.
+    /// - It leaves out a truncated literal, a key without its value, and a number that isn't one yet (`12.`).
+    /// - With `On` it leaves out a truncated string too. `TrailingStrings` keeps the string's complete characters.
+    /// - Bytes after the value are not read.
+    ///
+    /// # Errors
+    ///
+    /// - any error of [`JsonValue::parse`]; in a partial mode never `ExpectedListCommaOrEnd`,
+    ///   `ExpectedObjectCommaOrEnd` or `TrailingCharacters`, and an `Eof` kind only if no container has begun
+    /// - `OutOfMemory`, as for [`JsonValue::parse`]
+    ///
+    /// # Examples
+    ///
+    /// ```rust
+    /// let bytes = br#"[12, "a b", {"k": tru"#;
+    /// let value = JsonValue::parse_with_config(alloc, bytes, false, PartialMode::On)?;
+    /// assert_eq!(rt; value.pointer("/1").and_then(|item| item.as_str()), Some("a b"));
+    /// ```
     pub fn parse_with_config(
         alloc: Global,
         bytes: &'j [u8],
         allow_inf_nan: bool,
         allow_partial: PartialMode,
     ) -> Result<JsonValue<'j>, JsonError>
-        // With partial reading off the value is that of a document that the bytes spell, each text with its mark.
+        // With partial reading off, a value is returned only for a document, and is that document's.
         ensures found { allow_partial ≡ PartialMode.Off → IfOk result (λ v. (n : Node)
             × IsDocument allow_inf_nan bytes.now n × (value_of bytes.now n ≡ view v)) }
-        // In every mode a document is answered with its value, unless memory is refused.
+        // In every mode a document gives its value, unless an allocation fails.
         ensures accepts { (n : Node) → IsDocument allow_inf_nan bytes.now n → MatchResult result
             (λ v. view v ≡ value_of bytes.now n) (λ e. e.error_type ≡ JsonErrorType.OutOfMemory) }
-        // At most one node is spelled.
+        // At most one node fits the bytes.
         ensures one { (n m : Node) → IsDocument allow_inf_nan bytes.now n
             → IsDocument allow_inf_nan bytes.now m → n ≡ m }
-        // In a partial mode a front of an array or an object, its first bracket in it, is answered with exactly
-        // the document's cut there, unless memory is refused.
+        // In a partial mode, a prefix of an array or object that holds its first bracket gives exactly the document cut
+        // there, unless an allocation fails.
         ensures cut { is_active allow_partial ≡ true → (f : IsBegunContainer allow_inf_nan bytes.now)
             → MatchResult result
             (λ v. cut allow_inf_nan f.text f.node f.place allow_partial ≡ Some (view v))
             (λ e. e.error_type ≡ JsonErrorType.OutOfMemory) }
-        // On any bytes: the reading from the left, in this mode.
+        // On any bytes: what a reading from the left gives in this mode.
         ensures answer { Answers result (answer_in allow_inf_nan allow_partial bytes.now) }
-        // With partial reading off: which fault it is, the first one of that reading.
+        // With partial reading off: which error it is, the first one of that reading.
         ensures first { allow_partial ≡ PartialMode.Off
             → Answers result (answer allow_inf_nan bytes.now) }
-        // What every parse promises, the places of its faults and its memory among it.
+        // What every parse promises: also where its errors are and when it may run out of memory.
         ensures parses { Parses as_read (MayGrow bytes.now) allow_inf_nan allow_partial bytes.now
             result }
     {
@@ -163,7 +201,9 @@ impl<'j> JsonValue<'j> {
     }
 }
 
-/// What the grammar has of documents, for a caller to cite: at most one node is spelled.
+/// Adds to your proof that at most one `Node` fits the bytes of a document.
+///
+/// Does nothing at run time.
 pub fn a_document_has_one_node()
     ensures { (names : Bool) → (t : List ℕ) → (n m : Node) → IsDocument names t n
         → IsDocument names t m → n ≡ m }

@@ -1,11 +1,12 @@
-//! The words behind the program's name.
+//! The program's arguments.
 ghost use Rattle.std.specs.Prelude.{◌≡◌, map, string_bytes};
 ghost use Rattle.look.specs.Words.{asked_of, mode_of, words_of};
 
 use crate::words::Words;
 use jiter::PartialMode;
 
-/// What the words ask for: a mode, perhaps `inf-nan`, and perhaps `unique` as the last. Any other list asks for nothing.
+/// Returns what the arguments ask for: a mode, then perhaps `inf-nan`, then perhaps `unique`. Returns `None` for any
+/// other list.
 pub fn words(list: &[String]) -> Option<Words>
     ensures { result ≡ words_of (map string_bytes list.now) }
 {
@@ -20,7 +21,6 @@ pub fn words(list: &[String]) -> Option<Words>
     }
 }
 
-// What a word that names a mode asks for, with these settings.
 fn asked(mode: &str, inf_nan: bool, unique: bool) -> Option<Words>
     ensures { result ≡ asked_of inf_nan unique mode.now }
 {

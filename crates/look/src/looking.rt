@@ -1,4 +1,4 @@
-//! The whole program, over its words, one reader and two writers.
+//! The complete program, over its arguments, one reader and two writers.
 ghost use Rattle.std.specs.Prelude.{◌≡◌, map, string_bytes};
 ghost use Rattle.look.specs.Looking.{Looks, usage_line};
 ghost use Rattle.look.specs.Words.{words_of};
@@ -11,8 +11,12 @@ use std::io::{Read, Write};
 
 const USAGE: &str = "usage: look off|on|trailing-strings [inf-nan] [unique]\n";
 
-/// Runs as the words ask, or writes the usage line to `err` where they ask for nothing. It returns the exit
-/// status: that of the run, or 2 once the usage line was written, and 3 where it was not.
+/// Runs as the arguments ask, or writes the usage line to `err` if they are wrong. Returns the exit status.
+///
+/// - 0 if the value was written to `out`
+/// - 1 if the description of the error was written to `err`
+/// - 2 if the usage line was written
+/// - 3 if a read, a write or an allocation failed
 pub fn look<R: Read, O: Write, E: Write>(
     alloc: Global,
     list: &[String],

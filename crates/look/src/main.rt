@@ -1,4 +1,4 @@
-//! Reads a document and writes it as one line.
+//! Reads a JSON document from standard input and writes its value as one compact line, or describes its error.
 #![tactic(auto)]
 
 mod asking;
@@ -22,7 +22,7 @@ fn main(rt: HostRuntime) -> ExitCode {
     ExitCode::from(look(rt.alloc(), list.as_slice(), &mut reader, &mut out, &mut err))
 }
 
-// The words behind the program's name.
+// The arguments after the program's name.
 fn words_given(rt: &HostRuntime) -> io::Result<Vec<String>> {
     let mut list = Vec::new(rt.alloc());
     for word in env::args(rt)?.skip(1) {

@@ -1,4 +1,4 @@
-//! A whole run, over one reader and two writers.
+//! A complete run, over one reader and two writers.
 ghost use Rattle.std.specs.Prelude.{◌≡◌, IfOk, IfErr, OnOk, IfSome, false, string_bytes, true};
 ghost use Rattle.std.specs.Option.{option_map};
 ghost use Rattle.std.specs.Io.KnownBytes.{IsAtEnd};
@@ -20,14 +20,14 @@ use std::io::{Read, Write};
 pub enum End {
     /// The value was written.
     Shown,
-    /// The description of the fault was written.
+    /// The description of the error was written.
     Refused,
-    /// A read or a write failed, or memory was refused.
+    /// A read, a write or an allocation failed.
     Failed,
 }
 
 impl End {
-    /// The exit status of the program.
+    /// Returns the exit status of the program.
     pub fn status(&self) -> u8
         ensures { result ≡ status_of self.now }
     {
@@ -39,23 +39,23 @@ impl End {
     }
 }
 
-/// The whole line that a run writes.
+/// The line that a run writes.
 #[derive(Drop)]
 pub enum Line {
     /// The value's compact text and a line feed.
     Value(Vec<u8>),
-    /// The fault's description and a line feed.
+    /// The error's description and a line feed.
     Fault(Vec<u8>),
 }
 
-// Why there is no line: what was answered where a read failed, or where the line was made.
+// Why there is no line: a read failed, or an allocation.
 #[derive(Debug, Drop)]
 enum NoLine {
     Read(io::Error),
     Make(NoMemory),
 }
 
-// Why no line was made: what was answered where memory was refused.
+// The call that ran out of memory, with its error.
 #[derive(Debug, Drop)]
 enum NoMemory {
     Parse(JsonError),
@@ -94,8 +94,12 @@ impl From<Refused> for NoMemory {
     }
 }
 
-/// Reads all, parses it, makes one line whole, and then writes it: a value's compact text to `out`, or a
-/// fault's description to `err`. After a failed read or refused memory nothing is written.
+/// Reads all input, parses it, and writes one line. A value's compact text goes to `out`, an error's description to
+/// `err`.
+///
+/// The line is complete before any of it is written. After a failed read or allocation nothing is written; a failed
+/// write leaves a prefix of the line. With `unique`, a duplicate key is an error. A value's line is a document with
+/// that value, for the same `inf_nan`.
 #[tactic(auto, using(crate::proofs::PrintedAgain::prints_again_if_known))]
 pub fn run<R: Read, O: Write, E: Write>(
     alloc: Global,
@@ -106,13 +110,10 @@ pub fn run<R: Read, O: Write, E: Write>(
     inf_nan: bool,
     unique: bool,
 ) -> End
-    // Over known bytes: the line of these bytes in its own writer, or a front of it, and the other as it was.
     ensures wrote { IfSome (R.remaining reader.old) (λ text. Wrote (line_of inf_nan unique mode text) result
         (O.contents out.old) (O.contents out.new) (E.contents err.old) (E.contents err.new)) }
-    // Where known bytes are left unread nothing was written.
     ensures unread { IsUnread (R.remaining reader.new) → WroteNothing result
         (O.contents out.old) (O.contents out.new) (E.contents err.old) (E.contents err.new) }
-    // In each mode a value's line is again a document of the value that was read, under the same setting.
     ensures again { IfSome (R.remaining reader.old)
         (λ text. PrintsAgain inf_nan (reading_of inf_nan unique mode text)) }
 {
@@ -122,7 +123,6 @@ pub fn run<R: Read, O: Write, E: Write>(
     }
 }
 
-// The line for all that a reader gives.
 fn read_line<R: Read>(
     alloc: Global,
     reader: &mut R,
@@ -140,7 +140,6 @@ fn read_line<R: Read>(
     make_line(alloc, text.as_slice(), mode, inf_nan, unique).map_err(NoLine::Make)
 }
 
-// The line for a text. It fails only where memory is refused.
 fn make_line(
     alloc: Global,
     text: &[u8],
@@ -158,7 +157,7 @@ fn make_line(
     }
 }
 
-// The same where repeated keys are kept.
+// Duplicate keys are kept.
 fn plain_line(
     alloc: Global,
     text: &[u8],
@@ -177,7 +176,7 @@ fn plain_line(
     }
 }
 
-// The same where they are refused.
+// Duplicate keys are errors.
 fn unique_line(
     alloc: Global,
     text: &[u8],
@@ -198,7 +197,6 @@ fn unique_line(
     }
 }
 
-// The line of a value: its compact text.
 fn line_of_value(alloc: Global, value: &JsonValue<'_>) -> Result<Line, NoMemory>
     ensures line { IfOk result (λ line. line_view line ≡ value_line (with_line_feed (print_of (view value.now)))) }
     ensures memory { IfErr result IsOfMemory }
@@ -208,7 +206,6 @@ fn line_of_value(alloc: Global, value: &JsonValue<'_>) -> Result<Line, NoMemory>
     Ok(Line::Value(bytes))
 }
 
-// The line of a fault: its description.
 fn line_of_fault(description: String) -> Result<Line, NoMemory>
     ensures line { IfOk result (λ line. line_view line ≡ fault_line (with_line_feed (string_bytes description))) }
     ensures memory { IfErr result IsOfMemory }
@@ -218,7 +215,8 @@ fn line_of_fault(description: String) -> Result<Line, NoMemory>
     Ok(Line::Fault(bytes))
 }
 
-/// Writes a line to its own writer, if there is one: a value's to `out`, a fault's to `err`.
+/// Writes the line, if there is one: a value's to `out`, an error's to `err`. Returns how the run ended, which is
+/// `Failed` without a line.
 pub fn show<O: Write, E: Write>(line: Option<Line>, out: &mut O, err: &mut E) -> End
     ensures { WroteIfAny (option_map line_view line) result
         (O.contents out.old) (O.contents out.new) (E.contents err.old) (E.contents err.new) }

@@ -1,7 +1,7 @@
-//! The program over a reader and writers that count their calls, some of which fail.
+//! Tests of the program over a reader and writers that count their calls, some of which fail.
 //!
-//! Contracts let a run fail always, read on behind the end of its input, and try again what failed. These tests show
-//! that it does none of it.
+//! The contracts would allow a run that always fails, that reads past the end of its input, or that repeats a failed
+//! call. The tests show that it does none of these.
 use crate::looking::look;
 use counted::{Calls, CountedReader, CountedWriter};
 use std::alloc::{AllocError, Global};
@@ -22,7 +22,7 @@ fn list_of(alloc: Global, given: &[&str]) -> Result<Vec<String>, AllocError> {
     Ok(list)
 }
 
-// The first part, the second so many times, and the third.
+// `first`, then `more` as often as `count` says, then `last`.
 fn repeated(
     alloc: Global,
     first: &[u8],
@@ -38,7 +38,7 @@ fn repeated(
     Ok(bytes)
 }
 
-// Words, an input, and what the program does on them: its status and its line.
+// Arguments, an input, and the status and the line that are expected.
 #[derive(Clone, Copy)]
 struct Row<'a> {
     given: &'a [&'a str],
@@ -47,8 +47,8 @@ struct Row<'a> {
     line: &'a [u8],
 }
 
-// A run on the words of a row over this reader: its status, and the writer of the row's line, whose calls are these.
-// None where the other writer was called.
+// Returns the status of a run, and the writer that should get the row's line. Returns `None` if the other writer was
+// called.
 fn written(
     alloc: Global,
     row: Row<'_>,
@@ -70,8 +70,8 @@ fn written(
     }
 }
 
-// Whether the program does as a row says: it reads its input to the end once, in pieces of so many bytes, or not at all
-// where it writes the usage line, and writes the row's line whole, byte by byte, with one flush behind it.
+// Whether a run gives the row's status and line. It must read its input to the end once, or not at all for the usage
+// line. It must write the line byte by byte, and flush once.
 fn does(alloc: Global, row: Row<'_>, piece: usize) -> bool {
     let mut reader = CountedReader::new(row.text, piece, Calls::working());
     let Some((status, writer)) = written(alloc, row, &mut reader, Calls::working()) else {

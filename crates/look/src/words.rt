@@ -1,13 +1,13 @@
-//! What a run is asked for.
+//! The settings of a run.
 use jiter::PartialMode;
 
-/// What the words behind the program's name ask for.
+/// The settings that the arguments ask for.
 #[derive(Debug, PartialEq, Eq, Drop)]
 pub struct Words {
-    /// Whether a document that ends too early is read as far as it goes.
+    /// How a truncated document is read.
     pub mode: PartialMode,
     /// Whether `NaN`, `Infinity` and `-Infinity` are numbers.
     pub inf_nan: bool,
-    /// Whether a key that its object has already is refused.
+    /// Whether a duplicate key is an error.
     pub unique: bool,
 }

@@ -1,4 +1,4 @@
-//! Each public call of the port, with the types of its arguments and of its answer written out. Nothing here is run: it
+//! Each public call of the port, with the types of its arguments and of its result written out. Nothing here is run: it
 //! compiles as long as the signatures are these.
 #![tactic(auto)]
 
@@ -14,7 +14,7 @@ use jiter::{
 };
 use std::alloc::{AllocError, Global};
 
-/// Every kind of a document's error.
+/// Returns every kind of `JsonErrorType`.
 pub fn kinds() -> [JsonErrorType; 22] {
     [
         JsonErrorType::FloatExpectingInt,
@@ -42,19 +42,19 @@ pub fn kinds() -> [JsonErrorType; 22] {
     ]
 }
 
-/// An error of a document, from its fields, and as a reader's.
+/// Builds a `JsonError` from its fields, and a `JiterError` from that.
 pub fn errors(error_type: JsonErrorType, index: usize) -> JiterError {
     let error: JsonError = JsonError { error_type, index };
     JiterError::from(error)
 }
 
-/// An error of a reader, from its fields.
+/// Builds a `JiterError` from its fields.
 pub fn wrong_type(expected: JsonType, actual: JsonType, index: usize) -> JiterError {
     let error_type: JiterErrorType = JiterErrorType::WrongType { expected, actual };
     JiterError { error_type, index }
 }
 
-/// The types that a reader's error names.
+/// Returns every `JsonType`.
 pub fn types() -> [JsonType; 7] {
     [
         JsonType::Null,
@@ -67,19 +67,19 @@ pub fn types() -> [JsonType; 7] {
     ]
 }
 
-/// What a document's error tells.
+/// Returns the description of a `JsonError`.
 pub fn told(alloc: Global, error: &JsonError, bytes: &[u8]) -> Result<String, AllocError> {
     let _: LinePosition = error.get_position(bytes);
     error.description(alloc, bytes)
 }
 
-/// What a reader's error tells.
+/// Returns the description of a `JiterError`.
 pub fn told_by(alloc: Global, error: &JiterError, jiter: &Jiter<'_>) -> Result<String, AllocError> {
     let _: LinePosition = error.get_position(jiter);
     error.description(alloc, jiter)
 }
 
-/// A place, from its fields, by its constructor and of an index.
+/// Builds a `LinePosition` from its fields, by its constructor and from an index.
 pub fn places(alloc: Global, bytes: &[u8], index: usize) -> Result<String, AllocError> {
     let place: LinePosition = LinePosition { line: 1, column: 0 };
     let other: LinePosition = LinePosition::new(place.line, place.column);
@@ -87,12 +87,12 @@ pub fn places(alloc: Global, bytes: &[u8], index: usize) -> Result<String, Alloc
     LinePosition::find(bytes, index).short(alloc)
 }
 
-/// The two kinds of results.
+/// Uses the two result types.
 pub fn results(read: JsonResult<u8>, stepped: JiterResult<u8>) -> (bool, bool) {
     (read.is_ok(), stepped.is_ok())
 }
 
-/// How far a document that is cut is read.
+/// Uses every `PartialMode` and its methods.
 pub fn modes(partial: bool) -> (PartialMode, bool, bool) {
     let mode: PartialMode = PartialMode::from(partial);
     match mode {
@@ -102,13 +102,13 @@ pub fn modes(partial: bool) -> (PartialMode, bool, bool) {
     }
 }
 
-/// What a byte begins.
+/// Builds a `Peek` from a byte and uses its methods.
 pub fn peeks(byte: u8) -> (Peek, u8, bool) {
     let peek: Peek = Peek::new(byte);
     (peek, peek.into_inner(), peek.is_num())
 }
 
-/// What begins each kind of value.
+/// Returns every named `Peek`.
 pub fn first_bytes() -> [Peek; 9] {
     [
         Peek::Null,
@@ -123,7 +123,7 @@ pub fn first_bytes() -> [Peek; 9] {
     ]
 }
 
-/// The callers that the port brings: a value by the steps of a reader, and two prefixes of a document.
+/// Calls the functions of `jiter::client`; requires a reader without partial strings.
 pub fn clients<'j>(
     alloc: Global,
     jiter: &mut Jiter<'_>,

@@ -1,10 +1,10 @@
-//! Numbers that stand alone, and the kernels.
+//! Numbers on their own, and the kernels.
 ghost use Rattle.std.specs.Prelude.{◌≤◌, length};
 
 use jiter::simd::{digit_count, digit_word, digits_end, scan_string};
 use jiter::{JsonResult, NumberAny, NumberInt};
 
-/// A number.
+/// Reads a number and builds each kind.
 pub fn number<'j>(bytes: &'j [u8]) -> JsonResult<NumberAny<'j>> {
     let number: NumberAny<'j> = NumberAny::from_bytes(bytes, true)?;
     match number {
@@ -14,13 +14,13 @@ pub fn number<'j>(bytes: &'j [u8]) -> JsonResult<NumberAny<'j>> {
     }
 }
 
-/// An integer.
+/// Reads an integer by both calls.
 pub fn integer<'j>(bytes: &'j [u8]) -> JsonResult<NumberInt<'j>> {
     let _: NumberInt<'j> = NumberInt::from_bytes(bytes)?;
     NumberInt::try_from(bytes)
 }
 
-/// Where a string stops, where a run of digits ends, and the digits that a chunk begins with.
+/// Calls the kernels that scan strings and digits.
 pub fn kernels(bytes: &[u8], from: usize, chunk: [u8; 16]) -> ((usize, bool), Option<usize>, u64)
     requires { from ≤ length bytes.now }
 {

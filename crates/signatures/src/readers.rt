@@ -6,7 +6,7 @@ ghost use Rattle.jiter_scan.specs.Ascii as ascii;
 use jiter::{Jiter, JiterResult, JsonValue, LinePosition, NumberAny, NumberInt, Peek};
 use std::alloc::{AllocError, Global};
 
-/// A reader with its settings, a copy of it, and its buffer.
+/// Makes readers with their settings, a copy and a buffer.
 pub fn made<'j>(alloc: Global, bytes: &'j [u8], tape: Vec<u8>) -> Result<Vec<u8>, AllocError> {
     let first: Jiter<'j> = Jiter::new(bytes);
     let second: Jiter<'j> = Jiter::with_tape(bytes, tape);
@@ -15,7 +15,7 @@ pub fn made<'j>(alloc: Global, bytes: &'j [u8], tape: Vec<u8>) -> Result<Vec<u8>
     Ok(second.into_tape(alloc))
 }
 
-/// Where a reader stands.
+/// Returns a reader's position in each form; requires `start` at or before it.
 pub fn places<'j>(jiter: &Jiter<'j>, start: usize) -> (usize, LinePosition, LinePosition, &'j [u8])
     requires { start ≤ jiter.now.position }
 {
@@ -28,33 +28,33 @@ pub fn places<'j>(jiter: &Jiter<'j>, start: usize) -> (usize, LinePosition, Line
     )
 }
 
-/// The literals.
+/// Reads literals.
 pub fn literals(jiter: &mut Jiter<'_>) -> JiterResult<bool> {
     let _: () = jiter.next_null()?;
     jiter.next_bool()
 }
 
-/// The numbers.
+/// Reads numbers.
 pub fn numbers<'j>(jiter: &mut Jiter<'j>) -> JiterResult<(NumberAny<'j>, NumberInt<'j>)> {
     let number: NumberAny<'j> = jiter.next_number()?;
     let integer: NumberInt<'j> = jiter.next_int()?;
     Ok((number, integer))
 }
 
-/// The bytes of a number and of a string.
+/// Reads the bytes of a number and of a string.
 pub fn bytes<'j>(jiter: &mut Jiter<'j>) -> JiterResult<(&'j [u8], &'j [u8])> {
     let number: &'j [u8] = jiter.next_number_bytes()?;
     let text: &'j [u8] = jiter.next_bytes()?;
     Ok((number, text))
 }
 
-/// A string.
+/// Reads a string.
 pub fn text(alloc: Global, jiter: &mut Jiter<'_>) -> JiterResult<usize> {
     let text: &str = jiter.next_str(alloc)?;
     Ok(text.len())
 }
 
-/// Whole values.
+/// Skips a value, and reads two.
 pub fn values<'j>(
     alloc: Global,
     jiter: &mut Jiter<'j>,
@@ -65,26 +65,26 @@ pub fn values<'j>(
     Ok((value, owned))
 }
 
-/// The steps of an array, and the end.
+/// Steps through an array, and finishes.
 pub fn array(jiter: &mut Jiter<'_>) -> JiterResult<()> {
     let _: Option<Peek> = jiter.next_array()?;
     let _: Option<Peek> = jiter.array_step()?;
     jiter.finish()
 }
 
-/// The steps of an object.
+/// Reads the first key of an object.
 pub fn object(alloc: Global, jiter: &mut Jiter<'_>) -> JiterResult<bool> {
     let first: Option<&str> = jiter.next_object(alloc)?;
     Ok(first.is_some())
 }
 
-/// A further key.
+/// Reads the next key.
 pub fn key(alloc: Global, jiter: &mut Jiter<'_>) -> JiterResult<bool> {
     let next: Option<&str> = jiter.next_key(alloc)?;
     Ok(next.is_some())
 }
 
-/// The same by the keys' bytes.
+/// Reads the bytes of the first and the next key.
 pub fn object_bytes<'j>(
     jiter: &mut Jiter<'j>,
 ) -> JiterResult<(Option<&'j [u8]>, Option<&'j [u8]>)> {
@@ -93,7 +93,7 @@ pub fn object_bytes<'j>(
     Ok((first, next))
 }
 
-/// Scalars whose first byte was seen.
+/// Reads scalars after a peek.
 pub fn known_scalars<'j>(jiter: &mut Jiter<'j>) -> JiterResult<(bool, NumberAny<'j>)> {
     let peek: Peek = jiter.peek()?;
     let truth: bool = jiter.known_bool(peek)?;
@@ -102,7 +102,7 @@ pub fn known_scalars<'j>(jiter: &mut Jiter<'j>) -> JiterResult<(bool, NumberAny<
     Ok((truth, number))
 }
 
-/// Integers and the bytes of numbers whose first byte was seen.
+/// Reads an integer and the bytes of a number after a peek.
 pub fn known_numbers<'j>(jiter: &mut Jiter<'j>) -> JiterResult<(NumberInt<'j>, &'j [u8])> {
     let peek: Peek = jiter.peek()?;
     let integer: NumberInt<'j> = jiter.known_int(peek)?;
@@ -111,7 +111,7 @@ pub fn known_numbers<'j>(jiter: &mut Jiter<'j>) -> JiterResult<(NumberInt<'j>, &
     Ok((integer, bytes))
 }
 
-/// Values whose first byte was seen.
+/// Reads values after a peek.
 pub fn known_values<'j>(
     alloc: Global,
     jiter: &mut Jiter<'j>,
@@ -123,20 +123,20 @@ pub fn known_values<'j>(
     Ok((value, owned))
 }
 
-/// A value that is passed whose first byte was seen.
+/// Skips a value after a peek.
 pub fn known_skip(jiter: &mut Jiter<'_>) -> JiterResult<()> {
     let peek: Peek = jiter.peek()?;
     jiter.known_skip(peek)
 }
 
-/// `null`, where its first byte stands.
+/// Reads `null`; requires `n` as the next byte.
 pub fn known_null(jiter: &mut Jiter<'_>) -> JiterResult<()>
     requires { StandsAt jiter.old ascii.small_n }
 {
     jiter.known_null()
 }
 
-/// A string, where its quote stands.
+/// Reads a string; requires a quote as the next byte.
 pub fn known_text(alloc: Global, jiter: &mut Jiter<'_>) -> JiterResult<usize>
     requires { StandsAt jiter.old ascii.quote }
 {
@@ -144,21 +144,21 @@ pub fn known_text(alloc: Global, jiter: &mut Jiter<'_>) -> JiterResult<usize>
     Ok(text.len())
 }
 
-/// The bytes of a string, where its quote stands.
+/// Reads the bytes of a string; requires a quote as the next byte.
 pub fn known_bytes<'j>(jiter: &mut Jiter<'j>) -> JiterResult<&'j [u8]>
     requires { StandsAt jiter.old ascii.quote }
 {
     jiter.known_bytes()
 }
 
-/// An array, where its bracket stands.
+/// Begins an array; requires `[` as the next byte.
 pub fn known_array(jiter: &mut Jiter<'_>) -> JiterResult<Option<Peek>>
     requires { StandsAt jiter.old ascii.left_bracket }
 {
     jiter.known_array()
 }
 
-/// An object, where its bracket stands.
+/// Begins an object; requires `{` as the next byte.
 pub fn known_object(alloc: Global, jiter: &mut Jiter<'_>) -> JiterResult<bool>
     requires { StandsAt jiter.old ascii.left_brace }
 {

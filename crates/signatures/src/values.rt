@@ -1,4 +1,4 @@
-//! Values and how they are read.
+//! Values, and the calls that read them.
 use jiter::{
     JsonArray, JsonError, JsonObject, JsonValue, JsonValueScratch, Machine, PartialMode, Turn,
     UniqueError,
@@ -6,7 +6,7 @@ use jiter::{
 use std::alloc::{AllocError, Global};
 use std::borrow::CowStr;
 
-/// A value of each kind, made by hand.
+/// Builds a value of each kind.
 pub fn kinds<'s>(
     text: &'s str,
     items: JsonArray<'s>,
@@ -26,42 +26,42 @@ pub fn kinds<'s>(
     ]
 }
 
-/// The readings of a whole document.
+/// Parses a document into a value that borrows from it.
 pub fn parse<'j>(alloc: Global, bytes: &'j [u8]) -> Result<JsonValue<'j>, JsonError> {
     let _: JsonValue<'j> = JsonValue::parse(alloc, bytes, true)?;
     JsonValue::parse_with_config(alloc, bytes, false, PartialMode::On)
 }
 
-/// The reading of a document whose texts are owned.
+/// Parses a document into an owned value.
 pub fn parse_owned(alloc: Global, bytes: &[u8]) -> Result<JsonValue<'static>, JsonError> {
     JsonValue::parse_owned(alloc, bytes, false, PartialMode::TrailingStrings)
 }
 
-/// The reading that refuses repeated keys.
+/// Parses a document whose keys must be unique.
 pub fn parse_unique<'j>(alloc: Global, bytes: &'j [u8]) -> Result<JsonValue<'j>, UniqueError> {
     JsonValue::parse_unique(alloc, bytes, false, PartialMode::Off)
 }
 
-/// The copies of a value.
+/// Copies a value by each call.
 pub fn copies<'s>(alloc: Global, value: JsonValue<'s>) -> Result<JsonValue<'static>, AllocError> {
     let _: JsonValue<'s> = value.clone(alloc)?;
     let _: JsonValue<'static> = value.to_static(alloc)?;
     value.into_static(alloc)
 }
 
-/// One document after another.
+/// Parses a document with a scratch.
 pub fn scratch<'j>(alloc: Global, bytes: &'j [u8]) -> Result<JsonValue<'j>, JsonError> {
     let mut scratch: JsonValueScratch<'j> = JsonValueScratch::new(alloc);
     scratch.parse(bytes, false, PartialMode::Off)
 }
 
-/// The same, owned.
+/// Parses a document with a scratch into an owned value.
 pub fn scratch_owned(alloc: Global, bytes: &[u8]) -> Result<JsonValue<'static>, JsonError> {
     let mut scratch: JsonValueScratch<'static> = JsonValueScratch::new(alloc);
     scratch.parse_owned(bytes, false, PartialMode::Off)
 }
 
-/// A turn of a machine.
+/// Makes a machine and takes one turn.
 pub fn turn<'j>(alloc: Global, bytes: &'j [u8]) -> Option<Result<JsonValue<'j>, JsonError>> {
     let machine: Machine<'j> = Machine::new(alloc, bytes, false, PartialMode::Off);
     let turn: Turn<'j> = machine.turn();

@@ -1,16 +1,16 @@
-//! Tables of tests as text: what the programs of rows share. Such a program reads one row a line,
+//! What the programs share that run tables of tests. Such a program reads one row a line:
 //!
 //!     CALL MODE INPUT
 //!
-//! and writes each row again, then ` => ` and what the call answers. A line that is empty or begins with `#` is copied.
+//! It writes the row again, then ` => ` and what the call returns. A line that is empty or begins with `#` is copied.
 #![tactic(auto)]
 
 use std::alloc::{AllocError, Global};
 
-/// How a row asks for a document that is cut.
+/// How a row asks for a truncated document to be read.
 #[derive(Clone, Copy)]
 pub enum Partial {
-    /// The word `off`, or `-` where the call takes no mode.
+    /// The word `off`, or `-` if the call takes no mode.
     Off,
     /// The word `on`.
     On,
@@ -23,16 +23,16 @@ pub enum Partial {
 pub struct Row<'t> {
     /// The word that names the call.
     pub call: &'t str,
-    /// The mode's first part.
+    /// The mode without `+nan`.
     pub partial: Partial,
-    /// Whether `+nan` ends the mode: `NaN` and `Infinity` are numbers.
+    /// Whether the mode ends with `+nan`: `NaN`, `Infinity` and `-Infinity` are numbers.
     pub allow_inf_nan: bool,
-    /// The rest of the line as it stands: [`bytes_of`] turns it into bytes.
+    /// The rest of the line; [`bytes_of`] turns it into bytes.
     pub input: &'t str,
 }
 
-/// Splits a line into call, mode and input. Returns `None` for an empty line, one that begins with `#`, and one whose
-/// mode is not known.
+/// Splits a line into call, mode and input. Returns `None` for an empty line, one that begins with `#`, and one without
+/// a known mode.
 pub fn row_of(line: &str) -> Option<Row<'_>> {
     if line.is_empty() || line.starts_with('#') {
         return None;
@@ -57,8 +57,8 @@ pub fn row_of(line: &str) -> Option<Row<'_>> {
     })
 }
 
-/// Returns the bytes that an input stands for: `%0A` is the byte with these two hex digits, `%(300:[)` the text between
-/// `:` and `)` 300 times. Any other byte, and a `%` that begins neither form, stands for itself.
+/// Returns the bytes that an input spells. `%0A` is the byte with these two hex digits, and `%(300:[)` is 300 times the
+/// text between `:` and `)`. Any other byte is itself, and so is a `%` that begins neither form.
 pub fn bytes_of(alloc: Global, input: &str) -> Result<Vec<u8>, AllocError> {
     let mut bytes = Vec::new(alloc);
     for (index, part) in input.split("%(").enumerate() {
@@ -71,7 +71,7 @@ pub fn bytes_of(alloc: Global, input: &str) -> Result<Vec<u8>, AllocError> {
     Ok(bytes)
 }
 
-/// Returns the bytes of an input without its first `|`, and the index that this marks: 0 where there is none.
+/// Returns the bytes of an input without its first `|`, and the index that it marked; 0 without a mark.
 pub fn marked_bytes_of(alloc: Global, input: &str) -> Result<(Vec<u8>, usize), AllocError> {
     let Some((before, after)) = input.split_once('|') else {
         return Ok((bytes_of(alloc, input)?, 0));
@@ -82,7 +82,7 @@ pub fn marked_bytes_of(alloc: Global, input: &str) -> Result<(Vec<u8>, usize), A
     Ok((bytes, at))
 }
 
-// Appends what stands after `%(`.
+// `part` is what follows a `%(`.
 fn append_repeated(bytes: &mut Vec<u8>, part: &str) -> Result<(), AllocError> {
     let Some((count, text, after)) = repeated(part) else {
         bytes.extend_from_slice(b"%(")?;
@@ -95,14 +95,14 @@ fn append_repeated(bytes: &mut Vec<u8>, part: &str) -> Result<(), AllocError> {
     append(bytes, after)
 }
 
-// The count, the text that is repeated, and what follows: of `300:[)1`, 300, `[` and `1`.
+// Returns the count, the repeated text, and what follows: 300, `[` and `1` for `300:[)1`.
 fn repeated(part: &str) -> Option<(usize, &str, &str)> {
     let (count, rest) = part.split_once(':')?;
     let (text, after) = rest.split_once(')')?;
     Some((count.parse().ok()?, text, after))
 }
 
-// Appends a text in which `%` and two hex digits stand for a byte.
+// `%` and two hex digits are one byte.
 fn append(bytes: &mut Vec<u8>, text: &str) -> Result<(), AllocError> {
     for (index, part) in text.split('%').enumerate() {
         match spelled_byte(part) {
@@ -121,7 +121,7 @@ fn append(bytes: &mut Vec<u8>, text: &str) -> Result<(), AllocError> {
     Ok(())
 }
 
-// The byte of two hex digits, and what follows them.
+// Returns the byte of two hex digits, and what follows them.
 fn spelled_byte(part: &str) -> Option<(u8, &str)> {
     let (digits, after) = part.split_at_checked(2)?;
     Some((u8::from_str_radix(digits, 16).ok()?, after))

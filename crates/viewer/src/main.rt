@@ -1,4 +1,4 @@
-//! Shows a document while it arrives on standard input: a line for each read that changed its value.
+//! Shows a JSON document while it is read from standard input: a line after each read that changed the value so far.
 #![tactic(auto)]
 
 mod program;
@@ -19,7 +19,7 @@ fn main(rt: HostRuntime) -> ExitCode {
     ExitCode::from(viewer(rt.alloc(), list.as_slice(), &mut reader, &mut out, &mut err))
 }
 
-// The words behind the program's name.
+// The arguments after the program's name.
 fn words_given(rt: &HostRuntime) -> io::Result<Vec<String>> {
     Ok(env::args(rt)?.skip(1).collect(rt.alloc())?)
 }

@@ -1,4 +1,4 @@
-//! The whole program, over its words, one reader and two writers.
+//! The complete program, over its arguments, one reader and two writers.
 ghost use Rattle.std.specs.Prelude.{◌≡◌, map, string_bytes};
 ghost use Rattle.viewer.specs.Program.{Views};
 ghost use Rattle.viewer.specs.Words.{words_of};
@@ -11,8 +11,12 @@ use std::io::{Read, Write};
 
 const USAGE: &str = "usage: viewer on|trailing-strings [inf-nan]\n";
 
-/// Runs as the words ask, or writes the usage line to `err` where they ask for nothing. It returns the exit status:
-/// 0 of a document, 1 of a text that is none, 2 once the usage line was written, and 3 where a call failed.
+/// Runs as the arguments ask, or writes the usage line to `err` if they are wrong. Returns the exit status.
+///
+/// - 0 if the input is a document
+/// - 1 if it isn't; the error was written to `err`
+/// - 2 if the usage line was written
+/// - 3 if a read, a write or an allocation failed
 pub fn viewer<R: Read, O: Write, E: Write>(
     alloc: Global,
     list: &[String],

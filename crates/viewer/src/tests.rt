@@ -1,6 +1,7 @@
-//! The program over readers that give so many bytes a call, and over calls that fail.
+//! Tests of the program over readers that return a few bytes a call, and over calls that fail.
 //!
-//! Contracts let a run fail always, and read in pieces of any length. These tests show that it shows each read.
+//! The contracts would allow a run that always fails, or reads chunks of any length. These tests show that the program
+//! writes the value after each read.
 use crate::program::viewer;
 use std::alloc::{AllocError, Global};
 use std::io;
@@ -18,7 +19,7 @@ fn list_of(alloc: Global, given: &[&str]) -> Result<Vec<String>, AllocError> {
     Ok(list)
 }
 
-// Gives so many bytes a call at most; one call fails.
+// A reader that returns at most `most` bytes a call; one call may fail.
 #[derive(Drop)]
 struct Pieces<'a> {
     rest: &'a [u8],
@@ -54,7 +55,7 @@ impl<'a> Read for Pieces<'a> {
     }
 }
 
-// Takes one byte a call, so many in all.
+// A writer that takes one byte a call, and fails once it has `room` bytes.
 #[derive(Drop)]
 struct Narrow {
     got: Vec<u8>,
@@ -87,7 +88,7 @@ impl Write for Narrow {
     }
 }
 
-// What a run is to write, and its status.
+// The status of a run, and what it writes.
 #[derive(Clone, Copy)]
 struct Wanted<'a> {
     status: u8,
@@ -95,7 +96,7 @@ struct Wanted<'a> {
     err: &'a str,
 }
 
-// Whether the program on these words, over this reader and writers with so much room, does as it is wanted to.
+// Whether the program does what is expected, with writers that take at most `rooms` bytes.
 fn does_within(
     alloc: Global,
     given: &[&str],
@@ -114,7 +115,7 @@ fn does_within(
         && err.got.as_slice() == wanted.err.as_bytes()
 }
 
-// The same over an input in pieces of so many bytes, and writers with room for all.
+// The same with chunks of `most` bytes and unlimited writers. The input must be read to its end.
 fn does(alloc: Global, given: &[&str], text: &[u8], most: usize, wanted: Wanted<'_>) -> bool {
     let mut reader = Pieces::new(text, most);
     does_within(alloc, given, &mut reader, (usize::MAX, usize::MAX), wanted)

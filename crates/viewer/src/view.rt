@@ -1,4 +1,4 @@
-//! A whole run, over one reader and two writers.
+//! A complete run, over one reader and two writers.
 ghost use Rattle.std.specs.Prelude.{◌≡◌, [], List, ℕ, true, IfOk, IfSome, OnErr, OnOk};
 ghost use Rattle.std.specs.Io.KnownBytes.{Appends};
 ghost use Rattle.jiter.specs.Caller.{answer_in, is_active, IsBegunContainer};
@@ -15,9 +15,17 @@ use std::alloc::{AllocError, Global};
 use std::io;
 use std::io::{ErrorKind, Read, Write};
 
-/// Reads to the end. After each read it writes to `out` the compact text of what has arrived, where that has a
-/// value and its line is not the last one; at the end, to `err`, the fault of a text that is no document. It returns
-/// whether the text is one.
+/// Reads the input to its end, and shows the value so far after each read.
+///
+/// If there is a value and its line differs from the last one, its compact text is written to `out`. Returns whether
+/// the input is a document. If it isn't, the error is written to `err` with its line and column.
+///
+/// # Errors
+///
+/// - the error of a failed read or write; an interrupted read or write is repeated
+/// - `OutOfMemory` if an allocation fails
+///
+/// After an error, a prefix of this output is written.
 pub fn run<R: Read, O: Write, E: Write>(
     alloc: Global,
     words: Words,
@@ -25,12 +33,9 @@ pub fn run<R: Read, O: Write, E: Write>(
     out: &mut O,
     err: &mut E,
 ) -> io::Result<bool>
-    // Over known bytes: the lines of these bytes, as they came in some pieces, or a front of them.
     ensures wrote { IfSome (R.remaining reader.old) (λ t. Ran words t result
         (O.contents out.old) (O.contents out.new) (E.contents err.old) (E.contents err.new)) }
-    // The answer tells whether they are a document.
     ensures document { IfSome (R.remaining reader.old) (λ t. EndsAs words.inf_nan t result) }
-    // Of an array or object whose first bracket has arrived, the line is that of the finished document's cut there.
     ensures cut { is_active words.mode ≡ true → (front : List ℕ)
         → (f : IsBegunContainer words.inf_nan front)
         → IsLineOfCut words f (value_line (answer_in words.inf_nan words.mode front)) }
@@ -41,7 +46,7 @@ pub fn run<R: Read, O: Write, E: Write>(
     finish(alloc, document, &lines, err)
 }
 
-// Reads to the end, and shows what has arrived after each read.
+// The number of reads is bounded, so that the loop provably ends.
 fn follow<R: Read, O: Write>(
     alloc: Global,
     document: &mut Arriving,
@@ -49,7 +54,6 @@ fn follow<R: Read, O: Write>(
     reader: &mut R,
     out: &mut O,
 ) -> io::Result<()>
-    // Where nothing had arrived before: all that is read arrives, and is shown.
     ensures all { (words : Words) → HasArrived words document.old lines.old []
         → OnOk result (IfSome (R.remaining reader.old) (λ t. HasArrived words document.new lines.new t)) }
     ensures shown { (words : Words) → HasArrived words document.old lines.old []
@@ -76,7 +80,7 @@ fn follow<R: Read, O: Write>(
     Err(io::Error::from(ErrorKind::Other))
 }
 
-// Writes the line of what has arrived, unless it is the last line, and gives the line that is the last one then.
+// Returns the line that was written last.
 fn show<O: Write>(
     alloc: Global,
     document: &Arriving,
@@ -103,7 +107,7 @@ fn show<O: Write>(
     Ok(line)
 }
 
-// Writes the fault of a whole text, if it is no document, and tells whether it is one.
+// The line and column come from `lines`: the bytes aren't kept.
 fn finish<E: Write>(
     alloc: Global,
     document: Arriving,

@@ -1,19 +1,19 @@
-//! The words behind the program's name.
+//! The program's arguments.
 ghost use Rattle.std.specs.Prelude.{◌≡◌, map, option_map, string_bytes};
 ghost use Rattle.viewer.specs.Words.{mode_of, with_names, words_of};
 
 use jiter::PartialMode;
 
-/// What the words ask for.
+/// The settings that the arguments ask for.
 #[derive(Debug, Clone, Copy, PartialEq, Eq)]
 pub struct Words {
-    /// How a document that has not come to its end is read; never `Off`.
+    /// How a truncated document is read; never `Off`.
     pub mode: PartialMode,
     /// Whether `NaN`, `Infinity` and `-Infinity` are numbers.
     pub inf_nan: bool,
 }
 
-/// What a list of words asks for: a partial mode, and perhaps `inf-nan`. Any other list asks for nothing.
+/// Returns what the arguments ask for: a partial mode, then perhaps `inf-nan`. Returns `None` for any other list.
 pub fn read_words(list: &[String]) -> Option<Words>
     ensures { result ≡ words_of (map string_bytes list.now) }
 {

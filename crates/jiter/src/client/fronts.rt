@@ -1,4 +1,4 @@
-//! Two fronts of one document, as a viewer reads it while it arrives.
+//! Two prefixes of one document, parsed in one call.
 ghost use Rattle.std.specs.Prelude.{◌≡◌, ◌≤◌, ◌⊎◌, IfOk, IfErr, length, take, true};
 ghost use Rattle.jiter_scan.specs.PartialMode.{is_active};
 ghost use Rattle.jiter_steps.specs.Cut.{IsBegunContainer};
@@ -12,13 +12,31 @@ use jiter_scan::{JsonError, JsonErrorType, PartialMode};
 use jiter_value::JsonValue;
 use std::alloc::Global;
 
-/// Reads the first `shorter` bytes and then the first `longer` bytes, each as [`JsonValue::parse_with_config`] does
-/// (RFC 8259, 2), and gives both values, or the first fault: the shorter front's, and else the longer's, with its byte
-/// index. It asks `shorter <= longer <= bytes.len()`. `OutOfMemory` is answered only where memory was refused.
+/// Parses the first `shorter` bytes and then the first `longer` bytes, and returns both values (RFC 8259, 2).
 ///
-/// In a partial mode, while an array or an object arrives, what the shorter front gave stays and grows: but for its
-/// last text and its last open containers all of it stands in the second value as it was. For that the shorter front
-/// has to hold the first bracket, and to end within no number.
+/// Each prefix is parsed as by [`JsonValue::parse_with_config`].
+///
+/// In a partial mode, the second value extends the first if the bytes begin an array or object. Everything except the
+/// last string and the containers that are still open stays the same. This holds if the shorter prefix has the first
+/// bracket and does not end inside a number.
+///
+/// # Errors
+///
+/// - the error of the shorter prefix, or else that of the longer one, as `parse_with_config` returns it
+/// - `OutOfMemory`, only if the value of a prefix is a non-empty container or a string with a backslash
+///
+/// # Requires
+///
+/// `shorter <= longer` and `longer <= bytes.len()`. `rt try` does not test it.
+///
+/// # Examples
+///
+/// ```rust
+/// let mode = PartialMode::TrailingStrings;
+/// let (first, second) = two_prefixes(alloc, br#"[1,"ab"]"#, 5, 6, false, mode)?;
+/// assert_eq!(rt; first.at(1).and_then(|item| item.as_str()), Some("a"));
+/// assert_eq!(rt; second.at(1).and_then(|item| item.as_str()), Some("ab"));
+/// ```
 pub fn two_prefixes<'j>(
     alloc: Global,
     bytes: &'j [u8],
@@ -29,15 +47,11 @@ pub fn two_prefixes<'j>(
 ) -> Result<(JsonValue<'j>, JsonValue<'j>), JsonError>
     requires ordered { shorter ≤ longer }
     requires within { longer ≤ length bytes.now }
-    // Each front is read as by `parse_with_config`, the longer one only where the shorter gave a value.
     ensures answers { OneThenOther (ParsesFront allow_inf_nan mode bytes.now shorter)
         (ParsesFront allow_inf_nan mode bytes.now longer) result }
-    // In a partial mode, where the longer front is one of an array or an object (of `bytes`, say) that `shorter`
-    // cuts cleanly: the second value extends the first.
     ensures grows { is_active mode ≡ true
         → (f : IsBegunContainer allow_inf_nan (take longer bytes.now)) → IsCleanCut f.node shorter
         → IfOk result (λ p. Extends (view p.0) (view p.1)) }
-    // Memory is wanted only where one of the fronts may want it.
     ensures memory { IfErr result (λ e. e.error_type ≡ JsonErrorType.OutOfMemory
         → MayGrow (take shorter bytes.now) ⊎ MayGrow (take longer bytes.now)) }
     ensures index { IfErr result (λ e. e.index ≤ longer) }
@@ -47,8 +61,11 @@ pub fn two_prefixes<'j>(
     Ok((first, second))
 }
 
-/// The law of growth, for a caller to cite that reads its fronts by calls of its own: in a partial mode the value of a
-/// longer front extends that of a shorter one, be their texts lent or owned.
+/// Adds the law of growth to your proof, and does nothing at run time.
+///
+/// Call it if you parse two prefixes by calls of your own. In a partial mode, the value of a longer prefix of an array
+/// or object extends that of a shorter one. It does so with borrowed and with owned strings. This holds if the shorter
+/// prefix has the first bracket and does not end inside a number.
 pub fn a_longer_front_extends_a_shorter()
     ensures lent { FrontsGrow as_read }
     ensures owned { FrontsGrow owned_tree }

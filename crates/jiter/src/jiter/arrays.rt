@@ -14,7 +14,6 @@ use jiter_scan::errors::Fault;
 use jiter_steps::parse::{Shape, Start};
 
 impl<'j> Jiter<'j> {
-    // Where a step led: an item's first byte, or None behind the closer.
     fn item(&self, led: Result<bool, Fault>) -> JiterResult<Option<Peek>>
         requires within { self.now.position ≤ length self.now.text }
         requires inside { IfOk led (λ more. more ≡ true → self.now.position < length self.now.text) }
@@ -31,7 +30,6 @@ impl<'j> Jiter<'j> {
         }
     }
 
-    // The first item of an array, at a value that begins so.
     fn read_array(&mut self, start: Start) -> JiterResult<Option<Peek>>
         requires { BeginsAs self.old start }
         ensures moves { MovesOn self.old self.new }
@@ -49,7 +47,7 @@ impl<'j> Jiter<'j> {
         }
     }
 
-    // The same of what comes next, whatever it is.
+    // The slow path, out of line.
     #[cold]
     #[inline(never)]
     fn outlined_array(&mut self) -> JiterResult<Option<Peek>>
@@ -63,7 +61,7 @@ impl<'j> Jiter<'j> {
         self.read_array(start)
     }
 
-    // The same, with room for what it returns made here alone.
+    // A function of its own: otherwise the fast path would reserve stack space for the result of this call.
     #[inline(always)]
     fn general_array(&mut self) -> JiterResult<Option<Peek>>
         ensures moves { MovesOn self.old self.new }
@@ -75,11 +73,30 @@ impl<'j> Jiter<'j> {
         self.outlined_array()
     }
 
-    /// Steps into an array: moves over blanks and its bracket, and tells the first byte of its first item, which is
-    /// not consumed; None where the array is empty, and then its closing bracket is consumed (RFC 8259, 5).
+    /// Steps into the next array and returns the first byte of its first item, or `None` if it is empty (RFC 8259, 5).
     ///
-    /// A value of another type is `WrongType` at its first byte, where the reader stays. The input's end behind the
-    /// bracket is `EofWhileParsingList`, at the length, where the reader then stands.
+    /// The first byte of an item is not consumed, and it may be any byte except `]`. The closing bracket of an empty
+    /// array is consumed.
+    ///
+    /// # Errors
+    ///
+    /// - `WrongType` if the next value has another type; a number with an error of its own is reported as that error
+    /// - `ExpectedSomeValue` if the next byte begins no value
+    /// - `EofWhileParsingValue` if only whitespace is left
+    /// - `EofWhileParsingList` if the input ends after the opening bracket
+    ///
+    /// After `EofWhileParsingList` the reader is at the end, otherwise at the value's first byte (or at the end, if
+    /// only whitespace is left).
+    ///
+    /// # Examples
+    ///
+    /// ```rust
+    /// let mut item = jiter.next_array()?;
+    /// while let Some(peek) = item {
+    ///     jiter.known_skip(peek)?;
+    ///     item = jiter.array_step()?;
+    /// }
+    /// ```
     #[inline(always)]
     pub fn next_array(&mut self) -> JiterResult<Option<Peek>>
         ensures moves { MovesOn self.old self.new }
@@ -94,8 +111,15 @@ impl<'j> Jiter<'j> {
         }
     }
 
-    /// [`Jiter::next_array`] where the caller knows that the bracket `[` stands where the reader does, as a peek told:
-    /// it asks for that.
+    /// Steps into the array that you peeked, as [`Jiter::next_array`] does.
+    ///
+    /// # Errors
+    ///
+    /// - `EofWhileParsingList` if the input ends after the opening bracket; the reader is then at the end
+    ///
+    /// # Requires
+    ///
+    /// The byte at the reader's position is `[`, as after a peek of [`Peek::Array`]. `rt try` does not test it.
     pub fn known_array(&mut self) -> JiterResult<Option<Peek>>
         requires { StandsAt self.old ascii.left_bracket }
         ensures moves { MovesOn self.old self.new }
@@ -107,7 +131,7 @@ impl<'j> Jiter<'j> {
         self.next_array()
     }
 
-    // The step behind an item, whatever it leads to.
+    // The slow path, out of line.
     #[cold]
     #[inline(never)]
     fn outlined_step(&mut self) -> JiterResult<Option<Peek>>
@@ -120,7 +144,7 @@ impl<'j> Jiter<'j> {
         self.item(led)
     }
 
-    // The same, with room for what it returns made here alone.
+    // A function of its own: otherwise the fast path would reserve stack space for the result of this call.
     #[inline(always)]
     fn general_step(&mut self) -> JiterResult<Option<Peek>>
         ensures moves { MovesOn self.old self.new }
@@ -131,12 +155,20 @@ impl<'j> Jiter<'j> {
         self.outlined_step()
     }
 
-    /// Behind an item: passes a comma, and tells the first byte of the next item, which is not consumed; None where
-    /// the array ends, and then its closing bracket is consumed (RFC 8259, 5).
+    /// Moves past the comma after an item and returns the first byte of the next item, or `None` at the array's end
+    /// (RFC 8259, 5).
     ///
-    /// Another byte is `ExpectedListCommaOrEnd` at it, a closing bracket behind the comma `TrailingComma`; the input's
-    /// end is `EofWhileParsingList`, behind the comma `EofWhileParsingValue`. The reader then stands where the fault
-    /// does.
+    /// The first byte of an item is not consumed, and it may be any byte except `]`. The closing bracket of the array
+    /// is consumed.
+    ///
+    /// # Errors
+    ///
+    /// - `ExpectedListCommaOrEnd` if the next byte is neither a comma nor `]`
+    /// - `TrailingComma` if `]` follows the comma
+    /// - `EofWhileParsingList` if the input ends before a comma or `]`
+    /// - `EofWhileParsingValue` if the input ends after the comma
+    ///
+    /// The reader is then at the error. Don't call it again: in `[1,]` a second call would take the `]` for the end.
     #[inline(always)]
     pub fn array_step(&mut self) -> JiterResult<Option<Peek>>
         ensures moves { MovesOn self.old self.new }

@@ -23,7 +23,6 @@ use std::alloc::Global;
 use std::borrow::CowStr;
 
 impl<'j> Jiter<'j> {
-    // Behind a key: its colon.
     fn colon(&mut self) -> JiterResult<()>
         ensures moves { MovesOn self.old self.new }
         ensures value { (key : Text) → Replies (λ _. Some key) result self.new
@@ -34,7 +33,6 @@ impl<'j> Jiter<'j> {
         self.parser.colon().map_err(refusal)
     }
 
-    // The key where the reader stands, with its colon.
     fn key(&mut self, alloc: Global) -> JiterResult<Option<CowStr<'j>>>
         requires { self.old.position < length self.old.text }
         ensures moves { MovesOn self.old self.new }
@@ -52,7 +50,6 @@ impl<'j> Jiter<'j> {
         Ok(Some(text))
     }
 
-    // Where a step led: the key there, with its colon, or None behind the closer.
     fn key_there(
         &mut self,
         alloc: Global,
@@ -78,7 +75,6 @@ impl<'j> Jiter<'j> {
         }
     }
 
-    // The first key of an object, at a value that begins so.
     fn first_key(&mut self, alloc: Global, start: Start) -> JiterResult<Option<CowStr<'j>>>
         requires { BeginsAs self.old start }
         ensures moves { MovesOn self.old self.new }
@@ -100,7 +96,6 @@ impl<'j> Jiter<'j> {
         }
     }
 
-    // The first key of the object that comes next.
     #[inline(never)]
     fn take_first_key(&mut self, alloc: Global) -> JiterResult<Option<CowStr<'j>>>
         ensures moves { MovesOn self.old self.new }
@@ -118,7 +113,6 @@ impl<'j> Jiter<'j> {
         self.first_key(alloc, start)
     }
 
-    // Behind a member: the next key.
     #[inline(never)]
     fn take_key(&mut self, alloc: Global) -> JiterResult<Option<CowStr<'j>>>
         ensures moves { MovesOn self.old self.new }
@@ -134,7 +128,6 @@ impl<'j> Jiter<'j> {
         self.key_there(alloc, led)
     }
 
-    // The raw key where the reader stands, with its colon.
     fn key_bytes(&mut self) -> JiterResult<Option<&'j [u8]>>
         requires { self.old.position < length self.old.text }
         ensures moves { MovesOn self.old self.new }
@@ -148,7 +141,6 @@ impl<'j> Jiter<'j> {
         Ok(Some(content))
     }
 
-    // Where a step led: the raw key there, with its colon, or None behind the closer.
     fn key_bytes_there(&mut self, led: Result<bool, Fault>) -> JiterResult<Option<&'j [u8]>>
         requires within { self.old.position ≤ length self.old.text }
         requires inside { IfOk led (λ more. more ≡ true → self.old.position < length self.old.text) }
@@ -166,7 +158,6 @@ impl<'j> Jiter<'j> {
         }
     }
 
-    // The first raw key of an object, at a value that begins so.
     fn first_key_bytes(&mut self, start: Start) -> JiterResult<Option<&'j [u8]>>
         requires { BeginsAs self.old start }
         ensures moves { MovesOn self.old self.new }
@@ -184,12 +175,16 @@ impl<'j> Jiter<'j> {
         }
     }
 
-    /// Steps into an object: moves over blanks and its bracket, and gives the bytes of its first key, as they stand
-    /// between its quotes, with its colon consumed; None where the object is empty, and then its closing bracket is
-    /// consumed (RFC 8259, 4). Escapes are checked and not decoded, UTF-8 is not checked, and no memory is taken.
+    /// Steps into the next object and returns the bytes of its first key, or `None` if it is empty (RFC 8259, 4).
     ///
-    /// A value of another type is `WrongType` at its first byte, where the reader stays. The faults of the key and its
-    /// colon are those of [`Jiter::next_object`].
+    /// The bytes are those between the quotes, borrowed from the document. Escapes are checked and not decoded, UTF-8
+    /// is not checked, and nothing is allocated. The key's colon is consumed, and so is the closing brace of an empty
+    /// object.
+    ///
+    /// # Errors
+    ///
+    /// - the errors of [`Jiter::next_object`], except `InvalidUnicodeCodePoint` and `OutOfMemory`; they leave the
+    ///   reader at the same position
     pub fn next_object_bytes(&mut self) -> JiterResult<Option<&'j [u8]>>
         ensures moves { MovesOn self.old self.new }
         ensures value { Replies (option_map raw_view) result self.new
@@ -201,9 +196,17 @@ impl<'j> Jiter<'j> {
         self.first_key_bytes(start)
     }
 
-    /// Behind a member: passes a comma, and gives the bytes of the next key, as they stand between its quotes, with
-    /// its colon consumed; None where the object ends, and then its closing bracket is consumed. No memory is taken.
-    /// The faults are those of [`Jiter::next_key`].
+    /// Moves past the comma after a member and returns the bytes of the next key, or `None` at the object's end
+    /// (RFC 8259, 4).
+    ///
+    /// The bytes are those between the quotes, borrowed from the document. Escapes are checked and not decoded, UTF-8
+    /// is not checked, and nothing is allocated. The key's colon is consumed, and so is the closing brace of the
+    /// object.
+    ///
+    /// # Errors
+    ///
+    /// - the errors of [`Jiter::next_key`], except `InvalidUnicodeCodePoint` and `OutOfMemory`; they leave the reader
+    ///   at the same position
     pub fn next_key_bytes(&mut self) -> JiterResult<Option<&'j [u8]>>
         ensures moves { MovesOn self.old self.new }
         ensures value { Replies (option_map raw_view) result self.new (key_step raw self.old) }
@@ -214,7 +217,6 @@ impl<'j> Jiter<'j> {
         self.key_bytes_there(led)
     }
 
-    // The first key of the object that comes next, whatever it is.
     #[inline(always)]
     fn general_object(&mut self, alloc: Global) -> JiterResult<Option<&str>>
         ensures key { IfOk result (λ key. (e : ℕ)
@@ -241,15 +243,26 @@ impl<'j> Jiter<'j> {
         }
     }
 
-    /// Steps into an object: moves over blanks and its bracket, and lends its first key, decoded, with its colon
-    /// consumed; None where the object is empty, and then its closing bracket is consumed (RFC 8259, 4). The key lies
-    /// in the reader's bytes where its source has no backslash.
+    /// Steps into the next object and returns its first key, decoded, or `None` if it is empty (RFC 8259, 4).
     ///
-    /// A value of another type is `WrongType` at its first byte, where the reader stays. A byte that begins no key is
-    /// `KeyMustBeAString`, one behind the key that is no colon `ExpectedColon`, and the input's end before either
-    /// `EofWhileParsingObject`; the reader then stands where the fault does. A fault of the key is that of its string,
-    /// and leaves the reader at its quote. So does want of memory for a key with a backslash: the bracket is passed by
-    /// then, and a caller who would try again clones the reader before the call.
+    /// The key is borrowed from the reader: use it before the reader's next call, or call [`Jiter::next_object_bytes`].
+    /// The key's colon is consumed, and so is the closing brace of an empty object.
+    ///
+    /// # Errors
+    ///
+    /// - `WrongType` if the next value has another type; a number with an error of its own is reported as that error
+    /// - `ExpectedSomeValue` if the next byte begins no value
+    /// - `EofWhileParsingValue` if only whitespace is left
+    /// - `KeyMustBeAString` if neither `"` nor `}` follows the opening brace
+    /// - `EofWhileParsingObject` if the input ends before the key, or before its colon
+    /// - `ExpectedColon` if the key isn't followed by a colon
+    /// - any error of the key's string, as in [`Jiter::next_str`]; an unterminated key is an error with every setting
+    /// - `OutOfMemory`, only for a key with a backslash
+    ///
+    /// After the first three the reader is at the value's first byte (or at the end). After an error of the key's
+    /// string, or `OutOfMemory`, it is at the key's opening quote. Otherwise it is at the error.
+    ///
+    /// The opening brace is consumed when memory runs out. To be able to try again, clone the reader before the call.
     pub fn next_object(&mut self, alloc: Global) -> JiterResult<Option<&str>>
         ensures key { IfOk result (λ key. (e : ℕ)
             × (reply_seen key_bytes (next self.old (object_read whole self.old))
@@ -271,8 +284,17 @@ impl<'j> Jiter<'j> {
         self.general_object(alloc)
     }
 
-    /// [`Jiter::next_object`] where the caller knows that the bracket `{` stands where the reader does, as a peek
-    /// told: it asks for that.
+    /// Steps into the object that you peeked, as [`Jiter::next_object`] does.
+    ///
+    /// The key is borrowed from the reader: use it before the reader's next call.
+    ///
+    /// # Errors
+    ///
+    /// - the errors of [`Jiter::next_object`] after the opening brace; they leave the reader at the same position
+    ///
+    /// # Requires
+    ///
+    /// The byte at the reader's position is `{`, as after a peek of [`Peek::Object`]. `rt try` does not test it.
     pub fn known_object(&mut self, alloc: Global) -> JiterResult<Option<&str>>
         requires { StandsAt self.old ascii.left_brace }
         ensures key { IfOk result (λ key. (e : ℕ)
@@ -297,7 +319,6 @@ impl<'j> Jiter<'j> {
         }
     }
 
-    // Behind a member: the next key, whatever it is.
     #[inline(always)]
     fn general_key(&mut self, alloc: Global) -> JiterResult<Option<&str>>
         ensures key { IfOk result (λ key. (e : ℕ)
@@ -322,13 +343,27 @@ impl<'j> Jiter<'j> {
         }
     }
 
-    /// Behind a member: passes a comma, and lends the next key, decoded, with its colon consumed; None where the
-    /// object ends, and then its closing bracket is consumed. The key lies in the reader's bytes where its source has
-    /// no backslash.
+    /// Moves past the comma after a member and returns the next key, decoded, or `None` at the object's end
+    /// (RFC 8259, 4).
     ///
-    /// Another byte is `ExpectedObjectCommaOrEnd` at it, a closing bracket behind the comma `TrailingComma`; the
-    /// input's end is `EofWhileParsingObject`, behind the comma `EofWhileParsingValue`; the reader then stands where
-    /// the fault does. A key and its colon are refused as by [`Jiter::next_object`], want of memory among that.
+    /// The key is borrowed from the reader: use it before the reader's next call, or call [`Jiter::next_key_bytes`].
+    /// The key's colon is consumed, and so is the closing brace of the object.
+    ///
+    /// # Errors
+    ///
+    /// - `ExpectedObjectCommaOrEnd` if the next byte is neither a comma nor `}`
+    /// - `TrailingComma` if `}` follows the comma
+    /// - `KeyMustBeAString` if another byte than `"` follows the comma
+    /// - `EofWhileParsingObject` if the input ends before a comma or `}`, or before the key's colon
+    /// - `EofWhileParsingValue` if the input ends after the comma
+    /// - `ExpectedColon` if the key isn't followed by a colon
+    /// - any error of the key's string, as in [`Jiter::next_str`]; an unterminated key is an error with every setting
+    /// - `OutOfMemory`, only for a key with a backslash
+    ///
+    /// After an error of the key's string, or `OutOfMemory`, the reader is at the key's opening quote. Otherwise it is
+    /// at the error.
+    ///
+    /// The comma is consumed when memory runs out. To be able to try again, clone the reader before the call.
     pub fn next_key(&mut self, alloc: Global) -> JiterResult<Option<&str>>
         ensures key { IfOk result (λ key. (e : ℕ)
             × (reply_seen key_bytes (key_step whole self.old)

@@ -1,4 +1,4 @@
-//! The pull reader's whole values that own their texts.
+//! The pull reader's calls for complete values that own their strings.
 ghost use Rattle.std.specs.Prelude.{◌≡◌, ◌<◌, ◌≤◌, ◌⊎◌, length};
 ghost use Rattle.jiter_steps.specs.Answer.{read_at};
 ghost use Rattle.jiter_value.specs.Owned.{owned_tree, ReadHolds};
@@ -17,7 +17,6 @@ use jiter_value::settings::Settings;
 use std::alloc::Global;
 
 impl<'j> Jiter<'j> {
-    // The value where the reader stands, each of its texts owned.
     fn owned_value(&mut self, alloc: Global) -> JiterResult<JsonValue<'static>>
         requires { self.old.position < length self.old.text }
         ensures moves { MovesOn self.old self.new }
@@ -38,8 +37,16 @@ impl<'j> Jiter<'j> {
         ))
     }
 
-    /// What [`Jiter::next_value`] reads, each text owned, so that the value outlives the bytes. It is refused as that
-    /// is, or for want of memory, and the reader stands then where the reading stopped.
+    /// Parses the next value as [`Jiter::next_value`] does, with strings and number texts of its own.
+    ///
+    /// The value borrows nothing, so you can keep it after the bytes are gone.
+    ///
+    /// # Errors
+    ///
+    /// - the errors of [`Jiter::next_value`], except `OutOfMemory`; they leave the reader at the same position
+    /// - `OutOfMemory`, only for a string, a `BigInt`, a `Float` or a non-empty container
+    ///
+    /// After `OutOfMemory` the reader is at the error's index, at or after the value's first byte.
     pub fn next_value_owned(&mut self, alloc: Global) -> JiterResult<JsonValue<'static>>
         ensures moves { MovesOn self.old self.new }
         ensures value { UnlessMemory result (Replies view result self.new
@@ -54,8 +61,15 @@ impl<'j> Jiter<'j> {
         self.owned_value(alloc)
     }
 
-    /// [`Jiter::next_value_owned`] where the caller has peeked: it asks that the byte of `peek` stands where the
-    /// reader does.
+    /// Parses the value that you peeked, as [`Jiter::next_value_owned`] does.
+    ///
+    /// # Errors
+    ///
+    /// - the errors of [`Jiter::next_value_owned`]; they leave the reader at the same position
+    ///
+    /// # Requires
+    ///
+    /// The byte of `peek` is at the reader's position, as after the call that returned it. `rt try` does not test it.
     pub fn known_value_owned(
         &mut self,
         alloc: Global,

@@ -1,5 +1,6 @@
-//! The plain way of the pull reader: what comes next where one look tells it, with answers that stay in registers. Of
-//! what is not plain nothing is read, and the reader stays where it stands.
+//! The fast path of the pull reader: what one look at the next bytes shows, with results in registers. Where it does
+//! not apply, it returns nothing and the reader stays where it is. In an `Option<Option<T>>` the outer `None` says so;
+//! the inner one is the end of the container.
 ghost use Rattle.std.specs.Prelude.{◌≡◌, ◌+◌, ◌<◌, ◌≤◌, Bool, IfErr, IfOk, IfSome, None, Some, false, true};
 ghost use Rattle.std.specs.Prelude.{length, option_map, slice_get, slice_index};
 ghost use Rattle.jiter_scan.specs.Ascii as ascii;
@@ -25,8 +26,7 @@ use jiter_scan::simd::scan_string;
 use jiter_steps::parse::Literal;
 use jiter_steps::plain::{Next, ascii_between, peek, plain_literal_end, text_between};
 
-// The first byte from a place on that is no blank, if there is one, with its place; where it stands there already, with
-// one look.
+// If there is no whitespace at `from`, one comparison finds the byte.
 #[inline(always)]
 pub(super) fn look(bytes: &[u8], from: usize) -> (usize, Option<u8>)
     requires { from ≤ length bytes.now }
@@ -44,7 +44,8 @@ pub(super) fn look(bytes: &[u8], from: usize) -> (usize, Option<u8>)
     peek(bytes, from)
 }
 
-// Behind an array's bracket: its first item, or its end.
+// This function and the next five return an index and a `Next`. The index of a `Part` is that of the item or key, and
+// the index of an `End` is after the closing bracket. The index of `Stuck` is that of the error.
 #[inline(always)]
 fn first_item(bytes: &[u8], from: usize) -> (usize, Next)
     requires { from ≤ length bytes.now }
@@ -65,7 +66,6 @@ fn first_item(bytes: &[u8], from: usize) -> (usize, Next)
     }
 }
 
-// Behind an object's bracket: its first key, or its end.
 #[inline(always)]
 fn first_member(bytes: &[u8], from: usize) -> (usize, Next)
     requires { from ≤ length bytes.now }
@@ -88,7 +88,6 @@ fn first_member(bytes: &[u8], from: usize) -> (usize, Next)
     }
 }
 
-// Behind a comma of an array: another item.
 #[inline(always)]
 fn item_behind_comma(bytes: &[u8], from: usize) -> (usize, Next)
     requires { from ≤ length bytes.now }
@@ -109,7 +108,6 @@ fn item_behind_comma(bytes: &[u8], from: usize) -> (usize, Next)
     }
 }
 
-// Behind a comma of an object: another key.
 #[inline(always)]
 fn member_behind_comma(bytes: &[u8], from: usize) -> (usize, Next)
     requires { from ≤ length bytes.now }
@@ -130,7 +128,6 @@ fn member_behind_comma(bytes: &[u8], from: usize) -> (usize, Next)
     }
 }
 
-// Behind an item: another one, or the array's end.
 #[inline(always)]
 pub(super) fn next_item(bytes: &[u8], from: usize) -> (usize, Next)
     requires { from ≤ length bytes.now }
@@ -156,7 +153,6 @@ pub(super) fn next_item(bytes: &[u8], from: usize) -> (usize, Next)
     }
 }
 
-// Behind a member: another key, or the object's end.
 #[inline(always)]
 fn next_member(bytes: &[u8], from: usize) -> (usize, Next)
     requires { from ≤ length bytes.now }
@@ -182,8 +178,7 @@ fn next_member(bytes: &[u8], from: usize) -> (usize, Next)
     }
 }
 
-// The text of the string at a place, if it has no backslash and is UTF-8; and whether it has one before all else that
-// is no plain byte.
+// The flag is true if a backslash is the first byte of the string that is not plain.
 #[inline(always)]
 fn text_look<'j>(bytes: &'j [u8], at: usize) -> (Option<&'j str>, bool)
     requires { at < length bytes.now }
@@ -206,7 +201,6 @@ fn text_look<'j>(bytes: &'j [u8], at: usize) -> (Option<&'j str>, bool)
     }
 }
 
-// The text alone.
 #[inline(always)]
 fn plain_text<'j>(bytes: &'j [u8], at: usize) -> Option<&'j str>
     requires { at < length bytes.now }
@@ -218,7 +212,6 @@ fn plain_text<'j>(bytes: &'j [u8], at: usize) -> Option<&'j str>
 }
 
 impl<'j> Jiter<'j> {
-    // The literal at a place, if it stands there, to whose end the reader moves.
     #[inline(always)]
     fn plain_literal_at(&mut self, at: usize, literal: Literal) -> bool
         requires within { (self.old.position ≤ at) × (at < length self.old.text) }
@@ -235,7 +228,6 @@ impl<'j> Jiter<'j> {
         }
     }
 
-    // Whether `null` comes next, to whose end the reader moves.
     #[inline(always)]
     pub(super) fn plain_null(&mut self) -> bool
         ensures moves { MovesOn self.old self.new }
@@ -248,7 +240,6 @@ impl<'j> Jiter<'j> {
         }
     }
 
-    // The truth value that comes next, if one does, to whose end the reader moves.
     #[inline(always)]
     pub(super) fn plain_bool(&mut self) -> Option<bool>
         ensures moves { MovesOn self.old self.new }
@@ -263,7 +254,6 @@ impl<'j> Jiter<'j> {
         }
     }
 
-    // The bytes of the number at a place, if it is short, to whose end the reader moves.
     #[inline(always)]
     pub(super) fn plain_number_bytes_at(&mut self, at: usize) -> Option<&'j [u8]>
         requires within { (self.old.position ≤ at) × (at < length self.old.text) }
@@ -279,7 +269,6 @@ impl<'j> Jiter<'j> {
         Some(&self.parser.bytes[at..end])
     }
 
-    // The bytes of the number that comes next, if it is short.
     #[inline(always)]
     pub(super) fn plain_number_bytes(&mut self) -> Option<&'j [u8]>
         ensures moves { MovesOn self.old self.new }
@@ -294,8 +283,7 @@ impl<'j> Jiter<'j> {
         }
     }
 
-    // The text of the string at a place, if it is plain, to whose end the reader moves; else whether it has a
-    // backslash.
+    // `Err(true)`: a backslash is the first byte of the string that is not plain.
     #[inline(always)]
     fn plain_text_at(&mut self, at: usize) -> Result<&'j str, bool>
         requires within { (self.old.position ≤ at) × (at < length self.old.text) }
@@ -314,8 +302,8 @@ impl<'j> Jiter<'j> {
         }
     }
 
-    // The text that comes next, if it is plain; else the place of the string with a backslash that comes next, if
-    // one does.
+    // `Err(Some(at))` is a string with a backslash whose opening quote is at `at`: decoding need not look for it again.
+    // `Err(None)` is all else.
     #[inline(always)]
     pub(super) fn plain_str(&mut self) -> Result<&'j str, Option<usize>>
         ensures moves { MovesOn self.old self.new }
@@ -336,7 +324,6 @@ impl<'j> Jiter<'j> {
         }
     }
 
-    // Where a step of an array led to: an item's first byte, or None behind the closer.
     #[inline(always)]
     pub(super) fn plain_item(&mut self, at: usize, what: Next) -> Option<Option<Peek>>
         requires within { (self.old.position ≤ at) × (at ≤ length self.old.text) }
@@ -360,7 +347,6 @@ impl<'j> Jiter<'j> {
         }
     }
 
-    // The first item of the array whose bracket is at a place.
     #[inline(always)]
     pub(super) fn plain_first_item(&mut self, at: usize) -> Option<Option<Peek>>
         requires within { (self.old.position ≤ at) × (at < length self.old.text) }
@@ -374,7 +360,6 @@ impl<'j> Jiter<'j> {
         self.plain_item(next, what)
     }
 
-    // The first item of the array that comes next.
     #[inline(always)]
     pub(super) fn plain_array(&mut self) -> Option<Option<Peek>>
         ensures moves { MovesOn self.old self.new }
@@ -389,7 +374,6 @@ impl<'j> Jiter<'j> {
         }
     }
 
-    // The key at a place with its colon, if both are plain, to behind which the reader moves.
     #[inline(always)]
     fn plain_key_at(&mut self, at: usize) -> Option<&'j str>
         requires within { (self.old.position ≤ at) × (at < length self.old.text) }
@@ -409,7 +393,6 @@ impl<'j> Jiter<'j> {
         }
     }
 
-    // Where a step of an object led to: the key there with its colon, or None behind the closer.
     #[inline(always)]
     pub(super) fn plain_member(&mut self, at: usize, what: Next) -> Option<Option<&'j str>>
         requires within { (self.old.position ≤ at) × (at ≤ length self.old.text) }
@@ -435,7 +418,6 @@ impl<'j> Jiter<'j> {
         }
     }
 
-    // The first key of the object whose bracket is at a place.
     #[inline(always)]
     pub(super) fn plain_first_key(&mut self, at: usize) -> Option<Option<&'j str>>
         requires within { (self.old.position ≤ at) × (at < length self.old.text) }
@@ -450,7 +432,6 @@ impl<'j> Jiter<'j> {
         self.plain_member(next, what)
     }
 
-    // The first key of the object that comes next.
     #[inline(always)]
     pub(super) fn plain_object(&mut self) -> Option<Option<&'j str>>
         ensures moves { MovesOn self.old self.new }
@@ -467,7 +448,6 @@ impl<'j> Jiter<'j> {
         }
     }
 
-    // The key behind a member, if one is there.
     #[inline(always)]
     pub(super) fn plain_next_key(&mut self) -> Option<Option<&'j str>>
         ensures moves { MovesOn self.old self.new }

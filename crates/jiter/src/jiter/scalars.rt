@@ -1,4 +1,4 @@
-//! The pull reader's scalars but texts: literals and numbers.
+//! The pull reader's calls for literals and numbers.
 ghost use Rattle.std.specs.Prelude.{◌≡◌, ◌<◌, ◌≤◌, length, slice_index, true, false};
 ghost use Rattle.jiter_scan.specs.Ascii as ascii;
 ghost use Rattle.jiter_scan.specs.NumberDecoder.{number_view, int_view};
@@ -16,7 +16,6 @@ use jiter_scan::{NumberAny, NumberInt};
 use jiter_steps::parse::{Literal, Start, start_of};
 
 impl<'j> Jiter<'j> {
-    // The literal where the reader stands.
     fn literal(&mut self, literal: Literal) -> JiterResult<()>
         ensures moves { MovesOn self.old self.new }
         ensures value { Replies (λ u. u) result self.new
@@ -26,7 +25,6 @@ impl<'j> Jiter<'j> {
         self.parser.literal(literal).map_err(refusal)
     }
 
-    // The number where the reader stands.
     fn number(&mut self) -> JiterResult<NumberAny<'j>>
         requires within { self.old.position < length self.old.text }
         ensures moves { MovesOn self.old self.new }
@@ -37,7 +35,6 @@ impl<'j> Jiter<'j> {
         self.parser.number(self.allow_inf_nan).map_err(refusal)
     }
 
-    // `null`, at a value that begins so.
     fn read_null(&mut self, start: Start) -> JiterResult<()>
         requires { BeginsAs self.old start }
         ensures moves { MovesOn self.old self.new }
@@ -51,7 +48,7 @@ impl<'j> Jiter<'j> {
         }
     }
 
-    // The same of what comes next, whatever it is.
+    // The slow path, out of line.
     #[cold]
     #[inline(never)]
     fn outlined_null(&mut self) -> JiterResult<()>
@@ -63,7 +60,7 @@ impl<'j> Jiter<'j> {
         self.read_null(start)
     }
 
-    // The same, with room for what it returns made here alone.
+    // A function of its own: otherwise the fast path would reserve stack space for the result of this call.
     #[inline(always)]
     fn general_null(&mut self) -> JiterResult<()>
         ensures moves { MovesOn self.old self.new }
@@ -73,9 +70,16 @@ impl<'j> Jiter<'j> {
         self.outlined_null()
     }
 
-    /// Moves over blanks and reads `null` (RFC 8259, 3). Another type is `WrongType`, other letters are
-    /// `ExpectedSomeIdent`, and the input's end is `EofWhileParsingValue`; the reader then stands at the value's first
-    /// byte.
+    /// Reads `null` (RFC 8259, 3).
+    ///
+    /// # Errors
+    ///
+    /// - `WrongType` if the next value has another type; a number with an error of its own is reported as that error
+    /// - `ExpectedSomeValue` if the next byte begins no value
+    /// - `ExpectedSomeIdent` if a byte after `n` doesn't fit
+    /// - `EofWhileParsingValue` if the input ends before the value or inside it
+    ///
+    /// The reader is then at the value's first byte (or at the end, if only whitespace is left).
     #[inline(always)]
     pub fn next_null(&mut self) -> JiterResult<()>
         ensures moves { MovesOn self.old self.new }
@@ -89,8 +93,18 @@ impl<'j> Jiter<'j> {
         }
     }
 
-    /// [`Jiter::next_null`] where the caller knows that the byte `n` stands where the reader does, as a peek told: it
-    /// asks for that.
+    /// Reads the `null` that you peeked, as [`Jiter::next_null`] does.
+    ///
+    /// # Errors
+    ///
+    /// - `ExpectedSomeIdent` if a byte after `n` doesn't fit
+    /// - `EofWhileParsingValue` if the input ends inside `null`
+    ///
+    /// The reader then stays at the `n`.
+    ///
+    /// # Requires
+    ///
+    /// The byte at the reader's position is `n`, as after a peek of [`Peek::Null`]. `rt try` does not test it.
     pub fn known_null(&mut self) -> JiterResult<()>
         requires { StandsAt self.old ascii.small_n }
         ensures moves { MovesOn self.old self.new }
@@ -100,7 +114,6 @@ impl<'j> Jiter<'j> {
         self.next_null()
     }
 
-    // `true` or `false`, at a value that begins so.
     fn read_bool(&mut self, start: Start) -> JiterResult<bool>
         requires { BeginsAs self.old start }
         ensures moves { MovesOn self.old self.new }
@@ -115,7 +128,7 @@ impl<'j> Jiter<'j> {
         }
     }
 
-    // The same of what comes next, whatever it is.
+    // The slow path, out of line.
     #[cold]
     #[inline(never)]
     fn outlined_bool(&mut self) -> JiterResult<bool>
@@ -127,7 +140,7 @@ impl<'j> Jiter<'j> {
         self.read_bool(start)
     }
 
-    // The same, with room for what it returns made here alone.
+    // A function of its own: otherwise the fast path would reserve stack space for the result of this call.
     #[inline(always)]
     fn general_bool(&mut self) -> JiterResult<bool>
         ensures moves { MovesOn self.old self.new }
@@ -137,9 +150,16 @@ impl<'j> Jiter<'j> {
         self.outlined_bool()
     }
 
-    /// Moves over blanks and reads `true` or `false` (RFC 8259, 3). Another type is `WrongType`, other letters are
-    /// `ExpectedSomeIdent`, and the input's end is `EofWhileParsingValue`; the reader then stands at the value's first
-    /// byte.
+    /// Reads `true` or `false` (RFC 8259, 3).
+    ///
+    /// # Errors
+    ///
+    /// - `WrongType` if the next value has another type; a number with an error of its own is reported as that error
+    /// - `ExpectedSomeValue` if the next byte begins no value
+    /// - `ExpectedSomeIdent` if a byte after `t` or `f` doesn't fit
+    /// - `EofWhileParsingValue` if the input ends before the value or inside it
+    ///
+    /// The reader is then at the value's first byte (or at the end, if only whitespace is left).
     #[inline(always)]
     pub fn next_bool(&mut self) -> JiterResult<bool>
         ensures moves { MovesOn self.old self.new }
@@ -152,7 +172,15 @@ impl<'j> Jiter<'j> {
         }
     }
 
-    /// [`Jiter::next_bool`] where the caller has peeked: it asks that the byte of `peek` stands where the reader does.
+    /// Reads the `true` or `false` that you peeked, as [`Jiter::next_bool`] does.
+    ///
+    /// # Errors
+    ///
+    /// - the errors of [`Jiter::next_bool`]; the reader then stays where it is
+    ///
+    /// # Requires
+    ///
+    /// The byte of `peek` is at the reader's position, as after the call that returned it. `rt try` does not test it.
     pub fn known_bool(&mut self, peek: Peek) -> JiterResult<bool>
         requires { StandsAt self.old (byte_of peek) }
         ensures moves { MovesOn self.old self.new }
@@ -167,7 +195,6 @@ impl<'j> Jiter<'j> {
         }
     }
 
-    // A number, at a value that begins so.
     fn read_number(&mut self, start: Start) -> JiterResult<NumberAny<'j>>
         requires { BeginsAs self.old start }
         ensures moves { MovesOn self.old self.new }
@@ -181,9 +208,20 @@ impl<'j> Jiter<'j> {
         }
     }
 
-    /// Moves over blanks and reads a number, a name where names are allowed (RFC 8259, 6). Another type is
-    /// `WrongType`, a number that goes wrong `InvalidNumber`, one of too many digits `NumberOutOfRange`, and one that
-    /// the input's end cuts `EofWhileParsingValue`; the reader then stands at the value's first byte.
+    /// Reads a number (RFC 8259, 6).
+    ///
+    /// An integer beyond `i64`, or a float, is returned as its source text, borrowed from the document.
+    ///
+    /// # Errors
+    ///
+    /// - `WrongType` if the next value is not a number
+    /// - `ExpectedSomeValue` if the next byte begins no value; also for `NaN` and `Infinity`, unless they are allowed
+    /// - `InvalidNumber` if a byte doesn't fit, as in `01`, `1.x` and `-x`; also for `-Infinity`, unless it is allowed
+    /// - `ExpectedSomeIdent` if non-finite numbers are allowed and a byte of one doesn't fit
+    /// - `NumberOutOfRange` if the integer part has more than 4,300 digits
+    /// - `EofWhileParsingValue` if the input ends before the number or inside it
+    ///
+    /// The reader is then at the value's first byte (or at the end, if only whitespace is left).
     pub fn next_number(&mut self) -> JiterResult<NumberAny<'j>>
         ensures moves { MovesOn self.old self.new }
         ensures value { Replies number_view result self.new (next self.old (number_read self.old)) }
@@ -193,8 +231,15 @@ impl<'j> Jiter<'j> {
         self.read_number(start)
     }
 
-    /// [`Jiter::next_number`] where the caller has peeked: it asks that the byte of `peek` stands where the reader
-    /// does.
+    /// Reads the number that you peeked, as [`Jiter::next_number`] does.
+    ///
+    /// # Errors
+    ///
+    /// - the errors of [`Jiter::next_number`]; the reader then stays where it is
+    ///
+    /// # Requires
+    ///
+    /// The byte of `peek` is at the reader's position, as after the call that returned it. `rt try` does not test it.
     pub fn known_number(&mut self, peek: Peek) -> JiterResult<NumberAny<'j>>
         requires { StandsAt self.old (byte_of peek) }
         ensures moves { MovesOn self.old self.new }
@@ -205,7 +250,6 @@ impl<'j> Jiter<'j> {
         self.read_number(start_of(peek.into_inner()))
     }
 
-    // The integer where the reader stands.
     fn integer(&mut self) -> JiterResult<NumberInt<'j>>
         requires within { self.old.position < length self.old.text }
         ensures moves { MovesOn self.old self.new }
@@ -226,7 +270,6 @@ impl<'j> Jiter<'j> {
         }
     }
 
-    // An integer, at a value that begins so.
     fn read_int(&mut self, start: Start) -> JiterResult<NumberInt<'j>>
         requires { BeginsAs self.old start }
         ensures moves { MovesOn self.old self.new }
@@ -240,9 +283,22 @@ impl<'j> Jiter<'j> {
         }
     }
 
-    /// Moves over blanks and reads an integer. A point, an exponent or a name makes the number a float, whatever
-    /// follows it and whether names are allowed, and that is another type. It is refused as by [`Jiter::next_number`],
-    /// and the reader then stands at the value's first byte.
+    /// Reads an integer (RFC 8259, 6).
+    ///
+    /// An integer beyond `i64` is returned as its source text, borrowed from the document.
+    ///
+    /// # Errors
+    ///
+    /// - `WrongType` if the next value is not a number
+    /// - `WrongType` if it is a float: `.`, `e` or `E` follows the integer part, or it begins with `N`, `I` or `-I`
+    /// - `ExpectedSomeValue` if the next byte begins no value
+    /// - `InvalidNumber` if a byte doesn't fit, as in `01` and `-x`
+    /// - `NumberOutOfRange` if the integer has more than 4,300 digits
+    /// - `EofWhileParsingValue` if the input ends before the integer or inside it
+    ///
+    /// What follows in a float is not read, and the setting for non-finite numbers doesn't matter.
+    ///
+    /// The reader is then at the value's first byte (or at the end, if only whitespace is left).
     pub fn next_int(&mut self) -> JiterResult<NumberInt<'j>>
         ensures moves { MovesOn self.old self.new }
         ensures value { Replies int_view result self.new (next self.old (int_read self.old)) }
@@ -252,7 +308,15 @@ impl<'j> Jiter<'j> {
         self.read_int(start)
     }
 
-    /// [`Jiter::next_int`] where the caller has peeked: it asks that the byte of `peek` stands where the reader does.
+    /// Reads the integer that you peeked, as [`Jiter::next_int`] does.
+    ///
+    /// # Errors
+    ///
+    /// - the errors of [`Jiter::next_int`]; the reader then stays where it is
+    ///
+    /// # Requires
+    ///
+    /// The byte of `peek` is at the reader's position, as after the call that returned it. `rt try` does not test it.
     pub fn known_int(&mut self, peek: Peek) -> JiterResult<NumberInt<'j>>
         requires { StandsAt self.old (byte_of peek) }
         ensures moves { MovesOn self.old self.new }
@@ -262,7 +326,6 @@ impl<'j> Jiter<'j> {
         self.read_int(start_of(peek.into_inner()))
     }
 
-    // The bytes of a number, at a value that begins so.
     fn read_number_bytes(&mut self, start: Start) -> JiterResult<&'j [u8]>
         requires { BeginsAs self.old start }
         ensures moves { MovesOn self.old self.new }
@@ -280,7 +343,7 @@ impl<'j> Jiter<'j> {
         }
     }
 
-    // The same of what comes next, whatever it is.
+    // The slow path, out of line.
     #[cold]
     #[inline(never)]
     fn outlined_number_bytes(&mut self) -> JiterResult<&'j [u8]>
@@ -293,7 +356,7 @@ impl<'j> Jiter<'j> {
         self.read_number_bytes(start)
     }
 
-    // The same, with room for what it returns made here alone.
+    // A function of its own: otherwise the fast path would reserve stack space for the result of this call.
     #[inline(always)]
     fn general_number_bytes(&mut self) -> JiterResult<&'j [u8]>
         ensures moves { MovesOn self.old self.new }
@@ -304,8 +367,13 @@ impl<'j> Jiter<'j> {
         self.outlined_number_bytes()
     }
 
-    /// Moves over blanks and reads a number, and gives its own bytes. It is refused as by [`Jiter::next_number`], and
-    /// the reader then stands at the value's first byte.
+    /// Reads a number and returns its source bytes, borrowed from the document (RFC 8259, 6).
+    ///
+    /// # Errors
+    ///
+    /// - the errors of [`Jiter::next_number`]; the type that a `WrongType` expects is `Float` here
+    ///
+    /// The reader is then at the value's first byte (or at the end, if only whitespace is left).
     #[inline(always)]
     pub fn next_number_bytes(&mut self) -> JiterResult<&'j [u8]>
         ensures moves { MovesOn self.old self.new }
@@ -319,8 +387,15 @@ impl<'j> Jiter<'j> {
         }
     }
 
-    /// [`Jiter::next_number_bytes`] where the caller has peeked: it asks that the byte of `peek` stands where the
-    /// reader does.
+    /// Reads the number that you peeked and returns its source bytes, as [`Jiter::next_number_bytes`] does.
+    ///
+    /// # Errors
+    ///
+    /// - the errors of [`Jiter::next_number_bytes`]; the reader then stays where it is
+    ///
+    /// # Requires
+    ///
+    /// The byte of `peek` is at the reader's position, as after the call that returned it. `rt try` does not test it.
     pub fn known_number_bytes(&mut self, peek: Peek) -> JiterResult<&'j [u8]>
         requires { StandsAt self.old (byte_of peek) }
         ensures moves { MovesOn self.old self.new }

@@ -1,4 +1,4 @@
-//! The pull reader's texts.
+//! The pull reader's calls for strings.
 ghost use Rattle.std.specs.Borrow.{sem};
 ghost use Rattle.std.specs.Prelude.{◌≡◌, ◌<◌, ◌≤◌, ℕ, IfOk, IfSome, Some, if◌then◌else◌, length, slice_get, true};
 ghost use Rattle.std.specs.Prelude.{take, vec_len};
@@ -24,8 +24,8 @@ use jiter_steps::string_decoder::decode_to;
 use std::alloc::Global;
 use std::borrow::CowStr;
 
-// The string with a backslash that comes next, at a place behind the blanks, decoded to the front of the tape: how many
-// bytes its text has there, and the place behind it.
+// Returns how many bytes were decoded to the start of the tape, and the index after the string. Only the contract uses
+// `from`: it speaks of the reader's position before the whitespace.
 #[inline(always)]
 fn decode_next(
     tape: &mut Vec<u8>,
@@ -51,7 +51,6 @@ fn decode_next(
     }
 }
 
-// The text at the front of the tape.
 #[inline(always)]
 fn text_on(tape: &Option<Vec<u8>>, count: usize) -> &str
     requires text { IsUtf8 (front tape.now count) }
@@ -65,7 +64,7 @@ fn text_on(tape: &Option<Vec<u8>>, count: usize) -> &str
 }
 
 impl<'j> Jiter<'j> {
-    // The buffer for decoded texts, which is made where there is none.
+    // Leaves the reader without a tape until it is put back.
     fn take_tape(&mut self, alloc: Global) -> Vec<u8>
         ensures { self.new ≡ self.old }
     {
@@ -75,14 +74,12 @@ impl<'j> Jiter<'j> {
         }
     }
 
-    // The buffer is put back.
     fn put_tape(&mut self, tape: Vec<u8>)
         ensures { self.new ≡ self.old }
     {
         self.tape = Some(tape);
     }
 
-    // The bytes, and whether cut strings are kept.
     #[inline(always)]
     fn source(&self) -> (&'j [u8], bool)
         ensures bytes { result.0.now ≡ self.now.text }
@@ -91,7 +88,7 @@ impl<'j> Jiter<'j> {
         (self.parser.bytes, self.allow_partial_strings)
     }
 
-    // The text of the string where the reader stands; of one that the end of input may cut, if so asked.
+    // `partial` allows an unterminated string.
     pub(super) fn string(&mut self, alloc: Global, partial: bool) -> JiterResult<CowStr<'j>>
         requires { self.old.position < length self.old.text }
         ensures moves { MovesOn self.old self.new }
@@ -109,7 +106,6 @@ impl<'j> Jiter<'j> {
         read.map_err(|error| refusal_at(error, self.parser.index))
     }
 
-    // A text, at a value that begins so.
     fn read_str(&mut self, alloc: Global, start: Start) -> JiterResult<CowStr<'j>>
         requires { BeginsAs self.old start }
         ensures moves { MovesOn self.old self.new }
@@ -127,7 +123,6 @@ impl<'j> Jiter<'j> {
         }
     }
 
-    // The next value's text.
     #[inline(never)]
     fn take_str(&mut self, alloc: Global) -> JiterResult<CowStr<'j>>
         ensures moves { MovesOn self.old self.new }
@@ -144,7 +139,6 @@ impl<'j> Jiter<'j> {
         self.read_str(alloc, start)
     }
 
-    // The text that comes next, whatever it is.
     #[inline(always)]
     fn general_str(&mut self, alloc: Global) -> JiterResult<&str>
         ensures text { IfOk result (λ x. (e : ℕ)
@@ -162,7 +156,7 @@ impl<'j> Jiter<'j> {
         Ok(self.text.as_str())
     }
 
-    // Memory for the text that comes next was refused, to whose place the reader moves.
+    // Nothing has moved the reader yet: it passes the whitespace here.
     #[cold]
     fn refused_str(&mut self, refused: Refused) -> JiterError
         ensures moves { MovesOn self.old self.new }
@@ -173,8 +167,7 @@ impl<'j> Jiter<'j> {
         refusal_at(ReadError::Memory(refused), self.parser.index)
     }
 
-    // The text that comes next and was not decoded: if that was for want of memory, it is told; else the text is read
-    // as any other is.
+    // If decoding failed for another reason than memory, the slow path reads the string again and finds the error.
     #[cold]
     #[inline(never)]
     fn take_undecoded(
@@ -203,7 +196,6 @@ impl<'j> Jiter<'j> {
         }
     }
 
-    // The same, lent.
     #[inline(always)]
     fn undecoded_str(&mut self, alloc: Global, error: ReadError, at: usize) -> JiterResult<&str>
         requires place { at ≡ value_place self.old }
@@ -224,7 +216,6 @@ impl<'j> Jiter<'j> {
         Ok(self.text.as_str())
     }
 
-    // The text of the string with a backslash that comes next, whose quote stands at a place.
     #[inline(always)]
     fn escaped_str(&mut self, alloc: Global, at: usize) -> JiterResult<&str>
         requires place { at ≡ value_place self.old }
@@ -256,13 +247,25 @@ impl<'j> Jiter<'j> {
         }
     }
 
-    /// Moves over blanks and reads a string, and lends its text, decoded (RFC 8259, 7). The text lies in the reader's
-    /// bytes where its source has no backslash; else memory may be wanted.
+    /// Reads a string and returns it decoded (RFC 8259, 7).
     ///
-    /// Another type is `WrongType`; a string that is not closed is `EofWhileParsingString`, unless cut strings are
-    /// allowed, and what is wrong within it `InvalidEscape`, `ControlCharacterWhileParsingString`,
-    /// `InvalidUnicodeCodePoint`, `LoneLeadingSurrogateInHexEscape` or `UnexpectedEndOfHexEscape`. Refused, for want
-    /// of memory too, the reader stands at the value's first byte, so that the string may be read again.
+    /// The string is borrowed from the reader: use it before the reader's next call, or call [`Jiter::next_bytes`]. A
+    /// string without a backslash is in the document's bytes and is not copied.
+    ///
+    /// # Errors
+    ///
+    /// - `WrongType` if the next value has another type; a number with an error of its own is reported as that error
+    /// - `ExpectedSomeValue` if the next byte begins no value
+    /// - `EofWhileParsingValue` if only whitespace is left
+    /// - `EofWhileParsingString` if the input ends inside the string, unless partial strings are allowed
+    /// - `ControlCharacterWhileParsingString` if a byte is below 0x20
+    /// - `InvalidEscape` if a backslash begins no escape, or a hex digit is wrong
+    /// - `LoneLeadingSurrogateInHexEscape` or `UnexpectedEndOfHexEscape` if the escape of a surrogate is unpaired
+    /// - `InvalidUnicodeCodePoint` if the string is not UTF-8 (RFC 8259, 8.1)
+    /// - `OutOfMemory`, only for a string with a backslash
+    ///
+    /// The reader is then at the value's first byte (or at the end, if only whitespace is left), so you can read the
+    /// value again.
     pub fn next_str(&mut self, alloc: Global) -> JiterResult<&str>
         ensures text { IfOk result (λ x. (e : ℕ)
             × (reply_seen text_bytes (next self.old (str_read self.old)) ≡ gave x.now e)) }
@@ -282,8 +285,17 @@ impl<'j> Jiter<'j> {
         }
     }
 
-    /// [`Jiter::next_str`] where the caller knows that a quote stands where the reader does, as a peek told: it asks
-    /// for that.
+    /// Reads the string that you peeked and returns it decoded, as [`Jiter::next_str`] does.
+    ///
+    /// The string is borrowed from the reader: use it before the reader's next call.
+    ///
+    /// # Errors
+    ///
+    /// - the errors of [`Jiter::next_str`] after the opening quote; the reader then stays at that quote
+    ///
+    /// # Requires
+    ///
+    /// The byte at the reader's position is `"`, as after a peek of [`Peek::String`]. `rt try` does not test it.
     pub fn known_str(&mut self, alloc: Global) -> JiterResult<&str>
         requires { StandsAt self.old ascii.quote }
         ensures text { IfOk result (λ x. (e : ℕ)
@@ -299,8 +311,7 @@ impl<'j> Jiter<'j> {
         Ok(self.text.as_str())
     }
 
-    // The bytes between the quotes of the string where the reader stands; of one that the end of input may
-    // cut, if so asked.
+    // `partial` allows an unterminated string.
     pub(super) fn raw_string(&mut self, partial: bool) -> JiterResult<&'j [u8]>
         requires { self.old.position < length self.old.text }
         ensures moves { MovesOn self.old self.new }
@@ -311,7 +322,6 @@ impl<'j> Jiter<'j> {
         self.parser.raw_string(partial).map_err(refusal)
     }
 
-    // The bytes between the quotes, at a value that begins so.
     fn read_bytes(&mut self, start: Start) -> JiterResult<&'j [u8]>
         requires { BeginsAs self.old start }
         ensures moves { MovesOn self.old self.new }
@@ -325,9 +335,17 @@ impl<'j> Jiter<'j> {
         }
     }
 
-    /// Moves over blanks and reads a string, and gives the bytes between its quotes: its escapes are checked and not
-    /// decoded, its UTF-8 is not checked (RFC 8259, 7), and no memory is taken. It is refused as by
-    /// [`Jiter::next_str`], and the reader then stands at the value's first byte.
+    /// Reads a string and returns the bytes between its quotes (RFC 8259, 7).
+    ///
+    /// The bytes are borrowed from the document. Escapes are checked and not decoded, UTF-8 is not checked, and nothing
+    /// is allocated.
+    ///
+    /// # Errors
+    ///
+    /// - the errors of [`Jiter::next_str`], except `InvalidUnicodeCodePoint` and `OutOfMemory`
+    /// - `EofWhileParsingString` if the input ends inside an escape, also if partial strings are allowed
+    ///
+    /// The reader is then at the value's first byte (or at the end, if only whitespace is left).
     pub fn next_bytes(&mut self) -> JiterResult<&'j [u8]>
         ensures moves { MovesOn self.old self.new }
         ensures value { Replies raw_view result self.new (next self.old (bytes_read self.old)) }
@@ -337,8 +355,15 @@ impl<'j> Jiter<'j> {
         self.read_bytes(start)
     }
 
-    /// [`Jiter::next_bytes`] where the caller knows that a quote stands where the reader does, as a peek told: it asks
-    /// for that.
+    /// Reads the string that you peeked and returns the bytes between its quotes, as [`Jiter::next_bytes`] does.
+    ///
+    /// # Errors
+    ///
+    /// - the errors of [`Jiter::next_bytes`] after the opening quote; the reader then stays at that quote
+    ///
+    /// # Requires
+    ///
+    /// The byte at the reader's position is `"`, as after a peek of [`Peek::String`]. `rt try` does not test it.
     pub fn known_bytes(&mut self) -> JiterResult<&'j [u8]>
         requires { StandsAt self.old ascii.quote }
         ensures moves { MovesOn self.old self.new }

@@ -1,4 +1,4 @@
-//! The pull reader's whole values.
+//! The pull reader's calls for complete values.
 ghost use Rattle.std.specs.Prelude.{◌≡◌, ◌<◌, ◌≤◌, length};
 ghost use Rattle.jiter_steps.specs.Answer.{read_at};
 ghost use Rattle.jiter_value.specs.Value.{view, MayGrowAt};
@@ -15,7 +15,6 @@ use jiter_value::settings::Settings;
 use std::alloc::Global;
 
 impl<'j> Jiter<'j> {
-    // The value where the reader stands.
     fn value(&mut self, alloc: Global) -> JiterResult<JsonValue<'j>>
         requires { self.old.position < length self.old.text }
         ensures moves { MovesOn self.old self.new }
@@ -35,9 +34,19 @@ impl<'j> Jiter<'j> {
         ))
     }
 
-    /// Moves over blanks and reads a value whole, whatever its type, with partial reading off (RFC 8259, 3). What is
-    /// refused is what [`JsonValue::parse`] refuses, at its index in the reader's bytes; the reader then stands where
-    /// the reading stopped. Of what lies behind the value nothing is looked at.
+    /// Parses the next value, whatever its type, with partial reading off (RFC 8259, 3).
+    ///
+    /// A string without a backslash and the text of a number are borrowed from the document. Bytes after the value are
+    /// not read.
+    ///
+    /// # Errors
+    ///
+    /// - the errors of [`JsonValue::parse`] with the reader's setting, except `TrailingCharacters`, with their index in
+    ///   the reader's bytes
+    /// - `OutOfMemory`, only for a string with a backslash or a non-empty container
+    ///
+    /// The reader is then at the first byte of the scalar or key that fails, otherwise at the error. After
+    /// `OutOfMemory` it is at the error's index, at or after the value's first byte.
     pub fn next_value(&mut self, alloc: Global) -> JiterResult<JsonValue<'j>>
         ensures moves { MovesOn self.old self.new }
         ensures value { UnlessMemory result (Replies view result self.new
@@ -51,8 +60,15 @@ impl<'j> Jiter<'j> {
         self.value(alloc)
     }
 
-    /// [`Jiter::next_value`] where the caller has peeked: it asks that the byte of `peek` stands where the reader
-    /// does.
+    /// Parses the value that you peeked, as [`Jiter::next_value`] does.
+    ///
+    /// # Errors
+    ///
+    /// - the errors of [`Jiter::next_value`]; they leave the reader at the same position
+    ///
+    /// # Requires
+    ///
+    /// The byte of `peek` is at the reader's position, as after the call that returned it. `rt try` does not test it.
     pub fn known_value(&mut self, alloc: Global, peek: Peek) -> JiterResult<JsonValue<'j>>
         requires { StandsAt self.old (byte_of peek) }
         ensures moves { MovesOn self.old self.new }

@@ -1,5 +1,5 @@
-//! What is shown of a value that arrives (RFC 8259, 2 to 5): the scalar that is not whole in its place, and the open
-//! containers put together, which are taken apart again to go on.
+//! Shows the value so far: stores the unfinished scalar and assembles the open containers. Undoes both before the next
+//! chunk.
 ghost use Rattle.std.specs.Prelude.{◌≡◌, ◌++◌, ◌<◌, ◌≤◌, List, OnErr, OnOk, Some, false, length, take, true, ℕ};
 ghost use Rattle.std.specs.Str.{IsAscii};
 ghost use Rattle.jiter_scan.specs.PartialMode.{is_active};
@@ -25,7 +25,7 @@ use jiter_steps::open_string::OpenString;
 use jiter_value::value::JsonValue;
 
 impl OpenValue {
-    /// A scalar that is not whole is shown where it is awaited. It takes no memory.
+    /// Stores an unfinished scalar where a value comes next. Does not allocate.
     #[inline(always)]
     pub fn show(&mut self, value: JsonValue<'static>)
         requires { HasRoomInside self.old.spine.items }
@@ -34,7 +34,7 @@ impl OpenValue {
         put(&mut self.spine, &mut self.root, &mut self.key, value);
     }
 
-    /// Takes back what was shown: its place is awaited again, and there is room in it.
+    /// Takes out the scalar that [`show`](OpenValue::show) stored. A value comes next again, with capacity for it.
     pub fn hide(&mut self) -> JsonValue<'static>
         requires { (fs : List OpenFrame) × (x : Tree) × HasValue self.old.spine.items self.old.root fs x }
         ensures value { (v : JsonValueView) → IsInPlace self.old.spine.items self.old.root v → result ≡ v }
@@ -46,7 +46,7 @@ impl OpenValue {
         take_back(&mut self.spine, &mut self.root, &mut self.key)
     }
 
-    /// The open containers are put together, and so many they are.
+    /// Assembles the open containers into the root, and returns how many there were.
     pub fn put_together(&mut self) -> usize
         requires { (v : Tree) × StandsFor self.old.spine.items self.old.root v }
         ensures root { (v : Tree) → StandsFor self.old.spine.items self.old.root v → view self.new.root ≡ v }
@@ -57,7 +57,7 @@ impl OpenValue {
         depth
     }
 
-    /// They are taken apart again.
+    /// Undoes [`put_together`](OpenValue::put_together), which returned `depth`.
     pub fn take_apart(&mut self, depth: usize)
         requires { (old : OpenValueView) × IsPutTogether old self.old depth }
         ensures { (old : OpenValueView) → IsPutTogether old self.old depth → IsApartAs old self.new }
@@ -65,8 +65,8 @@ impl OpenValue {
         take_apart(&mut self.spine, &mut self.root, depth);
     }
 
-    /// Bytes below 80 hex behind the text that is shown, so many containers deep, where these are together. Where memory
-    /// is refused, the text is the same.
+    /// Appends bytes below 80 hex to the shown string, `depth` containers deep in the assembled value. If an allocation
+    /// fails, the string is unchanged.
     #[inline(always)]
     pub fn append_text(&mut self, depth: usize, bytes: &[u8]) -> Result<(), Refused>
         requires text { (w : List ℕ) × HoldsTextInside depth self.old.root w }
@@ -81,9 +81,8 @@ impl OpenValue {
         append_text(&mut self.root, depth, bytes)
     }
 
-    /// Bytes of a piece that go on with an unfinished string, whose characters so far are the text that is shown, so many
-    /// containers deep, where these are together: how many are taken, and whether memory was refused. What is taken
-    /// stands there too.
+    /// Appends the bytes of a chunk that continue the shown string, `depth` containers deep in the assembled value.
+    /// Returns how many, and whether an allocation failed for those that follow.
     #[inline(always)]
     pub fn take_inside(
         &mut self,
@@ -103,24 +102,24 @@ impl OpenValue {
         take_inside(&mut self.root, depth, unfinished, piece)
     }
 
-    /// The value so far, where its containers are together.
+    /// Returns the root, which is the value so far once it is assembled.
     pub fn root(&self) -> &JsonValue<'static>
         ensures { result.now ≡ self.now.root }
     {
         &self.root
     }
 
-    /// The same, moved out.
+    /// Returns the root, moved out.
     pub fn into_root(self) -> JsonValue<'static>
         ensures { result ≡ self.root }
     {
         self.root
     }
 
-    /// The value so far, each container that is open ended; `null` where none of it was read. It takes no memory.
+    /// Returns the value so far, with each open container closed; `null` if nothing of it was stored. Does not
+    /// allocate.
     pub fn into_value(self) -> JsonValue<'static>
         requires { (s : Arrived) × IsLeft self s }
-        // In a partial mode it is what the bytes so far answer, each text owned.
         ensures { (p : Settings) → (t : List ℕ) → (s : Arrived) → (v : Tree) → is_active p.mode ≡ true
             → HasRead p t s → IsLeft self s → shown s ≡ Some v
             → (view result ≡ v) × ((e : ℕ) × (reading_as owned_tree (answer_by p t) ≡ done v e)) }

@@ -1,4 +1,4 @@
-//! Containers on the stacks: where one begins, where it ends, the steps behind a part, and what is forgiven there.
+//! Containers on the stacks: how one begins, goes on after a part and ends, and which errors are forgiven there.
 ghost use Rattle.std.specs.Prelude.{◌≡◌, ◌≢◌, ℕ, ◌+◌, ◌≤◌, ◌<◌, List, IfOk, IfSome, None, OnOk, OnErr, length};
 ghost use Rattle.std.specs.Prelude.{slice_index, true, false};
 ghost use Rattle.jiter_steps.specs.Literal.{start_of};
@@ -28,16 +28,15 @@ use jiter_steps::plain::{Next, plain_first, plain_step};
 use jiter_steps::read_error::ReadError;
 use std::alloc::Global;
 
-/// Where a container goes on.
+/// What comes before a step of a container.
 #[derive(Clone, Copy, Debug)]
 pub enum Behind {
-    /// Behind its first bracket.
+    /// The opening bracket.
     Bracket,
-    /// Behind a part of it.
+    /// An item or a member.
     Part,
 }
 
-// What is awaited where a part of a container begins.
 #[inline(always)]
 fn part_of(shape: Shape) -> State
     ensures { result ≡ part_of shape }
@@ -48,7 +47,6 @@ fn part_of(shape: Shape) -> State
     }
 }
 
-// The shape of the container that a value goes into, if it goes into one.
 #[inline(always)]
 fn shape_of(slot: Slot) -> Option<Shape>
     ensures some { IfSome result (λ shape. slot ≡ slot_in shape) }
@@ -61,7 +59,7 @@ fn shape_of(slot: Slot) -> Option<Shape>
     }
 }
 
-// Whether a container's fault is forgiven; if not, the reading is given up for it.
+// Whether the step has no error, or one that is forgiven. If not, stores the error as the reading's.
 fn is_forgiven(stacks: &mut Stacks<'_>, step: Result<bool, Fault>, settings: Settings) -> bool
     ensures resolved { (i j : ℕ) → (s : Step) → Steps step i s → IsStuckAt j s
         → IsResolved settings result stacks.new.error j s }
@@ -79,8 +77,8 @@ fn is_forgiven(stacks: &mut Stacks<'_>, step: Result<bool, Fault>, settings: Set
     }
 }
 
-// Whether the fault at `at` is forgiven. The step is read once more here, where it costs nothing: the plain way
-// tells where it is stuck, and not why.
+// Whether the error at `at` is forgiven. The fast path reports where a step fails, but not why, so the step is read
+// again here.
 #[cold]
 #[inline(never)]
 fn is_stuck_forgiven<'j>(
@@ -106,7 +104,7 @@ fn is_stuck_forgiven<'j>(
     }
 }
 
-// Whether a container that goes on with no part ends at `at`; if not, the reading is given up there.
+// Whether a container that has no further part ends: by its closing bracket, or by an error that is forgiven.
 #[inline(always)]
 fn ends<'j>(
     stacks: &mut Stacks<'_>,
@@ -132,7 +130,7 @@ fn ends<'j>(
     }
 }
 
-// Behind a value, up to the next value or key; containers that end are closed.
+/// Goes on after a value, up to the next value or key, and closes each container that ends.
 #[inline(always)]
 pub fn after<'s, T: Texts<'s>>(
     reading: &mut Reading<'s>,
@@ -186,7 +184,7 @@ pub fn after<'s, T: Texts<'s>>(
     }
 }
 
-/// The innermost container ends at `at`, and the steps behind it.
+/// Closes the innermost container, which ends at `at`, and goes on after it.
 #[inline(never)]
 pub fn close_and_go_on<'s, T: Texts<'s>>(
     reading: &mut Reading<'s>,
@@ -210,7 +208,6 @@ pub fn close_and_go_on<'s, T: Texts<'s>>(
     }
 }
 
-// An empty container goes where it belongs.
 #[inline(always)]
 fn put_empty(
     alloc: Global,
@@ -233,7 +230,7 @@ fn put_empty(
     }
 }
 
-// An empty container ends before `end`, and the steps behind it.
+// Puts an empty container, which ends at `end`, into its slot, and goes on after it.
 #[inline(always)]
 fn empty<'s, T: Texts<'s>>(
     reading: &mut Reading<'s>,
@@ -262,7 +259,7 @@ fn empty<'s, T: Texts<'s>>(
     }
 }
 
-// Whether no value may stand inside a further container of this shape; that of an object waits for its key.
+// Whether a further array would exceed the nesting limit. An object's limit is tested after its first key and colon.
 #[inline(always)]
 fn is_full(stacks: &Stacks<'_>, shape: Shape) -> bool
     ensures full { result ≡ true
@@ -276,7 +273,6 @@ fn is_full(stacks: &Stacks<'_>, shape: Shape) -> bool
     }
 }
 
-// How many parts lie below those of a container that begins.
 #[inline(always)]
 fn base_of(stacks: &Stacks<'_>, shape: Shape) -> usize
     ensures { result ≡ base_of shape stacks.now }
@@ -287,7 +283,7 @@ fn base_of(stacks: &Stacks<'_>, shape: Shape) -> usize
     }
 }
 
-// The container whose bracket is at `at` and whose first part begins at `next` stands open.
+// Opens the container whose bracket is at `at` and whose first part begins at `next`.
 #[inline(always)]
 fn open<'s, T: Texts<'s>>(
     reading: &mut Reading<'s>,
@@ -320,7 +316,7 @@ fn open<'s, T: Texts<'s>>(
     }
 }
 
-/// The container whose bracket is at `at`.
+/// Reads the bracket at `at`: opens the container, or puts it into its slot if it is empty.
 #[inline(always)]
 pub fn begin<'s, T: Texts<'s>>(
     reading: &mut Reading<'s>,

@@ -1,4 +1,4 @@
-//! The general way: any scalar and any key, and their faults.
+//! The slow path: any scalar and any key, and their errors.
 ghost use Rattle.std.specs.Prelude.{◌≡◌, ◌≢◌, ◌+◌, ◌≤◌, ◌<◌, ◌++◌, ◌∷◌, [], OnOk, length};
 ghost use Rattle.std.specs.Prelude.{pos, slice_index};
 ghost use Rattle.std.specs.declared.alloc.Global.{Global};
@@ -32,7 +32,8 @@ use jiter_steps::read_error::ReadError;
 use std::alloc::Global;
 use std::borrow::CowStr;
 
-// A fault where a value is awaited: a forgiven one closes the innermost container.
+// An error where a value is expected. If it is forgiven, it closes the innermost container, without the key that has no
+// value.
 #[cold]
 #[inline(never)]
 fn fault_at_value<'s, T: Texts<'s>>(
@@ -68,7 +69,7 @@ fn fault_at_value<'s, T: Texts<'s>>(
     }
 }
 
-// A fault of a key or of its colon: a forgiven one closes the object.
+// An error of a key or of its colon. If it is forgiven, it closes the object.
 #[cold]
 #[inline(never)]
 fn fault_at_key<'s, T: Texts<'s>>(
@@ -94,7 +95,7 @@ fn fault_at_key<'s, T: Texts<'s>>(
     close_and_go_on::<T>(reading, bytes, at, Shape::Object)
 }
 
-/// Any scalar where a value is awaited, or the fault there.
+/// Reads any scalar where a value is expected, or handles the error there.
 #[cold]
 #[inline(never)]
 pub fn general_scalar<'s, T: Texts<'s>>(
@@ -136,8 +137,8 @@ pub fn general_scalar<'s, T: Texts<'s>>(
     }
 }
 
-// A key whose bytes begin at `from`, kept so, is the last member's, whose value is awaited: a number stands for it
-// until then, since all its bytes are written at once.
+// Pushes a key, whose bytes begin at `from`, with the integer 0 as a placeholder for its value. All bytes of the
+// placeholder are written at once.
 #[inline(always)]
 fn push_key<'s, T: Texts<'s>>(
     texts: T,
@@ -158,7 +159,7 @@ fn push_key<'s, T: Texts<'s>>(
     Ok(())
 }
 
-/// Any key at `at`, with its colon.
+/// Reads any key at `at`, with its colon.
 #[inline(never)]
 pub fn general_key<'s, T: Texts<'s>>(
     reading: &mut Reading<'s>,

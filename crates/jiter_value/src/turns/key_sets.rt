@@ -1,5 +1,5 @@
-//! The keys of open objects with many members, those of each object in buckets: in few steps they tell that a key is
-//! new. What a bucket has no room for goes into an ordered set, so that no keys make this slow.
+//! Sets of the keys of open objects with many members, to see in few steps that a key is new. A set has buckets; a key
+//! whose bucket is full goes into an ordered set, so no choice of keys makes this slow.
 ghost use Rattle.std.specs.Prelude.{◌≡◌, ◌+◌, ◌-◌, ◌/◌, ◌^◌, ◌≤◌, ◌<◌, ◌∷◌, ◌++◌, ◌⊎◌, [], All, IfOk, OnOk, drop};
 ghost use Rattle.std.specs.Prelude.{false, length, true, vec_len};
 ghost use Rattle.jiter_steps.specs.StringDecoder.{text_view};
@@ -18,38 +18,38 @@ use std::collections::BTreeSet;
 /// The keys of an open object.
 #[derive(Drop)]
 pub struct KeySet<'s> {
-    /// How many members lie below the object's own.
+    /// The index of the object's first member on the stack.
     pub base: usize,
-    /// How many lie below the first of its own whose key is not in the set yet.
+    /// The index of the object's first member whose key isn't in the set yet.
     pub end: usize,
-    /// Buckets of eight slots, filled from the left. A slot has how many members lie up to and with one, or 0.
+    /// Buckets of eight slots, filled from the left. A slot holds the index of a member plus 1, or 0 if it is free.
     pub slots: Vec<usize>,
-    /// The keys whose bucket was full, in order.
+    /// The keys whose bucket was full.
     pub rest: BTreeSet<CowStr<'s>>,
 }
 
-/// Where a key belongs among the slots.
+/// The position of a key among the slots.
 #[derive(Clone, Copy)]
 pub struct Place {
     /// The first slot of its bucket.
     pub bucket: usize,
-    /// The first slot there with no member, or the bucket's end.
+    /// The first free slot of the bucket, or the bucket's end.
     pub at: usize,
 }
 
-// How many slots a bucket has.
+// The number of slots of a bucket.
 const WIDTH: usize = 8;
 
-// How many slots a set has at first.
+// The number of slots of a new set.
 const FIRST: usize = 128;
 
-// How many of its last bytes a key's mark is made of.
+// A key's mark is made of at most this many of its last bytes.
 const MARKED: usize = 32;
 
-// An odd number whose bits look like chance.
+// An odd number whose bits look random.
 const ODD: u64 = 0x9e37_79b9_7f4a_7c15;
 
-/// Lets go the sets of objects that are closed: they end behind the last member.
+/// Drops the sets of closed objects: these end after the last member that is left.
 #[inline(always)]
 pub fn forget_closed(sets: &mut Vec<KeySet<'_>>, members: &Vec<(CowStr<'_>, JsonValue<'_>)>)
     requires { All (HasKeys (keys_of members.now.items)) sets.old.items }
@@ -63,7 +63,6 @@ pub fn forget_closed(sets: &mut Vec<KeySet<'_>>, members: &Vec<(CowStr<'_>, Json
     }
 }
 
-// So many slots with no member.
 fn no_members(alloc: Global, count: usize) -> Result<Vec<usize>, Refused>
     ensures { IfOk result (λ slots. vec_len slots ≡ count) }
 {
@@ -74,7 +73,8 @@ fn no_members(alloc: Global, count: usize) -> Result<Vec<usize>, Refused>
     }
 }
 
-// The mark of a key, by which its bucket is chosen.
+// A hash of the key's last bytes, which chooses its bucket. It has no secret: an attacker can put all keys into one
+// bucket, but `rest` stays fast.
 fn mark_of(key: &str) -> u64
     ensures { result ≡ mark_of key.now }
 {
@@ -86,7 +86,7 @@ fn mark_of(key: &str) -> u64
     mark
 }
 
-// The first slot of a key's bucket, among so many slots.
+// The index of the bucket's first slot, not the bucket's number.
 fn bucket_of(key: &str, count: usize) -> usize
     requires { 8 ≤ count }
     ensures value { result ≡ bucket_of key.now count }
@@ -96,7 +96,6 @@ fn bucket_of(key: &str, count: usize) -> usize
     high % (count / WIDTH) * WIDTH
 }
 
-// Where a key belongs.
 fn place_of(slots: &Vec<usize>, key: &str) -> Place
     requires { 8 ≤ vec_len slots.now }
     ensures { IsPlaceOf slots.now.items key.now result }
@@ -111,7 +110,7 @@ fn place_of(slots: &Vec<usize>, key: &str) -> Place
     Place { bucket, at: end }
 }
 
-// Whether the member up to and with which so many lie has this key.
+// `number` is what a slot holds: the index of a member plus 1, or 0.
 fn is_key_of(members: &Vec<(CowStr<'_>, JsonValue<'_>)>, number: usize, key: &str) -> bool
     ensures same { result ≡ true → IsKeyOf (keys_of members.now.items) number key.now }
     ensures other { result ≡ false → IsNoKeyOf (keys_of members.now.items) number key.now }
@@ -122,7 +121,7 @@ fn is_key_of(members: &Vec<(CowStr<'_>, JsonValue<'_>)>, number: usize, key: &st
     key == members[number - 1].0.as_str()
 }
 
-// Whether a member that a bucket's slots name has this key.
+// Whether one of the bucket's slots names a member with this key.
 fn is_named(
     members: &Vec<(CowStr<'_>, JsonValue<'_>)>,
     slots: &Vec<usize>,
@@ -141,7 +140,7 @@ fn is_named(
     false
 }
 
-// The key of the member at the set's end goes where it belongs: whether it is new among the rest, if it goes there.
+// Adds the key of the member at the set's end. Returns `false` if it goes into `rest` and is there already.
 fn put<'s>(
     alloc: Global,
     set: &mut KeySet<'s>,
@@ -166,7 +165,7 @@ fn put<'s>(
     Ok(new)
 }
 
-// A set that is half full with the members that there are begins anew, with four times the slots.
+// Once the object has half as many members as there are slots, starts again with four times the slots.
 fn widen<'s>(
     alloc: Global,
     set: &mut KeySet<'s>,
@@ -187,7 +186,7 @@ fn widen<'s>(
     Ok(())
 }
 
-// The keys of the members that are not in their object's set yet go there.
+// Adds the keys of the members that aren't in the set yet.
 fn catch_up<'s>(
     alloc: Global,
     set: &mut KeySet<'s>,
@@ -206,7 +205,7 @@ fn catch_up<'s>(
     Ok(())
 }
 
-// The key that is read next goes into its object's set: whether it is new.
+// Adds the key that is read next. `true` means that it is new; after `false` the caller looks again.
 fn add_key<'s>(
     alloc: Global,
     set: &mut KeySet<'s>,
@@ -228,8 +227,8 @@ fn add_key<'s>(
     put(alloc, set, place, key)
 }
 
-/// The key that is read next goes into the set of the object whose members begin at `base`, which is the last set if
-/// it has one: whether the key is new.
+/// Adds the key that is read next to the set of the object whose members begin at `base`. That is the last set, or a
+/// new one. `true` means that the key is new; after `false` the caller looks again.
 pub fn is_new_key<'s>(
     alloc: Global,
     sets: &mut Vec<KeySet<'s>>,

@@ -1,4 +1,4 @@
-//! The plain way: what can be read in one look and put where there is room for it. All answers stay in registers.
+//! The fast path: scalars and keys that one look shows, if their stack has the capacity. All results stay in registers.
 ghost use Rattle.std.specs.Prelude.{◌≡◌, ◌+◌, ◌^◌, ◌≤◌, ◌<◌, ◌⊎◌, length, pos, slice_get, slice_index, Some};
 ghost use Rattle.std.specs.Prelude.{if◌then◌else◌, vec_len, vec_capacity};
 ghost use Rattle.jiter_scan.specs.Ascii as ascii;
@@ -32,18 +32,17 @@ use jiter_steps::read_error::ReadError;
 use jiter_steps::string_decoder::decode_whole;
 use std::alloc::Global;
 
-/// What a look at a scalar or a key came to.
+/// What the fast path did at a scalar or a key.
 #[derive(Clone, Copy, Debug)]
 pub enum Plain {
-    /// It went where it belongs.
+    /// Put it onto its stack.
     Put,
-    /// It is not plain, or there is no room for it, and nothing was done.
+    /// Left it to the slow path, because it isn't plain or there is no capacity. The stacks are unchanged.
     Other,
-    /// Memory for its text was refused, and the reading is given up.
+    /// Stopped the reading, because an allocation for its text failed.
     Refused,
 }
 
-// The reading is given up at `at`, since memory for a text was refused.
 #[cold]
 #[inline(never)]
 fn refused_at(stacks: &mut Stacks<'_>, refused: Refused, at: usize) -> (usize, Plain)
@@ -54,8 +53,7 @@ fn refused_at(stacks: &mut Stacks<'_>, refused: Refused, at: usize) -> (usize, P
     (at, Plain::Refused)
 }
 
-// A string with no backslash and with characters beyond ASCII goes where it belongs, if it is UTF-8: the place
-// behind it.
+// Puts a string without a backslash that isn't all ASCII, if it is UTF-8. Returns the index after it.
 #[cold]
 #[inline(never)]
 fn put_plain_utf8<'s, T: Texts<'s>>(
@@ -92,7 +90,8 @@ fn put_plain_utf8<'s, T: Texts<'s>>(
     }
 }
 
-// A string with a backslash goes where it belongs, decoded, if that is whole: the place behind it.
+// Puts a string with a backslash, decoded, and returns the index after it. If it has an error, the slow path reads it
+// again.
 #[cold]
 #[inline(never)]
 fn put_decoded_text<'s, T: Texts<'s>>(
@@ -130,7 +129,7 @@ fn put_decoded_text<'s, T: Texts<'s>>(
     }
 }
 
-// A string goes where it belongs, if it is whole: the place behind it.
+// Puts a complete string. Returns the index after it.
 #[inline(always)]
 fn put_plain_text<'s, T: Texts<'s>>(
     alloc: Global,
@@ -173,7 +172,6 @@ fn put_plain_text<'s, T: Texts<'s>>(
     }
 }
 
-// The integer of a magnitude, with a minus or none.
 #[inline(always)]
 fn signed<'s>(magnitude: u64, negative: bool) -> JsonValue<'s>
     requires { magnitude < 2 ^ 63 }
@@ -183,7 +181,7 @@ fn signed<'s>(magnitude: u64, negative: bool) -> JsonValue<'s>
     JsonValue::Int(if negative { 0 - number } else { number })
 }
 
-// A short number goes where it belongs: the place behind it.
+// Puts a short number. Returns the index after it.
 #[inline(always)]
 fn put_plain_number<'s, T: Texts<'s>>(
     texts: T,
@@ -221,7 +219,7 @@ fn put_plain_number<'s, T: Texts<'s>>(
     }
 }
 
-// A literal goes where it belongs: the place behind it.
+// Puts a literal. Returns the index after it.
 #[inline(always)]
 fn put_plain_literal<'s, T: Texts<'s>>(
     stacks: &mut Stacks<'s>,
@@ -250,7 +248,7 @@ fn put_plain_literal<'s, T: Texts<'s>>(
     (end, Plain::Put)
 }
 
-/// A plain scalar, or any whole string, goes where it belongs, if there is room for it: the place behind it.
+/// Puts a plain scalar or any complete string into its slot, if there is capacity. Returns the index after it.
 #[inline(always)]
 pub fn put_plain_scalar<'s, T: Texts<'s>>(
     reading: &mut Reading<'s>,
@@ -289,7 +287,7 @@ pub fn put_plain_scalar<'s, T: Texts<'s>>(
     }
 }
 
-/// A plain key, with its colon and a value behind it, goes where it belongs: the place of the value.
+/// Pushes a plain key, if its colon and a value follow. Returns the index of the value.
 #[inline(always)]
 pub fn put_plain_key<'s, T: Texts<'s>>(
     texts: T,

@@ -1,4 +1,4 @@
-//! The scalars of a document as values.
+//! Reading the scalars of a document.
 ghost use Rattle.std.specs.Prelude.{◌≡◌, ◌≢◌, ◌<◌, ◌⊎◌, ℕ, IfOk, OnOk, OnErr, length, slice_index};
 ghost use Rattle.jiter_scan.specs.NumberDecoder.{number_view};
 ghost use Rattle.jiter_steps.specs.Literal.{literal_tree, start_of};
@@ -122,7 +122,7 @@ fn read_string<'s, T: Texts<'s>>(
     Ok(JsonValue::Str(kept))
 }
 
-/// The scalar where the reader stands; a fault leaves it there.
+/// Reads the scalar at the reader's position. An error of the bytes leaves the reader there.
 #[inline(always)]
 pub fn scalar<'s, T: Texts<'s>>(
     alloc: Global,

@@ -1,4 +1,4 @@
-//! Turns that refuse a key which its object has already.
+//! Turns that stop at a duplicate key.
 ghost use Rattle.std.specs.Prelude.{◌≡◌, ◌+◌, ◌≤◌, ◌<◌, [], All, IfOk, IfSome, None, OnOk, drop, false, length, reverse, true};
 ghost use Rattle.std.specs.Prelude.{◌⊎◌, slice_index, vec_len};
 ghost use Rattle.std.specs.Option.{option_map};
@@ -31,25 +31,24 @@ use smallvec::SmallVec;
 use std::alloc::Global;
 use std::borrow::CowStr;
 
-/// A key that its object has already.
+/// A duplicate key.
 #[derive(Drop)]
 pub struct Repeated {
-    /// Its characters.
+    /// The key, decoded.
     pub key: String,
-    /// The place behind its colon.
+    /// The index after its colon.
     pub index: usize,
 }
 
-/// Why a reading was given up that refuses repeated keys.
+/// Why a reading that rejects duplicate keys stopped.
 #[derive(Drop)]
 pub enum Stopped {
-    /// For a fault of the bytes, or since memory was refused.
+    /// An error of the bytes, or a failed allocation.
     Read(ReadError),
-    /// For a key that its object has already.
+    /// A duplicate key.
     Repeated(Repeated),
 }
 
-// How many parts lie below those of the innermost container.
 #[inline(always)]
 fn innermost_base(nest: &SmallVec<Open, 8>) -> usize
     requires { 0 < length nest.now.items }
@@ -59,7 +58,6 @@ fn innermost_base(nest: &SmallVec<Open, 8>) -> usize
     opens[opens.len() - 1].base
 }
 
-// Whether two texts begin with the same byte, or one of them is empty.
 #[inline(always)]
 fn begin_alike(one: &str, other: &str) -> bool
     ensures alike { result ≡ true → (one.now ≡ []) ⊎ ((other.now ≡ [])
@@ -78,7 +76,7 @@ fn is_equal(one: &str, other: &str) -> bool
     one == other
 }
 
-// Whether two texts are the same: few keys of one length begin with the same byte.
+// Compares the first bytes before the call: few keys of the same length begin with the same byte.
 #[inline(always)]
 fn is_same(one: &str, other: &str) -> bool
     ensures { result ≡ bytes_eq one.now other.now }
@@ -86,7 +84,6 @@ fn is_same(one: &str, other: &str) -> bool
     begin_alike(one, other) && is_equal(one, other)
 }
 
-// Whether one of the members from `base` on has this key.
 #[inline(always)]
 fn has_key(members: &Vec<(CowStr<'_>, JsonValue<'_>)>, base: usize, key: &str) -> bool
     ensures { result ≡ has_key key.now (drop base members.now.items) }
@@ -100,7 +97,7 @@ fn has_key(members: &Vec<(CowStr<'_>, JsonValue<'_>)>, base: usize, key: &str) -
     false
 }
 
-// The key that is repeated, where its colon stands; the reader stands behind the key.
+// The duplicate key that ends at the reader's position. `None` without a colon: the turn at the key reports that.
 #[cold]
 #[inline(never)]
 fn repeat_of(
@@ -125,7 +122,7 @@ fn repeat_of(
     }
 }
 
-// Whether the key at `at` is of plain ASCII with no escape, and none of the members from `base` on has it.
+// Whether the key at `at` is ASCII without a backslash, and new among the members from `base` on.
 #[inline(always)]
 fn is_new_plain_key(stacks: &Stacks<'_>, bytes: &[u8], base: usize, at: usize) -> bool
     requires stands { StandsAtKey stacks.now }
@@ -170,10 +167,11 @@ fn find_repeat(
     }
 }
 
-// Up to so many members of an object have their keys compared where they lie.
+// An object with at most this many members has no set: a key is compared with all of its keys.
 const FEW: usize = 32;
 
-// Whether the key at `at` is new in the set of the keys of the innermost object, where it goes.
+// Adds the key at `at` to the set of the innermost object. `true` means that it is new; after `false` the caller looks
+// again.
 #[cold]
 #[inline(never)]
 fn is_new_where_kept<'s>(
@@ -207,7 +205,7 @@ fn is_new_where_kept<'s>(
     }
 }
 
-// The same, if the innermost object has more than a few members.
+// The same if the innermost object has more than `FEW` members, and `false` otherwise.
 #[inline(always)]
 fn is_new_in_set<'s>(
     alloc: Global,
@@ -234,7 +232,7 @@ fn is_new_in_set<'s>(
     is_new_where_kept(alloc, texts, tape, sets, stacks, bytes, base, at)
 }
 
-// Why the reading stops before the turn at `at`, and where: its key is repeated, or memory was refused.
+// Why and where the reading stops before the key at `at`: the key is a duplicate, or an allocation failed.
 fn stop_at_key<'s>(
     alloc: Global,
     texts: Distinct<'s>,
@@ -274,7 +272,7 @@ fn stop_at_key<'s>(
     }
 }
 
-/// No key may stand where its object has it already.
+/// Allows a key only if its object doesn't have it yet.
 #[derive(Drop)]
 pub struct NewKeys<'s> {
     texts: Distinct<'s>,
@@ -283,7 +281,7 @@ pub struct NewKeys<'s> {
 }
 
 impl<'s> NewKeys<'s> {
-    // Whether the key at `at` is new, by all ways to tell.
+    // The slow path of `may_stand`: also looks into the sets, and decodes the key.
     #[cold]
     #[inline(never)]
     fn is_new(
@@ -321,7 +319,7 @@ impl<'s> Keys<'s> for NewKeys<'s> {
 
     ghost refuses = { λ k t s j. HasStopped k.stopped t s j };
 
-    // A key among a few is told at once.
+    // The fast path: a plain key of an object with few members, while there are no sets.
     #[inline(never)]
     fn may_stand(
         &mut self,
@@ -342,7 +340,7 @@ impl<'s> Keys<'s> for NewKeys<'s> {
     }
 }
 
-/// The value that begins where the reader stands, each of its texts lent, if no object in it has a key twice.
+/// Reads the value at the reader's position, its texts borrowed. Stops at a duplicate key.
 pub fn run_unique<'s>(
     reading: &mut Reading<'s>,
     texts: Distinct<'s>,

@@ -3,7 +3,7 @@ use std::alloc::Global;
 use std::io;
 use std::io::{ErrorKind, Read, Write};
 
-/// The kinds of error that end a run: all but `Interrupted`.
+/// The kinds of error that end a run: all except `Interrupted`.
 pub const ENDING_KINDS: [ErrorKind; 41] = [
     ErrorKind::NotFound,
     ErrorKind::PermissionDenied,
@@ -48,10 +48,10 @@ pub const ENDING_KINDS: [ErrorKind; 41] = [
     ErrorKind::Uncategorized,
 ];
 
-/// Calls that are counted. Those from one on, and before another, do not work.
+/// A count of calls. The calls in one range fail, or move no byte.
 #[derive(Clone, Copy)]
 pub struct Calls {
-    /// How many were made.
+    /// The number of calls so far.
     pub made: usize,
     first: usize,
     behind: usize,
@@ -59,12 +59,12 @@ pub struct Calls {
 }
 
 impl Calls {
-    /// Each call works.
+    /// Returns a count in which every call works.
     pub fn working() -> Self {
         Calls::idle(0, 0)
     }
 
-    /// So many calls from this one on, counted from 0, fail with this kind of error.
+    /// Returns a count in which `count` calls fail with this kind of error, from the call `first` on, counted from 0.
     pub fn failing(first: usize, count: usize, kind: ErrorKind) -> Self {
         Self {
             error: Some(io::Error::from(kind)),
@@ -72,7 +72,7 @@ impl Calls {
         }
     }
 
-    /// So many calls from this one on, counted from 0, move no byte and answer so.
+    /// Returns a count in which `count` calls succeed but move no byte, from the call `first` on, counted from 0.
     pub fn idle(first: usize, count: usize) -> Self {
         Self {
             made: 0,
@@ -82,7 +82,7 @@ impl Calls {
         }
     }
 
-    // Counts the next call, and tells whether it works.
+    // Counts a call: `Ok(true)` if it works, `Ok(false)` if it moves no byte.
     fn next(&mut self) -> io::Result<bool> {
         let call = self.made;
         self.made = call.saturating_add(1);
@@ -96,20 +96,20 @@ impl Calls {
     }
 }
 
-/// Gives so many bytes a call at most.
+/// A reader that returns at most `piece` bytes a call.
 #[derive(Drop)]
 pub struct CountedReader<'a> {
-    /// What is not read yet.
+    /// The bytes that are left.
     pub rest: &'a [u8],
     /// Its calls.
     pub calls: Calls,
-    /// How many calls gave nothing.
+    /// How many calls returned no byte.
     pub ends: usize,
     piece: usize,
 }
 
 impl<'a> CountedReader<'a> {
-    /// Over these bytes.
+    /// Returns a reader of these bytes.
     pub fn new(rest: &'a [u8], piece: usize, calls: Calls) -> Self {
         Self {
             rest,
@@ -135,19 +135,19 @@ impl<'a> Read for CountedReader<'a> {
     }
 }
 
-/// Takes one byte a call.
+/// A writer that takes one byte a call.
 #[derive(Drop)]
 pub struct CountedWriter {
-    /// What it took.
+    /// The bytes that it took.
     pub got: Vec<u8>,
-    /// Its calls, flushes among them.
+    /// Its calls, including flushes.
     pub calls: Calls,
-    /// How many flushes worked.
+    /// How many flushes succeeded.
     pub flushes: usize,
 }
 
 impl CountedWriter {
-    /// It has taken nothing.
+    /// Returns a writer that has taken nothing.
     pub fn new(alloc: Global, calls: Calls) -> Self {
         Self {
             got: Vec::new(alloc),
@@ -156,7 +156,7 @@ impl CountedWriter {
         }
     }
 
-    /// Whether it took these bytes alone, in one call each, and was flushed once behind them.
+    /// Returns whether it took exactly these bytes, in one call each, and was flushed once.
     pub fn took_whole(&self, bytes: &[u8]) -> bool {
         self.calls.made == bytes.len() + 1 && self.flushes == 1 && self.got.as_slice() == bytes
     }

@@ -1,9 +1,9 @@
-//! What values are printed as: lines that are shown as they stand.
+//! How values are printed: the program writes each line of these tests as it is.
 use super::{Row, does, repeated};
 use std::alloc::Global;
 use std::test::*;
 
-// Whether a line is shown as it stands.
+// Whether the program writes the line as it is.
 fn is_shown(alloc: Global, line: &[u8]) -> bool {
     let Some((_, text)) = line.split_last() else {
         return false;
@@ -50,7 +50,7 @@ fn values_are_printed(rt: HostRuntime) {
     }
 }
 
-// Whether each count up to this one of the second part between the other two is shown as it stands.
+// The same for `first`, then up to `counts` times `more`, then `last`.
 fn each_is_shown(alloc: Global, first: &str, more: &str, last: &str, counts: usize) -> bool {
     for count in 0..=counts {
         let Ok(line) = repeated(alloc, first.as_bytes(), more, count, last) else {
@@ -81,7 +81,7 @@ fn each_size_is_shown(rt: HostRuntime) {
     }
 }
 
-// Whether so many empty arrays, one inside the other, are shown as they stand.
+// The same for `depth` nested arrays.
 fn depth_is_shown(alloc: Global, depth: usize) -> bool {
     let Ok(open) = Vec::from_elem(alloc, b'[', depth) else {
         return false;

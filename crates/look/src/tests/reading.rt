@@ -1,11 +1,11 @@
-//! What documents are read as.
+//! The status and line of documents and of errors.
 use super::{Row, does, repeated};
 use jiter::{JsonValue, PartialMode};
 use jiter_print::print;
 use std::alloc::Global;
 use std::test::*;
 
-// Whether the program in this mode, with or without names, ends with this status and this line.
+// `names` adds the argument `inf-nan`.
 fn reads<'a>(
     alloc: Global,
     mode: &'a str,
@@ -74,7 +74,7 @@ fn whole_documents_and_some_faults_are_read_alike_in_each_mode(rt: HostRuntime) 
     }
 }
 
-// Whether a cut document is this fault with partial reading off, and these values in both partial modes.
+// Whether a truncated document gives this error with partial reading off, and these values in the partial modes.
 fn reads_cut(
     alloc: Global,
     names: bool,
@@ -173,7 +173,7 @@ fn cut_documents_are_read_as_the_mode_asks(rt: HostRuntime) {
     }
 }
 
-// Whether a partial mode shows this of the front, or nothing where it is refused.
+// Whether the mode gives this value for a prefix; `wanted` is empty for an error.
 fn shows(alloc: Global, front: &[u8], mode: PartialMode, wanted: &str) -> bool {
     match JsonValue::parse_with_config(alloc, front, false, mode) {
         Ok(value) => match print(alloc, &value) {
@@ -184,7 +184,7 @@ fn shows(alloc: Global, front: &[u8], mode: PartialMode, wanted: &str) -> bool {
     }
 }
 
-// The same of both partial modes.
+// The same for both partial modes.
 fn shows_cut(alloc: Global, front: &[u8], on: &str, with_strings: &str) -> bool {
     shows(alloc, front, PartialMode::On, on)
         && shows(alloc, front, PartialMode::TrailingStrings, with_strings)
@@ -233,7 +233,7 @@ fn each_front_of_a_document_is_shown_as_its_cut(rt: HostRuntime) {
     assert_eq!(rt; end, document.len() + 1);
 }
 
-// Whether a fault behind so many bytes is described with this line and column.
+// Whether an error after `count` times `before` has this line and column.
 fn describes(alloc: Global, before: &str, count: usize, line: usize, column: usize) -> bool {
     let Ok(text) = repeated(alloc, b"", before, count, "?") else {
         return false;

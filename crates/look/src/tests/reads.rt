@@ -1,11 +1,11 @@
-//! Readers that give their input in pieces, and whose calls fail.
+//! Readers that return their input in chunks, and whose calls fail.
 use super::counted::{Calls, CountedReader, ENDING_KINDS};
 use super::{Row, does, repeated, written};
 use std::alloc::Global;
 use std::io::ErrorKind;
 use std::test::*;
 
-// Whether a run over calls of a reader that fail so ends with the first of them, and writes nothing.
+// Whether a run ends at the reader's failed call, and writes nothing.
 fn ends_at(alloc: Global, text: &[u8], call: usize, kind: ErrorKind) -> bool {
     let row = Row {
         given: &["off"],
@@ -25,7 +25,7 @@ fn ends_at(alloc: Global, text: &[u8], call: usize, kind: ErrorKind) -> bool {
 #[test]
 fn nothing_is_read_or_written_after_a_failed_read(rt: HostRuntime) {
     for kind in ENDING_KINDS {
-        // Four calls give a byte each, and the fifth is the end.
+        // Four calls return a byte each, and the fifth is the end.
         for call in 0..5 {
             assert!(rt; ends_at(rt.alloc(), b"null", call, kind), "{kind}");
             assert!(rt; ends_at(rt.alloc(), b"nul!", call, kind), "{kind}");
@@ -33,7 +33,7 @@ fn nothing_is_read_or_written_after_a_failed_read(rt: HostRuntime) {
     }
 }
 
-// Whether the program, over calls of a reader like these, reads so many times, and writes this line of a value.
+// Whether the program makes this number of reads and writes this line.
 fn shows_over<'a>(alloc: Global, text: &'a str, calls: Calls, reads: usize, line: &'a str) -> bool {
     let row = Row {
         given: &["off"],
@@ -62,13 +62,13 @@ fn an_interrupted_read_is_tried_again(rt: HostRuntime) {
 
 #[test]
 fn nothing_is_read_behind_the_end(rt: HostRuntime) {
-    // The reader would give more after the call that gave nothing.
+    // The reader would return more after the call that returned nothing.
     for (call, line) in [(1, "1\n"), (2, "12\n"), (3, "123\n")] {
         assert!(rt; shows_over(rt.alloc(), "1234", Calls::idle(call, 1), call + 1, line));
     }
 }
 
-// Whether an input that is read in pieces ends with this status and this line. Both have their middle part so often.
+// Text and line have their middle part `count` times.
 fn reads_long(
     alloc: Global,
     count: usize,

@@ -1,4 +1,4 @@
-//! What is refused where the words end with `unique`: a key that its object has already.
+//! Duplicate keys: errors with the argument `unique`, kept without it.
 use super::{Row, does};
 use std::test::*;
 

@@ -1,4 +1,4 @@
-//! What words ask for.
+//! The program's arguments.
 use super::{Row, does, list_of};
 use crate::asking::words;
 use crate::running::End;
@@ -7,7 +7,7 @@ use jiter::PartialMode;
 use std::alloc::{AllocError, Global};
 use std::test::*;
 
-// Whether words ask for this.
+// Whether the arguments ask for these settings.
 fn ask_for(alloc: Global, given: &[&str], mode: PartialMode, inf_nan: bool, unique: bool) -> bool {
     let asked = Words {
         mode,
@@ -35,7 +35,7 @@ fn words_name_a_mode(rt: HostRuntime) {
     }
 }
 
-// Whether words ask for nothing, and get the usage line.
+// Whether the arguments are wrong, and the program writes the usage line.
 fn are_wrong(alloc: Global, given: &[&str]) -> bool {
     let row = Row {
         given,

@@ -1,4 +1,4 @@
-//! Lines over writers that take one byte a call, and whose calls fail.
+//! Writers that take one byte a call, and whose calls fail.
 use super::counted::{Calls, CountedReader, CountedWriter, ENDING_KINDS};
 use super::{Row, written};
 use crate::running::run;
@@ -8,7 +8,7 @@ use std::alloc::Global;
 use std::io::ErrorKind;
 use std::test::*;
 
-// A line of each status.
+// A row for each status with a line.
 const ROWS: [Row<'static>; 3] = [
     Row {
         given: &["off"],
@@ -30,7 +30,7 @@ const ROWS: [Row<'static>; 3] = [
     },
 ];
 
-// Whether a line of so many bytes is written byte by byte and flushed once.
+// Whether a line of this length is written byte by byte and flushed once.
 fn is_whole(alloc: Global, length: usize) -> bool {
     let Ok(line) = Vec::from_elem(alloc, b'x', length) else {
         return false;
@@ -73,8 +73,7 @@ fn a_line_is_added_behind_what_stands(rt: HostRuntime) {
     );
 }
 
-// Whether a run whose calls of the writer of its line are these ends with this status, after so many of them, and the
-// writer took these bytes.
+// Whether a run ends with this status after `made` calls of its line's writer, which took the bytes `got`.
 fn ends(alloc: Global, row: Row<'_>, calls: Calls, status: u8, made: usize, got: &[u8]) -> bool {
     let mut reader = CountedReader::new(row.text, 1, Calls::working());
     match written(alloc, row, &mut reader, calls) {
@@ -85,13 +84,13 @@ fn ends(alloc: Global, row: Row<'_>, calls: Calls, status: u8, made: usize, got:
     }
 }
 
-// Whether this call, which does not work, is the last one and the run fails, with a front of the line written.
+// Whether the run fails at this call, makes no other, and has written a prefix of the line.
 fn ends_at(alloc: Global, row: Row<'_>, call: usize, calls: Calls) -> bool {
     let front = row.line.get(..call).unwrap_or(row.line);
     ends(alloc, row, calls, 3, call.saturating_add(1), front)
 }
 
-// The same of each call in turn that fails so, the flush last.
+// The same for each call in turn. The last one is the flush.
 fn ends_at_each(alloc: Global, row: Row<'_>, kind: ErrorKind) -> bool {
     for call in 0..=row.line.len() {
         if !ends_at(alloc, row, call, Calls::failing(call, 1, kind)) {
@@ -110,7 +109,7 @@ fn a_call_that_failed_is_the_last(rt: HostRuntime) {
     }
 }
 
-// Whether the line is written whole although so many calls from this one on are interrupted.
+// Whether the line is written completely although `count` calls from this one on are interrupted.
 fn is_tried_again(alloc: Global, row: Row<'_>, call: usize, count: usize) -> bool {
     let calls = Calls::failing(call, count, ErrorKind::Interrupted);
     let made = count.saturating_add(row.line.len() + 1);

@@ -4,7 +4,7 @@ use std::alloc::Global;
 use std::io::ErrorKind;
 use std::test::*;
 
-// Whether a read that fails so ends the run with what was shown before.
+// Whether a failed read ends the run, and the values shown before it stay.
 fn ends_at(alloc: Global, call: usize, kind: ErrorKind, out: &str) -> bool {
     let mut reader = Pieces::new(b"[1,]", 1);
     reader.failing = Some((call, kind));
@@ -36,7 +36,7 @@ fn a_failed_read_is_the_last(rt: HostRuntime) {
     }
 }
 
-// Whether a read that is interrupted is made again.
+// Whether an interrupted read is repeated.
 fn goes_on_at(alloc: Global, call: usize) -> bool {
     let mut reader = Pieces::new(b"[1]", 1);
     reader.failing = Some((call, ErrorKind::Interrupted));
@@ -55,7 +55,7 @@ fn an_interrupted_read_is_made_again(rt: HostRuntime) {
     }
 }
 
-// Whether writers with so much room are filled, and the run fails.
+// Whether the run fails once a writer is full. The writers take `room` and `fault_room` bytes.
 fn fills(alloc: Global, room: usize, fault_room: usize) -> bool {
     let out = "[]\n[1]\n";
     let err = "trailing comma at line 1 column 4\n";

@@ -1,11 +1,11 @@
-//! What is shown of documents and of bad input, in pieces.
+//! What is shown of documents and of bad input, read in chunks.
 use super::{Wanted, does};
 use std::alloc::Global;
 use std::test::*;
 
 const DOCUMENT: &str = "[12,\"aé\",{\"k\":true}] ";
 
-// The lines in each mode of a document that comes byte by byte.
+// The lines in each mode for a document that is read byte by byte.
 const ON: [&str; 6] = [
     "[]\n",
     "[1]\n",
@@ -26,7 +26,7 @@ const TRAILING: [&str; 8] = [
     "[12,\"aé\",{\"k\":true}]\n",
 ];
 
-// So many of these lines.
+// The first `count` lines.
 fn first(alloc: Global, lines: &[&str], count: usize) -> Option<String> {
     let mut text = String::new(alloc);
     for line in lines.get(..count)? {
@@ -35,7 +35,7 @@ fn first(alloc: Global, lines: &[&str], count: usize) -> Option<String> {
     Some(text)
 }
 
-// Whether so many of the lines are shown of the document's first bytes, and the fault of its end.
+// Whether the document's first `end` bytes give the first `count` lines, and an error at their end.
 fn shows_cut(
     alloc: Global,
     mode: &str,
@@ -102,7 +102,7 @@ fn a_document_that_is_cut_at_each_byte_is_shown_as_far_as_it_goes(rt: HostRuntim
     assert_eq!(rt; end, DOCUMENT.len() - 1);
 }
 
-// Whether the lines of the whole document are these, in pieces of so many bytes.
+// Whether the complete document gives these lines, read `most` bytes at a time.
 fn shows_whole(alloc: Global, mode: &str, most: usize, out: &str) -> bool {
     let wanted = Wanted {
         status: 0,
@@ -132,7 +132,7 @@ fn a_whole_document_is_shown_after_each_read(rt: HostRuntime) {
     }
 }
 
-// Whether an input that is no document is shown so, byte by byte, and refused so.
+// Whether bad input, read byte by byte, gives these lines and then this error.
 fn refuses(alloc: Global, given: &[&str], text: &str, out: &str, err: &str) -> bool {
     let wanted = Wanted {
         status: 1,
@@ -170,7 +170,7 @@ fn bad_input_is_shown_as_far_as_it_goes_and_refused_at_its_end(rt: HostRuntime) 
     }
 }
 
-// Whether a text is refused so at its end, in pieces of so many bytes.
+// The same, read `most` bytes at a time.
 fn tells(alloc: Global, text: &[u8], most: usize, out: &str, err: &str) -> bool {
     let wanted = Wanted {
         status: 1,

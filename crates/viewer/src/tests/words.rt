@@ -1,11 +1,11 @@
-//! What words ask for.
+//! The program's arguments.
 use super::{Pieces, Wanted, does_within, list_of};
 use crate::words::{Words, read_words};
 use jiter::PartialMode;
 use std::alloc::Global;
 use std::test::*;
 
-// Whether words ask for this.
+// Whether the arguments ask for these settings.
 fn ask_for(alloc: Global, given: &[&str], mode: PartialMode, inf_nan: bool) -> bool {
     match list_of(alloc, given) {
         Ok(list) => read_words(list.as_slice()) == Some(Words { mode, inf_nan }),
@@ -24,7 +24,7 @@ fn words_name_a_partial_mode(rt: HostRuntime) {
     }
 }
 
-// Whether words are answered with the usage line, and nothing is read.
+// Whether the arguments get the usage line, and nothing is read.
 fn are_wrong(alloc: Global, given: &[&str]) -> bool {
     let mut reader = Pieces::new(b"[1]", 1);
     let wanted = Wanted {
