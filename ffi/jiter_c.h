@@ -111,8 +111,9 @@ static inline JiterReader jiter_reader(const void *bytes, size_t length) {
   return reader;
 }
 
-/* Whole documents. jiter_parse answers whether the bytes are a document, in a partial mode whether they are the
- * front of one. jiter_print writes the compact text of the document's value, as far as it fits into `out`, and its
+/* Whole documents. jiter_parse answers whether the bytes are a document. In a partial mode it answers whether they can
+ * be read as one that is cut: an end of the input in a container, a missing comma and bytes after the value are then no
+ * errors. jiter_print writes the compact text of the document's value, as far as it fits into `out`, and its
  * whole length: of `whole` bytes `room` are written at most. A reader walks that text as it walks any document. */
 bool jiter_parse(const uint8_t *bytes, size_t length, bool allow_inf_nan, uint32_t mode, JiterFault *fault);
 bool jiter_print(const uint8_t *bytes, size_t length, bool allow_inf_nan, uint32_t mode, uint8_t *out, size_t room,

@@ -184,12 +184,6 @@ fn shows(alloc: Global, front: &[u8], mode: PartialMode, wanted: &str) -> bool {
     }
 }
 
-// The same for both partial modes.
-fn shows_cut(alloc: Global, front: &[u8], on: &str, with_strings: &str) -> bool {
-    shows(alloc, front, PartialMode::On, on)
-        && shows(alloc, front, PartialMode::TrailingStrings, with_strings)
-}
-
 #[test]
 fn each_front_of_a_document_is_shown_as_its_cut(rt: HostRuntime) {
     let document = "[12,\"aé\",{\"k\":true}]".as_bytes();
