@@ -1,40 +1,73 @@
-/* Loaded before the C library by checks/refused. Of a run's requests for memory it refuses the one whose number the
-   environment variable REFUSE has, counted from 1, and tells of it by the byte `r` on the descriptor 3. Where the
-   variable COUNT is set it tells, at the run's end, how many bytes were asked for. */
+/* Loaded before the C library by checks/refused and checks/memory. It counts three things: the requests for memory, the
+   bytes that they ask for, and the blocks that are not freed yet. If the environment variable REFUSE is a number, the
+   request of this number fails, counted from 1. A request of MARK bytes is a mark of the program `refused` (mark.rt):
+   it always fails and is never counted.
+   On descriptor 3 it writes `refused` when it lets a request fail, and the three counts at each mark and at the end. */
 #include <errno.h>
 #include <stddef.h>
 #include <stdio.h>
 #include <stdlib.h>
 #include <unistd.h>
 
-extern void *__libc_malloc(size_t size);
-extern void *__libc_realloc(void *old, size_t size);
+#define MARK 1296126539
 
-static long left;
+extern void *__libc_malloc(size_t size);
+extern void *__libc_calloc(size_t count, size_t size);
+extern void *__libc_realloc(void *old, size_t size);
+extern void __libc_free(void *block);
+
+static long refuse, requests, blocks;
 static size_t asked;
+
+/* Not by dprintf, which allocates. */
+static void write_line(const char *line, size_t length) {
+  if (write(3, line, length) != (ssize_t)length)
+    _exit(99);
+}
+
+static void write_counts(void) {
+  char line[80];
+  write_line(line, snprintf(line, sizeof line, "%ld %zu %ld\n", requests, asked, blocks));
+}
 
 __attribute__((constructor)) static void begin(void) {
   const char *number = getenv("REFUSE");
-  left = number ? atol(number) : 0;
+  refuse = number ? atol(number) : 0;
 }
 
-__attribute__((destructor)) static void end(void) {
-  if (getenv("COUNT"))
-    dprintf(3, "%zu\n", asked);
-}
+__attribute__((destructor)) static void end(void) { write_counts(); }
 
 static int is_refused(size_t size) {
-  asked += size;
-  if (left == 0 || --left > 0)
-    return 0;
-  if (write(3, "r", 1) != 1)
-    _exit(99);
+  if (size == MARK) {
+    write_counts();
+  } else {
+    asked += size;
+    if (++requests != refuse)
+      return 0;
+    write_line("refused\n", 8);
+  }
   errno = ENOMEM;
   return 1;
 }
 
-void *malloc(size_t size) { return is_refused(size) ? NULL : __libc_malloc(size); }
+static void *counted(void *block) {
+  blocks += block != NULL;
+  return block;
+}
+
+void *malloc(size_t size) { return is_refused(size) ? NULL : counted(__libc_malloc(size)); }
+
+void *calloc(size_t count, size_t size) {
+  return is_refused(count * size) ? NULL : counted(__libc_calloc(count, size));
+}
 
 void *realloc(void *old, size_t size) {
+  if (old == NULL)
+    return malloc(size);
   return is_refused(size) ? NULL : __libc_realloc(old, size);
+}
+
+void free(void *block) {
+  blocks -= block != NULL;
+  __libc_free(block);
 }

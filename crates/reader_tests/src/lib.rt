@@ -1,4 +1,4 @@
-//! What the pull reader of `jiter` keeps, skips and finds damaged: tests alone. Its answers call by call are the
+//! What the pull reader of `jiter` skips and finds damaged: tests alone. Its answers call by call are the
 //! rows of crates/reader_answers.
 #![tactic(auto)]
 

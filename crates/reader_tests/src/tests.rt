@@ -1,5 +1,3 @@
-//! The pull reader: damage, skips, and the memory that it keeps or does without.
+//! The pull reader: damage and skips.
 mod damage;
-mod kept;
-mod memory;
 mod skips;

@@ -20,6 +20,8 @@ pub enum Whole {
     OwnedByScratch,
     /// `two_prefixes`, each of them the whole text.
     TwoPrefixes,
+    /// `two_prefixes`, one of them half the text and the other all of it.
+    HalfPrefix,
 }
 
 /// A call that reads a whole value where a reader stands.
@@ -35,6 +37,19 @@ pub enum Reading {
     KnownOwned,
     /// `value_by_steps`
     BySteps,
+    /// `Jiter::next_skip`
+    Skip,
+}
+
+/// A reader's walk through a document of one form.
+#[derive(Debug, Clone, Copy)]
+pub enum Steps {
+    /// Calls that do not allocate.
+    Plain,
+    /// Calls that share a tape.
+    KeptTape,
+    /// `Jiter::with_tape` and `into_tape`, with three tapes.
+    Tapes,
 }
 
 /// A call that copies a value, or tells of a fault or a place.
@@ -67,6 +82,8 @@ pub enum Call {
     Reading(Reading),
     /// The text and key reads of a reader: those of a caller that has looked, or the others.
     Texts(bool),
+    /// A reader's walk through a document of one form.
+    Steps(Steps),
     /// One that copies or tells.
     Copy(Copying),
     /// `Arriving::push`, of pieces of so many bytes.
@@ -103,10 +120,14 @@ fn call_named(word: &str) -> Option<Call> {
         "scratch" => Some(Call::Whole(Whole::Scratch)),
         "scratch-owned" => Some(Call::Whole(Whole::OwnedByScratch)),
         "two-prefixes" => Some(Call::Whole(Whole::TwoPrefixes)),
+        "half-prefix" => Some(Call::Whole(Whole::HalfPrefix)),
         "next-str" => Some(Call::Texts(false)),
         "known-str" => Some(Call::Texts(true)),
         "pieces" => Some(Call::Pieces(5)),
         "one-piece" => Some(Call::Pieces(usize::MAX)),
+        "plain-walk" => Some(Call::Steps(Steps::Plain)),
+        "kept-tape" => Some(Call::Steps(Steps::KeptTape)),
+        "tapes" => Some(Call::Steps(Steps::Tapes)),
         _ => match reading_named(word) {
             Some(reading) => Some(Call::Reading(reading)),
             None => Some(Call::Copy(copying_named(word)?)),
@@ -121,6 +142,7 @@ fn reading_named(word: &str) -> Option<Reading> {
         "next-value-owned" => Some(Reading::NextOwned),
         "known-value-owned" => Some(Reading::KnownOwned),
         "value-by-steps" => Some(Reading::BySteps),
+        "skip" => Some(Reading::Skip),
         _ => None,
     }
 }

@@ -1,5 +1,6 @@
 //! Copies of a value, and what is told of a fault and of a place.
 use crate::asking::Copying;
+use crate::mark::mark;
 use crate::outcome::Outcome;
 use jiter::{Jiter, JsonError, JsonErrorType as Kind, JsonValue, PartialMode, UniqueError};
 use std::alloc::{AllocError, Global};
@@ -45,31 +46,36 @@ fn end_of(bytes: &[u8]) -> JsonError {
 
 // A copy, which leaves the value as it was, made or refused.
 fn copied(alloc: Global, value: JsonValue<'_>, call: Copying) -> Result<Outcome, AllocError> {
+    if matches!(call, Copying::IntoStatic) {
+        return moved(alloc, value);
+    }
     let before = text_of(alloc, &value)?;
+    let _ = mark(alloc);
     let copy = match call {
-        Copying::Clone => match value.clone(alloc) {
-            Ok(copy) => Some(text_of(alloc, &copy)?),
-            Err(_) => None,
-        },
-        Copying::ToStatic => match value.to_static(alloc) {
-            Ok(copy) => Some(text_of(alloc, &copy)?),
-            Err(_) => None,
-        },
-        _ => return moved(alloc, value),
+        Copying::Clone => value.clone(alloc),
+        _ => value.to_static(alloc),
     };
+    let _ = mark(alloc);
     let after = text_of(alloc, &value)?;
     if before.as_str() != after.as_str() {
         return Ok(Outcome::Broken(after));
     }
-    match copy {
-        Some(line) => Ok(Outcome::Answered(line)),
-        None => Outcome::refused(alloc),
-    }
+    copy_told(alloc, copy)
 }
 
 fn moved(alloc: Global, value: JsonValue<'_>) -> Result<Outcome, AllocError> {
-    match value.into_static(alloc) {
-        Ok(own) => Outcome::value(alloc, &own),
+    let _ = mark(alloc);
+    let own = value.into_static(alloc);
+    let _ = mark(alloc);
+    copy_told(alloc, own)
+}
+
+fn copy_told(
+    alloc: Global,
+    copy: Result<JsonValue<'_>, AllocError>,
+) -> Result<Outcome, AllocError> {
+    match copy {
+        Ok(copy) => Outcome::value(alloc, &copy),
         Err(_) => Outcome::refused(alloc),
     }
 }

@@ -1,13 +1,17 @@
 //! Makes one call of the parser on standard input, and tells what it came to: for runs in each of which one request for
-//! memory is refused (checks/refused).
+//! memory is refused (checks/refused), and for runs whose requests are counted (checks/memory).
 #![tactic(auto)]
 
 mod answers;
 mod asking;
 mod copies;
+mod mark;
 mod outcome;
 mod pieces;
 mod reading;
+mod scratch;
+mod steps;
+mod stop;
 mod walk;
 mod whole;
 
@@ -58,7 +62,8 @@ fn outcome_of(alloc: Global, bytes: &[u8], asked: Asked) -> Result<Outcome, Allo
     match asked.call {
         Call::Whole(call) => whole::outcome(alloc, bytes, asked.mode, call),
         Call::Reading(call) => reading::outcome(alloc, bytes, call),
-        Call::Texts(known) => walk::outcome(alloc, bytes, known),
+        Call::Texts(known) => walk::outcome(alloc, bytes, asked.mode, known),
+        Call::Steps(call) => steps::outcome(alloc, bytes, call),
         Call::Copy(call) => copies::outcome(alloc, bytes, asked.mode, call),
         Call::Pieces(size) => pieces::outcome(alloc, bytes, asked.mode, size),
     }

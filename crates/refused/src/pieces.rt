@@ -1,27 +1,13 @@
 //! A document that comes in pieces, each of them pushed until it is taken.
 use crate::answers::first_of;
 use crate::outcome::Outcome;
+use crate::stop::Stop;
 use jiter::{JsonError, JsonErrorType as Kind, JsonValue, PartialMode};
 use jiter_incremental::Arriving;
 use std::alloc::{AllocError, Global};
 
 // What a parse answers.
 type Answer = Result<JsonValue<'static>, JsonError>;
-
-// What is no refusal of a push: a request of the program itself is refused, or something that is promised does not hold.
-#[derive(Debug, Drop)]
-enum Stop {
-    Own(AllocError),
-    Broken(&'static str),
-}
-
-impl From<AllocError> for Stop {
-    ghost from_gives = { λ _ _. Unit {0} };
-
-    fn from(error: AllocError) -> Self {
-        Stop::Own(error)
-    }
-}
 
 // A reading of these bytes, and where a push of it was refused, if one was.
 #[derive(Drop)]
@@ -49,8 +35,7 @@ pub fn outcome(
     };
     match pushing.go_on(alloc, size) {
         Ok(outcome) => Ok(outcome),
-        Err(Stop::Own(error)) => Err(error),
-        Err(Stop::Broken(what)) => Outcome::broken(alloc, what),
+        Err(stop) => stop.outcome(alloc),
     }
 }
 

@@ -1,6 +1,8 @@
 //! A document walked through by steps, each of its texts and keys read.
+use crate::mark::mark;
 use crate::outcome::Outcome;
-use jiter::{Jiter, JiterError, JiterErrorType, JiterResult, JsonErrorType as Kind};
+use crate::stop::{Stop, is_short};
+use jiter::{Jiter, JiterError, JiterResult, PartialMode};
 use std::alloc::{AllocError, Global};
 
 // What comes next.
@@ -9,30 +11,6 @@ enum Next {
     Value,
     // Behind a bracket or a part: nothing more, or what stands behind the part.
     Behind,
-}
-
-// Why a walk ends early.
-#[derive(Debug, Drop)]
-enum Stop {
-    Reader(JiterError),
-    Own(AllocError),
-    Broken(&'static str),
-}
-
-impl From<JiterError> for Stop {
-    ghost from_gives = { λ _ _. Unit {0} };
-
-    fn from(error: JiterError) -> Self {
-        Stop::Reader(error)
-    }
-}
-
-impl From<AllocError> for Stop {
-    ghost from_gives = { λ _ _. Unit {0} };
-
-    fn from(error: AllocError) -> Self {
-        Stop::Own(error)
-    }
 }
 
 // A walk: the reader, the open containers, whether each is an array, what was read, and whether memory was refused.
@@ -48,10 +26,15 @@ struct Walk<'j> {
 
 /// What a walk through a document comes to: its texts and keys on one line. Where memory is refused for one the reader
 /// stands at its first byte; a text is then read again, and the walk goes on.
-pub fn outcome(alloc: Global, bytes: &[u8], known: bool) -> Result<Outcome, AllocError> {
+pub fn outcome(
+    alloc: Global,
+    bytes: &[u8],
+    mode: PartialMode,
+    known: bool,
+) -> Result<Outcome, AllocError> {
     let mut walk = Walk {
         bytes,
-        jiter: Jiter::new(bytes).with_allow_inf_nan(),
+        jiter: reader(bytes, mode),
         arrays: Vec::new(alloc),
         line: String::new(alloc),
         refused: false,
@@ -59,15 +42,11 @@ pub fn outcome(alloc: Global, bytes: &[u8], known: bool) -> Result<Outcome, Allo
     };
     match walk.go_on(alloc) {
         Ok(()) => {}
-        Err(Stop::Own(error)) => return Err(error),
-        Err(Stop::Broken(what)) => return Outcome::broken(alloc, what),
-        Err(Stop::Reader(error)) => {
-            if is_short(&error) {
-                return Outcome::refused(alloc);
-            }
+        Err(Stop::Reader(error)) if !is_short(&error) => {
             let line = format!(in alloc; "{} at {}", error.error_type, error.index)?;
             walk.line.push_str(line.as_str())?;
         }
+        Err(stop) => return stop.outcome(alloc),
     }
     if walk.refused {
         Ok(Outcome::Refused(walk.line))
@@ -76,19 +55,25 @@ pub fn outcome(alloc: Global, bytes: &[u8], known: bool) -> Result<Outcome, Allo
     }
 }
 
-// Whether memory was refused.
-fn is_short(error: &JiterError) -> bool {
-    error.error_type == JiterErrorType::JsonError(Kind::OutOfMemory)
+// A reader, which in one mode reads truncated strings too.
+fn reader(bytes: &[u8], mode: PartialMode) -> Jiter<'_> {
+    let jiter = Jiter::new(bytes).with_allow_inf_nan();
+    match mode {
+        PartialMode::TrailingStrings => jiter.with_allow_partial_strings(),
+        _ => jiter,
+    }
 }
 
-// The text that a call lends, copied.
+// Ends the section of a call, and copies the string that it returns.
 fn copied(alloc: Global, reply: JiterResult<&str>) -> Result<String, Stop> {
+    let _ = mark(alloc);
     let text = reply?;
     Ok(String::from_str(alloc, text)?)
 }
 
-// The key that a call lends, copied.
+// The same for a key.
 fn copied_key(alloc: Global, reply: JiterResult<Option<&str>>) -> Result<Option<String>, Stop> {
+    let _ = mark(alloc);
     match reply? {
         Some(text) => Ok(Some(String::from_str(alloc, text)?)),
         None => Ok(None),
@@ -160,6 +145,7 @@ impl<'j> Walk<'j> {
 
     fn key(&mut self, alloc: Global) -> Result<Next, Stop> {
         let first = self.first_quote();
+        let _ = mark(alloc);
         let key = copied_key(alloc, self.jiter.next_key(alloc));
         match self.kept(key, first)? {
             Some(text) => {
@@ -196,10 +182,14 @@ impl<'j> Walk<'j> {
     // The text where the reader stands.
     fn read_text(&mut self, alloc: Global) -> Result<String, Stop> {
         if !self.known {
+            let _ = mark(alloc);
             return copied(alloc, self.jiter.next_str(alloc));
         }
         match self.jiter.peek()?.into_inner() {
-            b'"' => copied(alloc, self.jiter.known_str(alloc)),
+            b'"' => {
+                let _ = mark(alloc);
+                copied(alloc, self.jiter.known_str(alloc))
+            }
             _ => Err(Stop::Broken("no text stands here")),
         }
     }
@@ -207,10 +197,14 @@ impl<'j> Walk<'j> {
     // The first key of the object where the reader stands.
     fn first_key(&mut self, alloc: Global) -> Result<Option<String>, Stop> {
         if !self.known {
+            let _ = mark(alloc);
             return copied_key(alloc, self.jiter.next_object(alloc));
         }
         match self.jiter.peek()?.into_inner() {
-            b'{' => copied_key(alloc, self.jiter.known_object(alloc)),
+            b'{' => {
+                let _ = mark(alloc);
+                copied_key(alloc, self.jiter.known_object(alloc))
+            }
             _ => Err(Stop::Broken("no object stands here")),
         }
     }

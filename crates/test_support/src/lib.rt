@@ -1,5 +1,4 @@
-//! What the tests and the programs of rows share: values and errors in words, and memory that is counted.
+//! What the tests and the programs of rows share: values and errors in words.
 #![tactic(auto)]
 
-pub mod held;
 pub mod told;

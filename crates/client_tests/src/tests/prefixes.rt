@@ -1,10 +1,9 @@
 //! Two prefixes of one document, read in one call: the longer one's value goes on where the shorter one's stopped.
 use jiter::client::two_prefixes;
-use jiter::{JsonError, JsonErrorType as Kind, JsonValue, PartialMode};
+use jiter::{JsonError, JsonValue, PartialMode};
 use std::alloc::{AllocError, Global};
 use std::borrow::CowStr;
 use std::test::*;
-use test_support::held::Held;
 use test_support::told::{answer_text, text_of};
 
 // Both values on one line, or the kind and the index of the fault.
@@ -184,57 +183,6 @@ fn each_longer_front_extends_each_shorter_one(rt: HostRuntime) -> Result<(), Fai
             let agree = all_fronts_agree(alloc, text.as_bytes(), numbers, mode)?;
             assert!(rt; agree, "{text}");
         }
-    }
-    Ok(())
-}
-
-// Whether the call is asked with more and more memory until it answers these values, and one request was refused
-// behind the end of the shorter front.
-fn refusals_are_told(
-    alloc: Global,
-    bytes: &[u8],
-    shorter: usize,
-    mode: PartialMode,
-    wanted: &str,
-) -> Result<bool, Fail> {
-    let shorter = shorter.min(bytes.len());
-    let mut held = Held::all(alloc)?;
-    let mut refused_behind = false;
-    for steps in 0..128usize {
-        held.leave(alloc, 16 * steps)?;
-        let outcome = two_prefixes(alloc, bytes, shorter, bytes.len(), false, mode);
-        held.give_back(alloc);
-        match &outcome {
-            Ok(_) => return Ok(refused_behind && told(alloc, &outcome)?.as_str() == wanted),
-            Err(error) if error.error_type == Kind::OutOfMemory => {
-                refused_behind = refused_behind || error.index > shorter;
-            }
-            Err(_) => return Ok(false),
-        }
-    }
-    Ok(false)
-}
-
-#[test]
-fn each_refused_request_of_two_fronts_is_told(rt: HostRuntime) -> Result<(), Fail> {
-    const ROWS: [(&str, usize, PartialMode, &str); 2] = [
-        (
-            r#"[1,["a\nb"],{"k":"\u0061"}]"#,
-            11,
-            PartialMode::On,
-            "[1,[owned 'a\nb']] and [1,[owned 'a\nb'],{'k':owned 'a'}]",
-        ),
-        (
-            r#"[1,["a\nb"],{"k":"\u0061","l":["\n"#,
-            7,
-            PartialMode::TrailingStrings,
-            "[1,[owned 'a']] and [1,[owned 'a\nb'],{'k':owned 'a','l':[owned '\n']}]",
-        ),
-    ];
-    let alloc = rt.alloc();
-    for &(text, shorter, mode, wanted) in &ROWS {
-        let told = refusals_are_told(alloc, text.as_bytes(), shorter, mode, wanted)?;
-        assert!(rt; told, "{text}");
     }
     Ok(())
 }

@@ -1,0 +1,145 @@
+//! A scratch that reads one document again and again.
+use crate::mark::mark;
+use crate::outcome::Outcome;
+use crate::stop::Stop;
+use jiter::{JsonError, JsonErrorType as Kind, JsonValue, JsonValueScratch, PartialMode};
+use std::alloc::{AllocError, Global};
+
+// Other documents of each kind, with each setting.
+const OTHERS: [(&[u8], bool, PartialMode); 14] = [
+    (b"[1,{\"k\":[\"\\n\"", false, PartialMode::Off),
+    (b"[1,{\"k\":[\"\\n\"", false, PartialMode::On),
+    (b"[1,{\"k\":[\"\\n\"", false, PartialMode::TrailingStrings),
+    (b"[1,{\"\\n\":[\"\\n\"]}]", true, PartialMode::Off),
+    (b"", false, PartialMode::Off),
+    (b" null", false, PartialMode::Off),
+    (b"-7", false, PartialMode::On),
+    (b"2.5", false, PartialMode::Off),
+    (b"NaN", true, PartialMode::TrailingStrings),
+    (b"\"a\"", false, PartialMode::Off),
+    (b"\"\\n\"", false, PartialMode::Off),
+    (b"\"\\x\"", false, PartialMode::Off),
+    (b"[ ]", false, PartialMode::Off),
+    (b"{ } x", false, PartialMode::Off),
+];
+
+// What the readings came to: their answer, and the line of the one that ran out of memory.
+#[derive(Default, Drop)]
+struct Readings {
+    answer: Option<String>,
+    refused: Option<String>,
+}
+
+impl Readings {
+    // Adds what a reading of the document came to. All answers must be the same, and at most one allocation may fail.
+    fn add(&mut self, outcome: Outcome) -> Result<(), Stop> {
+        match outcome {
+            Outcome::Answered(line) => self.answer(line),
+            Outcome::Refused(line) => self.refuse(line),
+            Outcome::Broken(_) => Err(Stop::Broken("out of memory outside of the document")),
+        }
+    }
+
+    fn answer(&mut self, line: String) -> Result<(), Stop> {
+        match &self.answer {
+            Some(other) if other.as_str() != line.as_str() => {
+                Err(Stop::Broken("a scratch does not read what a fresh parse reads"))
+            }
+            Some(_) => Ok(()),
+            None => {
+                self.answer = Some(line);
+                Ok(())
+            }
+        }
+    }
+
+    fn refuse(&mut self, line: String) -> Result<(), Stop> {
+        if self.refused.is_some() {
+            return Err(Stop::Broken("out of memory twice"));
+        }
+        self.refused = Some(line);
+        Ok(())
+    }
+
+    // Adds what a reading of another document came to.
+    fn add_other(
+        &mut self,
+        alloc: Global,
+        answer: &Result<JsonValue<'_>, JsonError>,
+    ) -> Result<(), Stop> {
+        match answer {
+            Err(error) if error.error_type == Kind::OutOfMemory => {
+                self.refuse(String::from_str(alloc, "out of memory in another document")?)
+            }
+            _ => Ok(()),
+        }
+    }
+
+    fn end(self, alloc: Global) -> Result<Outcome, AllocError> {
+        let Readings { answer, refused } = self;
+        match (answer, refused) {
+            (_, Some(line)) => Ok(Outcome::Refused(line)),
+            (Some(line), None) => Ok(Outcome::Answered(line)),
+            (None, None) => Outcome::broken(alloc, "nothing was read"),
+        }
+    }
+}
+
+/// Returns what a fresh parse and three readings of one scratch come to, which is the same each time. The scratch reads
+/// other documents before the third. The call of `new` is a section, and each reading of the document is one.
+pub fn borrowed(alloc: Global, bytes: &[u8], mode: PartialMode) -> Result<Outcome, AllocError> {
+    match read(alloc, bytes, mode) {
+        Ok(readings) => readings.end(alloc),
+        Err(stop) => stop.outcome(alloc),
+    }
+}
+
+/// The same for values that own their strings.
+pub fn owned(alloc: Global, bytes: &[u8], mode: PartialMode) -> Result<Outcome, AllocError> {
+    match read_owned(alloc, bytes, mode) {
+        Ok(readings) => readings.end(alloc),
+        Err(stop) => stop.outcome(alloc),
+    }
+}
+
+fn read(alloc: Global, bytes: &[u8], mode: PartialMode) -> Result<Readings, Stop> {
+    let mut readings = Readings::default();
+    let fresh = JsonValue::parse_with_config(alloc, bytes, true, mode);
+    readings.add(Outcome::of_text(alloc, bytes, &fresh)?)?;
+    let _ = mark(alloc);
+    let mut scratch = JsonValueScratch::new(alloc);
+    let _ = mark(alloc);
+    for turn in 0..3 {
+        if turn == 2 {
+            for (other, names, mode) in OTHERS {
+                readings.add_other(alloc, &scratch.parse(other, names, mode))?;
+            }
+        }
+        let _ = mark(alloc);
+        let answer = scratch.parse(bytes, true, mode);
+        let _ = mark(alloc);
+        readings.add(Outcome::of_text(alloc, bytes, &answer)?)?;
+    }
+    Ok(readings)
+}
+
+fn read_owned(alloc: Global, bytes: &[u8], mode: PartialMode) -> Result<Readings, Stop> {
+    let mut readings = Readings::default();
+    let fresh = JsonValue::parse_owned(alloc, bytes, true, mode);
+    readings.add(Outcome::of_text(alloc, bytes, &fresh)?)?;
+    let _ = mark(alloc);
+    let mut scratch: JsonValueScratch<'static> = JsonValueScratch::new(alloc);
+    let _ = mark(alloc);
+    for turn in 0..3 {
+        if turn == 2 {
+            for (other, names, mode) in OTHERS {
+                readings.add_other(alloc, &scratch.parse_owned(other, names, mode))?;
+            }
+        }
+        let _ = mark(alloc);
+        let answer = scratch.parse_owned(bytes, true, mode);
+        let _ = mark(alloc);
+        readings.add(Outcome::of_text(alloc, bytes, &answer)?)?;
+    }
+    Ok(readings)
+}
