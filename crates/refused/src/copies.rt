@@ -46,20 +46,31 @@ fn end_of(bytes: &[u8]) -> JsonError {
 
 // A copy, which leaves the value as it was, made or refused.
 fn copied(alloc: Global, value: JsonValue<'_>, call: Copying) -> Result<Outcome, AllocError> {
-    if matches!(call, Copying::IntoStatic) {
-        return moved(alloc, value);
-    }
     let before = text_of(alloc, &value)?;
-    let _ = mark(alloc);
     let copy = match call {
-        Copying::Clone => value.clone(alloc),
-        _ => value.to_static(alloc),
+        Copying::Clone => cloned(alloc, &value)?,
+        Copying::ToStatic => owned(alloc, &value)?,
+        _ => return moved(alloc, value),
     };
-    let _ = mark(alloc);
     let after = text_of(alloc, &value)?;
-    if before.as_str() != after.as_str() {
-        return Ok(Outcome::Broken(after));
+    if before.as_str() == after.as_str() {
+        Ok(copy)
+    } else {
+        Ok(Outcome::Broken(after))
     }
+}
+
+fn cloned(alloc: Global, value: &JsonValue<'_>) -> Result<Outcome, AllocError> {
+    let _ = mark(alloc);
+    let copy = value.clone(alloc);
+    let _ = mark(alloc);
+    copy_told(alloc, copy)
+}
+
+fn owned(alloc: Global, value: &JsonValue<'_>) -> Result<Outcome, AllocError> {
+    let _ = mark(alloc);
+    let copy = value.to_static(alloc);
+    let _ = mark(alloc);
     copy_told(alloc, copy)
 }
 

@@ -16,7 +16,8 @@ pub fn outcome(
     call: Whole,
 ) -> Result<Outcome, AllocError> {
     match call {
-        Whole::Parse | Whole::Config | Whole::Owned => read(alloc, bytes, mode, call),
+        Whole::Parse | Whole::Config => read(alloc, bytes, mode, call),
+        Whole::Owned => owned(alloc, bytes, mode),
         Whole::Unique => unique(alloc, bytes, mode),
         Whole::Turns => by_turns(alloc, bytes, mode),
         Whole::Scratch => scratch::borrowed(alloc, bytes, mode),
@@ -35,9 +36,15 @@ fn read(
     let _ = mark(alloc);
     let answer = match call {
         Whole::Parse => JsonValue::parse(alloc, bytes, true),
-        Whole::Owned => JsonValue::parse_owned(alloc, bytes, true, mode),
         _ => JsonValue::parse_with_config(alloc, bytes, true, mode),
     };
+    let _ = mark(alloc);
+    Outcome::of_text(alloc, bytes, &answer)
+}
+
+fn owned(alloc: Global, bytes: &[u8], mode: PartialMode) -> Result<Outcome, AllocError> {
+    let _ = mark(alloc);
+    let answer = JsonValue::parse_owned(alloc, bytes, true, mode);
     let _ = mark(alloc);
     Outcome::of_text(alloc, bytes, &answer)
 }
@@ -56,6 +63,7 @@ fn prefixes(
     shorter: usize,
     mode: PartialMode,
 ) -> Result<Outcome, AllocError> {
+    let shorter = shorter.min(bytes.len());
     let _ = mark(alloc);
     let answer = two_prefixes(alloc, bytes, shorter, bytes.len(), true, mode);
     let _ = mark(alloc);
