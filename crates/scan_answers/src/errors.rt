@@ -53,7 +53,10 @@ pub fn answer(rt: &HostRuntime, alloc: Global, row: &Row<'_>) -> io::Result<()> 
     let error = JsonError { error_type, index };
     match row.call {
         "kind" => println!(rt; "{}", error.error_type),
-        "error" => println!(rt; "{error:>40}, memory {}, shown {error:?}", error.is_memory()),
+        "error" => println!(rt;
+            "{error:>40}, memory {}, shown {error:?}",
+            error.is_memory()
+        ),
         _ => {
             let bytes = bytes_of(alloc, text)?;
             println!(rt; "{}", error.description(alloc, bytes.as_slice())?)
