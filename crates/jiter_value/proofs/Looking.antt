@@ -10,6 +10,22 @@ use Rattle.jiter_value.specs.Stacks.{Member, member_view}
 use Rattle.jiter_value.specs.Value.{view, views, member_views}
 use Rattle.jiter_value.specs.declared.value.JsonValue.{JsonValue}
 
+item-there : (i : ℕ) (vs : List JsonValue) (v : JsonValue) → slice_get vs i ≡ Some v
+    → Some (view v) ≡ item_of i (views vs)
+item-there zero (w ∷ vs) v e = ap (option_map view) (sym e)
+item-there (suc i) (w ∷ vs) v e = item-there i vs v e
+item-there zero [] v e = absurd (cc)
+item-there (suc i) [] v e = absurd (cc)
+
+pub item_found : (i : ℕ) (vs : List JsonValue) (v : JsonValue) → i < length vs → v ≡ get_or vs i v
+    → Some (view v) ≡ item_of i (views vs)
+item_found i vs v lt at = item-there i vs v (slice_get_read vs (length vs) i v refl lt at)
+
+pub item_missing : (i : ℕ) (vs : List JsonValue) → length vs ≤ i → None ≡ item_of i (views vs)
+item_missing i [] h = refl
+item_missing zero (v ∷ vs) h = absurd (omega (arith, h))
+item_missing (suc i) (v ∷ vs) h = item_missing i vs (omega (arith, h))
+
 last_such-push : (test : List ℕ → Bool) (ms : List Member) (m : Member) (f : Option Tree)
     → last_such test f (member_views (ms ++ m ∷ []))
     ≡ (if test (member_view m).0.bytes then Some (view m.1) else last_such test f (member_views ms))
