@@ -13,10 +13,10 @@ ghost use Rattle.jiter_scan.specs.NumberReading.{begins_number, number_alone, in
 ghost use Rattle.jiter_scan.specs.NumberDecoder.{int_view, number_view, integer_view, EndsWithin, magnitude_of};
 ghost use Rattle.jiter_scan.specs.NumberDecoder.{IsMinusTo};
 
+use crate::decimal::{chunk_at, digit_word, joined};
 use crate::errors::{Fault, FaultKind, JsonError, JsonResult, fault_at};
 use crate::number_extent::{Extent, int_part_end, minus_end, name_from, number_extent};
 use crate::plain_number::{PlainNumber, plain_number_at};
-use crate::simd::{chunk_at, digit_word, joined};
 use crate::text::ascii_text;
 use crate::word::byte_at;
 
@@ -233,7 +233,7 @@ fn integer_of<'j>(
 }
 
 // The magnitude of a leading zero is 0: no digit follows it.
-fn long_integer<'j>(bytes: &'j [u8], from: usize, at: usize, end: usize) -> NumberInt<'j>
+pub(crate) fn long_integer<'j>(bytes: &'j [u8], from: usize, at: usize, end: usize) -> NumberInt<'j>
     requires minus { IsMinusTo bytes.now from at }
     requires int_part { int_part_at bytes.now at ≡ taken tt end }
     requires place { (at < end) × (end ≤ length bytes.now) }

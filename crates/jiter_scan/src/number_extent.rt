@@ -8,9 +8,9 @@ ghost use Rattle.jiter_scan.specs.NumberExtent.{IsDecimalExtent, IsDecimalFrom, 
 ghost use Rattle.jiter_scan.specs.NumberExtent.{name_extent};
 ghost use Rattle.jiter_scan.specs.Scanned.{Scans, taken};
 
+use crate::decimal::{digit_run_end, digits_end, is_digit};
 use crate::errors::{Fault, FaultKind, fault_at};
 use crate::plain_number::{PlainNumber, roomy_number_at};
-use crate::simd::{digit_run_end, digits_end, is_digit};
 use crate::word::{byte_at, word_end};
 
 /// How many bytes the fast path may read for a short number: a minus, and 65 from its first digit on.
