@@ -11,7 +11,8 @@ ghost use Rattle.jiter_incremental.specs.Together.{with_parts};
 use crate::arriving::Settled;
 use crate::open_document::{OpenDocument, Token};
 use jiter_scan::memory::Refused;
-use jiter_scan::short_scan::{is_plain_sixteen, scan_short};
+use jiter_scan::short_scan::is_plain_sixteen;
+use jiter_scan::simd::scan_string;
 
 // A longer chunk isn't scanned for the fast path. To separate the value costs little compared with reading such a
 // chunk.
@@ -63,7 +64,7 @@ pub(crate) fn run_of(piece: &[u8]) -> Run
     if piece.len() > FEW {
         return Run::Other;
     }
-    let (stop, low) = scan_short(piece, 0);
+    let (stop, low) = scan_string(piece, 0);
     if stop < piece.len() {
         if piece[stop] == b'\\' {
             Run::Mixed

@@ -8,6 +8,7 @@ pub mod NumberRows
 pub mod NumberSound
 pub mod NumberComplete
 pub mod NumberBytes
+pub mod NumberStarts
 pub mod NumberBounds
 pub mod NumberValues
 pub mod NumberEnds

@@ -2,6 +2,7 @@
 //! the modes of partial reading.
 #![tactic(auto)]
 
+pub mod decimal;
 pub mod errors;
 pub mod memory;
 pub mod number_decoder;

@@ -3,8 +3,8 @@ ghost use Rattle.std.specs.Prelude.{◌≡◌, ◌+◌, ◌-◌, ◌≤◌, leng
 ghost use Rattle.jiter_scan.specs.Digits.{digit_run_end};
 ghost use Rattle.jiter_scan.specs.OpenNumber.{GoesTo, digits_for, stage_behind};
 
+use crate::decimal::digit_run_end;
 use crate::open_number::{Stage, Went, next_of};
-use crate::simd::digit_run_end;
 
 #[inline(always)]
 fn digits_for(stage: Stage, piece: &[u8], at: usize) -> usize

@@ -8,26 +8,24 @@ ghost use Rattle.jiter_scan.specs.Ascii.{digit_zero};
 ghost use Rattle.jiter_scan.specs.Digits.{digit_run_end};
 ghost use Rattle.jiter_scan.specs.NumberDecoder.{IsMinusTo};
 ghost use Rattle.jiter_scan.specs.Number.{big, integer, is_float_byte, number_value};
-ghost use Rattle.jiter_scan.specs.NumberReading.{exponent_at, decimal_at, number_extent, number_at};
+ghost use Rattle.jiter_scan.specs.NumberExtent.{minus_end};
+ghost use Rattle.jiter_scan.specs.NumberReading.{exponent_at, decimal_at, int_part_at, number_extent, number_at};
+ghost use Rattle.jiter_scan.specs.Scanned.{taken};
 ghost use Rattle.jiter_scan.specs.OpenNumber.{BeginsThere, Fits, HoldsNumber, IsBegun, Leads, at_end, begins_decimal};
 ghost use Rattle.jiter_scan.specs.OpenNumber.{int_of, is_int_stage, is_whole, kept_bytes, kind_view};
 ghost use Rattle.jiter_scan.specs.OpenNumber.{number_by, number_from, own_view, tail_at};
 
+use crate::decimal::is_digit;
 use crate::memory::{Refused, push_text};
-use crate::number_decoder::{NumberAny, NumberInt, number_at};
+use crate::number_decoder::{NumberInt, long_integer};
 use crate::number_extent::minus_end;
 use crate::number_parts::{int_part_end, parts_end};
-use crate::plain_number::{last_integer_at, signed};
-use crate::simd::is_digit;
 use crate::text::ascii_text;
 use std::alloc::Global;
 use std::mem;
 
 // How many digits an integer part may have after its first one.
 const MORE_DIGITS: usize = 4299;
-
-// The longest `i64` in decimal: a minus and nineteen digits.
-const LONGEST_INT: usize = 20;
 
 /// How far a number was read.
 #[derive(Clone, Copy, Debug, PartialEq, Eq)]
@@ -262,18 +260,16 @@ pub(crate) fn next_of(stage: Stage, byte: u8) -> Went
     }
 }
 
-// The fast path finds an integer of up to eighteen digits.
+// The value of an integer, if an `i64` holds it. At most 20 bytes are read: the minus and nineteen digits.
 fn integer_in(text: &[u8]) -> Option<i64>
-    requires { 0 < length text.now }
+    requires some { 0 < length text.now }
+    requires digits { int_part_at text.now (minus_end text.now 0) ≡ taken tt (length text.now) }
+    requires read { number_at false text.now 0 ≡ taken (number_value text.now) (length text.now) }
     ensures { result ≡ int_of (number_at false text.now 0) }
 {
-    let from = minus_end(text, 0);
-    if let Some(magnitude) = last_integer_at(text, from) {
-        return Some(signed(magnitude, 0 < from));
-    }
-    match number_at(text, 0, false) {
-        Ok((NumberAny::Int(NumberInt::Int(number)), _)) => Some(number),
-        _ => None,
+    match long_integer(text, 0, minus_end(text, 0), text.len()) {
+        NumberInt::Int(number) => Some(number),
+        NumberInt::BigInt(_) => None,
     }
 }
 
@@ -416,7 +412,6 @@ impl OpenNumber {
         }
     }
 
-    // A longer number is no `i64`, so at most 20 bytes are read.
     fn small_integer(&self) -> Option<i64>
         requires begun { IsBegun (string_bytes self.now.text) self.now.stage }
         requires whole { is_whole self.now.stage ≡ true }
@@ -424,9 +419,6 @@ impl OpenNumber {
         ensures some { IfSome result (λ n. number_value (string_bytes self.now.text) ≡ integer n) }
         ensures none { result ≡ None → number_value (string_bytes self.now.text) ≡ big (string_bytes self.now.text) }
     {
-        if LONGEST_INT < self.text.len() {
-            return None;
-        }
         integer_in(self.text.as_bytes())
     }
 

@@ -19,8 +19,7 @@ use crate::plain::{ascii_between, text_between};
 use crate::string_decoder::decode_whole;
 use jiter_scan::errors::FaultKind;
 use jiter_scan::memory::{Refused, copy_text};
-use jiter_scan::short_scan::scan_short;
-use jiter_scan::simd::string_stop;
+use jiter_scan::simd::{scan_string, string_stop};
 use jiter_scan::text::utf8_text;
 use std::alloc::Global;
 
@@ -93,7 +92,7 @@ pub fn text_within(
     if piece[at] != b'"' {
         return Ok(None);
     }
-    let (to, low) = scan_short(piece, at + 1);
+    let (to, low) = scan_string(piece, at + 1);
     if to >= piece.len() {
         return Ok(None);
     }
@@ -235,7 +234,7 @@ impl OpenString {
         ensures part { IfOk result (IsCountAt piece.now at) }
         ensures refused { OnErr result (self.new ≡ self.old) }
     {
-        let (to, low) = scan_short(piece, at);
+        let (to, low) = scan_string(piece, at);
         let run = &piece[at..to];
         if low {
             self.text.add_ascii(run)?;
@@ -295,7 +294,7 @@ impl OpenString {
         ensures unbroken { self.new.text.broken ≡ false }
         ensures wanted { OnErr result.1 (at + result.0 < length piece.now) }
     {
-        let (to, low) = scan_short(piece, at);
+        let (to, low) = scan_string(piece, at);
         let run = &piece[at..to];
         if !low || !self.text.is_whole() {
             return self.text.add_right(run);

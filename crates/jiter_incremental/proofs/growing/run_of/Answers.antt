@@ -12,6 +12,6 @@ returns-then-is_plain_sixteen c = λ plain.
 
 pub returns-then-low : goal.returns-then-low
 returns-then-low c = λ plain.
-    let scan = c.scan_short-stop in
+    let scan = c.scan_string-stop in
     plain-run c.args.piece.now scan.result.0 scan.ensures.stop (scan.ensures.ascii.0 c.if-low.true)
     (omega (arith, scan.ensures.within.1, c.if-stop-piece.false))
