@@ -21,7 +21,7 @@ received s = record {
 }
 
 -- The reading has received the bytes t: the value so far is together, and it is told what they answer in the document's
--- mode, the fault or the value. It is known where a string is unfinished, and right so far.
+-- mode, the fault or the value. It is known where plain bytes may be put behind an unfinished string.
 pub record HasReceived (r : Received) (t : List ℕ) : Type 0 where
   pub together : IsTogether r.held.document r.held.depth r.held.shown t
   pub position : r.position ≡ length t

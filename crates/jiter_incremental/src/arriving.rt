@@ -11,7 +11,7 @@ ghost use Rattle.jiter_value.specs.Parses.{Parses};
 ghost use Rattle.jiter_value.specs.Value.{view};
 ghost use Rattle.jiter_value.specs.declared.settings.Settings.{Settings};
 
-use crate::growing::{Run, run_of};
+use crate::growing::is_plain;
 use crate::open_document::OpenDocument;
 use jiter_scan::errors::Fault;
 use jiter_scan::memory::Refused;
@@ -28,7 +28,7 @@ pub(crate) struct Settled {
     // the number of open containers, and whether the value holds the unfinished scalar
     pub(crate) depth: usize,
     pub(crate) shown: bool,
-    // whether a string or a key is unfinished, and valid so far
+    // whether a string or a key is unfinished, and the bytes so far are complete characters and escapes
     pub(crate) growing: bool,
     // the error of the bytes so far in the document's mode; more bytes may remove it
     pub(crate) fault: Option<Fault>,
@@ -108,32 +108,7 @@ impl Settled {
         taken
     }
 
-    // The chunk begins inside a string. What continues the string is appended to the assembled value; the rest takes
-    // the slow path.
-    #[inline(never)]
-    fn take_within(&mut self, piece: &[u8]) -> Result<(), Refused>
-        requires received { (t : List ℕ) × HasReceived (received self.old) t }
-        requires growing { self.old.growing ≡ true }
-        requires room { self.old.document.position + length piece.now < 2 ^ 64 }
-        ensures ok { (t : List ℕ) → HasReceived (received self.old) t
-            → OnOk result (HasReceived (received self.new) (t ++ piece.now)) }
-        ensures refused { (t : List ℕ) → HasReceived (received self.old) t → OnErr result
-            (HasReceived (received self.new)
-            (t ++ take (self.new.document.position - self.old.document.position) piece.now)) }
-        ensures wanted { (t : List ℕ) → HasReceived (received self.old) t
-            → OnErr result (MayRefuseAt (t ++ piece.now) self.new.document.position) }
-        ensures within { (self.old.document.position ≤ self.new.document.position)
-            × (self.new.document.position ≤ self.old.document.position + length piece.now) }
-        ensures settings { self.new.document.settings ≡ self.old.document.settings }
-    {
-        let (count, taken) = self.absorb(piece);
-        if taken.is_ok() && count < piece.len() {
-            return self.take_apart(&piece[count..]);
-        }
-        taken
-    }
-
-    // Inside a valid string there is a fast path: the bytes go into the assembled value.
+    // The fast path: plain bytes that continue a string go into the assembled value.
     #[inline(always)]
     fn take(&mut self, piece: &[u8]) -> Result<(), Refused>
         requires received { (t : List ℕ) × HasReceived (received self.old) t }
@@ -149,14 +124,10 @@ impl Settled {
             × (self.new.document.position ≤ self.old.document.position + length piece.now) }
         ensures settings { self.new.document.settings ≡ self.old.document.settings }
     {
-        if !self.growing {
-            return self.take_apart(piece);
+        if self.growing && is_plain(piece) {
+            return self.grow(piece);
         }
-        match run_of(piece) {
-            Run::Plain if self.document.string.is_even() => self.grow(piece),
-            Run::Other => self.take_apart(piece),
-            _ => self.take_within(piece),
-        }
+        self.take_apart(piece)
     }
 }
 
