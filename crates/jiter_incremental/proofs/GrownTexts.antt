@@ -1,6 +1,6 @@
 -- A string or a key of a document goes on, while the value so far is together.
 use Rattle.std.proofs.Common.{◌≡◌, ◌≢◌, ℕ, suc, ◌+◌, ◌-◌, ◌<◌, Bool, true, false, List, [], ◌∷◌, ◌++◌, length, take}
-use Rattle.std.proofs.Common.{refl, sym, subst, ap, ap₂, ◌∙◌, inl, inr, arith, append_assoc, length-append}
+use Rattle.std.proofs.Common.{refl, sym, subst, ap, ap₂, ◌∙◌, inl, inr, arith, append-nil, append_assoc, length-append}
 use Rattle.std.specs.List.{AllPass}
 use Rattle.std.specs.Prelude.{◌&&◌, ◌||◌, not, if◌then◌else◌, is_some, Option, Some, None, Result, Ok, Err, OnErr}
 use Rattle.std.specs.Str.{IsUtf8}
@@ -29,7 +29,7 @@ use Rattle.jiter_incremental.specs.Arriving.{HasReceived, received}
 use Rattle.jiter_incremental.specs.DocumentEnds.{AnswersSo, KeepsText, broken_as, is_broken, is_shown, kind_as, kind_at_end, shown_as}
 use Rattle.jiter_incremental.specs.DocumentEnds.{so_far, token_tree}
 use Rattle.jiter_incremental.specs.DocumentStrings.{IsOfString}
-use Rattle.jiter_incremental.specs.Growing.{IsGrowing, moved_to, with_end}
+use Rattle.jiter_incremental.specs.Growing.{IsGrowing, moved_to, moved_unless, with_end}
 use Rattle.jiter_incremental.specs.OpenDocument.{HasArrived, Holding, Known, MayRefuseAt, Opened, ReadsAt, anything, between_tokens}
 use Rattle.jiter_incremental.specs.OpenDocument.{in_key, in_scalar, strictly}
 use Rattle.jiter_incremental.specs.OpenValue.{IsPutTogether, IsShown, behind_value, text_of}
@@ -208,6 +208,46 @@ pub wanted-so : {T E : Type 0} (r : Result T E) (i j : ℕ) (u : List ℕ) (n : 
 wanted-so (Ok x) i j u n same some may = tt
 wanted-so (Err e) i j u n same some may = subst (MayRefuseAt u) (sym same) (may some)
 
+-- Where a text answers a fault, so does another one that answers it too,
+kept-told : (p : Settings) (t u : List ℕ) (x : Option Fault) (k : Kind) (i m n : ℕ) (v w : Option Tree) → AnswersSo p t x v
+    → answer_as owned p t ≡ fault k i m → answer_as owned p u ≡ fault k i n → AnswersSo p u x w
+kept-told p t u None k i m n v w h was is = let read = sym was ∙ h.2.1 in absurd (cc)
+kept-told p t u (Some f) k i m n v w h was is =
+    let read : fault k i m ≡ fault (fault_kind f.kind) f.index h.0 = sym was ∙ h.1 in
+    let kind : k ≡ fault_kind f.kind = cc in
+    let place : i ≡ f.index = cc in
+    (n, is ∙ ap₂ (λ a b. fault a b n) kind place)
+
+-- or the same elsewhere.
+moved-told : (p : Settings) (t u : List ℕ) (x : Option Fault) (k : Kind) (i j m n : ℕ) (v w : Option Tree)
+    → AnswersSo p t x v → answer_as owned p t ≡ fault k i m → answer_as owned p u ≡ fault k j n
+    → AnswersSo p u (moved_to j x) w
+moved-told p t u None k i j m n v w h was is = let read = sym was ∙ h.2.1 in absurd (cc)
+moved-told p t u (Some f) k i j m n v w h was is =
+    let read : fault k i m ≡ fault (fault_kind f.kind) f.index h.0 = sym was ∙ h.1 in
+    let kind : k ≡ fault_kind f.kind = cc in
+    (n, is ∙ ap (λ a. fault a j n) kind)
+
+-- With partial reading off the fault that was noted stays, and that of the end moves.
+strict-on : (d b : OpenDocument) (t v : List ℕ) (o : Opened) → InText d t o → InText b (t ++ v) o
+    → b.settings ≡ d.settings → b.first ≡ d.first → (x : Option Fault) (r w : Option Tree)
+    → AnswersSo (strictly d.settings) t x r
+    → AnswersSo (strictly d.settings) (t ++ v) (moved_unless d.first b.position x) w
+strict-on d b t v o h g same noted x r w told = by d.first refl where
+  by : (y : Option Fault) → d.first ≡ y → AnswersSo (strictly d.settings) (t ++ v) (moved_unless y b.position x) w
+  by (Some f) is =
+      let p = strictly d.settings in
+      let now = subst (λ z. ReadsAt p t [] z o) is (h.known.strict [] tt) in
+      let on = subst (λ z. ReadsAt p t v z o) is (h.known.strict v tt) in
+      kept-told p t (t ++ v) x (fault_kind f.kind) f.index now.0 on.0 r w told
+      (ap (answer_as owned p) (sym (append-nil t)) ∙ now.1) on.1
+  by None is =
+      let now = strict-told d t o h is in
+      let on =
+      subst (λ p. AnswersSo (strictly p) (t ++ v) (Some (cut_at b.position)) (shown (so_far b o))) same
+      (strict-told b (t ++ v) o g (noted ∙ is)) in
+      moved-told (strictly d.settings) t (t ++ v) x eof_string d.position b.position now.0 on.0 r w told now.1 on.1
+
 -- What stands at the root is the value that is told.
 pub root-is : (p : Settings) (t : List ℕ) (x : Option Fault) (root y : Tree) (v : Option Tree) (k : Option Kind)
     → AnswersSo p t x (Some root) → IsAnsweredSo p t v k → v ≡ Some y → root ≡ y
@@ -306,15 +346,25 @@ module _ (s : Settled) (t : List ℕ) (h : HasReceived (received s) t) (grows : 
   pub grown-wanted : (v : List ℕ) → 0 < length v → MayRefuseAt (t ++ v) d.position
   grown-wanted v some = subst (MayRefuseAt (t ++ v)) (sym h.position) (text-wanted a t v o before some)
 
-  -- Of this document and this fault the bytes are received.
+  strict-so : (v : List ℕ) (b : OpenDocument) → InText b (t ++ v) o → b.settings ≡ a.settings → b.first ≡ a.first
+      → (w : Option Tree) → AnswersSo (strictly d.settings) (t ++ v) (moved_unless d.first b.position s.strict) w
+  strict-so v b g same noted w =
+      subst (λ p. AnswersSo (strictly p) (t ++ v) (moved_unless d.first b.position s.strict) w) (sym same-settings)
+      (subst (λ x. AnswersSo (strictly a.settings) (t ++ v) (moved_unless x b.position s.strict) w)
+      (sym (ap (λ e. e.first) k.same))
+      (strict-on a b t v o before g same noted s.strict (Some root) w
+      (subst (λ p. AnswersSo (strictly p) t s.strict (Some root)) same-settings h.strict)))
+
+  -- Of this document and these faults the bytes are received.
   module _ (u : List ℕ) (b : OpenDocument) (behind : InText b u o) (e : OpenDocument)
       (holds : HoldsTogether e s.depth s.shown u o) (settings : e.settings ≡ b.settings) (unset : e.fault ≡ b.fault)
       (noted : e.first ≡ b.first) (place : e.position ≡ b.position) (kind : e.token ≡ d.token)
       (even : IsEven e.string)
     where
-      received-so : (f : Option Fault) → AnswersSo e.settings u f (Some (view e.value.root))
-          → HasReceived (received (record s { document = e; fault = f })) u
-      received-so f told-so = record {
+      received-so : (f g : Option Fault) → AnswersSo e.settings u f (Some (view e.value.root))
+          → AnswersSo (strictly e.settings) u g (Some (view e.value.root))
+          → HasReceived (received (record s { document = e; fault = f; strict = g })) u
+      received-so f g told-so strict-told-so = record {
         together = record {
           opened = o;
           known = known-as anything b e u o settings unset noted behind.known;
@@ -323,6 +373,7 @@ module _ (s : Settled) (t : List ℕ) (h : HasReceived (received s) t) (grows : 
         };
         position = place ∙ behind.place;
         mode = told-so;
+        strict = strict-told-so;
         growing = λ _. (unset ∙ behind.unset, subst IsOfString (sym kind) growing.1, even);
       }
 
@@ -377,7 +428,7 @@ module _ (s : Settled) (t : List ℕ) (h : HasReceived (received s) t) (grows : 
           same = ap (λ q. gone q (grown d.string v) j) k.same;
           settled = subst (λ x. IsSettled x new e s.depth) (sym hides) (put.0, ap (λ x. grown x v) put.1, put.2);
         }) same-settings (ap (λ q. q.fault) k.same) (ap (λ q. q.first) k.same) refl refl growing.2 (moved_to j s.fault)
-        mode-on
+        (moved_unless d.first j s.strict) mode-on (strict-so v new now refl refl value_so)
 
   -- One that is shown goes on in the value.
   module _ (shows : s.shown ≡ true) where
@@ -492,7 +543,8 @@ module _ (s : Settled) (t : List ℕ) (h : HasReceived (received s) t) (grows : 
         (holds-again v same w r a t before.held refl refl on refl moved.3 moved.1 moved.2 e
         (ap (λ q. gone_in q d.string v q.position) k.same))
         same-settings (ap (λ q. q.fault) k.same) (ap (λ q. q.first) k.same) (ap (λ q. q.position) k.same) refl growing.2
-        s.fault (subst (λ y. AnswersSo d.settings t s.fault (Some y)) root_so h.mode)
+        s.fault s.strict (subst (λ y. AnswersSo d.settings t s.fault (Some y)) root_so h.mode)
+        (subst (λ y. AnswersSo (strictly d.settings) t s.strict (Some y)) root_so h.strict)
 
     -- Plain bytes more stand there.
     module _ (v : List ℕ) (plain : Pass is_plain_ascii v) (nv : OpenValue) (same : nv ≡ with_root d.value nv.root)
@@ -535,5 +587,6 @@ module _ (s : Settled) (t : List ℕ) (h : HasReceived (received s) t) (grows : 
             received-so (t ++ v) next behind-it e
             (holds-again nv same (w ++ v) replaced next (t ++ v) behind-it.held refl refl seen-now refl utf8 moved.1 moved.2 e
             (ap (λ q. gone_in q d.string nv until) k.same)) same-settings (ap (λ q. q.fault) k.same) (ap (λ q. q.first) k.same)
-            refl refl growing.2 (moved_to until s.fault)
+            refl refl growing.2 (moved_to until s.fault) (moved_unless d.first until s.strict)
             (subst (λ p. AnswersSo p (t ++ v) (moved_to until s.fault) (Some (view nv.root))) (sym same-settings) mode-shown)
+            (strict-so v next behind-it refl refl (Some (view nv.root)))

@@ -15,6 +15,11 @@ abbrev pub moved_to : ℕ → Option Fault → Option Fault
 moved_to j None = None
 moved_to j (Some f) = Some (record { kind = f.kind; index = j })
 
+-- the same with partial reading off, where an earlier fault may be known
+abbrev pub moved_unless : Option Fault → ℕ → Option Fault → Option Fault
+moved_unless (Some f) j x = x
+moved_unless None j x = moved_to j x
+
 -- the same reading, with the fault of the end where the bytes end now
 abbrev pub with_end : Settled → Settled
 with_end s = record {
@@ -23,4 +28,5 @@ with_end s = record {
   shown = s.shown;
   growing = s.growing;
   fault = moved_to s.document.position s.fault;
+  strict = moved_unless s.document.first s.document.position s.strict;
 }

@@ -3,9 +3,9 @@ ghost use Rattle.std.specs.Prelude.{◌≡◌, ◌+◌, ◌-◌, ◌^◌, ◌<�
 ghost use Rattle.std.specs.Prelude.{OnErr, OnOk, length, take, true, ℕ};
 ghost use Rattle.std.specs.List.{flat_map};
 ghost use Rattle.jiter_steps.specs.Blank.{past_blanks};
-ghost use Rattle.jiter_incremental.specs.Arriving.{HasReceived, received};
+ghost use Rattle.jiter_incremental.specs.Arriving.{HasReceived, WouldFinish, received};
 ghost use Rattle.jiter_incremental.specs.DocumentEnds.{AnswersSo};
-ghost use Rattle.jiter_incremental.specs.OpenDocument.{HasArrived, MayRefuseAt, StaysSo, strictly};
+ghost use Rattle.jiter_incremental.specs.OpenDocument.{HasArrived, MayRefuseAt, StaysSo};
 ghost use Rattle.jiter_value.specs.Owned.{owned_tree};
 ghost use Rattle.jiter_value.specs.Parses.{Parses};
 ghost use Rattle.jiter_value.specs.Value.{view};
@@ -32,6 +32,8 @@ pub(crate) struct Settled {
     pub(crate) growing: bool,
     // the error of the bytes so far in the document's mode; more bytes may remove it
     pub(crate) fault: Option<Fault>,
+    // the same with partial reading off
+    pub(crate) strict: Option<Fault>,
 }
 
 fn told(fault: Option<Fault>, value: JsonValue<'static>) -> Result<JsonValue<'static>, JsonError>
@@ -52,6 +54,7 @@ impl Settled {
         ensures same { StaysSo self.old.document self.new.document }
     {
         self.fault = self.document.mode_fault();
+        self.strict = self.document.strict_fault();
         self.growing = false;
         if self.document.fault.is_none() {
             let (depth, shown) = self.document.settle();
@@ -70,20 +73,6 @@ impl Settled {
         if self.document.fault.is_none() {
             self.document.unsettle(self.depth, self.shown);
         }
-    }
-
-    // `strict_fault` needs the separated containers; `finish` then needs the assembled value.
-    fn first_fault(&mut self) -> Option<Fault>
-        requires { (t : List ℕ) × HasReceived (received self.old) t }
-        ensures { (t : List ℕ) → HasReceived (received self.old) t
-            → AnswersSo (strictly self.old.document.settings) t result (Some (view self.new.document.value.root)) }
-    {
-        self.unsettle();
-        let first = self.document.strict_fault();
-        if self.document.fault.is_none() {
-            let _ = self.document.settle();
-        }
-        first
     }
 
     // The slow path: separates the value, takes the chunk, and assembles the value again.
@@ -185,6 +174,7 @@ impl Arriving {
             shown: false,
             growing: false,
             fault: None,
+            strict: None,
         };
         settled.settle();
         Arriving { settled }
@@ -255,6 +245,17 @@ impl Arriving {
         }
     }
 
+    /// Returns the error that [`finish`](Arriving::finish) would return now, or `None` if the bytes so far are a complete
+    /// document. Does not allocate.
+    pub fn error(&self) -> Option<JsonError>
+        ensures { (t : List ℕ) → HasReceived self.now t → WouldFinish self.now.settings.allow_inf_nan t result }
+    {
+        match self.settled.strict {
+            Some(fault) => Some(JsonError::from(fault)),
+            None => None,
+        }
+    }
+
     /// Returns what [`value`](Arriving::value) returns, with the value moved out. Does not allocate.
     ///
     /// # Errors
@@ -284,10 +285,12 @@ impl Arriving {
             → Parses owned_tree ⊥ self.settings.allow_inf_nan PartialMode.Off t result }
     {
         let Arriving { settled } = self;
-        let mut settled = settled;
-        let first = settled.first_fault();
-        let Settled { document, .. } = settled;
-        told(first, document.into_root())
+        let Settled {
+            document,
+            strict,
+            ..
+        } = settled;
+        told(strict, document.into_root())
     }
 }
 

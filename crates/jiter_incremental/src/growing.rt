@@ -3,10 +3,11 @@
 ghost use Rattle.std.specs.Prelude.{◌≡◌, ◌+◌, ◌^◌, ◌<◌, ◌≤◌, ◌++◌, List, OnErr, OnOk, false, length, take, true, ℕ};
 ghost use Rattle.jiter_scan.specs.Scan.{Pass, is_plain_ascii};
 ghost use Rattle.jiter_incremental.specs.Arriving.{HasReceived, received};
-ghost use Rattle.jiter_incremental.specs.Growing.{IsGrowing, with_end};
+ghost use Rattle.jiter_incremental.specs.Growing.{IsGrowing, moved_to, with_end};
 
 use crate::arriving::Settled;
 use crate::open_document::{OpenDocument, Token};
+use jiter_scan::errors::Fault;
 use jiter_scan::memory::Refused;
 use jiter_scan::short_scan::scan_short;
 
@@ -48,14 +49,25 @@ impl OpenDocument {
     }
 }
 
+#[inline(always)]
+fn move_to(fault: &mut Option<Fault>, position: usize)
+    ensures { fault.new ≡ moved_to position fault.old }
+{
+    if let Some(fault) = fault {
+        fault.index = position;
+    }
+}
+
 impl Settled {
-    // While a string goes on, the only error is that the input ends in it. Its index moves to the new end.
+    // While a string goes on, an error that isn't final is that the input ends in it. Its index moves to the new end.
     #[inline(always)]
     fn move_end(&mut self)
         ensures { self.new ≡ with_end self.old }
     {
-        if let Some(fault) = &mut self.fault {
-            fault.index = self.document.position;
+        let position = self.document.position;
+        move_to(&mut self.fault, position);
+        if self.document.first.is_none() {
+            move_to(&mut self.strict, position);
         }
     }
 
