@@ -1,6 +1,6 @@
 use Rattle.std.proofs.Common.{◌≡◌, ◌≤◌, ◌-◌, ◌++◌, length, take, flat_map}
 use Rattle.jiter_print.specs.Print.{print_byte}
-use Rattle.jiter_print.proofs.compact.append_escaped.Given as goal
+use Rattle.jiter_print.proofs.strings.append_escaped.Given as goal
 
 abbrev pub invariant-loop-end : goal.invariant-loop-end
 invariant-loop-end l = record {

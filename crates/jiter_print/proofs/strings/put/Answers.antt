@@ -1,5 +1,5 @@
 use Rattle.std.proofs.Common.{◌+◌, ◌++◌, ◌∙◌, ap, arith, length, take, drop, take_at}
-use Rattle.jiter_print.proofs.compact.put.Goals as goal
+use Rattle.jiter_print.proofs.strings.put.Goals as goal
 
 pub returns-clause-text : goal.returns-clause-text
 returns-clause-text c =
