@@ -1,19 +1,10 @@
 //! Scans strings of plain ASCII that most likely end within sixteen bytes.
-ghost use Rattle.std.specs.Prelude.{◌≡◌, ◌↔◌, ◌+◌, ◌<◌, ◌≤◌, IfSome, IsTrue, Some, length, slice_get, take, true};
+ghost use Rattle.std.specs.Prelude.{◌≡◌, ◌+◌, ◌<◌, ◌≤◌, IfSome, Some, length, slice_get};
 ghost use Rattle.jiter_scan.specs.Ascii as ascii;
-ghost use Rattle.jiter_scan.specs.Scan.{IsAsciiTo, Pass, is_plain_ascii, scan_stop};
+ghost use Rattle.jiter_scan.specs.Scan.{IsAsciiTo, scan_stop};
 
 use crate::simd::{ascii_stops, scan_string};
 use std::simd::prelude::*;
-
-/// Returns whether the first sixteen bytes are plain and below 80 hex.
-#[inline(always)]
-pub fn is_plain_sixteen(bytes: &[u8]) -> bool
-    requires { 16 ≤ length bytes.now }
-    ensures { IsTrue result ↔ Pass is_plain_ascii (take 16 bytes.now) }
-{
-    ascii_stops(u8x16::from_slice(bytes)) == 0
-}
 
 // If a byte isn't ASCII, the result is the length, where the caller finds no quote.
 #[inline(always)]
