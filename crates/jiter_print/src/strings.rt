@@ -44,8 +44,8 @@ pub fn print_str(line: &mut Vec<u8>, text: &str) -> Result<(), AllocError>
     }
 }
 
-// The functions below write after the first `count` bytes of `line` and return the new count. The line is always longer
-// than that, so that one more byte fits. After an error its first `count` bytes are the same.
+// The functions below write after the first `count` bytes of `line`, and those that append return the new count. The
+// line is always longer than that, so that one more byte fits. After an error its first `count` bytes are the same.
 #[inline(always)]
 fn put(line: &mut Vec<u8>, count: usize, bytes: &[u8])
     requires { count + length bytes.now ≤ vec_len line.old }

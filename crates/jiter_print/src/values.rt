@@ -80,8 +80,8 @@ pub fn print_pretty(
     Ok(line)
 }
 
-// The functions below append to `line` as those of strings.rt do. With `PRETTY` they break lines: a level adds `indent` spaces, and the value is
-// on a line with `margin` spaces. Without it both are zero.
+// The functions below append to `line` as those of strings.rt do. With `PRETTY` they break lines: each level adds
+// `indent` spaces, and the line of the closing bracket has `margin` spaces. Without it both are zero.
 #[cycle(append)]
 #[inline(always)]
 fn append<const PRETTY: bool>(
@@ -225,7 +225,7 @@ fn append_last_break<const PRETTY: bool>(
     Ok(count)
 }
 
-// A vector is never as long as `isize::MAX`, so an allocation fails for more spaces.
+// A vector has at most `isize::MAX` bytes, so an allocation fails for as many spaces or more.
 #[inline(never)]
 fn append_spaces(spaces: usize, line: &mut Vec<u8>, count: usize) -> Result<usize, Refused>
     requires { count < vec_len line.old }
