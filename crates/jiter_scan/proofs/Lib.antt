@@ -14,7 +14,6 @@ pub mod NumberEnds
 pub mod NumberExtents
 pub mod NumberTests
 pub mod OpenNumbers
-pub mod NumberRuns
 pub mod NumberParts
 pub mod OpenValues
 pub mod NumberLaws

@@ -6,7 +6,6 @@ pub mod errors;
 pub mod memory;
 pub mod number_decoder;
 pub mod number_extent;
-pub(crate) mod number_parts;
 pub mod number_within;
 pub mod open_number;
 pub mod open_word;

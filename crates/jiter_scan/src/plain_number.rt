@@ -198,43 +198,6 @@ pub fn plain_number_at(bytes: &[u8], at: usize) -> PlainNumber
     roomy_number_at(bytes, at)
 }
 
-// At most sixteen bytes are left, so the value fits in 64 bits.
-#[inline(always)]
-fn near_digits(bytes: &[u8], at: usize) -> (u64, usize)
-    requires within { at ≤ length bytes.now }
-    requires near { length bytes.now ≤ at + 16 }
-    ensures end { digit_run_end bytes.now at ≡ result.1 }
-    ensures place { (at ≤ result.1) × (result.1 ≤ length bytes.now) }
-    ensures value { result.0 ≡ decimal_of (slice_range bytes.now at result.1) }
-{
-    let mut number = 0;
-    let mut end = at;
-    while end < bytes.len() && is_digit(bytes[end]) {
-        number = number * 10 + u64::from(bytes[end] - b'0');
-        end += 1;
-    }
-    (number, end)
-}
-
-#[inline(always)]
-pub(crate) fn near_number_at(bytes: &[u8], at: usize) -> (u64, usize, bool)
-    requires within { at ≤ length bytes.now }
-    requires near { length bytes.now ≤ at + 16 }
-    ensures end { digit_run_end bytes.now at ≡ result.1 }
-    ensures place { (at ≤ result.1) × (result.1 ≤ length bytes.now) }
-    ensures integer { result.2 ≡ true → IsPlainInteger bytes.now at result.0 result.1 }
-{
-    let (number, end) = near_digits(bytes, at);
-    let count = end - at;
-    if end == at || bytes[at] == b'0' && count != 1 {
-        return (number, end, false);
-    }
-    if end < bytes.len() && goes_on(bytes[end]) {
-        return (number, end, false);
-    }
-    (number, end, true)
-}
-
 #[inline(always)]
 fn last_digits(bytes: &[u8], at: usize) -> Option<u64>
     requires some { at < length bytes.now }

@@ -4,16 +4,16 @@ use Rattle.jiter_scan.specs.OpenNumber.{HoldsNumber}
 use Rattle.jiter_incremental.specs.OpenDocument.{HasTakenIn, anything}
 use Rattle.jiter_incremental.proofs.Documents.Bytes.{meets-scalar, one-byte}
 use Rattle.jiter_incremental.proofs.Documents.Tokens.{decimal-starts, number-begins, range-first}
-use Rattle.jiter_incremental.proofs.open_document.OpenDocument.begin_held.Goals as goal
+use Rattle.jiter_incremental.proofs.open_document.OpenDocument.begin_number.Goals as goal
 
 pub returns-in-Scalar-clause-taken : goal.returns-in-Scalar-clause-taken
 returns-in-Scalar-clause-taken c = λ t arrived.
     let d = c.look.new.self in
     let piece = c.args.piece.now in
     let at = c.args.at in
-    let e = c.args.end in
+    let e = c.begun_at-stage.result.1 in
     let first = get_or piece at 0 in
-    let there = c.requires.begun in
+    let there = c.begun_at-stage.ensures in
     let hold = c.in_ok-hold.ensures in
     let m = c.in_ok-went.ensures.met t (hold.stays t arrived) in
     let b = meets-scalar first d t c.in_ok-went.went m c.in-Scalar.is in
