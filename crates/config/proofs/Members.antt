@@ -2,21 +2,21 @@
 use Rattle.std.proofs.Common.{◌≡◌, ◌∙◌, ℕ, Bool, List, refl, sym, ap, subst}
 use Rattle.std.specs.Prelude.{Option, Some, None, Result, Ok, Err, codes, false, ok_or, unwrap_or}
 use Rattle.std.specs.Borrow.{Bor}
-use Rattle.jiter.specs.Caller.{Cause, LeavesAt, MovesOn, ReaderState, Tells, Tree, bool_read, gave, next, reply_seen}
-use Rattle.jiter.specs.Caller.{refused, skip_read, str_read, text_bytes}
+use Rattle.jiter.specs.Caller.{Cause, MovesOn, ReaderState, Reads, Tells, Tree, anywhere, bool_read, gave, next}
+use Rattle.jiter.specs.Caller.{refused, reply_seen, skip_read, str_read, text_bytes}
 use Rattle.jiter.proofs.Walking.{gave-is, gave-refused}
 use Rattle.config.specs.declared.config.Refusal.{Refusal}
 use Rattle.config.specs.declared.config.Refusal.TheVariants as variant
 use Rattle.config.specs.declared.settings.Name.{Name}
 use Rattle.config.specs.declared.settings.Name.TheVariants as name
-use Rattle.config.specs.Settings.{Reads, Settings, Verdict, Why, and_then, complete, fits, missing}
+use Rattle.config.specs.Settings.{ReadsSetting, Settings, Verdict, Why, and_then, complete, fits, missing}
 use Rattle.config.specs.Settings.{or_false, place_of, port_in, unfit, why}
 use Rattle.config.proofs.Judged.{text-given, truth-given}
 use Rattle.config.proofs.Walk.{ReadsMember, seen}
 
 module _ (s s1 : ReaderState) (host : Option (List ℕ)) (port : Option ℕ) (debug : Option Bool) where
   pub host-read : {X : Type 0} (view : X → List ℕ) (x : X)
-      → LeavesAt view (Ok x) s s1 (reply_seen text_bytes (next s (str_read s)))
+      → Reads anywhere view (reply_seen text_bytes (next s (str_read s))) (Ok x) s s1
       → ReadsMember s s1 name.Host (seen host port debug) (seen (Some (view x)) port debug)
   host-read view x h = record {
     moves = h.moves;
@@ -25,7 +25,7 @@ module _ (s s1 : ReaderState) (host : Option (List ℕ)) (port : Option ℕ) (de
     place = λ v b e told. (text-given s b e v told _ _ h.value).1;
   }
 
-  pub port-read : (p : ℕ) → Reads s s1 (Ok p) port_in
+  pub port-read : (p : ℕ) → ReadsSetting s s1 (Ok p) port_in
       → ReadsMember s s1 name.Port (seen host port debug) (seen host (Some p) debug)
   port-read p h = record {
     moves = h.moves;

@@ -47,6 +47,12 @@ named-gave (gave key j) o i h =
     let same = gave-is (key_name key) o j i h in (key, ap (gave key) same.1, same.0)
 named-gave (refused c x stop) o i h = absurd (gave-refused (sym h))
 
+-- what a key was seen as, refused
+pub seen-refused : (r : Reply (Option Text)) (c : Cause) (x stop : ℕ) → reply_seen key_bytes r ≡ refused c x stop
+    → r ≡ refused c x stop
+seen-refused (gave key j) c x stop h = absurd (gave-refused h)
+seen-refused (refused d y i) c x stop h = cc
+
 some-same : {A : Type 0} (x y : A) → Some x ≡ Some y → x ≡ y
 some-same x y h = cc
 

@@ -136,7 +136,7 @@ abbrev pub IsAnswer : List ℕ → Node → Result Config Refusal → Type 0
 IsAnswer t n result = Judges config_view result (configured t n)
 
 -- What was read of the value that came next: what the judge says of it, and behind what fits the reader stands.
-pub record Reads {A : Type 0} (old new : ReaderState) (result : Result A Refusal) (judge : Tree → ℕ → Verdict A)
+pub record ReadsSetting {A : Type 0} (old new : ReaderState) (result : Result A Refusal) (judge : Tree → ℕ → Verdict A)
     : Type 0 where
   pub moves : MovesOn old new
   pub value : (v : Tree) (b e : ℕ) → Tells old v b e → Judges (λ x. x) result (judge v b)

@@ -1,10 +1,10 @@
 //! The members of a configuration, and their values.
 ghost use Rattle.std.specs.Prelude.{◌≡◌, ◌≤◌, IfOk, option_map, string_bytes};
-ghost use Rattle.jiter.specs.Caller.{LeavesAt, next, reply_seen, str_read, text_bytes};
-ghost use Rattle.config.specs.Settings.{Reads, named, port_in};
+ghost use Rattle.jiter.specs.Caller.{Reads, anywhere, next, reply_seen, str_read, text_bytes};
+ghost use Rattle.config.specs.Settings.{ReadsSetting, named, port_in};
 
 use crate::config::Refusal;
-use jiter::{Jiter, JiterError, JiterErrorType, JiterResult, JsonErrorType, NumberInt};
+use jiter::{Jiter, JiterResult, NumberInt};
 use std::alloc::Global;
 
 /// The setting that a key names.
@@ -39,16 +39,13 @@ pub fn named(key: Option<&str>) -> Option<Name>
 /// - the errors of [`Jiter::next_str`]
 /// - `OutOfMemory` if the copy can't be allocated; its index is after the string
 pub fn read_host(alloc: Global, jiter: &mut Jiter<'_>) -> JiterResult<String>
-    ensures { LeavesAt string_bytes result jiter.old jiter.new
-        (reply_seen text_bytes (next jiter.old (str_read jiter.old))) }
+    ensures reads { Reads anywhere string_bytes (reply_seen text_bytes (next jiter.old (str_read jiter.old)))
+        result jiter.old jiter.new }
 {
     let text = jiter.next_str(alloc)?;
     match String::from_str(alloc, text) {
         Ok(copy) => Ok(copy),
-        Err(_) => Err(JiterError {
-            error_type: JiterErrorType::JsonError(JsonErrorType::OutOfMemory),
-            index: jiter.current_index(),
-        }),
+        Err(_) => Err(jiter.out_of_memory()),
     }
 }
 
@@ -60,7 +57,7 @@ pub fn read_host(alloc: Global, jiter: &mut Jiter<'_>) -> JiterResult<String>
 /// - `Reading` for an error of the pull reader
 pub fn read_port(jiter: &mut Jiter<'_>) -> Result<u16, Refusal>
     ensures range { IfOk result (λ port. (1 ≤ port) × (port ≤ 65535)) }
-    ensures reads { Reads jiter.old jiter.new result port_in }
+    ensures reads { ReadsSetting jiter.old jiter.new result port_in }
 {
     let peek = jiter.peek()?;
     let at = jiter.current_index();

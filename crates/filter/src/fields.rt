@@ -1,6 +1,6 @@
 //! Finds two members of an object, and returns the source of their values.
 ghost use Rattle.std.specs.Prelude.{◌≡◌, IfOk, false, slice_range};
-ghost use Rattle.jiter.specs.Caller.{IsDocument, MovesOn, Node, Replies, next, skip_read, value_place};
+ghost use Rattle.jiter.specs.Caller.{IsDocument, Node, Reads, never, next, skip_read, value_place};
 ghost use Rattle.filter.specs.Fields.{IsAnswer, picked, with_member};
 
 use jiter::{Jiter, JiterResult};
@@ -16,8 +16,7 @@ pub struct Fields<'j> {
 
 // The source is the value without the whitespace around it.
 fn next_source<'j>(jiter: &mut Jiter<'j>) -> JiterResult<&'j [u8]>
-    ensures moves { MovesOn jiter.old jiter.new }
-    ensures passed { Replies (λ _. tt) result jiter.new (next jiter.old (skip_read jiter.old)) }
+    ensures reads { Reads never (λ _. tt) (next jiter.old (skip_read jiter.old)) result jiter.old jiter.new }
     ensures source { IfOk result (λ x. x.now
         ≡ slice_range jiter.old.text (value_place jiter.old) jiter.new.position) }
 {

@@ -7,12 +7,7 @@ use test_support::told::{outcome_text, text_of};
 
 /// The value after each chunk, and after `finish:` that of the end.
 pub fn pushed(alloc: Global, row: Row<'_>, chunks: &[Vec<u8>]) -> Result<String, AllocError> {
-    let mode = match row.partial {
-        Partial::Off => PartialMode::Off,
-        Partial::On => PartialMode::On,
-        Partial::TrailingStrings => PartialMode::TrailingStrings,
-    };
-    let mut arriving = Arriving::new(alloc, row.allow_inf_nan, mode);
+    let mut arriving = Arriving::new(alloc, row.allow_inf_nan, mode_of(&row));
     let mut out = String::new(alloc);
     for chunk in chunks {
         arriving.push(chunk.as_slice())?;
@@ -22,6 +17,34 @@ pub fn pushed(alloc: Global, row: Row<'_>, chunks: &[Vec<u8>]) -> Result<String,
     out.push_str("finish: ")?;
     out.push_str(outcome_text(alloc, &arriving.finish())?.as_str())?;
     Ok(out)
+}
+
+/// The error after each chunk, if the document isn't complete there.
+pub fn errors(alloc: Global, row: Row<'_>, chunks: &[Vec<u8>]) -> Result<String, AllocError> {
+    let mut arriving = Arriving::new(alloc, row.allow_inf_nan, mode_of(&row));
+    let mut out = String::new(alloc);
+    for chunk in chunks {
+        arriving.push(chunk.as_slice())?;
+        if !out.is_empty() {
+            out.push_str(" | ")?;
+        }
+        match arriving.error() {
+            Some(error) => {
+                let told = format!(in alloc; "{} at {}", error.error_type, error.index)?;
+                out.push_str(told.as_str())?;
+            }
+            None => out.push_str("none")?,
+        }
+    }
+    Ok(out)
+}
+
+fn mode_of(row: &Row<'_>) -> PartialMode {
+    match &row.partial {
+        Partial::Off => PartialMode::Off,
+        Partial::On => PartialMode::On,
+        Partial::TrailingStrings => PartialMode::TrailingStrings,
+    }
 }
 
 fn value_text(

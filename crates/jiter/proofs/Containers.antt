@@ -11,7 +11,8 @@ use Rattle.jiter_value.specs.Owned.{owned_text}
 use Rattle.jiter_value.specs.Value.{LeadsOn}
 use Rattle.jiter.specs.Cause.{Cause}
 use Rattle.jiter.specs.Errors.{cause_of}
-use Rattle.jiter.specs.Jiter.{MovesOn, LeavesAt, Replies, RefusesBytes, StandsAt, reply_seen}
+use Rattle.jiter.specs.Jiter.{MovesOn, StandsAt, reply_seen}
+use Rattle.jiter.specs.Reads.{Reads, anywhere}
 use Rattle.jiter.specs.Reader.{ReaderState, Reply, gave, refused, with_position, known, part_reply, key_reply}
 use Rattle.jiter.specs.Reader.{array_read, object_read}
 use Rattle.jiter.specs.declared.errors.JiterError.{JiterError}
@@ -19,19 +20,16 @@ use Rattle.jiter.proofs.Building.{Walk, WalkLaws, ToldAt, LeadsTo, all, behind, 
 use Rattle.jiter.proofs.Building.{known-first, seen-part}
 use Rattle.jiter.proofs.Walking.{moves-on}
 
--- how a call that takes no memory leaves the reader
-pub bytes-leave : {X A : Type 0} (view : X → A) (x : Result X JiterError) (s0 s : ReaderState) (r : Reply A)
-    → MovesOn s0 s → Replies view x s r → RefusesBytes s0.text x → LeavesAt view x s0 s r
-bytes-leave view (Ok a) s0 s r moves value is = record { moves = moves; value = value; place = tt }
-bytes-leave view (Err e) s0 s r moves value is =
-    record { moves = moves; value = λ m. value; place = λ m. absurd (is.bytes m) }
+-- the bytes are as many as before
+same-length : {s0 s : ReaderState} → MovesOn s0 s → length s.text ≡ length s0.text
+same-length m = ap (λ (x : ReaderState). length x.text) m.same
 
 -- an error that `?` passes on
 pub passed-on : {X A : Type 0} {view : X → A} {e : JiterError} {s0 s : ReaderState} {r : Reply A}
-    (x : Result X JiterError) → IsErrAnd x (λ d. d ≡ e) → LeavesAt view (Err e) s0 s r → LeavesAt view x s0 s r
+    (x : Result X JiterError) → IsErrAnd x (λ d. d ≡ e) → Reads anywhere view r (Err e) s0 s → Reads anywhere view r x s0 s
 passed-on (Ok x) is h = absurd is
 passed-on {view = view} {s0 = s0} {s = s} {r = r} (Err d) is h =
-    subst (λ d. LeavesAt view (Err d) s0 s r) (sym is) h
+    subst (λ d. Reads anywhere view r (Err d) s0 s) (sym is) h
 
 -- a refusal, whatever would have been seen of the reply
 refusal-seen : {A B C : Type 0} (f : A → B) (g : A → C) (r : Reply A) (c : Cause) (x stop : ℕ)
@@ -40,12 +38,13 @@ refusal-seen f g (gave a i) c x stop h = absurd (cc)
 refusal-seen f g (refused d i n) c x stop h = cc
 
 pub refused-seen : {X Y A B C : Type 0} {seen : X → B} {view : Y → C} {e : JiterError} {s0 s : ReaderState}
-    (f : A → B) (g : A → C) (r : Reply A) → LeavesAt seen (Err e) s0 s (reply_seen f r)
-    → LeavesAt view (Err e) s0 s (reply_seen g r)
+    (f : A → B) (g : A → C) (r : Reply A) → Reads anywhere seen (reply_seen f r) (Err e) s0 s
+    → Reads anywhere view (reply_seen g r) (Err e) s0 s
 refused-seen {e = e} {s = s} f g r h = record {
   moves = h.moves;
   value = λ m. refusal-seen f g r (cause_of e.error_type) e.index s.position (h.value m);
-  place = h.place;
+  index = h.index;
+  memory = h.memory;
 }
 
 -- Of the container whose bracket stands at s0 these parts were built, and the reader stands where the next one was told
@@ -80,7 +79,7 @@ module _ {K P : Type 0} {s0 : ReaderState} {w : Walk K P} (laws : WalkLaws s0 w)
       leads s0 w laws [] (s0.position + 1) first (laws.goes.first (s0.position + 1) (omega arith))
 
   pub begins : {Y : Type 0} {keys : Y → Option K} {y : Y} {s : ReaderState} (c : ℕ) → StandsAt s0 c
-      → LeavesAt keys (Ok y) s0 s (part_reply w.told first) → In s0 s w (keys y) []
+      → Reads anywhere keys (part_reply w.told first) (Ok y) s0 s → In s0 s w (keys y) []
   begins {keys = keys} {y = y} {s = s} c at h =
       let led = subst (LeadsTo s0 w [] (all s0 w)) h.value (opened c at) in
       record {
@@ -91,21 +90,23 @@ module _ {K P : Type 0} {s0 : ReaderState} {w : Walk K P} (laws : WalkLaws s0 w)
       }
 
   pub first-refused : {X Y : Type 0} {view : X → Tree} {keys : Y → Option K} {e : JiterError} {s : ReaderState}
-      (c : ℕ) → StandsAt s0 c → LeavesAt keys (Err e) s0 s (part_reply w.told first)
-      → LeavesAt view (Err e) s0 s (all s0 w)
+      (c : ℕ) → StandsAt s0 c → Reads anywhere keys (part_reply w.told first) (Err e) s0 s
+      → Reads anywhere view (all s0 w) (Err e) s0 s
   first-refused c at h = record {
     moves = h.moves;
     value = λ m. subst (LeadsTo s0 w [] (all s0 w)) (h.value m) (opened c at);
-    place = h.place;
+    index = h.index;
+    memory = h.memory;
   }
 
   -- behind the last part
   pub ended : {X : Type 0} {view : X → Tree} {x : X} {s : ReaderState} {parts : List P} → In s0 s w None parts
-      → view x ≡ w.container.build s.position parts → LeavesAt view (Ok x) s0 s (all s0 w)
+      → view x ≡ w.container.build s.position parts → Reads anywhere view (all s0 w) (Ok x) s0 s
   ended {s = s} inv is = record {
     moves = inv.moves;
     value = inv.left ∙ ap (λ v. gave v s.position) (sym is);
-    place = tt;
+    index = tt;
+    memory = tt;
   }
 
   module _ {s : ReaderState} {k : K} {parts : List P} (inv : In s0 s w (Some k) parts) where
@@ -121,16 +122,17 @@ module _ {K P : Type 0} {s0 : ReaderState} {w : Walk K P} (laws : WalkLaws s0 w)
 
     -- a part whose value was refused
     pub part-refused : {X : Type 0} {view : X → Tree} {e : JiterError} {s1 : ReaderState}
-        → LeavesAt view (Err e) s s1 (w.asked s) → LeavesAt view (Err e) s0 s1 (all s0 w)
+        → Reads anywhere view (w.asked s) (Err e) s s1 → Reads anywhere view (all s0 w) (Err e) s0 s1
     part-refused {s1 = s1} h = record {
       moves = moves-on s0 s s1 inv.moves h.moves;
       value = λ m. behind-here _ (h.value m);
-      place = h.place;
+      index = omega (arith, h.index, same-length inv.moves);
+      memory = h.memory;
     }
 
     -- a part that was built, and the call behind it
     module _ {X : Type 0} {view : X → Tree} {x : X} {s1 : ReaderState}
-        (built : LeavesAt view (Ok x) s s1 (w.asked s)) where
+        (built : Reads anywhere view (w.asked s) (Ok x) s s1) where
       behind-moves : MovesOn s0 s1
       behind-moves = moves-on s0 s s1 inv.moves built.moves
 
@@ -148,7 +150,7 @@ module _ {K P : Type 0} {s0 : ReaderState} {w : Walk K P} (laws : WalkLaws s0 w)
 
       -- it leads on, or ends the container
       pub goes-on : {Y : Type 0} {keys : Y → Option K} {y : Y} {s2 : ReaderState} {more : List P}
-          → LeavesAt keys (Ok y) s1 s2 (w.stepped s1) → with_part ≡ more → In s0 s2 w (keys y) more
+          → Reads anywhere keys (w.stepped s1) (Ok y) s1 s2 → with_part ≡ more → In s0 s2 w (keys y) more
       goes-on {keys = keys} {y = y} {s2 = s2} stepped grown =
           let led = subst (LeadsTo s0 w with_part (all s0 w)) stepped.value behind-leads in
           subst (λ ps. In s0 s2 w (keys y) ps) grown
@@ -168,11 +170,12 @@ module _ {K P : Type 0} {s0 : ReaderState} {w : Walk K P} (laws : WalkLaws s0 w)
 
       -- no part goes on, and no closer stands
       pub stuck-behind : {Y : Type 0} {keys : Y → Option K} {e : JiterError} {s2 : ReaderState}
-          → LeavesAt keys (Err e) s1 s2 (w.stepped s1) → LeavesAt view (Err e) s0 s2 (all s0 w)
+          → Reads anywhere keys (w.stepped s1) (Err e) s1 s2 → Reads anywhere view (all s0 w) (Err e) s0 s2
       stuck-behind {s2 = s2} stepped = record {
         moves = moves-on s0 s1 s2 behind-moves stepped.moves;
         value = λ m. subst (LeadsTo s0 w with_part (all s0 w)) (stepped.value m) behind-leads;
-        place = stepped.place;
+        index = omega (arith, stepped.index, same-length behind-moves);
+        memory = stepped.memory;
       }
 
 -- the calls that open a container

@@ -7,6 +7,7 @@ pub mod Members
 pub mod OwnedTrees
 pub mod Peeking
 pub mod PlainReplies
+pub mod ReadLaws
 pub mod Refusals
 pub mod SkipReplies
 pub mod Telling

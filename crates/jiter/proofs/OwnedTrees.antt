@@ -11,7 +11,8 @@ use Rattle.jiter_value.specs.Parses.{reading_as}
 use Rattle.jiter_value.specs.Settings.{each}
 use Rattle.jiter_value.proofs.MadeTexts.{value_at-as}
 use Rattle.jiter.specs.Client.{owned_trees, built}
-use Rattle.jiter.specs.Jiter.{MovesOn, LeavesAt, Replies, UnlessMemory, StandsAt, reply_seen}
+use Rattle.jiter.specs.Jiter.{MovesOn, Replies, UnlessMemory, StandsAt, reply_seen}
+use Rattle.jiter.specs.Reads.{Reads, anywhere}
 use Rattle.jiter.specs.Reader.{ReaderState, with_position, value_place, if_byte, next, value_reply, value_read}
 use Rattle.jiter.specs.declared.errors.JiterError.{JiterError}
 use Rattle.jiter.proofs.Building.{known-first}
@@ -31,7 +32,7 @@ value-owned names t levels i = reply-owned (value_at (whole_trees names) t level
 -- What is built where a value begins, at the place that a peek moves to, is the value that is read.
 pub built_as_read : {X : Type 0} (view : X → Tree) (result : Result X JiterError) (s0 s end : ReaderState) (c : ℕ)
     → MovesOn s0 s → s.position ≡ value_place s0 → StandsAt s c
-    → LeavesAt view result s end (built s nesting_limit (start_of c))
+    → Reads anywhere view (built s nesting_limit (start_of c)) result s end
     → UnlessMemory result (Replies view result end (reply_seen owned_tree (next s0 (value_read s0))))
 built_as_read view result s0 s end c moves place here leaves =
     let p = value_place s0 in

@@ -52,8 +52,8 @@ pub use Rattle.jiter.specs.Cause.{Cause, ValueType, is_memory_cause, json_error,
 pub use Rattle.jiter.specs.Client.{OwnedMayGrowAt}
 pub use Rattle.jiter.specs.Errors.{cause_of, type_of}
 pub use Rattle.jiter.specs.Fronts.{FrontsGrow, IsCleanCut, OneThenOther, ParsesFront}
-pub use Rattle.jiter.specs.Jiter.{BeginsAt, EndsWithColon, IndexWithin, IsMemory, IsRefusalOf, LeavesAt, MovesOn}
-pub use Rattle.jiter.specs.Jiter.{RefusesAs, RefusesBytes, Replies, StandsAt, StandsBefore, TellsHere, UnlessMemory}
+pub use Rattle.jiter.specs.Jiter.{BeginsAt, EndsWithColon, IndexWithin, IsMemory, IsRefusalOf, MovesOn}
+pub use Rattle.jiter.specs.Jiter.{RefusesBytes, Replies, StandsAt, StandsBefore, TellsHere, UnlessMemory}
 pub use Rattle.jiter.specs.Jiter.{WhereMemory, at_start, byte_of, key_bytes, reply_seen, text_bytes}
 pub use Rattle.jiter.specs.Lending.{LeavesReader}
 pub use Rattle.jiter.specs.Reader.{ReaderState, Reply, gave, refused, StaysAt, position_after, value_place}
@@ -62,6 +62,9 @@ pub use Rattle.jiter.specs.Reader.{array_read, bool_read, bytes_read, finish, if
 pub use Rattle.jiter.specs.Reader.{known, next}
 pub use Rattle.jiter.specs.Reader.{null_read, number_bytes_read, number_read, object_read, peek, skip_read, str_read}
 pub use Rattle.jiter.specs.Reader.{value_read}
+pub use Rattle.jiter.specs.Reads.{Lends, Memory, Reads, RunsOut, Unless, anywhere, escape_memory, first_key_memory}
+pub use Rattle.jiter.specs.Reads.{key_memory, never, next_key_memory, only_at, owned_value_memory, string_memory}
+pub use Rattle.jiter.specs.Reads.{value_memory}
 pub use Rattle.jiter.specs.Skipping.{SkipsAsRead}
 -- What its calls reply where a value comes next.
 pub use Rattle.jiter.specs.Telling.{Tells, bool_told, int_told, other_type, str_told, tree_type}

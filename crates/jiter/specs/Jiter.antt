@@ -11,7 +11,7 @@ use Rattle.jiter_steps.specs.declared.read_error.ReadError.{ReadError}
 use Rattle.jiter_steps.specs.declared.read_error.ReadError.TheVariants as error
 use Rattle.jiter.specs.Cause.{json_error}
 use Rattle.jiter.specs.Errors.{cause_of}
-use Rattle.jiter.specs.Reader.{ReaderState, Reply, gave, refused, Refusal, with_position, position_after}
+use Rattle.jiter.specs.Reader.{ReaderState, Reply, gave, refused, Refusal, with_position}
 use Rattle.jiter.specs.declared.errors.JiterError.{JiterError}
 use Rattle.jiter.specs.declared.peek.Peek.{Peek}
 
@@ -65,13 +65,6 @@ abbrev pub IsErrorAt : ReadError → ℕ → JiterError → Type 0
 IsErrorAt (error.Fault f) i e = refusal_view e ≡ record { cause = json_error (fault_kind f.kind); index = f.index }
 IsErrorAt (error.Memory m) i e = refusal_view e ≡ record { cause = json_error out_of_memory; index = i }
 
--- How a call that lends a text leaves the reader: where the reply says; where memory was refused, at the error's index.
-pub record LeavesAt {X A : Type 0} (view : X → A) (result : Result X JiterError) (old new : ReaderState) (r : Reply A)
-    : Type 0 where
-  pub moves : MovesOn old new
-  pub value : UnlessMemory result (Replies view result new r)
-  pub place : WhereMemory result (λ e. new.position ≡ e.index)
-
 -- a reply, what it gave seen so
 abbrev pub reply_seen : {A B : Type 0} → (A → B) → Reply A → Reply B
 reply_seen f (gave a e) = gave (f a) e
@@ -84,12 +77,6 @@ text_bytes x = x.bytes
 -- the bytes of a key, if there is one
 abbrev pub key_bytes : Option Text → Option (List ℕ)
 key_bytes = option_map text_bytes
-
--- What a call that lends a text was refused for, but for want of memory: this reply's cause, at its index, and the
--- reader stands where the reply says.
-abbrev pub RefusesAs : {X A : Type 0} → Result X JiterError → Reply A → Type 0
-RefusesAs (Ok x) r = Unit {0}
-RefusesAs (Err e) r = (IsMemory e → ⊥) → r ≡ refused (cause_of e.error_type) e.index (position_after r)
 
 -- the byte c stands where the reader stands
 abbrev pub StandsAt : ReaderState → ℕ → Type 0

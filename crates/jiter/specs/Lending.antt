@@ -6,13 +6,13 @@ use Rattle.std.specs.Prelude.{⊤, [], Result}
 use denote.Follow.{follows_so}
 use mathlib.Core.Option.{none}
 use mir.Syntax.{named}
-use Rattle.jiter.specs.Jiter.{LeavesAt}
 use Rattle.jiter.specs.Reader.{ReaderState, Reply}
+use Rattle.jiter.specs.Reads.{Memory, Reads}
 use Rattle.jiter.specs.contracts.jiter.Jiter.{the_row}
 use Rattle.jiter.specs.declared.errors.JiterError.{JiterError}
 
--- The reader is left where the reply of the call says.
-abbrev pub LeavesReader : {X A : Type 0} → (X → A) → Result X JiterError → MutBor ReaderState → Reply A → Fml
-LeavesReader view result reader r = follows_so
+-- Once the borrow ends, the reader is as the read promises.
+abbrev pub LeavesReader : {X A : Type 0} → Memory → (X → A) → Reply A → Result X JiterError → MutBor ReaderState → Fml
+LeavesReader when view reply result reader = follows_so
     (the_row (record { mir = named 1; lft = [] })) (the_row (record { mir = named 1; lft = [] }))
-    reader.ghost_name none (λ _ _. ⊤) (λ v. LeavesAt view result reader.now v r)
+    reader.ghost_name none (λ _ _. ⊤) (λ v. Reads when view reply result reader.now v)

@@ -8,5 +8,6 @@ pub mod Lending
 pub mod Parts
 pub mod Peek
 pub mod Reader
+pub mod Reads
 pub mod Skipping
 pub mod Telling

@@ -13,9 +13,10 @@ ghost use Rattle.jiter_value.specs.Owned.{owned_text, owned_tree, HoldsBorrowedT
 ghost use Rattle.jiter_value.specs.Value.{view, LeadsOn};
 ghost use Rattle.jiter.specs.Cause.{json_error};
 ghost use Rattle.jiter.specs.Client.{built, built_inside, own_text, IsTruthOrNothing, OwnedMayGrowAt};
-ghost use Rattle.jiter.specs.Jiter.{MovesOn, Replies, RefusesBytes, UnlessMemory, WhereMemory, LeavesAt, IndexWithin};
+ghost use Rattle.jiter.specs.Jiter.{RefusesBytes, WhereMemory};
 ghost use Rattle.jiter.specs.Jiter.{reply_seen, StandsAt, byte_of, refusal_view};
-ghost use Rattle.jiter.specs.Reader.{value_place, with_position, next, known, value_read, object_read, key_step};
+ghost use Rattle.jiter.specs.Reads.{Reads, anywhere, owned_value_memory};
+ghost use Rattle.jiter.specs.Reader.{value_place, next, known, value_read, object_read, key_step};
 
 use crate::errors::{JiterError, JiterErrorType, JiterResult};
 use crate::jiter::Jiter;
@@ -38,10 +39,7 @@ fn out_of_memory(refused: Refused, jiter: &Jiter<'_>) -> JiterError
         ≡ record { cause = json_error out_of_memory; index = jiter.now.position } }
 {
     let _ = refused;
-    JiterError {
-        error_type: JiterErrorType::JsonError(JsonErrorType::OutOfMemory),
-        index: jiter.current_index(),
-    }
+    jiter.out_of_memory()
 }
 
 fn number_value(alloc: Global, number: NumberAny<'_>) -> Result<JsonValue<'static>, Refused>
@@ -64,8 +62,7 @@ fn number_value(alloc: Global, number: NumberAny<'_>) -> Result<JsonValue<'stati
 fn build_number(alloc: Global, jiter: &mut Jiter<'_>, peek: Peek) -> JiterResult<JsonValue<'static>>
     requires here { StandsAt jiter.old (byte_of peek) }
     requires begins { start_of (byte_of peek) ≡ Start.Number }
-    ensures value { LeavesAt view result jiter.old jiter.new (built jiter.old 0 Start.Number) }
-    ensures index { IndexWithin jiter.old.text result }
+    ensures reads { Reads anywhere view (built jiter.old 0 Start.Number) result jiter.old jiter.new }
     ensures memory { WhereMemory result (λ _. OwnedMayGrowAt jiter.old) }
 {
     let number = jiter.known_number(peek)?;
@@ -78,8 +75,7 @@ fn build_number(alloc: Global, jiter: &mut Jiter<'_>, peek: Peek) -> JiterResult
 fn build_string(alloc: Global, jiter: &mut Jiter<'_>) -> JiterResult<JsonValue<'static>>
     requires whole { jiter.old.partial_strings ≡ false }
     requires here { StandsAt jiter.old ascii.quote }
-    ensures value { LeavesAt view result jiter.old jiter.new (built jiter.old 0 Start.String) }
-    ensures index { IndexWithin jiter.old.text result }
+    ensures reads { Reads anywhere view (built jiter.old 0 Start.String) result jiter.old jiter.new }
     ensures memory { WhereMemory result (λ _. OwnedMayGrowAt jiter.old) }
 {
     let text = jiter.known_str(alloc)?;
@@ -91,8 +87,8 @@ fn build_string(alloc: Global, jiter: &mut Jiter<'_>) -> JiterResult<JsonValue<'
 
 fn build_null(jiter: &mut Jiter<'_>) -> JiterResult<JsonValue<'static>>
     requires { StandsAt jiter.old ascii.small_n }
-    ensures value { LeavesAt view result jiter.old jiter.new
-        (built jiter.old 0 (Start.Literal Literal.Null)) }
+    ensures reads { Reads anywhere view (built jiter.old 0 (Start.Literal Literal.Null))
+        result jiter.old jiter.new }
     ensures refusal { RefusesBytes jiter.old.text result }
 {
     jiter.known_null()?;
@@ -103,8 +99,8 @@ fn build_null(jiter: &mut Jiter<'_>) -> JiterResult<JsonValue<'static>>
 fn build_bool(jiter: &mut Jiter<'_>, peek: Peek) -> JiterResult<JsonValue<'static>>
     requires here { StandsAt jiter.old (byte_of peek) }
     requires begins { IsTruthOrNothing (start_of (byte_of peek)) }
-    ensures value { LeavesAt view result jiter.old jiter.new
-        (built jiter.old 0 (start_of (byte_of peek))) }
+    ensures reads { Reads anywhere view (built jiter.old 0 (start_of (byte_of peek)))
+        result jiter.old jiter.new }
     ensures refusal { RefusesBytes jiter.old.text result }
 {
     let truth = jiter.known_bool(peek)?;
@@ -119,8 +115,7 @@ fn build_array(
 ) -> JiterResult<JsonValue<'static>>
     requires whole { jiter.old.partial_strings ≡ false }
     requires here { StandsAt jiter.old ascii.left_bracket }
-    ensures value { LeavesAt view result jiter.old jiter.new (built jiter.old levels Start.Array) }
-    ensures index { IndexWithin jiter.old.text result }
+    ensures reads { Reads anywhere view (built jiter.old levels Start.Array) result jiter.old jiter.new }
     ensures memory { WhereMemory result (λ _.
         LeadsOn (step jiter.old.text array_first (jiter.old.position + 1))) }
 {
@@ -153,9 +148,9 @@ fn copy_key(alloc: Global, key: Option<&str>) -> Result<Option<CowStr<'static>>,
 
 fn first_key(alloc: Global, jiter: &mut Jiter<'_>) -> JiterResult<Option<CowStr<'static>>>
     requires { StandsAt jiter.old ascii.left_brace }
-    ensures value { LeavesAt (option_map text_view) result jiter.old jiter.new
-        (reply_seen (option_map owned_text) (known jiter.old (object_read whole jiter.old))) }
-    ensures index { IndexWithin jiter.old.text result }
+    ensures reads { Reads anywhere (option_map text_view)
+        (reply_seen (option_map owned_text) (known jiter.old (object_read whole jiter.old)))
+        result jiter.old jiter.new }
     ensures memory { WhereMemory result (λ _.
         LeadsOn (step jiter.old.text object_first (jiter.old.position + 1))) }
 {
@@ -167,9 +162,8 @@ fn first_key(alloc: Global, jiter: &mut Jiter<'_>) -> JiterResult<Option<CowStr<
 }
 
 fn next_key(alloc: Global, jiter: &mut Jiter<'_>) -> JiterResult<Option<CowStr<'static>>>
-    ensures value { LeavesAt (option_map text_view) result jiter.old jiter.new
-        (reply_seen (option_map owned_text) (key_step whole jiter.old)) }
-    ensures index { IndexWithin jiter.old.text result }
+    ensures reads { Reads anywhere (option_map text_view)
+        (reply_seen (option_map owned_text) (key_step whole jiter.old)) result jiter.old jiter.new }
 {
     let key = jiter.next_key(alloc)?;
     match copy_key(alloc, key) {
@@ -186,8 +180,7 @@ fn build_object(
 ) -> JiterResult<JsonValue<'static>>
     requires whole { jiter.old.partial_strings ≡ false }
     requires here { StandsAt jiter.old ascii.left_brace }
-    ensures value { LeavesAt view result jiter.old jiter.new (built jiter.old levels Start.Object) }
-    ensures index { IndexWithin jiter.old.text result }
+    ensures reads { Reads anywhere view (built jiter.old levels Start.Object) result jiter.old jiter.new }
     ensures memory { WhereMemory result (λ _.
         LeadsOn (step jiter.old.text object_first (jiter.old.position + 1))) }
 {
@@ -210,9 +203,8 @@ fn build_member(
     levels: usize,
 ) -> JiterResult<JsonValue<'static>>
     requires { jiter.old.partial_strings ≡ false }
-    ensures value { LeavesAt view result jiter.old jiter.new
-        (next jiter.old (λ i _. built_inside jiter.old levels i)) }
-    ensures index { IndexWithin jiter.old.text result }
+    ensures reads { Reads anywhere view (next jiter.old (λ i _. built_inside jiter.old levels i))
+        result jiter.old jiter.new }
 {
     let peek = jiter.peek()?;
     build_inside(alloc, jiter, peek, levels)
@@ -228,9 +220,8 @@ fn build_inside(
 ) -> JiterResult<JsonValue<'static>>
     requires whole { jiter.old.partial_strings ≡ false }
     requires here { StandsAt jiter.old (byte_of peek) }
-    ensures value { LeavesAt view result jiter.old jiter.new
-        (built_inside jiter.old levels jiter.old.position) }
-    ensures index { IndexWithin jiter.old.text result }
+    ensures reads { Reads anywhere view (built_inside jiter.old levels jiter.old.position)
+        result jiter.old jiter.new }
 {
     if levels == 0 {
         return Err(JiterError {
@@ -251,9 +242,8 @@ fn build_value(
 ) -> JiterResult<JsonValue<'static>>
     requires whole { jiter.old.partial_strings ≡ false }
     requires here { StandsAt jiter.old (byte_of peek) }
-    ensures value { LeavesAt view result jiter.old jiter.new
-        (built jiter.old levels (start_of (byte_of peek))) }
-    ensures index { IndexWithin jiter.old.text result }
+    ensures reads { Reads anywhere view (built jiter.old levels (start_of (byte_of peek)))
+        result jiter.old jiter.new }
     ensures memory { WhereMemory result (λ _. OwnedMayGrowAt jiter.old) }
 {
     match start_of(peek.into_inner()) {
@@ -284,14 +274,8 @@ fn build_value(
 #[tactic(auto, using(crate::proofs::OwnedTrees::built_as_read))]
 pub fn value_by_steps(alloc: Global, jiter: &mut Jiter<'_>) -> JiterResult<JsonValue<'static>>
     requires { jiter.old.partial_strings ≡ false }
-    ensures moves { MovesOn jiter.old jiter.new }
-    ensures value { UnlessMemory result (Replies view result jiter.new
-        (reply_seen owned_tree (next jiter.old (value_read jiter.old)))) }
-    ensures index { IndexWithin jiter.old.text result }
-    ensures memory { WhereMemory result (λ _.
-        OwnedMayGrowAt (with_position jiter.old (value_place jiter.old))) }
-    ensures place { WhereMemory result (λ e. (jiter.new.position ≡ e.index)
-        × (value_place jiter.old ≤ e.index)) }
+    ensures reads { Reads (owned_value_memory jiter.old (value_place jiter.old)) view
+        (reply_seen owned_tree (next jiter.old (value_read jiter.old))) result jiter.old jiter.new }
 {
     let peek = jiter.peek()?;
     build_value(alloc, jiter, peek, NESTING_LIMIT)

@@ -7,15 +7,16 @@ ghost use Rattle.jiter.specs.Cause.{json_error, wrong_type};
 ghost use Rattle.jiter.specs.Errors.{cause_of, type_of};
 ghost use Rattle.jiter.specs.Reader.{value_place, peek, next, gave, finish, number_refusal, type_refusal};
 ghost use Rattle.jiter.specs.Reader.{with_position};
-ghost use Rattle.jiter.specs.Jiter.{at_start, MovesOn, Replies, RefusesBytes, IsRefusalOf, refusal_view, IsErrorAt};
+ghost use Rattle.jiter.specs.Jiter.{at_start, MovesOn, IsMemory, IsRefusalOf, refusal_view, IsErrorAt};
 ghost use Rattle.jiter.specs.Jiter.{StandsAt, BeginsAs, byte_of};
+ghost use Rattle.jiter.specs.Reads.{Reads, never};
 
 use crate::errors::{JiterError, JiterErrorType, JiterResult, JsonType};
 use crate::jiter::plain::look;
 use crate::peek::Peek;
 use jiter_scan::errors::{Fault, FaultKind, fault_at};
 use jiter_scan::number_decoder::number_at;
-use jiter_scan::{JsonError, NumberAny};
+use jiter_scan::{JsonError, JsonErrorType, NumberAny};
 use jiter_steps::parse::{Literal, Parser, Start, start_of};
 use jiter_steps::read_error::ReadError;
 use jiter_value::reading::error_at;
@@ -259,9 +260,7 @@ impl<'j> Jiter<'j> {
     /// ```
     #[inline(always)]
     pub fn peek(&mut self) -> JiterResult<Peek>
-        ensures moves { MovesOn self.old self.new }
-        ensures value { Replies byte_of result self.new (peek self.old) }
-        ensures refusal { RefusesBytes self.old.text result }
+        ensures reads { Reads never byte_of (peek self.old) result self.old self.new }
         ensures place { self.new.position ≡ value_place self.old }
         ensures here { MatchResult result (λ p. StandsAt self.new (byte_of p))
             (λ _. slice_get self.new.text self.new.position ≡ None) }
@@ -277,9 +276,7 @@ impl<'j> Jiter<'j> {
 
     #[inline(always)]
     fn next_start(&mut self) -> JiterResult<Start>
-        ensures moves { MovesOn self.old self.new }
-        ensures value { Replies (λ b. b) result self.new (next self.old (λ i b. gave b i)) }
-        ensures refusal { RefusesBytes self.old.text result }
+        ensures reads { Reads never (λ b. b) (next self.old (λ i b. gave b i)) result self.old self.new }
         ensures place { self.new.position ≡ value_place self.old }
         ensures here { MatchResult result (BeginsAs self.new)
             (λ _. slice_get self.new.text self.new.position ≡ None) }
@@ -296,15 +293,37 @@ impl<'j> Jiter<'j> {
     ///
     /// - `TrailingCharacters` if another byte is left; the reader is then at that byte
     pub fn finish(&mut self) -> JiterResult<()>
-        ensures moves { MovesOn self.old self.new }
-        ensures value { Replies (λ u. u) result self.new (finish self.old) }
-        ensures refusal { RefusesBytes self.old.text result }
+        ensures reads { Reads never (λ u. u) (finish self.old) result self.old self.new }
     {
         if self.next_byte().is_some() {
             let fault = fault_at(FaultKind::TrailingCharacters, self.parser.index);
             return Err(refusal(fault));
         }
         Ok(())
+    }
+
+    /// Returns the error `OutOfMemory` at the reader's position, and leaves the reader there.
+    ///
+    /// Return it when an allocation of your own fails, such as the copy of a string that the reader returned.
+    ///
+    /// # Examples
+    ///
+    /// ```rust
+    /// let text = jiter.next_str(alloc)?;
+    /// match String::from_str(alloc, text) {
+    ///     Ok(copy) => Ok(copy),
+    ///     Err(_) => Err(jiter.out_of_memory()),
+    /// }
+    /// ```
+    #[cold]
+    pub fn out_of_memory(&self) -> JiterError
+        ensures kind { IsMemory result }
+        ensures index { result.index ≡ self.now.position }
+    {
+        JiterError {
+            error_type: JiterErrorType::JsonError(JsonErrorType::OutOfMemory),
+            index: self.current_index(),
+        }
     }
 
     // A number with an error of its own is reported as that error, and not as another type.

@@ -9,9 +9,9 @@ use Rattle.jiter.specs.Reader.{ReaderState, Reply, StaysAt, gave, peek, position
 use Rattle.jiter.specs.Reader.{with_position}
 use Rattle.jiter.specs.declared.errors.JiterError.{JiterError}
 use Rattle.jiter.proofs.Peeking.{peek-again}
-use Rattle.jiter_c.specs.Faults.{memory_number}
+use Rattle.jiter_c.specs.Faults.{fault_of, memory_number}
 use Rattle.jiter_c.specs.Replies.{peek_reply, start_number, state_of}
-use Rattle.jiter_c.specs.Told.{UnlessMemory}
+use Rattle.jiter_c.specs.Told.{Tells, UnlessMemory, fault_or, is_given, left_by}
 use Rattle.jiter_c.specs.declared.faults.JiterFault.{JiterFault}
 use Rattle.jiter_c.specs.declared.reader.JiterReader.{JiterReader}
 
@@ -58,3 +58,26 @@ peeks-again r s i m place at =
       stands : state_of (record r { index = i }) ≡ with_position (state_of r) (position_after (peek (state_of r)))
       stands = ap (with_position (state_of r))
           (min-within i (length r.bytes.now) (omega (arith, at, m.within)) ∙ at ∙ place)
+
+-- What is told of a call that may run out of memory: what it gave, or why it was refused.
+module _ {A : Type 0} (reply : Reply A) (given : Bool) (old new : JiterReader) (before after : JiterFault) where
+  pub told-gave : (a : A) (e : ℕ) → reply ≡ gave a e → given ≡ true → new ≡ record old { index = e }
+      → after ≡ before → UnlessMemory given after (Tells reply given old new before after)
+  told-gave a e is told place same =
+      subst (λ g. UnlessMemory g after (Tells reply g old new before after)) (sym told)
+      (record {
+        told = ap is_given (sym is);
+        place = place ∙ ap (left_by old) (sym is);
+        fault = same ∙ ap (fault_or before) (sym is);
+      })
+
+  pub told-refused : (c : Cause) (x stop : ℕ) → (after.kind ≢ memory_number → reply ≡ refused c x stop)
+      → given ≡ false → new ≡ record old { index = stop } → after ≡ fault_of c x
+      → UnlessMemory given after (Tells reply given old new before after)
+  told-refused c x stop h told place same =
+      subst (λ g. UnlessMemory g after (Tells reply g old new before after)) (sym told)
+      (λ bytes. let is = h bytes in record {
+        told = ap is_given (sym is);
+        place = place ∙ ap (left_by old) (sym is);
+        fault = same ∙ ap (fault_or before) (sym is);
+      })

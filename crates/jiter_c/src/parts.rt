@@ -2,10 +2,11 @@
 ghost use Rattle.std.specs.Prelude.{◌≡◌, ℕ, IfErr, IfOk, MatchResult, None, false, option_map, true};
 ghost use Rattle.std.specs.Str.{bytes_eq};
 ghost use Rattle.jiter.specs.Errors.{cause_of};
-ghost use Rattle.jiter.specs.Jiter.{MovesOn, RefusesBytes, Replies, key_bytes, reply_seen};
+ghost use Rattle.jiter.specs.Jiter.{MovesOn, key_bytes, reply_seen};
 ghost use Rattle.jiter.specs.Jiter.{UnlessMemory as UnlessRefused, WhereMemory as WhereRefused};
 ghost use Rattle.jiter.specs.Parts.{LedTo, RefusedBehind, StandsNext, count_parts, last_named, numbered};
 ghost use Rattle.jiter.specs.Reader.{next, object_read, skip_read, value_place};
+ghost use Rattle.jiter.specs.Reads.{Reads, never};
 ghost use Rattle.jiter_steps.specs.Node.{IsContainer, Node, NodeMembers, Nodes, begin};
 ghost use Rattle.jiter_steps.specs.StringDecoder.{WantsMemory};
 ghost use Rattle.jiter_steps.specs.StringReading.{whole};
@@ -19,8 +20,7 @@ use jiter::{Jiter, JiterResult, Peek};
 use std::alloc::Global;
 
 fn first_part(jiter: &mut Jiter<'_>, object: bool) -> JiterResult<bool>
-    ensures moves { MovesOn jiter.old jiter.new }
-    ensures value { Replies (λ more. more) result jiter.new (first_part object jiter.old) }
+    ensures reads { Reads never (λ more. more) (first_part object jiter.old) result jiter.old jiter.new }
 {
     if object {
         Ok(jiter.next_object_bytes()?.is_some())
@@ -30,8 +30,7 @@ fn first_part(jiter: &mut Jiter<'_>, object: bool) -> JiterResult<bool>
 }
 
 fn next_part(jiter: &mut Jiter<'_>, object: bool) -> JiterResult<bool>
-    ensures moves { MovesOn jiter.old jiter.new }
-    ensures value { Replies (λ more. more) result jiter.new (next_part object jiter.old) }
+    ensures reads { Reads never (λ more. more) (next_part object jiter.old) result jiter.old jiter.new }
 {
     if object {
         Ok(jiter.next_key_bytes()?.is_some())
@@ -168,10 +167,8 @@ fn is_named(key: Option<&str>, name: &[u8]) -> Option<bool>
 }
 
 fn pass(jiter: &mut Jiter<'_>) -> JiterResult<usize>
-    ensures moves { MovesOn jiter.old jiter.new }
-    ensures passed { Replies (λ _. tt) result jiter.new (next jiter.old (skip_read jiter.old)) }
+    ensures reads { Reads never (λ _. tt) (next jiter.old (skip_read jiter.old)) result jiter.old jiter.new }
     ensures place { IfOk result (λ start. start ≡ value_place jiter.old) }
-    ensures refusal { RefusesBytes jiter.old.text result }
 {
     let peek = jiter.peek()?;
     let start = jiter.current_index();

@@ -1,6 +1,6 @@
 -- A string or a key of a document goes on, while the value so far is together.
-use Rattle.std.proofs.Common.{◌≡◌, ◌≢◌, ℕ, zero, suc, get_or, ◌+◌, ◌-◌, ◌<◌, Bool, true, false, List, [], ◌∷◌, ◌++◌, length, take}
-use Rattle.std.proofs.Common.{refl, sym, subst, ap, ap₂, ◌∙◌, inl, inr, arith, append_assoc, length-append}
+use Rattle.std.proofs.Common.{◌≡◌, ◌≢◌, ℕ, suc, ◌+◌, ◌-◌, ◌<◌, Bool, true, false, List, [], ◌∷◌, ◌++◌, length, take}
+use Rattle.std.proofs.Common.{refl, sym, subst, ap, ap₂, ◌∙◌, inl, inr, arith, append-nil, append_assoc, length-append}
 use Rattle.std.specs.List.{AllPass}
 use Rattle.std.specs.Prelude.{◌&&◌, ◌||◌, not, if◌then◌else◌, is_some, Option, Some, None, Result, Ok, Err, OnErr}
 use Rattle.std.specs.Str.{IsUtf8}
@@ -18,6 +18,7 @@ use Rattle.jiter_scan.specs.declared.errors.FaultKind.TheVariants as fault_of
 use Rattle.jiter_scan.specs.declared.partial_mode.PartialMode.{PartialMode}
 use Rattle.jiter_scan.specs.declared.partial_mode.PartialMode.TheVariants.{Off, On, TrailingStrings}
 use Rattle.jiter_steps.specs.OpenString.{IsEven, grown, text_or}
+use Rattle.jiter_steps.specs.OpenText.{with_text}
 use Rattle.jiter_steps.specs.Read.{done, fault}
 use Rattle.jiter_steps.specs.Tree.{Tree, string}
 use Rattle.jiter_steps.specs.declared.open_string.OpenString.{OpenString}
@@ -28,11 +29,11 @@ use Rattle.jiter_incremental.specs.Arriving.{HasReceived, received}
 use Rattle.jiter_incremental.specs.DocumentEnds.{AnswersSo, KeepsText, broken_as, is_broken, is_shown, kind_as, kind_at_end, shown_as}
 use Rattle.jiter_incremental.specs.DocumentEnds.{so_far, token_tree}
 use Rattle.jiter_incremental.specs.DocumentStrings.{IsOfString}
-use Rattle.jiter_incremental.specs.Growing.{IsGrowing, moved_to, with_end}
+use Rattle.jiter_incremental.specs.Growing.{IsGrowing, moved_to, moved_unless, with_end}
 use Rattle.jiter_incremental.specs.OpenDocument.{HasArrived, Holding, Known, MayRefuseAt, Opened, ReadsAt, anything, between_tokens}
 use Rattle.jiter_incremental.specs.OpenDocument.{in_key, in_scalar, strictly}
 use Rattle.jiter_incremental.specs.OpenValue.{IsPutTogether, IsShown, behind_value, text_of}
-use Rattle.jiter_incremental.specs.Replaced.{GoesOn, HasGoneOn, HasReplaced, HoldsTextInside, with_chars, with_root}
+use Rattle.jiter_incremental.specs.Replaced.{HasReplaced, HoldsTextInside, with_root}
 use Rattle.jiter_value.specs.Settings.{answer_as}
 use Rattle.jiter_incremental.specs.Spine.{HasValue, OpenFrame, filled}
 use Rattle.jiter_incremental.specs.Together.{HasMoved, HoldsTogether, IsSettled, with_parts}
@@ -50,7 +51,7 @@ use Rattle.jiter_incremental.proofs.Documents.Ends.{IsAnsweredSo, nothing-comes,
 use Rattle.jiter_incremental.proofs.Documents.Ends.{with_fault, with_value}
 use Rattle.jiter_incremental.proofs.Documents.Strings.{goes-on, is-inside, known-more, with_string}
 use Rattle.jiter_incremental.proofs.Documents.{counted-holding, known-as}
-use Rattle.jiter_incremental.proofs.Settled.{InScalar, in-scalar, not-shown, same-string, shown-behind, shown-there}
+use Rattle.jiter_incremental.proofs.Settled.{InScalar, in-scalar, not-shown, shown-behind, shown-there}
 use Rattle.jiter_incremental.proofs.ShownTexts.{text-again, text-deep, text-inside}
 
 -- ---- plain bytes
@@ -120,23 +121,21 @@ text-wanted a t (c ∷ v) o h some =
     subst (λ w. MayRefuseAt w (length t)) (append_assoc t (c ∷ []) v)
     (refuse-on (t ++ c ∷ []) v (length t) (refuse-in a t c arrived h.unset (string-token a.token h.kind)))
 
--- It goes on.
-pub text-on : (a : OpenDocument) (t v : List ℕ) (o : Opened) (j : ℕ) (s : OpenString) → InText a t o
-    → GoesOn a.string s v → j ≡ length (t ++ v) → InText (gone a s j) (t ++ v) o
-text-on a t v o j s h on is =
+-- Plain bytes go on with it behind whole characters and whole escapes.
+pub text-on : (a : OpenDocument) (t v : List ℕ) (o : Opened) (j : ℕ) → InText a t o → IsEven a.string
+    → Pass is_plain_ascii v → j ≡ length (t ++ v) → InText (gone a (grown a.string v) j) (t ++ v) o
+text-on a t v o j h even plain is =
+    let s = grown a.string v in
     let longer = with_string a s in
     record {
       known = known-as anything longer (gone a s j) (t ++ v) o refl refl refl
           (known-more anything anything a t v o (is-inside a t h.kind o h.held) h.known (λ u c. tt) s);
-      held = counted-holding longer j (t ++ v) o (goes-on a t h.kind s a.first v on.taken o h.held);
+      held = counted-holding longer j (t ++ v) o
+          (goes-on a t h.kind s a.first v (λ w. grown-taken a.string w v even (plain-of v plain)) o h.held);
       place = is;
       unset = h.unset;
       kind = h.kind;
     }
-
--- So it does with plain bytes behind whole characters and whole escapes.
-pub grown-on : (s : OpenString) (v : List ℕ) → IsEven s → Pass is_plain_ascii v → GoesOn s (grown s v) v
-grown-on s v even plain = record { taken = λ w. grown-taken s w v even (plain-of v plain); whole = even.1.0 }
 
 -- ---- what its bytes answer
 
@@ -209,6 +208,46 @@ pub wanted-so : {T E : Type 0} (r : Result T E) (i j : ℕ) (u : List ℕ) (n : 
 wanted-so (Ok x) i j u n same some may = tt
 wanted-so (Err e) i j u n same some may = subst (MayRefuseAt u) (sym same) (may some)
 
+-- Where a text answers a fault, so does another one that answers it too,
+kept-told : (p : Settings) (t u : List ℕ) (x : Option Fault) (k : Kind) (i m n : ℕ) (v w : Option Tree) → AnswersSo p t x v
+    → answer_as owned p t ≡ fault k i m → answer_as owned p u ≡ fault k i n → AnswersSo p u x w
+kept-told p t u None k i m n v w h was is = let read = sym was ∙ h.2.1 in absurd (cc)
+kept-told p t u (Some f) k i m n v w h was is =
+    let read : fault k i m ≡ fault (fault_kind f.kind) f.index h.0 = sym was ∙ h.1 in
+    let kind : k ≡ fault_kind f.kind = cc in
+    let place : i ≡ f.index = cc in
+    (n, is ∙ ap₂ (λ a b. fault a b n) kind place)
+
+-- or the same elsewhere.
+moved-told : (p : Settings) (t u : List ℕ) (x : Option Fault) (k : Kind) (i j m n : ℕ) (v w : Option Tree)
+    → AnswersSo p t x v → answer_as owned p t ≡ fault k i m → answer_as owned p u ≡ fault k j n
+    → AnswersSo p u (moved_to j x) w
+moved-told p t u None k i j m n v w h was is = let read = sym was ∙ h.2.1 in absurd (cc)
+moved-told p t u (Some f) k i j m n v w h was is =
+    let read : fault k i m ≡ fault (fault_kind f.kind) f.index h.0 = sym was ∙ h.1 in
+    let kind : k ≡ fault_kind f.kind = cc in
+    (n, is ∙ ap (λ a. fault a j n) kind)
+
+-- With partial reading off the fault that was noted stays, and that of the end moves.
+strict-on : (d b : OpenDocument) (t v : List ℕ) (o : Opened) → InText d t o → InText b (t ++ v) o
+    → b.settings ≡ d.settings → b.first ≡ d.first → (x : Option Fault) (r w : Option Tree)
+    → AnswersSo (strictly d.settings) t x r
+    → AnswersSo (strictly d.settings) (t ++ v) (moved_unless d.first b.position x) w
+strict-on d b t v o h g same noted x r w told = by d.first refl where
+  by : (y : Option Fault) → d.first ≡ y → AnswersSo (strictly d.settings) (t ++ v) (moved_unless y b.position x) w
+  by (Some f) is =
+      let p = strictly d.settings in
+      let now = subst (λ z. ReadsAt p t [] z o) is (h.known.strict [] tt) in
+      let on = subst (λ z. ReadsAt p t v z o) is (h.known.strict v tt) in
+      kept-told p t (t ++ v) x (fault_kind f.kind) f.index now.0 on.0 r w told
+      (ap (answer_as owned p) (sym (append-nil t)) ∙ now.1) on.1
+  by None is =
+      let now = strict-told d t o h is in
+      let on =
+      subst (λ p. AnswersSo (strictly p) (t ++ v) (Some (cut_at b.position)) (shown (so_far b o))) same
+      (strict-told b (t ++ v) o g (noted ∙ is)) in
+      moved-told (strictly d.settings) t (t ++ v) x eof_string d.position b.position now.0 on.0 r w told now.1 on.1
+
 -- What stands at the root is the value that is told.
 pub root-is : (p : Settings) (t : List ℕ) (x : Option Fault) (root y : Tree) (v : Option Tree) (k : Option Kind)
     → AnswersSo p t x (Some root) → IsAnsweredSo p t v k → v ≡ Some y → root ≡ y
@@ -241,13 +280,12 @@ told-on p t u x j root new (Some v) None k l h a b was cut at same is = absurd (
 -- ---- the same string with more characters
 
 -- It is shown with them as it was,
-gone-shown : (a : OpenDocument) (s : OpenString) (j : ℕ) (k : Token) → s.text.broken ≡ a.string.text.broken
-    → shown_as (gone a s j) k ≡ shown_as a k
-gone-shown a s j token.Nothing same = refl
-gone-shown a s j token.Word same = refl
-gone-shown a s j token.Number same = refl
-gone-shown a s j token.Text same = ap (λ b. allows_trailing_strings a.settings.mode && not b) same
-gone-shown a s j token.Key same = refl
+grown-shown : (a : OpenDocument) (v : List ℕ) (j : ℕ) (k : Token) → shown_as (gone a (grown a.string v) j) k ≡ shown_as a k
+grown-shown a v j token.Nothing = refl
+grown-shown a v j token.Word = refl
+grown-shown a v j token.Number = refl
+grown-shown a v j token.Text = refl
+grown-shown a v j token.Key = refl
 
 -- and where it is not, the value so far is the same.
 far-same : (a b : OpenDocument) (o : Opened) → is_shown a ≡ false → is_shown b ≡ false → so_far a o ≡ so_far b o
@@ -308,15 +346,25 @@ module _ (s : Settled) (t : List ℕ) (h : HasReceived (received s) t) (grows : 
   pub grown-wanted : (v : List ℕ) → 0 < length v → MayRefuseAt (t ++ v) d.position
   grown-wanted v some = subst (MayRefuseAt (t ++ v)) (sym h.position) (text-wanted a t v o before some)
 
-  -- Of this document and this fault the bytes are received.
+  strict-so : (v : List ℕ) (b : OpenDocument) → InText b (t ++ v) o → b.settings ≡ a.settings → b.first ≡ a.first
+      → (w : Option Tree) → AnswersSo (strictly d.settings) (t ++ v) (moved_unless d.first b.position s.strict) w
+  strict-so v b g same noted w =
+      subst (λ p. AnswersSo (strictly p) (t ++ v) (moved_unless d.first b.position s.strict) w) (sym same-settings)
+      (subst (λ x. AnswersSo (strictly a.settings) (t ++ v) (moved_unless x b.position s.strict) w)
+      (sym (ap (λ e. e.first) k.same))
+      (strict-on a b t v o before g same noted s.strict (Some root) w
+      (subst (λ p. AnswersSo (strictly p) t s.strict (Some root)) same-settings h.strict)))
+
+  -- Of this document and these faults the bytes are received.
   module _ (u : List ℕ) (b : OpenDocument) (behind : InText b u o) (e : OpenDocument)
       (holds : HoldsTogether e s.depth s.shown u o) (settings : e.settings ≡ b.settings) (unset : e.fault ≡ b.fault)
       (noted : e.first ≡ b.first) (place : e.position ≡ b.position) (kind : e.token ≡ d.token)
-      (whole : e.string.text.broken ≡ false)
+      (even : IsEven e.string)
     where
-      received-so : (f : Option Fault) → AnswersSo e.settings u f (Some (view e.value.root))
-          → HasReceived (received (record s { document = e; fault = f })) u
-      received-so f told-so = record {
+      received-so : (f g : Option Fault) → AnswersSo e.settings u f (Some (view e.value.root))
+          → AnswersSo (strictly e.settings) u g (Some (view e.value.root))
+          → HasReceived (received (record s { document = e; fault = f; strict = g })) u
+      received-so f g told-so strict-told-so = record {
         together = record {
           opened = o;
           known = known-as anything b e u o settings unset noted behind.known;
@@ -325,32 +373,32 @@ module _ (s : Settled) (t : List ℕ) (h : HasReceived (received s) t) (grows : 
         };
         position = place ∙ behind.place;
         mode = told-so;
-        growing = λ _. (unset ∙ behind.unset, subst IsOfString (sym kind) growing.1, whole);
+        strict = strict-told-so;
+        growing = λ _. (unset ∙ behind.unset, subst IsOfString (sym kind) growing.1, even);
       }
 
   -- One that is not shown goes on.
-  module _ (v : List ℕ) (n : OpenString) (on : GoesOn d.string n v) (hides : s.shown ≡ false) where
+  module _ (v : List ℕ) (plain : Pass is_plain_ascii v) (hides : s.shown ≡ false) where
     put : IsSettled false a d s.depth
     put = subst (λ b. IsSettled b a d s.depth) hides k.settled
 
-    right : a.string.text.broken ≡ false
-    right = ap (λ x. x.text.broken) (sym put.1) ∙ growing.2
+    even-apart : IsEven a.string
+    even-apart = subst IsEven put.1 growing.2
 
     abbrev j : ℕ
     j = d.position + length v
 
     abbrev new : OpenDocument
-    new = gone a n j
+    new = gone a (grown a.string v) j
 
     now : InText new (t ++ v) o
-    now =
-        text-on a t v o j n before (subst (λ x. GoesOn x n v) put.1 on) (omega (arith, h.position, length-append t v))
+    now = text-on a t v o j before even-apart plain (omega (arith, h.position, length-append t v))
 
     off : is_shown a ≡ false
     off = k.shows ∙ hides
 
     none : is_shown new ≡ false
-    none = gone-shown a n j a.token (on.whole ∙ sym right) ∙ off
+    none = grown-shown a v j a.token ∙ off
 
     same-told : told_value new o ≡ told_value a o
     same-told = ap (λ x. if is_active a.settings.mode then shown x else None) (far-same new a o none off)
@@ -364,23 +412,23 @@ module _ (s : Settled) (t : List ℕ) (h : HasReceived (received s) t) (grows : 
         (told-on a.settings t (t ++ v) s.fault j (view d.value.root) (view d.value.root) (told_value a o)
         (told_value new o) (Some eof_string) (Some eof_string)
         (subst (λ p. AnswersSo p t s.fault value_so) same-settings h.mode)
-        (mode-told a t o before (keeps-hidden a off right) right)
-        (mode-told new (t ++ v) o now (keeps-hidden new none on.whole) on.whole)
+        (mode-told a t o before (keeps-hidden a off even-apart.1.0) even-apart.1.0)
+        (mode-told new (t ++ v) o now (keeps-hidden new none even-apart.1.0) even-apart.1.0)
         refl refl now.place (ap is_some (sym same-told))
         (λ x is here. same_Some _ _ (sym is ∙ sym same-told ∙ here)))
 
-    pub hidden-received : HasReceived (received (with_end (record s { document = gone d n j }))) (t ++ v)
+    pub hidden-received : HasReceived (received (with_end (record s { document = gone d (grown d.string v) j }))) (t ++ v)
     hidden-received =
-        let e = gone d n j in
+        let e = gone d (grown d.string v) j in
         received-so (t ++ v) new now e
         (record {
           apart = new;
           held = now.held;
           shows = none ∙ sym hides;
-          same = ap (λ q. gone q n j) k.same;
-          settled = subst (λ x. IsSettled x new e s.depth) (sym hides) (put.0, refl, put.2);
-        }) same-settings (ap (λ q. q.fault) k.same) (ap (λ q. q.first) k.same) refl refl on.whole (moved_to j s.fault)
-        mode-on
+          same = ap (λ q. gone q (grown d.string v) j) k.same;
+          settled = subst (λ x. IsSettled x new e s.depth) (sym hides) (put.0, ap (λ x. grown x v) put.1, put.2);
+        }) same-settings (ap (λ q. q.fault) k.same) (ap (λ q. q.first) k.same) refl refl growing.2 (moved_to j s.fault)
+        (moved_unless d.first j s.strict) mode-on (strict-so v new now refl refl value_so)
 
   -- One that is shown goes on in the value.
   module _ (shows : s.shown ≡ true) where
@@ -402,8 +450,14 @@ module _ (s : Settled) (t : List ℕ) (h : HasReceived (received s) t) (grows : 
     moved : HasMoved token.Text a d.number d.string x
     moved = subst (λ q. HasMoved q a d.number d.string x) text placed.2
 
+    even-apart-shown : IsEven a.string
+    even-apart-shown = (
+      sym moved.2 ∙ growing.2.0,
+      (sym (ap (λ q. q.broken) moved.1) ∙ growing.2.1.0, sym (ap (λ q. q.rest) moved.1) ∙ growing.2.1.1),
+    )
+
     right-apart : a.string.text.broken ≡ false
-    right-apart = sym (ap (λ q. q.broken) moved.1) ∙ growing.2
+    right-apart = even-apart-shown.1.0
 
     scalar : InScalar a t o
     scalar = in-scalar a t o before.held on
@@ -456,21 +510,18 @@ module _ (s : Settled) (t : List ℕ) (h : HasReceived (received s) t) (grows : 
 
       -- the document is together with the other text.
       holds-again : (b : OpenDocument) (t' : List ℕ) → Holding b t' o → b.value ≡ a.value → b.token ≡ a.token
-          → is_shown b ≡ true → b.string.text.text ≡ u → IsUtf8 u → (n : OpenString) → n ≡ with_chars b.string []
-          → (e : OpenDocument) → e ≡ with_parts b d.number n v → HoldsTogether e s.depth s.shown t' o
-      holds-again b t' held values kind seen text_so utf8 n left e is =
+          → is_shown b ≡ true → b.string.text.text ≡ u → IsUtf8 u → d.string.text ≡ with_text b.string.text []
+          → d.string.escape ≡ b.string.escape → (e : OpenDocument) → e ≡ with_parts b d.number d.string v
+          → HoldsTogether e s.depth s.shown t' o
+      holds-again b t' held values kind seen text_so utf8 left escape e is =
           let again =
           text-again a.value with_text_in d.value x s.depth fs placed.3 placed.4 value v.root r.0 r.2 whole in
           let shown_again : IsShown b.value again.0 r.0 = subst (λ q. IsShown q again.0 r.0) (sym values) again.1 in
           let put : IsPutTogether again.0 v s.depth =
           subst (λ q. IsPutTogether again.0 q s.depth) (sym same) again.2 in
-          let moved_so : HasMoved token.Text b d.number n r.0 = (
-            r.1 ∙ ap (λ q. string (text_of q)) (sym text_so),
-            ap (λ q. q.text) left,
-            ap (λ q. q.escape) left,
-            subst IsUtf8 (sym text_so) utf8,
-          ) in
-          let moved_by = subst (λ q. HasMoved q b d.number n r.0) (sym (kind ∙ text)) moved_so in
+          let moved_so : HasMoved token.Text b d.number d.string r.0 =
+          (r.1 ∙ ap (λ q. string (text_of q)) (sym text_so), left, escape, subst IsUtf8 (sym text_so) utf8) in
+          let moved_by = subst (λ q. HasMoved q b d.number d.string r.0) (sym (kind ∙ text)) moved_so in
           record {
             apart = b;
             held = held;
@@ -479,10 +530,6 @@ module _ (s : Settled) (t : List ℕ) (h : HasReceived (received s) t) (grows : 
             settled = subst (λ z. IsSettled z b e s.depth) (sym shows)
                 (subst (λ q. IsSettled true b q s.depth) (sym is) (r.0, again.0, moved_by, shown_again, put));
           }
-
-    -- what is held beside it
-    left-apart : d.string ≡ with_chars a.string []
-    left-apart = same-string d.string (with_chars a.string []) moved.1 moved.2
 
     -- Memory was refused: it is as it was.
     pub shown-stays : (v : OpenValue) → v ≡ with_root d.value v.root
@@ -493,72 +540,53 @@ module _ (s : Settled) (t : List ℕ) (h : HasReceived (received s) t) (grows : 
         let e = gone_in d d.string v d.position in
         let root_so : root ≡ view v.root = root-text ∙ ap (filled fs) (sym r.1) ∙ sym (whole v same w r) in
         received-so t a before e
-        (holds-again v same w r a t before.held refl refl on refl moved.3 d.string left-apart e
+        (holds-again v same w r a t before.held refl refl on refl moved.3 moved.1 moved.2 e
         (ap (λ q. gone_in q d.string v q.position) k.same))
         same-settings (ap (λ q. q.fault) k.same) (ap (λ q. q.first) k.same) (ap (λ q. q.position) k.same) refl growing.2
-        s.fault (subst (λ y. AnswersSo d.settings t s.fault (Some y)) root_so h.mode)
+        s.fault s.strict (subst (λ y. AnswersSo d.settings t s.fault (Some y)) root_so h.mode)
+        (subst (λ y. AnswersSo (strictly d.settings) t s.strict (Some y)) root_so h.strict)
 
-    chars-apart : with_chars d.string w ≡ a.string
-    chars-apart = ap (λ q. with_chars q w) left-apart
+    -- Plain bytes more stand there.
+    module _ (v : List ℕ) (plain : Pass is_plain_ascii v) (nv : OpenValue) (same : nv ≡ with_root d.value nv.root)
+        (put-in : (u : List ℕ) → HoldsTextInside s.depth d.value.root u → HasReplaced s.depth d.value.root nv.root (u ++ v))
+      where
+        replaced : HasReplaced s.depth d.value.root nv.root (w ++ v)
+        replaced = put-in w held-text
 
-    -- Bytes more stand there.
-    module _ (v : List ℕ) (n : OpenString) (nv : OpenValue) (same : nv ≡ with_root d.value nv.root)
-        (g : HasGoneOn s.depth d.value.root nv.root (with_chars d.string w) n v) where
-      abbrev chars : List ℕ
-      chars = g.new.text.text
+        utf8 : IsUtf8 (w ++ v)
+        utf8 = IsUtf8-append w v moved.3 (IsUtf8-from_ascii v (ascii-of v plain))
 
-      abbrev until : ℕ
-      until = d.position + length v
+        abbrev until : ℕ
+        until = d.position + length v
 
-      abbrev next : OpenDocument
-      next = gone a g.new until
+        abbrev next : OpenDocument
+        next = gone a (grown a.string v) until
 
-      behind-it : InText next (t ++ v) o
-      behind-it =
-          text-on a t v o until g.new before (subst (λ q. GoesOn q g.new v) chars-apart g.goes)
-          (omega (arith, h.position, length-append t v))
+        behind-it : InText next (t ++ v) o
+        behind-it = text-on a t v o until before even-apart-shown plain (omega (arith, h.position, length-append t v))
 
-      seen-now : is_shown next ≡ true
-      seen-now = gone-shown a g.new until a.token (g.goes.whole ∙ sym right-apart) ∙ on
+        seen-now : is_shown next ≡ true
+        seen-now = grown-shown a v until a.token ∙ on
 
-      told-b : told_value next o ≡ Some (filled fs (string (text_of chars)))
-      told-b = shown-told next active seen-now text
+        told-b : told_value next o ≡ Some (filled fs (string (text_of (w ++ v))))
+        told-b = shown-told next active seen-now text
 
-      there-now : view nv.root ≡ filled fs (string (text_of chars))
-      there-now = whole nv same chars g.replaced ∙ ap (filled fs) g.replaced.1
+        there-now : view nv.root ≡ filled fs (string (text_of (w ++ v)))
+        there-now = whole nv same (w ++ v) replaced ∙ ap (filled fs) replaced.1
 
-      mode-shown : AnswersSo a.settings (t ++ v) (moved_to until s.fault) (Some (view nv.root))
-      mode-shown =
-          told-on a.settings t (t ++ v) s.fault until root (view nv.root) (told_value a o) (told_value next o) (Some eof_string)
-          (Some eof_string) (subst (λ p. AnswersSo p t s.fault (Some root)) same-settings h.mode) mode-apart
-          (mode-told next (t ++ v) o behind-it (keeps-text next g.goes.whole g.utf8) g.goes.whole) refl refl behind-it.place
-          (ap is_some told-apart ∙ sym (ap is_some told-b)) (λ y is here. there-now ∙ same_Some _ _ (sym told-b ∙ here))
+        mode-shown : AnswersSo a.settings (t ++ v) (moved_to until s.fault) (Some (view nv.root))
+        mode-shown =
+            told-on a.settings t (t ++ v) s.fault until root (view nv.root) (told_value a o) (told_value next o) (Some eof_string)
+            (Some eof_string) (subst (λ p. AnswersSo p t s.fault (Some root)) same-settings h.mode) mode-apart
+            (mode-told next (t ++ v) o behind-it (keeps-text next right-apart utf8) right-apart) refl refl behind-it.place
+            (ap is_some told-apart ∙ sym (ap is_some told-b)) (λ y is here. there-now ∙ same_Some _ _ (sym told-b ∙ here))
 
-      pub shown-received : HasReceived (received (with_end (record s { document = gone_in d n nv until }))) (t ++ v)
-      shown-received =
-          let e = gone_in d n nv until in
-          received-so (t ++ v) next behind-it e
-          (holds-again nv same chars g.replaced next (t ++ v) behind-it.held refl refl seen-now refl g.utf8 n g.left_out e
-          (ap (λ q. gone_in q n nv until) k.same)) same-settings (ap (λ q. q.fault) k.same) (ap (λ q. q.first) k.same) refl refl
-          (ap (λ q. q.text.broken) g.left_out ∙ g.goes.whole) (moved_to until s.fault)
-          (subst (λ p. AnswersSo p (t ++ v) (moved_to until s.fault) (Some (view nv.root))) (sym same-settings) mode-shown)
-
-    -- Plain bytes stand behind it.
-    pub plain-shown : (v : List ℕ) (nv : OpenValue) → IsEven d.string → Pass is_plain_ascii v
-        → ((u : List ℕ) → HoldsTextInside s.depth d.value.root u
-        → HasReplaced s.depth d.value.root nv.root (u ++ v))
-        → HasGoneOn s.depth d.value.root nv.root (with_chars d.string w) d.string v
-    plain-shown v nv even plain replaced = record {
-      new = grown (with_chars d.string w) v;
-      goes = grown-on (with_chars d.string w) v even plain;
-      left_out = left-apart ∙ ap (λ q. with_chars q []) (sym left-apart);
-      utf8 = IsUtf8-append w v moved.3 (IsUtf8-from_ascii v (ascii-of v plain));
-      replaced = replaced w held-text;
-    }
-
-    -- The text that stands there is the string's.
-    pub taken-shown : (v : List ℕ) (n : OpenString) (nv : OpenValue)
-        → ((u : List ℕ) → HoldsTextInside s.depth d.value.root u
-        → HasGoneOn s.depth d.value.root nv.root (with_chars d.string u) n v)
-        → HasGoneOn s.depth d.value.root nv.root (with_chars d.string w) n v
-    taken-shown v n nv goes = goes w held-text
+        pub shown-received : HasReceived (received (with_end (record s { document = gone_in d d.string nv until }))) (t ++ v)
+        shown-received =
+            let e = gone_in d d.string nv until in
+            received-so (t ++ v) next behind-it e
+            (holds-again nv same (w ++ v) replaced next (t ++ v) behind-it.held refl refl seen-now refl utf8 moved.1 moved.2 e
+            (ap (λ q. gone_in q d.string nv until) k.same)) same-settings (ap (λ q. q.fault) k.same) (ap (λ q. q.first) k.same)
+            refl refl growing.2 (moved_to until s.fault) (moved_unless d.first until s.strict)
+            (subst (λ p. AnswersSo p (t ++ v) (moved_to until s.fault) (Some (view nv.root))) (sym same-settings) mode-shown)
+            (strict-so v next behind-it refl refl (Some (view nv.root)))

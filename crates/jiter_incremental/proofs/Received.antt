@@ -58,22 +58,34 @@ pub settled : (s : Settled) (old : OpenDocument) (t : List ℕ) (h : HasArrived 
     → IsTogether s.document s.depth s.shown t → s.document.settings ≡ old.settings
     → ((v : Tree) → shown (so_far old h.read.opened) ≡ Some v → view s.document.value.root ≡ v)
     → AnswersSo old.settings t s.fault (shown (so_far old h.read.opened))
+    → AnswersSo (strictly old.settings) t s.strict (shown (so_far old h.read.opened))
     → (s.growing ≡ true → IsGrowing s.document) → HasReceived (received s) t
-settled s old t h together same value mode growing =
+settled s old t h together same value mode strict growing =
     let o = shown (so_far old h.read.opened) in
     let root = view s.document.value.root in
     record {
       together = together;
       position = together.position;
       mode = rw same (root-told old.settings t s.fault o root value mode);
+      strict = rw same (root-told (strictly old.settings) t s.strict o root value strict);
       growing = growing;
     }
+
+-- Then a fault is told with partial reading off.
+first-told : (d : OpenDocument) (t : List ℕ) (h : HasArrived d t) (x : Option Fault) (w : Tree)
+    → is_some d.fault ≡ true → AnswersSo (strictly d.settings) t x (shown (so_far d h.read.opened))
+    → AnswersSo (strictly d.settings) t x (Some w)
+first-told d t h x w some told =
+    let k = h.read.known in
+    refused-told (strictly d.settings) t d.first x h.read.opened (shown (so_far d h.read.opened)) (Some w)
+    (first-set d.fault d.first some k.noted) (k.strict [] tt) told
 
 -- The bytes are refused for good.
 pub refused : (s : Settled) (t : List ℕ) (h : HasArrived s.document t) → is_some s.document.fault ≡ true
     → AnswersSo s.document.settings t s.fault (shown (so_far s.document h.read.opened))
+    → AnswersSo (strictly s.document.settings) t s.strict (shown (so_far s.document h.read.opened))
     → s.growing ≡ false → HasReceived (received s) t
-refused s t h some mode still =
+refused s t h some mode strict still =
     let d = s.document in
     let p = d.settings in
     let o = h.read.opened in
@@ -89,17 +101,9 @@ refused s t h some mode still =
       };
       position = h.position;
       mode = refused-told p t d.fault s.fault o v root some (k.mode [] tt) mode;
+      strict = first-told d t h s.strict (view d.value.root) some strict;
       growing = λ on. absurd (false≢true (sym still ∙ on));
     }
-
--- So a fault is told with partial reading off.
-pub first-told : (d : OpenDocument) (t : List ℕ) (h : HasArrived d t) (x : Option Fault) (w : Tree)
-    → is_some d.fault ≡ true → AnswersSo (strictly d.settings) t x (shown (so_far d h.read.opened))
-    → AnswersSo (strictly d.settings) t x (Some w)
-first-told d t h x w some told =
-    let k = h.read.known in
-    refused-told (strictly d.settings) t d.first x h.read.opened (shown (so_far d h.read.opened)) (Some w)
-    (first-set d.fault d.first some k.noted) (k.strict [] tt) told
 
 -- Bytes have arrived, whether memory was refused or not.
 pub arrived-either : {T E : Type 0} (r : Result T E) (d : OpenDocument) (t piece : List ℕ) (n : ℕ)

@@ -5,10 +5,8 @@ use Rattle.std.specs.Prelude.{slice_set}
 use Rattle.std.specs.declared.alloc.Global.{Global}
 use Rattle.std.specs.declared.borrow.CowStr.{CowStr}
 use Rattle.jiter_steps.specs.Tree.{Tree, string}
-use Rattle.jiter_steps.specs.declared.open_string.OpenString.{OpenString}
 use Rattle.jiter_incremental.specs.OpenValue.{text_of}
-use Rattle.jiter_incremental.specs.Replaced.{GoesOn, HasGoneOn, HasReplaced, HoldsTextInside, IsReplaced, StandsRound}
-use Rattle.jiter_incremental.specs.Replaced.{with_chars}
+use Rattle.jiter_incremental.specs.Replaced.{HasReplaced, HoldsTextInside, IsReplaced, StandsRound}
 use Rattle.jiter_incremental.specs.Spine.{IsInside, IsLastPart, OpenFrame, around, filled}
 use Rattle.jiter_value.specs.Stacks.{Member}
 use Rattle.jiter_value.specs.Value.{view}
@@ -154,16 +152,6 @@ module _ (old new y z : JsonValue) (s : HasSwapped old new y z) where
     text-above w h =
         (h.0, h.1, subst (λ k. IsReplaced k old new h.0) (sym deep) (replaced-in n h.0 h.2))
 
-    -- So did one that is a string's.
-    pub gone-above : (was left : OpenString) (v : List ℕ) → HasGoneOn n y z was left v → HasGoneOn depth old new was left v
-    gone-above was left v h = record {
-      new = h.new;
-      goes = h.goes;
-      left_out = h.left_out;
-      utf8 = h.utf8;
-      replaced = text-above h.new.text.text h.replaced;
-    }
-
 -- With no container it is the root itself.
 pub text-root : (depth : ℕ) (root : JsonValue) (w : List ℕ) → depth ≡ 0 → HoldsTextInside depth root w
     → view root ≡ string (text_of w)
@@ -183,11 +171,3 @@ root-replaced depth old new w none h = (
   seen : (fs : List OpenFrame) → length fs ≡ 0 → view new ≡ filled fs (view new)
   seen [] none-left = refl
   seen (f ∷ fs) none-left = absurd (omega arith)
-
-pub gone-root : (depth : ℕ) → depth ≡ 0 → (root next : JsonValue) (was left : OpenString) (v : List ℕ)
-    → HasGoneOn 0 root next was left v → HasGoneOn depth root next was left v
-gone-root depth none root next was left v h = subst (λ n. HasGoneOn n root next was left v) (sym none) h
-
--- A string that went on had these characters before.
-pub went-as : (s new : OpenString) (u w v : List ℕ) → GoesOn (with_chars s u) new v → u ≡ w → GoesOn (with_chars s w) new v
-went-as s new u w v h is = subst (λ x. GoesOn (with_chars s x) new v) is h

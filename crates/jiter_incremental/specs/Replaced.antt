@@ -1,10 +1,6 @@
 -- A text inside open containers that are together, each the last part of the next, and another one in its place.
-use Rattle.std.specs.Prelude.{◌≡◌, ℕ, ◌+◌, false, List, [], ◌++◌, length}
-use Rattle.std.specs.Str.{IsUtf8}
-use Rattle.jiter_steps.specs.OpenString.{HasTaken}
-use Rattle.jiter_steps.specs.OpenText.{with_text}
+use Rattle.std.specs.Prelude.{◌≡◌, ℕ, ◌+◌, List, length}
 use Rattle.jiter_steps.specs.Tree.{Tree, string}
-use Rattle.jiter_steps.specs.declared.open_string.OpenString.{OpenString}
 use Rattle.jiter_incremental.specs.OpenValue.{text_of}
 use Rattle.jiter_incremental.specs.Spine.{IsInside, IsLastPart, OpenFrame, around, filled}
 use Rattle.jiter_value.specs.Value.{view}
@@ -34,21 +30,3 @@ HasReplaced n old new w = (x : JsonValue) × (view x ≡ string (text_of w)) × 
 -- the same value, with this root
 abbrev pub with_root : OpenValue → JsonValue → OpenValue
 with_root v root = record { alloc = v.alloc; awaits = v.awaits; spine = v.spine; root = root; key = v.key }
-
--- the same string, with these characters in the place of those so far
-abbrev pub with_chars : OpenString → List ℕ → OpenString
-with_chars s w = record { text = with_text s.text w; escape = s.escape }
-
--- An unfinished string became another one that has taken these bytes more, none of them wrong.
-pub record GoesOn (old new : OpenString) (v : List ℕ) : Type 0 where
-  pub taken : (w : List ℕ) → HasTaken old w → HasTaken new (w ++ v)
-  pub whole : new.text.broken ≡ false
-
--- So it did, its characters the text so many containers deep: those of the new one stand there now, and are left out in
--- what is held beside it.
-pub record HasGoneOn (n : ℕ) (root next : JsonValue) (old left : OpenString) (v : List ℕ) : Type 0 where
-  pub new : OpenString
-  pub goes : GoesOn old new v
-  pub left_out : left ≡ with_chars new []
-  pub utf8 : IsUtf8 new.text.text
-  pub replaced : HasReplaced n root next new.text.text

@@ -3,15 +3,15 @@ ghost use Rattle.std.specs.Prelude.{◌≡◌, ◌+◌, ◌-◌, ◌^◌, ◌<�
 ghost use Rattle.std.specs.Prelude.{OnErr, OnOk, length, take, true, ℕ};
 ghost use Rattle.std.specs.List.{flat_map};
 ghost use Rattle.jiter_steps.specs.Blank.{past_blanks};
-ghost use Rattle.jiter_incremental.specs.Arriving.{HasReceived, received};
+ghost use Rattle.jiter_incremental.specs.Arriving.{HasReceived, WouldFinish, received};
 ghost use Rattle.jiter_incremental.specs.DocumentEnds.{AnswersSo};
-ghost use Rattle.jiter_incremental.specs.OpenDocument.{HasArrived, MayRefuseAt, StaysSo, strictly};
+ghost use Rattle.jiter_incremental.specs.OpenDocument.{HasArrived, MayRefuseAt, StaysSo};
 ghost use Rattle.jiter_value.specs.Owned.{owned_tree};
 ghost use Rattle.jiter_value.specs.Parses.{Parses};
 ghost use Rattle.jiter_value.specs.Value.{view};
 ghost use Rattle.jiter_value.specs.declared.settings.Settings.{Settings};
 
-use crate::growing::{Run, run_of};
+use crate::growing::is_plain;
 use crate::open_document::OpenDocument;
 use jiter_scan::errors::Fault;
 use jiter_scan::memory::Refused;
@@ -28,10 +28,12 @@ pub(crate) struct Settled {
     // the number of open containers, and whether the value holds the unfinished scalar
     pub(crate) depth: usize,
     pub(crate) shown: bool,
-    // whether a string or a key is unfinished, and valid so far
+    // whether a string or a key is unfinished, and the bytes so far are complete characters and escapes
     pub(crate) growing: bool,
     // the error of the bytes so far in the document's mode; more bytes may remove it
     pub(crate) fault: Option<Fault>,
+    // the same with partial reading off
+    pub(crate) strict: Option<Fault>,
 }
 
 fn told(fault: Option<Fault>, value: JsonValue<'static>) -> Result<JsonValue<'static>, JsonError>
@@ -52,6 +54,7 @@ impl Settled {
         ensures same { StaysSo self.old.document self.new.document }
     {
         self.fault = self.document.mode_fault();
+        self.strict = self.document.strict_fault();
         self.growing = false;
         if self.document.fault.is_none() {
             let (depth, shown) = self.document.settle();
@@ -70,20 +73,6 @@ impl Settled {
         if self.document.fault.is_none() {
             self.document.unsettle(self.depth, self.shown);
         }
-    }
-
-    // `strict_fault` needs the separated containers; `finish` then needs the assembled value.
-    fn first_fault(&mut self) -> Option<Fault>
-        requires { (t : List ℕ) × HasReceived (received self.old) t }
-        ensures { (t : List ℕ) → HasReceived (received self.old) t
-            → AnswersSo (strictly self.old.document.settings) t result (Some (view self.new.document.value.root)) }
-    {
-        self.unsettle();
-        let first = self.document.strict_fault();
-        if self.document.fault.is_none() {
-            let _ = self.document.settle();
-        }
-        first
     }
 
     // The slow path: separates the value, takes the chunk, and assembles the value again.
@@ -108,32 +97,7 @@ impl Settled {
         taken
     }
 
-    // The chunk begins inside a string. What continues the string is appended to the assembled value; the rest takes
-    // the slow path.
-    #[inline(never)]
-    fn take_within(&mut self, piece: &[u8]) -> Result<(), Refused>
-        requires received { (t : List ℕ) × HasReceived (received self.old) t }
-        requires growing { self.old.growing ≡ true }
-        requires room { self.old.document.position + length piece.now < 2 ^ 64 }
-        ensures ok { (t : List ℕ) → HasReceived (received self.old) t
-            → OnOk result (HasReceived (received self.new) (t ++ piece.now)) }
-        ensures refused { (t : List ℕ) → HasReceived (received self.old) t → OnErr result
-            (HasReceived (received self.new)
-            (t ++ take (self.new.document.position - self.old.document.position) piece.now)) }
-        ensures wanted { (t : List ℕ) → HasReceived (received self.old) t
-            → OnErr result (MayRefuseAt (t ++ piece.now) self.new.document.position) }
-        ensures within { (self.old.document.position ≤ self.new.document.position)
-            × (self.new.document.position ≤ self.old.document.position + length piece.now) }
-        ensures settings { self.new.document.settings ≡ self.old.document.settings }
-    {
-        let (count, taken) = self.absorb(piece);
-        if taken.is_ok() && count < piece.len() {
-            return self.take_apart(&piece[count..]);
-        }
-        taken
-    }
-
-    // Inside a valid string there is a fast path: the bytes go into the assembled value.
+    // The fast path: plain bytes that continue a string go into the assembled value.
     #[inline(always)]
     fn take(&mut self, piece: &[u8]) -> Result<(), Refused>
         requires received { (t : List ℕ) × HasReceived (received self.old) t }
@@ -149,14 +113,10 @@ impl Settled {
             × (self.new.document.position ≤ self.old.document.position + length piece.now) }
         ensures settings { self.new.document.settings ≡ self.old.document.settings }
     {
-        if !self.growing {
-            return self.take_apart(piece);
+        if self.growing && is_plain(piece) {
+            return self.grow(piece);
         }
-        match run_of(piece) {
-            Run::Plain if self.document.string.is_even() => self.grow(piece),
-            Run::Other => self.take_apart(piece),
-            _ => self.take_within(piece),
-        }
+        self.take_apart(piece)
     }
 }
 
@@ -214,6 +174,7 @@ impl Arriving {
             shown: false,
             growing: false,
             fault: None,
+            strict: None,
         };
         settled.settle();
         Arriving { settled }
@@ -284,6 +245,17 @@ impl Arriving {
         }
     }
 
+    /// Returns the error that [`finish`](Arriving::finish) would return now, or `None` if the bytes so far are a complete
+    /// document. Does not allocate.
+    pub fn error(&self) -> Option<JsonError>
+        ensures { (t : List ℕ) → HasReceived self.now t → WouldFinish self.now.settings.allow_inf_nan t result }
+    {
+        match self.settled.strict {
+            Some(fault) => Some(JsonError::from(fault)),
+            None => None,
+        }
+    }
+
     /// Returns what [`value`](Arriving::value) returns, with the value moved out. Does not allocate.
     ///
     /// # Errors
@@ -313,10 +285,12 @@ impl Arriving {
             → Parses owned_tree ⊥ self.settings.allow_inf_nan PartialMode.Off t result }
     {
         let Arriving { settled } = self;
-        let mut settled = settled;
-        let first = settled.first_fault();
-        let Settled { document, .. } = settled;
-        told(first, document.into_root())
+        let Settled {
+            document,
+            strict,
+            ..
+        } = settled;
+        told(strict, document.into_root())
     }
 }
 

@@ -12,7 +12,7 @@ ghost use Rattle.jiter_incremental.specs.Arrived.{Arrived, HasRead, Holds, shown
 ghost use Rattle.jiter_incremental.specs.OpenValue.{text_of};
 ghost use Rattle.jiter_value.specs.Owned.{owned_tree};
 ghost use Rattle.jiter_value.specs.Parses.{reading_as};
-ghost use Rattle.jiter_incremental.specs.Replaced.{GoesOn, HasGoneOn, HasReplaced, HoldsTextInside, with_chars};
+ghost use Rattle.jiter_incremental.specs.Replaced.{HasReplaced, HoldsTextInside};
 ghost use Rattle.jiter_value.specs.Settings.{answer_by};
 ghost use Rattle.jiter_incremental.specs.Spine.{OpenFrame, around, begun, filled, parents_of, spine_of, HasPart, IsOpen};
 ghost use Rattle.jiter_incremental.specs.Spine.{StandsFor, HasValue, AwaitsPart, IsOfKey, IsRoomy, HasRoomInside, IsLastPart};
@@ -21,13 +21,11 @@ ghost use Rattle.jiter_value.specs.Stacks.{Member, empty_tree};
 ghost use Rattle.jiter_value.specs.Value.{view};
 ghost use Rattle.std.specs.declared.alloc.Global.{Global};
 ghost use Rattle.std.specs.declared.borrow.CowStr.{CowStr as CowStrView};
-ghost use Rattle.jiter_steps.specs.declared.open_string.OpenString.{OpenString as OpenStringView};
 ghost use Rattle.jiter_incremental.specs.declared.open_value.Awaits.{Awaits};
 ghost use Rattle.jiter_value.specs.declared.settings.Settings.{Settings};
 ghost use Rattle.jiter_value.specs.declared.value.JsonValue.{JsonValue as JsonValueView, out-JsonValue};
 
 use jiter_scan::memory::{Refused, make_room, push_ascii};
-use jiter_steps::open_string::OpenString;
 use jiter_steps::parse::Shape;
 use jiter_value::value::{JsonArray, JsonObject, JsonValue};
 use std::alloc::Global;
@@ -330,77 +328,6 @@ pub fn append_text(root: &mut JsonValue<'static>, depth: usize, bytes: &[u8]) ->
         JsonValue::Object(members) => {
             let last = members.len() - 1;
             append_text(&mut members[last].1, depth - 1, bytes)
-        }
-        _ => unreachable!(),
-    }
-}
-
-// The decoder appends to a string of its own, so the string is moved in and back.
-#[inline(always)]
-fn take_into(
-    text: &mut String,
-    unfinished: &mut OpenString,
-    piece: &[u8],
-) -> (usize, Result<(), Refused>)
-    requires whole { unfinished.old.text.broken ≡ false }
-    ensures went { (s : OpenStringView)
-        × GoesOn (with_chars unfinished.old (string_bytes text.old)) s (take result.0 piece.now)
-        × (unfinished.new ≡ with_chars s []) × (string_bytes text.new ≡ s.text.text) }
-    ensures within { result.0 ≤ length piece.now }
-    ensures wanted { OnErr result.1 (result.0 < length piece.now) }
-{
-    let alloc = *text.allocator();
-    unfinished.give_back(mem::replace(text, String::new(alloc)));
-    let (count, taken) = unfinished.take_inside(piece);
-    *text = unfinished.take_text();
-    (count, taken)
-}
-
-#[inline(always)]
-fn take_here(
-    value: &mut JsonValue<'static>,
-    unfinished: &mut OpenString,
-    piece: &[u8],
-) -> (usize, Result<(), Refused>)
-    requires text { (w : List ℕ) × (view value.old ≡ string (text_of w)) }
-    requires whole { unfinished.old.text.broken ≡ false }
-    ensures went { (w : List ℕ) → view value.old ≡ string (text_of w)
-        → HasGoneOn 0 value.old value.new (with_chars unfinished.old w) unfinished.new (take result.0 piece.now) }
-    ensures within { result.0 ≤ length piece.now }
-    ensures wanted { OnErr result.1 (result.0 < length piece.now) }
-{
-    match value {
-        JsonValue::Str(CowStr::Owned(text)) => take_into(text, unfinished, piece),
-        _ => unreachable!(),
-    }
-}
-
-/// Appends the bytes of a chunk that continue the unfinished string, which is `depth` containers deep in the root, as
-/// for [`append_text`]. Returns how many bytes, and whether an allocation failed for those that follow.
-pub fn take_inside(
-    root: &mut JsonValue<'static>,
-    depth: usize,
-    unfinished: &mut OpenString,
-    piece: &[u8],
-) -> (usize, Result<(), Refused>)
-    requires text { (w : List ℕ) × HoldsTextInside depth root.old w }
-    requires whole { unfinished.old.text.broken ≡ false }
-    ensures went { (w : List ℕ) → HoldsTextInside depth root.old w
-        → HasGoneOn depth root.old root.new (with_chars unfinished.old w) unfinished.new (take result.0 piece.now) }
-    ensures within { result.0 ≤ length piece.now }
-    ensures wanted { OnErr result.1 (result.0 < length piece.now) }
-{
-    if depth == 0 {
-        return take_here(root, unfinished, piece);
-    }
-    match root {
-        JsonValue::Array(items) => {
-            let last = items.len() - 1;
-            take_inside(&mut items[last], depth - 1, unfinished, piece)
-        }
-        JsonValue::Object(members) => {
-            let last = members.len() - 1;
-            take_inside(&mut members[last].1, depth - 1, unfinished, piece)
         }
         _ => unreachable!(),
     }

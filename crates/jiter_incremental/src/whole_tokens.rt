@@ -28,9 +28,7 @@ use crate::open_document::{OpenDocument, Token, begins_decimal};
 use crate::open_value::Went;
 use crate::spine::empty;
 use jiter_scan::memory::{Refused, copy_text};
-use jiter_scan::number_within::{
-    NearNumber, ShortWithin, float_within, near_within, number_within, short_within,
-};
+use jiter_scan::number_within::{ShortWithin, number_within, short_within};
 use jiter_scan::open_number::{Stage, begun_at};
 use jiter_scan::text::ascii_text;
 use jiter_scan::{NumberAny, NumberInt};
@@ -42,11 +40,8 @@ use jiter_value::value::JsonValue;
 use std::alloc::Global;
 use std::borrow::CowStr;
 
-// `short_within` reads seventeen bytes. With at most this many left in the chunk, a number is read byte by byte.
-const NEAR: usize = 16;
-
-// With fewer bytes left, the chunk usually truncates a number that isn't short: its parts are read once.
-const LONG_REACH: usize = 33;
+// `short_within` reads seventeen bytes.
+const SHORT_REACH: usize = 17;
 
 // The source text is copied: the value outlives the chunk.
 fn number_value(alloc: Global, number: NumberAny<'_>) -> Result<JsonValue<'static>, Refused>
@@ -154,24 +149,19 @@ impl OpenDocument {
         self.number.begin(piece, at, stage, end)
     }
 
-    // The bytes from `at` to `end` begin a number, which stays unfinished. They are stored first: that can fail.
-    #[inline(always)]
-    fn begin_held(
-        &mut self,
-        piece: &[u8],
-        at: usize,
-        stage: Stage,
-        end: usize,
-    ) -> Result<usize, Refused>
+    // The slow path, for a number that may be truncated or invalid, or where no value is expected. The bytes are stored
+    // first: that can fail.
+    #[inline(never)]
+    fn begin_number(&mut self, piece: &[u8], at: usize) -> Result<usize, Refused>
         requires within { at < length piece.now }
         requires begins { begins_decimal (slice_index piece.now at) ≡ true }
-        requires begun { BeginsThere piece.now at stage end }
         requires token { IsIn self.old Token.Nothing }
         ensures taken { IfOk result (λ n. Takes self.old self.new (slice_range piece.now at (at + n))) }
         ensures part { IfOk result (λ n. (0 < n) × (at + n ≤ length piece.now)) }
         ensures refused { OnErr result (Stays self.old self.new) }
         ensures same { StaysSo self.old self.new }
     {
+        let (stage, end) = begun_at(piece, at);
         self.hold(piece, at, stage, end)?;
         let byte = piece[at];
         match self.look(byte)? {
@@ -184,21 +174,6 @@ impl OpenDocument {
                 Ok(1)
             }
         }
-    }
-
-    // The slow path, for a number that may be truncated or invalid, or where no value is expected.
-    #[inline(never)]
-    fn begin_number(&mut self, piece: &[u8], at: usize) -> Result<usize, Refused>
-        requires within { at < length piece.now }
-        requires begins { begins_decimal (slice_index piece.now at) ≡ true }
-        requires token { IsIn self.old Token.Nothing }
-        ensures taken { IfOk result (λ n. Takes self.old self.new (slice_range piece.now at (at + n))) }
-        ensures part { IfOk result (λ n. (0 < n) × (at + n ≤ length piece.now)) }
-        ensures refused { OnErr result (Stays self.old self.new) }
-        ensures same { StaysSo self.old self.new }
-    {
-        let (stage, end) = begun_at(piece, at);
-        self.begin_held(piece, at, stage, end)
     }
 
     // The caller counts the scalar's bytes. They are counted here only so that an error has the index of this byte.
@@ -324,56 +299,6 @@ impl OpenDocument {
         self.put_ended(piece, at, value, end)
     }
 
-    // A number with a point or an exponent that ends in the chunk is taken completely; any other stays unfinished.
-    #[inline(always)]
-    fn step_begun(
-        &mut self,
-        piece: &[u8],
-        at: usize,
-        stage: Stage,
-        end: usize,
-    ) -> Result<usize, Refused>
-        requires within { at < length piece.now }
-        requires begins { begins_decimal (slice_index piece.now at) ≡ true }
-        requires begun { BeginsThere piece.now at stage end }
-        requires token { IsIn self.old Token.Nothing }
-        requires awaited { AwaitsValue self.old.value }
-        requires space { HasRoomInside self.old.value.spine.items }
-        requires room { self.old.position + (length piece.now - at) < 2 ^ 64 }
-        ensures taken { IfOk result (λ n. Takes self.old self.new (slice_range piece.now at (at + n))) }
-        ensures part { IfOk result (λ n. (0 < n) × (at + n ≤ length piece.now)) }
-        ensures refused { OnErr result (Stays self.old self.new) }
-        ensures same { StaysSo self.old self.new }
-    {
-        if let Some(text) = float_within(piece, at, stage, end) {
-            let value = float_value(self.alloc, text)?;
-            return Ok(self.whole_number(piece, at, value, end));
-        }
-        self.begin_held(piece, at, stage, end)
-    }
-
-    #[inline(never)]
-    fn step_near_number(&mut self, piece: &[u8], at: usize) -> Result<usize, Refused>
-        requires within { at < length piece.now }
-        requires near { length piece.now ≤ at + 16 }
-        requires begins { begins_decimal (slice_index piece.now at) ≡ true }
-        requires token { IsIn self.old Token.Nothing }
-        requires awaited { AwaitsValue self.old.value }
-        requires space { HasRoomInside self.old.value.spine.items }
-        requires room { self.old.position + (length piece.now - at) < 2 ^ 64 }
-        ensures taken { IfOk result (λ n. Takes self.old self.new (slice_range piece.now at (at + n))) }
-        ensures part { IfOk result (λ n. (0 < n) × (at + n ≤ length piece.now)) }
-        ensures refused { OnErr result (Stays self.old self.new) }
-        ensures same { StaysSo self.old self.new }
-    {
-        match near_within(piece, at) {
-            NearNumber::Int(number, end) => {
-                Ok(self.whole_number(piece, at, int_value(number), end))
-            }
-            NearNumber::Begun(stage, end) => self.step_begun(piece, at, stage, end),
-        }
-    }
-
     // The number may be long, or truncated by the chunk.
     #[inline(never)]
     fn step_long_number(&mut self, piece: &[u8], at: usize) -> Result<usize, Refused>
@@ -388,10 +313,6 @@ impl OpenDocument {
         ensures refused { OnErr result (Stays self.old self.new) }
         ensures same { StaysSo self.old self.new }
     {
-        if piece.len() - at < LONG_REACH {
-            let (stage, end) = begun_at(piece, at);
-            return self.step_begun(piece, at, stage, end);
-        }
         if let Some((number, end)) = number_within(piece, at) {
             let value = number_value(self.alloc, number)?;
             return Ok(self.whole_number(piece, at, value, end));
@@ -415,8 +336,8 @@ impl OpenDocument {
             return self.begin_number(piece, at);
         }
         self.make_room()?;
-        if piece.len() - at <= NEAR {
-            return self.step_near_number(piece, at);
+        if piece.len() - at < SHORT_REACH {
+            return self.step_long_number(piece, at);
         }
         match short_within(piece, at) {
             ShortWithin::Int(number, end) => {

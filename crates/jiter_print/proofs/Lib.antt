@@ -1,4 +1,5 @@
 pub mod GivenValues
+pub mod Laying
 pub mod PrintLaw
 pub mod PrintLawNumbers
 pub mod PrintLawParts

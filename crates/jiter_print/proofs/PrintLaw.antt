@@ -1,6 +1,7 @@
 -- What is printed of a value that was read is a document of the same value.
 use Rattle.std.proofs.Common.{◌≡◌, inl, inr, ℕ, zero, suc, ◌+◌, ◌-◌, ◌≤◌, Bool, true, false, List, [], ◌∷◌, ◌++◌}
-use Rattle.std.proofs.Common.{length, map, refl, sym, ap, ap₂, ◌∙◌, subst, arith}
+use Rattle.std.proofs.Common.{length, map, refl, sym, ap, ap₂, ◌∙◌, subst, arith, append_assoc}
+use Rattle.std.specs.List.{join_with_byte}
 use Rattle.std.specs.Str.{IsUtf8}
 use Rattle.std.proofs.lemmas.List.{length-append, take_at, get_or_push}
 use Rattle.std.proofs.lemmas.Option.{slice_get_within}
@@ -22,24 +23,39 @@ use Rattle.jiter_steps.specs.declared.parse.Literal.{Literal}
 use Rattle.jiter_steps.specs.declared.parse.Literal.TheVariants as name
 use Rattle.jiter_steps.proofs.Grammar.NodeRules.{nodes_of, node_members_of}
 use Rattle.jiter_steps.proofs.Grammar.Sound.{IsNodeAt, IsItemAt, IsMemberAt, items-grammar, members-grammar}
-use Rattle.jiter_print.specs.Print.{print_text, with_line_feed, print_of, item_prints, member_prints}
+use Rattle.jiter_print.specs.Layout.{Layout, compact, deeper, line_break, space, last_break, laid_out, items_laid_out}
+use Rattle.jiter_print.specs.Layout.{members_laid_out}
+use Rattle.jiter_print.specs.Print.{print_text, with_line_feed, print_of}
 use Rattle.jiter_print.specs.Printed.{borrow_tree, borrow_items, borrow_members, IsLineOf, PrintsAgain}
 use Rattle.jiter_print.proofs.PrintLawNumbers.{number-again}
-use Rattle.jiter_print.proofs.PrintLawParts.{no_blank, stands_here, Wherever, Again, Anywhere, parts-again}
+use Rattle.jiter_print.proofs.Laying.{line_break-blank, space-blank, last_break-blank, compact-is}
+use Rattle.jiter_print.proofs.PrintLawParts.{no_blank, stands_here, stands-blank, Wherever, Again, Anywhere, parts-again}
 use Rattle.jiter_print.proofs.PrintLawStrings.{string-again}
 use Rattle.jiter_print.proofs.GivenValues.{Gives}
 use Rattle.jiter_print.proofs.Printable.{IsNumber, FitsWith, FitsInside, Fits, answer_in-printable}
 
-item_prints-are : (vs : List Tree) → item_prints (items_of vs) ≡ map print_of vs
-item_prints-are [] = refl
-item_prints-are (v ∷ vs) = ap (λ ws. print_of v ∷ ws) (item_prints-are vs)
+abbrev print_item : Layout → Tree → List ℕ
+print_item layout v = line_break layout ++ laid_out layout v
 
-abbrev print_member : Text × Tree → List ℕ
-print_member p = print_text p.0.bytes ++ 58 ∷ print_of p.1
+items-laid : (layout : Layout) (vs : List Tree) → items_laid_out layout (items_of vs) ≡ map (print_item layout) vs
+items-laid layout [] = refl
+items-laid layout (v ∷ vs) = ap (λ ws. print_item layout v ∷ ws) (items-laid layout vs)
 
-member_prints-are : (ps : List (Text × Tree)) → member_prints (members_of ps) ≡ map print_member ps
-member_prints-are [] = refl
-member_prints-are (p ∷ ps) = ap (λ ws. print_member p ∷ ws) (member_prints-are ps)
+abbrev print_member : Layout → Text × Tree → List ℕ
+print_member layout p = print_text p.0.bytes ++ 58 ∷ (space layout ++ laid_out layout p.1)
+
+members-laid : (layout : Layout) (ps : List (Text × Tree))
+    → members_laid_out layout (members_of ps) ≡ map (λ p. line_break layout ++ print_member layout p) ps
+members-laid layout [] = refl
+members-laid layout (p ∷ ps) = ap (λ ws. (line_break layout ++ print_member layout p) ∷ ws) (members-laid layout ps)
+
+-- the parts, the last line break and the closer, as the parts' lemma has them
+parts-stand : (u : List ℕ) (i j closer n : ℕ) (layout : Layout) (ps qs : List (List ℕ)) → ps ≡ qs
+    → Stands u i j ((join_with_byte 44 ps ++ last_break layout n) ++ closer ∷ [])
+    → Stands u i j (join_with_byte 44 qs ++ (last_break layout n ++ closer ∷ []))
+parts-stand u i j closer n layout ps qs same h =
+    subst (Stands u i j) (append_assoc (join_with_byte 44 qs) (last_break layout n) (closer ∷ []))
+    (subst (λ rs. Stands u i j ((join_with_byte 44 rs ++ last_break layout n) ++ closer ∷ [])) same h)
 
 module _ (names : Bool) (u : List ℕ) where
   -- the same value, but for where its texts lie
@@ -92,13 +108,17 @@ module _ (names : Bool) (u : List ℕ) where
       (omega arith) (ap borrow_tree (ap number_tree (ap number_value (sym is) ∙ value) ∙ n.is))
 
   -- What is printed of a member is spelled by a key of the same text, a colon and what spells the value.
-  member-again : (levels : ℕ) (p : Text × Tree) → IsUtf8 p.0.bytes → Wherever u (print_of p.1) (AgainInside levels p.1)
-      → Wherever u (print_member p) (Again (IsMember levels) SameMember p)
-  member-again levels p s value i j l h =
-      let parts = stands-split u i j (print_text p.0.bytes) (58 ∷ print_of p.1) h in
+  member-again : (layout : Layout) (levels : ℕ) (p : Text × Tree) → IsUtf8 p.0.bytes
+      → Wherever u (laid_out layout p.1) (AgainInside levels p.1)
+      → Wherever u (print_member layout p) (Again (IsMember levels) SameMember p)
+  member-again layout levels p s value i j l h =
+      let parts = stands-split u i j (print_text p.0.bytes) (58 ∷ (space layout ++ laid_out layout p.1)) h in
       let r = string-again u i parts.0 p.0.bytes s parts.1 in
       let lt = slice_get_within u parts.0 58 parts.2.0 in
-      let a = value (parts.0 + 1) j (omega arith) parts.2.1 in
+      let spaced = stands-split u (parts.0 + 1) j (space layout) (laid_out layout p.1) parts.2.1 in
+      let within = stands-within u (parts.0 + 1) spaced.0 (space layout) (omega arith) spaced.1 in
+      let a = value spaced.0 j within spaced.2 in
+      let blanks = stands-blank u (space layout) (parts.0 + 1) spaced.0 (omega arith) (space-blank layout) spaced.1 in
       let begins = sym a.spelled.0.begins in
       record {
         again = (record { pieces = r.0; begin = i; end = parts.0 }, a.again);
@@ -108,7 +128,7 @@ module _ (names : Bool) (u : List ℕ) where
             string = r.1;
             colon = parts.0 + 1;
             behind = stands_here u parts.0 58 (parts.0 + 1) parts.2.0 refl;
-            blanks = subst (IsBlank u (parts.0 + 1)) begins (no_blank u (parts.0 + 1) (omega arith));
+            blanks = subst (IsBlank u (parts.0 + 1)) begins blanks;
           };
           value = subst (λ b. IsNodeAt names u b a.again j) begins a.spelled.0;
           limit = a.spelled.1;
@@ -117,44 +137,54 @@ module _ (names : Bool) (u : List ℕ) where
       }
 
   -- What is printed of a value is spelled by a node of the same value, if that is so of each value inside.
-  tree-again : (levels : ℕ) (Inside : Tree → Type 0)
-      → ((v : Tree) → Inside v → Wherever u (print_of v) (AgainInside levels v)) → (v : Tree) → FitsWith names Inside v
-      → Wherever u (print_of v) (AgainTree levels v)
-  tree-again levels Inside inside tree.null s = literal-again levels name.Null
-  tree-again levels Inside inside (tree.boolean true) s = literal-again levels name.True
-  tree-again levels Inside inside (tree.boolean false) s = literal-again levels name.False
-  tree-again levels Inside inside (tree.int z) s = number-node levels (tree.int z) s
-  tree-again levels Inside inside (tree.big x) s = number-node levels (tree.big x) s
-  tree-again levels Inside inside (tree.float x) s = number-node levels (tree.float x) s
-  tree-again levels Inside inside (tree.string x) s = λ i j l h.
+  tree-again : (layout : Layout) (levels : ℕ) (Inside : Tree → Type 0)
+      → ((v : Tree) → Inside v → Wherever u (laid_out (deeper layout) v) (AgainInside levels v)) → (v : Tree)
+      → FitsWith names Inside v → Wherever u (laid_out layout v) (AgainTree levels v)
+  tree-again layout levels Inside inside tree.null s = literal-again levels name.Null
+  tree-again layout levels Inside inside (tree.boolean true) s = literal-again levels name.True
+  tree-again layout levels Inside inside (tree.boolean false) s = literal-again levels name.False
+  tree-again layout levels Inside inside (tree.int z) s = number-node levels (tree.int z) s
+  tree-again layout levels Inside inside (tree.big x) s = number-node levels (tree.big x) s
+  tree-again layout levels Inside inside (tree.float x) s = number-node levels (tree.float x) s
+  tree-again layout levels Inside inside (tree.string x) s = λ i j l h.
       let r = string-again u i j x.bytes s h in
       node-again levels (tree.string x) (string r.0 i j) (print_of (tree.string x)) l h r.1 (omega arith)
       (ap (λ (y : List ℕ). tree.string (record { owned = false; bytes = y })) r.2)
-  tree-again levels Inside inside (tree.array js) s = λ i j l h.
+  tree-again layout levels Inside inside (tree.array js) s = λ i j l h.
       let lt = slice_get_within u i 91 h.0 in
+      let within = deeper layout in
+      let n = length (items_laid_out within js) in
+      let same = ap (items_laid_out within) s.1 ∙ items-laid within s.0 in
       let a =
       parts-again (items-grammar names u levels Anywhere (IsItemAt names u levels) (λ j n m at is. is))
       {Like = SameItems}
-      refl (λ v n vs ns one more. ap₂ tree.item one more) print_of inside s.0 s.2 (i + 1) j (omega arith)
-      (rw (s.1, item_prints-are s.0) at h.1) in
-      node-again levels (tree.array js) (array i j (nodes_of a.again)) (print_of (tree.array js)) l h (h.0, a.spelled.0)
+      refl (λ v n vs ns one more. ap₂ tree.item one more) (laid_out within) inside (line_break within)
+      (last_break layout n) (line_break-blank within) (last_break-blank layout n) s.0 s.2 (i + 1) j (omega arith)
+      (parts-stand u (i + 1) j 93 n layout _ _ same h.1) in
+      node-again levels (tree.array js) (array i j (nodes_of a.again)) (laid_out layout (tree.array js)) l h
+      (h.0, a.spelled.0)
       a.spelled.1 (ap tree.array (a.like ∙ ap borrow_items (sym s.1)))
-  tree-again levels Inside inside (tree.object ms) s = λ i j l h.
+  tree-again layout levels Inside inside (tree.object ms) s = λ i j l h.
       let lt = slice_get_within u i 123 h.0 in
+      let within = deeper layout in
+      let n = length (members_laid_out within ms) in
+      let same = ap (members_laid_out within) s.1 ∙ members-laid within s.0 in
       let a =
       parts-again (members-grammar names u levels Anywhere (IsMember levels) (λ j m e at is. is)) {Like = SameMembers}
       refl
       (λ p m ps ms one more.
       (λ d. tree.member (record { owned = false; bytes = one.0 d }) (one.1 d) (more d)))
-      print_member (λ p is. member-again levels p is.0 (inside p.1 is.1)) s.0 s.2 (i + 1) j (omega arith)
-      (rw (s.1, member_prints-are s.0) at h.1) in
-      node-again levels (tree.object ms) (object i j (node_members_of a.again)) (print_of (tree.object ms)) l h
+      (print_member within) (λ p is. member-again within levels p is.0 (inside p.1 is.1)) (line_break within)
+      (last_break layout n) (line_break-blank within) (last_break-blank layout n) s.0 s.2 (i + 1) j (omega arith)
+      (parts-stand u (i + 1) j 125 n layout _ _ same h.1) in
+      node-again levels (tree.object ms) (object i j (node_members_of a.again)) (laid_out layout (tree.object ms)) l h
       (h.0, a.spelled.0) a.spelled.1 (ap tree.object (a.like ∙ ap borrow_members (sym s.1)))
 
-  inside-again : (levels : ℕ) (v : Tree) → FitsInside names levels v → Wherever u (print_of v) (AgainInside levels v)
-  inside-again zero v s i j l h = absurd s
-  inside-again (suc levels) v s i j l h =
-      let a = tree-again levels (FitsInside names levels) (inside-again levels) v s i j l h in
+  inside-again : (levels : ℕ) (layout : Layout) (v : Tree) → FitsInside names levels v
+      → Wherever u (laid_out layout v) (AgainInside levels v)
+  inside-again zero layout v s i j l h = absurd s
+  inside-again (suc levels) layout v s i j l h =
+      let a = tree-again layout levels (FitsInside names levels) (inside-again levels (deeper layout)) v s i j l h in
       record { again = a.again; spelled = (a.spelled.0, omega (arith, a.spelled.1)); like = a.like }
 
 -- ---- the whole text
@@ -175,13 +205,14 @@ feed-blank w e is =
       each = λ k l m. inr (inr (inl (get_or_push w 10 0 k (omega arith))));
     }
 
--- the print of a value that can be printed is a document of the same value, texts compared by their bytes
-printed-again : (names : Bool) (v : Tree) → Fits names nesting_limit v → IsLineOf names v (with_line_feed (print_of v))
-printed-again names v fits =
-    let w = print_of v in
+-- the text of a value that can be printed is a document of the same value, texts compared by their bytes
+pub printed-again : (layout : Layout) (names : Bool) (v : Tree) → Fits names nesting_limit v
+    → IsLineOf names v (with_line_feed (laid_out layout v))
+printed-again layout names v fits =
+    let w = laid_out layout v in
     let u = with_line_feed w in
-    let inside = inside-again names u nesting_limit in
-    let a = tree-again names u nesting_limit _ inside v fits 0 (length w) (omega arith) (print-stands w) in
+    let inside = inside-again names u nesting_limit (deeper layout) in
+    let a = tree-again names u layout nesting_limit _ inside v fits 0 (length w) (omega arith) (print-stands w) in
     let is = a.spelled.0 in (
       a.again,
       record {
@@ -193,15 +224,31 @@ printed-again names v fits =
       a.like,
     )
 
-read-again : (names : Bool) (x : Reading Tree) → Gives (Fits names nesting_limit) x → PrintsAgain names x
-read-again names (done v e) h = printed-again names v h
-read-again names (fault kind i stop) h = tt
+-- whatever is read, its text in a layout is a document of the same value
+abbrev LaidAgain : Layout → Bool → Reading Tree → Type 0
+LaidAgain layout names (done v e) = IsLineOf names v (with_line_feed (laid_out layout v))
+LaidAgain layout names (fault kind i stop) = Unit {0}
 
--- What is printed of what was read, in any mode, is a document of the same value.
-pub prints_again : (names : Bool) (mode : PartialMode) (t : List ℕ) → PrintsAgain names (answer_in names mode t)
-prints_again names mode t = read-again names (answer_in names mode t) (answer_in-printable names mode t)
+read-again : (layout : Layout) (names : Bool) (x : Reading Tree) → Gives (Fits names nesting_limit) x
+    → LaidAgain layout names x
+read-again layout names (done v e) h = printed-again layout names v h
+read-again layout names (fault kind i stop) h = tt
 
--- of the value that was read
+-- What is printed of what was read, in any mode and layout, is a document of the same value.
+pub read_lays_again : (layout : Layout) (names : Bool) (mode : PartialMode) (t : List ℕ) (v : Tree) (end : ℕ)
+    → answer_in names mode t ≡ done v end → IsLineOf names v (with_line_feed (laid_out layout v))
+read_lays_again layout names mode t v end is =
+    subst (LaidAgain layout names) is
+    (read-again layout names (answer_in names mode t) (answer_in-printable names mode t))
+
+-- of the compact text
 pub read_prints_again : (names : Bool) (mode : PartialMode) (t : List ℕ) (v : Tree) (end : ℕ)
     → answer_in names mode t ≡ done v end → IsLineOf names v (with_line_feed (print_of v))
-read_prints_again names mode t v end is = subst (PrintsAgain names) is (prints_again names mode t)
+read_prints_again names mode t v end is =
+    subst (λ w. IsLineOf names v (with_line_feed w)) (compact-is v) (read_lays_again compact names mode t v end is)
+
+pub prints_again : (names : Bool) (mode : PartialMode) (t : List ℕ) → PrintsAgain names (answer_in names mode t)
+prints_again names mode t = by (answer_in names mode t) refl where
+  by : (x : Reading Tree) → answer_in names mode t ≡ x → PrintsAgain names x
+  by (done v e) is = read_prints_again names mode t v e is
+  by (fault kind i stop) is = tt

@@ -3,9 +3,9 @@ use Rattle.std.proofs.Common.{◌≡◌, ℕ, ◌+◌, ◌-◌, ◌<◌, ◌≤�
 use Rattle.std.proofs.Common.{suc}
 use Rattle.std.proofs.Common.{refl, subst, sym, ap, ◌∙◌, arith, append_assoc, take-take, length-take-le, take_at}
 use Rattle.std.proofs.Common.{drop_at}
-use Rattle.std.specs.Prelude.{slice_get, slice_index, slice_range, slice_set, flat_map, nat_le}
+use Rattle.std.specs.Prelude.{Result, Ok, Err, OnErr, slice_get, slice_index, slice_range, slice_set, flat_map, nat_le}
 use Rattle.std.proofs.lemmas.Grind.{take-set_at}
-use Rattle.std.proofs.lemmas.List.{append-nil, drop-take, length-append, take_all, take_more, flat_map_more}
+use Rattle.std.proofs.lemmas.List.{append-nil, length-take, drop-take, length-append, take_all, take_more, flat_map_more}
 use Rattle.std.proofs.lemmas.List.Edits.{between_more, between_none}
 use Rattle.std.proofs.lemmas.Bool.Decides.{nat_tests}
 use Rattle.std.proofs.lemmas.Option.{slice_get-get_or}
@@ -115,6 +115,20 @@ plain-text line before text at long placed plain =
     let reaches : at + length text ≤ scan_stop line at = grind (arith, nat_tests, plain) in
     plain-prints text (subst (Pass is_plain) (stands-behind line before text at long placed)
     (prefix_len-pass is_plain (length text) (drop at line) (omega arith)))
+
+-- so it is after an error too
+pub if-err : {T E P : Type 0} (r : Result T E) → P → OnErr r P
+if-err (Ok x) h = tt
+if-err (Err e) h = h
+
+-- The first bytes are the same, if more bytes are and these begin so.
+pub kept-through : (old held new text : List ℕ) (count end : ℕ) → count ≤ length old
+    → take end held ≡ take count old ++ text → take end new ≡ take end held → take count new ≡ take count old
+kept-through old held new text count end within is same =
+    let long = length-take-le count old within in
+    let reaches : count ≤ end =
+    omega (arith, ap length is, length-append (take count old) text, long, length-take end held) in
+    sym (take-take count end new reaches) ∙ ap (take count) (same ∙ is) ∙ take_at (take count old) text count long
 
 -- a text laid down behind a quote
 module _ (old roomy laid text : List ℕ) (at : ℕ) (within : at ≤ length old) (room : at < length roomy)

@@ -1,3 +1,4 @@
+pub mod Layout
 pub mod Print
 pub mod Printed
 pub mod Written

@@ -10,6 +10,10 @@ use Rattle.jiter_print.specs.Print.{print_of, with_line_feed}
 abbrev pub borrow_text : Text → Text
 borrow_text s = record { owned = false; bytes = s.bytes }
 
+-- the value of a string
+abbrev pub string_from : List ℕ → Tree
+string_from bs = string (record { owned = false; bytes = bs })
+
 -- a value, as if all its texts lay in the input
 abbrev mutual
   pub borrow_tree : Tree → Tree

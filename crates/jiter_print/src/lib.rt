@@ -1,8 +1,10 @@
-//! Prints values as compact JSON text, and writes complete lines.
+//! Prints values and strings as JSON text, and writes complete lines.
 #![tactic(auto)]
 
-mod compact;
 mod lines;
+mod strings;
+mod values;
 
-pub use compact::print;
 pub use lines::write_line;
+pub use strings::print_str;
+pub use values::{print, print_pretty};

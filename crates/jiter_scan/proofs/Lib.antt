@@ -8,13 +8,13 @@ pub mod NumberRows
 pub mod NumberSound
 pub mod NumberComplete
 pub mod NumberBytes
+pub mod NumberStarts
 pub mod NumberBounds
 pub mod NumberValues
 pub mod NumberEnds
 pub mod NumberExtents
 pub mod NumberTests
 pub mod OpenNumbers
-pub mod NumberRuns
 pub mod NumberParts
 pub mod OpenValues
 pub mod NumberLaws

@@ -25,7 +25,7 @@ use Rattle.jiter_scan.proofs.Standing.{stands-append, stands-length, slice-stand
 use Rattle.jiter_scan.proofs.WordLaws.{word_at-sound}
 
 -- a text that is given byte by byte
-given-ascii : (w v : List ℕ) → w ≡ v → list_all is_ascii v ≡ true → IsAscii w
+pub given-ascii : (w v : List ℕ) → w ≡ v → list_all is_ascii v ≡ true → IsAscii w
 given-ascii w v e h =
     subst IsAscii (sym e)
     (IsAscii-from_all v

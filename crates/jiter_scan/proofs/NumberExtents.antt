@@ -1,20 +1,21 @@
 -- A number ends where its digits, fraction and exponent do, a minus before them or not.
-use Rattle.std.proofs.Common.{◌≡◌, inl, inr, ℕ, ◌+◌, ◌<◌, Bool, true, List, [], ◌∷◌, length, get_or, sym, ap}
+use Rattle.std.proofs.Common.{◌≡◌, inl, inr, ℕ, ◌+◌, ◌<◌, Bool, true, false, List, [], ◌∷◌, length, get_or, sym, ap}
 use Rattle.std.proofs.Common.{◌∙◌, subst, arith, slice_range}
-use Rattle.std.specs.Prelude.{slice_get, Some, ◌==◌, if◌then◌else◌, codes}
+use Rattle.std.specs.Prelude.{slice_get, Option, Some, None, ◌==◌, if◌then◌else◌, codes}
 use Rattle.std.proofs.lemmas.Bool.{ne_eqb}
 use Rattle.std.proofs.lemmas.Option.{slice_get-get_or}
 use Rattle.jiter_scan.specs.Digits.{is_digit}
 use Rattle.jiter_scan.specs.Kind.{invalid_number}
 use Rattle.jiter_scan.specs.Number.{IsIntPart}
 use Rattle.jiter_scan.specs.NumberDecoder.{magnitude_of, IsMinusTo}
+use Rattle.jiter_scan.specs.NumberExtent.{minus_end}
 use Rattle.jiter_scan.specs.NumberReading.{int_part_from, int_part_at, fraction_at, exponent_at, extent_then}
 use Rattle.jiter_scan.specs.NumberReading.{decimal_at}
 use Rattle.jiter_scan.specs.NumberReading.{behind_minus, name_at, extent_from, number_extent}
 use Rattle.jiter_scan.specs.Scanned.{taken, failed}
 use Rattle.jiter_scan.specs.Stands.{Stands}
 use Rattle.jiter_scan.specs.Word.{word_at}
-use Rattle.jiter_scan.proofs.Choices.{if-false, extent_then-taken}
+use Rattle.jiter_scan.proofs.Choices.{if_gives, if-true, if-false, extent_then-taken}
 use Rattle.jiter_scan.proofs.Digits.{digit-bounds}
 use Rattle.jiter_scan.proofs.NumberRows.{IntPart}
 use Rattle.jiter_scan.proofs.NumberSound.{behind_zero-sound, int_part_at-sound}
@@ -81,6 +82,29 @@ module _ (t : List ℕ) where
   extent-signed names i j e (inl none) h = extent-decimal names i e (subst (λ k. decimal_at t k ≡ taken tt e) none h)
   extent-signed names i j e (inr (next, minus)) h =
       extent-minus names i e minus (subst (λ k. decimal_at t k ≡ taken tt e) next h)
+
+  after-minus : (j e : ℕ) (o : Option ℕ) → behind_minus false t j o ≡ taken tt e → decimal_at t j ≡ taken tt e
+  after-minus j e None h = absurd (cc)
+  after-minus j e (Some d) h = if_gives (d == 73) _ _ _ h (λ q r. absurd (cc)) (λ q r. r)
+
+  no-minus : (i e c : ℕ) → (if c == 78 then name_at false t (codes "NaN") i
+      else (if c == 73 then name_at false t (codes "Infinity") i else decimal_at t i)) ≡ taken tt e
+      → decimal_at t i ≡ taken tt e
+  no-minus i e c h =
+      if_gives (c == 78) _ _ _ h (λ q r. absurd (cc))
+      (λ q r. if_gives (c == 73) _ _ _ r (λ q r. absurd (cc)) (λ q r. r))
+
+  -- where names are not allowed, a number's digits begin after its minus
+  pub extent-digits : (i e : ℕ) → i < length t → number_extent false t i ≡ taken tt e
+      → decimal_at t (minus_end t i) ≡ taken tt e
+  extent-digits i e inside h =
+      let c = get_or t i 0 in
+      let read : extent_from false t i (Some c) ≡ taken tt e =
+      sym (ap (extent_from false t i) (slice_get-get_or t i 0 inside)) ∙ h in
+      let P : ℕ → Type 0 = λ k. decimal_at t k ≡ taken tt e in
+      if_gives (c == 45) _ _ _ read
+      (λ q r. subst P (sym (if-true (c == 45) (i + 1) i q)) (after-minus (i + 1) e (slice_get t (i + 1)) r))
+      (λ q r. subst P (sym (if-false (c == 45) (i + 1) i q)) (no-minus i e c r))
 
   -- an integer part that begins with a zero is worth nothing
   pub magnitude_of-zero : (i e : ℕ) → slice_get t i ≡ Some 48 → int_part_at t i ≡ taken tt e

@@ -1,35 +1,23 @@
 -- The parts of a number that arrives in pieces: each goes on with the ones before it.
 use Rattle.std.proofs.Common.{◌≡◌, ℕ, ◌+◌, ◌-◌, ◌<◌, ◌≤◌, ◌||◌, ◌&&◌, Bool, true, false, not, List, [], ◌∷◌, ◌++◌}
-use Rattle.std.proofs.Common.{append_assoc, length, length-append, refl, sym, ap, ap₂, subst, ◌∙◌, arith}
-use Rattle.std.proofs.Common.{◌≢◌, ◌==◌, get_or, inl, inr}
-use Rattle.std.specs.Prelude.{slice_get, slice_index, slice_range, string_bytes, Some, if◌then◌else◌}
+use Rattle.std.proofs.Common.{append_assoc, drop, take, length, length-append, refl, sym, ap, ap₂, subst, ◌∙◌, arith}
+use Rattle.std.specs.Prelude.{slice_get, slice_range, string_bytes, Some, if◌then◌else◌}
 use Rattle.std.specs.List.{list_any}
 use Rattle.std.specs.Str.{IsAscii}
-use Rattle.std.proofs.lemmas.Bool.{ne_eqb}
-use Rattle.std.proofs.lemmas.Bool.Decides.{nat_tests}
 use Rattle.std.proofs.lemmas.List.Folds.{list_any-append}
-use Rattle.std.proofs.lemmas.Option.{slice_get-get_or, slice_get_within}
+use Rattle.std.proofs.lemmas.Option.{slice_get_within}
 use Rattle.std.proofs.lemmas.Str.{IsAscii-append}
 use Rattle.std.proofs.lemmas.Str.Ascii.{IsAscii-cons, IsAscii-nil}
-use Rattle.jiter_scan.specs.Digits.{digit_run_end, is_digit}
 use Rattle.jiter_scan.specs.Number.{is_float_byte, is_integral}
-use Rattle.jiter_scan.specs.NumberDecoder.{IsMinusTo}
-use Rattle.jiter_scan.specs.NumberReading.{behind_minus, extent_from, number_extent}
-use Rattle.jiter_scan.specs.OpenNumber.{BeginsThere, BeginsTo, digits_for, Fits, GoesTo, HoldsNumber, IsBegun, is_int_stage, Leads}
-use Rattle.jiter_scan.specs.OpenNumber.{LeadsOver, number_from, stage_behind}
+use Rattle.jiter_scan.specs.NumberReading.{number_extent}
+use Rattle.jiter_scan.specs.OpenNumber.{BeginsThere, BeginsTo, Fits, GoesTo, HoldsNumber, IsBegun, is_int_stage, Leads}
+use Rattle.jiter_scan.specs.OpenNumber.{LeadsOver, number_from}
 use Rattle.jiter_scan.specs.declared.open_number.OpenNumber.{OpenNumber}
 use Rattle.jiter_scan.specs.Stands.{Stands}
 use Rattle.jiter_scan.specs.Word.{Extent}
 use Rattle.jiter_scan.specs.declared.open_number.Stage.{Stage}
-use Rattle.jiter_scan.specs.declared.open_number.Stage.TheVariants as stage
 use Rattle.jiter_scan.specs.declared.open_number.Went.TheVariants as went
-use Rattle.jiter_scan.proofs.Choices.{if-false}
-use Rattle.jiter_scan.proofs.NumberBytes.{digits-ascii}
-use Rattle.jiter_scan.proofs.NumberRuns.{digits-over, go-on, stage-int}
-use Rattle.jiter_scan.proofs.NumberValues.{digits-no_float}
-use Rattle.jiter_scan.proofs.OpenNumbers.{decimal-begins, extent-digit}
 use Rattle.jiter_scan.proofs.OpenValues.{stands-last}
-use Rattle.jiter_scan.proofs.Runs.{run_end-passes, run_end-passing}
 use Rattle.jiter_scan.proofs.Standing.{slice-one, slice_range-split, stands-length, stands-split}
 
 -- ---- bytes that show a float
@@ -93,14 +81,23 @@ goes-on s m new t i j e a b =
           ∙ ap (λ x. is_int_stage s && x) (sym (ap is_integral is ∙ integral-append w v));
     }
 
--- where the stage is known that was come to
-pub goes-then : (s m mid new : Stage) (t : List ℕ) (i j e : ℕ) → GoesTo s t i m j → m ≡ mid → GoesTo mid t j new e
-    → GoesTo s t i new e
-goes-then s m mid new t i j e a is b = goes-on s m new t i j e a (subst (λ x. GoesTo x t j new e) (sym is) b)
+-- ---- one byte more
 
--- ---- the parts
+-- none
+pub goes-none : (s : Stage) (t : List ℕ) (i : ℕ) → i ≤ length t → GoesTo s t i s i
+goes-none s t i within =
+    let count : i - i ≡ 0 = omega arith in
+    let none : slice_range t i i ≡ [] = ap (λ n. take n (drop i t)) count in
+    record {
+      ahead = omega arith;
+      within = within;
+      ascii = subst IsAscii (sym none) IsAscii-nil;
+      leads = subst (λ w. LeadsOver s w s) (sym none)
+          (λ names u j h. let place : j ≡ j + 0 = omega arith in ap (number_from names s u) place);
+      int = all-of (is_int_stage s) (is_integral (slice_range t i i)) (ap is_integral none);
+    }
 
--- one byte that is taken
+-- one that is taken
 pub goes-byte : (s new : Stage) (t : List ℕ) (i b : ℕ) → slice_get t i ≡ Some b → Leads s b (went.Taken new)
     → Fits s b (went.Taken new) → GoesTo s t i new (i + 1)
 goes-byte s new t i b here leads fits =
@@ -111,22 +108,6 @@ goes-byte s new t i b here leads fits =
       ascii = subst IsAscii one (IsAscii-cons b [] fits.0 IsAscii-nil);
       leads = subst (λ w. LeadsOver s w new) one (λ names u j h. leads names u j h.0);
       int = fits.1 ∙ ap (λ x. is_int_stage s && x) (one-not (is_float_byte b) ∙ ap is_integral one);
-    }
-
--- digits
-pub goes-digits : (s : Stage) (t : List ℕ) (i n : ℕ) → n ≡ digits_for s (digit_run_end t i - i) → i + n ≤ length t
-    → GoesTo s t i (stage_behind s n) (i + n)
-goes-digits s t i n is within =
-    let w = slice_range t i (i + n) in
-    let run = go-on s t i n is within in
-    record {
-      ahead = omega arith;
-      within = within;
-      ascii = digits-ascii w run.digits;
-      leads = subst (LeadsOver s w) (ap (stage_behind s) run.long) (digits-over s w run.digits run.fits);
-      int = stage-int s n
-          ∙ all-of (is_int_stage s) (is_integral w)
-          (ap (λ (b : Bool). if b then false else true) (digits-no_float w run.digits));
     }
 
 -- ---- a number that has begun
@@ -197,62 +178,3 @@ held-first m s t i e there is text =
       begun = subst (IsBegun w) (sym is) there.begun;
       goes = subst (BeginsTo w) (sym is) there.goes;
     }
-
--- ---- a number whose integer part is known
-
--- behind the first digit of an integer part, which is no zero, the others
-int-digits : (t : List ℕ) (from end e : ℕ) (new : Stage) → from < end → end ≤ from + 16 → digit_run_end t from ≡ end
-    → end ≤ length t → GoesTo (stage.Digits (4299 - (end - from - 1))) t end new e
-    → GoesTo (stage.Digits 4299) t (from + 1) new e
-int-digits t from end e new some few run within go =
-    let n = end - from - 1 in
-    let digit = run_end-passes is_digit t from from (omega arith) (omega arith) in
-    let on = run_end-passing is_digit t from (omega arith) digit in
-    let place : from + 1 + n ≡ end = omega arith in
-    let digits : GoesTo (stage.Digits 4299) t (from + 1) (stage.Digits (4299 - n)) end =
-    subst (GoesTo (stage.Digits 4299) t (from + 1) (stage.Digits (4299 - n))) place
-    (goes-digits (stage.Digits 4299) t (from + 1) n (omega arith) (omega arith)) in
-    goes-on (stage.Digits 4299) (stage.Digits (4299 - n)) new t (from + 1) end e digits go
-
--- a digit that is no zero behind a minus
-digit-behind : (b : ℕ) → (b == 48) ≡ false → is_digit b ≡ true → Leads stage.Minus b (went.Taken (stage.Digits 4299))
-digit-behind b zero digit = λ names t j h.
-    let no_i : (b == 73) ≡ false = grind (arith, nat_tests) in
-    ap (behind_minus names t j) h ∙ if-false (b == 73) _ _ no_i ∙ decimal-begins t j b h zero digit
-
-pub begins-digits : (t : List ℕ) (at from end e : ℕ) (new : Stage) → IsMinusTo t at from → from < end → end ≤ from + 16
-    → digit_run_end t from ≡ end → end ≤ length t → slice_index t from ≢ 48
-    → GoesTo (stage.Digits (4299 - (end - from - 1))) t end new e → BeginsThere t at new e
-begins-digits t at from end e new minus some few run within first go = by minus where
-  b : ℕ
-  b = get_or t from 0
-
-  here : slice_get t from ≡ Some b
-  here = slice_get-get_or t from 0 (omega arith)
-
-  zero : (b == 48) ≡ false
-  zero = ne_eqb b 48 first
-
-  digit : is_digit b ≡ true
-  digit = run_end-passes is_digit t from from (omega arith) (omega arith)
-
-  rest : GoesTo (stage.Digits 4299) t (from + 1) new e
-  rest = int-digits t from end e new some few run within go
-
-  small : b < 128
-  small = grind (arith, nat_tests, digit)
-
-  plain : is_float_byte b ≡ false
-  plain = grind (arith, nat_tests, digit)
-
-  by : IsMinusTo t at from → BeginsThere t at new e
-  by (inl same) =
-      subst (λ i. BeginsThere t i new e) same
-      (begins-there (stage.Digits 4299) new t from b e here
-      (λ names u j h. extent-digit u j names b h digit ∙ decimal-begins u j b h zero digit) refl small plain rest)
-  by (inr minus) =
-      begins-there stage.Minus new t at 45 e minus.1 (λ names u j h. ap (extent_from names u j) h) refl (omega arith) refl
-      (goes-on stage.Minus (stage.Digits 4299) new t (at + 1) (from + 1) e
-      (subst (λ i. GoesTo stage.Minus t i (stage.Digits 4299) (from + 1)) minus.0
-      (goes-byte stage.Minus (stage.Digits 4299) t from b here (digit-behind b zero digit) (small, grind (arith, nat_tests, plain))))
-      rest)

@@ -1,87 +1,34 @@
 -- The value of a number that was read byte by byte.
-use Rattle.std.proofs.Common.{◌≡◌, ◌≢◌, ◌⊎◌, inl, inr, ℕ, ◌-◌, ◌^◌, ◌<◌, ◌≤◌, ◌==◌, Bool, true, false, List, [], ◌∷◌}
+use Rattle.std.proofs.Common.{◌≡◌, inl, inr, ℕ, ◌-◌, ◌^◌, ◌<◌, ◌≤◌, ◌==◌, Bool, true, false, List, [], ◌∷◌}
 use Rattle.std.proofs.Common.{◌++◌}
-use Rattle.std.proofs.Common.{append_assoc, append-nil, length, length-append, refl, sym, ap, subst, ◌∙◌, arith, nat_le, nat_lt, ℤ}
+use Rattle.std.proofs.Common.{append-nil, length, length-append, refl, sym, ap, subst, ◌∙◌, arith, nat_le, nat_lt, ℤ}
 use Rattle.std.specs.Prelude.{codes, slice_get, slice_range, Option, Some, None, IfSome, if◌then◌else◌}
-use Rattle.std.specs.List.{list_any}
-use Rattle.std.proofs.Math.Nat.{pow-le-pow_right}
 use Rattle.std.proofs.lemmas.List.{take_all}
 use Rattle.std.proofs.lemmas.Bool.{cases_lt, false≢true}
-use Rattle.jiter_scan.specs.Digits.{is_digit, decimal_of}
-use Rattle.jiter_scan.specs.Number.{Number, integer, big, float, is_float_byte, is_integral, integral_value}
+use Rattle.jiter_scan.specs.Digits.{decimal_of}
+use Rattle.jiter_scan.specs.Number.{Number, integer, big, float, is_integral, integral_value}
 use Rattle.jiter_scan.specs.Number.{number_value}
-use Rattle.jiter_scan.specs.Number.{IsName, IsMinus, IsIntPart, IsDecimal, IsNumberText, positive_value, negative_value}
-use Rattle.jiter_scan.specs.NumberDecoder.{magnitude_of}
+use Rattle.jiter_scan.specs.Number.{IsName, IsNumberText}
 use Rattle.jiter_scan.specs.Kind.{invalid_number}
 use Rattle.jiter_scan.specs.NumberReading.{extent_then, behind_minus, behind_zero, fraction_from, exponent_from, exponent_at}
-use Rattle.jiter_scan.specs.NumberReading.{number_extent, number_at, with_value}
+use Rattle.jiter_scan.specs.NumberExtent.{minus_end}
+use Rattle.jiter_scan.specs.NumberReading.{int_part_at, number_extent, number_at, with_value}
 use Rattle.jiter_scan.specs.OpenNumber.{number_from, tail_at, is_whole, is_int_stage, IsBegun, int_of}
 use Rattle.jiter_scan.specs.Scanned.{taken, failed}
 use Rattle.jiter_scan.specs.Stands.{Stands}
 use Rattle.jiter_scan.specs.Word.{word_at}
 use Rattle.jiter_scan.specs.declared.open_number.Stage.{Stage}
 use Rattle.jiter_scan.specs.declared.open_number.Stage.TheVariants as stage
-use Rattle.jiter_scan.proofs.Choices.{if-true, if-false, if_case, failed-taken}
-use Rattle.jiter_scan.proofs.Digits.{digit-bounds, decimal_of-above}
+use Rattle.jiter_scan.proofs.Choices.{if-true, if-false, if_case, if_gives, failed-taken, extent_then-taken}
 use Rattle.jiter_scan.proofs.NumberBytes.{number-not_empty}
 use Rattle.jiter_scan.specs.NumberWithin.{continues_number}
 use Rattle.jiter_scan.proofs.NumberComplete.{number_extent-complete}
-use Rattle.jiter_scan.proofs.NumberSound.{number_extent-sound}
-use Rattle.jiter_scan.proofs.NumberValues.{number_value-digits, number_value-minus, Tail, no_tail, a_tail, tail}
-use Rattle.jiter_scan.proofs.NumberValues.{any-float}
+use Rattle.jiter_scan.proofs.NumberExtents.{extent-digits}
+use Rattle.jiter_scan.proofs.NumberSound.{number_extent-sound, fraction_at-sound, exponent_at-sound}
+use Rattle.jiter_scan.proofs.NumberValues.{number_value-tail}
 use Rattle.jiter_scan.proofs.Standing.{stands-length, stands-slice, stands-split}
 use Rattle.jiter_scan.proofs.WordLaws.{word_at-complete}
 use Rattle.jiter_scan.proofs.OpenNumbers.{get-behind, run-ended, digits-ended, fraction-ended}
-
--- ---- integers of many digits
-above-zero : (c : ℕ) (w : List ℕ) → is_digit c ≡ true → (w ≡ []) ⊎ (c ≢ 48) → 20 ≤ length (c ∷ w) → 48 < c
-above-zero c w digit (inl e) long = let none : length w ≡ 0 = ap length e in absurd (omega arith)
-above-zero c w digit (inr n) long =
-    elim (cases_lt 48 c) [
-      | inl above ↦ above
-      | inr below ↦ let same : c ≡ 48 = omega (arith, (digit-bounds c digit).0) in absurd (n same)
-    ]
-
-magnitude-long : (w : List ℕ) → IsIntPart w → 20 ≤ length w → magnitude_of w ≡ 10 ^ 19
-magnitude-long [] h long = absurd h
-magnitude-long (c ∷ w) h long =
-    let least : 10 ^ 19 ≤ 10 ^ length w =
-    pow-le-pow_right {n = 10} (omega arith) {i = 19} {j = length w} (omega arith) in
-    omega (arith, decimal_of-above c w (above-zero c w h.0.0 h.1 long), least)
-
-bare-long : (minus int_part w : List ℕ) → w ≡ minus ++ int_part → IsMinus minus → IsIntPart int_part → 20 < length w
-    → number_value w ≡ big w
-bare-long minus int_part w is (inl m) h long =
-    let same : w ≡ int_part = is ∙ ap (λ v. v ++ int_part) m in
-    let count : 20 ≤ length int_part = omega (arith, ap length same) in
-    subst (λ v. number_value v ≡ big v) (sym same)
-    (number_value-digits int_part h ∙ ap (positive_value int_part) (magnitude-long int_part h count))
-bare-long minus int_part w is (inr m) h long =
-    let same : w ≡ 45 ∷ int_part = is ∙ ap (λ v. v ++ int_part) m in
-    let count : 20 ≤ length int_part = omega (arith, ap length same) in
-    subst (λ v. number_value v ≡ big v) (sym same)
-    (number_value-minus int_part h ∙ ap (negative_value (45 ∷ int_part)) (magnitude-long int_part h count))
-
-decimal-long : (w : List ℕ) (d : IsDecimal w) → is_integral w ≡ true → 20 < length w
-    → Tail (d.fraction ++ d.exponent) → number_value w ≡ big w
-decimal-long w d int long (no_tail e) =
-    let bare : w ≡ d.minus ++ d.int_part =
-    d.is ∙ ap (λ v. d.minus ++ (d.int_part ++ v)) e ∙ ap (λ v. d.minus ++ v) (append-nil d.int_part) in
-    bare-long d.minus d.int_part w bare d.is_minus d.is_int_part long
-decimal-long w d int long (a_tail c v is first) =
-    let all : w ≡ (d.minus ++ d.int_part) ++ c ∷ v =
-    d.is ∙ ap (λ x. d.minus ++ (d.int_part ++ x)) is ∙ sym (append_assoc d.minus d.int_part (c ∷ v)) in
-    let float : list_any is_float_byte w ≡ true =
-    ap (list_any is_float_byte) all ∙ any-float (d.minus ++ d.int_part) v c first in
-    absurd (false≢true (sym (ap (λ (b : Bool). if b then false else true) float) ∙ int))
-
-long-integer : (names : Bool) (w : List ℕ) → IsNumberText names w → is_integral w ≡ true → 20 < length w
-    → number_value w ≡ big w
-long-integer names w (inl d) int long =
-    decimal-long w d int long (tail d.fraction d.exponent d.is_fraction d.is_exponent)
-long-integer names w (inr (n, inl e)) int long = absurd (false≢true (sym (ap is_integral e) ∙ int))
-long-integer names w (inr (n, inr (inl e))) int long = absurd (false≢true (sym (ap is_integral e) ∙ int))
-long-integer names w (inr (n, inr (inr e))) int long = absurd (false≢true (sym (ap is_integral e) ∙ int))
 
 -- ---- a number that is whole
 module _ (t : List ℕ) (j : ℕ) (h : slice_get t j ≡ None) (names : Bool) where
@@ -102,7 +49,7 @@ nothing-behind : (w : List ℕ) → slice_get w (length w) ≡ None
 nothing-behind [] = refl
 nothing-behind (c ∷ w) = nothing-behind w
 
-whole-range : (w : List ℕ) → slice_range w 0 (length w) ≡ w
+pub whole-range : (w : List ℕ) → slice_range w 0 (length w) ≡ w
 whole-range w = take_all (length w - 0) w (omega arith)
 
 some-bytes : (names : Bool) (w : List ℕ) → IsNumberText names w → 0 < length w
@@ -126,6 +73,13 @@ float-value w h = if-false (is_integral w) _ _ h
 integral-is : (w : List ℕ) → is_integral w ≡ true → number_value w ≡ integral_value w
 unfolding number_value
 integral-is w h = if-true (is_integral w) _ _ h
+
+integral-no_float : (w v : List ℕ) → integral_value w ≡ float v → ⊥
+integral-no_float [] v h = cc
+integral-no_float (c ∷ cs) v h =
+    if_gives (c == 45) _ _ _ h
+    (λ q r. if_gives (nat_le (decimal_of cs) (2 ^ 63)) _ _ _ r (λ q g. absurd (cc)) (λ q g. absurd (cc)))
+    (λ q r. if_gives (nat_lt (decimal_of (c ∷ cs)) (2 ^ 63)) _ _ _ r (λ q g. absurd (cc)) (λ q g. absurd (cc)))
 
 pub int-found : (x : Number) (e : ℕ) (n : ℤ) → int_of (taken x e) ≡ Some n → x ≡ integer n
 int-found (integer m) e n h = let same : m ≡ n = cc in ap integer same
@@ -153,8 +107,31 @@ module _ (w : List ℕ) (s : Stage) (begun : IsBegun w s) (whole : is_whole s �
     integral : is_integral w ≡ true
     integral = begun.whole ∙ int
 
-    pub begun-long : 20 < length w → number_value w ≡ big w
-    begun-long long = long-integer false w is-text integral long
+    -- its digits go on to its end
+    pub begun-digits : int_part_at w (minus_end w 0) ≡ taken tt (length w)
+    begun-digits =
+        let at = minus_end w 0 in
+        let e = length w in
+        let read = extent-digits w 0 e begun-some extent-whole in
+        let part : (j : ℕ) × (int_part_at w at ≡ taken tt j) × (tail_at w j ≡ taken tt e) =
+        extent_then-taken _ _ _ _ read in
+        let j = part.0 in
+        let f = extent_then-taken _ _ _ _ part.2 in
+        let fraction = fraction_at-sound w j f.0 f.1 in
+        let exponent = exponent_at-sound w f.0 e f.2 in
+        let low : j ≤ e = omega (
+          arith,
+          stands-length w j f.0 fraction.0 fraction.1,
+          stands-length w f.0 e exponent.0 exponent.1,
+        ) in
+        elim (cases_lt j e) [
+          | inl ahead ↦
+              let float_text = number_value-tail w 0 j e (omega arith) ahead low part.2 in
+              absurd
+              (integral-no_float w w
+              (sym (integral-is w integral) ∙ subst (λ v. number_value v ≡ float v) (whole-range w) float_text))
+          | inr past ↦ let same : j ≡ e = omega (arith, past, low) in part.1 ∙ ap (taken tt) same
+        ]
 
     pub begun-big : int_of (number_at false w 0) ≡ None → number_value w ≡ big w
     begun-big none =

@@ -13,7 +13,7 @@ use Rattle.jiter_scan.proofs.NumberExtents.{extent-decimal, extent-minus}
 use Rattle.jiter_scan.proofs.NumberValues.{integer_value-positive, integer_value-negative}
 
 module _ (t : List ℕ) (names : Bool) (e : ℕ) where
-  number_at-extent : (i : ℕ) → number_extent names t i ≡ taken tt e
+  pub number_at-extent : (i : ℕ) → number_extent names t i ≡ taken tt e
       → number_at names t i ≡ taken (number_value (slice_range t i e)) e
   unfolding number_at
   number_at-extent i h = ap (with_value t i) h

@@ -6,11 +6,9 @@ use Rattle.std.specs.List.{prefix_len}
 use Rattle.std.proofs.lemmas.Bool.{cases_lt}
 use Rattle.std.proofs.lemmas.Bool.Decides.{nat_tests}
 use Rattle.std.proofs.lemmas.List.{length-take}
-use Rattle.std.proofs.lemmas.Option.{slice_get-get_or, slice_get_past, slice_get_within}
+use Rattle.std.proofs.lemmas.Option.{slice_get-get_or, slice_get_within}
 use Rattle.jiter_scan.specs.Digits.{is_digit, digit_run_end}
 use Rattle.jiter_scan.specs.Number.{IsDigits}
-use Rattle.jiter_scan.specs.NumberDecoder.{magnitude_of}
-use Rattle.jiter_scan.specs.PlainNumber.{IsPlainInteger}
 use Rattle.jiter_scan.specs.NumberReading.{extent_then, int_part_at, fraction_at, exponent_at, decimal_at}
 use Rattle.jiter_scan.specs.NumberReading.{fraction_from}
 use Rattle.jiter_scan.specs.NumberReading.{exponent_from, digits_from, power_from, is_float_sign}
@@ -18,7 +16,7 @@ use Rattle.jiter_scan.specs.Scanned.{taken}
 use Rattle.jiter_scan.specs.Stands.{Stands}
 use Rattle.jiter_scan.proofs.Choices.{if-false, if-true, extent_then-taken}
 use Rattle.jiter_scan.proofs.Chunks.{prefix_len-front, prefix_len-pass, run_end-on}
-use Rattle.jiter_scan.proofs.Magnitudes.{decimal_of-few, slice_range-count}
+use Rattle.jiter_scan.proofs.Magnitudes.{slice_range-count}
 use Rattle.jiter_scan.proofs.NumberComplete.{int_part_at-complete}
 use Rattle.jiter_scan.proofs.NumberExtents.{decimal_at-tail, tail-parts}
 use Rattle.jiter_scan.proofs.NumberSound.{digits-sound, power-sound, exponent_at-sound}
@@ -182,24 +180,3 @@ module _ (t : List ℕ) where
           let none = ap (λ x. extent_then x (exponent_at t)) (fraction_at-none i c here no_point) in
           let p = power-sound t (i + 1) e (sym (none ∙ power) ∙ tail) in
           ends p.0 p.1
-
--- Digits that are the last bytes, at most eighteen, the first no zero or alone, are an integer.
-pub last-integer : (t : List ℕ) (i n : ℕ) → i < length t → length t ≤ i + 18 → digit_run_end t i ≡ length t
-    → ((get_or t i 0 ≤ 48) × (length t - i ≡ 1)) ⊎ (48 < get_or t i 0) → n ≡ magnitude_of (slice_range t i (length t))
-    → IsPlainInteger t i n (length t)
-last-integer t i n some few run first is =
-    let e = length t in
-    let one : ((get_or t i 0 ≤ 48) × (e - i ≡ 1)) ⊎ (48 < get_or t i 0) → (e ≡ i + 1) ⊎ (get_or t i 0 ≢ 48) =
-    λ f. elim f [
-      | inl zero ↦ let alone = zero.1 in inl (omega arith)
-      | inr above ↦ inr (λ (zero : get_or t i 0 ≡ 48). omega arith)
-    ] in
-    let int_part = int_part_at-run t i e run some (omega arith) (omega arith) (one first) in
-    record {
-      int_part = int_part;
-      decimal = decimal_at-over t i e int_part (slice_get_past t e (omega arith));
-      magnitude = is;
-      small = omega (arith, decimal_of-few t i e (omega arith) (omega arith) (omega arith) 18 (omega arith), is);
-      some = some;
-      within = omega arith;
-    }

@@ -108,16 +108,3 @@ IsAsciiTo-iff t i e b stop is =
     let bytes = slice_range t i e in
     let all : b ≡ list_all is_ascii bytes = is ∙ ap (λ k. list_all is_ascii (take k (drop i t))) count in
     (λ h. AllPass-from_list_all is_ascii bytes (sym all ∙ h), λ h. all ∙ list_all-from_AllPass is_ascii bytes h)
-
--- what the scan of the rest tells, behind what is known of the bytes before it
-pub joined-ascii : (t : List ℕ) (i e : ℕ) (b front : Bool) → e ≡ scan_stop t i → (IsTrue b ↔ IsAsciiTo t i e)
-    → (front && ascii_from t i) ≡ (front && b)
-joined-ascii t i e b front stop is =
-    let whole = IsAsciiTo-iff t i e (ascii_from t i) stop refl in
-    ap (λ x. front && x) (same-truth (ascii_from t i) b (λ h. is.1 (whole.0 h)) (λ h. whole.1 (is.0 h)))
-  where
-    same-truth : (a b : Bool) → (IsTrue a → IsTrue b) → (IsTrue b → IsTrue a) → a ≡ b
-    same-truth true true f g = refl
-    same-truth true false f g = sym (f refl)
-    same-truth false true f g = g refl
-    same-truth false false f g = refl

@@ -12,6 +12,7 @@ pub mod Number
 pub mod NumberTests
 pub mod NumberReading
 pub mod NumberDecoder
+pub mod NumberExtent
 pub mod OpenNumber
 pub mod OpenWord
 pub mod NumberWithin

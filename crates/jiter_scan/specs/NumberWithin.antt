@@ -7,9 +7,6 @@ use Rattle.jiter_scan.specs.Number.{Number, float, integer, number_value}
 use Rattle.jiter_scan.specs.NumberReading.{number_extent}
 use Rattle.jiter_scan.specs.Scanned.{taken}
 use Rattle.jiter_scan.specs.Stands.{Stands}
-use Rattle.jiter_scan.specs.OpenNumber.{BeginsThere}
-use Rattle.jiter_scan.specs.declared.number_within.NearNumber.{NearNumber}
-use Rattle.jiter_scan.specs.declared.number_within.NearNumber.TheVariants as near
 use Rattle.jiter_scan.specs.declared.number_within.ShortWithin.{ShortWithin}
 use Rattle.jiter_scan.specs.declared.number_within.ShortWithin.TheVariants as short
 
@@ -40,8 +37,3 @@ abbrev pub IsShortWithin : List ℕ → ℕ → ShortWithin → Type 0
 IsShortWithin piece at (short.Int n e) = EndsWithin piece at (integer n) e
 IsShortWithin piece at (short.Float e) = IsFloatWithin piece at e
 IsShortWithin piece at short.Other = Unit {0}
-
--- what was found at a place near its end: an integer that ends there, or how far the bytes from there on bring a number
-abbrev pub IsNearNumber : List ℕ → ℕ → NearNumber → Type 0
-IsNearNumber piece at (near.Int n e) = EndsWithin piece at (integer n) e
-IsNearNumber piece at (near.Begun s e) = BeginsThere piece at s e

@@ -1,6 +1,6 @@
 -- A number that arrives in pieces: what its reading is from the stage that was reached, in any text.
-use Rattle.std.specs.Prelude.{◌≡◌, ℕ, ◌+◌, ◌-◌, ◌<◌, ◌==◌, ◌||◌, ◌&&◌, Bool, true, false, not, if◌then◌else◌, List}
-use Rattle.std.specs.Prelude.{◌++◌, min}
+use Rattle.std.specs.Prelude.{◌≡◌, ℕ, ◌+◌, ◌<◌, ◌==◌, ◌||◌, ◌&&◌, Bool, true, false, not, if◌then◌else◌, List}
+use Rattle.std.specs.Prelude.{◌++◌}
 use Rattle.std.specs.Prelude.{codes, length, nat_le, slice_get, slice_range, string_bytes, ℤ, Option, Some, None, ◌≤◌}
 use Rattle.std.specs.Str.{IsAscii}
 use Rattle.jiter_scan.specs.Ascii as ascii
@@ -57,18 +57,6 @@ number_by names t j went.TooLong = failed number_out_of_range (j + 1)
 abbrev pub Leads : Stage → ℕ → Went → Type 0
 Leads s b w =
     (names : Bool) (t : List ℕ) (j : ℕ) → slice_get t j ≡ Some b → number_from names s t j ≡ number_by names t j w
-
--- how many of so many digits go on with a number of this stage
-abbrev pub digits_for : Stage → ℕ → ℕ
-digits_for (stage.Digits room) n = min n room
-digits_for stage.Fraction n = n
-digits_for stage.Exponent n = n
-digits_for s n = 0
-
--- the stage behind so many
-abbrev pub stage_behind : Stage → ℕ → Stage
-stage_behind (stage.Digits room) n = stage.Digits (room - n)
-stage_behind s n = s
 
 -- these bytes lead from the one stage to the other, in every text where they stand
 abbrev pub LeadsOver : Stage → List ℕ → Stage → Type 0

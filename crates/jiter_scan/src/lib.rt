@@ -2,11 +2,11 @@
 //! the modes of partial reading.
 #![tactic(auto)]
 
+pub mod decimal;
 pub mod errors;
 pub mod memory;
 pub mod number_decoder;
 pub mod number_extent;
-pub(crate) mod number_parts;
 pub mod number_within;
 pub mod open_number;
 pub mod open_word;

@@ -13,12 +13,12 @@ ghost use Rattle.jiter_scan.specs.NumberReading.{begins_number, number_alone, in
 ghost use Rattle.jiter_scan.specs.NumberDecoder.{int_view, number_view, integer_view, EndsWithin, magnitude_of};
 ghost use Rattle.jiter_scan.specs.NumberDecoder.{IsMinusTo};
 
+use crate::decimal::{chunk_at, digit_word, joined};
 use crate::errors::{Fault, FaultKind, JsonError, JsonResult, fault_at};
-use crate::number_extent::{int_part_end, tail_end};
+use crate::number_extent::{Extent, int_part_end, minus_end, name_from, number_extent};
 use crate::plain_number::{PlainNumber, plain_number_at};
-use crate::simd::{chunk_at, digit_word, joined};
 use crate::text::ascii_text;
-use crate::word::{byte_at, word_end};
+use crate::word::byte_at;
 
 /// An integer: its value, or its source text if an `i64` does not hold it.
 #[derive(Debug, Clone, PartialEq, Drop)]
@@ -185,22 +185,6 @@ pub(crate) fn digits_magnitude(bytes: &[u8], at: usize, end: usize) -> u64
     }
 }
 
-fn read_int_part(bytes: &[u8], at: usize) -> Result<(u64, usize), Fault>
-    requires { at ≤ length bytes.now }
-    ensures value { Scans (with_end (λ _. tt)) result (int_part_at bytes.now at) }
-    ensures place { IfOk result (λ x. (at < x.1) × (x.1 ≤ length bytes.now)) }
-    ensures magnitude { IfOk result
-        (λ x. x.0 ≡ magnitude_of (slice_range bytes.now at x.1)) }
-{
-    let end = int_part_end(bytes, at)?;
-    let magnitude = if bytes[at] == b'0' {
-        0
-    } else {
-        digits_magnitude(bytes, at, end)
-    };
-    Ok((magnitude, end))
-}
-
 fn positive_int<'j>(text: &'j [u8], magnitude: u64) -> NumberInt<'j>
     requires { IsAscii text.now }
     ensures { int_view result ≡ positive_value text.now magnitude }
@@ -248,113 +232,42 @@ fn integer_of<'j>(
     }
 }
 
-// The slow path reads part by part.
-#[inline(never)]
-fn read_long_decimal<'j>(
-    bytes: &'j [u8],
-    from: usize,
-    at: usize,
-) -> Result<(NumberAny<'j>, usize), Fault>
-    requires within { at ≤ length bytes.now }
+// The magnitude of a leading zero is 0: no digit follows it.
+pub(crate) fn long_integer<'j>(bytes: &'j [u8], from: usize, at: usize, end: usize) -> NumberInt<'j>
     requires minus { IsMinusTo bytes.now from at }
-    ensures value { Scans (with_end number_view) result
-        (with_value bytes.now from (decimal_at bytes.now at)) }
-    ensures place { IfOk result (λ x. (at < x.1) × (x.1 ≤ length bytes.now)) }
+    requires int_part { int_part_at bytes.now at ≡ taken tt end }
+    requires place { (at < end) × (end ≤ length bytes.now) }
+    ensures { int_view result ≡ number_value (slice_range bytes.now from end) }
 {
-    let (magnitude, int_part_end) = read_int_part(bytes, at)?;
-    let end = tail_end(bytes, int_part_end)?;
-    let number = if end == int_part_end {
-        NumberAny::Int(integer_of(bytes, from, at, end, magnitude))
+    let magnitude = if bytes[at] == b'0' {
+        0
     } else {
-        NumberAny::Float(ascii_text(&bytes[from..end]))
+        digits_magnitude(bytes, at, end)
     };
-    Ok((number, end))
+    integer_of(bytes, from, at, end, magnitude)
 }
 
-fn read_decimal<'j>(
+// The slow path finds where the number ends, then its value.
+#[inline(never)]
+fn slow_number_at<'j>(
     bytes: &'j [u8],
-    from: usize,
     at: usize,
+    allow_inf_nan: bool,
 ) -> Result<(NumberAny<'j>, usize), Fault>
-    requires within { at ≤ length bytes.now }
-    requires minus { IsMinusTo bytes.now from at }
-    ensures value { Scans (with_end number_view) result (with_value bytes.now from (decimal_at bytes.now at)) }
+    requires { at < length bytes.now }
+    ensures value { Scans (with_end number_view) result (number_at allow_inf_nan bytes.now at) }
     ensures place { IfOk result (λ x. (at < x.1) × (x.1 ≤ length bytes.now)) }
 {
-    match plain_number_at(bytes, at) {
-        PlainNumber::Int(magnitude, end) => {
-            let number = integer_of(bytes, from, at, end, magnitude);
+    match number_extent(bytes, at, allow_inf_nan) {
+        Ok(Extent::Int(digits, end)) => {
+            let number = long_integer(bytes, at, digits, end);
             Ok((NumberAny::Int(number), end))
         }
-        PlainNumber::Float(end) => {
-            let text = ascii_text(&bytes[from..end]);
+        Ok(Extent::Float(end)) => {
+            let text = ascii_text(&bytes[at..end]);
             Ok((NumberAny::Float(text), end))
         }
-        PlainNumber::Other => read_long_decimal(bytes, from, at),
-    }
-}
-
-// `name` is `NaN` or `Infinity`.
-fn read_name<'j>(
-    bytes: &'j [u8],
-    from: usize,
-    at: usize,
-    name: &[u8],
-) -> Result<(NumberAny<'j>, usize), Fault>
-    requires minus { IsMinusTo bytes.now from at }
-    requires first { (at < length bytes.now) × (is_float_byte (slice_index bytes.now at) ≡ true) }
-    requires name { (0 < length name.now) × IsAscii name.now }
-    ensures value { Scans (with_end number_view) result
-        (with_value bytes.now from (word_at bytes.now name.now at)) }
-    ensures place { IfOk result (λ x. (at < x.1) × (x.1 ≤ length bytes.now)) }
-{
-    let end = word_end(bytes, at, name)?;
-    let text = ascii_text(&bytes[from..end]);
-    Ok((NumberAny::Float(text), end))
-}
-
-// If they are not allowed, `NaN` and `Infinity` are `ExpectedSomeValue` here. After a minus it is `InvalidNumber`.
-fn read_allowed_name<'j>(
-    bytes: &'j [u8],
-    at: usize,
-    name: &[u8],
-    allow_inf_nan: bool,
-) -> Result<(NumberAny<'j>, usize), Fault>
-    requires first { (at < length bytes.now) × (is_float_byte (slice_index bytes.now at) ≡ true) }
-    requires name { (0 < length name.now) × IsAscii name.now }
-    ensures value { Scans (with_end number_view) result
-        (with_value bytes.now at (name_at allow_inf_nan bytes.now name.now at)) }
-    ensures place { IfOk result (λ x. (at < x.1) × (x.1 ≤ length bytes.now)) }
-{
-    if allow_inf_nan {
-        read_name(bytes, at, at, name)
-    } else {
-        Err(fault_at(FaultKind::ExpectedSomeValue, at))
-    }
-}
-
-fn read_negative<'j>(
-    bytes: &'j [u8],
-    from: usize,
-    allow_inf_nan: bool,
-) -> Result<(NumberAny<'j>, usize), Fault>
-    requires { slice_get bytes.now from ≡ Some ascii.minus }
-    ensures value { Scans (with_end number_view) result (with_value bytes.now from
-        (behind_minus allow_inf_nan bytes.now (from + 1) (slice_get bytes.now (from + 1)))) }
-    ensures place { IfOk result (λ x. (from < x.1) × (x.1 ≤ length bytes.now)) }
-{
-    let at = from + 1;
-    match byte_at(bytes, at) {
-        None => Err(fault_at(FaultKind::EofWhileParsingValue, at)),
-        Some(byte) => {
-            if byte != b'I' {
-                read_decimal(bytes, from, at)
-            } else if allow_inf_nan {
-                read_name(bytes, from, at, b"Infinity")
-            } else {
-                Err(fault_at(FaultKind::InvalidNumber, at))
-            }
-        }
+        Err(fault) => Err(fault),
     }
 }
 
@@ -363,7 +276,6 @@ fn read_negative<'j>(
 ///
 /// Fails as [`NumberAny::from_bytes`] does, except that any byte may follow the number. Indices count from the start of
 /// `bytes`.
-#[tactic(auto, unfolding(crate::specs::NumberReading::number_at))]
 pub fn number_at<'j>(
     bytes: &'j [u8],
     at: usize,
@@ -373,19 +285,17 @@ pub fn number_at<'j>(
     ensures value { Scans (with_end number_view) result (number_at allow_inf_nan bytes.now at) }
     ensures advances { IfOk result (λ x. (at < x.1) × (x.1 ≤ length bytes.now)) }
 {
-    match byte_at(bytes, at) {
-        None => Err(fault_at(FaultKind::EofWhileParsingValue, at)),
-        Some(byte) => {
-            if byte == b'-' {
-                read_negative(bytes, at, allow_inf_nan)
-            } else if byte == b'N' {
-                read_allowed_name(bytes, at, b"NaN", allow_inf_nan)
-            } else if byte == b'I' {
-                read_allowed_name(bytes, at, b"Infinity", allow_inf_nan)
-            } else {
-                read_decimal(bytes, at, at)
-            }
+    let digits = minus_end(bytes, at);
+    match plain_number_at(bytes, digits) {
+        PlainNumber::Int(magnitude, end) => {
+            let number = integer_of(bytes, at, digits, end, magnitude);
+            Ok((NumberAny::Int(number), end))
         }
+        PlainNumber::Float(end) => {
+            let text = ascii_text(&bytes[at..end]);
+            Ok((NumberAny::Float(text), end))
+        }
+        PlainNumber::Other => slow_number_at(bytes, at, allow_inf_nan),
     }
 }
 
@@ -395,68 +305,25 @@ pub(crate) fn is_float_sign(byte: u8) -> bool
     matches!(byte, b'.' | b'e' | b'E')
 }
 
-fn read_integer<'j>(bytes: &'j [u8], from: usize, at: usize) -> Result<(Integer<'j>, usize), Fault>
-    requires within { at ≤ length bytes.now }
-    requires minus { IsMinusTo bytes.now from at }
-    ensures value { Scans (with_end integer_view) result
-        (integer_behind bytes.now from (int_part_at bytes.now at)) }
-    ensures place { IfOk result (EndsWithin at (length bytes.now)) }
-{
-    let (magnitude, end) = read_int_part(bytes, at)?;
-    if byte_at(bytes, end).is_some_and(is_float_sign) {
-        return Ok((Integer::FloatSeen, end));
-    }
-    let number = integer_of(bytes, from, at, end, magnitude);
-    Ok((Integer::Whole(number), end))
-}
-
-fn read_negative_int<'j>(bytes: &'j [u8], from: usize) -> Result<(Integer<'j>, usize), Fault>
-    requires { slice_get bytes.now from ≡ Some ascii.minus }
-    ensures value { Scans (with_end integer_view) result
-        (integer_behind_minus bytes.now from (slice_get bytes.now (from + 1))) }
-    ensures place { IfOk result (EndsWithin from (length bytes.now)) }
-{
-    let at = from + 1;
-    match byte_at(bytes, at) {
-        None => Err(fault_at(FaultKind::EofWhileParsingValue, at)),
-        Some(byte) => {
-            if byte == b'I' {
-                Ok((Integer::FloatSeen, at))
-            } else {
-                read_integer(bytes, from, at)
-            }
-        }
-    }
-}
-
 /// Returns the integer at `at` and the index after it (RFC 8259, 6). For a float, returns the index of the first byte
 /// that only a float has. That is the point, the exponent's letter, or the first letter of `NaN` or `Infinity`.
 ///
 /// Fails as [`NumberInt::from_bytes`] does, except that a float is no error and any byte may follow the integer.
-#[tactic(auto, unfolding(crate::specs::NumberReading::int_at))]
 pub fn int_at<'j>(bytes: &'j [u8], at: usize) -> Result<(Integer<'j>, usize), Fault>
     requires { at < length bytes.now }
     ensures value { Scans (with_end integer_view) result (int_at bytes.now at) }
     ensures advances { IfOk result (EndsWithin at (length bytes.now)) }
 {
-    match byte_at(bytes, at) {
-        None => Err(fault_at(FaultKind::EofWhileParsingValue, at)),
-        Some(byte) => {
-            if byte == b'-' {
-                read_negative_int(bytes, at)
-            } else if begins_name(byte) {
-                Ok((Integer::FloatSeen, at))
-            } else {
-                read_integer(bytes, at, at)
-            }
-        }
+    let digits = minus_end(bytes, at);
+    if name_from(bytes, at, digits).is_some() {
+        return Ok((Integer::FloatSeen, digits));
     }
-}
-
-fn begins_name(byte: u8) -> bool
-    ensures { result ≡ ((byte == ascii.capital_n) || (byte == ascii.capital_i)) }
-{
-    matches!(byte, b'N' | b'I')
+    let end = int_part_end(bytes, digits)?;
+    if byte_at(bytes, end).is_some_and(is_float_sign) {
+        return Ok((Integer::FloatSeen, end));
+    }
+    let number = long_integer(bytes, at, digits, end);
+    Ok((Integer::Whole(number), end))
 }
 
 fn begins_number(byte: u8) -> bool

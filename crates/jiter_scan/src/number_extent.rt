@@ -1,15 +1,16 @@
 //! Finds where numbers end, without their values (RFC 8259, 6).
-ghost use Rattle.std.specs.Prelude.{◌≡◌, ◌+◌, ◌<◌, ◌≤◌, Bool, IfOk, IfSome, length, slice_get};
+ghost use Rattle.std.specs.Prelude.{◌≡◌, ◌+◌, ◌<◌, ◌≤◌, Bool, IfOk, IfSome, IfNone, length, slice_get};
 ghost use Rattle.jiter_scan.specs.Digits.{digit_run_end};
 ghost use Rattle.jiter_scan.specs.NumberReading.{extent_then, digits_from, behind_zero, within_limit, int_part_at};
-ghost use Rattle.jiter_scan.specs.NumberReading.{fraction_at, exponent_at, power_from, decimal_at, behind_minus};
-ghost use Rattle.jiter_scan.specs.NumberReading.{name_at, number_extent};
+ghost use Rattle.jiter_scan.specs.NumberReading.{fraction_at, exponent_at, power_from, decimal_at, number_extent};
 ghost use Rattle.jiter_scan.specs.NumberDecoder.{IsMinusTo};
+ghost use Rattle.jiter_scan.specs.NumberExtent.{IsDecimalExtent, IsDecimalFrom, IsExtent, IsNameFrom, extent_end, minus_end};
+ghost use Rattle.jiter_scan.specs.NumberExtent.{name_extent};
 ghost use Rattle.jiter_scan.specs.Scanned.{Scans, taken};
 
+use crate::decimal::{digit_run_end, digits_end, is_digit};
 use crate::errors::{Fault, FaultKind, fault_at};
 use crate::plain_number::{PlainNumber, roomy_number_at};
-use crate::simd::{digit_run_end, digits_end, is_digit};
 use crate::word::{byte_at, word_end};
 
 /// How many bytes the fast path may read for a short number: a minus, and 65 from its first digit on.
@@ -147,71 +148,97 @@ pub(crate) fn tail_end(bytes: &[u8], at: usize) -> Result<usize, Fault>
     exponent_end(bytes, end)
 }
 
-// The minus, if there is one, is before `at`.
-fn decimal_end(bytes: &[u8], at: usize) -> Result<usize, Fault>
-    requires { at ≤ length bytes.now }
-    ensures value { Scans (taken tt) result (decimal_at bytes.now at) }
-    ensures place { IfOk result (λ e. (at < e) × (e ≤ length bytes.now)) }
-{
-    let end = int_part_end(bytes, at)?;
-    tail_end(bytes, end)
+// What a number is, and where it ends.
+#[derive(Clone, Copy)]
+pub(crate) enum Extent {
+    // An integer: the index of its first digit, and the index after it.
+    Int(usize, usize),
+    // A number with a point or an exponent, or a name: the index after it.
+    Float(usize),
 }
 
-// `name` is `NaN` or `Infinity`.
-fn name_end(bytes: &[u8], at: usize, name: &[u8], allow_inf_nan: bool) -> Result<usize, Fault>
-    requires within { at ≤ length bytes.now }
-    requires name { 0 < length name.now }
-    ensures value { Scans (taken tt) result (name_at allow_inf_nan bytes.now name.now at) }
-    ensures place { IfOk result (λ e. (at < e) × (e ≤ length bytes.now)) }
+// The name that the number at `at` begins with, if any. `from` is the index after its minus.
+pub(crate) fn name_from(bytes: &[u8], at: usize, from: usize) -> Option<&'static [u8]>
+    requires within { at < length bytes.now }
+    requires minus { from ≡ minus_end bytes.now at }
+    ensures name { IfSome result (λ name. IsNameFrom bytes.now name.now at from) }
+    ensures decimal { IfNone result (IsDecimalFrom bytes.now at from) }
 {
-    if allow_inf_nan {
-        word_end(bytes, at, name)
-    } else {
-        Err(fault_at(FaultKind::ExpectedSomeValue, at))
+    match byte_at(bytes, from) {
+        None => None,
+        Some(byte) => {
+            if byte == b'I' {
+                Some(b"Infinity")
+            } else if byte == b'N' && from == at {
+                Some(b"NaN")
+            } else {
+                None
+            }
+        }
     }
 }
 
-// The minus is before `at`.
-fn negative_end(bytes: &[u8], at: usize, allow_inf_nan: bool) -> Result<usize, Fault>
-    requires { at ≤ length bytes.now }
-    ensures value { Scans (taken tt) result
-        (behind_minus allow_inf_nan bytes.now at (slice_get bytes.now at)) }
-    ensures place { IfOk result (λ e. (at < e) × (e ≤ length bytes.now)) }
+// If they are not allowed, `NaN` and `Infinity` are `ExpectedSomeValue` here. After a minus it is `InvalidNumber`.
+fn name_end(
+    bytes: &[u8],
+    at: usize,
+    from: usize,
+    name: &[u8],
+    allow_inf_nan: bool,
+) -> Result<usize, Fault>
+    requires within { from ≤ length bytes.now }
+    ensures value { Scans (taken tt) result (name_extent allow_inf_nan bytes.now name.now at from) }
+    ensures end { IfOk result (λ e. (e ≡ from + length name.now) × (e ≤ length bytes.now)) }
 {
-    match byte_at(bytes, at) {
-        None => Err(fault_at(FaultKind::EofWhileParsingValue, at)),
-        Some(byte) => {
-            if byte != b'I' {
-                decimal_end(bytes, at)
-            } else if allow_inf_nan {
-                word_end(bytes, at, b"Infinity")
-            } else {
-                Err(fault_at(FaultKind::InvalidNumber, at))
-            }
-        }
+    if allow_inf_nan {
+        word_end(bytes, from, name)
+    } else if from == at {
+        Err(fault_at(FaultKind::ExpectedSomeValue, from))
+    } else {
+        Err(fault_at(FaultKind::InvalidNumber, from))
+    }
+}
+
+fn decimal_extent(bytes: &[u8], from: usize) -> Result<Extent, Fault>
+    requires { from ≤ length bytes.now }
+    ensures value { Scans extent_end result (decimal_at bytes.now from) }
+    ensures parts { IfOk result (λ extent. IsDecimalExtent bytes.now from extent) }
+{
+    let int_part = int_part_end(bytes, from)?;
+    let end = tail_end(bytes, int_part)?;
+    if end == int_part {
+        Ok(Extent::Int(from, end))
+    } else {
+        Ok(Extent::Float(end))
     }
 }
 
 // The slow path reads part by part.
+pub(crate) fn number_extent(bytes: &[u8], at: usize, allow_inf_nan: bool) -> Result<Extent, Fault>
+    requires { at < length bytes.now }
+    ensures value { Scans extent_end result (number_extent allow_inf_nan bytes.now at) }
+    ensures parts { IfOk result (λ extent. IsExtent bytes.now at extent) }
+{
+    let from = minus_end(bytes, at);
+    match name_from(bytes, at, from) {
+        None => decimal_extent(bytes, from),
+        Some(name) => {
+            let end = name_end(bytes, at, from, name, allow_inf_nan)?;
+            Ok(Extent::Float(end))
+        }
+    }
+}
+
 #[inline(never)]
-fn general_number_end(bytes: &[u8], at: usize, allow_inf_nan: bool) -> Result<usize, Fault>
+fn slow_number_end(bytes: &[u8], at: usize, allow_inf_nan: bool) -> Result<usize, Fault>
     requires { at < length bytes.now }
     ensures value { Scans (taken tt) result (number_extent allow_inf_nan bytes.now at) }
     ensures place { IfOk result (λ e. (at < e) × (e ≤ length bytes.now)) }
 {
-    match byte_at(bytes, at) {
-        None => Err(fault_at(FaultKind::EofWhileParsingValue, at)),
-        Some(byte) => {
-            if byte == b'-' {
-                negative_end(bytes, at + 1, allow_inf_nan)
-            } else if byte == b'N' {
-                name_end(bytes, at, b"NaN", allow_inf_nan)
-            } else if byte == b'I' {
-                name_end(bytes, at, b"Infinity", allow_inf_nan)
-            } else {
-                decimal_end(bytes, at)
-            }
-        }
+    match number_extent(bytes, at, allow_inf_nan) {
+        Ok(Extent::Int(_, end)) => Ok(end),
+        Ok(Extent::Float(end)) => Ok(end),
+        Err(fault) => Err(fault),
     }
 }
 
@@ -220,6 +247,7 @@ fn general_number_end(bytes: &[u8], at: usize, allow_inf_nan: bool) -> Result<us
 pub fn minus_end(bytes: &[u8], at: usize) -> usize
     requires { at < length bytes.now }
     ensures minus { IsMinusTo bytes.now at result }
+    ensures end { result ≡ minus_end bytes.now at }
     ensures place { (at ≤ result) × (result ≤ length bytes.now) }
     ensures near { result ≤ at + 1 }
 {
@@ -265,6 +293,6 @@ pub fn number_end(bytes: &[u8], at: usize, allow_inf_nan: bool) -> Result<usize,
 {
     match plain_number_end(bytes, at) {
         Some(end) => Ok(end),
-        None => general_number_end(bytes, at, allow_inf_nan),
+        None => slow_number_end(bytes, at, allow_inf_nan),
     }
 }

@@ -1,33 +1,27 @@
 //! Numbers that a chunk may truncate (RFC 8259, 6). All bytes of a chunk that continue a number are taken at once, and
 //! a stage says how far it was read.
-ghost use Rattle.std.specs.Prelude.{◌≡◌, ◌≢◌, ◌+◌, ◌-◌, ◌<◌, ◌≤◌, ◌++◌, [], Bool, IfOk, IfSome, List, None, OnErr, OnOk, Some};
+ghost use Rattle.std.specs.Prelude.{◌≡◌, ◌+◌, ◌-◌, ◌<◌, ◌≤◌, ◌++◌, [], Bool, IfOk, IfSome, List, None, OnErr, OnOk, Some};
 ghost use Rattle.std.specs.Prelude.{false, length, slice_get, slice_index, slice_range, string_bytes, string_capacity};
 ghost use Rattle.std.specs.Prelude.{string_len, true, ℕ};
 ghost use Rattle.std.specs.Str.{IsAscii};
-ghost use Rattle.jiter_scan.specs.Ascii.{digit_zero};
-ghost use Rattle.jiter_scan.specs.Digits.{digit_run_end};
-ghost use Rattle.jiter_scan.specs.NumberDecoder.{IsMinusTo};
 ghost use Rattle.jiter_scan.specs.Number.{big, integer, is_float_byte, number_value};
-ghost use Rattle.jiter_scan.specs.NumberReading.{exponent_at, decimal_at, number_extent, number_at};
-ghost use Rattle.jiter_scan.specs.OpenNumber.{BeginsThere, Fits, HoldsNumber, IsBegun, Leads, at_end, begins_decimal};
+ghost use Rattle.jiter_scan.specs.NumberExtent.{minus_end};
+ghost use Rattle.jiter_scan.specs.NumberReading.{exponent_at, decimal_at, int_part_at, number_extent, number_at};
+ghost use Rattle.jiter_scan.specs.Scanned.{taken};
+ghost use Rattle.jiter_scan.specs.OpenNumber.{BeginsThere, Fits, GoesTo, HoldsNumber, IsBegun, Leads, at_end, begins_decimal};
 ghost use Rattle.jiter_scan.specs.OpenNumber.{int_of, is_int_stage, is_whole, kept_bytes, kind_view};
 ghost use Rattle.jiter_scan.specs.OpenNumber.{number_by, number_from, own_view, tail_at};
 
+use crate::decimal::is_digit;
 use crate::memory::{Refused, push_text};
-use crate::number_decoder::{NumberAny, NumberInt, number_at};
+use crate::number_decoder::{NumberInt, long_integer};
 use crate::number_extent::minus_end;
-use crate::number_parts::{int_part_end, parts_end};
-use crate::plain_number::{last_integer_at, signed};
-use crate::simd::is_digit;
 use crate::text::ascii_text;
 use std::alloc::Global;
 use std::mem;
 
 // How many digits an integer part may have after its first one.
 const MORE_DIGITS: usize = 4299;
-
-// The longest `i64` in decimal: a minus and nineteen digits.
-const LONGEST_INT: usize = 20;
 
 /// How far a number was read.
 #[derive(Clone, Copy, Debug, PartialEq, Eq)]
@@ -246,7 +240,7 @@ fn behind_exponent_digit(byte: u8) -> Went
 }
 
 #[inline(always)]
-pub(crate) fn next_of(stage: Stage, byte: u8) -> Went
+fn next_of(stage: Stage, byte: u8) -> Went
     ensures leads { Leads stage byte result }
     ensures fits { Fits stage byte result }
 {
@@ -262,24 +256,22 @@ pub(crate) fn next_of(stage: Stage, byte: u8) -> Went
     }
 }
 
-// The fast path finds an integer of up to eighteen digits.
+// The value of an integer, if an `i64` holds it. At most 20 bytes are read: the minus and nineteen digits.
 fn integer_in(text: &[u8]) -> Option<i64>
-    requires { 0 < length text.now }
+    requires some { 0 < length text.now }
+    requires digits { int_part_at text.now (minus_end text.now 0) ≡ taken tt (length text.now) }
+    requires read { number_at false text.now 0 ≡ taken (number_value text.now) (length text.now) }
     ensures { result ≡ int_of (number_at false text.now 0) }
 {
-    let from = minus_end(text, 0);
-    if let Some(magnitude) = last_integer_at(text, from) {
-        return Some(signed(magnitude, 0 < from));
-    }
-    match number_at(text, 0, false) {
-        Ok((NumberAny::Int(NumberInt::Int(number)), _)) => Some(number),
-        _ => None,
+    match long_integer(text, 0, minus_end(text, 0), text.len()) {
+        NumberInt::Int(number) => Some(number),
+        NumberInt::BigInt(_) => None,
     }
 }
 
 // The number has neither a point nor an exponent so far.
 #[inline(always)]
-pub(crate) fn is_int_stage(stage: Stage) -> bool
+fn is_int_stage(stage: Stage) -> bool
     ensures { result ≡ is_int_stage stage }
 {
     match stage {
@@ -294,6 +286,23 @@ pub(crate) fn is_int_stage(stage: Stage) -> bool
     }
 }
 
+// Returns the stage after all bytes at `at` that continue the number, and the index after them.
+fn bytes_end(stage: Stage, piece: &[u8], at: usize) -> (Stage, usize)
+    requires { at ≤ length piece.now }
+    ensures { GoesTo stage piece.now at result.0 result.1 }
+{
+    let mut reached = stage;
+    let mut end = at;
+    while end < piece.len() {
+        match next_of(reached, piece[end]) {
+            Went::Taken(next) => reached = next,
+            _ => break,
+        }
+        end += 1;
+    }
+    (reached, end)
+}
+
 /// Returns the stage that the bytes of the number at `at` reach, and the index after them. The number begins with a
 /// minus or a digit.
 #[inline(always)]
@@ -302,21 +311,7 @@ pub fn begun_at(piece: &[u8], at: usize) -> (Stage, usize)
     requires begins { begins_decimal (slice_index piece.now at) ≡ true }
     ensures { BeginsThere piece.now at result.0 result.1 }
 {
-    parts_end(first_stage(piece[at]), piece, at + 1)
-}
-
-// The same as `begun_at`, but the digits of the integer part, from `from` to before `end`, are not read again.
-#[inline(always)]
-pub(crate) fn begun_behind(piece: &[u8], at: usize, from: usize, end: usize) -> (Stage, usize)
-    requires minus { IsMinusTo piece.now at from }
-    requires some { from < end }
-    requires few { end ≤ from + 16 }
-    requires digits { digit_run_end piece.now from ≡ end }
-    requires within { end ≤ length piece.now }
-    requires first { slice_index piece.now from ≢ digit_zero }
-    ensures { BeginsThere piece.now at result.0 result.1 }
-{
-    int_part_end(Stage::Digits(MORE_DIGITS - (end - from - 1)), piece, end)
+    bytes_end(first_stage(piece[at]), piece, at + 1)
 }
 
 /// A number that a chunk may truncate: its bytes so far, and the stage that they reach.
@@ -393,7 +388,7 @@ impl OpenNumber {
         ensures full { OnErr result (string_capacity self.old.text
             < string_len self.old.text + (length piece.now - at)) }
     {
-        let (behind, end) = parts_end(stage, piece, at + 1);
+        let (behind, end) = bytes_end(stage, piece, at + 1);
         self.take(behind, piece, at, end)?;
         Ok(end - at)
     }
@@ -416,7 +411,6 @@ impl OpenNumber {
         }
     }
 
-    // A longer number is no `i64`, so at most 20 bytes are read.
     fn small_integer(&self) -> Option<i64>
         requires begun { IsBegun (string_bytes self.now.text) self.now.stage }
         requires whole { is_whole self.now.stage ≡ true }
@@ -424,9 +418,6 @@ impl OpenNumber {
         ensures some { IfSome result (λ n. number_value (string_bytes self.now.text) ≡ integer n) }
         ensures none { result ≡ None → number_value (string_bytes self.now.text) ≡ big (string_bytes self.now.text) }
     {
-        if LONGEST_INT < self.text.len() {
-            return None;
-        }
         integer_in(self.text.as_bytes())
     }
 

@@ -13,7 +13,7 @@ use std::simd::prelude::*;
 #[inline(never)]
 fn enlarge(tape: &mut Vec<u8>, text: &[u8]) -> Result<(), Refused>
     ensures room { OnOk result (vec_len tape.old + length text.now + 32 ≤ vec_len tape.new) }
-    ensures kept { OnOk result (take (vec_len tape.old) tape.new.items ≡ tape.old.items) }
+    ensures kept { take (vec_len tape.old) tape.new.items ≡ tape.old.items }
 {
     lengthen(tape, 1024)?;
     lengthen(tape, text.len())
@@ -24,7 +24,7 @@ fn enlarge(tape: &mut Vec<u8>, text: &[u8]) -> Result<(), Refused>
 pub fn make_room_for(tape: &mut Vec<u8>, count: usize, text: &[u8]) -> Result<(), Refused>
     requires { count ≤ vec_len tape.old }
     ensures room { OnOk result (count + length text.now + 32 ≤ vec_len tape.new) }
-    ensures kept { OnOk result (take count tape.new.items ≡ take count tape.old.items) }
+    ensures kept { take count tape.new.items ≡ take count tape.old.items }
 {
     if tape.len() - count < text.len() + 32 {
         return enlarge(tape, text);

@@ -11,8 +11,8 @@ ghost use Rattle.jiter_scan.specs.NumberReading.{is_float_sign};
 ghost use Rattle.jiter_scan.specs.Scanned.{taken};
 ghost use Rattle.jiter_scan.specs.PlainNumber.{IsPlainInteger, IsPlainNumber};
 
+use crate::decimal::{digit_count, digit_word, full_chunk_at, is_digit};
 use crate::number_decoder::{digits_magnitude, is_float_sign};
-use crate::simd::{chunk_at, digit_count, digit_run_end, digit_word, full_chunk_at, is_digit};
 
 // How many bytes, from a number's first digit on, the fast path reads first.
 const REACH: usize = 16;
@@ -198,88 +198,6 @@ pub fn plain_number_at(bytes: &[u8], at: usize) -> PlainNumber
     roomy_number_at(bytes, at)
 }
 
-// At most sixteen bytes are left, so the value fits in 64 bits.
-#[inline(always)]
-fn near_digits(bytes: &[u8], at: usize) -> (u64, usize)
-    requires within { at ≤ length bytes.now }
-    requires near { length bytes.now ≤ at + 16 }
-    ensures end { digit_run_end bytes.now at ≡ result.1 }
-    ensures place { (at ≤ result.1) × (result.1 ≤ length bytes.now) }
-    ensures value { result.0 ≡ decimal_of (slice_range bytes.now at result.1) }
-{
-    let mut number = 0;
-    let mut end = at;
-    while end < bytes.len() && is_digit(bytes[end]) {
-        number = number * 10 + u64::from(bytes[end] - b'0');
-        end += 1;
-    }
-    (number, end)
-}
-
-#[inline(always)]
-pub(crate) fn near_number_at(bytes: &[u8], at: usize) -> (u64, usize, bool)
-    requires within { at ≤ length bytes.now }
-    requires near { length bytes.now ≤ at + 16 }
-    ensures end { digit_run_end bytes.now at ≡ result.1 }
-    ensures place { (at ≤ result.1) × (result.1 ≤ length bytes.now) }
-    ensures integer { result.2 ≡ true → IsPlainInteger bytes.now at result.0 result.1 }
-{
-    let (number, end) = near_digits(bytes, at);
-    let count = end - at;
-    if end == at || bytes[at] == b'0' && count != 1 {
-        return (number, end, false);
-    }
-    if end < bytes.len() && goes_on(bytes[end]) {
-        return (number, end, false);
-    }
-    (number, end, true)
-}
-
-#[inline(always)]
-fn last_digits(bytes: &[u8], at: usize) -> Option<u64>
-    requires some { at < length bytes.now }
-    requires few { length bytes.now ≤ at + 16 }
-    ensures { IfSome result (λ n. (digit_run_end bytes.now at ≡ length bytes.now)
-        × (n ≡ decimal_of (slice_range bytes.now at (length bytes.now)))) }
-{
-    let count = bytes.len() - at;
-    let chunk = chunk_at(bytes, at);
-    if digit_count(chunk) < count {
-        return None;
-    }
-    Some(digit_word(chunk, count))
-}
-
-// Seventeen or eighteen digits are in two chunks of sixteen bytes.
-fn last_digits_of_two(bytes: &[u8], at: usize) -> Option<u64>
-    requires some { at < length bytes.now }
-    requires few { length bytes.now ≤ at + 18 }
-    requires first { ascii.digit_zero < slice_index bytes.now at }
-    ensures { IfSome result (λ n. (digit_run_end bytes.now at ≡ length bytes.now)
-        × (n ≡ magnitude_of (slice_range bytes.now at (length bytes.now)))) }
-{
-    if digit_run_end(bytes, at) < bytes.len() {
-        return None;
-    }
-    Some(digits_magnitude(bytes, at, bytes.len()))
-}
-
-/// Returns the magnitude of the integer at `at`, if it has at most eighteen digits and they are the last bytes.
-pub fn last_integer_at(bytes: &[u8], at: usize) -> Option<u64>
-    requires { at ≤ length bytes.now }
-    ensures { IfSome result (λ n. IsPlainInteger bytes.now at n (length bytes.now)) }
-{
-    let count = bytes.len() - at;
-    if count == 0 || bytes[at] <= b'0' && count != 1 {
-        return None;
-    }
-    if count <= 16 {
-        return last_digits(bytes, at);
-    }
-    if count <= 18 {
-        return last_digits_of_two(bytes, at);
-    }
-    None
 }
 
 /// Returns the integer with this magnitude and this sign.

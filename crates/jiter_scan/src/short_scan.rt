@@ -1,75 +1,10 @@
-//! Scans strings that most likely end within sixteen bytes, also near the end of the input.
-ghost use Rattle.std.specs.Prelude.{◌≡◌, ◌↔◌, ◌+◌, ◌<◌, ◌≤◌, IfSome, IsTrue, Some, length, slice_get, take, true};
+//! Scans strings of plain ASCII that most likely end within sixteen bytes.
+ghost use Rattle.std.specs.Prelude.{◌≡◌, ◌+◌, ◌<◌, ◌≤◌, IfSome, Some, length, slice_get};
 ghost use Rattle.jiter_scan.specs.Ascii as ascii;
-ghost use Rattle.jiter_scan.specs.Scan.{IsAsciiTo, Pass, is_plain_ascii, scan_stop};
+ghost use Rattle.jiter_scan.specs.Scan.{IsAsciiTo, scan_stop};
 
-use crate::simd::{ascii_stops, both, first_stop, highs, scan_bytes, scan_string, stops};
+use crate::simd::{ascii_stops, scan_string};
 use std::simd::prelude::*;
-
-// Reads the last sixteen bytes of the input, and shifts out those before `from`.
-#[inline(always)]
-fn scan_last(bytes: &[u8], from: usize) -> (usize, bool)
-    requires within { from ≤ length bytes.now }
-    requires enough { 16 ≤ length bytes.now }
-    requires few { length bytes.now < from + 16 }
-    ensures stop { result.0 ≡ scan_stop bytes.now from }
-    ensures within { (from ≤ result.0) × (result.0 ≤ length bytes.now) }
-    ensures ascii { IsTrue result.1 ↔ IsAsciiTo bytes.now from result.0 }
-{
-    let start = bytes.len() - 16;
-    let before = (from - start) as u32;
-    let v = u8x16::from_slice(&bytes[start..]);
-    let found = stops(v) >> before;
-    let high = highs(v) >> before;
-    if found == 0 {
-        return (bytes.len(), high == 0);
-    }
-    first_stop(from, found, high, true)
-}
-
-#[inline(never)]
-fn scan_near(bytes: &[u8], from: usize) -> (usize, bool)
-    requires within { from ≤ length bytes.now }
-    requires few { length bytes.now < from + 16 }
-    ensures stop { result.0 ≡ scan_stop bytes.now from }
-    ensures within { (from ≤ result.0) × (result.0 ≤ length bytes.now) }
-    ensures ascii { IsTrue result.1 ↔ IsAsciiTo bytes.now from result.0 }
-{
-    if bytes.len() >= 16 {
-        return scan_last(bytes, from);
-    }
-    scan_bytes(bytes, from, true)
-}
-
-/// Returns what [`scan_string`] returns. It is faster if the string ends within sixteen bytes.
-#[inline(always)]
-pub fn scan_short(bytes: &[u8], from: usize) -> (usize, bool)
-    requires { from ≤ length bytes.now }
-    ensures stop { result.0 ≡ scan_stop bytes.now from }
-    ensures within { (from ≤ result.0) × (result.0 ≤ length bytes.now) }
-    ensures ascii { IsTrue result.1 ↔ IsAsciiTo bytes.now from result.0 }
-{
-    if bytes.len() - from < 16 {
-        return scan_near(bytes, from);
-    }
-    let v = u8x16::from_slice(&bytes[from..]);
-    let found = stops(v);
-    let high = highs(v);
-    if found != 0 {
-        return first_stop(from, found, high, true);
-    }
-    let (to, low) = scan_string(bytes, from + 16);
-    (to, both(high == 0, low))
-}
-
-/// Returns whether the first sixteen bytes are plain and below 80 hex.
-#[inline(always)]
-pub fn is_plain_sixteen(bytes: &[u8]) -> bool
-    requires { 16 ≤ length bytes.now }
-    ensures { IsTrue result ↔ Pass is_plain_ascii (take 16 bytes.now) }
-{
-    ascii_stops(u8x16::from_slice(bytes)) == 0
-}
 
 // If a byte isn't ASCII, the result is the length, where the caller finds no quote.
 #[inline(always)]

@@ -1,4 +1,4 @@
-//! Strings and digits, sixteen bytes at a time. A byte is plain if a string may hold it as it is: it is not a quote, a
+//! Strings, sixteen bytes at a time. A byte is plain if a string may hold it as it is: it is not a quote, a
 //! backslash or a control byte.
 ghost use Rattle.std.specs.Prelude.{◌≡◌, ◌↔◌, ℕ, List, ◌+◌, ◌-◌, ◌*◌, ◌^◌, ◌<◌, ◌≤◌, ◌++◌, ◌&&◌, IsTrue, length, take, drop, map};
 ghost use Rattle.std.specs.Prelude.{IfOk, nat_le, slice_range, true, vec_len};
@@ -11,13 +11,14 @@ ghost use Rattle.jiter_scan.specs.Scan.{is_stop, is_plain, is_ascii, is_plain_as
 ghost use Rattle.jiter_scan.specs.Simd.{digits_end, ascii_from, failing, is_no_mark, is_no_control, less_zero};
 ghost use Rattle.jiter_scan.specs.Simd.{IsEightBytes};
 
+pub use crate::decimal::{digit_count, digit_word, digits_end};
 use crate::memory::Refused;
 use crate::tape::{put_chunk, put_slice};
 use std::simd::prelude::*;
 
-// In each mask the lowest bit is for the first byte.
+/// Returns a mask with a bit for each byte that is not plain. In each mask the lowest bit is for the first byte.
 #[inline(always)]
-pub(crate) fn stops(v: u8x16) -> u64
+pub fn stops(v: u8x16) -> u64
     ensures { result ≡ failing is_plain v }
 {
     (v.simd_eq(u8x16::splat(b'"'))
@@ -42,15 +43,6 @@ pub(crate) fn highs(v: u8x16) -> u64
 }
 
 #[inline(always)]
-fn no_digits(v: u8x16) -> u64
-    ensures { result ≡ failing is_digit v }
-{
-    (v - u8x16::splat(b'0'))
-        .simd_ge(u8x16::splat(10))
-        .to_bitmask()
-}
-
-#[inline(always)]
 fn is_stop(byte: u8) -> bool
     ensures { result ≡ is_stop byte }
 {
@@ -58,7 +50,7 @@ fn is_stop(byte: u8) -> bool
 }
 
 #[inline(always)]
-pub(crate) fn is_clear_below(mask: u64, count: u32) -> bool
+fn is_clear_below(mask: u64, count: u32) -> bool
     ensures { result ≡ nat_le count (trailing_zeros w64 mask) }
 {
     mask.trailing_zeros() >= count
@@ -74,7 +66,7 @@ pub fn both(a: bool, b: bool) -> bool
 
 // The scan ends at the first bit of `found`. `clean` says whether the bytes before `i` are ASCII.
 #[inline(always)]
-pub(crate) fn first_stop(i: usize, found: u64, high: u64, clean: bool) -> (usize, bool)
+fn first_stop(i: usize, found: u64, high: u64, clean: bool) -> (usize, bool)
     requires { i + trailing_zeros w64 found < 2 ^ 64 }
     ensures stop { result.0 ≡ i + trailing_zeros w64 found }
     ensures ascii { result.1
@@ -84,9 +76,9 @@ pub(crate) fn first_stop(i: usize, found: u64, high: u64, clean: bool) -> (usize
     (i + count as usize, both(clean, is_clear_below(high, count)))
 }
 
-// One byte at a time. `ascii` says whether the bytes before `from` are ASCII.
+// One byte at a time, if the input has fewer than sixteen. `ascii` says whether the bytes before `from` are ASCII.
 #[inline(always)]
-pub(crate) fn scan_bytes(bytes: &[u8], from: usize, ascii: bool) -> (usize, bool)
+fn scan_bytes(bytes: &[u8], from: usize, ascii: bool) -> (usize, bool)
     requires { from ≤ length bytes.now }
     ensures stop { result.0 ≡ scan_stop bytes.now from }
     ensures ascii { result.1 ≡ (ascii && ascii_from bytes.now from) }
@@ -104,26 +96,24 @@ pub(crate) fn scan_bytes(bytes: &[u8], from: usize, ascii: bool) -> (usize, bool
     (i, clean)
 }
 
-// Sixteen bytes at a time.
+// Reads the last sixteen bytes of the input, and shifts out those before `from`.
 #[inline(always)]
-fn scan_chunks(bytes: &[u8], from: usize, ascii: bool) -> (usize, bool)
-    requires { from ≤ length bytes.now }
+fn scan_last(bytes: &[u8], from: usize, ascii: bool) -> (usize, bool)
+    requires within { from ≤ length bytes.now }
+    requires enough { 16 ≤ length bytes.now }
+    requires few { length bytes.now < from + 16 }
     ensures stop { result.0 ≡ scan_stop bytes.now from }
     ensures ascii { result.1 ≡ (ascii && ascii_from bytes.now from) }
 {
-    let mut i = from;
-    let mut clean = ascii;
-    while bytes.len() - i >= 16 {
-        let v = u8x16::from_slice(&bytes[i..]);
-        let found = stops(v);
-        let high = highs(v);
-        if found != 0 {
-            return first_stop(i, found, high, clean);
-        }
-        clean = both(clean, high == 0);
-        i += 16;
+    let start = bytes.len() - 16;
+    let before = (from - start) as u32;
+    let v = u8x16::from_slice(&bytes[start..]);
+    let found = stops(v) >> before;
+    let high = highs(v) >> before;
+    if found == 0 {
+        return (bytes.len(), both(ascii, high == 0));
     }
-    scan_bytes(bytes, i, clean)
+    first_stop(from, found, high, ascii)
 }
 
 // Each lane is FF hex for a quote or a backslash, otherwise 0.
@@ -186,12 +176,14 @@ fn is_plain_chunk(bytes: &[u8], i: usize) -> (bool, bool)
     )
 }
 
-// 64 bytes at a time, as long as all of them are plain.
+// 64 bytes at a time, as long as all of them are plain. Returns where they end.
 #[inline(always)]
 fn scan_wide(bytes: &[u8], from: usize, ascii: bool) -> (usize, bool)
     requires { from ≤ length bytes.now }
-    ensures stop { result.0 ≡ scan_stop bytes.now from }
-    ensures ascii { result.1 ≡ (ascii && ascii_from bytes.now from) }
+    ensures stop { scan_stop bytes.now from ≡ scan_stop bytes.now result.0 }
+    ensures within { (from ≤ result.0) × (result.0 ≤ length bytes.now) }
+    ensures ascii { (ascii && ascii_from bytes.now from)
+        ≡ (result.1 && ascii_from bytes.now result.0) }
 {
     let mut i = from;
     let mut clean = ascii;
@@ -203,7 +195,39 @@ fn scan_wide(bytes: &[u8], from: usize, ascii: bool) -> (usize, bool)
         clean = both(clean, low);
         i += 64;
     }
-    scan_chunks(bytes, i, clean)
+    (i, clean)
+}
+
+// Sixteen bytes at a time. Most strings are short. So 64 bytes at a time only after the first 48.
+#[inline(always)]
+fn scan_chunks(bytes: &[u8], from: usize, ascii: bool) -> (usize, bool)
+    requires { from ≤ length bytes.now }
+    ensures stop { result.0 ≡ scan_stop bytes.now from }
+    ensures ascii { result.1 ≡ (ascii && ascii_from bytes.now from) }
+{
+    if bytes.len() < 16 {
+        return scan_bytes(bytes, from, ascii);
+    }
+    let last = bytes.len() - 16;
+    let far = from + 48;
+    let mut i = from;
+    let mut clean = ascii;
+    while i <= last {
+        let v = u8x16::from_slice(&bytes[i..]);
+        let found = stops(v);
+        let high = highs(v);
+        if found != 0 {
+            return first_stop(i, found, high, clean);
+        }
+        clean = both(clean, high == 0);
+        i += 16;
+        if i == far {
+            let (end, low) = scan_wide(bytes, i, clean);
+            i = end;
+            clean = low;
+        }
+    }
+    scan_last(bytes, i, clean)
 }
 
 // Not inlined: all callers share this copy.
@@ -213,7 +237,7 @@ fn scan_far(bytes: &[u8], from: usize, ascii: bool) -> (usize, bool)
     ensures stop { result.0 ≡ scan_stop bytes.now from }
     ensures ascii { result.1 ≡ (ascii && ascii_from bytes.now from) }
 {
-    scan_wide(bytes, from, ascii)
+    scan_chunks(bytes, from, ascii)
 }
 
 // The caller doesn't ask whether the bytes are ASCII, so the compiler can drop that test.
@@ -222,47 +246,8 @@ fn stop_far(bytes: &[u8], from: usize) -> usize
     requires { from ≤ length bytes.now }
     ensures { result ≡ scan_stop bytes.now from }
 {
-    let (stop, _) = scan_wide(bytes, from, true);
+    let (stop, _) = scan_chunks(bytes, from, true);
     stop
-}
-
-#[inline(always)]
-fn scan_rest(bytes: &[u8], from: usize, ascii: bool, wants_ascii: bool) -> (usize, bool)
-    requires { from ≤ length bytes.now }
-    ensures stop { result.0 ≡ scan_stop bytes.now from }
-    ensures ascii { wants_ascii ≡ true → result.1 ≡ (ascii && ascii_from bytes.now from) }
-{
-    if wants_ascii {
-        scan_far(bytes, from, ascii)
-    } else {
-        (stop_far(bytes, from), false)
-    }
-}
-
-// Most strings are short. So up to 48 bytes are read here, before the calls that are not inlined.
-#[inline(always)]
-fn scan_first(bytes: &[u8], from: usize, wants_ascii: bool) -> (usize, bool)
-    requires { from ≤ length bytes.now }
-    ensures stop { result.0 ≡ scan_stop bytes.now from }
-    ensures within { (from ≤ result.0) × (result.0 ≤ length bytes.now) }
-    ensures ascii { wants_ascii ≡ true → IsTrue result.1 ↔ IsAsciiTo bytes.now from result.0 }
-{
-    if bytes.len() - from < 64 {
-        return scan_rest(bytes, from, true, wants_ascii);
-    }
-    let mut i = from;
-    let mut clean = true;
-    while i < from + 48 {
-        let v = u8x16::from_slice(&bytes[i..]);
-        let found = stops(v);
-        let high = highs(v);
-        if found != 0 {
-            return first_stop(i, found, high, clean);
-        }
-        clean = both(clean, high == 0);
-        i += 16;
-    }
-    scan_rest(bytes, i, clean, wants_ascii)
 }
 
 /// Finds the first byte from `from` on that is not plain: a quote, a backslash or a control byte (RFC 8259, 7).
@@ -285,7 +270,16 @@ pub fn scan_string(bytes: &[u8], from: usize) -> (usize, bool)
     ensures within { (from ≤ result.0) × (result.0 ≤ length bytes.now) }
     ensures ascii { IsTrue result.1 ↔ IsAsciiTo bytes.now from result.0 }
 {
-    scan_first(bytes, from, true)
+    if bytes.len() - from < 16 {
+        return scan_far(bytes, from, true);
+    }
+    let v = u8x16::from_slice(&bytes[from..]);
+    let found = stops(v);
+    let high = highs(v);
+    if found != 0 {
+        return first_stop(from, found, high, true);
+    }
+    scan_far(bytes, from + 16, high == 0)
 }
 
 /// Returns the index of the first byte from `from` on that is not plain, or the length (RFC 8259, 7).
@@ -299,8 +293,14 @@ pub fn string_stop(bytes: &[u8], from: usize) -> usize
     ensures stop { result ≡ scan_stop bytes.now from }
     ensures within { (from ≤ result) × (result ≤ length bytes.now) }
 {
-    let (stop, _) = scan_first(bytes, from, false);
-    stop
+    if bytes.len() - from < 16 {
+        return stop_far(bytes, from);
+    }
+    let found = stops(u8x16::from_slice(&bytes[from..]));
+    if found != 0 {
+        return from + found.trailing_zeros() as usize;
+    }
+    stop_far(bytes, from + 16)
 }
 
 /// Copies the plain bytes from `from` on to the buffer, after its first `count` bytes (RFC 8259, 7). The bytes are
@@ -350,166 +350,4 @@ pub fn copy_plain(
     let (stop, low) = scan_far(bytes, i, clean);
     let after = put_slice(buffer, end, &bytes[i..stop])?;
     Ok((stop, after, low))
-}
-
-#[inline(always)]
-pub(crate) fn is_digit(byte: u8) -> bool
-    ensures { result ≡ is_digit byte }
-{
-    byte.is_ascii_digit()
-}
-
-#[inline(always)]
-pub(crate) fn full_chunk_at(bytes: &[u8], at: usize) -> [u8; 16]
-    requires { at + 16 ≤ length bytes.now }
-    ensures { (n : ℕ) → n ≤ 16 → at + n ≤ length bytes.now
-        → take n result ≡ slice_range bytes.now at (at + n) }
-{
-    u8x16::from_slice(&bytes[at..]).to_array()
-}
-
-// Bytes past the end of the input are 0.
-#[inline(always)]
-pub(crate) fn chunk_at(bytes: &[u8], at: usize) -> [u8; 16]
-    requires { at ≤ length bytes.now }
-    ensures { (n : ℕ) → n ≤ 16 → at + n ≤ length bytes.now
-        → take n result ≡ slice_range bytes.now at (at + n) }
-{
-    if bytes.len() - at >= 16 {
-        full_chunk_at(bytes, at)
-    } else {
-        let rest = &bytes[at..];
-        let mut chunk = [0; 16];
-        chunk[..rest.len()].copy_from_slice(rest);
-        chunk
-    }
-}
-
-/// Returns how many digits the sixteen bytes begin with.
-#[inline(always)]
-pub fn digit_count(chunk: [u8; 16]) -> usize
-    ensures { result ≡ digit_run_end chunk 0 }
-{
-    let others = no_digits(u8x16::from_array(chunk));
-    if others == 0 {
-        16
-    } else {
-        others.trailing_zeros() as usize
-    }
-}
-
-#[inline(always)]
-pub(crate) fn digit_run_end(bytes: &[u8], from: usize) -> usize
-    requires { from ≤ length bytes.now }
-    ensures value { result ≡ digit_run_end bytes.now from }
-    ensures place { (from ≤ result) × (result ≤ length bytes.now) }
-{
-    let mut i = from;
-    'chunks: while bytes.len() - i >= 16 {
-        let others = no_digits(u8x16::from_slice(&bytes[i..]));
-        if others != 0 {
-            return i + others.trailing_zeros() as usize;
-        }
-        i += 16;
-    }
-    'bytes: while i < bytes.len() && is_digit(bytes[i]) {
-        i += 1;
-    }
-    i
-}
-
-/// Returns the index after the digits at `from`, or `None` if there are more than `limit`.
-///
-/// # Requires
-///
-/// - `from` is at most the length.
-#[inline(always)]
-pub fn digits_end(bytes: &[u8], from: usize, limit: usize) -> Option<usize>
-    requires { from ≤ length bytes.now }
-    ensures { result ≡ digits_end bytes.now from limit }
-{
-    let end = digit_run_end(bytes, from);
-    if end - from <= limit { Some(end) } else { None }
-}
-
-// The bytes 0 and 4 of a word.
-const PAIRS: u64 = 0x0000_00ff_0000_00ff;
-
-// The first digit is in the lowest byte. One multiplication joins digits to pairs; two more join the four pairs.
-#[inline(always)]
-fn eight_digits(word: u64) -> u64
-    ensures { (ds : List ℕ) → length ds ≡ 8 → AllBelowBase 10 ds → word ≡ number_l 256 ds
-        → result ≡ number_from_digits 10 ds }
-{
-    let pairs = word.wrapping_mul(2561) >> 8;
-    let first = (pairs & PAIRS).wrapping_mul(0x000F_4240_0000_0064);
-    let second = ((pairs >> 16) & PAIRS).wrapping_mul(0x0000_2710_0000_0001);
-    first.wrapping_add(second) >> 32
-}
-
-// A digit less 30 hex is its value.
-#[inline(always)]
-fn halves(bytes: [u8; 16]) -> (u64, u64)
-    ensures low { result.0 ≡ number_l 256 (take 8 (map less_zero bytes)) }
-    ensures high { result.1 ≡ number_l 256 (drop 8 (map less_zero bytes)) }
-{
-    let digits = u8x16::from_array(bytes) - u8x16::splat(b'0');
-    let lanes = u64x2::from_le_bytes(digits).to_array();
-    (lanes[0], lanes[1])
-}
-
-// The shift puts zeros before the digits, so that there are eight.
-#[inline(always)]
-fn first_digits(word: u64, count: usize) -> u64
-    requires some { 1 ≤ count }
-    requires most { count ≤ 8 }
-    ensures value { (w : List ℕ) → IsEightBytes w → AllBelowBase 10 (take count w) → word ≡ number_l 256 w
-        → result ≡ number_from_digits 10 (take count w) }
-    ensures bound { (w : List ℕ) → IsEightBytes w → AllBelowBase 10 (take count w) → word ≡ number_l 256 w
-        → result < 100000000 }
-{
-    eight_digits(word << (64 - 8 * count))
-}
-
-// The powers of ten up to the eighth.
-static TENS: [u64; 9] = [
-    1,
-    10,
-    100,
-    1_000,
-    10_000,
-    100_000,
-    1_000_000,
-    10_000_000,
-    100_000_000,
-];
-
-#[inline(always)]
-pub(crate) fn joined(front: u64, back: u64, count: usize) -> u64
-    requires most { count ≤ 8 }
-    requires fits { front * 10 ^ count + back < 2 ^ 64 }
-    ensures { result ≡ front * 10 ^ count + back }
-{
-    front * TENS[count] + back
-}
-
-/// Returns the number that the first `count` bytes are in decimal.
-///
-/// # Requires
-///
-/// - `count` is from 1 to 16.
-/// - The first `count` bytes are digits. `rt try` does not test that, and for other bytes the result is a wrong number.
-#[inline(always)]
-pub fn digit_word(chunk: [u8; 16], count: usize) -> u64
-    requires some { 1 ≤ count }
-    requires most { count ≤ 16 }
-    requires digits { count ≤ digit_run_end chunk 0 }
-    ensures { result ≡ decimal_of (take count chunk) }
-{
-    let (low, high) = halves(chunk);
-    if count <= 8 {
-        first_digits(low, count)
-    } else {
-        joined(eight_digits(low), first_digits(high, count - 8), count - 8)
-    }
 }

@@ -1,17 +1,18 @@
 -- An escape that arrives in pieces: while it is cut it is short, and what ends it is found wherever it stands.
 use Rattle.std.proofs.Common.{◌≡◌, inl, inr, ℕ, zero, suc, ◌+◌, ◌-◌, ◌<◌, ◌≤◌, ◌==◌, Bool, true, false, List}
 use Rattle.std.proofs.Common.{[], ◌∷◌, ◌++◌}
-use Rattle.std.proofs.Common.{length, refl, sym, ap, ap₂, ◌∙◌, subst, arith, length-append, take}
+use Rattle.std.proofs.Common.{length, refl, sym, ap, ap₂, ◌∙◌, subst, arith, length-append}
 use Rattle.std.specs.Char.{encode_utf8}
 use Rattle.std.specs.Prelude.{slice_get, slice_index, Option, Some, None, if◌then◌else◌, nat_lt}
-use Rattle.std.proofs.Math.Seq.{take-append-add, take-append_seam}
+use Rattle.std.proofs.Math.Seq.{take-append_seam}
 use Rattle.std.proofs.lemmas.Bool.{cases_lt, ltb-true, ltb-false, le-ltb, lt-ltb}
 use Rattle.std.proofs.lemmas.Option.{slice_get_past, slice_get_within, slice_get-get_or, get_or_from_slice_get}
+use Rattle.std.proofs.lemmas.List.{take_all}
 use Rattle.std.proofs.lemmas.Option.{none-some, same_Some}
 use Rattle.jiter_scan.specs.Kind.{Kind, invalid_escape, lone_surrogate, end_of_hex_escape, control_character}
 use Rattle.jiter_scan.specs.Stands.{Stands}
 use Rattle.jiter_scan.proofs.Choices.{if_case, if_both, if-true, if-false}
-use Rattle.jiter_scan.proofs.Standing.{get-none, slice-stands, stands-length}
+use Rattle.jiter_scan.proofs.Standing.{get-none, slice-stands}
 use Rattle.jiter_steps.specs.Escape.{short_escape, is_hex, unit_of, is_high, is_low}
 use Rattle.jiter_steps.specs.OpenEscape.{IsSpelled}
 use Rattle.jiter_steps.specs.StringReading.{closed, unclosed, cut, wrong, Portion, part, over, bad_digit, unit_at}
@@ -374,7 +375,7 @@ module _ (w t : List ℕ) (p : ℕ) (same : At w t p) (long : length t ≡ p + l
       (λ e. if_both StaysCut (nat_lt c 32) _ _ _ _ (λ e. wrong-no_cut control_character i _)
       (λ e. part-no_cut _ false (i + 1) _))))
 
--- An escape that was cut ends within the bytes that follow,
+-- An escape that was cut ends within the bytes that follow.
 pub whole-behind : (w v : List ℕ) (bs : List ℕ) (j : ℕ) → portion_at w 0 ≡ over cut
     → portion_at (w ++ v) 0 ≡ part bs true j → (length w < j) × (j ≤ length (w ++ v))
 whole-behind w v bs j open_before h =
@@ -391,23 +392,18 @@ whole-behind w v bs j open_before h =
           absurd (cc)
     ]
 
--- Wherever its bytes stand then, it is found.
-pub spelled-through : (w v : List ℕ) (c j : ℕ) → portion_at w 0 ≡ over cut
-    → portion_at (w ++ v) 0 ≡ part (encode_utf8 c) true j
-    → IsSpelled (w ++ take (j - length w) v) (spelled.Whole c)
-spelled-through w v c j open_before h = λ t i stands.
-    let u = w ++ v in
-    let r = whole-behind w v (encode_utf8 c) j open_before h in
-    let n = j - length w in
+-- With one byte it ends behind that, wherever its bytes stand.
+pub spelled-next : (w : List ℕ) (b c j : ℕ) → portion_at w 0 ≡ over cut
+    → portion_at (w ++ b ∷ []) 0 ≡ part (encode_utf8 c) true j → IsSpelled (w ++ b ∷ []) (spelled.Whole c)
+spelled-next w b c j open_before h = λ t i stands.
+    let u = w ++ b ∷ [] in
+    let r = whole-behind w (b ∷ []) (encode_utf8 c) j open_before h in
     let e = subst (Explains u 0) h (portion_at-explains u 0) in
-    let count : j - 0 ≡ length w + n = omega (arith, r.0) in
-    let bytes : e.bytes ≡ w ++ take n v =
-    slice-stands u 0 j e.bytes e.stands ∙ ap (λ k. take k u) count ∙ take-append-add w v n in
-    let long = stands-length u 0 j e.bytes e.stands in
-    let end : i + length (w ++ take n v) ≡ i + j = omega (arith, ap length bytes, long) in
-    portion_by-escape t i (i + length (w ++ take n v)) e.character e.bytes e.escape
-    (subst (λ x. Stands t i (i + length (w ++ take n v)) x) (sym bytes) stands)
-    ∙ ap (λ x. part x true (i + length (w ++ take n v))) (sym e.is)
+    let bytes : e.bytes ≡ u =
+    slice-stands u 0 j e.bytes e.stands ∙ take_all (j - 0) u (omega (arith, r.0, length-append w (b ∷ []))) in
+    portion_by-escape t i (i + length u) e.character e.bytes e.escape
+    (subst (λ x. Stands t i (i + length u) x) (sym bytes) stands)
+    ∙ ap (λ x. part x true (i + length u)) (sym e.is)
 
 -- the first byte of an escape that is cut
 pub cut_begins : (w : List ℕ) → portion_at w 0 ≡ over cut → slice_get w 0 ≡ Some 92

@@ -5,7 +5,6 @@ use Rattle.std.proofs.Common.{length-append, take-take}
 use Rattle.std.specs.Prelude.{slice_get, slice_range, Option, Some, None, IfOk, IfSome, Result, Ok, Err, is_some}
 use Rattle.std.specs.Char.{encode_utf8}
 use Rattle.std.specs.Str.{IsAscii, IsUtf8}
-use Rattle.std.proofs.Math.Seq.{take-add}
 use Rattle.std.proofs.lemmas.Bool.{and_parts, false≢true, lt-ltb, ltb-true, ne_eqb}
 use Rattle.std.proofs.lemmas.Bool.Decides.{nat_tests}
 use Rattle.std.proofs.lemmas.Option.{slice_get_within}
@@ -18,14 +17,13 @@ use Rattle.jiter_scan.proofs.Chunks.{prefix_len-pass}
 use Rattle.jiter_scan.proofs.Standing.{stands-length, stands-append, stands-slice, stands-split, slice-one}
 use Rattle.jiter_scan.proofs.Standing.{slice-stands}
 use Rattle.jiter_steps.specs.OpenEscape.{IsSpelled}
-use Rattle.jiter_steps.specs.OpenString.{Goes, HasTaken, HasTakenFrom, IsEven, IsLeft, IsTextWithin, grown, held_bytes}
+use Rattle.jiter_steps.specs.OpenString.{Goes, HasTaken, HasTakenFrom, IsEven, IsTextWithin, grown, held_bytes}
 use Rattle.jiter_steps.specs.OpenText.{HoldsBytes, HoldsText, SoFar, with_text}
 use Rattle.jiter_steps.specs.StringReading.{Body, Form, Stop, before, body_at, checked, closed, content_at}
 use Rattle.jiter_steps.specs.StringReading.{cut, is_cut, kept, over, part, portion_at, text_form}
 use Rattle.jiter_steps.specs.StringReading.{text_in_form, unclosed, whole, wrong}
 use Rattle.jiter_steps.specs.declared.open_escape.Spelled.TheVariants as spelled
 use Rattle.jiter_steps.specs.declared.open_string.OpenString.{OpenString}
-use Rattle.jiter_steps.specs.declared.open_string.Went.{Went}
 use Rattle.jiter_steps.specs.declared.open_string.Went.TheVariants as went
 use Rattle.jiter_scan.specs.declared.errors.FaultKind.{FaultKind}
 use Rattle.std.proofs.lemmas.List.{length-take, length-drop}
@@ -383,17 +381,6 @@ grown-taken s w v even pass h =
     plain-goes s w h v new.text s.escape even.0 even.0 pass
     (subst (λ b. HoldsBytes b new.text.text s.text.rest (h.decoded ++ v)) (sym even.1.0)
     (absorbed-whole s.text.text new.text.text v (h.decoded ++ v) all s.text.rest refl even.1.1))
-
--- or bytes behind those at the front of a piece,
-pub taken-more : (s : OpenString) (w piece : List ℕ) (at n : ℕ) → HasTakenFrom s (w ++ take at piece) piece at n
-    → HasTaken s (w ++ take (at + n) piece)
-taken-more s w piece at n h =
-    let count : at + n - at ≡ n = omega arith in
-    subst (HasTaken s)
-    (append_assoc w (take at piece) (slice_range piece at (at + n))
-    ∙ ap (λ k. w ++ (take at piece ++ take k (drop at piece))) count
-    ∙ ap (λ v. w ++ v) (sym (take-add at n piece)))
-    h
 
 -- or the first of a run of plain bytes.
 pub run-goes : (s : OpenString) (w : List ℕ) (h : HasTaken s w) (piece run : List ℕ) (at n : ℕ) (new : SoFar)

@@ -8,7 +8,7 @@ use Rattle.std.specs.Str.{IsUtf8, IsValidUpTo, all_scalars}
 use Rattle.std.specs.Str.Lossy.{utf8_valid_len, utf8_error_len, second_byte_min, second_byte_max}
 use Rattle.std.proofs.Math.Seq.{take-append_seam, drop-append_seam, take-append-add, take-add}
 use Rattle.std.proofs.lemmas.Bool.{cases_lt, le-ltb, and_parts, eq-eqb, ne_eqb}
-use Rattle.std.proofs.lemmas.List.{take-append-drop, take-append-le, length-drop, take_all}
+use Rattle.std.proofs.lemmas.List.{take-append-drop, take-append-le, length-drop}
 use Rattle.std.proofs.lemmas.Option.{none-some}
 use Rattle.std.proofs.lemmas.Str.{IsUtf8-append, IsUtf8-drop, IsUtf8-encode, IsCharBoundary-from_take}
 use Rattle.std.proofs.lemmas.Str.{utf8_valid_len-IsUtf8, utf8_valid_len-IsValidUpTo}
@@ -212,29 +212,13 @@ broken-on w u b = record {
   wrong = λ v. ap utf8_error_len (append_assoc w u v) ∙ b.wrong (u ++ v);
 }
 
--- What bytes behind the characters so far make of them: all are characters,
-module _ (old text bytes d : List ℕ) (is : d ≡ old ++ bytes) where
-  pub absorbed-whole : (rest : List ℕ) → text ≡ old ++ bytes → rest ≡ [] → HoldsBytes false text rest d
-  absorbed-whole rest all none = (
-    is ∙ sym all ∙ sym (append-nil text) ∙ ap (λ r. text ++ r) (sym none),
-    subst IsUnfinished (sym none) nil-unfinished,
-  )
-
-  -- or they are up to some that are none,
-  module _ (n : ℕ) (front : text ≡ old ++ take n bytes) where
-    -- the bytes, parted there
-    parted : d ≡ text ++ drop n bytes
-    parted =
-        is ∙ ap (λ x. old ++ x) (sym (take-append-drop n bytes)) ∙ sym (append_assoc old (take n bytes) (drop n bytes))
-        ∙ ap (λ x. x ++ drop n bytes) (sym front)
-
-    -- an unfinished one's
-    pub absorbed-open : (rest : List ℕ) → rest ≡ drop n bytes → IsUnfinished (drop n bytes) → HoldsBytes false text rest d
-    absorbed-open rest r u = (parted ∙ ap (λ x. text ++ x) (sym r), subst IsUnfinished (sym r) u)
-
-    -- or wrong ones
-    pub absorbed-broken : (rest : List ℕ) → IsBroken (drop n bytes) → HoldsBytes true text rest d
-    absorbed-broken rest b = (drop n bytes, parted, b)
+-- Where bytes behind the characters so far are characters, all are.
+pub absorbed-whole : (old text bytes d : List ℕ) → d ≡ old ++ bytes → (rest : List ℕ) → text ≡ old ++ bytes → rest ≡ []
+    → HoldsBytes false text rest d
+absorbed-whole old text bytes d is rest all none = (
+  is ∙ sym all ∙ sym (append-nil text) ∙ ap (λ r. text ++ r) (sym none),
+  subst IsUnfinished (sym none) nil-unfinished,
+)
 
 -- What stands behind the longest front that is a text, by the error that is found there: an unfinished character,
 module _ (w : List ℕ) (n : ℕ) (v : IsValidUpTo w n) where
@@ -344,17 +328,3 @@ module _ (s : SoFar) (d : List ℕ) (utf8 : IsUtf8 s.text) (i e : ℕ) (owned : 
   is_text-broken is keep b wrong =
       subst (λ b. Answered keep (not b)) (sym wrong)
       (broken-fails s.text s.rest d utf8 i e owned (subst (λ b. HoldsBytes b s.text s.rest d) is h) keep)
-
--- all that stands behind a place
-pub rest-all : (n : ℕ) (w : List ℕ) → take (length w - n) (drop n w) ≡ drop n w
-rest-all n w = take_all (length w - n) (drop n w) (omega (arith, length-drop n w))
-
--- Parts that are taken one behind the other are one part.
-pub held-on : (s : SoFar) (d run : List ℕ) (n m : ℕ)
-    → HoldsText s ((d ++ take n run) ++ take m (take (length run - n) (drop n run)))
-    → HoldsText s (d ++ take (n + m) run)
-held-on s d run n m h =
-    subst (HoldsText s)
-    (append_assoc d (take n run) (take m (take (length run - n) (drop n run)))
-    ∙ ap (λ x. d ++ (take n run ++ take m x)) (rest-all n run) ∙ ap (λ x. d ++ x) (sym (take-add n m run)))
-    h

@@ -65,11 +65,6 @@ abbrev pub IsPart : List ℕ → ℕ → Went → Type 0
 IsPart piece at (went.Taken n) = IsCountAt piece at n
 IsPart piece at other = Unit {0}
 
--- where nothing is taken, the string is as it was
-abbrev pub IsLeft : OpenString → OpenString → Went → Type 0
-IsLeft old new (went.Taken n) = Unit {0}
-IsLeft old new other = new ≡ old
-
 -- the string's text, or the place of a byte that is no UTF-8: it counts on by the decoded bytes before it
 abbrev pub text_or : Bool → ℕ → Bool → List ℕ → ℕ → Scanned Text
 text_or whole i escaped text e =

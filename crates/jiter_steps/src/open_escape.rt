@@ -8,9 +8,6 @@ use crate::held::Held;
 use jiter_scan::errors::FaultKind;
 use std::marker::Model;
 
-// The escapes of a surrogate pair.
-const LONGEST: usize = 12;
-
 /// What an escape is after its next bytes.
 #[derive(Clone, Copy, Debug, PartialEq, Eq)]
 pub enum Spelled {
@@ -67,32 +64,6 @@ impl OpenEscape {
         self.held.as_slice().len()
     }
 
-    /// Reads the next bytes of the escape. Returns how many it read, and what the escape is then.
-    ///
-    /// If the escape is still incomplete, it read and kept all bytes. Otherwise nothing changes.
-    pub fn through(&mut self, more: &[u8]) -> (usize, Spelled)
-        ensures within { result.0 ≤ length more.now }
-        ensures some { 0 < length more.now → 0 < result.0 }
-        ensures all { result.1 ≡ Spelled.Part → result.0 ≡ length more.now }
-        ensures spelled { IsSpelled (self.old ++ take result.0 more.now) result.1 }
-        ensures held { self.new ≡ held_after self.old (take result.0 more.now) result.1 }
-        ensures wrong { IsWithin (length self.old + result.0) result.1 }
-    {
-        let count = self.count();
-        let few = more.len().min(LONGEST - count);
-        let longer = self.held.with(&more[..few]);
-        match portion_at(longer.as_slice(), 0) {
-            AtStop::Escape(c, end) => (end - count, Spelled::Whole(c)),
-            AtStop::End(Ending::Wrong(fault)) => (few, Spelled::Wrong(fault.kind, fault.index)),
-            AtStop::End(Ending::Cut) => {
-                self.held = longer;
-                (few, Spelled::Part)
-            }
-            AtStop::End(Ending::Closed(_)) => unreachable!(),
-            AtStop::End(Ending::Unclosed) => unreachable!(),
-        }
-    }
-
     /// Reads the next byte of the escape and returns what the escape is then. Keeps the byte if the escape is still
     /// incomplete.
     pub fn next(&mut self, byte: u8) -> Spelled
@@ -100,7 +71,16 @@ impl OpenEscape {
         ensures held { self.new ≡ held_after self.old (byte ∷ []) result }
         ensures within { IsWithin (length self.old + 1) result }
     {
-        let (_, spelled) = self.through(&[byte]);
-        spelled
+        let longer = self.held.with(&[byte]);
+        match portion_at(longer.as_slice(), 0) {
+            AtStop::Escape(c, _) => Spelled::Whole(c),
+            AtStop::End(Ending::Wrong(fault)) => Spelled::Wrong(fault.kind, fault.index),
+            AtStop::End(Ending::Cut) => {
+                self.held = longer;
+                Spelled::Part
+            }
+            AtStop::End(Ending::Closed(_)) => unreachable!(),
+            AtStop::End(Ending::Unclosed) => unreachable!(),
+        }
     }
 }

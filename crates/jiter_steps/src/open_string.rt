@@ -6,7 +6,7 @@ ghost use Rattle.jiter_scan.specs.Ascii as ascii;
 ghost use Rattle.jiter_scan.specs.Kind.{eof_string};
 ghost use Rattle.jiter_scan.specs.Scan.{Pass, is_plain, is_plain_ascii};
 ghost use Rattle.jiter_scan.specs.Scanned.{failed};
-ghost use Rattle.jiter_steps.specs.OpenString.{Goes, HasTaken, HasTakenFrom, IsCountAt, IsEven, IsLeft, IsPart, IsTextWithin};
+ghost use Rattle.jiter_steps.specs.OpenString.{Goes, HasTaken, HasTakenFrom, IsCountAt, IsEven, IsPart, IsTextWithin};
 ghost use Rattle.jiter_steps.specs.OpenString.{Wherever, grown, text_or};
 ghost use Rattle.jiter_steps.specs.OpenText.{IsWhole, with_text};
 ghost use Rattle.jiter_steps.specs.StringDecoder.{WantsMemory};
@@ -19,8 +19,7 @@ use crate::plain::{ascii_between, text_between};
 use crate::string_decoder::decode_whole;
 use jiter_scan::errors::FaultKind;
 use jiter_scan::memory::{Refused, copy_text};
-use jiter_scan::short_scan::scan_short;
-use jiter_scan::simd::string_stop;
+use jiter_scan::simd::{scan_string, string_stop};
 use jiter_scan::text::utf8_text;
 use std::alloc::Global;
 
@@ -93,7 +92,7 @@ pub fn text_within(
     if piece[at] != b'"' {
         return Ok(None);
     }
-    let (to, low) = scan_short(piece, at + 1);
+    let (to, low) = scan_string(piece, at + 1);
     if to >= piece.len() {
         return Ok(None);
     }
@@ -132,8 +131,6 @@ impl OpenString {
         requires open { ¬ (self.old.escape ≡ None) }
         ensures goes { (w : List ℕ) → HasTaken self.old w → IfOk result (Goes self.new w piece.now at) }
         ensures part { IfOk result (IsPart piece.now at) }
-        ensures whole { IsWhole self.old.text → IsWhole self.new.text }
-        ensures left { IfOk result (IsLeft self.old self.new) }
         ensures refused { OnErr result (self.new ≡ self.old) }
     {
         let Some(escape) = &mut self.escape else {
@@ -152,29 +149,6 @@ impl OpenString {
         Ok(Went::Taken(1))
     }
 
-    // Takes the bytes of the incomplete escape that the chunk has. Returns how many, or 0 if one of them is wrong.
-    fn spell_right(&mut self, piece: &[u8], at: usize) -> Result<usize, Refused>
-        requires within { at < length piece.now }
-        requires open { ¬ (self.old.escape ≡ None) }
-        ensures taken { (w : List ℕ) → HasTaken self.old w → IfOk result (HasTakenFrom self.new w piece.now at) }
-        ensures within { IfOk result (λ n. at + n ≤ length piece.now) }
-        ensures whole { IsWhole self.old.text → IsWhole self.new.text }
-        ensures refused { OnErr result (self.new ≡ self.old) }
-    {
-        let Some(escape) = &mut self.escape else {
-            unreachable!();
-        };
-        match escape.through(&piece[at..]) {
-            (count, Spelled::Part) => Ok(count),
-            (count, Spelled::Whole(c)) => {
-                self.text.add_char(c)?;
-                self.escape = None;
-                Ok(count)
-            }
-            (_, Spelled::Wrong(_, _)) => Ok(0),
-        }
-    }
-
     // A truncated escape is kept for the next chunk. Of a wrong one only the backslash is taken: the next calls read
     // the other bytes one by one, up to the error.
     fn take_long_escape(&mut self, piece: &[u8], at: usize) -> Result<usize, Refused>
@@ -183,7 +157,6 @@ impl OpenString {
         requires backslash { slice_get piece.now at ≡ Some ascii.backslash }
         ensures taken { (w : List ℕ) → HasTaken self.old w → IfOk result (HasTakenFrom self.new w piece.now at) }
         ensures part { IfOk result (IsCountAt piece.now at) }
-        ensures whole { IsWhole self.old.text → IsWhole self.new.text }
         ensures refused { OnErr result (self.new ≡ self.old) }
     {
         let rest = &piece[at..];
@@ -211,7 +184,6 @@ impl OpenString {
         requires backslash { slice_get piece.now at ≡ Some ascii.backslash }
         ensures taken { (w : List ℕ) → HasTaken self.old w → IfOk result (HasTakenFrom self.new w piece.now at) }
         ensures part { IfOk result (IsCountAt piece.now at) }
-        ensures whole { IsWhole self.old.text → IsWhole self.new.text }
         ensures refused { OnErr result (self.new ≡ self.old) }
     {
         if piece.len() - at < 2 {
@@ -235,7 +207,7 @@ impl OpenString {
         ensures part { IfOk result (IsCountAt piece.now at) }
         ensures refused { OnErr result (self.new ≡ self.old) }
     {
-        let (to, low) = scan_short(piece, at);
+        let (to, low) = scan_string(piece, at);
         let run = &piece[at..to];
         if low {
             self.text.add_ascii(run)?;
@@ -283,104 +255,11 @@ impl OpenString {
         }
     }
 
-    // If a byte of the run is wrong, at most those are taken that complete a character.
-    #[inline(always)]
-    fn plain_right(&mut self, piece: &[u8], at: usize) -> (usize, Result<(), Refused>)
-        requires within { at < length piece.now }
-        requires none { self.old.escape ≡ None }
-        requires plain { is_plain (slice_index piece.now at) ≡ true }
-        requires unbroken { self.old.text.broken ≡ false }
-        ensures taken { (w : List ℕ) → HasTaken self.old w → HasTakenFrom self.new w piece.now at result.0 }
-        ensures within { at + result.0 ≤ length piece.now }
-        ensures unbroken { self.new.text.broken ≡ false }
-        ensures wanted { OnErr result.1 (at + result.0 < length piece.now) }
-    {
-        let (to, low) = scan_short(piece, at);
-        let run = &piece[at..to];
-        if !low || !self.text.is_whole() {
-            return self.text.add_right(run);
-        }
-        match self.text.add_ascii(run) {
-            Ok(()) => (run.len(), Ok(())),
-            Err(refused) => (0, Err(refused)),
-        }
-    }
-
-    // After an incomplete character, any escape makes the string wrong. It is left to `next`.
-    #[inline(always)]
-    fn escape_right(&mut self, piece: &[u8], at: usize) -> Result<usize, Refused>
-        requires within { at < length piece.now }
-        requires begins { self.old.escape ≡ None → slice_get piece.now at ≡ Some ascii.backslash }
-        requires unbroken { self.old.text.broken ≡ false }
-        ensures taken { (w : List ℕ) → HasTaken self.old w → IfOk result (HasTakenFrom self.new w piece.now at) }
-        ensures within { IfOk result (λ n. at + n ≤ length piece.now) }
-        ensures unbroken { self.new.text.broken ≡ false }
-        ensures refused { OnErr result (self.new ≡ self.old) }
-    {
-        if !self.text.is_whole() {
-            return Ok(0);
-        }
-        if self.escape.is_none() {
-            return self.take_escape(piece, at);
-        }
-        self.spell_right(piece, at)
-    }
-
-    // Takes a run of plain bytes or an escape. Takes nothing at the closing quote or a control byte.
-    #[inline(always)]
-    fn take_right(&mut self, piece: &[u8], at: usize) -> (usize, Result<(), Refused>)
-        requires within { at < length piece.now }
-        requires unbroken { self.old.text.broken ≡ false }
-        ensures taken { (w : List ℕ) → HasTaken self.old w → HasTakenFrom self.new w piece.now at result.0 }
-        ensures within { at + result.0 ≤ length piece.now }
-        ensures unbroken { self.new.text.broken ≡ false }
-        ensures wanted { OnErr result.1 (at + result.0 < length piece.now) }
-    {
-        if self.escape.is_none() && piece[at] != b'\\' {
-            if piece[at] == b'"' || piece[at] < b' ' {
-                return (0, Ok(()));
-            }
-            return self.plain_right(piece, at);
-        }
-        match self.escape_right(piece, at) {
-            Ok(count) => (count, Ok(())),
-            Err(refused) => (0, Err(refused)),
-        }
-    }
-
-    /// Takes bytes from the start of the chunk, as long as they continue the string. Returns how many, and whether an
-    /// allocation failed for the next ones.
-    ///
-    /// It stops before the closing quote or a control byte, and inside a wrong escape. If a run of plain bytes has a
-    /// wrong byte, it takes at most the bytes that complete a character.
-    pub fn take_inside(&mut self, piece: &[u8]) -> (usize, Result<(), Refused>)
-        requires whole { self.old.text.broken ≡ false }
-        ensures taken { (w : List ℕ) → HasTaken self.old w → HasTaken self.new (w ++ take result.0 piece.now) }
-        ensures within { result.0 ≤ length piece.now }
-        ensures whole { self.new.text.broken ≡ false }
-        ensures wanted { OnErr result.1 (result.0 < length piece.now) }
-    {
-        let mut at = 0;
-        while at < piece.len() {
-            let (count, end) = self.take_right(piece, at);
-            at += count;
-            if let Err(refused) = end {
-                return (at, Err(refused));
-            }
-            if count == 0 {
-                break;
-            }
-        }
-        (at, Ok(()))
-    }
-
-    /// Returns whether the bytes so far are complete characters and complete escapes. None of them may be wrong.
-    #[inline(always)]
+    /// Returns whether the bytes so far are complete characters and complete escapes.
     pub fn is_even(&self) -> bool
-        requires { self.now.text.broken ≡ false }
         ensures { result ≡ true → IsEven self.now }
     {
-        self.escape.is_none() && self.text.is_complete()
+        self.escape.is_none() && self.text.is_whole()
     }
 
     /// Takes bytes that are plain and below 80 hex. If the allocation fails, nothing changes.

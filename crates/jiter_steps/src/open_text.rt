@@ -21,9 +21,6 @@ use std::mem;
 // reads are needed until one ends with a complete character.
 pub(crate) const FEW: usize = 7;
 
-// Next to an incomplete character, a run of at most this many bytes is read at once.
-const SHORT: usize = 16;
-
 /// The characters so far, and the bytes of an incomplete one; or the characters before a byte that is wrong, whatever
 /// follows.
 #[derive(Drop)]
@@ -44,17 +41,6 @@ impl Model for OpenText {
     ghost invariant = { λ o. length o.rest ≤ 3 };
 }
 
-// The length of a character in bytes, by its first byte (RFC 3629, 3).
-fn width(first: u8) -> usize
-    ensures { result ≤ 4 }
-{
-    match first {
-        0xf0..=0xff => 4,
-        0xe0..=0xef => 3,
-        _ => 2,
-    }
-}
-
 impl OpenText {
     /// Returns an `OpenText` without bytes. Does not allocate.
     pub fn new(alloc: Global) -> OpenText
@@ -67,25 +53,6 @@ impl OpenText {
         }
     }
 
-    // `bytes` begins with those of the incomplete character, if there is one. The first `right` bytes are complete
-    // characters.
-    #[inline(always)]
-    fn take_right(&mut self, bytes: &[u8], right: usize) -> Result<(), Refused>
-        requires unbroken { self.old.broken ≡ false }
-        requires within { right ≤ length bytes.now }
-        requires front { IsUtf8 (take right bytes.now) }
-        requires open { IsUnfinished (drop right bytes.now) }
-        requires few { length bytes.now ≤ right + 3 }
-        ensures taken { (d : List ℕ) → d ≡ self.old.text ++ bytes.now → OnOk result (HoldsText self.new d) }
-        ensures unbroken { self.new.broken ≡ false }
-        ensures refused { OnErr result (self.new ≡ self.old) }
-        ensures some { OnErr result (0 < length bytes.now) }
-    {
-        push_text(&mut self.text, utf8_text(&bytes[..right]))?;
-        self.rest = Held::new().with(&bytes[right..]);
-        Ok(())
-    }
-
     // `bytes` begins with those of the incomplete character, if there is one.
     fn absorb(&mut self, bytes: &[u8]) -> Result<(), Refused>
         requires { self.old.broken ≡ false }
@@ -94,30 +61,13 @@ impl OpenText {
         ensures refused { OnErr result (self.new ≡ self.old) }
     {
         let (right, wrong) = right_end(bytes);
-        if !wrong {
-            return self.take_right(bytes, right);
-        }
         push_text(&mut self.text, utf8_text(&bytes[..right]))?;
-        self.broken = true;
-        Ok(())
-    }
-
-    // The same, but takes nothing if a byte is wrong. Returns whether the bytes were taken.
-    fn absorb_right(&mut self, bytes: &[u8]) -> Result<bool, Refused>
-        requires { self.old.broken ≡ false }
-        ensures taken { (d : List ℕ) → d ≡ self.old.text ++ bytes.now
-            → IfOk result (λ right. right ≡ true → HoldsText self.new d) }
-        ensures left { IfOk result (λ right. right ≡ false → self.new ≡ self.old) }
-        ensures unbroken { self.new.broken ≡ false }
-        ensures refused { OnErr result (self.new ≡ self.old) }
-        ensures some { OnErr result (0 < length bytes.now) }
-    {
-        let (right, wrong) = right_end(bytes);
         if wrong {
-            return Ok(false);
+            self.broken = true;
+            return Ok(());
         }
-        self.take_right(bytes, right)?;
-        Ok(true)
+        self.rest = Held::new().with(&bytes[right..]);
+        Ok(())
     }
 
     /// Takes bytes from the start of `run` and returns how many: at least one, unless `run` is empty. If the allocation
@@ -144,70 +94,6 @@ impl OpenText {
         Ok(count)
     }
 
-    // Takes bytes next to the incomplete character, if none of them is wrong, and returns how many.
-    fn complete(&mut self, run: &[u8]) -> Result<usize, Refused>
-        requires { self.old.broken ≡ false }
-        ensures taken { (d : List ℕ) → HoldsText (self.old) d
-            → IfOk result (λ n. HoldsText self.new (d ++ take n run.now)) }
-        ensures within { IfOk result (λ n. n ≤ length run.now) }
-        ensures unbroken { self.new.broken ≡ false }
-        ensures refused { OnErr result (self.new ≡ self.old) }
-    {
-        let first = self.rest.as_slice();
-        if first.is_empty() {
-            return Ok(0);
-        }
-        let few = if run.len() <= SHORT {
-            run.len()
-        } else {
-            width(first[0]).saturating_sub(first.len())
-        };
-        let held = self.rest.with(&run[..few]);
-        let right = self.absorb_right(held.as_slice())?;
-        Ok(if right { few } else { 0 })
-    }
-
-    // Takes all of `run`, or nothing if a byte is wrong.
-    #[inline(always)]
-    fn add_whole(&mut self, run: &[u8]) -> (usize, Result<(), Refused>)
-        requires whole { IsWhole self.old }
-        ensures taken { (d : List ℕ) → HoldsText (self.old) d → HoldsText self.new (d ++ take result.0 run.now) }
-        ensures within { result.0 ≤ length run.now }
-        ensures unbroken { self.new.broken ≡ false }
-        ensures wanted { OnErr result.1 (result.0 < length run.now) }
-    {
-        match self.absorb_right(run) {
-            Ok(true) => (run.len(), Ok(())),
-            Ok(false) => (0, Ok(())),
-            Err(refused) => (0, Err(refused)),
-        }
-    }
-
-    /// Takes bytes from the start of `run`, none of which is wrong. Returns how many, and whether an allocation failed
-    /// for the next ones. If a byte of `run` is wrong, it may take none.
-    #[inline(always)]
-    pub fn add_right(&mut self, run: &[u8]) -> (usize, Result<(), Refused>)
-        requires unbroken { self.old.broken ≡ false }
-        requires some { 0 < length run.now }
-        ensures taken { (d : List ℕ) → HoldsText (self.old) d → HoldsText self.new (d ++ take result.0 run.now) }
-        ensures within { result.0 ≤ length run.now }
-        ensures unbroken { self.new.broken ≡ false }
-        ensures wanted { OnErr result.1 (result.0 < length run.now) }
-    {
-        if self.is_whole() {
-            return self.add_whole(run);
-        }
-        let count = match self.complete(run) {
-            Ok(count) => count,
-            Err(refused) => return (0, Err(refused)),
-        };
-        if !self.is_whole() {
-            return (count, Ok(()));
-        }
-        let (more, end) = self.add_whole(&run[count..]);
-        (count + more, end)
-    }
-
     // An incomplete character is before it.
     fn add_behind(&mut self, c: char) -> Result<(), Refused>
         requires { self.old.broken ≡ false }
@@ -225,7 +111,6 @@ impl OpenText {
     pub fn add_char(&mut self, c: char) -> Result<(), Refused>
         ensures taken { (d : List ℕ) → HoldsText (self.old) d
             → OnOk result (HoldsText self.new (d ++ encode_utf8 c)) }
-        ensures whole { IsWhole self.old → IsWhole self.new }
         ensures refused { OnErr result (self.new ≡ self.old) }
     {
         if self.is_whole() {
@@ -254,16 +139,6 @@ impl OpenText {
         ensures { IsTrue result ↔ IsWhole self.now }
     {
         !self.broken && self.rest.as_slice().is_empty()
-    }
-
-    /// Returns whether the bytes so far are complete characters. None of them may be wrong.
-    #[inline(always)]
-    pub fn is_complete(&self) -> bool
-        requires { self.now.broken ≡ false }
-        ensures { result ≡ true → IsWhole self.now }
-    {
-        let behind = self.rest.as_slice();
-        behind.is_empty()
     }
 
     /// Returns whether the bytes so far are UTF-8. With `keep`, an incomplete character at their end is left out.

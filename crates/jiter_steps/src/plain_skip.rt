@@ -1,9 +1,7 @@
 //! The fast path of skipping. It works on the bytes and an index, and its results are returned in registers. It leaves
 //! all else to the slow path.
 ghost use Rattle.std.specs.Prelude.{◌≡◌, ◌+◌, ◌<◌, ◌≤◌, IfSome, length, slice_index, true, false};
-ghost use Rattle.jiter_scan.specs.Scan.{is_plain};
 ghost use Rattle.jiter_scan.specs.Scanned.{taken};
-ghost use Rattle.jiter_scan.specs.Simd.{failing};
 ghost use Rattle.jiter_steps.specs.Answer.{seen_as};
 ghost use Rattle.jiter_steps.specs.Blank.{past_blanks};
 ghost use Rattle.jiter_steps.specs.Literal.{start_of};
@@ -18,6 +16,7 @@ use crate::parse::{Literal, Shape};
 use crate::plain::{plain_colon, plain_literal_end};
 use crate::raw_string::closed_end;
 use jiter_scan::number_extent::{NUMBER_REACH, roomy_number_end};
+use jiter_scan::simd::stops;
 use std::simd::prelude::*;
 
 // With this many bytes left after a part or a key, no further test of the length is needed. Two lead up to a value, and
@@ -64,15 +63,6 @@ fn near_end(bytes: &[u8], at: usize) -> Option<usize>
         return None;
     }
     closed_end(bytes, at, at + 1)
-}
-
-#[inline(always)]
-fn stops(v: u8x16) -> u64
-    ensures { result ≡ failing is_plain v }
-{
-    (v.simd_eq(u8x16::splat(b'"'))
-        | v.simd_eq(u8x16::splat(b'\\'))
-        | v.simd_lt(u8x16::splat(b' '))).to_bitmask()
 }
 
 // One look is enough if the closing quote is within sixteen bytes and no escape is before it.

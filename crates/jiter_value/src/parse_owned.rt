@@ -22,6 +22,7 @@ use jiter_steps::blank::past_blanks;
 use jiter_steps::parse::{Parser, Start, start_of};
 use jiter_steps::read_error::ReadError;
 use std::alloc::Global;
+use std::mem::swap;
 
 impl JsonValue<'static> {
     /// Parses bytes as [`JsonValue::parse_with_config`] does, and returns a value that borrows nothing.
@@ -57,7 +58,7 @@ impl JsonValue<'static> {
         if begins_container(bytes, past_blanks(bytes, 0)) {
             return own_once(alloc, bytes, settings);
         }
-        own_scalar(alloc, bytes, settings)
+        own_scalar(alloc, &mut Vec::new(alloc), bytes, settings)
     }
 }
 
@@ -93,14 +94,17 @@ fn own_once<'s>(alloc: Global, bytes: &[u8], settings: Settings) -> Result<JsonV
 // A scalar is copied last, so a borrowed one isn't copied if an error follows it.
 fn own_scalar(
     alloc: Global,
+    tape: &mut Vec<u8>,
     bytes: &[u8],
     settings: Settings,
 ) -> Result<JsonValue<'static>, JsonError>
     ensures { Parses owned_tree (OwnedMayGrow settings.allow_inf_nan settings.mode bytes.now)
         settings.allow_inf_nan settings.mode bytes.now result }
 {
-    let mut lent = Reading::new(alloc, settings);
-    let read = read_text(&mut lent, bytes);
+    let mut borrowed = Reading::new(alloc, settings);
+    swap(tape, &mut borrowed.tape);
+    let read = read_text(&mut borrowed, bytes);
+    swap(tape, &mut borrowed.tape);
     own_answer(alloc, read, bytes.len())
 }
 
@@ -134,7 +138,7 @@ pub(crate) fn read_text_owned(
     if begins_container(bytes, past_blanks(bytes, 0)) {
         return own_text(reading, bytes);
     }
-    own_scalar(reading.alloc, bytes, reading.settings)
+    own_scalar(reading.alloc, &mut reading.tape, bytes, reading.settings)
 }
 
 /// Returns the same result, with the texts of its value owned. If an allocation fails, the error is at `index`.

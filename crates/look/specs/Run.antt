@@ -72,8 +72,7 @@ line_view (variant.Fault v) = fault_line v.items
 abbrev pub IsOfMemory : refusal.NoMemory → Type 0
 IsOfMemory (reason.Parse e) = e.error_type ≡ OutOfMemory
 IsOfMemory (reason.ParseUnique e) = IsMemoryRefused e.error_type
-IsOfMemory (reason.Describe e) = ⊤
-IsOfMemory (reason.Print r) = ⊤
+IsOfMemory (reason.Line e) = ⊤
 
 -- where a read failed or memory was refused
 abbrev pub IsOfReadOrMemory : absence.NoLine → Type 0

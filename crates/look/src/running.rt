@@ -10,7 +10,7 @@ ghost use Rattle.look.specs.Run.{status_of, value_line, Wrote, WroteIfAny, Wrote
 
 use jiter::{JsonError, JsonErrorType, JsonValue, PartialMode, UniqueError, UniqueErrorType};
 use jiter_print::{print, write_line};
-use jiter_scan::memory::{Refused, push};
+use jiter_scan::memory::push;
 use std::alloc::{AllocError, Global};
 use std::io;
 use std::io::{Read, Write};
@@ -60,8 +60,7 @@ enum NoLine {
 enum NoMemory {
     Parse(JsonError),
     ParseUnique(UniqueError),
-    Describe(AllocError),
-    Print(Refused),
+    Line(AllocError),
 }
 
 impl From<io::Error> for NoLine {
@@ -77,20 +76,10 @@ impl From<io::Error> for NoLine {
 impl From<AllocError> for NoMemory {
     ghost use Rattle.look.specs.declared.running.NoMemory.{NoMemory};
 
-    ghost from_gives = { λ error r. r ≡ NoMemory.Describe error };
+    ghost from_gives = { λ error r. r ≡ NoMemory.Line error };
 
     fn from(error: AllocError) -> Self {
-        NoMemory::Describe(error)
-    }
-}
-
-impl From<Refused> for NoMemory {
-    ghost use Rattle.look.specs.declared.running.NoMemory.{NoMemory};
-
-    ghost from_gives = { λ refused r. r ≡ NoMemory.Print refused };
-
-    fn from(refused: Refused) -> Self {
-        NoMemory::Print(refused)
+        NoMemory::Line(error)
     }
 }
 
@@ -202,7 +191,7 @@ fn line_of_value(alloc: Global, value: &JsonValue<'_>) -> Result<Line, NoMemory>
     ensures memory { IfErr result IsOfMemory }
 {
     let mut bytes = print(alloc, value)?;
-    push(&mut bytes, b'\n')?;
+    push(&mut bytes, b'\n').map_err(AllocError::from)?;
     Ok(Line::Value(bytes))
 }
 
@@ -211,7 +200,7 @@ fn line_of_fault(description: String) -> Result<Line, NoMemory>
     ensures memory { IfErr result IsOfMemory }
 {
     let mut bytes = description.into_bytes();
-    push(&mut bytes, b'\n')?;
+    push(&mut bytes, b'\n').map_err(AllocError::from)?;
     Ok(Line::Fault(bytes))
 }
 

@@ -82,6 +82,7 @@ impl<'j> Reading<'j> {
             "clone" => self.cloned(alloc),
             "with_tape" => self.with_tape(alloc),
             "error" => self.error(alloc),
+            "out_of_memory" => Ok(Err(self.jiter.out_of_memory())),
             "debug" => Ok(Ok(format!(in alloc; "{:?}", self.jiter)?)),
             "current_position" | "error_position" | "slice_to_current" => {
                 self.place(alloc, name, argument.parse().unwrap_or(0))

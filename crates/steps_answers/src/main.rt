@@ -34,7 +34,6 @@ fn answer(rt: &HostRuntime, alloc: Global, row: &Row<'_>) -> io::Result<()> {
     let keep = matches!(&row.partial, Partial::TrailingStrings);
     match row.call {
         "text_pieces" => return pieces::answer_text_pieces(rt, alloc, input),
-        "right_pieces" => return pieces::answer_right_pieces(rt, alloc, input),
         "string_pieces" => return pieces::answer_string_pieces(rt, alloc, input),
         _ => {}
     }

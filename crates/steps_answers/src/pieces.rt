@@ -3,7 +3,7 @@ ghost use Rattle.std.specs.Prelude.{◌<◌};
 
 use jiter_scan::memory::Refused;
 use jiter_steps::open_escape::{OpenEscape, Spelled};
-use jiter_steps::open_string::OpenString;
+use jiter_steps::open_string::{OpenString, Went};
 use jiter_steps::open_text::OpenText;
 use std::alloc::{AllocError, Global};
 use std::io;
@@ -68,36 +68,26 @@ pub fn answer_text_pieces(rt: &HostRuntime, alloc: Global, input: &str) -> io::R
     println!(rt; "{:?}", text.text())
 }
 
-/// How many bytes of each piece are taken as long as all are right, and what the text holds then.
-pub fn answer_right_pieces(rt: &HostRuntime, alloc: Global, input: &str) -> io::Result<()> {
-    let mut text = OpenText::new(alloc);
-    for piece in input.split('|') {
-        let piece = bytes_of(alloc, piece)?;
-        let run = piece.as_slice();
-        if run.is_empty() || !text.is_text(true) {
-            return println!(rt; "no right text");
-        }
-        let (count, end) = text.add_right(run);
-        print!(rt; "[{count} {:?}]", text.text())?;
-        if end.is_err() {
-            return println!(rt; "out of memory");
+// How many bytes of a piece a string takes, up to its quote or an error.
+fn take_piece(string: &mut OpenString, piece: &[u8]) -> Result<usize, Refused> {
+    let mut at = 0;
+    while at < piece.len() {
+        match string.next(piece, at)? {
+            Went::Taken(count) => at += count,
+            _ => break,
         }
     }
-    println!(rt; "")
+    Ok(at)
 }
 
-/// How many bytes of each piece are taken within a string, and what its text is then.
+/// How many bytes of each piece a string takes, up to its quote or an error, and what its text is then.
 pub fn answer_string_pieces(rt: &HostRuntime, alloc: Global, input: &str) -> io::Result<()> {
     let mut string = OpenString::new(alloc);
     for piece in input.split('|') {
         let piece = bytes_of(alloc, piece)?;
-        if !string.is_text(true) {
-            return println!(rt; "no right text");
-        }
-        let (count, end) = string.take_inside(piece.as_slice());
-        print!(rt; "[{count} {:?}]", string.text())?;
-        if end.is_err() {
-            return println!(rt; "out of memory");
+        match take_piece(&mut string, piece.as_slice()) {
+            Ok(count) => print!(rt; "[{count} {:?}]", string.text())?,
+            Err(_) => print!(rt; "out of memory ")?,
         }
     }
     println!(rt; "")

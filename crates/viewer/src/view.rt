@@ -11,7 +11,7 @@ ghost use Rattle.viewer.specs.declared.words.Words.{Words};
 use crate::words::Words;
 use jiter_incremental::{Arriving, LineFeeds};
 use jiter_print::{print, write_line};
-use std::alloc::{AllocError, Global};
+use std::alloc::Global;
 use std::io;
 use std::io::{ErrorKind, Read, Write};
 
@@ -97,7 +97,7 @@ fn show<O: Write>(
         (new_line last.items (value_line (answer_in words.inf_nan words.mode t)))) }
 {
     let mut line = match document.value() {
-        Ok(value) => print(alloc, value).or(Err(AllocError))?,
+        Ok(value) => print(alloc, value)?,
         Err(_) => return Ok(last),
     };
     line.push(b'\n')?;

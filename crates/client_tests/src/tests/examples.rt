@@ -139,10 +139,7 @@ fn read_host(alloc: Global, jiter: &mut Jiter<'_>) -> JiterResult<String> {
     let text = jiter.next_str(alloc)?;
     match String::from_str(alloc, text) {
         Ok(copy) => Ok(copy),
-        Err(_) => Err(JiterError {
-            error_type: JiterErrorType::JsonError(JsonErrorType::OutOfMemory),
-            index: jiter.current_index(),
-        }),
+        Err(_) => Err(jiter.out_of_memory()),
     }
 }
 

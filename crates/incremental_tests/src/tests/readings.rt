@@ -69,7 +69,16 @@ pub fn is_read_at(
     }
     let is_whole = is_parsed_so_far(alloc, &arriving, bytes, names, mode);
     let wanted = JsonValue::parse_owned(alloc, bytes, names, PartialMode::Off);
-    Ok(is_whole && arriving.finish() == wanted)
+    Ok(is_whole && is_error_of(&arriving.error(), &wanted) && arriving.finish() == wanted)
+}
+
+/// Whether this is the parse's error, or none where it has a value.
+pub fn is_error_of(error: &Option<JsonError>, answer: &Answer) -> bool {
+    match (error, answer) {
+        (Some(error), Err(wanted)) => error == wanted,
+        (None, Ok(_)) => true,
+        _ => false,
+    }
 }
 
 /// What parses answer of each front of a document, in a mode and with partial reading off.
@@ -106,16 +115,19 @@ impl Fronts {
         })
     }
 
-    // A reading of these pieces of the document, from its first byte on, if the value behind each is that of the front.
+    // A reading of these pieces of the document, from its first byte on, if value and error behind each are those of the
+    // front.
     fn read(&self, pieces: &[&[u8]]) -> Result<Option<Arriving>, AllocError> {
         let mut arriving = Arriving::new(self.alloc, self.names, self.mode);
         let mut end = 0usize;
         for piece in pieces {
             arriving.push(piece)?;
             end = end.saturating_add(piece.len());
-            let is_met = match self.answers.get(end) {
-                Some(wanted) => is_same(&arriving.value(), wanted),
-                None => false,
+            let is_met = match (self.answers.get(end), self.wholes.get(end)) {
+                (Some(answer), Some(whole)) => {
+                    is_same(&arriving.value(), answer) && is_error_of(&arriving.error(), whole)
+                }
+                _ => false,
             };
             if !is_met || arriving.position() != end {
                 return Ok(None);

@@ -4,10 +4,12 @@ use Rattle.std.proofs.Common.{◌≡◌, ℕ, List, refl, arith, codes, Ok, Err,
 use Rattle.std.specs.Prelude.{slice_get, Option}
 use Rattle.jiter_scan.specs.Kind.{trailing_comma}
 use Rattle.jiter_scan.specs.declared.errors.JsonErrorType.TheVariants as kind
+use Rattle.jiter_steps.specs.Blank.{past_blanks}
 use Rattle.jiter_steps.specs.Tree.{Text}
 use Rattle.jiter.specs.Cause.{json_error, wrong_type, int, string}
-use Rattle.jiter.specs.Jiter.{LeavesAt, RefusesAs, TellsHere, EndsWithColon, reply_seen, text_bytes}
+use Rattle.jiter.specs.Jiter.{TellsHere, EndsWithColon, reply_seen, text_bytes}
 use Rattle.jiter.specs.Reader.{ReaderState, Reply, gave, refused, next, str_read}
+use Rattle.jiter.specs.Reads.{Reads, never, string_memory}
 use Rattle.jiter.specs.declared.errors.JiterError.{JiterError}
 use Rattle.jiter.specs.declared.errors.JiterErrorType.{JiterErrorType}
 use Rattle.jiter.specs.declared.errors.JiterErrorType.TheVariants as error
@@ -24,7 +26,8 @@ lent s = reply_seen text_bytes (next s (str_read s))
 
 -- the bytes of a text that was lent, and how the call leaves a reader that stood at 0
 abbrev Leaves : List ℕ → Result (List ℕ) JiterError → ℕ → Type 0
-Leaves t result i = LeavesAt (λ x. x) result (at t 0) (at t i) (lent (at t 0))
+Leaves t result i =
+    Reads (string_memory t (past_blanks t 0)) (λ x. x) (lent (at t 0)) result (at t 0) (at t i)
 
 -- behind its closing quote
 a_text_is_lent : Leaves (codes "\"a\" 1") (Ok (codes "a")) 3
@@ -32,7 +35,8 @@ a_text_is_lent =
     unfold computed_replies in record {
       moves = record { same = refl; forward = omega arith; within = omega arith };
       value = refl;
-      place = tt;
+      index = tt;
+      memory = tt;
     }
 
 -- at another type's value
@@ -41,7 +45,8 @@ another_type =
     unfold computed_replies in record {
       moves = record { same = refl; forward = omega arith; within = omega arith };
       value = λ bytes. refl;
-      place = λ m. absurd (cc);
+      index = omega arith;
+      memory = λ m. absurd (cc);
     }
 
 -- where memory was refused, at the error's index
@@ -50,7 +55,8 @@ memory_refused =
     unfold computed_replies in record {
       moves = record { same = refl; forward = omega arith; within = omega arith };
       value = λ bytes. absurd (bytes refl);
-      place = λ m. refl;
+      index = omega arith;
+      memory = λ m. (refl, (refl, refl, refl));
     }
 
 -- nowhere else
@@ -60,22 +66,21 @@ not_behind_blanks h = by (unfold computed_replies in h.value) where
   by e = cc
 
 not_past_the_index : Leaves (codes "\"\\n\"") (Err (error_at (error.JsonError kind.OutOfMemory) 0)) 4 → ⊥
-not_past_the_index h = let place = h.place refl in cc
+not_past_the_index h = let out = h.memory refl in let place = out.0 in cc
 
--- A refusal is the reply's, and for want of memory alone it may be another.
+-- A refusal is the reply's.
 abbrev wrong : Reply (List ℕ)
 wrong = refused (wrong_type string int) 1 1
 
-the_replys_refusal : RefusesAs {X = List ℕ} (Err (error_at (error.WrongType type.String type.Int) 1)) wrong
-the_replys_refusal = λ bytes. refl
-
-for_want_of_memory : RefusesAs {X = List ℕ} (Err (error_at (error.JsonError kind.OutOfMemory) 0)) wrong
-for_want_of_memory = λ bytes. absurd (bytes refl)
-
-no_other_refusal : RefusesAs {X = List ℕ} (Err (error_at (error.JsonError kind.TrailingComma) 1)) wrong → ⊥
-no_other_refusal h = by (h (λ m. cc)) where
+no_other_refusal : Leaves (codes " 1") (Err (error_at (error.JsonError kind.TrailingComma) 1)) 1 → ⊥
+no_other_refusal h = by (unfold computed_replies in h.value (λ m. cc)) where
   by : wrong ≡ refused (json_error trailing_comma) 1 1 → ⊥
   by e = cc
+
+-- A read that does not allocate is never out of memory.
+never_out : (r : Reply (List ℕ)) (s : ReaderState)
+    → Reads never (λ x. x) r (Err (error_at (error.JsonError kind.OutOfMemory) 0)) s s → ⊥
+never_out r s h = h.memory refl
 
 same_byte : (b c : ℕ) → Some b ≡ Some c → b ≡ c
 same_byte b c e = cc

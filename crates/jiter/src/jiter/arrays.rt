@@ -4,7 +4,8 @@ ghost use Rattle.jiter_scan.specs.Ascii as ascii;
 ghost use Rattle.jiter_steps.specs.Parse.{Steps};
 ghost use Rattle.jiter_steps.specs.Step.{Step};
 ghost use Rattle.jiter.specs.Reader.{next, known, array_read, item_reply, item_step};
-ghost use Rattle.jiter.specs.Jiter.{MovesOn, Replies, RefusesBytes, BeginsAs, StandsAt, TellsHere, byte_of};
+ghost use Rattle.jiter.specs.Jiter.{Replies, RefusesBytes, BeginsAs, StandsAt, TellsHere, byte_of};
+ghost use Rattle.jiter.specs.Reads.{Reads, never};
 
 use crate::errors::{JiterResult, JsonType};
 use crate::jiter::plain::next_item;
@@ -32,11 +33,9 @@ impl<'j> Jiter<'j> {
 
     fn read_array(&mut self, start: Start) -> JiterResult<Option<Peek>>
         requires { BeginsAs self.old start }
-        ensures moves { MovesOn self.old self.new }
-        ensures value { Replies (option_map byte_of) result self.new
-            (array_read self.old self.old.position start) }
+        ensures reads { Reads never (option_map byte_of) (array_read self.old self.old.position start)
+            result self.old self.new }
         ensures here { TellsHere result self.new }
-        ensures refusal { RefusesBytes self.old.text result }
     {
         match start {
             Start::Array => {
@@ -51,11 +50,9 @@ impl<'j> Jiter<'j> {
     #[cold]
     #[inline(never)]
     fn outlined_array(&mut self) -> JiterResult<Option<Peek>>
-        ensures moves { MovesOn self.old self.new }
-        ensures value { Replies (option_map byte_of) result self.new
-            (next self.old (array_read self.old)) }
+        ensures reads { Reads never (option_map byte_of) (next self.old (array_read self.old))
+            result self.old self.new }
         ensures here { TellsHere result self.new }
-        ensures refusal { RefusesBytes self.old.text result }
     {
         let start = self.next_start()?;
         self.read_array(start)
@@ -64,11 +61,9 @@ impl<'j> Jiter<'j> {
     // A function of its own: otherwise the fast path would reserve stack space for the result of this call.
     #[inline(always)]
     fn general_array(&mut self) -> JiterResult<Option<Peek>>
-        ensures moves { MovesOn self.old self.new }
-        ensures value { Replies (option_map byte_of) result self.new
-            (next self.old (array_read self.old)) }
+        ensures reads { Reads never (option_map byte_of) (next self.old (array_read self.old))
+            result self.old self.new }
         ensures here { TellsHere result self.new }
-        ensures refusal { RefusesBytes self.old.text result }
     {
         self.outlined_array()
     }
@@ -99,11 +94,9 @@ impl<'j> Jiter<'j> {
     /// ```
     #[inline(always)]
     pub fn next_array(&mut self) -> JiterResult<Option<Peek>>
-        ensures moves { MovesOn self.old self.new }
-        ensures value { Replies (option_map byte_of) result self.new
-            (next self.old (array_read self.old)) }
+        ensures reads { Reads never (option_map byte_of) (next self.old (array_read self.old))
+            result self.old self.new }
         ensures here { TellsHere result self.new }
-        ensures refusal { RefusesBytes self.old.text result }
     {
         match self.plain_array() {
             Some(told) => Ok(told),
@@ -122,11 +115,9 @@ impl<'j> Jiter<'j> {
     /// The byte at the reader's position is `[`, as after a peek of [`Peek::Array`]. `rt try` does not test it.
     pub fn known_array(&mut self) -> JiterResult<Option<Peek>>
         requires { StandsAt self.old ascii.left_bracket }
-        ensures moves { MovesOn self.old self.new }
-        ensures value { Replies (option_map byte_of) result self.new
-            (known self.old (array_read self.old)) }
+        ensures reads { Reads never (option_map byte_of) (known self.old (array_read self.old))
+            result self.old self.new }
         ensures here { TellsHere result self.new }
-        ensures refusal { RefusesBytes self.old.text result }
     {
         self.next_array()
     }
@@ -135,10 +126,8 @@ impl<'j> Jiter<'j> {
     #[cold]
     #[inline(never)]
     fn outlined_step(&mut self) -> JiterResult<Option<Peek>>
-        ensures moves { MovesOn self.old self.new }
-        ensures value { Replies (option_map byte_of) result self.new (item_step self.old) }
+        ensures reads { Reads never (option_map byte_of) (item_step self.old) result self.old self.new }
         ensures here { TellsHere result self.new }
-        ensures refusal { RefusesBytes self.old.text result }
     {
         let led = self.parser.step(Shape::Array);
         self.item(led)
@@ -147,10 +136,8 @@ impl<'j> Jiter<'j> {
     // A function of its own: otherwise the fast path would reserve stack space for the result of this call.
     #[inline(always)]
     fn general_step(&mut self) -> JiterResult<Option<Peek>>
-        ensures moves { MovesOn self.old self.new }
-        ensures value { Replies (option_map byte_of) result self.new (item_step self.old) }
+        ensures reads { Reads never (option_map byte_of) (item_step self.old) result self.old self.new }
         ensures here { TellsHere result self.new }
-        ensures refusal { RefusesBytes self.old.text result }
     {
         self.outlined_step()
     }
@@ -171,10 +158,8 @@ impl<'j> Jiter<'j> {
     /// The reader is then at the error. Don't call it again: in `[1,]` a second call would take the `]` for the end.
     #[inline(always)]
     pub fn array_step(&mut self) -> JiterResult<Option<Peek>>
-        ensures moves { MovesOn self.old self.new }
-        ensures value { Replies (option_map byte_of) result self.new (item_step self.old) }
+        ensures reads { Reads never (option_map byte_of) (item_step self.old) result self.old self.new }
         ensures here { TellsHere result self.new }
-        ensures refusal { RefusesBytes self.old.text result }
     {
         let (at, what) = next_item(self.parser.bytes, self.parser.index);
         match self.plain_item(at, what) {

@@ -10,9 +10,9 @@ ghost use Rattle.jiter_steps.specs.StringReading.{string_at, whole, raw};
 ghost use Rattle.jiter_steps.specs.Tree.{Text};
 ghost use Rattle.jiter.specs.Reader.{value_place, next, known, gave, key_reply, colon_reply, member_reply, object_read};
 ghost use Rattle.jiter.specs.Reader.{key_step, position_after};
-ghost use Rattle.jiter.specs.Jiter.{MovesOn, Replies, RefusesBytes, UnlessMemory, WhereMemory, IndexWithin, reply_seen};
-ghost use Rattle.jiter.specs.Jiter.{key_bytes, BeginsAs, BeginsAt, StandsAt, StandsBefore, EndsWithColon};
-ghost use Rattle.jiter.specs.Jiter.{RefusesAs};
+ghost use Rattle.jiter.specs.Jiter.{MovesOn, Replies, RefusesBytes, reply_seen, key_bytes, BeginsAs, StandsAt};
+ghost use Rattle.jiter.specs.Jiter.{StandsBefore, EndsWithColon};
+ghost use Rattle.jiter.specs.Reads.{Lends, Reads, never, key_memory, first_key_memory, next_key_memory};
 ghost use Rattle.jiter.specs.Lending.{LeavesReader};
 
 use crate::errors::{JiterResult, JsonType};
@@ -35,15 +35,10 @@ impl<'j> Jiter<'j> {
 
     fn key(&mut self, alloc: Global) -> JiterResult<Option<CowStr<'j>>>
         requires { self.old.position < length self.old.text }
-        ensures moves { MovesOn self.old self.new }
-        ensures value { UnlessMemory result (Replies (option_map text_view) result self.new
-            (key_reply self.old.text self.old.position
-            (string_at whole self.old.text self.old.position))) }
+        ensures reads { Reads (key_memory self.old.text (more self.old.position)) (option_map text_view)
+            (key_reply self.old.text self.old.position (string_at whole self.old.text self.old.position))
+            result self.old self.new }
         ensures colon { EndsWithColon result self.old.text self.new.position }
-        ensures index { IndexWithin self.old.text result }
-        ensures memory { WhereMemory result (λ _. WantsMemory self.old.text self.old.position) }
-        ensures place { WhereMemory result (λ e. (self.new.position ≡ e.index)
-            × (e.index ≡ self.old.position)) }
     {
         let text = self.string(alloc, false)?;
         self.colon()?;
@@ -58,15 +53,9 @@ impl<'j> Jiter<'j> {
         requires within { self.old.position ≤ length self.old.text }
         requires inside { IfOk led (λ more. more ≡ true → self.old.position < length self.old.text) }
         requires stuck { IfErr led (λ f. f.index ≡ self.old.position) }
-        ensures moves { MovesOn self.old self.new }
-        ensures value { (s : Step) → Steps led self.old.position s
-            → UnlessMemory result (Replies (option_map text_view) result self.new
-            (member_reply whole self.old.text s)) }
+        ensures reads { (s : Step) → Steps led self.old.position s → Reads (key_memory self.old.text s)
+            (option_map text_view) (member_reply whole self.old.text s) result self.old self.new }
         ensures colon { EndsWithColon result self.old.text self.new.position }
-        ensures index { IndexWithin self.old.text result }
-        ensures memory { (s : Step) → Steps led self.old.position s
-            → WhereMemory result (λ e. WantsMemory self.old.text e.index × (s ≡ more e.index)) }
-        ensures place { WhereMemory result (λ e. self.new.position ≡ e.index) }
     {
         match led {
             Ok(true) => self.key(alloc),
@@ -77,15 +66,9 @@ impl<'j> Jiter<'j> {
 
     fn first_key(&mut self, alloc: Global, start: Start) -> JiterResult<Option<CowStr<'j>>>
         requires { BeginsAs self.old start }
-        ensures moves { MovesOn self.old self.new }
-        ensures value { UnlessMemory result (Replies (option_map text_view) result self.new
-            (object_read whole self.old self.old.position start)) }
+        ensures reads { Reads (first_key_memory self.old.text self.old.position) (option_map text_view)
+            (object_read whole self.old self.old.position start) result self.old self.new }
         ensures colon { EndsWithColon result self.old.text self.new.position }
-        ensures index { IndexWithin self.old.text result }
-        ensures memory { WhereMemory result (λ e. (start ≡ Start.Object)
-            × WantsMemory self.old.text e.index
-            × (step self.old.text object_first (self.old.position + 1) ≡ more e.index)) }
-        ensures place { WhereMemory result (λ e. self.new.position ≡ e.index) }
     {
         match start {
             Start::Object => {
@@ -98,16 +81,9 @@ impl<'j> Jiter<'j> {
 
     #[inline(never)]
     fn take_first_key(&mut self, alloc: Global) -> JiterResult<Option<CowStr<'j>>>
-        ensures moves { MovesOn self.old self.new }
-        ensures value { UnlessMemory result (Replies (option_map text_view) result self.new
-            (next self.old (object_read whole self.old))) }
+        ensures reads { Reads (first_key_memory self.old.text (value_place self.old)) (option_map text_view)
+            (next self.old (object_read whole self.old)) result self.old self.new }
         ensures colon { EndsWithColon result self.old.text self.new.position }
-        ensures index { IndexWithin self.old.text result }
-        ensures memory { WhereMemory result (λ e.
-            BeginsAt self.old.text (value_place self.old) Start.Object
-            × WantsMemory self.old.text e.index
-            × (step self.old.text object_first (value_place self.old + 1) ≡ more e.index)) }
-        ensures place { WhereMemory result (λ e. self.new.position ≡ e.index) }
     {
         let start = self.next_start()?;
         self.first_key(alloc, start)
@@ -115,14 +91,9 @@ impl<'j> Jiter<'j> {
 
     #[inline(never)]
     fn take_key(&mut self, alloc: Global) -> JiterResult<Option<CowStr<'j>>>
-        ensures moves { MovesOn self.old self.new }
-        ensures value { UnlessMemory result (Replies (option_map text_view) result self.new
-            (key_step whole self.old)) }
+        ensures reads { Reads (next_key_memory self.old) (option_map text_view)
+            (key_step whole self.old) result self.old self.new }
         ensures colon { EndsWithColon result self.old.text self.new.position }
-        ensures index { IndexWithin self.old.text result }
-        ensures memory { WhereMemory result (λ e. WantsMemory self.old.text e.index
-            × (step self.old.text (object_step self.old.text) self.old.position ≡ more e.index)) }
-        ensures place { WhereMemory result (λ e. self.new.position ≡ e.index) }
     {
         let led = self.parser.step(Shape::Object);
         self.key_there(alloc, led)
@@ -130,11 +101,10 @@ impl<'j> Jiter<'j> {
 
     fn key_bytes(&mut self) -> JiterResult<Option<&'j [u8]>>
         requires { self.old.position < length self.old.text }
-        ensures moves { MovesOn self.old self.new }
-        ensures value { Replies (option_map raw_view) result self.new (key_reply self.old.text
-            self.old.position (string_at raw self.old.text self.old.position)) }
+        ensures reads { Reads never (option_map raw_view)
+            (key_reply self.old.text self.old.position (string_at raw self.old.text self.old.position))
+            result self.old self.new }
         ensures colon { EndsWithColon result self.old.text self.new.position }
-        ensures refusal { RefusesBytes self.old.text result }
     {
         let content = self.raw_string(false)?;
         self.colon()?;
@@ -145,11 +115,9 @@ impl<'j> Jiter<'j> {
         requires within { self.old.position ≤ length self.old.text }
         requires inside { IfOk led (λ more. more ≡ true → self.old.position < length self.old.text) }
         requires stuck { IfErr led (λ f. f.index ≡ self.old.position) }
-        ensures moves { MovesOn self.old self.new }
-        ensures value { (s : Step) → Steps led self.old.position s
-            → Replies (option_map raw_view) result self.new (member_reply raw self.old.text s) }
+        ensures reads { (s : Step) → Steps led self.old.position s → Reads never (option_map raw_view)
+            (member_reply raw self.old.text s) result self.old self.new }
         ensures colon { EndsWithColon result self.old.text self.new.position }
-        ensures refusal { RefusesBytes self.old.text result }
     {
         match led {
             Ok(true) => self.key_bytes(),
@@ -160,11 +128,9 @@ impl<'j> Jiter<'j> {
 
     fn first_key_bytes(&mut self, start: Start) -> JiterResult<Option<&'j [u8]>>
         requires { BeginsAs self.old start }
-        ensures moves { MovesOn self.old self.new }
-        ensures value { Replies (option_map raw_view) result self.new
-            (object_read raw self.old self.old.position start) }
+        ensures reads { Reads never (option_map raw_view) (object_read raw self.old self.old.position start)
+            result self.old self.new }
         ensures colon { EndsWithColon result self.old.text self.new.position }
-        ensures refusal { RefusesBytes self.old.text result }
     {
         match start {
             Start::Object => {
@@ -186,11 +152,9 @@ impl<'j> Jiter<'j> {
     /// - the errors of [`Jiter::next_object`], except `InvalidUnicodeCodePoint` and `OutOfMemory`; they leave the
     ///   reader at the same position
     pub fn next_object_bytes(&mut self) -> JiterResult<Option<&'j [u8]>>
-        ensures moves { MovesOn self.old self.new }
-        ensures value { Replies (option_map raw_view) result self.new
-            (next self.old (object_read raw self.old)) }
+        ensures reads { Reads never (option_map raw_view) (next self.old (object_read raw self.old))
+            result self.old self.new }
         ensures colon { EndsWithColon result self.old.text self.new.position }
-        ensures refusal { RefusesBytes self.old.text result }
     {
         let start = self.next_start()?;
         self.first_key_bytes(start)
@@ -208,10 +172,8 @@ impl<'j> Jiter<'j> {
     /// - the errors of [`Jiter::next_key`], except `InvalidUnicodeCodePoint` and `OutOfMemory`; they leave the reader
     ///   at the same position
     pub fn next_key_bytes(&mut self) -> JiterResult<Option<&'j [u8]>>
-        ensures moves { MovesOn self.old self.new }
-        ensures value { Replies (option_map raw_view) result self.new (key_step raw self.old) }
+        ensures reads { Reads never (option_map raw_view) (key_step raw self.old) result self.old self.new }
         ensures colon { EndsWithColon result self.old.text self.new.position }
-        ensures refusal { RefusesBytes self.old.text result }
     {
         let led = self.parser.step(Shape::Object);
         self.key_bytes_there(led)
@@ -219,19 +181,12 @@ impl<'j> Jiter<'j> {
 
     #[inline(always)]
     fn general_object(&mut self, alloc: Global) -> JiterResult<Option<&str>>
-        ensures key { IfOk result (λ key. (e : ℕ)
-            × (reply_seen key_bytes (next self.old (object_read whole self.old))
-            ≡ gave (option_map (λ x. x.now) key) e)) }
+        ensures reads { Lends (first_key_memory self.old.text (value_place self.old)) (option_map (λ x. x.now))
+            (reply_seen key_bytes (next self.old (object_read whole self.old))) result self.old }
         ensures colon { EndsWithColon result self.old.text
             (position_after (next self.old (object_read whole self.old))) }
-        ensures refusal { RefusesAs result (next self.old (object_read whole self.old)) }
-        ensures index { IndexWithin self.old.text result }
-        ensures memory { WhereMemory result (λ e.
-            BeginsAt self.old.text (value_place self.old) Start.Object
-            × WantsMemory self.old.text e.index
-            × (step self.old.text object_first (value_place self.old + 1) ≡ more e.index)) }
-        ensures* after { sem 𝓛 (LeavesReader (option_map (λ x. x.now)) result self.entry
-            (reply_seen key_bytes (next self.old (object_read whole self.old)))) }
+        ensures* after { sem 𝓛 (LeavesReader (first_key_memory self.old.text (value_place self.old)) (option_map (λ x. x.now))
+            (reply_seen key_bytes (next self.old (object_read whole self.old))) result self.entry) }
     {
         let key = self.take_first_key(alloc)?;
         match key {
@@ -264,19 +219,12 @@ impl<'j> Jiter<'j> {
     ///
     /// The opening brace is consumed when memory runs out. To be able to try again, clone the reader before the call.
     pub fn next_object(&mut self, alloc: Global) -> JiterResult<Option<&str>>
-        ensures key { IfOk result (λ key. (e : ℕ)
-            × (reply_seen key_bytes (next self.old (object_read whole self.old))
-            ≡ gave (option_map (λ x. x.now) key) e)) }
+        ensures reads { Lends (first_key_memory self.old.text (value_place self.old)) (option_map (λ x. x.now))
+            (reply_seen key_bytes (next self.old (object_read whole self.old))) result self.old }
         ensures colon { EndsWithColon result self.old.text
             (position_after (next self.old (object_read whole self.old))) }
-        ensures refusal { RefusesAs result (next self.old (object_read whole self.old)) }
-        ensures index { IndexWithin self.old.text result }
-        ensures memory { WhereMemory result (λ e.
-            BeginsAt self.old.text (value_place self.old) Start.Object
-            × WantsMemory self.old.text e.index
-            × (step self.old.text object_first (value_place self.old + 1) ≡ more e.index)) }
-        ensures* after { sem 𝓛 (LeavesReader (option_map (λ x. x.now)) result self.entry
-            (reply_seen key_bytes (next self.old (object_read whole self.old)))) }
+        ensures* after { sem 𝓛 (LeavesReader (first_key_memory self.old.text (value_place self.old)) (option_map (λ x. x.now))
+            (reply_seen key_bytes (next self.old (object_read whole self.old))) result self.entry) }
     {
         if let Some(key) = self.plain_object() {
             return Ok(key);
@@ -297,17 +245,12 @@ impl<'j> Jiter<'j> {
     /// The byte at the reader's position is `{`, as after a peek of [`Peek::Object`]. `rt try` does not test it.
     pub fn known_object(&mut self, alloc: Global) -> JiterResult<Option<&str>>
         requires { StandsAt self.old ascii.left_brace }
-        ensures key { IfOk result (λ key. (e : ℕ)
-            × (reply_seen key_bytes (known self.old (object_read whole self.old))
-            ≡ gave (option_map (λ x. x.now) key) e)) }
+        ensures reads { Lends (first_key_memory self.old.text self.old.position) (option_map (λ x. x.now))
+            (reply_seen key_bytes (known self.old (object_read whole self.old))) result self.old }
         ensures colon { EndsWithColon result self.old.text
             (position_after (known self.old (object_read whole self.old))) }
-        ensures refusal { RefusesAs result (known self.old (object_read whole self.old)) }
-        ensures index { IndexWithin self.old.text result }
-        ensures memory { WhereMemory result (λ e. WantsMemory self.old.text e.index
-            × (step self.old.text object_first (self.old.position + 1) ≡ more e.index)) }
-        ensures* after { sem 𝓛 (LeavesReader (option_map (λ x. x.now)) result self.entry
-            (reply_seen key_bytes (known self.old (object_read whole self.old)))) }
+        ensures* after { sem 𝓛 (LeavesReader (first_key_memory self.old.text self.old.position) (option_map (λ x. x.now))
+            (reply_seen key_bytes (known self.old (object_read whole self.old))) result self.entry) }
     {
         let key = self.first_key(alloc, Start::Object)?;
         match key {
@@ -321,17 +264,12 @@ impl<'j> Jiter<'j> {
 
     #[inline(always)]
     fn general_key(&mut self, alloc: Global) -> JiterResult<Option<&str>>
-        ensures key { IfOk result (λ key. (e : ℕ)
-            × (reply_seen key_bytes (key_step whole self.old)
-            ≡ gave (option_map (λ x. x.now) key) e)) }
+        ensures reads { Lends (next_key_memory self.old) (option_map (λ x. x.now))
+            (reply_seen key_bytes (key_step whole self.old)) result self.old }
         ensures colon { EndsWithColon result self.old.text
             (position_after (key_step whole self.old)) }
-        ensures refusal { RefusesAs result (key_step whole self.old) }
-        ensures index { IndexWithin self.old.text result }
-        ensures memory { WhereMemory result (λ e. WantsMemory self.old.text e.index
-            × (step self.old.text (object_step self.old.text) self.old.position ≡ more e.index)) }
-        ensures* after { sem 𝓛 (LeavesReader (option_map (λ x. x.now)) result self.entry
-            (reply_seen key_bytes (key_step whole self.old))) }
+        ensures* after { sem 𝓛 (LeavesReader (next_key_memory self.old) (option_map (λ x. x.now))
+            (reply_seen key_bytes (key_step whole self.old)) result self.entry) }
     {
         let key = self.take_key(alloc)?;
         match key {
@@ -365,17 +303,12 @@ impl<'j> Jiter<'j> {
     ///
     /// The comma is consumed when memory runs out. To be able to try again, clone the reader before the call.
     pub fn next_key(&mut self, alloc: Global) -> JiterResult<Option<&str>>
-        ensures key { IfOk result (λ key. (e : ℕ)
-            × (reply_seen key_bytes (key_step whole self.old)
-            ≡ gave (option_map (λ x. x.now) key) e)) }
+        ensures reads { Lends (next_key_memory self.old) (option_map (λ x. x.now))
+            (reply_seen key_bytes (key_step whole self.old)) result self.old }
         ensures colon { EndsWithColon result self.old.text
             (position_after (key_step whole self.old)) }
-        ensures refusal { RefusesAs result (key_step whole self.old) }
-        ensures index { IndexWithin self.old.text result }
-        ensures memory { WhereMemory result (λ e. WantsMemory self.old.text e.index
-            × (step self.old.text (object_step self.old.text) self.old.position ≡ more e.index)) }
-        ensures* after { sem 𝓛 (LeavesReader (option_map (λ x. x.now)) result self.entry
-            (reply_seen key_bytes (key_step whole self.old))) }
+        ensures* after { sem 𝓛 (LeavesReader (next_key_memory self.old) (option_map (λ x. x.now))
+            (reply_seen key_bytes (key_step whole self.old)) result self.entry) }
     {
         if let Some(key) = self.plain_next_key() {
             return Ok(key);

@@ -4,8 +4,9 @@ ghost use Rattle.jiter_steps.specs.Answer.{read_at};
 ghost use Rattle.jiter_value.specs.Owned.{owned_tree, ReadHolds};
 ghost use Rattle.jiter_value.specs.Value.{view, MayGrowAt};
 ghost use Rattle.jiter.specs.Reader.{value_place, next, known, value_reply, value_read};
-ghost use Rattle.jiter.specs.Jiter.{MovesOn, Replies, UnlessMemory, WhereMemory, IndexWithin, StandsAt};
-ghost use Rattle.jiter.specs.Jiter.{byte_of, reply_seen};
+ghost use Rattle.jiter.specs.Jiter.{StandsAt, byte_of};
+ghost use Rattle.jiter.specs.Reads.{Reads, owned_value_memory};
+ghost use Rattle.jiter.specs.Jiter.{reply_seen};
 
 use crate::errors::JiterResult;
 use crate::jiter::{Jiter, refusal_at};
@@ -19,13 +20,9 @@ use std::alloc::Global;
 impl<'j> Jiter<'j> {
     fn owned_value(&mut self, alloc: Global) -> JiterResult<JsonValue<'static>>
         requires { self.old.position < length self.old.text }
-        ensures moves { MovesOn self.old self.new }
-        ensures value { UnlessMemory result (Replies view result self.new (reply_seen owned_tree
-            (value_reply (read_at self.old.names self.old.text self.old.position)))) }
-        ensures index { IndexWithin self.old.text result }
-        ensures memory { WhereMemory result (λ _. MayGrowAt self.old.text self.old.position
-            ⊎ ReadHolds (read_at self.old.names self.old.text self.old.position)) }
-        ensures place { WhereMemory result (λ e. self.new.position ≡ e.index) }
+        ensures reads { Reads (owned_value_memory self.old self.old.position) view
+            (reply_seen owned_tree (value_reply (read_at self.old.names self.old.text self.old.position)))
+            result self.old self.new }
     {
         let settings = Settings {
             allow_inf_nan: self.allow_inf_nan,
@@ -48,14 +45,9 @@ impl<'j> Jiter<'j> {
     ///
     /// After `OutOfMemory` the reader is at the error's index, at or after the value's first byte.
     pub fn next_value_owned(&mut self, alloc: Global) -> JiterResult<JsonValue<'static>>
-        ensures moves { MovesOn self.old self.new }
-        ensures value { UnlessMemory result (Replies view result self.new
-            (reply_seen owned_tree (next self.old (value_read self.old)))) }
-        ensures index { IndexWithin self.old.text result }
-        ensures memory { WhereMemory result (λ _. MayGrowAt self.old.text (value_place self.old)
-            ⊎ ReadHolds (read_at self.old.names self.old.text (value_place self.old))) }
-        ensures place { WhereMemory result (λ e. (self.new.position ≡ e.index)
-            × (value_place self.old ≤ e.index)) }
+        ensures reads { Reads (owned_value_memory self.old (value_place self.old)) view
+            (reply_seen owned_tree (next self.old (value_read self.old)))
+            result self.old self.new }
     {
         self.peek()?;
         self.owned_value(alloc)
@@ -76,14 +68,9 @@ impl<'j> Jiter<'j> {
         peek: Peek,
     ) -> JiterResult<JsonValue<'static>>
         requires { StandsAt self.old (byte_of peek) }
-        ensures moves { MovesOn self.old self.new }
-        ensures value { UnlessMemory result (Replies view result self.new
-            (reply_seen owned_tree (known self.old (value_read self.old)))) }
-        ensures index { IndexWithin self.old.text result }
-        ensures memory { WhereMemory result (λ _. MayGrowAt self.old.text self.old.position
-            ⊎ ReadHolds (read_at self.old.names self.old.text self.old.position)) }
-        ensures place { WhereMemory result (λ e. (self.new.position ≡ e.index)
-            × (self.old.position ≤ e.index)) }
+        ensures reads { Reads (owned_value_memory self.old self.old.position) view
+            (reply_seen owned_tree (known self.old (value_read self.old)))
+            result self.old self.new }
     {
         let _ = peek;
         self.owned_value(alloc)

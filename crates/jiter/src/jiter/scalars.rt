@@ -6,7 +6,8 @@ ghost use Rattle.jiter_scan.specs.NumberReading.{number_at, int_at};
 ghost use Rattle.jiter_steps.specs.Literal.{literal_at};
 ghost use Rattle.jiter.specs.Reader.{next, known, scalar_reply, integer_reply, null_read, bool_read, number_read};
 ghost use Rattle.jiter.specs.Reader.{int_read, number_bytes_read};
-ghost use Rattle.jiter.specs.Jiter.{MovesOn, Replies, RefusesBytes, BeginsAs, StandsAt, byte_of};
+ghost use Rattle.jiter.specs.Jiter.{BeginsAs, StandsAt, byte_of};
+ghost use Rattle.jiter.specs.Reads.{Reads, never};
 
 use crate::errors::{JiterResult, JsonType};
 use crate::jiter::{Jiter, refusal, wrong_type};
@@ -17,30 +18,26 @@ use jiter_steps::parse::{Literal, Start, start_of};
 
 impl<'j> Jiter<'j> {
     fn literal(&mut self, literal: Literal) -> JiterResult<()>
-        ensures moves { MovesOn self.old self.new }
-        ensures value { Replies (λ u. u) result self.new
-            (scalar_reply self.old.position (literal_at self.old.text literal self.old.position)) }
-        ensures refusal { RefusesBytes self.old.text result }
+        ensures reads { Reads never (λ u. u)
+            (scalar_reply self.old.position (literal_at self.old.text literal self.old.position))
+            result self.old self.new }
     {
         self.parser.literal(literal).map_err(refusal)
     }
 
     fn number(&mut self) -> JiterResult<NumberAny<'j>>
         requires within { self.old.position < length self.old.text }
-        ensures moves { MovesOn self.old self.new }
-        ensures value { Replies number_view result self.new (scalar_reply self.old.position
-            (number_at self.old.names self.old.text self.old.position)) }
-        ensures refusal { RefusesBytes self.old.text result }
+        ensures reads { Reads never number_view
+            (scalar_reply self.old.position (number_at self.old.names self.old.text self.old.position))
+            result self.old self.new }
     {
         self.parser.number(self.allow_inf_nan).map_err(refusal)
     }
 
     fn read_null(&mut self, start: Start) -> JiterResult<()>
         requires { BeginsAs self.old start }
-        ensures moves { MovesOn self.old self.new }
-        ensures value { Replies (λ u. u) result self.new
-            (null_read self.old self.old.position start) }
-        ensures refusal { RefusesBytes self.old.text result }
+        ensures reads { Reads never (λ u. u) (null_read self.old self.old.position start)
+            result self.old self.new }
     {
         match start {
             Start::Literal(Literal::Null) => self.literal(Literal::Null),
@@ -52,9 +49,7 @@ impl<'j> Jiter<'j> {
     #[cold]
     #[inline(never)]
     fn outlined_null(&mut self) -> JiterResult<()>
-        ensures moves { MovesOn self.old self.new }
-        ensures value { Replies (λ u. u) result self.new (next self.old (null_read self.old)) }
-        ensures refusal { RefusesBytes self.old.text result }
+        ensures reads { Reads never (λ u. u) (next self.old (null_read self.old)) result self.old self.new }
     {
         let start = self.next_start()?;
         self.read_null(start)
@@ -63,9 +58,7 @@ impl<'j> Jiter<'j> {
     // A function of its own: otherwise the fast path would reserve stack space for the result of this call.
     #[inline(always)]
     fn general_null(&mut self) -> JiterResult<()>
-        ensures moves { MovesOn self.old self.new }
-        ensures value { Replies (λ u. u) result self.new (next self.old (null_read self.old)) }
-        ensures refusal { RefusesBytes self.old.text result }
+        ensures reads { Reads never (λ u. u) (next self.old (null_read self.old)) result self.old self.new }
     {
         self.outlined_null()
     }
@@ -82,9 +75,7 @@ impl<'j> Jiter<'j> {
     /// The reader is then at the value's first byte (or at the end, if only whitespace is left).
     #[inline(always)]
     pub fn next_null(&mut self) -> JiterResult<()>
-        ensures moves { MovesOn self.old self.new }
-        ensures value { Replies (λ u. u) result self.new (next self.old (null_read self.old)) }
-        ensures refusal { RefusesBytes self.old.text result }
+        ensures reads { Reads never (λ u. u) (next self.old (null_read self.old)) result self.old self.new }
     {
         if self.plain_null() {
             Ok(())
@@ -107,19 +98,15 @@ impl<'j> Jiter<'j> {
     /// The byte at the reader's position is `n`, as after a peek of [`Peek::Null`]. `rt try` does not test it.
     pub fn known_null(&mut self) -> JiterResult<()>
         requires { StandsAt self.old ascii.small_n }
-        ensures moves { MovesOn self.old self.new }
-        ensures value { Replies (λ u. u) result self.new (known self.old (null_read self.old)) }
-        ensures refusal { RefusesBytes self.old.text result }
+        ensures reads { Reads never (λ u. u) (known self.old (null_read self.old)) result self.old self.new }
     {
         self.next_null()
     }
 
     fn read_bool(&mut self, start: Start) -> JiterResult<bool>
         requires { BeginsAs self.old start }
-        ensures moves { MovesOn self.old self.new }
-        ensures value { Replies (λ b. b) result self.new
-            (bool_read self.old self.old.position start) }
-        ensures refusal { RefusesBytes self.old.text result }
+        ensures reads { Reads never (λ b. b) (bool_read self.old self.old.position start)
+            result self.old self.new }
     {
         match start {
             Start::Literal(Literal::True) => self.literal(Literal::True).and(Ok(true)),
@@ -132,9 +119,7 @@ impl<'j> Jiter<'j> {
     #[cold]
     #[inline(never)]
     fn outlined_bool(&mut self) -> JiterResult<bool>
-        ensures moves { MovesOn self.old self.new }
-        ensures value { Replies (λ b. b) result self.new (next self.old (bool_read self.old)) }
-        ensures refusal { RefusesBytes self.old.text result }
+        ensures reads { Reads never (λ b. b) (next self.old (bool_read self.old)) result self.old self.new }
     {
         let start = self.next_start()?;
         self.read_bool(start)
@@ -143,9 +128,7 @@ impl<'j> Jiter<'j> {
     // A function of its own: otherwise the fast path would reserve stack space for the result of this call.
     #[inline(always)]
     fn general_bool(&mut self) -> JiterResult<bool>
-        ensures moves { MovesOn self.old self.new }
-        ensures value { Replies (λ b. b) result self.new (next self.old (bool_read self.old)) }
-        ensures refusal { RefusesBytes self.old.text result }
+        ensures reads { Reads never (λ b. b) (next self.old (bool_read self.old)) result self.old self.new }
     {
         self.outlined_bool()
     }
@@ -162,9 +145,7 @@ impl<'j> Jiter<'j> {
     /// The reader is then at the value's first byte (or at the end, if only whitespace is left).
     #[inline(always)]
     pub fn next_bool(&mut self) -> JiterResult<bool>
-        ensures moves { MovesOn self.old self.new }
-        ensures value { Replies (λ b. b) result self.new (next self.old (bool_read self.old)) }
-        ensures refusal { RefusesBytes self.old.text result }
+        ensures reads { Reads never (λ b. b) (next self.old (bool_read self.old)) result self.old self.new }
     {
         match self.plain_bool() {
             Some(truth) => Ok(truth),
@@ -183,9 +164,7 @@ impl<'j> Jiter<'j> {
     /// The byte of `peek` is at the reader's position, as after the call that returned it. `rt try` does not test it.
     pub fn known_bool(&mut self, peek: Peek) -> JiterResult<bool>
         requires { StandsAt self.old (byte_of peek) }
-        ensures moves { MovesOn self.old self.new }
-        ensures value { Replies (λ b. b) result self.new (known self.old (bool_read self.old)) }
-        ensures refusal { RefusesBytes self.old.text result }
+        ensures reads { Reads never (λ b. b) (known self.old (bool_read self.old)) result self.old self.new }
     {
         let byte = peek.into_inner();
         if byte > b' ' {
@@ -197,10 +176,8 @@ impl<'j> Jiter<'j> {
 
     fn read_number(&mut self, start: Start) -> JiterResult<NumberAny<'j>>
         requires { BeginsAs self.old start }
-        ensures moves { MovesOn self.old self.new }
-        ensures value { Replies number_view result self.new
-            (number_read self.old self.old.position start) }
-        ensures refusal { RefusesBytes self.old.text result }
+        ensures reads { Reads never number_view (number_read self.old self.old.position start)
+            result self.old self.new }
     {
         match start {
             Start::Number => self.number(),
@@ -223,9 +200,8 @@ impl<'j> Jiter<'j> {
     ///
     /// The reader is then at the value's first byte (or at the end, if only whitespace is left).
     pub fn next_number(&mut self) -> JiterResult<NumberAny<'j>>
-        ensures moves { MovesOn self.old self.new }
-        ensures value { Replies number_view result self.new (next self.old (number_read self.old)) }
-        ensures refusal { RefusesBytes self.old.text result }
+        ensures reads { Reads never number_view (next self.old (number_read self.old))
+            result self.old self.new }
     {
         let start = self.next_start()?;
         self.read_number(start)
@@ -242,20 +218,17 @@ impl<'j> Jiter<'j> {
     /// The byte of `peek` is at the reader's position, as after the call that returned it. `rt try` does not test it.
     pub fn known_number(&mut self, peek: Peek) -> JiterResult<NumberAny<'j>>
         requires { StandsAt self.old (byte_of peek) }
-        ensures moves { MovesOn self.old self.new }
-        ensures value { Replies number_view result self.new
-            (known self.old (number_read self.old)) }
-        ensures refusal { RefusesBytes self.old.text result }
+        ensures reads { Reads never number_view (known self.old (number_read self.old))
+            result self.old self.new }
     {
         self.read_number(start_of(peek.into_inner()))
     }
 
     fn integer(&mut self) -> JiterResult<NumberInt<'j>>
         requires within { self.old.position < length self.old.text }
-        ensures moves { MovesOn self.old self.new }
-        ensures value { Replies int_view result self.new
-            (integer_reply self.old.position (int_at self.old.text self.old.position)) }
-        ensures refusal { RefusesBytes self.old.text result }
+        ensures reads { Reads never int_view
+            (integer_reply self.old.position (int_at self.old.text self.old.position))
+            result self.old self.new }
     {
         let index = self.parser.index;
         match int_at(self.parser.bytes, index) {
@@ -272,10 +245,8 @@ impl<'j> Jiter<'j> {
 
     fn read_int(&mut self, start: Start) -> JiterResult<NumberInt<'j>>
         requires { BeginsAs self.old start }
-        ensures moves { MovesOn self.old self.new }
-        ensures value { Replies int_view result self.new
-            (int_read self.old self.old.position start) }
-        ensures refusal { RefusesBytes self.old.text result }
+        ensures reads { Reads never int_view (int_read self.old self.old.position start)
+            result self.old self.new }
     {
         match start {
             Start::Number => self.integer(),
@@ -300,9 +271,7 @@ impl<'j> Jiter<'j> {
     ///
     /// The reader is then at the value's first byte (or at the end, if only whitespace is left).
     pub fn next_int(&mut self) -> JiterResult<NumberInt<'j>>
-        ensures moves { MovesOn self.old self.new }
-        ensures value { Replies int_view result self.new (next self.old (int_read self.old)) }
-        ensures refusal { RefusesBytes self.old.text result }
+        ensures reads { Reads never int_view (next self.old (int_read self.old)) result self.old self.new }
     {
         let start = self.next_start()?;
         self.read_int(start)
@@ -319,19 +288,15 @@ impl<'j> Jiter<'j> {
     /// The byte of `peek` is at the reader's position, as after the call that returned it. `rt try` does not test it.
     pub fn known_int(&mut self, peek: Peek) -> JiterResult<NumberInt<'j>>
         requires { StandsAt self.old (byte_of peek) }
-        ensures moves { MovesOn self.old self.new }
-        ensures value { Replies int_view result self.new (known self.old (int_read self.old)) }
-        ensures refusal { RefusesBytes self.old.text result }
+        ensures reads { Reads never int_view (known self.old (int_read self.old)) result self.old self.new }
     {
         self.read_int(start_of(peek.into_inner()))
     }
 
     fn read_number_bytes(&mut self, start: Start) -> JiterResult<&'j [u8]>
         requires { BeginsAs self.old start }
-        ensures moves { MovesOn self.old self.new }
-        ensures value { Replies (λ b. b.now) result self.new
-            (number_bytes_read self.old self.old.position start) }
-        ensures refusal { RefusesBytes self.old.text result }
+        ensures reads { Reads never (λ b. b.now) (number_bytes_read self.old self.old.position start)
+            result self.old self.new }
     {
         let index = self.parser.index;
         match start {
@@ -347,10 +312,8 @@ impl<'j> Jiter<'j> {
     #[cold]
     #[inline(never)]
     fn outlined_number_bytes(&mut self) -> JiterResult<&'j [u8]>
-        ensures moves { MovesOn self.old self.new }
-        ensures value { Replies (λ b. b.now) result self.new
-            (next self.old (number_bytes_read self.old)) }
-        ensures refusal { RefusesBytes self.old.text result }
+        ensures reads { Reads never (λ b. b.now) (next self.old (number_bytes_read self.old))
+            result self.old self.new }
     {
         let start = self.next_start()?;
         self.read_number_bytes(start)
@@ -359,10 +322,8 @@ impl<'j> Jiter<'j> {
     // A function of its own: otherwise the fast path would reserve stack space for the result of this call.
     #[inline(always)]
     fn general_number_bytes(&mut self) -> JiterResult<&'j [u8]>
-        ensures moves { MovesOn self.old self.new }
-        ensures value { Replies (λ b. b.now) result self.new
-            (next self.old (number_bytes_read self.old)) }
-        ensures refusal { RefusesBytes self.old.text result }
+        ensures reads { Reads never (λ b. b.now) (next self.old (number_bytes_read self.old))
+            result self.old self.new }
     {
         self.outlined_number_bytes()
     }
@@ -376,10 +337,8 @@ impl<'j> Jiter<'j> {
     /// The reader is then at the value's first byte (or at the end, if only whitespace is left).
     #[inline(always)]
     pub fn next_number_bytes(&mut self) -> JiterResult<&'j [u8]>
-        ensures moves { MovesOn self.old self.new }
-        ensures value { Replies (λ b. b.now) result self.new
-            (next self.old (number_bytes_read self.old)) }
-        ensures refusal { RefusesBytes self.old.text result }
+        ensures reads { Reads never (λ b. b.now) (next self.old (number_bytes_read self.old))
+            result self.old self.new }
     {
         match self.plain_number_bytes() {
             Some(bytes) => Ok(bytes),
@@ -398,10 +357,8 @@ impl<'j> Jiter<'j> {
     /// The byte of `peek` is at the reader's position, as after the call that returned it. `rt try` does not test it.
     pub fn known_number_bytes(&mut self, peek: Peek) -> JiterResult<&'j [u8]>
         requires { StandsAt self.old (byte_of peek) }
-        ensures moves { MovesOn self.old self.new }
-        ensures value { Replies (λ b. b.now) result self.new
-            (known self.old (number_bytes_read self.old)) }
-        ensures refusal { RefusesBytes self.old.text result }
+        ensures reads { Reads never (λ b. b.now) (known self.old (number_bytes_read self.old))
+            result self.old self.new }
     {
         let byte = peek.into_inner();
         if byte > b' ' {

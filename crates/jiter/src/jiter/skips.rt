@@ -3,6 +3,7 @@ ghost use Rattle.std.specs.Prelude.{◌<◌, length};
 ghost use Rattle.jiter_steps.specs.Answer.{skip_at};
 ghost use Rattle.jiter.specs.Reader.{next, known, value_reply, value_read, skip_read};
 ghost use Rattle.jiter.specs.Jiter.{MovesOn, Replies, RefusesBytes, StandsAt, byte_of};
+ghost use Rattle.jiter.specs.Reads.{Reads, never};
 ghost use Rattle.jiter.specs.Skipping.{SkipsAsRead};
 
 use crate::errors::JiterResult;
@@ -13,18 +14,14 @@ use jiter_steps::skip::skip;
 impl<'j> Jiter<'j> {
     fn pass(&mut self) -> JiterResult<()>
         requires { self.old.position < length self.old.text }
-        ensures moves { MovesOn self.old self.new }
-        ensures value { Replies (λ u. u) result self.new
-            (value_reply (skip_at self.old.names self.old.text self.old.position)) }
-        ensures refusal { RefusesBytes self.old.text result }
+        ensures reads { Reads never (λ u. u)
+            (value_reply (skip_at self.old.names self.old.text self.old.position)) result self.old self.new }
     {
         skip(&mut self.parser, self.allow_inf_nan).map_err(refusal)
     }
 
     fn pass_next(&mut self) -> JiterResult<()>
-        ensures moves { MovesOn self.old self.new }
-        ensures value { Replies (λ u. u) result self.new (next self.old (skip_read self.old)) }
-        ensures refusal { RefusesBytes self.old.text result }
+        ensures reads { Reads never (λ u. u) (next self.old (skip_read self.old)) result self.old self.new }
     {
         self.peek()?;
         self.pass()
@@ -39,9 +36,7 @@ impl<'j> Jiter<'j> {
     /// - the errors of [`Jiter::next_value`], except `InvalidUnicodeCodePoint` and `OutOfMemory`; they leave the reader
     ///   at the same position
     pub fn next_skip(&mut self) -> JiterResult<()>
-        ensures moves { MovesOn self.old self.new }
-        ensures value { Replies (λ u. u) result self.new (next self.old (skip_read self.old)) }
-        ensures refusal { RefusesBytes self.old.text result }
+        ensures reads { Reads never (λ u. u) (next self.old (skip_read self.old)) result self.old self.new }
         ensures as_read { SkipsAsRead (Replies (λ u. u) result self.new)
             (next self.old (value_read self.old)) }
     {
@@ -59,9 +54,7 @@ impl<'j> Jiter<'j> {
     /// The byte of `peek` is at the reader's position, as after the call that returned it. `rt try` does not test it.
     pub fn known_skip(&mut self, peek: Peek) -> JiterResult<()>
         requires { StandsAt self.old (byte_of peek) }
-        ensures moves { MovesOn self.old self.new }
-        ensures value { Replies (λ u. u) result self.new (known self.old (skip_read self.old)) }
-        ensures refusal { RefusesBytes self.old.text result }
+        ensures reads { Reads never (λ u. u) (known self.old (skip_read self.old)) result self.old self.new }
         ensures as_read { SkipsAsRead (Replies (λ u. u) result self.new)
             (known self.old (value_read self.old)) }
     {

@@ -10,8 +10,8 @@ ghost use Rattle.jiter_steps.specs.RawString.{raw_view};
 ghost use Rattle.jiter_steps.specs.StringDecoder.{text_view, WantsMemory};
 ghost use Rattle.jiter_steps.specs.StringReading.{string_at, text_form, whole, kept, raw, raw_kept};
 ghost use Rattle.jiter.specs.Reader.{value_place, next, known, gave, scalar_reply, str_read, bytes_read};
-ghost use Rattle.jiter.specs.Jiter.{MovesOn, Replies, RefusesBytes, UnlessMemory, WhereMemory, IndexWithin, reply_seen};
-ghost use Rattle.jiter.specs.Jiter.{front, text_bytes, BeginsAs, BeginsAt, IsMemory, RefusesAs, StandsAt};
+ghost use Rattle.jiter.specs.Jiter.{MovesOn, front, reply_seen, text_bytes, BeginsAs, IsMemory, StandsAt};
+ghost use Rattle.jiter.specs.Reads.{Lends, Reads, never, escape_memory, string_memory};
 ghost use Rattle.jiter.specs.Lending.{LeavesReader};
 
 use crate::errors::{JiterError, JiterResult, JsonType};
@@ -91,14 +91,10 @@ impl<'j> Jiter<'j> {
     // `partial` allows an unterminated string.
     pub(super) fn string(&mut self, alloc: Global, partial: bool) -> JiterResult<CowStr<'j>>
         requires { self.old.position < length self.old.text }
-        ensures moves { MovesOn self.old self.new }
-        ensures value { UnlessMemory result (Replies text_view result self.new
+        ensures reads { Reads (escape_memory self.old.text self.old.position) text_view
             (scalar_reply self.old.position
-            (string_at (if partial then kept else whole) self.old.text self.old.position))) }
-        ensures index { IndexWithin self.old.text result }
-        ensures memory { WhereMemory result (λ _. WantsMemory self.old.text self.old.position) }
-        ensures place { WhereMemory result (λ e. (self.new.position ≡ e.index)
-            × (e.index ≡ self.old.position)) }
+            (string_at (if partial then kept else whole) self.old.text self.old.position))
+            result self.old self.new }
     {
         let mut tape = self.take_tape(alloc);
         let read = self.parser.string(alloc, &mut tape, partial);
@@ -108,14 +104,8 @@ impl<'j> Jiter<'j> {
 
     fn read_str(&mut self, alloc: Global, start: Start) -> JiterResult<CowStr<'j>>
         requires { BeginsAs self.old start }
-        ensures moves { MovesOn self.old self.new }
-        ensures value { UnlessMemory result (Replies text_view result self.new
-            (str_read self.old self.old.position start)) }
-        ensures index { IndexWithin self.old.text result }
-        ensures memory { WhereMemory result (λ _. (start ≡ Start.String)
-            × WantsMemory self.old.text self.old.position) }
-        ensures place { WhereMemory result (λ e. (self.new.position ≡ e.index)
-            × (e.index ≡ self.old.position)) }
+        ensures reads { Reads (string_memory self.old.text self.old.position) text_view
+            (str_read self.old self.old.position start) result self.old self.new }
     {
         match start {
             Start::String => self.string(alloc, self.allow_partial_strings),
@@ -125,15 +115,8 @@ impl<'j> Jiter<'j> {
 
     #[inline(never)]
     fn take_str(&mut self, alloc: Global) -> JiterResult<CowStr<'j>>
-        ensures moves { MovesOn self.old self.new }
-        ensures value { UnlessMemory result (Replies text_view result self.new
-            (next self.old (str_read self.old))) }
-        ensures index { IndexWithin self.old.text result }
-        ensures memory { WhereMemory result (λ _.
-            BeginsAt self.old.text (value_place self.old) Start.String
-            × WantsMemory self.old.text (value_place self.old)) }
-        ensures place { WhereMemory result (λ e. (self.new.position ≡ e.index)
-            × (e.index ≡ value_place self.old)) }
+        ensures reads { Reads (string_memory self.old.text (value_place self.old)) text_view
+            (next self.old (str_read self.old)) result self.old self.new }
     {
         let start = self.next_start()?;
         self.read_str(alloc, start)
@@ -141,16 +124,10 @@ impl<'j> Jiter<'j> {
 
     #[inline(always)]
     fn general_str(&mut self, alloc: Global) -> JiterResult<&str>
-        ensures text { IfOk result (λ x. (e : ℕ)
-            × (reply_seen text_bytes (next self.old (str_read self.old)) ≡ gave x.now e)) }
-        ensures refusal { RefusesAs result (next self.old (str_read self.old)) }
-        ensures index { IndexWithin self.old.text result }
-        ensures memory { WhereMemory result (λ _.
-            BeginsAt self.old.text (value_place self.old) Start.String
-            × WantsMemory self.old.text (value_place self.old)) }
-        ensures place { WhereMemory result (λ e. e.index ≡ value_place self.old) }
-        ensures* after { sem 𝓛 (LeavesReader (λ x. x.now) result self.entry
-            (reply_seen text_bytes (next self.old (str_read self.old)))) }
+        ensures reads { Lends (string_memory self.old.text (value_place self.old)) (λ x. x.now)
+            (reply_seen text_bytes (next self.old (str_read self.old))) result self.old }
+        ensures* after { sem 𝓛 (LeavesReader (string_memory self.old.text (value_place self.old)) (λ x. x.now)
+            (reply_seen text_bytes (next self.old (str_read self.old))) result self.entry) }
     {
         self.text = self.take_str(alloc)?;
         Ok(self.text.as_str())
@@ -179,15 +156,8 @@ impl<'j> Jiter<'j> {
         requires place { at ≡ value_place self.old }
         requires quote { slice_get self.old.text at ≡ Some ascii.quote }
         requires backslash { WantsMemory self.old.text at }
-        ensures moves { MovesOn self.old self.new }
-        ensures value { UnlessMemory result (Replies text_view result self.new
-            (next self.old (str_read self.old))) }
-        ensures index { IndexWithin self.old.text result }
-        ensures memory { WhereMemory result (λ _.
-            BeginsAt self.old.text (value_place self.old) Start.String
-            × WantsMemory self.old.text (value_place self.old)) }
-        ensures place { WhereMemory result (λ e. (self.new.position ≡ e.index)
-            × (e.index ≡ value_place self.old)) }
+        ensures reads { Reads (string_memory self.old.text (value_place self.old)) text_view
+            (next self.old (str_read self.old)) result self.old self.new }
     {
         let _ = at;
         match error {
@@ -201,16 +171,10 @@ impl<'j> Jiter<'j> {
         requires place { at ≡ value_place self.old }
         requires quote { slice_get self.old.text at ≡ Some ascii.quote }
         requires backslash { WantsMemory self.old.text at }
-        ensures text { IfOk result (λ x. (e : ℕ)
-            × (reply_seen text_bytes (next self.old (str_read self.old)) ≡ gave x.now e)) }
-        ensures refusal { RefusesAs result (next self.old (str_read self.old)) }
-        ensures index { IndexWithin self.old.text result }
-        ensures memory { WhereMemory result (λ _.
-            BeginsAt self.old.text (value_place self.old) Start.String
-            × WantsMemory self.old.text (value_place self.old)) }
-        ensures place { WhereMemory result (λ e. e.index ≡ value_place self.old) }
-        ensures* after { sem 𝓛 (LeavesReader (λ x. x.now) result self.entry
-            (reply_seen text_bytes (next self.old (str_read self.old)))) }
+        ensures reads { Lends (string_memory self.old.text (value_place self.old)) (λ x. x.now)
+            (reply_seen text_bytes (next self.old (str_read self.old))) result self.old }
+        ensures* after { sem 𝓛 (LeavesReader (string_memory self.old.text (value_place self.old)) (λ x. x.now)
+            (reply_seen text_bytes (next self.old (str_read self.old))) result self.entry) }
     {
         self.text = self.take_undecoded(alloc, error, at)?;
         Ok(self.text.as_str())
@@ -221,16 +185,10 @@ impl<'j> Jiter<'j> {
         requires place { at ≡ value_place self.old }
         requires quote { slice_get self.old.text at ≡ Some ascii.quote }
         requires backslash { WantsMemory self.old.text at }
-        ensures text { IfOk result (λ x. (e : ℕ)
-            × (reply_seen text_bytes (next self.old (str_read self.old)) ≡ gave x.now e)) }
-        ensures refusal { RefusesAs result (next self.old (str_read self.old)) }
-        ensures index { IndexWithin self.old.text result }
-        ensures memory { WhereMemory result (λ _.
-            BeginsAt self.old.text (value_place self.old) Start.String
-            × WantsMemory self.old.text (value_place self.old)) }
-        ensures place { WhereMemory result (λ e. e.index ≡ value_place self.old) }
-        ensures* after { sem 𝓛 (LeavesReader (λ x. x.now) result self.entry
-            (reply_seen text_bytes (next self.old (str_read self.old)))) }
+        ensures reads { Lends (string_memory self.old.text (value_place self.old)) (λ x. x.now)
+            (reply_seen text_bytes (next self.old (str_read self.old))) result self.old }
+        ensures* after { sem 𝓛 (LeavesReader (string_memory self.old.text (value_place self.old)) (λ x. x.now)
+            (reply_seen text_bytes (next self.old (str_read self.old))) result self.entry) }
     {
         let mut tape = self.take_tape(alloc);
         let (bytes, keep) = self.source();
@@ -267,16 +225,10 @@ impl<'j> Jiter<'j> {
     /// The reader is then at the value's first byte (or at the end, if only whitespace is left), so you can read the
     /// value again.
     pub fn next_str(&mut self, alloc: Global) -> JiterResult<&str>
-        ensures text { IfOk result (λ x. (e : ℕ)
-            × (reply_seen text_bytes (next self.old (str_read self.old)) ≡ gave x.now e)) }
-        ensures refusal { RefusesAs result (next self.old (str_read self.old)) }
-        ensures index { IndexWithin self.old.text result }
-        ensures memory { WhereMemory result (λ _.
-            BeginsAt self.old.text (value_place self.old) Start.String
-            × WantsMemory self.old.text (value_place self.old)) }
-        ensures place { WhereMemory result (λ e. e.index ≡ value_place self.old) }
-        ensures* after { sem 𝓛 (LeavesReader (λ x. x.now) result self.entry
-            (reply_seen text_bytes (next self.old (str_read self.old)))) }
+        ensures reads { Lends (string_memory self.old.text (value_place self.old)) (λ x. x.now)
+            (reply_seen text_bytes (next self.old (str_read self.old))) result self.old }
+        ensures* after { sem 𝓛 (LeavesReader (string_memory self.old.text (value_place self.old)) (λ x. x.now)
+            (reply_seen text_bytes (next self.old (str_read self.old))) result self.entry) }
     {
         match self.plain_str() {
             Ok(text) => Ok(text),
@@ -298,14 +250,10 @@ impl<'j> Jiter<'j> {
     /// The byte at the reader's position is `"`, as after a peek of [`Peek::String`]. `rt try` does not test it.
     pub fn known_str(&mut self, alloc: Global) -> JiterResult<&str>
         requires { StandsAt self.old ascii.quote }
-        ensures text { IfOk result (λ x. (e : ℕ)
-            × (reply_seen text_bytes (known self.old (str_read self.old)) ≡ gave x.now e)) }
-        ensures refusal { RefusesAs result (known self.old (str_read self.old)) }
-        ensures index { IndexWithin self.old.text result }
-        ensures memory { WhereMemory result (λ _. WantsMemory self.old.text self.old.position) }
-        ensures place { WhereMemory result (λ e. e.index ≡ self.old.position) }
-        ensures* after { sem 𝓛 (LeavesReader (λ x. x.now) result self.entry
-            (reply_seen text_bytes (known self.old (str_read self.old)))) }
+        ensures reads { Lends (string_memory self.old.text self.old.position) (λ x. x.now)
+            (reply_seen text_bytes (known self.old (str_read self.old))) result self.old }
+        ensures* after { sem 𝓛 (LeavesReader (string_memory self.old.text self.old.position) (λ x. x.now)
+            (reply_seen text_bytes (known self.old (str_read self.old))) result self.entry) }
     {
         self.text = self.read_str(alloc, Start::String)?;
         Ok(self.text.as_str())
@@ -314,20 +262,17 @@ impl<'j> Jiter<'j> {
     // `partial` allows an unterminated string.
     pub(super) fn raw_string(&mut self, partial: bool) -> JiterResult<&'j [u8]>
         requires { self.old.position < length self.old.text }
-        ensures moves { MovesOn self.old self.new }
-        ensures value { Replies raw_view result self.new (scalar_reply self.old.position
-            (string_at (if partial then raw_kept else raw) self.old.text self.old.position)) }
-        ensures refusal { RefusesBytes self.old.text result }
+        ensures reads { Reads never raw_view
+            (scalar_reply self.old.position (string_at (if partial then raw_kept else raw) self.old.text self.old.position))
+            result self.old self.new }
     {
         self.parser.raw_string(partial).map_err(refusal)
     }
 
     fn read_bytes(&mut self, start: Start) -> JiterResult<&'j [u8]>
         requires { BeginsAs self.old start }
-        ensures moves { MovesOn self.old self.new }
-        ensures value { Replies raw_view result self.new
-            (bytes_read self.old self.old.position start) }
-        ensures refusal { RefusesBytes self.old.text result }
+        ensures reads { Reads never raw_view (bytes_read self.old self.old.position start)
+            result self.old self.new }
     {
         match start {
             Start::String => self.raw_string(self.allow_partial_strings),
@@ -347,9 +292,7 @@ impl<'j> Jiter<'j> {
     ///
     /// The reader is then at the value's first byte (or at the end, if only whitespace is left).
     pub fn next_bytes(&mut self) -> JiterResult<&'j [u8]>
-        ensures moves { MovesOn self.old self.new }
-        ensures value { Replies raw_view result self.new (next self.old (bytes_read self.old)) }
-        ensures refusal { RefusesBytes self.old.text result }
+        ensures reads { Reads never raw_view (next self.old (bytes_read self.old)) result self.old self.new }
     {
         let start = self.next_start()?;
         self.read_bytes(start)
@@ -366,9 +309,7 @@ impl<'j> Jiter<'j> {
     /// The byte at the reader's position is `"`, as after a peek of [`Peek::String`]. `rt try` does not test it.
     pub fn known_bytes(&mut self) -> JiterResult<&'j [u8]>
         requires { StandsAt self.old ascii.quote }
-        ensures moves { MovesOn self.old self.new }
-        ensures value { Replies raw_view result self.new (known self.old (bytes_read self.old)) }
-        ensures refusal { RefusesBytes self.old.text result }
+        ensures reads { Reads never raw_view (known self.old (bytes_read self.old)) result self.old self.new }
     {
         self.read_bytes(Start::String)
     }

@@ -3,7 +3,8 @@ ghost use Rattle.std.specs.Prelude.{◌≡◌, ◌<◌, ◌≤◌, length};
 ghost use Rattle.jiter_steps.specs.Answer.{read_at};
 ghost use Rattle.jiter_value.specs.Value.{view, MayGrowAt};
 ghost use Rattle.jiter.specs.Reader.{value_place, next, known, value_reply, value_read};
-ghost use Rattle.jiter.specs.Jiter.{MovesOn, Replies, UnlessMemory, WhereMemory, IndexWithin, StandsAt, byte_of};
+ghost use Rattle.jiter.specs.Jiter.{StandsAt, byte_of};
+ghost use Rattle.jiter.specs.Reads.{Reads, value_memory};
 
 use crate::errors::JiterResult;
 use crate::jiter::{Jiter, refusal_at};
@@ -17,12 +18,9 @@ use std::alloc::Global;
 impl<'j> Jiter<'j> {
     fn value(&mut self, alloc: Global) -> JiterResult<JsonValue<'j>>
         requires { self.old.position < length self.old.text }
-        ensures moves { MovesOn self.old self.new }
-        ensures value { UnlessMemory result (Replies view result self.new
-            (value_reply (read_at self.old.names self.old.text self.old.position))) }
-        ensures index { IndexWithin self.old.text result }
-        ensures memory { WhereMemory result (λ _. MayGrowAt self.old.text self.old.position) }
-        ensures place { WhereMemory result (λ e. self.new.position ≡ e.index) }
+        ensures reads { Reads (value_memory self.old self.old.position) view
+            (value_reply (read_at self.old.names self.old.text self.old.position))
+            result self.old self.new }
     {
         let settings = Settings {
             allow_inf_nan: self.allow_inf_nan,
@@ -48,13 +46,9 @@ impl<'j> Jiter<'j> {
     /// The reader is then at the first byte of the scalar or key that fails, otherwise at the error. After
     /// `OutOfMemory` it is at the error's index, at or after the value's first byte.
     pub fn next_value(&mut self, alloc: Global) -> JiterResult<JsonValue<'j>>
-        ensures moves { MovesOn self.old self.new }
-        ensures value { UnlessMemory result (Replies view result self.new
-            (next self.old (value_read self.old))) }
-        ensures index { IndexWithin self.old.text result }
-        ensures memory { WhereMemory result (λ _. MayGrowAt self.old.text (value_place self.old)) }
-        ensures place { WhereMemory result (λ e. (self.new.position ≡ e.index)
-            × (value_place self.old ≤ e.index)) }
+        ensures reads { Reads (value_memory self.old (value_place self.old)) view
+            (next self.old (value_read self.old))
+            result self.old self.new }
     {
         self.peek()?;
         self.value(alloc)
@@ -71,13 +65,9 @@ impl<'j> Jiter<'j> {
     /// The byte of `peek` is at the reader's position, as after the call that returned it. `rt try` does not test it.
     pub fn known_value(&mut self, alloc: Global, peek: Peek) -> JiterResult<JsonValue<'j>>
         requires { StandsAt self.old (byte_of peek) }
-        ensures moves { MovesOn self.old self.new }
-        ensures value { UnlessMemory result (Replies view result self.new
-            (known self.old (value_read self.old))) }
-        ensures index { IndexWithin self.old.text result }
-        ensures memory { WhereMemory result (λ _. MayGrowAt self.old.text self.old.position) }
-        ensures place { WhereMemory result (λ e. (self.new.position ≡ e.index)
-            × (self.old.position ≤ e.index)) }
+        ensures reads { Reads (value_memory self.old self.old.position) view
+            (known self.old (value_read self.old))
+            result self.old self.new }
     {
         let _ = peek;
         self.value(alloc)

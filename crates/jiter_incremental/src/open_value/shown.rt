@@ -10,7 +10,7 @@ ghost use Rattle.jiter_incremental.specs.Arrived.{Arrived, HasRead, shown};
 ghost use Rattle.jiter_incremental.specs.OpenValue.{IsApartAs, IsLeft, IsPutTogether, IsShown};
 ghost use Rattle.jiter_value.specs.Owned.{owned_tree};
 ghost use Rattle.jiter_value.specs.Parses.{reading_as};
-ghost use Rattle.jiter_incremental.specs.Replaced.{HasGoneOn, HasReplaced, HoldsTextInside, with_chars, with_root};
+ghost use Rattle.jiter_incremental.specs.Replaced.{HasReplaced, HoldsTextInside, with_root};
 ghost use Rattle.jiter_value.specs.Settings.{answer_by};
 ghost use Rattle.jiter_incremental.specs.Spine.{AwaitsPart, HasRoomInside, HasValue, IsInPlace, IsOfKey, OpenFrame, StandsFor};
 ghost use Rattle.jiter_value.specs.Value.{view};
@@ -19,9 +19,8 @@ ghost use Rattle.jiter_value.specs.declared.settings.Settings.{Settings};
 ghost use Rattle.jiter_value.specs.declared.value.JsonValue.{JsonValue as JsonValueView};
 
 use crate::open_value::OpenValue;
-use crate::spine::{append_text, put, put_together, take_apart, take_back, take_inside};
+use crate::spine::{append_text, put, put_together, take_apart, take_back};
 use jiter_scan::memory::Refused;
-use jiter_steps::open_string::OpenString;
 use jiter_value::value::JsonValue;
 
 impl OpenValue {
@@ -79,27 +78,6 @@ impl OpenValue {
         ensures same { self.new ≡ with_root self.old self.new.root }
     {
         append_text(&mut self.root, depth, bytes)
-    }
-
-    /// Appends the bytes of a chunk that continue the shown string, `depth` containers deep in the assembled value.
-    /// Returns how many, and whether an allocation failed for those that follow.
-    #[inline(always)]
-    pub fn take_inside(
-        &mut self,
-        depth: usize,
-        unfinished: &mut OpenString,
-        piece: &[u8],
-    ) -> (usize, Result<(), Refused>)
-        requires text { (w : List ℕ) × HoldsTextInside depth self.old.root w }
-        requires whole { unfinished.old.text.broken ≡ false }
-        ensures went { (w : List ℕ) → HoldsTextInside depth self.old.root w
-            → HasGoneOn depth self.old.root self.new.root (with_chars unfinished.old w) unfinished.new
-            (take result.0 piece.now) }
-        ensures within { result.0 ≤ length piece.now }
-        ensures wanted { OnErr result.1 (result.0 < length piece.now) }
-        ensures same { self.new ≡ with_root self.old self.new.root }
-    {
-        take_inside(&mut self.root, depth, unfinished, piece)
     }
 
     /// Returns the root, which is the value so far once it is assembled.

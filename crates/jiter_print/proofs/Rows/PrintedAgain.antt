@@ -1,10 +1,12 @@
 -- What is printed of a value is read as that value again, by computation.
 use Rattle.std.proofs.Common.{◌≡◌, ℕ, List, pos, negsuc, true, false, [], ◌∷◌, refl, codes, map}
+use Rattle.std.specs.List.{join_with_byte}
 use Prim.Native.String.{String}
 use Rattle.jiter_steps.specs.Tree.{Text, Tree, null, boolean, int, big, float, string, array, object, items_of}
 use Rattle.jiter_steps.specs.Tree.{members_of}
 use Rattle.jiter_steps.specs.Read.{done}
 use Rattle.jiter_steps.specs.Answer.{answer}
+use Rattle.jiter_print.specs.Layout.{pretty_of}
 use Rattle.jiter_print.specs.Print.{print_of}
 use Rattle.jiter_print.proofs.Rows.Computed.{computed_answers}
 
@@ -117,3 +119,12 @@ rows =
 again : map (λ r. answer true (print_of r.0)) rows ≡ map (λ r. done r.0 r.1) rows
 unfolding computed_answers
 again = refl
+
+-- the text over lines, two spaces for a level
+lines : pretty_of 2
+    (object_from ((key "a", array_from (int (pos 1) ∷ float_from "2.50" ∷ [])) ∷ (key "b", array_from (object_from [] ∷ []))
+    ∷ (key "c", array_from []) ∷ []))
+    ≡ join_with_byte 10 (map codes
+    ("{" ∷ "  \"a\": [" ∷ "    1," ∷ "    2.50" ∷ "  ]," ∷ "  \"b\": [" ∷ "    {}" ∷ "  ]," ∷ "  \"c\": []" ∷ "}" ∷ []))
+unfolding computed_answers
+lines = refl

@@ -22,7 +22,7 @@ use crate::value::JsonValue;
 use jiter_scan::memory::Refused;
 use jiter_scan::number_extent::minus_end;
 use jiter_scan::plain_number::{PlainNumber, plain_number_at};
-use jiter_scan::short_scan::scan_short;
+use jiter_scan::simd::scan_string;
 use jiter_scan::text::{ascii_text, utf8_text};
 use jiter_steps::parse::Literal;
 use jiter_steps::plain::{
@@ -150,7 +150,7 @@ fn put_plain_text<'s, T: Texts<'s>>(
     ensures memory { result.1 ≡ Plain.Refused → WantsMemory bytes.now at ⊎ T.wants }
     ensures keys { result.1 ≡ Plain.Put → LeavesKeys stacks.old.members.items stacks.new.members.items }
 {
-    let (to, low) = scan_short(bytes, at + 1);
+    let (to, low) = scan_string(bytes, at + 1);
     if to >= bytes.len() {
         return (at, Plain::Other);
     }

@@ -1,5 +1,7 @@
 //! How values are printed: the program writes each line of these tests as it is.
 use super::{Row, does, repeated};
+use jiter::JsonValue;
+use jiter_print::{print_pretty, print_str};
 use std::alloc::Global;
 use std::test::*;
 
@@ -97,4 +99,43 @@ fn each_depth_is_shown(rt: HostRuntime) {
     for depth in 1..=200 {
         assert!(rt; depth_is_shown(rt.alloc(), depth));
     }
+}
+
+// Whether the document's value has this text over lines, with `indent` spaces for a level.
+fn is_laid_out(alloc: Global, document: &str, indent: usize, wanted: &str) -> bool {
+    let Ok(value) = JsonValue::parse(alloc, document.as_bytes(), false) else {
+        return false;
+    };
+    match print_pretty(alloc, &value, indent) {
+        Ok(text) => text.as_slice() == wanted.as_bytes(),
+        Err(_) => false,
+    }
+}
+
+#[test]
+fn parts_are_printed_on_lines_of_their_own(rt: HostRuntime) {
+    for (document, indent, wanted) in [
+        ("1", 2, "1"),
+        ("[]", 2, "[]"),
+        ("[1,\"a\"]", 0, "[\n1,\n\"a\"\n]"),
+        (
+            "{\"a\":[1,{}],\"b\":[[],null]}",
+            2,
+            "{\n  \"a\": [\n    1,\n    {}\n  ],\n  \"b\": [\n    [],\n    null\n  ]\n}",
+        ),
+    ] {
+        assert!(rt;
+            is_laid_out(rt.alloc(), document, indent, wanted),
+            "{document}"
+        );
+    }
+}
+
+#[test]
+fn a_string_is_appended_with_quotes_and_escapes(rt: HostRuntime) {
+    let mut line = Vec::new(rt.alloc());
+    for text in ["", "a\"b", "\u{1}é"] {
+        assert!(rt; print_str(&mut line, text).is_ok());
+    }
+    assert_eq!(rt; line.as_slice(), "\"\"\"a\\\"b\"\"\\u0001é\"".as_bytes());
 }

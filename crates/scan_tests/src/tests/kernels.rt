@@ -1,7 +1,6 @@
 //! The kernels: each length, each stop, each place of a byte above 7F hex, and runs of digits.
 ghost use Rattle.std.specs.Prelude.{◌≤◌};
 
-use jiter_scan::short_scan::scan_short;
 use jiter_scan::simd::{digit_count, digit_word, digits_end, scan_string, string_stop};
 use std::test::*;
 
@@ -89,13 +88,13 @@ fn of_two_stops_the_first_ends_the_scan(rt: HostRuntime) {
 }
 
 #[test]
-fn a_short_scan_is_a_scan(rt: HostRuntime) {
+fn each_short_text_is_scanned(rt: HostRuntime) {
     for length in 0..81 {
         for stop in 0..length + 1 {
             for high in [0, 15, 16, 17, 31, 32, 47, 80] {
                 let text = text_of(length, stop, b'"', high, 0xc3);
                 let low = high >= stop || high >= length;
-                assert_eq!(rt; scan_short(&text[..length], 0), (stop, low));
+                assert_eq!(rt; scan_string(&text[..length], 0), (stop, low));
             }
         }
     }

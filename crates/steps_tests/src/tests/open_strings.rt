@@ -18,26 +18,12 @@ enum Reached {
     End,
 }
 
-// Reads a piece that begins at this index of the whole: what lies within the string at once, where that is asked for.
-// Each turn takes a byte at least.
-fn read_piece(
-    string: &mut OpenString,
-    piece: &[u8],
-    begin: usize,
-    inside: bool,
-) -> Result<Reached, Refused> {
+// Reads a piece that begins at this index of the whole. Each turn takes a byte at least.
+fn read_piece(string: &mut OpenString, piece: &[u8], begin: usize) -> Result<Reached, Refused> {
     let mut at = 0;
     for _ in 0..piece.len() {
         if piece.len() <= at {
             break;
-        }
-        if inside && string.is_text(true) {
-            let (count, end) = string.take_inside(&piece[at..]);
-            end?;
-            if count > 0 {
-                at += count;
-                continue;
-            }
         }
         let here = begin.wrapping_add(at);
         match string.next(piece, at)? {
@@ -55,13 +41,12 @@ fn read_pieces(
     content: &[u8],
     begin: usize,
     size: usize,
-    inside: bool,
 ) -> Result<Reached, Refused>
     requires { 0 < size }
 {
     let mut from = begin;
     for piece in content.chunks(size) {
-        let reached = read_piece(string, piece, from, inside)?;
+        let reached = read_piece(string, piece, from)?;
         if reached != Reached::End {
             return Ok(reached);
         }
@@ -76,16 +61,15 @@ fn read_cut(
     content: &[u8],
     cut: usize,
     size: usize,
-    inside: bool,
 ) -> Result<Reached, Refused>
     requires { 0 < size }
 {
     let cut = cut.min(content.len());
-    let reached = read_piece(string, &content[..cut], 1, inside)?;
+    let reached = read_piece(string, &content[..cut], 1)?;
     if reached != Reached::End {
         return Ok(reached);
     }
-    read_pieces(string, &content[cut..], cut.wrapping_add(1), size, inside)
+    read_pieces(string, &content[cut..], cut.wrapping_add(1), size)
 }
 
 // The place behind the string's text, or the fault that it has.
@@ -114,14 +98,14 @@ fn told(
 }
 
 // Whether the string, which is cut there, is told as the whole one is.
-fn agrees(alloc: Global, bytes: &[u8], cut: usize, size: usize, keep: bool, inside: bool) -> bool
+fn agrees(alloc: Global, bytes: &[u8], cut: usize, size: usize, keep: bool) -> bool
     requires { 0 < size }
 {
     if bytes.is_empty() {
         return false;
     }
     let mut string = OpenString::new(alloc);
-    let Ok(reached) = read_cut(&mut string, &bytes[1..], cut, size, inside) else {
+    let Ok(reached) = read_cut(&mut string, &bytes[1..], cut, size) else {
         return false;
     };
     let answer = told(&string, reached, keep, bytes.len());
@@ -189,10 +173,8 @@ fn hostile_strings_cut_at_every_byte(rt: HostRuntime) {
     ] {
         for cut in 0..bytes.len() {
             for size in [1, 3, 64usize] {
-                for inside in [false, true] {
-                    assert!(rt; agrees(rt.alloc(), bytes, cut, size, false, inside));
-                    assert!(rt; agrees(rt.alloc(), bytes, cut, size, true, inside));
-                }
+                assert!(rt; agrees(rt.alloc(), bytes, cut, size, false));
+                assert!(rt; agrees(rt.alloc(), bytes, cut, size, true));
             }
         }
     }

@@ -6,7 +6,7 @@ use Rattle.config.proofs.Judged.{judged-refused, passed-on, text-refused, truth-
 use Rattle.config.proofs.Members.{all_set, debug-read, debug-unfit, host-read, host-unfit, no_host, no_port_set}
 use Rattle.config.proofs.Members.{none-refused, other-read, passed-not_refused, port-read, port-unfit, read-as}
 use Rattle.config.proofs.Walk.{ReadsMember, end-refused, first-refused, key-refused, less-left, named-given, seen}
-use Rattle.config.proofs.Walk.{settled, value-refused, walk-begins, walk-goes_on}
+use Rattle.config.proofs.Walk.{seen-refused, settled, value-refused, walk-begins, walk-goes_on}
 use Rattle.config.proofs.config.read_config.Goals as goal
 use Rattle.config.proofs.config.read_config.Goals.{After-next_key, in-Host+in_ok-read_host-in-Host}
 use Rattle.config.proofs.config.read_config.Goals.{in-Port+in_ok-read_port-in-Port, in-Debug+in_ok-next_bool-in-Debug}
@@ -15,9 +15,9 @@ use Rattle.config.proofs.config.read_config.Goals.{in-Other+in_ok-next_skip-in-O
 pub returns-in_err-next_object-clause-document : goal.returns-in_err-next_object-clause-document
 returns-in_err-next_object-clause-document c = λ n d.
     let t = c.args.bytes.now in
-    let refusal = rw c.new-jiter.ensures at c.in_err-next_object.ensures.refusal in
+    let refusal = rw c.new-jiter.ensures at c.in_err-next_object.ensures.reads in
     judged-refused config_view c.from_residual.result c.in_err-next_object.field-0.0 (configured t n)
-    c.from_residual.ensures.1 (λ bytes. first-refused t _ _ _ (refusal bytes) n d)
+    c.from_residual.ensures.1 (λ bytes. first-refused t _ _ _ (seen-refused _ _ _ _ (refusal.1.value bytes)) n d)
 
 pub loop-next-init : goal.loop-next-init
 loop-next-init c =
@@ -36,7 +36,7 @@ returns-in_err-read_host-in-Host-clause-document c = λ n d.
     judged-refused config_view c.from_residual-in_err-read_host-in-Host.result c.in_err-read_host-in-Host.field-0.0
     (configured t n) c.from_residual-in_err-read_host-in-Host.ensures.1
     (λ bytes. value-refused t _ _ _ walk _ _
-    (λ v b e told. host-unfit m _ _ _ (text-refused _ b e v told _ _ _ (c.in_err-read_host-in-Host.ensures.value bytes)))
+    (λ v b e told. host-unfit m _ _ _ (text-refused _ b e v told _ _ _ (c.in_err-read_host-in-Host.ensures.reads.value bytes)))
     n d)
 
 pub returns-in_err-read_port-in-Port-clause-document : goal.returns-in_err-read_port-in-Port-clause-document
@@ -57,7 +57,7 @@ returns-in_err-next_bool-in-Debug-clause-document c = λ n d.
     judged-refused config_view c.from_residual-in_err-next_bool-in-Debug.result
     c.in_err-next_bool-in-Debug.field-0.0 (configured t n) c.from_residual-in_err-next_bool-in-Debug.ensures.1
     (λ bytes. value-refused t _ _ _ walk _ _
-    (λ v b e told. debug-unfit m _ _ _ (truth-refused _ b e v told _ _ _ c.in_err-next_bool-in-Debug.ensures.value))
+    (λ v b e told. debug-unfit m _ _ _ (truth-refused _ b e v told _ _ _ c.in_err-next_bool-in-Debug.ensures.reads.value))
     n d)
 
 pub returns-in_err-next_skip-in-Other-clause-document : goal.returns-in_err-next_skip-in-Other-clause-document
@@ -67,7 +67,7 @@ returns-in_err-next_skip-in-Other-clause-document c = λ n d.
     judged-refused config_view c.from_residual-in_err-next_skip-in-Other.result
     c.in_err-next_skip-in-Other.field-0.0 (configured t n) c.from_residual-in_err-next_skip-in-Other.ensures.1
     (λ bytes. value-refused t _ _ _ walk _ _
-    (λ v b e told. absurd (passed-not_refused told c.in_err-next_skip-in-Other.ensures.value)) n d)
+    (λ v b e told. absurd (passed-not_refused told c.in_err-next_skip-in-Other.ensures.reads.value)) n d)
 
 -- what was read and set
 read-member : (c : After-next_key)
@@ -82,18 +82,18 @@ read-member c =
     elim c.match-name.branch [
       | in-Host+in_ok-read_host-in-Host w ↦
           read-as _ _ _ _ _ w.jiter-is w.in-Host.is (ap (option_map string_bytes) w.host-is) w.port-is w.debug-is
-          (host-read s _ host port debug string_bytes _ w.in_ok-read_host-in-Host.ensures)
+          (host-read s _ host port debug string_bytes _ w.in_ok-read_host-in-Host.ensures.reads)
       | in-Port+in_ok-read_port-in-Port w ↦
           read-as _ _ _ _ _ w.jiter-is w.in-Port.is (ap (option_map string_bytes) w.host-is) w.port-is w.debug-is
           (port-read s _ host port debug _ w.in_ok-read_port-in-Port.ensures.reads)
       | in-Debug+in_ok-next_bool-in-Debug w ↦
           read-as _ _ _ _ _ w.jiter-is w.in-Debug.is (ap (option_map string_bytes) w.host-is) w.port-is w.debug-is
-          (debug-read s _ host port debug _ w.in_ok-next_bool-in-Debug.ensures.moves
-          w.in_ok-next_bool-in-Debug.ensures.value)
+          (debug-read s _ host port debug _ w.in_ok-next_bool-in-Debug.ensures.reads.moves
+          w.in_ok-next_bool-in-Debug.ensures.reads.value)
       | in-Other+in_ok-next_skip-in-Other w ↦
           read-as _ _ _ _ _ w.jiter-is w.in-Other.is (ap (option_map string_bytes) w.host-is) w.port-is w.debug-is
-          (other-read s _ host port debug _ w.in_ok-next_skip-in-Other.ensures.moves
-          w.in_ok-next_skip-in-Other.ensures.value)
+          (other-read s _ host port debug _ w.in_ok-next_skip-in-Other.ensures.reads.moves
+          w.in_ok-next_skip-in-Other.ensures.reads.value)
     ]
 
 port-in_range : (c : After-next_key) → IfSome c.match-name.port (λ p. (1 ≤ p) × (p ≤ 65535))
@@ -117,7 +117,7 @@ returns-in_err-next_key-clause-document c = λ n d.
     c.from_residual-in_err-next_key.ensures.1
     (λ bytes. absurd (key-refused t _ _ _ walk _ _
     (read-member (goal.at.returns-in_err-next_key-clause-document c).After-next_key) _ _ _
-    (c.in_err-next_key.ensures.refusal bytes) n d))
+    (seen-refused _ _ _ _ (c.in_err-next_key.ensures.reads.1.value bytes)) n d))
 
 pub loop-next-smaller : goal.loop-next-smaller
 loop-next-smaller c =
@@ -143,7 +143,7 @@ returns-in_err-finish-clause-document c = λ n d.
     let walk = rw c.in_default.is at c.loop-next.invariant.walk in
     judged-refused config_view c.from_residual-in_err-finish.result c.in_err-finish.field-0.0 (configured t n)
     c.from_residual-in_err-finish.ensures.1
-    (λ bytes. absurd (end-refused t _ _ walk _ _ _ c.in_err-finish.ensures.value n d))
+    (λ bytes. absurd (end-refused t _ _ walk _ _ _ c.in_err-finish.ensures.reads.value n d))
 
 pub returns-in_err-host-clause-document : goal.returns-in_err-host-clause-document
 returns-in_err-host-clause-document c = λ n d.

@@ -4,11 +4,12 @@ use Rattle.jiter_value.specs.Owned.{owned_text}
 use Rattle.jiter.specs.Jiter.{key_bytes}
 use Rattle.jiter.specs.Reader.{known, object_read}
 use Rattle.jiter.proofs.Containers.{passed-on, refused-seen}
+use Rattle.jiter.proofs.ReadLaws.{read-anywhere}
 use Rattle.jiter.proofs.client.first_key.Goals as goal
 
-pub returns-in_err-key-clause-value : goal.returns-in_err-key-clause-value
-returns-in_err-key-clause-value c =
+pub returns-in_err-key-clause-reads : goal.returns-in_err-key-clause-reads
+returns-in_err-key-clause-reads c =
     let h = rw c.in_err-key.was at c.known_object.follows.holds-at-none in
     let reply = known c.args.jiter.now (object_read whole c.args.jiter.now) in
     passed-on c.from_residual.result c.from_residual.ensures.1
-    (refused-seen key_bytes (option_map owned_text) reply h)
+    (refused-seen key_bytes (option_map owned_text) reply (read-anywhere _ _ _ h))

@@ -15,8 +15,8 @@ pub returns-in_err-more-clause-counts : goal.returns-in_err-more-clause-counts
 returns-in_err-more-clause-counts c = λ n h w.
     let s = state_of c.args.reader.now in
     let p = rw c.jiter_at-jiter.ensures at c.in_ok-peek.ensures in
-    absurd (first-not_refused s c.peek.new.self (byte_of c.in_ok-peek.field-0) p.value p.moves p.place
-    c.eq-object.result (is-bracket _ _ c.eq-object.ensures) n h w _ _ _ c.in_err-more.ensures.value)
+    absurd (first-not_refused s c.peek.new.self (byte_of c.in_ok-peek.field-0) p.reads.value p.reads.moves p.place
+    c.eq-object.result (is-bracket _ _ c.eq-object.ensures) n h w _ _ _ c.in_err-more.ensures.reads.value)
 
 pub returns-in_err-more-clause-refusal : goal.returns-in_err-more-clause-refusal
 returns-in_err-more-clause-refusal c =
@@ -25,31 +25,31 @@ returns-in_err-more-clause-refusal c =
     passed-on (λ e. (stop : ℕ) × RefusedBehind s (cause_of e.error_type) e.index stop) _ _
     c.from_residual-in_err-more.ensures.1 (
       _,
-      refused-behind s c.peek.new.self c.first_part.new.jiter _ _ p.moves c.in_err-more.ensures.moves
-          (part-refuses c.eq-object.result _ _ _ _ c.in_err-more.ensures.value),
+      refused-behind s c.peek.new.self c.first_part.new.jiter _ _ p.reads.moves c.in_err-more.ensures.reads.moves
+          (part-refuses c.eq-object.result _ _ _ _ c.in_err-more.ensures.reads.value),
     )
 
 pub loop-more-init : goal.loop-more-init
 loop-more-init c =
     let p = rw c.jiter_at-jiter.ensures at c.in_ok-peek.ensures in
     count-begins (state_of c.args.reader.now) c.peek.new.self c.first_part.new.jiter
-    (byte_of c.in_ok-peek.field-0) c.eq-object.result c.in_ok-more.more p.value p.moves p.place
-    (is-bracket _ _ c.eq-object.ensures) c.in_ok-more.ensures.moves c.in_ok-more.ensures.value
+    (byte_of c.in_ok-peek.field-0) c.eq-object.result c.in_ok-more.more p.reads.value p.reads.moves p.place
+    (is-bracket _ _ c.eq-object.ensures) c.in_ok-more.ensures.reads.moves c.in_ok-more.ensures.reads.value
 
 pub returns-in_err-next_skip-clause-counts : goal.returns-in_err-next_skip-clause-counts
 returns-in_err-next_skip-clause-counts c = λ n h w.
     let inv = rw c.loop-more-test.true at c.loop-more.invariant in
     let left = inv.counts n h w in
     absurd (skip-not_refused c.loop-more.jiter c.eq-object.result left.0 left.1 _ _ _
-    c.in_err-next_skip.ensures.value)
+    c.in_err-next_skip.ensures.reads.value)
 
 pub returns-in_err-more-2-clause-counts : goal.returns-in_err-more-2-clause-counts
 returns-in_err-more-2-clause-counts c = λ n h w.
     let inv = rw c.loop-more-test.true at c.loop-more.invariant in
     let left = inv.counts n h w in
-    let skip = c.in_ok-next_skip.ensures in
+    let skip = c.in_ok-next_skip.ensures.reads in
     absurd (next-not_refused c.loop-more.jiter c.next_skip.new.self skip.moves skip.value c.eq-object.result left.0 left.1
-    _ _ _ c.in_err-more-2.ensures.value)
+    _ _ _ c.in_err-more-2.ensures.reads.value)
 
 pub returns-in_err-more-2-clause-refusal : goal.returns-in_err-more-2-clause-refusal
 returns-in_err-more-2-clause-refusal c =
@@ -58,25 +58,25 @@ returns-in_err-more-2-clause-refusal c =
     c.from_residual-in_err-more-2.ensures.1 (
       _,
       refused-behind s c.next_skip.new.self c.next_part.new.jiter _ _
-          (moves-on s _ _ c.loop-more.invariant.moves c.in_ok-next_skip.ensures.moves)
-          c.in_err-more-2.ensures.moves
-          (next-refuses c.eq-object.result _ _ _ _ c.in_err-more-2.ensures.value),
+          (moves-on s _ _ c.loop-more.invariant.moves c.in_ok-next_skip.ensures.reads.moves)
+          c.in_err-more-2.ensures.reads.moves
+          (next-refuses c.eq-object.result _ _ _ _ c.in_err-more-2.ensures.reads.value),
     )
 
 pub loop-more-smaller : goal.loop-more-smaller
 loop-more-smaller c =
     let inv = rw c.loop-more-test.true at c.loop-more.invariant in
-    let skip = c.in_ok-next_skip.ensures in
+    let skip = c.in_ok-next_skip.ensures.reads in
     count-less (state_of c.args.reader.now) c.loop-more.jiter c.eq-object.result c.loop-more.count inv
-    c.next_skip.new.self skip.moves skip.value c.next_part.new.jiter c.in_ok-more-2.ensures.moves
+    c.next_skip.new.self skip.moves skip.value c.next_part.new.jiter c.in_ok-more-2.ensures.reads.moves
 
 pub loop-more-preserved : goal.loop-more-preserved
 loop-more-preserved c =
     let inv = rw c.loop-more-test.true at c.loop-more.invariant in
-    let skip = c.in_ok-next_skip.ensures in
+    let skip = c.in_ok-next_skip.ensures.reads in
     count-goes_on (state_of c.args.reader.now) c.loop-more.jiter c.eq-object.result c.loop-more.count inv
     c.next_skip.new.self skip.moves skip.value c.next_part.new.jiter c.in_ok-more-2.more
-    c.in_ok-more-2.ensures.moves c.in_ok-more-2.ensures.value
+    c.in_ok-more-2.ensures.reads.moves c.in_ok-more-2.ensures.reads.value
 
 pub returns-clause-counts : goal.returns-clause-counts
 returns-clause-counts c =
@@ -90,8 +90,8 @@ returns-in_err-more-clause-into c =
     let is = is-bracket _ _ c.eq-object.ensures in (
       _,
       into-refused (next_reply c.args.reader.now into_read) c.from_residual-in_err-more.result _ _
-          (sym (peek-into s c.peek.new.self (byte_of c.in_ok-peek.field-0) c.eq-object.result p.value p.moves p.place is)
-          ∙ c.in_err-more.ensures.value)
+          (sym (peek-into s c.peek.new.self (byte_of c.in_ok-peek.field-0) c.eq-object.result p.reads.value p.reads.moves p.place is)
+          ∙ c.in_err-more.ensures.reads.value)
           c.from_residual-in_err-more.ensures.1,
     )
 
@@ -99,19 +99,19 @@ pub returns-in_err-next_skip-clause-into : goal.returns-in_err-next_skip-clause-
 returns-in_err-next_skip-clause-into c =
     let p = rw c.jiter_at-jiter.ensures at c.in_ok-peek.ensures in
     peek-gave (state_of c.args.reader.now) c.peek.new.self c.first_part.new.jiter (byte_of c.in_ok-peek.field-0)
-    c.eq-object.result c.in_ok-more.more p.value p.moves p.place (is-bracket _ _ c.eq-object.ensures)
-    c.in_ok-more.ensures.value c.from_residual-in_err-next_skip.result
+    c.eq-object.result c.in_ok-more.more p.reads.value p.reads.moves p.place (is-bracket _ _ c.eq-object.ensures)
+    c.in_ok-more.ensures.reads.value c.from_residual-in_err-next_skip.result
 
 pub returns-in_err-more-2-clause-into : goal.returns-in_err-more-2-clause-into
 returns-in_err-more-2-clause-into c =
     let p = rw c.jiter_at-jiter.ensures at c.in_ok-peek.ensures in
     peek-gave (state_of c.args.reader.now) c.peek.new.self c.first_part.new.jiter (byte_of c.in_ok-peek.field-0)
-    c.eq-object.result c.in_ok-more.more p.value p.moves p.place (is-bracket _ _ c.eq-object.ensures)
-    c.in_ok-more.ensures.value c.from_residual-in_err-more-2.result
+    c.eq-object.result c.in_ok-more.more p.reads.value p.reads.moves p.place (is-bracket _ _ c.eq-object.ensures)
+    c.in_ok-more.ensures.reads.value c.from_residual-in_err-more-2.result
 
 pub returns-clause-into : goal.returns-clause-into
 returns-clause-into c =
     let p = rw c.jiter_at-jiter.ensures at c.in_ok-peek.ensures in
     peek-gave (state_of c.args.reader.now) c.peek.new.self c.first_part.new.jiter (byte_of c.in_ok-peek.field-0)
-    c.eq-object.result c.in_ok-more.more p.value p.moves p.place (is-bracket _ _ c.eq-object.ensures)
-    c.in_ok-more.ensures.value (Ok c.loop-more.count)
+    c.eq-object.result c.in_ok-more.more p.reads.value p.reads.moves p.place (is-bracket _ _ c.eq-object.ensures)
+    c.in_ok-more.ensures.reads.value (Ok c.loop-more.count)

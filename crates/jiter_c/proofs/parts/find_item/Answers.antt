@@ -12,31 +12,31 @@ use Rattle.jiter_c.proofs.parts.find_item.Goals.{else-loop-item-test, then-loop-
 
 pub returns-in_err-item-clause-led : goal.returns-in_err-item-clause-led
 returns-in_err-item-clause-led c = λ b e ns h.
-    absurd (items-not_refused c.args.jiter.now b e ns h _ _ _ c.in_err-item.ensures.value)
+    absurd (items-not_refused c.args.jiter.now b e ns h _ _ _ c.in_err-item.ensures.reads.value)
 
 pub returns-in_err-item-clause-refusal : goal.returns-in_err-item-clause-refusal
 returns-in_err-item-clause-refusal c =
     let s = c.args.jiter.now in
-    let m = c.in_err-item.ensures.moves in
+    let m = c.in_err-item.ensures.reads.moves in
     passed-on (λ e. RefusedBehind s (cause_of e.error_type) e.index c.next_array.new.self.position) _ _
     c.from_residual.ensures.1
-    (refused-behind s s c.next_array.new.self _ _ (stays s _ m) m (Refuses.at_array c.in_err-item.ensures.value))
+    (refused-behind s s c.next_array.new.self _ _ (stays s _ m) m (Refuses.at_array c.in_err-item.ensures.reads.value))
 
 pub loop-item-init : goal.loop-item-init
 loop-item-init c =
     items-begin c.args.jiter.now c.next_array.new.self (option_map byte_of c.in_ok-item.item) c.args.number
-    c.in_ok-item.ensures.moves c.in_ok-item.ensures.value
+    c.in_ok-item.ensures.reads.moves c.in_ok-item.ensures.reads.value
 
 pub returns-in_err-next_skip-clause-moves : goal.returns-in_err-next_skip-clause-moves
 returns-in_err-next_skip-clause-moves c =
-    moves-on c.args.jiter.now _ _ c.loop-item.invariant.moves c.in_err-next_skip.ensures.moves
+    moves-on c.args.jiter.now _ _ c.loop-item.invariant.moves c.in_err-next_skip.ensures.reads.moves
 
 pub returns-in_err-next_skip-clause-led : goal.returns-in_err-next_skip-clause-led
 returns-in_err-next_skip-clause-led c = λ b e ns h.
     let some = has-item byte_of c.loop-item.item _ c.is_some.ensures ∙ c.loop-item-test.true in
     let inv = rw some at c.loop-item.invariant in
     absurd (item-not_refused c.args.jiter.now c.loop-item.jiter c.args.number c.loop-item.before inv b e ns h _ _ _
-    c.in_err-next_skip.ensures.value)
+    c.in_err-next_skip.ensures.reads.value)
 
 pub returns-in_err-next_skip-clause-refusal : goal.returns-in_err-next_skip-clause-refusal
 returns-in_err-next_skip-clause-refusal c =
@@ -44,20 +44,20 @@ returns-in_err-next_skip-clause-refusal c =
     passed-on (λ e. RefusedBehind s (cause_of e.error_type) e.index c.next_skip.new.self.position) _ _
     c.from_residual-in_err-next_skip.ensures.1
     (refused-behind s c.loop-item.jiter c.next_skip.new.self _ _ c.loop-item.invariant.moves
-    c.in_err-next_skip.ensures.moves (Refuses.at_skip c.in_err-next_skip.ensures.value))
+    c.in_err-next_skip.ensures.reads.moves (Refuses.at_skip c.in_err-next_skip.ensures.reads.value))
 
 pub returns-in_err-item-2-clause-moves : goal.returns-in_err-item-2-clause-moves
 returns-in_err-item-2-clause-moves c =
     moves-on c.args.jiter.now _ _ c.loop-item.invariant.moves
-    (moves-on c.loop-item.jiter _ _ c.in_ok-next_skip.ensures.moves c.in_err-item-2.ensures.moves)
+    (moves-on c.loop-item.jiter _ _ c.in_ok-next_skip.ensures.reads.moves c.in_err-item-2.ensures.reads.moves)
 
 pub returns-in_err-item-2-clause-led : goal.returns-in_err-item-2-clause-led
 returns-in_err-item-2-clause-led c = λ b e ns h.
     let some = has-item byte_of c.loop-item.item _ c.is_some.ensures ∙ c.loop-item-test.true in
     let inv = rw some at c.loop-item.invariant in
-    let skip = c.in_ok-next_skip.ensures in
+    let skip = c.in_ok-next_skip.ensures.reads in
     absurd (step-not_refused c.args.jiter.now c.loop-item.jiter c.args.number c.loop-item.before inv c.next_skip.new.self
-    skip.moves skip.value b e ns h _ _ _ c.in_err-item-2.ensures.value)
+    skip.moves skip.value b e ns h _ _ _ c.in_err-item-2.ensures.reads.value)
 
 pub returns-in_err-item-2-clause-refusal : goal.returns-in_err-item-2-clause-refusal
 returns-in_err-item-2-clause-refusal c =
@@ -65,18 +65,18 @@ returns-in_err-item-2-clause-refusal c =
     passed-on (λ e. RefusedBehind s (cause_of e.error_type) e.index c.array_step.new.self.position) _ _
     c.from_residual-in_err-item-2.ensures.1
     (refused-behind s c.next_skip.new.self c.array_step.new.self _ _
-    (moves-on s _ _ c.loop-item.invariant.moves c.in_ok-next_skip.ensures.moves)
-    c.in_err-item-2.ensures.moves (Refuses.at_item c.in_err-item-2.ensures.value))
+    (moves-on s _ _ c.loop-item.invariant.moves c.in_ok-next_skip.ensures.reads.moves)
+    c.in_err-item-2.ensures.reads.moves (Refuses.at_item c.in_err-item-2.ensures.reads.value))
 
 pub loop-item-preserved : goal.loop-item-preserved
 loop-item-preserved c =
     let some = has-item byte_of c.loop-item.item _ c.is_some.ensures ∙ c.loop-item-test.true in
     let inv = rw some at c.loop-item.invariant in
-    let skip = c.in_ok-next_skip.ensures in
+    let skip = c.in_ok-next_skip.ensures.reads in
     let fewer : c.loop-item.before ≡ suc (c.loop-item.before - 1) = omega (arith, c.if-before-gt0.true) in
     items-go_on c.args.jiter.now c.loop-item.jiter c.args.number c.loop-item.before inv c.next_skip.new.self skip.moves
-    skip.value c.array_step.new.self (option_map byte_of c.in_ok-item-2.item) _ c.in_ok-item-2.ensures.moves
-    c.in_ok-item-2.ensures.value fewer
+    skip.value c.array_step.new.self (option_map byte_of c.in_ok-item-2.item) _ c.in_ok-item-2.ensures.reads.moves
+    c.in_ok-item-2.ensures.reads.value fewer
 
 pub returns-then-is_none-clause-moves : goal.returns-then-is_none-clause-moves
 returns-then-is_none-clause-moves c = c.loop-item.invariant.moves
@@ -89,7 +89,7 @@ returns-then-is_none-clause-led c =
 
 pub returns-in_err-peek-clause-moves : goal.returns-in_err-peek-clause-moves
 returns-in_err-peek-clause-moves c =
-    moves-on c.args.jiter.now _ _ c.loop-item.invariant.moves c.in_err-peek.ensures.moves
+    moves-on c.args.jiter.now _ _ c.loop-item.invariant.moves c.in_err-peek.ensures.reads.moves
 
 pub returns-in_err-peek-clause-led : goal.returns-in_err-peek-clause-led
 returns-in_err-peek-clause-led c = λ b e ns h.
@@ -102,7 +102,7 @@ returns-in_err-peek-clause-led c = λ b e ns h.
     ] in
     let inv = rw (some, all) at c.loop-item.invariant in
     absurd (place-not_refused c.args.jiter.now c.loop-item.jiter c.args.number inv b e ns h _ _ _
-    c.in_err-peek.ensures.value)
+    c.in_err-peek.ensures.reads.value)
 
 pub returns-in_err-peek-clause-refusal : goal.returns-in_err-peek-clause-refusal
 returns-in_err-peek-clause-refusal c =
@@ -110,10 +110,10 @@ returns-in_err-peek-clause-refusal c =
     passed-on (λ e. RefusedBehind s (cause_of e.error_type) e.index c.peek.new.self.position) _ _
     c.from_residual-in_err-peek.ensures.1
     (refused-behind s c.loop-item.jiter c.peek.new.self _ _ c.loop-item.invariant.moves
-    c.in_err-peek.ensures.moves (Refuses.at_peek c.in_err-peek.ensures.value))
+    c.in_err-peek.ensures.reads.moves (Refuses.at_peek c.in_err-peek.ensures.reads.value))
 
 pub returns-clause-moves : goal.returns-clause-moves
-returns-clause-moves c = moves-on c.args.jiter.now _ _ c.loop-item.invariant.moves c.in_ok-peek.ensures.moves
+returns-clause-moves c = moves-on c.args.jiter.now _ _ c.loop-item.invariant.moves c.in_ok-peek.ensures.reads.moves
 
 pub returns-clause-led : goal.returns-clause-led
 returns-clause-led c = λ b e ns h.

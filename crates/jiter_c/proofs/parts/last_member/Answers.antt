@@ -39,13 +39,13 @@ loop-named-init c =
 
 pub returns-in_err-start-clause-moves : goal.returns-in_err-start-clause-moves
 returns-in_err-start-clause-moves c =
-    moves-on c.args.jiter.now _ _ c.loop-named.invariant.moves c.in_err-start.ensures.moves
+    moves-on c.args.jiter.now _ _ c.loop-named.invariant.moves c.in_err-start.ensures.reads.moves
 
 pub returns-in_err-start-clause-led : goal.returns-in_err-start-clause-led
 returns-in_err-start-clause-led c = λ b e ms h.
     let inv = rw c.in-Some.is at c.loop-named.invariant in
     absurd (member-not_refused c.args.jiter.now c.loop-named.jiter c.args.name.now c.in-Some.same c.loop-named.place inv
-    b e ms h _ _ _ c.in_err-start.ensures.passed)
+    b e ms h _ _ _ c.in_err-start.ensures.reads.value)
 
 pub returns-in_err-start-clause-refusal : goal.returns-in_err-start-clause-refusal
 returns-in_err-start-clause-refusal c =
@@ -55,24 +55,24 @@ returns-in_err-start-clause-refusal c =
     unless-memory c.from_residual-in_err-start.result _ _ is
     (λ bytes. passed-on (λ e. RefusedBehind s (cause_of e.error_type) e.index s1.position)
     c.from_residual-in_err-start.result _ is
-    (refused-behind s c.loop-named.jiter s1 _ _ c.loop-named.invariant.moves c.in_err-start.ensures.moves
-    (Refuses.at_skip c.in_err-start.ensures.passed)))
+    (refused-behind s c.loop-named.jiter s1 _ _ c.loop-named.invariant.moves c.in_err-start.ensures.reads.moves
+    (Refuses.at_skip c.in_err-start.ensures.reads.value)))
 
 pub returns-in_err-start-clause-memory : goal.returns-in_err-start-clause-memory
 returns-in_err-start-clause-memory c =
     where-memory (λ e. WantsMemory c.args.jiter.now.text e.index) c.from_residual-in_err-start.result _
-    c.from_residual-in_err-start.ensures.1 (λ m. absurd (c.in_err-start.ensures.refusal.bytes m))
+    c.from_residual-in_err-start.ensures.1 (λ m. absurd (c.in_err-start.ensures.reads.memory m))
 
 pub returns-in_err-start-clause-place : goal.returns-in_err-start-clause-place
 returns-in_err-start-clause-place c =
     where-memory (λ e. c.pass.new.jiter.position ≡ e.index) c.from_residual-in_err-start.result _
-    c.from_residual-in_err-start.ensures.1 (λ m. absurd (c.in_err-start.ensures.refusal.bytes m))
+    c.from_residual-in_err-start.ensures.1 (λ m. absurd (c.in_err-start.ensures.reads.memory m))
 
 pub returns-in_err-next_key-clause-moves : goal.returns-in_err-next_key-clause-moves
 returns-in_err-next_key-clause-moves c =
     let left = rw c.in_err-next_key.was at c.next_key.follows.holds-at-none in
     moves-on c.args.jiter.now _ _ c.loop-named.invariant.moves
-    (moves-on c.loop-named.jiter _ _ c.in_ok-start.ensures.moves left.moves)
+    (moves-on c.loop-named.jiter _ _ c.in_ok-start.ensures.reads.moves left.moves)
 
 pub returns-in_err-next_key-clause-led : goal.returns-in_err-next_key-clause-led
 returns-in_err-next_key-clause-led c = λ b e ms h.
@@ -81,7 +81,7 @@ returns-in_err-next_key-clause-led c = λ b e ms h.
     let pass = c.in_ok-start.ensures in
     unless-memory c.from_residual-in_err-next_key.result _ _ c.from_residual-in_err-next_key.ensures.1
     (λ bytes. absurd (next_key-not_refused c.args.jiter.now c.loop-named.jiter c.args.name.now c.in-Some.same
-    c.loop-named.place inv c.pass.new.jiter pass.moves pass.passed b e ms h _ _ _
+    c.loop-named.place inv c.pass.new.jiter pass.reads.moves pass.reads.value b e ms h _ _ _
     (seen-refused key_bytes _ _ _ _ (left.value bytes))))
 
 pub returns-in_err-next_key-clause-refusal : goal.returns-in_err-next_key-clause-refusal
@@ -94,18 +94,18 @@ returns-in_err-next_key-clause-refusal c =
     (λ bytes. passed-on (λ e. RefusedBehind s (cause_of e.error_type) e.index s2.position)
     c.from_residual-in_err-next_key.result _ is
     (refused-behind s c.pass.new.jiter s2 _ _
-    (moves-on s _ _ c.loop-named.invariant.moves c.in_ok-start.ensures.moves) left.moves
+    (moves-on s _ _ c.loop-named.invariant.moves c.in_ok-start.ensures.reads.moves) left.moves
     (Refuses.at_key whole (seen-refused key_bytes _ _ _ _ (left.value bytes)))))
 
 pub returns-in_err-next_key-clause-memory : goal.returns-in_err-next_key-clause-memory
 returns-in_err-next_key-clause-memory c =
     let s = c.args.jiter.now in
-    let m = moves-on s _ _ c.loop-named.invariant.moves c.in_ok-start.ensures.moves in
+    let m = moves-on s _ _ c.loop-named.invariant.moves c.in_ok-start.ensures.reads.moves in
     let text : c.pass.new.jiter.text ≡ s.text = ap (λ (v : ReaderState). v.text) m.same in
     where-memory (λ e. WantsMemory s.text e.index) c.from_residual-in_err-next_key.result _
     c.from_residual-in_err-next_key.ensures.1
     (λ memory. subst (λ t. WantsMemory t c.in_err-next_key.field-0.0.index) text
-    (c.in_err-next_key.ensures.memory memory).0)
+    (c.in_err-next_key.ensures.reads.1.memory memory).1.1)
 
 pub loop-named-smaller : goal.loop-named-smaller
 loop-named-smaller c =
@@ -113,7 +113,7 @@ loop-named-smaller c =
     let left = rw c.in_ok-next_key.was at c.next_key.follows.holds-at-none in
     let pass = c.in_ok-start.ensures in
     members-less c.args.jiter.now c.loop-named.jiter c.args.name.now c.in-Some.same c.loop-named.place inv
-    c.pass.new.jiter pass.moves pass.passed _ left.moves
+    c.pass.new.jiter pass.reads.moves pass.reads.value _ left.moves
 
 pub loop-named-preserved : goal.loop-named-preserved
 loop-named-preserved c =
@@ -129,7 +129,7 @@ loop-named-preserved c =
     subst (MembersTo c.args.jiter.now c.next_key.follows.lender-at-none c.args.name.now c.is_named-named-in-Some.result)
     (sym place)
     (members-go_on c.args.jiter.now c.loop-named.jiter c.args.name.now c.in-Some.same old inv c.pass.new.jiter
-    pass.moves pass.passed start pass.place _ _ left.moves
+    pass.reads.moves pass.reads.value start pass.place _ _ left.moves
     (named-given (λ x. x.now) c.args.name.now c.in_ok-next_key.field-0 _ _ _ left.value
     c.is_named-named-in-Some.ensures))
 

@@ -8,5 +8,5 @@ pub returns-clause-stays : goal.returns-clause-stays
 returns-clause-stays c = λ no.
     let s = state_of c.args.reader.now in
     told-stays _ c.next_null-read.result s _ (next s (null_read s)) _ _ _
-    (rw c.jiter_at-jiter.ensures at c.next_null-read.ensures.value) (scalars-stay s).0 c.tell.ensures.ok no
+    (rw c.jiter_at-jiter.ensures at c.next_null-read.ensures.reads.value) (scalars-stay s).0 c.tell.ensures.ok no
     c.current_index-reader.ensures.value

@@ -8,4 +8,4 @@ pub returns-clause-stays : goal.returns-clause-stays
 returns-clause-stays c = λ no.
     let s = state_of c.args.reader.now in
     stays-at s (next s (number_bytes_read s)) _ _ _ _ (scalars-stay s).4
-    (rw c.jiter_at-jiter.ensures at c.in-Err.ensures.value) c.current_index-reader.ensures.value
+    (rw c.jiter_at-jiter.ensures at c.in-Err.ensures.reads.value) c.current_index-reader.ensures.value

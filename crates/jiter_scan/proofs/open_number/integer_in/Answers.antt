@@ -1,14 +1,21 @@
-use Rattle.std.proofs.Common.{◌≡◌, ◌∙◌, ap, arith, length, of_z, sym, to_z, to_z-of_z, w64}
-use Rattle.std.specs.Prelude.{false, Some}
+use Rattle.std.proofs.Common.{◌≡◌, ap, arith, length, sym, ◌∙◌, of_z, to_z, to_z-of_z, w64}
+use Rattle.std.specs.Prelude.{Some}
+use Rattle.jiter_scan.specs.Number.{number_value}
 use Rattle.jiter_scan.specs.OpenNumber.{int_of}
-use Rattle.jiter_scan.proofs.PlainNumberValues.{short-signed}
+use Rattle.jiter_scan.specs.Scanned.{taken}
+use Rattle.jiter_scan.proofs.OpenValues.{whole-range}
 use Rattle.jiter_scan.proofs.open_number.integer_in.Goals as goal
 
-pub returns-in-Some : goal.returns-in-Some
-returns-in-Some c =
+pub returns-in-Int : goal.returns-in-Int
+returns-in-Int c =
     let t = c.args.text.now in
-    let from = c.minus_end-from.result in
-    let kept : to_z w64 (of_z w64 c.signed.result) ≡ c.signed.result = grind (arith, to_z-of_z) in
-    let read = short-signed t false 0 (length t) from c.in-Some.magnitude c.minus_end-from.ensures.minus
-    c.in-Some.ensures in
-    ap Some (kept ∙ c.signed.ensures) ∙ sym (ap int_of read)
+    let kept : to_z w64 (of_z w64 c.in-Int.number) ≡ c.in-Int.number = grind (arith, to_z-of_z) in
+    ap Some kept
+    ∙ ap (λ n. int_of (taken n (length t))) (c.in-Int.ensures ∙ ap number_value (whole-range t))
+    ∙ sym (ap int_of c.requires.read)
+
+pub returns-in-BigInt : goal.returns-in-BigInt
+returns-in-BigInt c =
+    let t = c.args.text.now in
+    ap (λ n. int_of (taken n (length t))) (c.in-BigInt.ensures ∙ ap number_value (whole-range t))
+    ∙ sym (ap int_of c.requires.read)

@@ -39,3 +39,19 @@ loop-i-preserved c =
       ascii = still-ascii _ c.loop-i.clean (eqb high.result 0) _ _ _ c.loop-i.invariant.ascii low c.both-clean.ensures;
       within = omega arith;
     }
+
+pub loop-i-preserved-then-i-far : goal.loop-i-preserved-then-i-far
+loop-i-preserved-then-i-far c =
+    let t = c.args.bytes.now in
+    let i = c.loop-i.i in
+    let found = c.stops-found in
+    let high = c.highs-high in
+    let wide = c.scan_wide-end.ensures in
+    let run = run_end-clear is_plain t i 16 found.result found.ensures (omega arith) (omega arith) in
+    let low = ascii_from-clear t i 16 found.result high.result found.ensures high.ensures (omega arith) (omega arith) in
+    record {
+      stop = omega (arith, run, wide.stop, c.loop-i.invariant.stop);
+      ascii = still-ascii _ c.loop-i.clean (eqb high.result 0) _ _ _ c.loop-i.invariant.ascii low c.both-clean.ensures
+          ∙ wide.ascii;
+      within = wide.within.1;
+    }

@@ -17,5 +17,6 @@ loop-i-preserved c =
     record {
       stop = omega arith;
       ascii = still-ascii _ c.loop-i.clean found.result.1 _ _ _ c.loop-i.invariant.ascii low c.both-clean.ensures;
+      above = omega arith;
       within = omega arith;
     }

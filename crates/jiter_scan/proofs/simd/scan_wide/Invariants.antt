@@ -7,6 +7,7 @@ abbrev pub invariant-loop-i : goal.invariant-loop-i
 invariant-loop-i l = record {
   stop : scan_stop l.bytes l.from ≡ scan_stop l.bytes l.i;
   ascii : (l.ascii && ascii_from l.bytes l.from) ≡ (l.clean && ascii_from l.bytes l.i);
+  above : l.from ≤ l.i;
   within : l.i ≤ length l.bytes;
 }
 

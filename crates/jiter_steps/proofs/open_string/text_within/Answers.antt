@@ -11,7 +11,7 @@ pub returns-in_ok-copy_text-in-Some : goal.returns-in_ok-copy_text-in-Some
 returns-in_ok-copy_text-in-Some c =
     let piece = c.args.piece.now in
     let at = c.args.at in
-    let to = c.scan_short-to.result.0 in
+    let to = c.scan_string-to.result.0 in
     let own = c.in_ok-copy_text-in-Some.field-0 in
     let first = got piece at c.requires ∙ ap Some c.if-piece-at-ne34.false in
     let last = slice_get-get_or piece to 0 c.if-to-piece.false ∙ ap Some c.if-piece-to-ne34.false in
@@ -23,5 +23,5 @@ returns-in_ok-copy_text-in-Some c =
           ∙ subst (λ o. IfSome o (λ b. b.now ≡ slice_range piece (at + 1) to)) (sym w.found-is ∙ c.in-Some.is)
           w.text_between-found.ensures.text
     ] in
-    text-within piece at to c.scan_short-to.ensures.stop first last (string_bytes own)
+    text-within piece at to c.scan_string-to.ensures.stop first last (string_bytes own)
     (c.in_ok-copy_text-in-Some.ensures ∙ text) (IsUtf8-string_bytes own)

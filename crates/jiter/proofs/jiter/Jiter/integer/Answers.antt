@@ -1,9 +1,13 @@
+use Rattle.std.proofs.Common.{rules}
 use Rattle.jiter_scan.proofs.NumberLaws.{int_at-within}
+use Rattle.jiter.proofs.ReadLaws.{read-bytes}
 use Rattle.jiter.proofs.Refusals.{refusal-failed}
 use Rattle.jiter.proofs.jiter.Jiter.integer.Goals as goal
 
-pub returns-in-Err-clause-refusal : goal.returns-in-Err-clause-refusal
-returns-in-Err-clause-refusal c =
+pub returns-in-Err : goal.returns-in-Err
+returns-in-Err c =
     let p = c.self.inside.parser in
-    rw (← c.self.view_is) (refusal-failed p.bytes.now _ _ _ c.refusal.ensures.value _
-    (int_at-within p.bytes.now p.index p.within) c.in-Err.ensures.value)
+    record {
+      reads = read-bytes (search rules) (search rules) (rw (← c.self.view_is) (refusal-failed p.bytes.now _ _ _
+          c.refusal.ensures.value _ (int_at-within p.bytes.now p.index p.within) c.in-Err.ensures.value));
+    }

@@ -6,16 +6,16 @@ use Rattle.jiter.specs.Reader.{bool_read}
 use Rattle.jiter.proofs.Peeking.{known-above}
 use Rattle.jiter.proofs.jiter.Jiter.known_bool.Goals as goal
 
-pub returns-then-byte-gt32-clause-value : goal.returns-then-byte-gt32-clause-value
-returns-then-byte-gt32-clause-value c =
+pub returns-then-byte-gt32 : goal.returns-then-byte-gt32
+returns-then-byte-gt32 c =
     let s = c.args.self.now in
     let above : 32 < c.args.peek.0 = omega (arith, c.if-byte-gt32.true, c.into_inner-byte.ensures) in
-    rw (known-above s (bool_read s) c.args.peek.0 c.requires above) c.next_bool.ensures.value
+    record { reads = rw (known-above s (bool_read s) c.args.peek.0 c.requires above) c.next_bool.ensures.reads }
 
-pub returns-else-byte-gt32-clause-value : goal.returns-else-byte-gt32-clause-value
-returns-else-byte-gt32-clause-value c =
+pub returns-else-byte-gt32 : goal.returns-else-byte-gt32
+returns-else-byte-gt32 c =
     let s = c.args.self.now in
     let begins : start_of (slice_index s.text s.position) ≡ c.start_of.result =
     ap start_of (get_or_from_slice_get s.text s.position c.args.peek.0 0 c.requires ∙ sym c.into_inner-byte.ensures)
     ∙ sym c.start_of.ensures in
-    rw begins c.read_bool.ensures.value
+    record { reads = rw begins c.read_bool.ensures.reads }

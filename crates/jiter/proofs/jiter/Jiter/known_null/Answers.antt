@@ -3,7 +3,7 @@ use Rattle.jiter.specs.Reader.{null_read}
 use Rattle.jiter.proofs.Peeking.{known-above}
 use Rattle.jiter.proofs.jiter.Jiter.known_null.Goals as goal
 
-pub returns-clause-value : goal.returns-clause-value
-returns-clause-value c =
+pub returns : goal.returns
+returns c =
     let s = c.args.self.now in
-    rw (known-above s (null_read s) 110 c.requires (omega arith)) c.next_null.ensures.value
+    record { reads = rw (known-above s (null_read s) 110 c.requires (omega arith)) c.next_null.ensures.reads }

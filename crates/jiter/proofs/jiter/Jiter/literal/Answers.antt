@@ -1,11 +1,15 @@
+use Rattle.std.proofs.Common.{rules}
 use Rattle.jiter_steps.proofs.Reading.Instances.{literal_at-within}
+use Rattle.jiter.proofs.ReadLaws.{read-bytes}
 use Rattle.jiter.proofs.Refusals.{reading-within, reads-fault, refuses}
 use Rattle.jiter.proofs.jiter.Jiter.literal.Goals as goal
 
-pub returns-clause-refusal : goal.returns-clause-refusal
-returns-clause-refusal c =
+pub returns : goal.returns
+returns c =
     let p = c.self.inside.parser in
     let at = reading-within p.bytes.now p.index _ p.within
     (literal_at-within p.bytes.now c.args.literal p.index p.within) in
-    rw (← c.self.view_is) (refuses p.bytes.now c.literal.result c.map_err.result c.map_err.ensures.cases
-    (λ f e h. h.0) (reads-fault (λ u. u) p.bytes.now p.index c.literal.result _ _ at c.literal.ensures.value))
+    record {
+      reads = read-bytes (search rules) (search rules) (rw (← c.self.view_is) (refuses p.bytes.now c.literal.result c.map_err.result c.map_err.ensures.cases
+          (λ f e h. h.0) (reads-fault (λ u. u) p.bytes.now p.index c.literal.result _ _ at c.literal.ensures.value)));
+    }

@@ -1,14 +1,22 @@
-use Rattle.std.proofs.Common.{sym, subst, rules}
+use Rattle.std.proofs.Common.{sym, subst, rules, arith}
+use Rattle.std.proofs.lemmas.Grind.{common_steps}
 use Rattle.jiter_steps.proofs.Reading.Instances.{read_at-within}
 use Rattle.jiter_value.specs.Value.{view}
 use Rattle.jiter.proofs.Refusals.{IsInside, index-parser, index-refused}
 use Rattle.jiter.proofs.jiter.Jiter.value.Goals as goal
 
-pub returns-clause-index : goal.returns-clause-index
-returns-clause-index c =
+pub returns : goal.returns
+returns c =
     let p = c.self.inside.parser in
     let at = read_at-within p.bytes.now c.self.inside.allow_inf_nan p.index
     (subst IsInside (sym c.self.view_is) c.requires) in
     let stop = index-parser p c.read_value.new.parser c.read_value.ensures.moves in
-    rw (← c.self.view_is) (index-refused p.bytes.now p.index view c.read_value.result c.map_err.result _ _
-    c.map_err.ensures.cases (λ f e h. search rules) at stop c.read_value.ensures.value)
+    record {
+      reads = record {
+        moves = search rules;
+        value = grind (arith, common_steps);
+        index = rw (← c.self.view_is) (index-refused p.bytes.now p.index view c.read_value.result c.map_err.result _ _
+            c.map_err.ensures.cases (λ f e h. search rules) at stop c.read_value.ensures.value);
+        memory = search rules;
+      };
+    }

@@ -1,11 +1,11 @@
-use Rattle.std.proofs.Common.{◌++◌, length, subst, sym}
+use Rattle.std.proofs.Common.{◌+◌, ◌++◌, length, subst, sym}
 use Rattle.jiter_steps.proofs.OpenStrings.{ascii-of}
+use Rattle.jiter_steps.specs.declared.open_string.OpenString.{OpenString}
 use Rattle.jiter_incremental.specs.Arriving.{HasReceived, received}
 use Rattle.jiter_incremental.specs.Growing.{with_end}
-use Rattle.jiter_incremental.specs.Replaced.{GoesOn}
 use Rattle.jiter_incremental.specs.declared.arriving.Settled.{Settled}
 use Rattle.jiter_incremental.proofs.Documents.Blanks.{if-refused}
-use Rattle.jiter_incremental.proofs.GrownTexts.{counted_on, grown-on, hidden-received, plain-shown, shown-received, shown-stays}
+use Rattle.jiter_incremental.proofs.GrownTexts.{counted_on, gone, hidden-received, shown-received, shown-stays}
 use Rattle.jiter_incremental.proofs.GrownTexts.{text-held}
 use Rattle.jiter_incremental.proofs.arriving.Settled.grow.Goals.{else-self+in_ok-add_plain, then-self+in_ok-append_text}
 use Rattle.jiter_incremental.proofs.arriving.Settled.grow.Goals as goal
@@ -17,6 +17,9 @@ append_text-requires-clause-text c =
 pub append_text-requires-clause-ascii : goal.append_text-requires-clause-ascii
 append_text-requires-clause-ascii c = ascii-of c.args.piece.now c.requires.plain
 
+pub add_plain-requires-clause-even : goal.add_plain-requires-clause-even
+add_plain-requires-clause-even c = (c.requires.received.1.growing c.requires.growing).2
+
 pub returns-in_err-append_text-clause-refused : goal.returns-in_err-append_text-clause-refused
 returns-in_err-append_text-clause-refused c = λ t h.
     let failed = c.in_err-append_text.ensures in
@@ -26,20 +29,20 @@ returns-in_err-append_text-clause-refused c = λ t h.
 pub returns-clause-ok : goal.returns-clause-ok
 returns-clause-ok c = λ t h.
     let s = c.args.self.now in
+    let d = s.document in
     let v = c.args.piece.now in
     let grows = c.requires.growing in
     let went : HasReceived (received (with_end (counted_on c.if-self.self (length v)))) (t ++ v) =
     elim c.if-self.branch [
       | then-self+in_ok-append_text w ↦
-          let nv = w.append_text.new.self in
           let put = w.in_ok-append_text.ensures in
           subst (λ (q : Settled). HasReceived (received (with_end (counted_on q (length v)))) (t ++ v)) (sym w.self-is)
-          (shown-received s t h grows w.if-self.true v s.document.string nv put.same
-          (plain-shown s t h grows w.if-self.true v nv c.requires.even c.requires.plain put.ok))
+          (shown-received s t h grows w.if-self.true v c.requires.plain w.append_text.new.self put.same put.ok)
       | else-self+in_ok-add_plain w ↦
-          let n = w.add_plain.new.self in
           subst (λ (q : Settled). HasReceived (received (with_end (counted_on q (length v)))) (t ++ v)) (sym w.self-is)
-          (hidden-received s t h grows v n (subst (λ q. GoesOn s.document.string q v) (sym w.in_ok-add_plain.ensures.ok)
-          (grown-on s.document.string v c.requires.even c.requires.plain)) w.if-self.false)
+          (subst (λ (n : OpenString).
+          HasReceived (received (with_end (record s { document = gone d n (d.position + length v) }))) (t ++ v))
+          (sym w.in_ok-add_plain.ensures.ok)
+          (hidden-received s t h grows v c.requires.plain w.if-self.false))
     ] in
     subst (λ (q : Settled). HasReceived (received q) (t ++ v)) (sym c.move_end.ensures) went

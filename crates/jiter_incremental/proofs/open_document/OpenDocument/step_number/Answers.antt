@@ -21,13 +21,13 @@ returns-in-Other-clause-refused c =
     refused-after c.args.self.now c.make_room.new.self c.step_long_number.new.self c.step_long_number.result
     c.make_room.ensures.stays c.step_long_number.ensures.refused
 
-pub returns-then-piece-at-le-NEAR-clause-taken : goal.returns-then-piece-at-le-NEAR-clause-taken
-returns-then-piece-at-le-NEAR-clause-taken c =
-    taken-after c.args.self.now c.make_room.new.self c.step_near_number.new.self
-    (λ n. slice_range c.args.piece.now c.args.at (c.args.at + n)) c.step_near_number.result
-    c.make_room.ensures.stays c.step_near_number.ensures.taken
+pub returns-then-piece-at-lt-SHORT_REACH-clause-taken : goal.returns-then-piece-at-lt-SHORT_REACH-clause-taken
+returns-then-piece-at-lt-SHORT_REACH-clause-taken c =
+    taken-after c.args.self.now c.make_room.new.self c.step_long_number.new.self
+    (λ n. slice_range c.args.piece.now c.args.at (c.args.at + n)) c.step_long_number.result
+    c.make_room.ensures.stays c.step_long_number.ensures.taken
 
-pub returns-then-piece-at-le-NEAR-clause-refused : goal.returns-then-piece-at-le-NEAR-clause-refused
-returns-then-piece-at-le-NEAR-clause-refused c =
-    refused-after c.args.self.now c.make_room.new.self c.step_near_number.new.self c.step_near_number.result
-    c.make_room.ensures.stays c.step_near_number.ensures.refused
+pub returns-then-piece-at-lt-SHORT_REACH-clause-refused : goal.returns-then-piece-at-lt-SHORT_REACH-clause-refused
+returns-then-piece-at-lt-SHORT_REACH-clause-refused c =
+    refused-after c.args.self.now c.make_room.new.self c.step_long_number.new.self c.step_long_number.result
+    c.make_room.ensures.stays c.step_long_number.ensures.refused

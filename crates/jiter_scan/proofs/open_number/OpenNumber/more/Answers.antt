@@ -16,9 +16,9 @@ pub take-requires-clause-ascii : goal.take-requires-clause-ascii
 take-requires-clause-ascii c =
     let t = c.args.piece.now in
     let at = c.args.at in
-    let got = c.parts_end-behind.result in
+    let got = c.bytes_end-behind.result in
     let went = goes c.args.self.now.stage c.args.stage got.0 t at (get_or t at 0) got.1
-    (slice_get-get_or t at 0 c.requires.within) c.requires.leads c.requires.fits c.parts_end-behind.ensures in
+    (slice_get-get_or t at 0 c.requires.within) c.requires.leads c.requires.fits c.bytes_end-behind.ensures in
     went.ascii
 
 pub returns-clause-held : goal.returns-clause-held
@@ -27,11 +27,11 @@ returns-clause-held c = λ w held.
     let at = c.args.at in
     let d = c.args.self.now in
     let m = c.take.new.self in
-    let got = c.parts_end-behind.result in
+    let got = c.bytes_end-behind.result in
     let e = got.1 in
     let taken = c.in_ok-take.ensures.taken in
     let went = goes d.stage c.args.stage got.0 t at (get_or t at 0) e (slice_get-get_or t at 0 c.requires.within)
-    c.requires.leads c.requires.fits c.parts_end-behind.ensures in
+    c.requires.leads c.requires.fits c.bytes_end-behind.ensures in
     let end : e ≡ at + (e - at) = omega (arith, went.ahead) in
     subst (λ j. HoldsNumber m (w ++ slice_range t at j)) end
     (held-on d m w t at e held (subst (λ s. GoesTo d.stage t at s e) (sym taken.0) went) taken.1)

@@ -1,20 +1,24 @@
-use Rattle.std.proofs.Common.{◌<◌, ap, sym, ◌∙◌, arith, length, string_bytes, false}
-use Rattle.jiter_scan.specs.NumberReading.{number_at}
+use Rattle.std.proofs.Common.{◌≡◌, ◌<◌, ap, subst, sym, ◌∙◌, length, string_bytes, false}
+use Rattle.jiter_scan.specs.Number.{number_value}
+use Rattle.jiter_scan.specs.NumberExtent.{minus_end}
+use Rattle.jiter_scan.specs.NumberReading.{int_part_at, number_at}
 use Rattle.jiter_scan.specs.OpenNumber.{int_of}
-use Rattle.jiter_scan.proofs.OpenValues.{begun-some, begun-long, begun-big, begun-answer}
+use Rattle.jiter_scan.specs.Scanned.{taken}
+use Rattle.jiter_scan.proofs.OpenValues.{begun-some, begun-read, begun-digits, begun-big, begun-answer}
 use Rattle.jiter_scan.proofs.open_number.OpenNumber.small_integer.Goals as goal
-
-pub returns-then-len-gt-LONGEST_INT-clause-none : goal.returns-then-len-gt-LONGEST_INT-clause-none
-returns-then-len-gt-LONGEST_INT-clause-none c =
-    λ _.
-    let w = string_bytes c.args.self.now.text in
-    let long : 20 < length w = omega arith in
-    begun-long w c.args.self.now.stage c.requires.begun c.requires.whole c.requires.int long
 
 pub integer_in-requires : goal.integer_in-requires
 integer_in-requires c =
-    let some = begun-some (string_bytes c.args.self.now.text) c.args.self.now.stage c.requires.begun c.requires.whole in
-    omega (arith, some, ap length c.as_bytes.ensures.value)
+    let w = string_bytes c.args.self.now.text in
+    let stage = c.args.self.now.stage in
+    let same = sym c.as_bytes.ensures.value in
+    record {
+      some = subst (λ t. 0 < length t) same (begun-some w stage c.requires.begun c.requires.whole);
+      digits = subst (λ t. int_part_at t (minus_end t 0) ≡ taken tt (length t)) same
+          (begun-digits w stage c.requires.begun c.requires.whole c.requires.int);
+      read = subst (λ t. number_at false t 0 ≡ taken (number_value t) (length t)) same
+          (begun-read w stage c.requires.begun c.requires.whole);
+    }
 
 pub returns-clause-some : goal.returns-clause-some
 returns-clause-some c =

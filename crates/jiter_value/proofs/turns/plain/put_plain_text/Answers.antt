@@ -9,7 +9,7 @@ use Rattle.jiter_value.proofs.turns.plain.put_plain_text.Goals as goal
 pub keep_lent-requires : goal.keep_lent-requires
 keep_lent-requires g c =
     let a = c.args in
-    let scanned = c.scan_short-to in
+    let scanned = c.scan_string-to in
     λ k. (
       (refl, tt),
       (
@@ -24,7 +24,7 @@ returns-in-Ok-clause-put g c = λ _.
     let a = c.args in
     let t = a.bytes.now in
     let made = g.T.Texts.made in
-    let scanned = c.scan_short-to in
+    let scanned = c.scan_string-to in
     let to = scanned.result.0 in
     let text = c.ascii_between.ensures in
     let n = c.put_reserved.ensures in

@@ -1,0 +1,172 @@
+-- What a number begins with, after its minus: a name or a digit.
+use Rattle.std.proofs.Common.{◌≡◌, ◌≢◌, inl, inr, ℕ, ◌+◌, ◌<◌, ◌≤◌, ◌==◌, Bool, true, false, List, length, get_or}
+use Rattle.std.proofs.Common.{◌||◌, refl, sym, ap, ◌∙◌, subst, arith}
+use Rattle.std.specs.Prelude.{Option, Some, None, Result, Ok, Err, IfOk, slice_get, if◌then◌else◌, codes}
+use Rattle.std.proofs.lemmas.Bool.{eq-eqb, eqb-true, eqb-false, ne_eqb}
+use Rattle.std.proofs.lemmas.Option.{slice_get-get_or, slice_get_within, get_or_from_slice_get}
+use Rattle.jiter_scan.specs.Number.{is_float_byte}
+use Rattle.jiter_scan.specs.NumberDecoder.{IsMinusTo}
+use Rattle.jiter_scan.specs.NumberExtent.{IsNameFrom, IsDecimalFrom, IsDecimalExtent, IsExtent, IsFloatText}
+use Rattle.jiter_scan.specs.NumberExtent.{minus_end, name_extent, extent_end}
+use Rattle.jiter_scan.specs.NumberReading.{behind_minus, extent_from, extent_then, fraction_at, exponent_at}
+use Rattle.jiter_scan.specs.NumberReading.{decimal_at, int_part_at}
+use Rattle.jiter_scan.specs.NumberReading.{int_at, int_part_from, integer_behind, integer_behind_minus, integer_from}
+use Rattle.jiter_scan.specs.Scanned.{Scans, taken}
+use Rattle.jiter_scan.specs.Word.{word_at}
+use Rattle.jiter_scan.specs.declared.errors.Fault.{Fault}
+use Rattle.jiter_scan.specs.declared.number_extent.Extent.{Extent as Found}
+use Rattle.jiter_scan.specs.declared.number_extent.Extent.TheVariants as found
+use Rattle.jiter_scan.proofs.Choices.{if_case, if_gives, if-true, if-false}
+use Rattle.jiter_scan.proofs.NumberBytes.{given-ascii, IsMinusTo-le, IsAscii-decimal, IsAscii-name}
+use Rattle.jiter_scan.proofs.NumberExtents.{byte-got}
+use Rattle.jiter_scan.proofs.NumberValues.{number_value-tail, number_value-name}
+
+module _ (t : List ℕ) (i : ℕ) where
+  module _ (minus : slice_get t i ≡ Some 45) where
+    minus-infinity : slice_get t (i + 1) ≡ Some 73 → IsNameFrom t (codes "Infinity") i (i + 1)
+    unfolding int_at
+    minus-infinity q =
+        let other = if-false ((i + 1) == i) _ _ (ne_eqb (i + 1) i (λ r. omega (arith, r))) in
+        record {
+          extent = λ names.
+              ap (extent_from names t i) minus ∙ ap (behind_minus names t (i + 1)) q
+              ∙ ap (λ x. if names then word_at t (codes "Infinity") (i + 1) else x) (sym other);
+          integer = ap (integer_from t i) minus ∙ ap (integer_behind_minus t i) q;
+          minus = inr (refl, minus);
+          within = slice_get_within t (i + 1) 73 q;
+          first = ap is_float_byte (get_or_from_slice_get t (i + 1) 73 0 q);
+          some = omega arith;
+          ascii = given-ascii (codes "Infinity") (codes "Infinity") refl refl;
+        }
+
+    minus-decimal : (o : Option ℕ) → slice_get t (i + 1) ≡ o → ((c : ℕ) → o ≡ Some c → c ≢ 73)
+        → IsDecimalFrom t i (i + 1)
+    unfolding int_at
+    minus-decimal None q other =
+        record {
+          extent = λ names.
+              ap (extent_from names t i) minus ∙ ap (behind_minus names t (i + 1)) q
+              ∙ sym
+              (ap
+              (λ x.
+              extent_then (int_part_from t (i + 1) x) (λ j. extent_then (fraction_at t j) (λ k. exponent_at t k))) q);
+          integer = ap (integer_from t i) minus ∙ ap (integer_behind_minus t i) q
+              ∙ sym (ap (λ x. integer_behind t i (int_part_from t (i + 1) x)) q);
+        }
+    minus-decimal (Some c) q other =
+        let no = ne_eqb c 73 (other c refl) in
+        record {
+          extent = λ names.
+              ap (extent_from names t i) minus ∙ ap (behind_minus names t (i + 1)) q ∙ if-false (c == 73) _ _ no;
+          integer = ap (integer_from t i) minus ∙ ap (integer_behind_minus t i) q ∙ if-false (c == 73) _ _ no;
+        }
+
+  -- no minus
+  alone-infinity : slice_get t i ≡ Some 73 → IsNameFrom t (codes "Infinity") i i
+  unfolding int_at
+  alone-infinity q =
+      record {
+        extent = λ names.
+            ap (extent_from names t i) q
+            ∙ ap (λ x. if names then word_at t (codes "Infinity") i else x) (sym (if-true (i == i) _ _ (eq-eqb i i refl)));
+        integer = ap (integer_from t i) q;
+        minus = inl refl;
+        within = slice_get_within t i 73 q;
+        first = ap is_float_byte (get_or_from_slice_get t i 73 0 q);
+        some = omega arith;
+        ascii = given-ascii (codes "Infinity") (codes "Infinity") refl refl;
+      }
+
+  alone-nan : slice_get t i ≡ Some 78 → IsNameFrom t (codes "NaN") i i
+  unfolding int_at
+  alone-nan q =
+      record {
+        extent = λ names.
+            ap (extent_from names t i) q
+            ∙ ap (λ x. if names then word_at t (codes "NaN") i else x) (sym (if-true (i == i) _ _ (eq-eqb i i refl)));
+        integer = ap (integer_from t i) q;
+        minus = inl refl;
+        within = slice_get_within t i 78 q;
+        first = ap is_float_byte (get_or_from_slice_get t i 78 0 q);
+        some = omega arith;
+        ascii = given-ascii (codes "NaN") (codes "NaN") refl refl;
+      }
+
+  alone-decimal : (c : ℕ) → slice_get t i ≡ Some c → c ≢ 45 → c ≢ 78 → c ≢ 73 → IsDecimalFrom t i i
+  unfolding int_at
+  alone-decimal c q minus n capital =
+      let no_n = ne_eqb c 78 n in
+      let no_i = ne_eqb c 73 capital in
+      record {
+        extent = λ names.
+            ap (extent_from names t i) q ∙ if-false (c == 45) _ _ (ne_eqb c 45 minus) ∙ if-false (c == 78) _ _ no_n
+            ∙ if-false (c == 73) _ _ no_i;
+        integer = ap (integer_from t i) q ∙ if-false (c == 45) _ _ (ne_eqb c 45 minus)
+            ∙ if-false ((c == 78) || (c == 73)) _ _ (ap (λ b. b || (c == 73)) no_n ∙ no_i);
+      }
+
+-- either
+module _ (t : List ℕ) (i j : ℕ) (inside : i < length t) (start : j ≡ minus_end t i) where
+  signed : (P : ℕ → Type 0) → (slice_get t i ≡ Some 45 → P (i + 1)) → (get_or t i 0 ≢ 45 → P i) → P j
+  signed P minus none =
+      subst P (sym start)
+      (if_case P (get_or t i 0 == 45) (i + 1) i (λ yes. minus (byte-got t i 45 inside (eqb-true (get_or t i 0) 45 yes)))
+      (λ no. none (eqb-false (get_or t i 0) 45 no)))
+
+  pub name-infinity : slice_get t j ≡ Some 73 → IsNameFrom t (codes "Infinity") i j
+  name-infinity =
+      signed (λ k. slice_get t k ≡ Some 73 → IsNameFrom t (codes "Infinity") i k) (λ m. minus-infinity t i m)
+      (λ n. alone-infinity t i)
+
+  pub name-nan : slice_get t j ≡ Some 78 → j ≡ i → IsNameFrom t (codes "NaN") i j
+  name-nan q same =
+      subst (λ k. IsNameFrom t (codes "NaN") i k) (sym same)
+      (alone-nan t i (subst (λ k. slice_get t k ≡ Some 78) same q))
+
+  -- no letter of a name there: a minus and an N are no name
+  pub no-name : ((c : ℕ) → slice_get t j ≡ Some c → (c ≢ 73) × (c ≡ 78 → j ≢ i)) → IsDecimalFrom t i j
+  no-name =
+      signed (λ k. ((c : ℕ) → slice_get t k ≡ Some c → (c ≢ 73) × (c ≡ 78 → k ≢ i)) → IsDecimalFrom t i k)
+      (λ m h. minus-decimal t i m (slice_get t (i + 1)) refl (λ c q. (h c q).0))
+      (λ n h.
+      let c = get_or t i 0 in
+      let here = slice_get-get_or t i 0 inside in
+      alone-decimal t i c here n (λ q. (h c here).1 q refl) (h c here).0)
+
+-- what was found there
+module _ (t : List ℕ) (i j : ℕ) where
+  pub decimal-extent : IsMinusTo t i j → (x : Result Found Fault) → Scans extent_end x (decimal_at t j)
+      → IfOk x (λ f. IsDecimalExtent t j f) → IfOk x (λ f. IsExtent t i f)
+  decimal-extent minus (Err f) read parts = tt
+  decimal-extent minus (Ok (found.Int k e)) read (same, int_part, some, within) = (
+    subst (IsMinusTo t i) (sym same) minus,
+    subst (λ l. int_part_at t l ≡ taken tt e) (sym same) int_part,
+    omega (arith, same, some),
+    within,
+  )
+  decimal-extent minus (Ok (found.Float e)) read (k, ahead, tail, within, parts) =
+      let low = IsMinusTo-le t i j minus in
+      record {
+        value = number_value-tail t i k e (omega (arith, low, ahead)) tail (omega (arith, tail, within)) parts;
+        ascii = IsAscii-decimal t i j e minus read;
+        some = omega (arith, low, ahead, tail);
+        within = within;
+      }
+
+  allowed : (names : Bool) (w : List ℕ) (e : ℕ) → name_extent names t w i j ≡ taken tt e → word_at t w j ≡ taken tt e
+  allowed true w e h = h
+  allowed false w e h = if_gives (j == i) _ _ _ h (λ q r. absurd (cc)) (λ q r. absurd (cc))
+
+  pub name-text : (names : Bool) (w : List ℕ) (e : ℕ) → IsNameFrom t w i j → taken tt e ≡ name_extent names t w i j
+      → e ≡ j + length w → e ≤ length t → IsFloatText t i e
+  name-text names w e name read end within =
+      let word = allowed names w e (sym read) in
+      let low = IsMinusTo-le t i j name.minus in
+      let first : (c : ℕ) → slice_get t j ≡ Some c → is_float_byte c ≡ true =
+      λ c q. ap is_float_byte (sym (get_or_from_slice_get t j c 0 q)) ∙ name.first in
+      record {
+        value = number_value-name t w i j e low (omega (arith, name.within)) word name.some first;
+        ascii = IsAscii-name t w i j e name.minus word name.ascii;
+        some = omega (arith, low, end, name.some);
+        within = within;
+      }

@@ -1,0 +1,61 @@
+-- What a number begins with, and its parts.
+use Rattle.std.specs.Prelude.{◌≡◌, ℕ, ◌+◌, ◌<◌, ◌≤◌, ◌==◌, Bool, true, if◌then◌else◌, List, length, slice_index}
+use Rattle.std.specs.Prelude.{slice_range}
+use Rattle.std.specs.Str.{IsAscii}
+use Rattle.jiter_scan.specs.Ascii as ascii
+use Rattle.jiter_scan.specs.Kind.{expected_value, invalid_number}
+use Rattle.jiter_scan.specs.Number.{float, number_value, is_float_byte}
+use Rattle.jiter_scan.specs.NumberDecoder.{IsMinusTo}
+use Rattle.jiter_scan.specs.NumberReading.{extent_then, int_part_at, fraction_at, exponent_at, decimal_at}
+use Rattle.jiter_scan.specs.NumberReading.{number_extent, int_at, integer_behind, float_seen}
+use Rattle.jiter_scan.specs.Scanned.{Scanned, taken, failed}
+use Rattle.jiter_scan.specs.Word.{Extent, word_at}
+use Rattle.jiter_scan.specs.declared.number_extent.Extent.{Extent as Found}
+use Rattle.jiter_scan.specs.declared.number_extent.Extent.TheVariants as found
+
+-- the index after the minus at i, or i where there is none
+abbrev pub minus_end : List ℕ → ℕ → ℕ
+minus_end t i = if slice_index t i == ascii.minus then i + 1 else i
+
+-- a name at j, where the number begins at i
+abbrev pub name_extent : Bool → List ℕ → List ℕ → ℕ → ℕ → Extent
+name_extent names t w i j =
+    if names then word_at t w j else (if j == i then failed expected_value j else failed invalid_number j)
+
+-- the number at i begins with this name, at j
+pub record IsNameFrom (t w : List ℕ) (i j : ℕ) : Type 0 where
+  pub extent : (names : Bool) → number_extent names t i ≡ name_extent names t w i j
+  pub integer : int_at t i ≡ taken float_seen j
+  pub minus : IsMinusTo t i j
+  pub within : j < length t
+  pub first : is_float_byte (slice_index t j) ≡ true
+  pub some : 0 < length w
+  pub ascii : IsAscii w
+
+-- the number at i has no name: its digits begin at j
+pub record IsDecimalFrom (t : List ℕ) (i j : ℕ) : Type 0 where
+  pub extent : (names : Bool) → number_extent names t i ≡ decimal_at t j
+  pub integer : int_at t i ≡ integer_behind t i (int_part_at t j)
+
+-- the end of what was found
+abbrev pub extent_end : Found → Scanned (Unit {0})
+extent_end (found.Int j e) = taken tt e
+extent_end (found.Float e) = taken tt e
+
+-- an integer from i to before e, with its first digit at j, or another decimal number
+abbrev pub IsDecimalExtent : List ℕ → ℕ → Found → Type 0
+IsDecimalExtent t i (found.Int j e) = (j ≡ i) × (int_part_at t i ≡ taken tt e) × (i < e) × (e ≤ length t)
+IsDecimalExtent t i (found.Float e) =
+    (k : ℕ) × (i < k) × (k < e) × (e ≤ length t) × (extent_then (fraction_at t k) (exponent_at t) ≡ taken tt e)
+
+-- the text from i to before e, as a float
+pub record IsFloatText (t : List ℕ) (i e : ℕ) : Type 0 where
+  pub value : number_value (slice_range t i e) ≡ float (slice_range t i e)
+  pub ascii : IsAscii (slice_range t i e)
+  pub some : i < e
+  pub within : e ≤ length t
+
+-- an integer at i with its first digit at j, or a float
+abbrev pub IsExtent : List ℕ → ℕ → Found → Type 0
+IsExtent t i (found.Int j e) = IsMinusTo t i j × (int_part_at t j ≡ taken tt e) × (j < e) × (e ≤ length t)
+IsExtent t i (found.Float e) = IsFloatText t i e
