@@ -198,8 +198,6 @@ pub fn plain_number_at(bytes: &[u8], at: usize) -> PlainNumber
     roomy_number_at(bytes, at)
 }
 
-}
-
 /// Returns the integer with this magnitude and this sign.
 #[inline(always)]
 pub fn signed(magnitude: u64, negative: bool) -> i64
